@@ -1,11 +1,11 @@
 //! Why a test of lives has nothing to compare: one name for each want of memory.
 
 use disk_layout::LayoutFault;
-use durable_worker::story::StoryFault;
-use durable_worker::{DurableFault, RecoverFault, StoreFault, WorkFault};
 use sector_disk::DiskFault;
 use std::alloc::{AllocError, AllocFailed};
 use wasi_abi::ConfigFault;
+use worker::story::StoryFault;
+use worker::{DurableFault, RecoverFault, StoreFault, WorkFault};
 
 /// Want of memory, wherever it is found, or what else a step refuses.
 #[derive(Clone, Copy, Debug, PartialEq, Eq)]

@@ -24,7 +24,7 @@
 //! # Who may touch what
 //!
 //! The crate holds nothing of its own. It is the one place where the three steps are joined.
-//! `worker` uses `read`, and `wasmhost_serve` uses `accept`. It stands on `wasm_decode`,
+//! `ephemeral_worker` uses `read`, and `wasmhost_serve` uses `accept`. It stands on `wasm_decode`,
 //! `wasm_validate` and `machine`. Each step takes memory, and has its own fault for want of it.
 //! After an error nothing is left of the module.
 #![tactic(auto)]

@@ -32,7 +32,7 @@
 //! # Who may touch what
 //!
 //! Only this crate puts the machine and its host together, and lends the guest's memory to a call.
-//! `record_replay`, `worker` and `durable_worker` run it. `state_image` reads what it holds, and
+//! `record_replay`, `ephemeral_worker` and `worker` run it. `state_image` reads what it holds, and
 //! makes it again of its parts. It stands on `machine`, `wasi_calls` and `process_rules`. `start`
 //! takes all memory that the machine needs. Later only a step of the host's calls takes any. After
 //! an error the process is as it was after its last whole step.

@@ -1,6 +1,7 @@
 //! A process and a worker of `echo`, which asks for requests.
 
 use crate::check::bytes_of;
+use ephemeral_worker::{EphemeralWorker, WorkFault};
 use machine_loader::read;
 use process::{Process, ProcessEnd, ProcessFault, Stop};
 use record_replay::{AnswerList, LineList};
@@ -8,7 +9,6 @@ use std::alloc::Global;
 use std::test::Fail;
 use wasi_abi::{Answer, Config, Kind};
 use wasm_syntax::Row;
-use worker::{WorkFault, Worker};
 
 /// Reads a line, writes it, and goes on until nothing is read.
 pub(crate) const ECHO: [&str; 9] = [
@@ -29,9 +29,9 @@ pub(crate) fn config(alloc: Global) -> Result<Config, Fail> {
 }
 
 /// A worker of a module, before its first step.
-pub(crate) fn create_worker(alloc: Global, wasm: &[u8]) -> Result<Worker, Fail> {
+pub(crate) fn create_worker(alloc: Global, wasm: &[u8]) -> Result<EphemeralWorker, Fail> {
     let config = config(alloc)?;
-    Ok(Worker::create(alloc, wasm, config)?)
+    Ok(EphemeralWorker::create(alloc, wasm, config)?)
 }
 
 /// A process of a module, before its first step.
@@ -123,7 +123,7 @@ fn one_time(alloc: Global) -> Result<AnswerList, Fail> {
 static FAULTS: [WorkFault; 3] = [WorkFault::Source, WorkFault::Failed, WorkFault::Failed];
 
 /// Whether slices fail so.
-fn fail_so(worker: &mut Worker, source: &mut AnswerList, outlet: &mut LineList) -> bool {
+fn fail_so(worker: &mut EphemeralWorker, source: &mut AnswerList, outlet: &mut LineList) -> bool {
     for fault in &FAULTS {
         if worker.slice(100, source, outlet) != Err(*fault) {
             return false;
@@ -133,7 +133,7 @@ fn fail_so(worker: &mut Worker, source: &mut AnswerList, outlet: &mut LineList) 
 }
 
 /// Whether slices on a time fail so.
-fn fail_on_a_time(alloc: Global, worker: &mut Worker) -> Result<bool, Fail> {
+fn fail_on_a_time(alloc: Global, worker: &mut EphemeralWorker) -> Result<bool, Fail> {
     let mut source = one_time(alloc)?;
     let mut outlet = LineList::new(alloc);
     Ok(fail_so(worker, &mut source, &mut outlet))

@@ -2,13 +2,13 @@
 
 use crate::asking::{ECHO, create_worker};
 use crate::check::bytes_of;
+use ephemeral_worker::{EphemeralWorker, WorkFault};
 use record_replay::{AnswerList, LineList, NumberedLine};
 use state_image::write_image;
 use std::alloc::Global;
 use std::test::Fail;
 use wasi_abi::Answer;
 use wasm_syntax::Row;
-use worker::{WorkFault, Worker};
 
 /// Both requests are taken, and both lines are told, after so many steps.
 const STEPS: u64 = 42;
@@ -34,7 +34,7 @@ fn requests(alloc: Global) -> Result<AnswerList, Fail> {
 
 /// Runs both slices.
 fn slice_twice(
-    worker: &mut Worker,
+    worker: &mut EphemeralWorker,
     first: u64,
     source: &mut AnswerList,
     told: &mut LineList,
@@ -47,7 +47,7 @@ fn slice_twice(
 /// Runs both slices on both requests, and gives the image.
 fn run(
     alloc: Global,
-    worker: &mut Worker,
+    worker: &mut EphemeralWorker,
     first: u64,
     told: &mut LineList,
 ) -> Result<Vec<u8>, Fail> {

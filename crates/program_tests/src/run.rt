@@ -8,6 +8,7 @@ use crate::check::{BEFORE_CODE, EMPTY_BODY, HELLO, bytes_of};
 use crate::lines::{NoClock, OUTSIDE};
 use crate::serving::pace_of;
 use crate::show::{SECTORS, WRITES, fresh_disk};
+use ephemeral_worker::{EphemeralWorker, Now, WorkFault};
 use record_replay::{AnswerList, LineList};
 use sector_disk::MemDisk;
 use std::alloc::Global;
@@ -18,7 +19,6 @@ use wasmhost_serve::{
     BufferedLines, LineOutlet, Pace, Prepared, Printer, RequestSource, Sizes, Unprepared,
     create_on, prepare, serve,
 };
-use worker::{Now, WorkFault, Worker};
 
 /// Modules of one body each, without imports.
 const UNREACHABLE: [&str; 2] = [BEFORE_CODE, "0a0501030000 0b"];
@@ -121,7 +121,7 @@ fn workers_print(rt: HostRuntime) -> Result<(), Fail> {
 
 /// Runs a worker by slices of so many steps, until it ends.
 fn run_to_end(
-    worker: &mut Worker,
+    worker: &mut EphemeralWorker,
     fuel: u64,
     source: &mut AnswerList,
     outlet: &mut LineList,
@@ -135,7 +135,7 @@ fn run_to_end(
 }
 
 /// The same, where nothing is answered.
-fn run_alone(alloc: Global, worker: &mut Worker, fuel: u64) -> Result<(), WorkFault> {
+fn run_alone(alloc: Global, worker: &mut EphemeralWorker, fuel: u64) -> Result<(), WorkFault> {
     let mut source = AnswerList::new(Vec::new(alloc));
     let mut outlet = LineList::new(alloc);
     run_to_end(worker, fuel, &mut source, &mut outlet)

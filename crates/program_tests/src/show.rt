@@ -10,7 +10,7 @@ use record_replay::{AnswerList, LineList};
 use sector_disk::{Disk, FaultDisk, MemDisk, Place};
 use std::alloc::Global;
 use std::test::Fail;
-use wasmhost_serve::{DurableWorker, Printer, survey};
+use wasmhost_serve::{Printer, Worker, survey};
 
 /// Sectors of the disk of a short module, and how many writes it has room for between two syncs.
 pub(crate) const SECTORS: u64 = 4_676;
@@ -48,12 +48,12 @@ fn zeros(alloc: Global) -> Result<MemDisk, Fail> {
 }
 
 /// A worker of a module on this disk.
-fn create<D: Disk>(alloc: Global, disk: &mut D, texts: &[&str]) -> Result<DurableWorker, Fail>
+fn create<D: Disk>(alloc: Global, disk: &mut D, texts: &[&str]) -> Result<Worker, Fail>
     ensures { IfOk result (λ w. total_sectors w.store.geometry ≤ (D.medium disk.new).sectors) }
 {
     let wasm = bytes_of(alloc, texts)?;
     let config = config(alloc)?;
-    match DurableWorker::create(alloc, disk, wasm.as_slice(), &config) {
+    match Worker::create(alloc, disk, wasm.as_slice(), &config) {
         Ok(worker) => Ok(worker),
         Err(fault) => Err(Fail::from(fault)),
     }
@@ -71,7 +71,7 @@ struct Course {
 /// Runs one slice on one request, and saves the process where that is wanted.
 fn run<D: Disk>(
     alloc: Global,
-    worker: &mut DurableWorker,
+    worker: &mut Worker,
     disk: &mut D,
     course: &Course,
 ) -> Result<(), Fail>
@@ -87,7 +87,7 @@ fn run<D: Disk>(
     }
 }
 
-fn save<D: Disk>(worker: &mut DurableWorker, disk: &mut D, is_saved: bool) -> Result<(), Fail>
+fn save<D: Disk>(worker: &mut Worker, disk: &mut D, is_saved: bool) -> Result<(), Fail>
     requires { total_sectors worker.old.store.geometry ≤ (D.medium disk.old).sectors }
 {
     if !is_saved {
@@ -113,7 +113,7 @@ fn open_again<D: Disk>(alloc: Global, disk: &mut D, is_wanted: bool) -> Result<(
         return Ok(());
     }
     let mut told = LineList::new(alloc);
-    match DurableWorker::recover(alloc, disk, &mut told) {
+    match Worker::recover(alloc, disk, &mut told) {
         Ok(worker) => {
             drop(worker);
             Ok(())

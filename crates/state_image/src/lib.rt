@@ -87,7 +87,7 @@
 //!
 //! Only these definitions and this code say which byte of an image means what. `worker_rules` cites
 //! the definitions, for the disk that stands for a worker. `worker_store` writes images, and
-//! `durable_worker` makes processes of them again, by `restore_into`. A process is read by the
+//! `worker` makes processes of them again, by `restore_into`. A process is read by the
 //! questions of `process`, `machine`, `wasi_calls` and `file_tree`, and nothing of it is changed.
 //! The image has no lines that wait: whoever writes one has released them. Only `write_image`,
 //! `ByteSink` and `restoring` take memory. Want of it is the only error of the first two.

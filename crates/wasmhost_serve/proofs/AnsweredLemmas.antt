@@ -9,7 +9,7 @@ use Rattle.wasi_abi.specs.declared.answer.Kind.TheVariants as kinds
 use Rattle.process_rules.specs.Runs.{Kept, Given}
 use Rattle.record_replay.specs.declared.fault.SourceFault.{SourceFault}
 use Rattle.record_replay.specs.rules.Calls.{Ask, AnswersInOrder}
-use Rattle.worker.specs.rules.Slices.{handed_by, handed}
+use Rattle.ephemeral_worker.specs.rules.Slices.{handed_by, handed}
 use Rattle.wasmhost_serve.specs.declared.lines.fault.LineFault.{LineFault}
 use Rattle.wasmhost_serve.specs.rules.Outside.{ComeFrom, request_in, requests_in}
 use Rattle.wasmhost_serve.specs.rules.Outside.{words_in}

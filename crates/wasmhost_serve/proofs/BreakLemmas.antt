@@ -10,18 +10,18 @@ use Rattle.process_rules.specs.Runs.{none}
 use Rattle.process.specs.rules.Values.{ProcessValue, ShowsProcess}
 use Rattle.record_replay.specs.rules.Calls.{Giving, Taking, Exchanges}
 use Rattle.record_replay.proofs.Following.{exchanges_join}
-use Rattle.worker.specs.declared.fault.WorkFault.TheVariants as work
-use Rattle.worker.specs.declared.now.Now.{Now}
-use Rattle.worker.specs.declared.now.Now.TheVariants as now
-use Rattle.worker.specs.rules.Slices.{SliceLeadsTo, AreWanted, Slices}
-use Rattle.worker.specs.rules.Faults.{LeadsUpTo}
-use Rattle.worker.proofs.Joining.{answered_join, leads_join, none_answered, none_wanted}
-use Rattle.worker.proofs.Joining.{wanted_join}
-use Rattle.durable_worker.specs.declared.fault.DurableFault.{DurableFault}
-use Rattle.durable_worker.specs.declared.fault.DurableFault.TheVariants as durable
-use Rattle.durable_worker.specs.rules.DurableValues.{DurableValue, without_disk}
-use Rattle.durable_worker.specs.rules.DurableFailures.{SlicesOnDiskInVain}
-use Rattle.durable_worker.specs.rules.LifeWords.{Act, Slice, Checkpoint}
+use Rattle.ephemeral_worker.specs.declared.fault.WorkFault.TheVariants as work
+use Rattle.ephemeral_worker.specs.declared.now.Now.{Now}
+use Rattle.ephemeral_worker.specs.declared.now.Now.TheVariants as now
+use Rattle.ephemeral_worker.specs.rules.Slices.{SliceLeadsTo, AreWanted, Slices}
+use Rattle.ephemeral_worker.specs.rules.Faults.{LeadsUpTo}
+use Rattle.ephemeral_worker.proofs.Joining.{answered_join, leads_join, none_answered, none_wanted}
+use Rattle.ephemeral_worker.proofs.Joining.{wanted_join}
+use Rattle.worker.specs.declared.fault.DurableFault.{DurableFault}
+use Rattle.worker.specs.declared.fault.DurableFault.TheVariants as durable
+use Rattle.worker.specs.rules.DurableValues.{DurableValue, without_disk}
+use Rattle.worker.specs.rules.DurableFailures.{SlicesOnDiskInVain}
+use Rattle.worker.specs.rules.LifeWords.{Act, Slice, Checkpoint}
 use Rattle.wasmhost_serve.specs.rules.BrokenLives.{steps_among, in_slice, in_checkpoint}
 use Rattle.wasmhost_serve.specs.rules.BrokenLives.{SlicesLead, BreaksOff, BreaksOffFrom}
 use Rattle.wasmhost_serve.specs.rules.Paces.{round_of}

@@ -8,14 +8,14 @@ use Rattle.wasi_abi.specs.declared.answer.Kind.TheVariants as kinds
 use Rattle.sector_disk.specs.rules.Medium.{Medium}
 use Rattle.sector_disk.specs.declared.fault.DiskFault.TheVariants as disk
 use Rattle.record_replay.specs.rules.Calls.{Taking, Ask, AnswersInOrder}
-use Rattle.worker.specs.declared.fault.WorkFault.TheVariants as work
-use Rattle.worker.specs.rules.Slices.{handed}
-use Rattle.durable_worker.specs.declared.fault.DurableFault.{DurableFault}
-use Rattle.durable_worker.specs.declared.fault.DurableFault.TheVariants as durable
-use Rattle.durable_worker.specs.declared.recover_fault.RecoverFault.{RecoverFault}
-use Rattle.durable_worker.specs.declared.recover_fault.RecoverFault.TheVariants as recover
-use Rattle.durable_worker.specs.rules.LifeWords.{Act}
-use Rattle.durable_worker.specs.rules.Outlets.{IsOutletFault}
+use Rattle.ephemeral_worker.specs.declared.fault.WorkFault.TheVariants as work
+use Rattle.ephemeral_worker.specs.rules.Slices.{handed}
+use Rattle.worker.specs.declared.fault.DurableFault.{DurableFault}
+use Rattle.worker.specs.declared.fault.DurableFault.TheVariants as durable
+use Rattle.worker.specs.declared.recover_fault.RecoverFault.{RecoverFault}
+use Rattle.worker.specs.declared.recover_fault.RecoverFault.TheVariants as recover
+use Rattle.worker.specs.rules.LifeWords.{Act}
+use Rattle.worker.specs.rules.Outlets.{IsOutletFault}
 use Rattle.wasmhost_serve.specs.declared.lines.fault.LineFault.{LineFault}
 use Rattle.wasmhost_serve.specs.declared.lines.fault.LineFault.TheVariants as line
 use Rattle.wasmhost_serve.specs.declared.on_disk.fault.OnDiskFault.{OnDiskFault}

@@ -6,10 +6,10 @@ use Rattle.wasmhost_serve.specs.declared.preparing.Prepared.{Prepared}
 use Rattle.wasmhost_serve.specs.declared.preparing.Unprepared.{Unprepared}
 use Rattle.wasmhost_serve.specs.declared.preparing.Unprepared.TheVariants as unprepared
 use Rattle.sector_disk.specs.rules.Medium.{Medium}
-use Rattle.worker.specs.declared.fault.WorkFault.TheVariants as work
-use Rattle.durable_worker.specs.declared.fault.DurableFault.{DurableFault}
-use Rattle.durable_worker.specs.declared.fault.DurableFault.TheVariants as durable
-use Rattle.durable_worker.specs.rules.DurableCreations.{IsNotCreatedOn}
+use Rattle.ephemeral_worker.specs.declared.fault.WorkFault.TheVariants as work
+use Rattle.worker.specs.declared.fault.DurableFault.{DurableFault}
+use Rattle.worker.specs.declared.fault.DurableFault.TheVariants as durable
+use Rattle.worker.specs.rules.DurableCreations.{IsNotCreatedOn}
 use Rattle.wasmhost_serve.specs.declared.on_disk.fault.OnDiskFault.{OnDiskFault}
 use Rattle.wasmhost_serve.specs.rules.Creations.{IsUnaccepted, IsUnprepared, prepared_with}
 use Rattle.wasmhost_serve.specs.rules.Creations.{created_line}

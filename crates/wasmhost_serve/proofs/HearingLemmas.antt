@@ -11,19 +11,19 @@ use Rattle.record_replay.specs.rules.Calls.{Giving, Taking, Ask, Asked, Begun, E
 use Rattle.record_replay.specs.rules.Calls.{Tells, asks_of, last_refused}
 use Rattle.record_replay.proofs.Following.{asks_of-append, leads_join}
 use Rattle.process.specs.rules.Values.{ProcessValue, IsProcess}
-use Rattle.worker.specs.declared.fault.WorkFault.TheVariants as work
-use Rattle.worker.specs.declared.fault.Refusal.TheVariants as refusal
-use Rattle.worker.specs.declared.now.Now.{Now}
-use Rattle.worker.specs.declared.now.Now.TheVariants as now
-use Rattle.worker.specs.rules.Values.{WorkerValue}
-use Rattle.worker.specs.rules.Slices.{HasAnswer, AreWanted, IsNow, Slices}
-use Rattle.worker.specs.rules.Faults.{LeadsUpTo, EmitsLast, StopsAtLine, last_answer}
-use Rattle.durable_worker.specs.declared.fault.DurableFault.{DurableFault}
-use Rattle.durable_worker.specs.declared.fault.DurableFault.TheVariants as durable
-use Rattle.durable_worker.specs.declared.recover_fault.RecoverFault.TheVariants as recover
-use Rattle.durable_worker.specs.rules.DurableFailures.{SlicesOnDiskInVain, IsDiskCause}
-use Rattle.durable_worker.specs.rules.DurableFailures.{StopsAtDisk, StopsAtStore}
-use Rattle.durable_worker.proofs.StopLemmas.{stops_at_store}
+use Rattle.ephemeral_worker.specs.declared.fault.WorkFault.TheVariants as work
+use Rattle.ephemeral_worker.specs.declared.fault.Refusal.TheVariants as refusal
+use Rattle.ephemeral_worker.specs.declared.now.Now.{Now}
+use Rattle.ephemeral_worker.specs.declared.now.Now.TheVariants as now
+use Rattle.ephemeral_worker.specs.rules.Values.{WorkerValue}
+use Rattle.ephemeral_worker.specs.rules.Slices.{HasAnswer, AreWanted, IsNow, Slices}
+use Rattle.ephemeral_worker.specs.rules.Faults.{LeadsUpTo, EmitsLast, StopsAtLine, last_answer}
+use Rattle.worker.specs.declared.fault.DurableFault.{DurableFault}
+use Rattle.worker.specs.declared.fault.DurableFault.TheVariants as durable
+use Rattle.worker.specs.declared.recover_fault.RecoverFault.TheVariants as recover
+use Rattle.worker.specs.rules.DurableFailures.{SlicesOnDiskInVain, IsDiskCause}
+use Rattle.worker.specs.rules.DurableFailures.{StopsAtDisk, StopsAtStore}
+use Rattle.worker.proofs.StopLemmas.{stops_at_store}
 use Rattle.wasmhost_serve.specs.rules.Hearings.{WasHeard, AsksUnless, IsOfSource}
 
 -- ---- questions one after another

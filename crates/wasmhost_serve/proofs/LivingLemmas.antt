@@ -11,21 +11,21 @@ use Rattle.disk_layout.specs.rules.Places.{total_sectors}
 use Rattle.record_replay.specs.rules.Calls.{Giving, Taking, asks_of}
 use Rattle.process_rules.proofs.Growing.{runs_count}
 use Rattle.process.specs.rules.Values.{IsProcess}
-use Rattle.worker.specs.declared.now.Now.{Now}
-use Rattle.worker.specs.declared.now.Now.TheVariants as now
-use Rattle.worker.specs.rules.Values.{WorkerValue}
-use Rattle.worker.specs.rules.Slices.{handed, Slices}
-use Rattle.durable_worker.specs.declared.fault.DurableFault.{DurableFault}
-use Rattle.durable_worker.specs.declared.recover_fault.RecoverFault.{RecoverFault}
-use Rattle.durable_worker.specs.declared.recover_fault.RecoverFault.TheVariants as recover
-use Rattle.durable_worker.specs.rules.DurableValues.{DurableValue, without_disk}
-use Rattle.durable_worker.specs.rules.DurableCalls.{SliceCarries, CheckpointCarries}
-use Rattle.durable_worker.specs.rules.LifeWords.{Act, Slice, Checkpoint}
-use Rattle.durable_worker.specs.rules.Outlets.{TakesEach, HeedsOutlet, SaysOutletFault}
-use Rattle.durable_worker.proofs.OutletLemmas.{none_told, takes_both, heeds_on}
-use Rattle.durable_worker.specs.laws.OneLife.{no_more, sliced, slice_failed, saved}
-use Rattle.durable_worker.specs.laws.OneLife.{saving_failed}
-use Rattle.durable_worker.specs.laws.Outcomes.{outcome_after}
+use Rattle.ephemeral_worker.specs.declared.now.Now.{Now}
+use Rattle.ephemeral_worker.specs.declared.now.Now.TheVariants as now
+use Rattle.ephemeral_worker.specs.rules.Values.{WorkerValue}
+use Rattle.ephemeral_worker.specs.rules.Slices.{handed, Slices}
+use Rattle.worker.specs.declared.fault.DurableFault.{DurableFault}
+use Rattle.worker.specs.declared.recover_fault.RecoverFault.{RecoverFault}
+use Rattle.worker.specs.declared.recover_fault.RecoverFault.TheVariants as recover
+use Rattle.worker.specs.rules.DurableValues.{DurableValue, without_disk}
+use Rattle.worker.specs.rules.DurableCalls.{SliceCarries, CheckpointCarries}
+use Rattle.worker.specs.rules.LifeWords.{Act, Slice, Checkpoint}
+use Rattle.worker.specs.rules.Outlets.{TakesEach, HeedsOutlet, SaysOutletFault}
+use Rattle.worker.proofs.OutletLemmas.{none_told, takes_both, heeds_on}
+use Rattle.worker.specs.laws.OneLife.{no_more, sliced, slice_failed, saved}
+use Rattle.worker.specs.laws.OneLife.{saving_failed}
+use Rattle.worker.specs.laws.Outcomes.{outcome_after}
 use Rattle.wasmhost_serve.specs.rules.BrokenLives.{BreaksOff, SlicesLead, steps_among}
 use Rattle.wasmhost_serve.specs.rules.Hearings.{AsksUnless, IsOfSource}
 use Rattle.wasmhost_serve.specs.rules.Paces.{round_of, IsPaced, last, more}

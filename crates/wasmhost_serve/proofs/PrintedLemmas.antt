@@ -8,13 +8,13 @@ use Rattle.process_rules.specs.Processes.{ProcessState, Guest}
 use Rattle.record_replay.specs.rules.Calls.{Taking, Exchange, Asks, Releases, releases_of}
 use Rattle.record_replay.specs.rules.Calls.{all_taken}
 use Rattle.record_replay.proofs.Following.{releases_of-append}
-use Rattle.worker.specs.declared.fault.WorkFault.TheVariants as work
-use Rattle.worker.specs.declared.fault.Refusal.TheVariants as refusal
-use Rattle.worker.specs.rules.Slices.{SliceLeadsTo}
-use Rattle.worker.specs.rules.Faults.{LeadsUpTo, last_answer}
-use Rattle.worker.proofs.Joining.{leads_join}
-use Rattle.durable_worker.specs.declared.fault.DurableFault.{DurableFault}
-use Rattle.durable_worker.specs.declared.fault.DurableFault.TheVariants as durable
+use Rattle.ephemeral_worker.specs.declared.fault.WorkFault.TheVariants as work
+use Rattle.ephemeral_worker.specs.declared.fault.Refusal.TheVariants as refusal
+use Rattle.ephemeral_worker.specs.rules.Slices.{SliceLeadsTo}
+use Rattle.ephemeral_worker.specs.rules.Faults.{LeadsUpTo, last_answer}
+use Rattle.ephemeral_worker.proofs.Joining.{leads_join}
+use Rattle.worker.specs.declared.fault.DurableFault.{DurableFault}
+use Rattle.worker.specs.declared.fault.DurableFault.TheVariants as durable
 use Rattle.wasmhost_serve.specs.Lines.Answers.{Standing}
 use Rattle.wasmhost_serve.specs.rules.BrokenLives.{IsBrokenAt, in_slice, in_checkpoint, BreaksOff}
 use Rattle.wasmhost_serve.specs.rules.BrokenLives.{LeavesNoLine, TellsItsLines}

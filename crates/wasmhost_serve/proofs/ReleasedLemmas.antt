@@ -4,8 +4,8 @@ use Rattle.std.specs.Prelude.{Result}
 use Rattle.wasi_calls_rules.specs.Hosts.{Line}
 use Rattle.record_replay.specs.declared.fault.OutletFault.{OutletFault}
 use Rattle.record_replay.specs.rules.Calls.{Exchange, Asks, Tells}
-use Rattle.durable_worker.specs.laws.OneLife.{released_in, taken_in}
-use Rattle.durable_worker.specs.laws.Uncut.{AreTrue}
+use Rattle.worker.specs.laws.OneLife.{released_in, taken_in}
+use Rattle.worker.specs.laws.Uncut.{AreTrue}
 use Rattle.wasmhost_serve.specs.rules.Texts.{printed}
 use Rattle.wasmhost_serve.specs.rules.Printed.{released_lines, ReleasedLinesArePrinted}
 use Rattle.wasmhost_serve.specs.rules.Printers.{IsPrinted}

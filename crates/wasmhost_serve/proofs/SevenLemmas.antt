@@ -7,12 +7,12 @@ use Rattle.sector_disk.specs.declared.fault.DiskFault.TheVariants as disk
 use Rattle.sector_disk.specs.rules.Medium.{Medium}
 use Rattle.record_replay.specs.declared.fault.OutletFault.{OutletFault}
 use Rattle.record_replay.specs.rules.Calls.{Taking, Begun, Releases}
-use Rattle.worker.specs.declared.fault.WorkFault.TheVariants as work
-use Rattle.durable_worker.specs.declared.fault.DurableFault.{DurableFault}
-use Rattle.durable_worker.specs.declared.fault.DurableFault.TheVariants as durable
-use Rattle.durable_worker.specs.declared.recover_fault.RecoverFault.{RecoverFault}
-use Rattle.durable_worker.specs.declared.recover_fault.RecoverFault.TheVariants as recover
-use Rattle.durable_worker.specs.rules.Outlets.{WasTaken, TakesEach, HeedsOutlet, IsOutletFault}
+use Rattle.ephemeral_worker.specs.declared.fault.WorkFault.TheVariants as work
+use Rattle.worker.specs.declared.fault.DurableFault.{DurableFault}
+use Rattle.worker.specs.declared.fault.DurableFault.TheVariants as durable
+use Rattle.worker.specs.declared.recover_fault.RecoverFault.{RecoverFault}
+use Rattle.worker.specs.declared.recover_fault.RecoverFault.TheVariants as recover
+use Rattle.worker.specs.rules.Outlets.{WasTaken, TakesEach, HeedsOutlet, IsOutletFault}
 use Rattle.wasmhost_serve.specs.declared.lines.fault.LineFault.{LineFault}
 use Rattle.wasmhost_serve.specs.declared.lines.fault.LineFault.TheVariants as line
 use Rattle.wasmhost_serve.specs.declared.on_disk.fault.OnDiskFault.{OnDiskFault}

@@ -7,13 +7,13 @@ use Rattle.sector_disk.specs.declared.fault.DiskFault.{DiskFault}
 use Rattle.sector_disk.specs.declared.fault.DiskFault.TheVariants as disk
 use Rattle.sector_disk.specs.rules.Image.{Image}
 use Rattle.sector_disk.specs.rules.Medium.{Medium}
-use Rattle.worker.specs.declared.fault.WorkFault.TheVariants as work
-use Rattle.durable_worker.specs.declared.fault.DurableFault.TheVariants as durable
-use Rattle.durable_worker.specs.declared.recover_fault.RecoverFault.{RecoverFault}
-use Rattle.durable_worker.specs.declared.recover_fault.RecoverFault.TheVariants as recover
-use Rattle.durable_worker.specs.declared.surveyed.Survey.{Survey}
-use Rattle.durable_worker.specs.rules.Recoveries.{SaysNothing}
-use Rattle.durable_worker.specs.rules.Surveys.{Surveys, EachSurvey, TellsSurvey, survey_of}
+use Rattle.ephemeral_worker.specs.declared.fault.WorkFault.TheVariants as work
+use Rattle.worker.specs.declared.fault.DurableFault.TheVariants as durable
+use Rattle.worker.specs.declared.recover_fault.RecoverFault.{RecoverFault}
+use Rattle.worker.specs.declared.recover_fault.RecoverFault.TheVariants as recover
+use Rattle.worker.specs.declared.surveyed.Survey.{Survey}
+use Rattle.worker.specs.rules.Recoveries.{SaysNothing}
+use Rattle.worker.specs.rules.Surveys.{Surveys, EachSurvey, TellsSurvey, survey_of}
 use Rattle.wasmhost_serve.specs.declared.on_disk.fault.OnDiskFault.{OnDiskFault}
 use Rattle.wasmhost_serve.specs.rules.DiskStatuses.{told_of_opening, status_on_disk}
 use Rattle.wasmhost_serve.specs.rules.Printers.{PrinterState, IsSaid}

@@ -4,15 +4,15 @@ use Rattle.std.specs.Prelude.{Result}
 use Rattle.sector_disk.specs.rules.Medium.{Medium}
 use Rattle.record_replay.specs.rules.Calls.{Giving, Taking, Ask, Exchange, Exchanges}
 use Rattle.record_replay.specs.rules.Calls.{AnswersInOrder, asks_of}
-use Rattle.worker.specs.declared.now.Now.{Now}
-use Rattle.durable_worker.specs.declared.recover_fault.RecoverFault.{RecoverFault}
-use Rattle.durable_worker.specs.rules.DurableValues.{DurableValue}
-use Rattle.durable_worker.specs.rules.LifeWords.{Act}
-use Rattle.durable_worker.specs.laws.OneLife.{CallsInOrder, no_more, sliced, slice_failed, saved}
-use Rattle.durable_worker.specs.laws.OneLife.{saving_failed}
-use Rattle.durable_worker.specs.laws.Outcomes.{outcome_after}
+use Rattle.ephemeral_worker.specs.declared.now.Now.{Now}
+use Rattle.worker.specs.declared.recover_fault.RecoverFault.{RecoverFault}
+use Rattle.worker.specs.rules.DurableValues.{DurableValue}
+use Rattle.worker.specs.rules.LifeWords.{Act}
+use Rattle.worker.specs.laws.OneLife.{CallsInOrder, no_more, sliced, slice_failed, saved}
+use Rattle.worker.specs.laws.OneLife.{saving_failed}
+use Rattle.worker.specs.laws.Outcomes.{outcome_after}
 use Rattle.process.specs.rules.Values.{ProcessValue}
-use Rattle.durable_worker.specs.declared.fault.DurableFault.{DurableFault}
+use Rattle.worker.specs.declared.fault.DurableFault.{DurableFault}
 use Rattle.wasmhost_serve.specs.rules.BrokenLives.{BreaksOffFrom}
 
 module _ {S T O : Type 0} (stands : S → T) (gives : Giving T) (takes : Taking O) where

@@ -6,7 +6,7 @@ use Rattle.std.specs.Prelude.{Option}
 use Rattle.std.specs.Io.KnownBytes.{Appends}
 use Rattle.std.proofs.lemmas.List.{append_assoc, append-nil, take_more, length-take-le}
 use Rattle.record_replay.specs.declared.line_list.NumberedLine.{NumberedLine}
-use Rattle.durable_worker.specs.declared.story.report.LifeReport.{LifeReport}
+use Rattle.worker.specs.declared.story.report.LifeReport.{LifeReport}
 use Rattle.wasmhost_serve.specs.rules.Stories.{release_text, releases_text, life_text, story_text}
 use Rattle.wasmhost_serve.proofs.LineLemmas.Printed.{appends_both}
 

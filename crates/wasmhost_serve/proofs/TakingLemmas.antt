@@ -10,23 +10,23 @@ use Rattle.sector_disk.specs.rules.Medium.{Medium}
 use Rattle.record_replay.specs.rules.Calls.{Giving, Taking, Begun, Exchange, Asks, Tells, Released}
 use Rattle.record_replay.specs.rules.Calls.{Releases, releases_of, all_taken, last_refused}
 use Rattle.record_replay.proofs.Following.{leads_split, releases_of-append}
-use Rattle.worker.specs.declared.fault.WorkFault.TheVariants as work
-use Rattle.worker.specs.declared.fault.Refusal.TheVariants as refusal
-use Rattle.worker.specs.declared.now.Now.{Now}
-use Rattle.worker.specs.rules.Values.{WorkerValue}
-use Rattle.worker.specs.rules.Slices.{SliceLeadsTo, Slices}
-use Rattle.worker.specs.rules.Faults.{LeadsUpTo, EmitsLast, StopsAtLine, last_answer}
-use Rattle.durable_worker.specs.declared.fault.DurableFault.{DurableFault}
-use Rattle.durable_worker.specs.declared.fault.DurableFault.TheVariants as durable
-use Rattle.durable_worker.specs.declared.recover_fault.RecoverFault.TheVariants as recover
-use Rattle.durable_worker.specs.rules.Checkpoints.{HasCheckpointCause}
-use Rattle.durable_worker.specs.rules.DurableFailures.{SlicesOnDiskInVain, IsDiskCause}
-use Rattle.durable_worker.specs.rules.DurableFailures.{StopsAtDisk, StopsAtStore}
-use Rattle.durable_worker.specs.rules.DurableValues.{DurableValue}
-use Rattle.durable_worker.specs.rules.Outlets.{TakesEach, RefusesLast, HeedsOutlet, IsOutletFault}
-use Rattle.durable_worker.proofs.OutletLemmas.{none_told, refuses_then, lines_taken}
-use Rattle.durable_worker.proofs.OutletLemmas.{last_is_refused}
-use Rattle.durable_worker.proofs.StopLemmas.{stops_at_store}
+use Rattle.ephemeral_worker.specs.declared.fault.WorkFault.TheVariants as work
+use Rattle.ephemeral_worker.specs.declared.fault.Refusal.TheVariants as refusal
+use Rattle.ephemeral_worker.specs.declared.now.Now.{Now}
+use Rattle.ephemeral_worker.specs.rules.Values.{WorkerValue}
+use Rattle.ephemeral_worker.specs.rules.Slices.{SliceLeadsTo, Slices}
+use Rattle.ephemeral_worker.specs.rules.Faults.{LeadsUpTo, EmitsLast, StopsAtLine, last_answer}
+use Rattle.worker.specs.declared.fault.DurableFault.{DurableFault}
+use Rattle.worker.specs.declared.fault.DurableFault.TheVariants as durable
+use Rattle.worker.specs.declared.recover_fault.RecoverFault.TheVariants as recover
+use Rattle.worker.specs.rules.Checkpoints.{HasCheckpointCause}
+use Rattle.worker.specs.rules.DurableFailures.{SlicesOnDiskInVain, IsDiskCause}
+use Rattle.worker.specs.rules.DurableFailures.{StopsAtDisk, StopsAtStore}
+use Rattle.worker.specs.rules.DurableValues.{DurableValue}
+use Rattle.worker.specs.rules.Outlets.{TakesEach, RefusesLast, HeedsOutlet, IsOutletFault}
+use Rattle.worker.proofs.OutletLemmas.{none_told, refuses_then, lines_taken}
+use Rattle.worker.proofs.OutletLemmas.{last_is_refused}
+use Rattle.worker.proofs.StopLemmas.{stops_at_store}
 use Rattle.wasmhost_serve.proofs.BreakLemmas.{same_fault}
 use Rattle.wasmhost_serve.proofs.PrintedLemmas.{asks_only}
 

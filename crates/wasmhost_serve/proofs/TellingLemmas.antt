@@ -1,8 +1,8 @@
 -- From how a story went to what the exit status says.
 use Rattle.std.proofs.Common.{◌≡◌, inl, inr, ⊎_elim, ℕ, ◌≤◌, List, refl, sym, ap, subst, arith}
-use Rattle.durable_worker.specs.declared.story.life.PlannedLife.{PlannedLife}
-use Rattle.durable_worker.specs.declared.story.report.LifeReport.{LifeReport}
-use Rattle.durable_worker.specs.rules.StoryDisks.{TellsLives}
+use Rattle.worker.specs.declared.story.life.PlannedLife.{PlannedLife}
+use Rattle.worker.specs.declared.story.report.LifeReport.{LifeReport}
+use Rattle.worker.specs.rules.StoryDisks.{TellsLives}
 use Rattle.wasi_abi.specs.rules.Configs.{Settings}
 use Rattle.wasmhost_serve.specs.declared.configuring.Sizes.{Sizes}
 use Rattle.wasmhost_serve.specs.declared.preparing.Prepared.{Prepared}

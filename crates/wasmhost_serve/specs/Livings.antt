@@ -5,22 +5,22 @@ use Rattle.process_rules.specs.Processes.{ProcessState, Guest}
 use Rattle.process.specs.rules.Values.{ShowsProcess}
 use Rattle.sector_disk.specs.rules.Medium.{Medium}
 use Rattle.record_replay.specs.rules.Calls.{Giving, Taking}
-use Rattle.worker.specs.declared.now.Now.{Now}
-use Rattle.worker.specs.declared.now.Now.TheVariants as now
-use Rattle.durable_worker.specs.declared.fault.DurableFault.{DurableFault}
-use Rattle.durable_worker.specs.declared.recover_fault.RecoverFault.{RecoverFault}
-use Rattle.durable_worker.specs.declared.recover_fault.RecoverFault.TheVariants as recover
-use Rattle.durable_worker.specs.rules.DurableValues.{DurableValue}
-use Rattle.durable_worker.specs.rules.DurableCalls.{CheckpointCarries}
-use Rattle.durable_worker.specs.rules.Checkpoints.{CheckpointFails, HasCheckpointCause}
-use Rattle.durable_worker.specs.rules.LifeWords.{Act}
-use Rattle.durable_worker.specs.rules.Outlets.{TakesEach, HeedsOutlet, IsOutletFault}
-use Rattle.durable_worker.specs.rules.Outlets.{SaysOutletFault}
-use Rattle.durable_worker.specs.laws.OneLife.{CallsInOrder}
+use Rattle.ephemeral_worker.specs.declared.now.Now.{Now}
+use Rattle.ephemeral_worker.specs.declared.now.Now.TheVariants as now
+use Rattle.worker.specs.declared.fault.DurableFault.{DurableFault}
+use Rattle.worker.specs.declared.recover_fault.RecoverFault.{RecoverFault}
+use Rattle.worker.specs.declared.recover_fault.RecoverFault.TheVariants as recover
+use Rattle.worker.specs.rules.DurableValues.{DurableValue}
+use Rattle.worker.specs.rules.DurableCalls.{CheckpointCarries}
+use Rattle.worker.specs.rules.Checkpoints.{CheckpointFails, HasCheckpointCause}
+use Rattle.worker.specs.rules.LifeWords.{Act}
+use Rattle.worker.specs.rules.Outlets.{TakesEach, HeedsOutlet, IsOutletFault}
+use Rattle.worker.specs.rules.Outlets.{SaysOutletFault}
+use Rattle.worker.specs.laws.OneLife.{CallsInOrder}
 use Rattle.wasmhost_serve.specs.declared.on_disk.fault.OnDiskFault.{OnDiskFault}
 use Rattle.wasmhost_serve.specs.Lines.Answers.{Standing}
 use Rattle.wasmhost_serve.specs.rules.DiskStatuses.{IsToldOnDisk}
-use Rattle.durable_worker.specs.laws.Outcomes.{outcome_after}
+use Rattle.worker.specs.laws.Outcomes.{outcome_after}
 use Rattle.wasmhost_serve.specs.rules.BrokenLives.{BreaksOffFrom, SlicesLead, steps_among}
 use Rattle.wasmhost_serve.specs.rules.Hearings.{AsksUnless, IsOfSource}
 use Rattle.wasmhost_serve.specs.rules.Paces.{round_of, IsPaced}

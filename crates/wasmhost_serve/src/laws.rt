@@ -1,7 +1,7 @@
 //! Laws of answers and printed lines. The functions do nothing: what they ensure is the law.
 
-ghost use Rattle.durable_worker.specs.laws.Replies.{LivesEndAsSaid};
-ghost use Rattle.durable_worker.specs.laws.Uncut.{LivesGoOnUncut};
+ghost use Rattle.worker.specs.laws.Replies.{LivesEndAsSaid};
+ghost use Rattle.worker.specs.laws.Uncut.{LivesGoOnUncut};
 ghost use Rattle.wasmhost_serve.specs.rules.Answered.{AnswersComeFromTheLines};
 ghost use Rattle.wasmhost_serve.specs.rules.Answered.{NoneIsLeftAtTheEnd};
 ghost use Rattle.wasmhost_serve.specs.rules.DiskCauses.{RefusalsHaveReasons, StatusesHaveCauses};

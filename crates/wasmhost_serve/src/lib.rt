@@ -25,7 +25,7 @@
 //!   pace (`IsPaced`). The source begins behind the requests that the worker has taken, and at the
 //!   first word of the seed's stream of its generation (`stands_behind`). It refuses no question,
 //!   unless the error is its own (`AsksUnless`), and the outlet no line, unless the error is the
-//!   outlet's (`HeedsOutlet` of `durable_worker`). Where `err` is a terminal, its first line says
+//!   outlet's (`HeedsOutlet` of `worker`). Where `err` is a terminal, its first line says
 //!   how the worker was recovered (`recovered_line`). `laws::lives_on_disk_go_on`: such calls are a
 //!   life that goes on from all that was promised. The last words are those of what its last slice
 //!   has answered (`HasOutcome`). Where a call fails, lines wait only as its own clause says
@@ -101,7 +101,7 @@
 //! # Who may touch what
 //!
 //! Only this crate knows how lines, requests and last words are spelled, and the exit statuses
-//! (`status`). `wasmhost` calls it. It stands on `worker`, `durable_worker` and `machine_loader`.
+//! (`status`). `wasmhost` calls it. It stands on `ephemeral_worker`, `worker` and `machine_loader`.
 //! Want of memory is status 5. A disk is lent to each call of a worker on it. Beside these only
 //! `open_disk` touches one, which is also the one place here that opens a file.
 #![tactic(auto)]
@@ -124,7 +124,6 @@ mod words;
 pub use bounds::Bound;
 pub use check::check_bytes;
 pub use configuring::Sizes;
-pub use durable_worker::DurableWorker;
 pub use lines::{
     BufferedLines, LineFault, LineOutlet, LineReader, Outside, RealTime, Request, RequestSource,
     read_request, trap_name,
@@ -140,3 +139,4 @@ pub use seed::{read_seed, seeded};
 pub use stories::{ScriptFault, ScriptLine, read_script, report_script, tell};
 pub use telling::{Obstacle, report, report_words, say_line};
 pub use words::{CreateOrder, Order, RunOrder, StoryOrder, WordsFault, read_words};
+pub use worker::Worker;

@@ -4,7 +4,7 @@ ghost use Rattle.std.specs.Prelude.{◌≡◌};
 ghost use Rattle.wasmhost_serve.specs.rules.Statuses.{status_of_line, status_of_work};
 
 use crate::lines::LineFault;
-use worker::WorkFault;
+use ephemeral_worker::WorkFault;
 
 /// A command line that isn't understood.
 pub const USAGE: u8 = 2;

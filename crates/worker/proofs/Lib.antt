@@ -1,7 +1,27 @@
-pub mod Joining
-pub mod Adding
-pub mod Alike
-pub mod Failing
-pub mod Going
-pub mod Ending
-pub mod Worked
+mod SavingLemmas
+mod CallCountLemmas
+mod PayingLemmas
+mod RecoveryCallLemmas
+mod TurnCounts
+mod StoreTurnLemmas
+mod ShortAnswers
+mod DurableLemmas
+mod CheckpointLemmas
+mod RecoveryLemmas
+mod CreationLemmas
+mod FindingLemmas
+pub mod LifeLemmas
+mod RestoringLemmas
+mod SurveyLemmas
+mod TextLemmas
+mod ActLemmas
+mod AddingLemmas
+mod OpeningLemmas
+pub mod OutletLemmas
+mod HeardLemmas
+mod EndLemmas
+mod GoingLemmas
+mod RunLemmas
+pub mod StopLemmas
+mod FoundDiskLemmas
+mod AnswerLemmas

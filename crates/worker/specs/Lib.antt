@@ -1,3 +1,12 @@
-pub mod Turns
-pub mod laws
 pub mod rules
+pub mod laws
+pub mod DurableTurns
+pub mod StoreTurns
+pub mod Findings
+pub mod FoundDisks
+pub mod Revivals
+pub mod Laying
+pub mod Hearing
+pub mod LifeCalls
+pub mod Endings
+pub mod Going

@@ -1,1 +1,6 @@
-pub mod Laws
+pub mod Adding
+pub mod Bounds
+pub mod OneLife
+pub mod Outcomes
+pub mod Replies
+pub mod Uncut

@@ -1,79 +1,63 @@
-//! Why a worker fails.
+//! Why a call of a worker on its disk fails.
 
 ghost use Rattle.std.specs.Prelude.{◌≡◌};
-ghost use Rattle.machine_loader.specs.declared.fault.FrontFault.TheVariants as front;
-ghost use Rattle.worker.specs.rules.Refusals.{work_fault, refusal_of};
-ghost use Rattle.worker.specs.declared.fault.WorkFault.TheVariants as work;
+ghost use Rattle.worker.specs.declared.fault.DurableFault.TheVariants.{Work};
+ghost use Rattle.ephemeral_worker.specs.declared.fault.WorkFault.TheVariants as work;
+ghost use Rattle.ephemeral_worker.specs.rules.Refusals.{work_fault};
+ghost use Rattle.worker.specs.rules.DurableFaults.{fault_of_store};
 
-use machine::LinkFault;
-use machine_loader::FrontFault;
+use ephemeral_worker::WorkFault;
 use process::ProcessFault;
 use record_replay::OutletFault;
+use sector_disk::DiskFault;
 use thiserror::Error;
+use worker_store::StoreFault;
 
-/// What is refused, under its own name.
+/// What a worker without a disk says, what its disk says, or what the store refuses.
 #[derive(Clone, Copy, Debug, PartialEq, Eq, Error)]
-pub enum Refusal {
+pub enum DurableFault {
     #[error("{0}")]
-    Front(FrontFault),
-    /// Steps and lines are numbered below 2^63, and the next step would go beyond.
-    #[error("P3 StepsSpent")]
-    StepsSpent,
+    Work(WorkFault),
+    #[error("N1 Disk")]
+    Disk(DiskFault),
+    /// Neither want of memory nor a fault of the disk.
+    #[error("{0}")]
+    Store(StoreFault),
 }
 
-/// Why a call of a worker failed. A refusal is printed as what is refused.
-#[derive(Clone, Copy, Debug, PartialEq, Eq, Error)]
-pub enum WorkFault {
-    /// The source failed, or gave an answer that doesn't fit.
-    #[error("N2 Source")]
-    Source,
-    #[error("N3 Outlet")]
-    Outlet,
-    #[error("N4 Memory")]
-    Memory,
-    /// An earlier call failed.
-    #[error("N5 Failed")]
-    Failed,
-    #[error("{0}")]
-    Refused(Refusal),
+impl From<WorkFault> for DurableFault {
+    ghost from_gives = { λ fault e. e ≡ Work fault };
+
+    fn from(fault: WorkFault) -> DurableFault {
+        DurableFault::Work(fault)
+    }
 }
 
-impl From<ProcessFault> for WorkFault {
-    ghost from_gives = { λ fault e. e ≡ work_fault fault };
+impl From<ProcessFault> for DurableFault {
+    ghost from_gives = { λ fault e. e ≡ Work (work_fault fault) };
 
-    fn from(fault: ProcessFault) -> WorkFault {
+    fn from(fault: ProcessFault) -> DurableFault {
+        DurableFault::Work(WorkFault::from(fault))
+    }
+}
+
+impl From<OutletFault> for DurableFault {
+    ghost from_gives = { λ _ e. e ≡ Work work.Outlet };
+
+    fn from(_fault: OutletFault) -> DurableFault {
+        DurableFault::Work(WorkFault::Outlet)
+    }
+}
+
+impl From<StoreFault> for DurableFault {
+    ghost from_gives = { λ fault e. e ≡ fault_of_store fault };
+
+    fn from(fault: StoreFault) -> DurableFault {
         match fault {
-            ProcessFault::WrongAnswer => WorkFault::Source,
-            ProcessFault::Memory => WorkFault::Memory,
-            ProcessFault::StepsSpent => WorkFault::Refused(Refusal::StepsSpent),
+            StoreFault::Disk(fault) => DurableFault::Disk(fault),
+            StoreFault::Memory => DurableFault::Work(WorkFault::Memory),
+            StoreFault::Failed => DurableFault::Work(WorkFault::Failed),
+            other => DurableFault::Store(other),
         }
-    }
-}
-
-impl From<OutletFault> for WorkFault {
-    ghost from_gives = { λ _ e. e ≡ work.Outlet };
-
-    fn from(_fault: OutletFault) -> WorkFault {
-        WorkFault::Outlet
-    }
-}
-
-impl From<FrontFault> for WorkFault {
-    ghost from_gives = { λ fault e. e ≡ refusal_of fault };
-
-    fn from(fault: FrontFault) -> WorkFault {
-        if fault.is_want_of_memory() {
-            WorkFault::Memory
-        } else {
-            WorkFault::Refused(Refusal::Front(fault))
-        }
-    }
-}
-
-impl From<LinkFault> for WorkFault {
-    ghost from_gives = { λ fault e. e ≡ refusal_of (front.Link fault) };
-
-    fn from(fault: LinkFault) -> WorkFault {
-        WorkFault::from(FrontFault::Link(fault))
     }
 }

@@ -1,20 +1,42 @@
-//! Laws of slices. The functions do nothing: what they ensure is the law.
+//! Laws of a worker on its disk. The functions do nothing: what they ensure is the law.
 
-ghost use Rattle.worker.specs.laws.Laws.{SlicesAdd, SlicesAddInVain, OneSlice};
+ghost use Rattle.worker.specs.laws.Adding.{SlicesOnDiskAdd};
+ghost use Rattle.worker.specs.laws.Bounds.{OpenWorkersKeepBounds, StayingKeepsBounds};
+ghost use Rattle.worker.specs.laws.OneLife.{CallsMakeLives, AnythingComesTrue};
+ghost use Rattle.worker.specs.laws.Replies.{LivesEndAsSaid};
+ghost use Rattle.worker.specs.laws.Uncut.{LivesGoOnUncut};
 
 use record_replay::{Outlet, Source};
+use sector_disk::Disk;
 
-/// Two slices, of which the first took all its steps, are one.
-pub fn slices_add<S: Source, O: Outlet>()
-    ensures { SlicesAdd S.gives O.takes }
+/// No image of an open worker's disk is of a later generation than as much has happened, and each
+/// has all sectors of its worker. What stays so at any moment of a call is so in its end.
+pub fn open_workers_keep_bounds<D: Disk>()
+    ensures keeps { OpenWorkersKeepBounds D.medium }
+    ensures stays { StayingKeepsBounds D.medium }
 {}
 
-/// A slice that fails behind one that took all its steps is one that fails.
-pub fn slices_add_in_vain<S: Source, O: Outlet>()
-    ensures { SlicesAddInVain S.gives O.takes }
+/// The calls of one life, each as its clause says, make a life that goes on from all that was
+/// promised. Whatever its source and its outlet did may have been put into it.
+pub fn calls_make_lives<D: Disk, S: Source, O: Outlet>()
+    ensures made { CallsMakeLives D.medium S.gives O.takes }
+    ensures put_in { AnythingComesTrue }
 {}
 
-/// What a slice does is told by its process, its fuel and the answers that are handed over.
-pub fn one_slice()
-    ensures { OneSlice }
+/// The calls of one life in which the power isn't cut make one that goes on from all that was
+/// promised. Its outlet has taken each line that was told, or it ended by one that was refused.
+pub fn uncut_lives_go_on<D: Disk, S: Source, O: Outlet>()
+    ensures { LivesGoOnUncut D.medium S.gives O.takes }
+{}
+
+/// Take a life without an error, in which the power isn't cut. The process that all kept answers
+/// lead to stands as the life's outcome says: it has ended so, or it waits.
+pub fn lives_end_as_said<D: Disk, S: Source, O: Outlet>()
+    ensures { LivesEndAsSaid D.medium S.gives O.takes }
+{}
+
+/// Two slices, of which the first took all its steps, are one, with checkpoints between them or
+/// none.
+pub fn slices_on_disk_add<S: Source, O: Outlet>()
+    ensures { SlicesOnDiskAdd S.gives O.takes }
 {}

@@ -1,43 +1,113 @@
-//! A worker: a process that is run slice by slice, answered from outside, and whose lines are
-//! released (this project's own). It keeps no disk: `durable_worker` has one that does.
+//! A worker on its disk (this project's own). Its answers are recorded, its lines are released
+//! behind a barrier, and its process is saved from time to time. `Worker::create` makes one,
+//! and `Worker::recover` one that a disk stands for. What is proved of the other calls holds
+//! of any that is open on its disk (`IsOpenOn`).
 //!
 //! # Promises
 //!
-//! - `Worker::create`: the worker of the accepted module that the bytes spell, at its start
-//!   (`created`), or why they spell none (`refused`).
-//! - `slice`: whichever process it showed, the answers that were handed over lead in so many steps
-//!   to the one that it shows. All lines on the way were released, each once, in order, with its
-//!   number. It says why the slice is over (`done`).
-//! - Where `slice` fails, it has come to where the source, the outlet, memory or the count of
-//!   steps failed. From then on no call does anything (`failed`).
-//! - `slices_add`, `slices_add_in_vain`: two slices, of which the first spent its fuel, are one,
-//!   also where the second one fails.
-//! - `one_slice`: on the same answers two slices of the same fuel from one process come to one
-//!   process, and release the same lines.
-//! - `process` is the process as it is now, also after an error.
+//! - `Worker::create`: the worker of the accepted module that the bytes spell, at its start,
+//!   in generation 1 (`created`). Whatever stood on the disk, the worker is open on it after Ok.
+//!   Where no worker was, a cut at any moment leaves none, or this one, of which nothing was
+//!   promised before (`carries`). Each error comes only for its cause (`refused`). A module that
+//!   isn't accepted, a disk with too few sectors and want of memory leave the disk alone
+//!   (`untouched`). Its calls of the disk are told (`calls`).
+//! - `Worker::recover`: nothing is written or told before a good sync, and what the disk
+//!   then shows decides the result (`recovers`). Where it stands for a worker, the process is the
+//!   one that all answers on the disk lead to. Each line behind the snapshot is told again, once
+//!   and in order, and the next generation is committed. Where a mark of a worker is missing,
+//!   nothing is written or told. Whatever was promised is kept, by Ok and by any error (`carries`):
+//!   the lines and the opening are events that keep it, and a cut at any moment leaves what holds
+//!   all that was promised before. After Ok the worker is open on the disk, which has room for it
+//!   (`room`).
+//! - Whatever stands on the disk, the result of `Worker::recover` is what its newest head
+//!   and all behind it say. What is refused there is left as it is (`shown`).
+//! - Whatever stands on the disk, where the outlet refuses a line a recovery releases no other one,
+//!   and says so. It says so of nothing else (`heeds`).
+//! - `read_survey`: nothing is written. The disk is synced, and what it then shows decides the
+//!   result (`Surveys`). Where it stands for a worker, its generation and the numbers of the saved
+//!   process are told, and how many records lie behind it; or an error that says nothing of them.
+//! - `carries` speaks of a disk whose answers fit an image in the end: of another one nothing is
+//!   known. Want of memory may end a recovery anywhere.
+//! - `Worker::slice` runs as `ephemeral_worker: EphemeralWorker::slice` does (`done`). Whatever was
+//!   promised of the worker that is open on its disk is kept (`carries`). For its exchanges, and
+//!   its end by Ok or by any error, are events that keep it. A cut at any moment leaves what holds
+//!   all that was promised before. Without an error the worker is open on the disk again.
+//! - Where a slice fails, it has run so far as `ephemeral_worker: EphemeralWorker::slice` does, and
+//!   it stops at what failed (`failed`). Of a worker that is open on its disk some faults don't
+//!   come (`carries`).
+//! - By Ok and by any error, a slice asks the disk for barriers and saves alone. The generation is
+//!   one more by each save that has succeeded, and by nothing else (`calls`). How much was replayed
+//!   stays (`replayed`), and the disk has room for the next call (`room`).
+//! - `Worker::checkpoint` keeps it too (`carries`), and after its Ok no later life comes
+//!   behind it (`saved`). Its calls of the disk are told (`calls`), and each error has its cause
+//!   (`cause`). After an error the generation is as it was (`unsaved`).
+//! - Whatever stands on the disk, a slice, a checkpoint and a recovery answer a fault of the disk
+//!   only for its cause, and `Failed` only of a worker that had failed before (`on_any_disk`).
+//! - At no moment of a slice, a checkpoint or a recovery are there more unsynced writes than before
+//!   and the journal's, or an area's and its head's. In a creation there are no more than before
+//!   and one, or than `most_unsynced` of `disk_layout` (`counts`).
+//! - No image that a cut leaves is of a later generation than as much has happened. The disk has
+//!   all sectors of its worker (`carries`, and `laws::open_workers_keep_bounds`).
+//! - `laws::calls_make_lives`: the calls of one life make one that goes on from all that was
+//!   promised. `laws::uncut_lives_go_on`: where the power isn't cut in it, its outlet has taken
+//!   each line, or it ended by one that was refused. `laws::lives_end_as_said`: where no call has
+//!   failed either, it has ended or waits as its last slice says.
+//! - After an error no call does anything (`fails`, `refused`): each answers `Failed`.
+//! - A recovery, a creation and a checkpoint begin few calls of the disk (`asks`), and so does a
+//!   slice before each of its exchanges and its end (`carries`).
+//! - `story` (module `story`) runs any list of lives on one disk in memory, and tells them
+//!   (`TellsLives`). Behind each comes a cut of the power, or an error.
 //!
 //! # Definitions to read
 //!
-//! In `specs/rules/`: `WorkerValue`, `IsCreated` (`Values.antt`); `Slices`, `SliceLeadsTo`,
-//! `AreWanted`, `IsNow` (`Slices.antt`); `SlicesInVain`, `IsCause`, `IsRefusedByWorker`
-//! (`Faults.antt`); `work_fault` (`Refusals.antt`). The laws are stated in `specs/laws/Laws.antt`.
+//! In `specs/rules/`: `DurableValue` (`DurableValues.antt`); `IsOnDisk`, `IsOpenOn`
+//! (`OpenWorkers.antt`); `CallCarries`, `SliceCarries`, `IsReplyOf`, `HasCauseOf`
+//! (`DurableCalls.antt`); `IsCreatedOn`, `IsNotCreatedOn`, `CreationCalls`, `CreationKeeps`
+//! (`DurableCreations.antt`); `Recovers`, `RecoversFrom`, `Revives`, `OpeningCalls`,
+//! `RecoveryCarries`, `Reopens`, `ReopensInVain`, `FindsNone`, `HasRecoveryCause`
+//! (`Recoveries.antt`); `RecoversAsShown`, `AnswersDisk`, `HoldsWorker`, `ShowsFault`, `FailsHeld`
+//! (`ShownDisks.antt`); `HeedsOutlet` (`Outlets.antt`); `Surveys`, `SurveysFrom`, `survey_of`
+//! (`Surveys.antt`);
+//! `SlicesOnDiskInVain`, `IsDiskCause`, `HasSliceCause` (`DurableFailures.antt`); `SliceCalls`
+//! (`SliceCalls.antt`); `CheckpointCalls`, `CheckpointFails`, `HasCheckpointCause`
+//! (`Checkpoints.antt`); `CountsInSlice`, `CountsInRecovery` (`Unsynced.antt`); `fault_of_store`
+//! (`DurableFaults.antt`); `fault_of_restore`, `fault_of_replay` (`RecoverFaults.antt`);
+//! `most_calls`, `CallsForEvents` (`CallCounts.antt`); `inputs_of` (`Planned.antt`), `TellsLives`
+//! (`StoryDisks.antt`). They speak in the words of `worker_rules` and `worker_store`.
 //!
 //! # Who may touch what
 //!
-//! Only this crate decides when lines are released and answers asked for, of a worker without a
-//! disk. `wasmhost_serve` runs one, and `durable_worker` uses its faults and its definitions of
-//! slices. It stands on `process`, `machine_loader` and `record_replay`. It takes no memory but
-//! what loading and the process take. After an error of `slice` the process has taken whole steps
-//! alone, and each slice answers `N5 Failed`.
+//! Only this crate decides when records are kept, when they are put on the disk, and when a process
+//! is saved. `wasmhost_serve` uses it. It is handed its disk at each call, and keeps none. It
+//! stands on `ephemeral_worker`, whose definitions of slices are its own, and on `worker_store`. A
+//! creation takes memory for the module, for a copy of the configuration and for its bytes; the
+//! process keeps the copy. A recovery takes memory for all that it reads. The other calls take none
+//! but what the process and the journal take.
 #![tactic(auto)]
 
+mod checkpoints;
+mod copying;
+mod creating;
+mod durable;
 mod fault;
-mod laws;
-mod now;
+mod finding;
+mod found;
+pub mod laws;
+mod recover_fault;
+mod recovering;
+mod running;
+mod saving;
+mod slices;
+pub mod story;
+mod surveyed;
+mod surveying;
 mod turns;
-mod worker;
 
-pub use fault::{Refusal, WorkFault};
-pub use laws::{one_slice, slices_add, slices_add_in_vain};
-pub use now::Now;
-pub use worker::Worker;
+pub use durable::Worker;
+pub use ephemeral_worker::WorkFault;
+pub use fault::DurableFault;
+pub use recover_fault::RecoverFault;
+pub use running::Running;
+pub use surveyed::Survey;
+pub use surveying::read_survey;
+pub use worker_store::StoreFault;

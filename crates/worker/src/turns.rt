@@ -1,61 +1,151 @@
-//! The turns of a slice: steps up to where something is owed or asked, and what that wants of the
-//! outside.
+//! The turns of a slice of a worker on its disk. Each takes steps up to where something is owed or
+//! asked, and does what that wants of the disk and of the outside.
 
-ghost use Rattle.std.specs.Prelude.{◌≡◌, [], IfOk, IfErr};
-ghost use Rattle.wasi_abi.specs.declared.answer.Kind.{Kind};
-ghost use Rattle.process.specs.rules.Values.{waiting_in};
-ghost use Rattle.worker.specs.rules.Slices.{Slices};
-ghost use Rattle.worker.specs.rules.Faults.{SlicesInVain};
-ghost use Rattle.worker.specs.Turns.{working, failing, AsksOnce};
+ghost use Rattle.std.specs.Prelude.{◌≡◌, ◌≤◌, IfErr, IfOk, OnErr, OnOk, Ok};
+ghost use Rattle.process.specs.rules.Values.{IsProcess};
+ghost use Rattle.sector_disk.specs.rules.Medium.{CallsUpTo};
+ghost use Rattle.disk_layout.specs.rules.Places.{total_sectors};
+ghost use Rattle.record_replay.specs.rules.Waiting.{ReleasesAll};
+ghost use Rattle.ephemeral_worker.specs.Turns.{AsksOnce};
+ghost use Rattle.worker.specs.DurableTurns.{AsksTurn, Hears, MakesNoRoom, MakesRoom};
+ghost use Rattle.worker.specs.DurableTurns.{SettlesTurn, SettlesVainly, AsksVainly};
+ghost use Rattle.worker.specs.DurableTurns.{IsOfStoreFault};
+ghost use Rattle.worker.specs.DurableTurns.{SettlesInVain, TakesNone, TakesOnRecord};
+ghost use Rattle.worker.specs.rules.CallCounts.{most_saving};
+ghost use Rattle.worker.specs.StoreTurns.{HearsOrNot, PaysCalls, StoreRuns};
 
-use crate::fault::WorkFault;
-use crate::now::Now;
-use process::{Process, Stop};
+use crate::fault::DurableFault;
+use crate::running::Running;
+use crate::saving::save;
+use disk_layout::{LONGEST_PAYLOAD, RECORD_HEAD_BYTES, Record};
+use ephemeral_worker::WorkFault;
 use record_replay::{Outlet, Source, release_waiting};
-use wasi_abi::Kind;
+use sector_disk::Disk;
+use wasi_abi::{Kind, NUMBERS_END, fits};
+use worker_store::laws::images_fit_areas;
 
-/// Takes at most `fuel` steps. Each line is released, and each answer asked for, before the next
-/// step.
-pub(crate) fn work<S: Source, O: Outlet>(
-    process: &mut Process,
-    fuel: u64,
-    source: &mut S,
-    outlet: &mut O,
-) -> Result<Now, WorkFault>
-    requires none_waits { waiting_in process.old ≡ [] }
-    ensures done { IfOk result (λ now. Slices S.gives O.takes (working process.old) fuel now
-        (working process.new) source.old source.new outlet.old outlet.new) }
-    ensures failed { IfErr result (λ fault.
-        SlicesInVain S.gives O.takes (working process.old) fuel fault
-        (failing process.new) source.old source.new outlet.old outlet.new) }
-{
-    let first = process.steps();
-    loop {
-        let left = fuel - (process.steps() - first);
-        match process.advance(left)? {
-            Stop::Owes => release_waiting(process, outlet)?,
-            Stop::Ended(how) => return Ok(Now::Ended(how)),
-            Stop::Spent => return Ok(Now::Spent),
-            Stop::Asks(kind) => {
-                if !ask(process, kind, source)? {
-                    return Ok(Now::Waiting);
-                }
-            }
+/// The most bytes of a record.
+const LONGEST_RECORD: usize = RECORD_HEAD_BYTES + LONGEST_PAYLOAD;
+
+impl Running {
+    /// Puts the records on the disk, and then releases the lines that wait.
+    pub(crate) fn settle<D: Disk, O: Outlet>(
+        &mut self,
+        disk: &mut D,
+        outlet: &mut O,
+    ) -> Result<(), DurableFault>
+        requires { total_sectors self.old.store.geometry ≤ (D.medium disk.old).sectors }
+        ensures all { OnOk result
+            (ReleasesAll O.takes self.old.process self.new.process outlet.old outlet.new) }
+        ensures settles { OnOk result (SettlesTurn O.takes self.old self.new (D.medium disk.old)
+            (D.medium disk.new) outlet.old outlet.new) }
+        ensures fails { IfErr result (λ why. SettlesInVain O.takes self.old why self.new
+            (D.medium disk.old) (D.medium disk.new) outlet.old outlet.new) }
+        ensures failed { IfErr result (λ why. SettlesVainly O.takes self.old.process why
+            self.new.process outlet.old outlet.new) }
+        ensures runs { StoreRuns result self.old.store self.new.store (D.medium disk.old)
+            (D.medium disk.new) }
+        ensures places { self.new.store.geometry ≡ self.old.store.geometry }
+        ensures sectors { (D.medium disk.new).sectors ≡ (D.medium disk.old).sectors }
+        ensures asks { PaysCalls result self.old.store self.new.store (D.medium disk.old)
+            (D.medium disk.new) }
+    {
+        self.store.barrier(disk)?;
+        release_waiting(&mut self.process, outlet)?;
+        Ok(())
+    }
+
+    /// Asks the source once, and gives the process the answer, where there is one. Whether there
+    /// was. Before that there is room for any answer on the disk.
+    pub(crate) fn ask<D: Disk, S: Source>(
+        &mut self,
+        kind: Kind,
+        disk: &mut D,
+        source: &mut S,
+    ) -> Result<bool, DurableFault>
+        requires { total_sectors self.old.store.geometry ≤ (D.medium disk.old).sectors }
+        ensures once { IfOk result (λ is_there. AsksOnce S.gives kind self.old.process
+            (Ok is_there) self.new.process source.old source.new) }
+        ensures released { self.new.process.host.released ≡ self.old.process.host.released }
+        ensures asks { AsksTurn S.gives self.old kind result self.new (D.medium disk.old)
+            (D.medium disk.new) source.old source.new }
+        ensures failed { IfErr result (λ why. AsksVainly S.gives self.old kind why self.new
+            source.old source.new) }
+        ensures runs { StoreRuns result self.old.store self.new.store (D.medium disk.old)
+            (D.medium disk.new) }
+        ensures places { self.new.store.geometry ≡ self.old.store.geometry }
+        ensures sectors { (D.medium disk.new).sectors ≡ (D.medium disk.old).sectors }
+        ensures few { CallsUpTo (most_saving (D.medium disk.old).sectors) (D.medium disk.old)
+            (D.medium disk.new) }
+    {
+        let step = self.process.steps() + 1;
+        self.make_room(disk)?;
+        self.hear(kind, step, source)
+    }
+
+    /// Saves the process, where the journal may be too full for the next record.
+    fn make_room<D: Disk>(&mut self, disk: &mut D) -> Result<(), DurableFault>
+        requires sectors { total_sectors self.old.store.geometry ≤ (D.medium disk.old).sectors }
+        requires shown { IsProcess self.old.process }
+        ensures same { self.new.process ≡ self.old.process }
+        ensures made { OnOk result (MakesRoom self.old self.new (D.medium disk.old)
+            (D.medium disk.new)) }
+        ensures fails { IfErr result (λ why. MakesNoRoom self.old why self.new
+            (D.medium disk.old) (D.medium disk.new)) }
+        ensures failed { IfErr result IsOfStoreFault }
+        ensures runs { StoreRuns result self.old.store self.new.store (D.medium disk.old)
+            (D.medium disk.new) }
+        ensures places { self.new.store.geometry ≡ self.old.store.geometry }
+        ensures sectors { (D.medium disk.new).sectors ≡ (D.medium disk.old).sectors }
+        ensures few { CallsUpTo (most_saving (D.medium disk.old).sectors) (D.medium disk.old)
+            (D.medium disk.new) }
+    {
+        if self.store.room() >= LONGEST_RECORD {
+            return Ok(());
+        }
+        images_fit_areas();
+        save(self.alloc, disk, &mut self.store, &self.process)?;
+        Ok(())
+    }
+
+    /// Asks the source once. Its answer would be taken by this step.
+    fn hear<S: Source>(
+        &mut self,
+        kind: Kind,
+        step: u64,
+        source: &mut S,
+    ) -> Result<bool, DurableFault>
+        ensures hears { Hears S.gives self.old kind step result self.new source.old source.new }
+        ensures released { self.new.process.host.released ≡ self.old.process.host.released }
+        ensures kept { HearsOrNot result self.old.store self.new.store }
+        ensures places { self.new.store.geometry ≡ self.old.store.geometry }
+    {
+        match source.answer(kind) {
+            Err(_) => Err(DurableFault::Work(WorkFault::Source)),
+            Ok(None) => Ok(false),
+            Ok(Some(answer)) => match self.keep(kind, Record { step, answer }) {
+                Ok(()) => Ok(true),
+                Err(fault) => Err(fault),
+            },
         }
     }
-}
 
-/// Asks the source once, and gives the process the answer, where there is one. Whether there was.
-fn ask<S: Source>(process: &mut Process, kind: Kind, source: &mut S) -> Result<bool, WorkFault>
-    ensures once { AsksOnce S.gives kind process.old result process.new source.old source.new }
-    ensures released { process.new.host.released ≡ process.old.host.released }
-{
-    match source.answer(kind) {
-        Err(_) => Err(WorkFault::Source),
-        Ok(None) => Ok(false),
-        Ok(Some(answer)) => match process.give(answer) {
-            Ok(()) => Ok(true),
-            Err(fault) => Err(WorkFault::from(fault)),
-        },
+    /// Keeps an answer that fits on record, and gives it to the process.
+    fn keep(&mut self, kind: Kind, entry: Record) -> Result<(), DurableFault>
+        ensures taken { OnOk result (TakesOnRecord self.old kind entry self.new) }
+        ensures not_taken { IfErr result (λ why. TakesNone self.old kind entry why self.new) }
+        ensures released { self.new.process.host.released ≡ self.old.process.host.released }
+        ensures kept { HearsOrNot result self.old.store self.new.store }
+        ensures places { self.new.store.geometry ≡ self.old.store.geometry }
+    {
+        let does_fit = fits(self.process.host().limit(), kind, &entry.answer);
+        if !does_fit {
+            return Err(DurableFault::Work(WorkFault::Source));
+        }
+        self.store.append(&entry)?;
+        self.process.give(entry.answer)?;
+        let is_numbered = self.process.steps() < NUMBERS_END;
+        prove!(is_numbered);
+        Ok(())
     }
 }

@@ -41,7 +41,7 @@
 //! # Laws of the disk
 //!
 //! The calls of `laws`, `events` and `turns` do nothing; what they ensure is proved of the
-//! definitions. `durable_worker` is proved by them.
+//! definitions. `worker` is proved by them.
 //!
 //! - `disks_stand_at_savepoints`: what a disk stands by, apart from the disk, says what it stands
 //!   for. Images of which the same is read stand at the same savepoint.
@@ -105,7 +105,7 @@
 //! # Who may touch what
 //!
 //! A store knows where things lie and which records wait for a barrier. It is handed the disk at
-//! each call, and keeps none. `durable_worker` uses it. `append`, `lay_out` and the readings take
+//! each call, and keeps none. `worker` uses it. `append`, `lay_out` and the readings take
 //! memory; `barrier`, `commit` and `reopen` take none.
 #![tactic(auto)]
 

@@ -6,12 +6,12 @@ use crate::stories::lives::{
     AGAIN, CREATED, FIRST, IDLE, OTHER, Plan, TELLS, Tale, Told, are_told_so, is_told, life_with,
     opened_as, report_of, report_of_two, saving_life, tells_nothing,
 };
-use durable_worker::story::{LifeEnd, LifeReport, PlannedLife, Report};
-use durable_worker::{DurableFault, RecoverFault, WorkFault};
 use sector_disk::{DiskFault, Place};
 use std::alloc::Global;
 use wasi_abi::Answer;
 use wasm_syntax::Row;
+use worker::story::{LifeEnd, LifeReport, PlannedLife, Report};
+use worker::{DurableFault, RecoverFault, WorkFault};
 
 /// The last call of the disk with which `echo` is created, behind two of the recovery that found
 /// no worker: 72 of zeros, contents and syncs, 129 of the image, and five behind it.

@@ -2,11 +2,11 @@
 
 use crate::guests::{ECHO, request};
 use crate::halt::Halt;
-use durable_worker::story::{LifeEnd, LifeReport, Opening, PlannedAct, PlannedLife, Report, story};
 use sector_disk::Place;
 use std::alloc::Global;
 use wasi_abi::{Answer, Config};
 use wasm_syntax::Row;
+use worker::story::{LifeEnd, LifeReport, Opening, PlannedAct, PlannedLife, Report, story};
 
 /// A life: its requests, then so many steps, where it is stopped, where its disk fails, the release
 /// that is refused, and the fronts that a cut keeps.

@@ -3,10 +3,10 @@
 use crate::guests::ECHO;
 use crate::halt::Halt;
 use crate::stories::lives::{AGAIN, CREATED, FIRST, Plan, TELLS, Told, are_told_so, report_of};
-use durable_worker::story::{LifeEnd, LifeReport, Report};
-use durable_worker::{DurableFault, RecoverFault, WorkFault};
 use sector_disk::DiskFault;
 use std::alloc::Global;
+use worker::story::{LifeEnd, LifeReport, Report};
+use worker::{DurableFault, RecoverFault, WorkFault};
 
 /// What is told of lives that want memory, for themselves or for their disk.
 static STARVED: [LifeEnd; 2] = [

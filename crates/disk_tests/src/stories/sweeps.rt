@@ -3,10 +3,10 @@
 use crate::guests::{ECHO, request};
 use crate::halt::Halt;
 use crate::stories::lives::{told_of, with_nothing_to_do};
-use durable_worker::story::{LifeEnd, LifeReport, Opening, PlannedAct, PlannedLife, Report};
 use sector_disk::Place;
 use std::alloc::Global;
 use wasm_syntax::Row;
+use worker::story::{LifeEnd, LifeReport, Opening, PlannedAct, PlannedLife, Report};
 
 /// A sync and a read find no worker. A creation has 198 writes and 6 syncs. Each of two lines has a
 /// write and a sync, and the checkpoint has 129 reads, 3 writes and 2 syncs.

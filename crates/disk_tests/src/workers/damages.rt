@@ -4,9 +4,9 @@ use crate::guests::{ECHO, SECTORS, blank};
 use crate::halt::{Halt, NO_WORKER};
 use crate::workers::working::{Stand, create, open};
 use disk_layout::LayoutFault;
-use durable_worker::{DurableFault, RecoverFault, StoreFault};
 use sector_disk::{Disk, DiskFault, MemDisk};
 use std::alloc::Global;
+use worker::{DurableFault, RecoverFault, StoreFault};
 
 /// Bytes of a disk, from a place of a sector on.
 struct Piece {

@@ -9,10 +9,10 @@ use crate::halt::Halt;
 use crate::workers::working::{
     IDLE, Stand, Work, are_lines, create, live_on, open, was_stopped, work_on,
 };
-use durable_worker::DurableWorker;
 use record_replay::LineList;
 use sector_disk::{FaultDisk, MemDisk, Place};
 use std::alloc::Global;
+use worker::Worker;
 
 /// Lines of the output, the first one with this number.
 struct Lines {
@@ -342,7 +342,7 @@ static STORIES: [Story; 11] = [
 /// The disk that the worker leaves which was just made on this one, and whether it was stopped.
 fn left_by(
     alloc: Global,
-    mut worker: DurableWorker,
+    mut worker: Worker,
     disk: MemDisk,
     story: &Story,
 ) -> (MemDisk, Result<bool, Halt>)

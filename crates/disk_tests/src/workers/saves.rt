@@ -7,10 +7,10 @@ ghost use Rattle.sector_disk.specs.rules.Memory.{memory_medium};
 use crate::guests::{ECHO, SECTORS, THREE, blank};
 use crate::halt::Halt;
 use crate::workers::working::{Stand, Work, create, stand_of, work_on};
-use durable_worker::DurableWorker;
 use record_replay::LineList;
 use sector_disk::{Disk, DiskFault, FaultDisk, MemDisk};
 use std::alloc::Global;
+use worker::Worker;
 
 /// The first journal sector of a worker of `ECHO`, and a sector's first bytes once `hello` is on
 /// record: the length of the records, and one of step 6.
@@ -151,7 +151,7 @@ static COSTS: [Cost; 7] = [
 /// Does these parts, one after another.
 pub(crate) fn work_on_each(
     alloc: Global,
-    worker: &mut DurableWorker,
+    worker: &mut Worker,
     disk: &mut MemDisk,
     parts: &[Work],
 ) -> Result<(), Halt>
@@ -187,7 +187,7 @@ fn differ_at(
 /// The disk behind the last part, and its calls.
 fn count_calls(
     alloc: Global,
-    worker: &mut DurableWorker,
+    worker: &mut Worker,
     disk: MemDisk,
     last: &Work,
 ) -> Result<(MemDisk, (u64, u64, u64)), Halt>
@@ -203,7 +203,7 @@ fn count_calls(
 /// Whether the last part costs so much, on a disk that was so before.
 fn is_last_so(
     alloc: Global,
-    worker: &mut DurableWorker,
+    worker: &mut Worker,
     mut before: MemDisk,
     disk: MemDisk,
     cost: &Cost,
@@ -217,7 +217,7 @@ fn is_last_so(
 /// Whether the last part costs so much, behind the others.
 fn costs_so(
     alloc: Global,
-    worker: &mut DurableWorker,
+    worker: &mut Worker,
     mut disk: MemDisk,
     cost: &Cost,
 ) -> Result<bool, Halt>
@@ -241,7 +241,7 @@ fn is_cost(alloc: Global, cost: &Cost) -> Result<bool, Halt> {
 /// So many requests, one after another.
 fn answer_each(
     alloc: Global,
-    worker: &mut DurableWorker,
+    worker: &mut Worker,
     disk: &mut MemDisk,
     count: u64,
 ) -> Result<(), Halt>

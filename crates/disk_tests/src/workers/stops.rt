@@ -7,10 +7,10 @@ ghost use Rattle.sector_disk.specs.rules.Memory.{memory_medium};
 use crate::guests::{ECHO, HELLO, SECTORS, blank};
 use crate::halt::{Halt, NO_WORKER};
 use crate::workers::working::{Stand, Work, are_all_told, create, open, was_stopped, work_on};
-use durable_worker::{DurableFault, DurableWorker, WorkFault};
 use record_replay::{AnswerList, LineList};
 use sector_disk::{Disk, DiskFault, FaultDisk, MemDisk, Place};
 use std::alloc::Global;
+use worker::{DurableFault, WorkFault, Worker};
 
 const CUT: Halt = Halt::Work(DurableFault::Disk(DiskFault::Cut));
 
@@ -40,11 +40,7 @@ fn count_of(disk: &FaultDisk<MemDisk>) -> u64 {
 }
 
 /// What two checkpoints and a slice say, one after another.
-fn say_three<D: Disk>(
-    alloc: Global,
-    worker: &mut DurableWorker,
-    disk: &mut D,
-) -> [Option<DurableFault>; 3]
+fn say_three<D: Disk>(alloc: Global, worker: &mut Worker, disk: &mut D) -> [Option<DurableFault>; 3]
     requires { total_sectors worker.old.store.geometry ≤ (D.medium disk.old).sectors }
 {
     let mut source = AnswerList::new(Vec::new(alloc));
@@ -57,7 +53,7 @@ fn say_three<D: Disk>(
 }
 
 /// The disk behind a checkpoint whose last call fails, if that and what follows say so.
-fn failed_disk(alloc: Global, worker: &mut DurableWorker, disk: MemDisk) -> Option<MemDisk>
+fn failed_disk(alloc: Global, worker: &mut Worker, disk: MemDisk) -> Option<MemDisk>
     requires { total_sectors worker.old.store.geometry ≤ (memory_medium disk).sectors }
 {
     let fail = Place {
@@ -152,10 +148,10 @@ fn open_or_create<D: Disk>(
     disk: &mut D,
     guest: &[u8],
     told: &mut LineList,
-) -> Result<DurableWorker, Halt>
+) -> Result<Worker, Halt>
     ensures { IfOk result (λ w. total_sectors w.store.geometry ≤ (D.medium disk.new).sectors) }
 {
-    match DurableWorker::recover(alloc, disk, told) {
+    match Worker::recover(alloc, disk, told) {
         Ok(worker) => Ok(worker),
         Err(fault) => create_where(alloc, disk, guest, Halt::from(fault)),
     }
@@ -167,7 +163,7 @@ fn create_where<D: Disk>(
     disk: &mut D,
     guest: &[u8],
     halt: Halt,
-) -> Result<DurableWorker, Halt>
+) -> Result<Worker, Halt>
     ensures { IfOk result (λ w. total_sectors w.store.geometry ≤ (D.medium disk.new).sectors) }
 {
     if halt == NO_WORKER {
@@ -180,7 +176,7 @@ fn create_where<D: Disk>(
 /// Hands over the requests that are left, and saves the process.
 fn finish<D: Disk>(
     alloc: Global,
-    worker: &mut DurableWorker,
+    worker: &mut Worker,
     disk: &mut D,
     task: &Task,
     told: &mut LineList,

@@ -5,10 +5,10 @@ ghost use Rattle.disk_layout.specs.rules.Places.{total_sectors};
 
 use crate::guests::{config_of, request};
 use crate::halt::Halt;
-use durable_worker::{DurableFault, DurableWorker};
 use record_replay::{AnswerList, LineList, NumberedLine};
 use sector_disk::{Disk, DiskFault};
 use std::alloc::Global;
+use worker::{DurableFault, Worker};
 
 /// Where a worker stands.
 #[derive(Clone, Copy, PartialEq, Eq)]
@@ -20,7 +20,7 @@ pub(crate) struct Stand {
     pub(crate) replayed: u64,
 }
 
-pub(crate) fn stand_of(worker: &DurableWorker) -> Stand {
+pub(crate) fn stand_of(worker: &Worker) -> Stand {
     let process = worker.process();
     Stand {
         generation: worker.generation(),
@@ -56,11 +56,7 @@ fn requests(alloc: Global, texts: &[&[u8]]) -> Result<AnswerList, Halt> {
 }
 
 /// A worker of this guest with one page, on this disk.
-pub(crate) fn create<D: Disk>(
-    alloc: Global,
-    disk: &mut D,
-    guest: &[u8],
-) -> Result<DurableWorker, Halt>
+pub(crate) fn create<D: Disk>(alloc: Global, disk: &mut D, guest: &[u8]) -> Result<Worker, Halt>
     ensures { IfOk result (λ w. total_sectors w.store.geometry ≤ (D.medium disk.new).sectors) }
 {
     create_with(alloc, disk, guest, 1)
@@ -72,18 +68,18 @@ pub(crate) fn create_with<D: Disk>(
     disk: &mut D,
     guest: &[u8],
     pages: u64,
-) -> Result<DurableWorker, Halt>
+) -> Result<Worker, Halt>
     ensures { IfOk result (λ w. total_sectors w.store.geometry ≤ (D.medium disk.new).sectors) }
 {
     let settings = config_of(alloc, pages)?;
-    match DurableWorker::create(alloc, disk, guest, &settings) {
+    match Worker::create(alloc, disk, guest, &settings) {
         Ok(worker) => Ok(worker),
         Err(fault) => Err(Halt::from(fault)),
     }
 }
 
 /// Saves the process, where that is wanted.
-fn save<D: Disk>(worker: &mut DurableWorker, disk: &mut D, is_saved: bool) -> Result<(), Halt>
+fn save<D: Disk>(worker: &mut Worker, disk: &mut D, is_saved: bool) -> Result<(), Halt>
     requires { total_sectors worker.old.store.geometry ≤ (D.medium disk.old).sectors }
     ensures { total_sectors worker.new.store.geometry ≤ (D.medium disk.new).sectors }
 {
@@ -98,7 +94,7 @@ fn save<D: Disk>(worker: &mut DurableWorker, disk: &mut D, is_saved: bool) -> Re
 
 /// Runs a slice on these answers, and saves the process where that is wanted.
 fn run<D: Disk>(
-    worker: &mut DurableWorker,
+    worker: &mut Worker,
     disk: &mut D,
     work: &Work,
     source: &mut AnswerList,
@@ -116,7 +112,7 @@ fn run<D: Disk>(
 /// Does the work, and puts the lines to those that were told.
 pub(crate) fn work_on<D: Disk>(
     alloc: Global,
-    worker: &mut DurableWorker,
+    worker: &mut Worker,
     disk: &mut D,
     work: &Work,
     told: &mut LineList,
@@ -137,7 +133,7 @@ pub(crate) fn live_on<D: Disk>(
     work: &Work,
     told_then: &mut LineList,
 ) -> Result<Stand, Halt> {
-    match DurableWorker::recover(alloc, disk, told) {
+    match Worker::recover(alloc, disk, told) {
         Ok(mut worker) => {
             let opens = stand_of(&worker);
             let worked = work_on(alloc, &mut worker, disk, work, told_then);
@@ -152,7 +148,7 @@ pub(crate) fn live_on<D: Disk>(
 /// What a life opens with that does nothing.
 pub(crate) fn open<D: Disk>(alloc: Global, disk: &mut D) -> Result<Stand, Halt> {
     let mut told = LineList::new(alloc);
-    match DurableWorker::recover(alloc, disk, &mut told) {
+    match Worker::recover(alloc, disk, &mut told) {
         Ok(worker) => {
             let opens = stand_of(&worker);
             drop(worker);

@@ -11,8 +11,8 @@ use Rattle.std.specs.List.{flat_map}
 use Rattle.std.specs.Option.{option_to_list}
 use Rattle.wasi_abi.specs.declared.answer.Answer.{Answer}
 use Rattle.sector_disk.specs.declared.place.Place.{Place}
-use Rattle.durable_worker.specs.declared.story.life.PlannedAct.{PlannedAct}
-use Rattle.durable_worker.specs.declared.story.life.PlannedLife.{PlannedLife}
+use Rattle.worker.specs.declared.story.life.PlannedAct.{PlannedAct}
+use Rattle.worker.specs.declared.story.life.PlannedLife.{PlannedLife}
 use Rattle.wasmhost_serve.specs.declared.stories.line.ScriptLine.{ScriptLine}
 use Rattle.wasmhost_serve.specs.declared.stories.line.ScriptLine.TheVariants as said
 use Rattle.wasmhost_serve.specs.rules.Scripts.{life_said, answer_said, act_said, stop_said}

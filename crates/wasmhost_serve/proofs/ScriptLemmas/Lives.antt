@@ -5,7 +5,7 @@ use Rattle.std.proofs.Common.{map, Some, None, refl, sym, ap, ◌∙◌, subst}
 use Rattle.std.proofs.Common.{append_assoc, append-nil}
 use Rattle.std.specs.Prelude.{Option, option_map, option_and_then, unwrap_or, IsSome}
 use Rattle.std.specs.Option.{option_to_list}
-use Rattle.durable_worker.specs.declared.story.life.PlannedLife.{PlannedLife}
+use Rattle.worker.specs.declared.story.life.PlannedLife.{PlannedLife}
 use Rattle.wasmhost_serve.specs.declared.stories.draft.Draft.{Draft}
 use Rattle.wasmhost_serve.specs.declared.stories.line.ScriptLine.{ScriptLine}
 use Rattle.wasmhost_serve.specs.declared.stories.line.ScriptLine.TheVariants as said

@@ -6,7 +6,7 @@ use Rattle.std.proofs.Common.{append-nil, take-append-drop}
 use Rattle.std.proofs.Common.{◌==◌}
 use Rattle.std.proofs.lemmas.Bool.{eqb-true}
 use Rattle.std.specs.Prelude.{Option, option_and_then, IsSome}
-use Rattle.durable_worker.specs.declared.story.life.PlannedLife.{PlannedLife}
+use Rattle.worker.specs.declared.story.life.PlannedLife.{PlannedLife}
 use Rattle.wasmhost_serve.specs.declared.stories.draft.Draft.{Draft}
 use Rattle.wasmhost_serve.specs.rules.Pieces.{lines_of}
 use Rattle.wasmhost_serve.specs.rules.Scripts.{IsScript, IsFaultAt, IsScriptFault}

@@ -3,7 +3,7 @@ use Rattle.std.specs.Prelude.{◌≡◌, ℕ, ◌≤◌, ◌-◌, ◌==◌, Bool
 use Rattle.std.specs.Prelude.{length, take, if◌then◌else◌}
 use Rattle.std.specs.Prelude.{Option, Some, None, is_none, option_map, option_and_then}
 use Rattle.std.specs.Prelude.{IsSome}
-use Rattle.durable_worker.specs.declared.story.life.PlannedLife.{PlannedLife}
+use Rattle.worker.specs.declared.story.life.PlannedLife.{PlannedLife}
 use Rattle.wasmhost_serve.specs.declared.stories.draft.Draft.{Draft}
 use Rattle.wasmhost_serve.specs.declared.stories.line.ScriptLine.{ScriptLine}
 use Rattle.wasmhost_serve.specs.declared.stories.line.ScriptLine.TheVariants as said

@@ -5,7 +5,7 @@ use Rattle.wasi_abi.specs.declared.answer.Kind.{Kind}
 use Rattle.wasi_abi.specs.declared.answer.Kind.TheVariants as kinds
 use Rattle.process_rules.specs.Runs.{Kept}
 use Rattle.record_replay.specs.rules.Calls.{Ask, AnswersInOrder}
-use Rattle.worker.specs.rules.Slices.{handed}
+use Rattle.ephemeral_worker.specs.rules.Slices.{handed}
 use Rattle.wasmhost_serve.specs.Lines.Answers.{Standing}
 use Rattle.wasmhost_serve.specs.rules.Outside.{ComeFrom, requests_in, words_of}
 use Rattle.wasmhost_serve.specs.rules.Requests.{GiveUpTo}

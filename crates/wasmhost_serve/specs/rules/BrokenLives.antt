@@ -5,13 +5,13 @@ use Rattle.process_rules.specs.Processes.{ProcessState, Guest}
 use Rattle.process.specs.rules.Values.{ProcessValue, ShowsProcess}
 use Rattle.record_replay.specs.rules.Calls.{Giving, Taking, Exchange, Exchanges, Releases}
 use Rattle.record_replay.specs.rules.Calls.{all_taken}
-use Rattle.worker.specs.declared.now.Now.{Now}
-use Rattle.worker.specs.declared.fault.WorkFault.TheVariants as work
-use Rattle.worker.specs.rules.Slices.{SliceLeadsTo, AreAnswered, AreWanted, IsNow}
-use Rattle.durable_worker.specs.declared.fault.DurableFault.{DurableFault}
-use Rattle.durable_worker.specs.declared.fault.DurableFault.TheVariants as durable
-use Rattle.durable_worker.specs.rules.DurableFailures.{IsDiskCause, StopsAtQuestion}
-use Rattle.durable_worker.specs.rules.LifeWords.{Act, Slice, Checkpoint}
+use Rattle.ephemeral_worker.specs.declared.now.Now.{Now}
+use Rattle.ephemeral_worker.specs.declared.fault.WorkFault.TheVariants as work
+use Rattle.ephemeral_worker.specs.rules.Slices.{SliceLeadsTo, AreAnswered, AreWanted, IsNow}
+use Rattle.worker.specs.declared.fault.DurableFault.{DurableFault}
+use Rattle.worker.specs.declared.fault.DurableFault.TheVariants as durable
+use Rattle.worker.specs.rules.DurableFailures.{IsDiskCause, StopsAtQuestion}
+use Rattle.worker.specs.rules.LifeWords.{Act, Slice, Checkpoint}
 
 -- how many steps the slices among these acts may take
 abbrev pub steps_among : List Act → ℕ

@@ -10,9 +10,9 @@ use Rattle.machine_loader.specs.rules.Acceptance.{is_want}
 use Rattle.sector_disk.specs.rules.Medium.{Medium, spare}
 use Rattle.disk_layout.specs.rules.Places.{total_sectors}
 use Rattle.disk_layout.specs.rules.Unsynced.{most_unsynced}
-use Rattle.durable_worker.specs.declared.fault.DurableFault.{DurableFault}
-use Rattle.durable_worker.specs.rules.DurableCreations.{CreationKeeps, IsCreatedOn, places_for}
-use Rattle.durable_worker.specs.rules.DurableValues.{DurableValue}
+use Rattle.worker.specs.declared.fault.DurableFault.{DurableFault}
+use Rattle.worker.specs.rules.DurableCreations.{CreationKeeps, IsCreatedOn, places_for}
+use Rattle.worker.specs.rules.DurableValues.{DurableValue}
 use Rattle.wasmhost_serve.specs.declared.configuring.Sizes.{Sizes}
 use Rattle.wasmhost_serve.specs.declared.configuring.Unconfigured.{Unconfigured}
 use Rattle.wasmhost_serve.specs.declared.configuring.Unconfigured.TheVariants as unconfigured

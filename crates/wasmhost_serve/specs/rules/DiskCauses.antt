@@ -9,16 +9,16 @@ use Rattle.process_rules.specs.Processes.{ProcessState, Guest}
 use Rattle.process.specs.rules.Values.{ShowsProcess}
 use Rattle.record_replay.specs.declared.fault.SourceFault.{SourceFault}
 use Rattle.record_replay.specs.rules.Calls.{Taking, Ask, AnswersInOrder}
-use Rattle.worker.specs.declared.fault.WorkFault.TheVariants as work
-use Rattle.worker.specs.declared.now.Now.{Now}
-use Rattle.worker.specs.declared.now.Now.TheVariants.{Spent}
-use Rattle.worker.specs.rules.Slices.{handed}
-use Rattle.durable_worker.specs.declared.fault.DurableFault.{DurableFault}
-use Rattle.durable_worker.specs.declared.fault.DurableFault.TheVariants as durable
-use Rattle.durable_worker.specs.declared.recover_fault.RecoverFault.{RecoverFault}
-use Rattle.durable_worker.specs.declared.recover_fault.RecoverFault.TheVariants as recover
-use Rattle.durable_worker.specs.rules.LifeWords.{Act}
-use Rattle.durable_worker.specs.rules.Outlets.{IsOutletFault}
+use Rattle.ephemeral_worker.specs.declared.fault.WorkFault.TheVariants as work
+use Rattle.ephemeral_worker.specs.declared.now.Now.{Now}
+use Rattle.ephemeral_worker.specs.declared.now.Now.TheVariants.{Spent}
+use Rattle.ephemeral_worker.specs.rules.Slices.{handed}
+use Rattle.worker.specs.declared.fault.DurableFault.{DurableFault}
+use Rattle.worker.specs.declared.fault.DurableFault.TheVariants as durable
+use Rattle.worker.specs.declared.recover_fault.RecoverFault.{RecoverFault}
+use Rattle.worker.specs.declared.recover_fault.RecoverFault.TheVariants as recover
+use Rattle.worker.specs.rules.LifeWords.{Act}
+use Rattle.worker.specs.rules.Outlets.{IsOutletFault}
 use Rattle.wasmhost_serve.specs.declared.lines.fault.LineFault.{LineFault}
 use Rattle.wasmhost_serve.specs.declared.lines.fault.LineFault.TheVariants as line
 use Rattle.wasmhost_serve.specs.Lines.Answers.{Standing, IsRefusedFor}

@@ -3,11 +3,11 @@
 use Rattle.std.specs.Prelude.{◌≡◌, ◌⊎◌, ℕ, Option, Some, None}
 use Rattle.sector_disk.specs.declared.fault.DiskFault.{DiskFault}
 use Rattle.sector_disk.specs.declared.fault.DiskFault.TheVariants as disk
-use Rattle.worker.specs.declared.fault.WorkFault.TheVariants as work
-use Rattle.durable_worker.specs.declared.fault.DurableFault.{DurableFault}
-use Rattle.durable_worker.specs.declared.fault.DurableFault.TheVariants as durable
-use Rattle.durable_worker.specs.declared.recover_fault.RecoverFault.{RecoverFault}
-use Rattle.durable_worker.specs.declared.recover_fault.RecoverFault.TheVariants as recover
+use Rattle.ephemeral_worker.specs.declared.fault.WorkFault.TheVariants as work
+use Rattle.worker.specs.declared.fault.DurableFault.{DurableFault}
+use Rattle.worker.specs.declared.fault.DurableFault.TheVariants as durable
+use Rattle.worker.specs.declared.recover_fault.RecoverFault.{RecoverFault}
+use Rattle.worker.specs.declared.recover_fault.RecoverFault.TheVariants as recover
 use Rattle.wasmhost_serve.specs.declared.lines.fault.LineFault.{LineFault}
 use Rattle.wasmhost_serve.specs.declared.on_disk.fault.OnDiskFault.{OnDiskFault}
 use Rattle.wasmhost_serve.specs.declared.on_disk.fault.OnDiskFault.TheVariants as told

@@ -3,8 +3,8 @@ use Rattle.std.specs.Prelude.{ℕ, List, ◌++◌, Option, Some, None, codes}
 use Rattle.std.specs.Fmt.{decimal}
 use Rattle.process_rules.specs.Processes.{Ending, Exited, Trapped}
 use Rattle.process.specs.rules.Values.{ending_of}
-use Rattle.worker.specs.declared.now.Now.{Now}
-use Rattle.worker.specs.declared.now.Now.TheVariants as now
+use Rattle.ephemeral_worker.specs.declared.now.Now.{Now}
+use Rattle.ephemeral_worker.specs.declared.now.Now.TheVariants as now
 use Rattle.wasmhost_serve.specs.rules.Texts.{trap_text}
 
 -- how a worker that is over has ended, if it has

@@ -1,6 +1,6 @@
 -- What a worker on a disk is told to do (this project's own).
 use Rattle.std.specs.Prelude.{ℕ, ◌≤◌, List, [], ◌∷◌, ◌++◌, replicate}
-use Rattle.durable_worker.specs.rules.LifeWords.{Act, Slice, Checkpoint}
+use Rattle.worker.specs.rules.LifeWords.{Act, Slice, Checkpoint}
 
 -- so many slices of this fuel, and a checkpoint
 abbrev pub round_of : ℕ → ℕ → List Act

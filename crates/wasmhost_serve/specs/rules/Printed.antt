@@ -2,9 +2,9 @@
 use Rattle.std.specs.Prelude.{◌≡◌, ℕ, ◌+◌, true, false, List, [], ◌∷◌, ◌++◌}
 use Rattle.wasi_calls_rules.specs.Hosts.{Line}
 use Rattle.record_replay.specs.rules.Calls.{Exchange, Releases, all_taken, releases_of}
-use Rattle.durable_worker.specs.laws.OneLife.{released_in, taken_in}
-use Rattle.durable_worker.specs.laws.Uncut.{AreTrue}
-use Rattle.durable_worker.specs.rules.LifeWords.{Release}
+use Rattle.worker.specs.laws.OneLife.{released_in, taken_in}
+use Rattle.worker.specs.laws.Uncut.{AreTrue}
+use Rattle.worker.specs.rules.LifeWords.{Release}
 use Rattle.wasmhost_serve.specs.rules.Printers.{PrinterState, IsPrinted, HasOneFailed}
 use Rattle.wasmhost_serve.specs.rules.Prints.{printing}
 use Rattle.wasmhost_serve.specs.rules.Refusals.{HeedsRefusal}

@@ -1,7 +1,7 @@
 -- What the exit status of a run says of its outlet (this project's own).
 use Rattle.std.specs.Prelude.{◌≡◌, ◌⊎◌, ℕ, true}
 use Rattle.record_replay.specs.rules.Calls.{Taking}
-use Rattle.durable_worker.specs.rules.Outlets.{TakesEach, RefusesLast}
+use Rattle.worker.specs.rules.Outlets.{TakesEach, RefusesLast}
 use Rattle.wasmhost_serve.specs.rules.Printers.{PrinterState}
 
 -- It took each line that was released, and the status is 7 only where a write of the error output

@@ -11,9 +11,9 @@ use Rattle.hex.specs.Hex.{decode_of}
 use Rattle.wasi_abi.specs.declared.answer.Answer.{Answer}
 use Rattle.wasi_abi.specs.declared.answer.Answer.TheVariants as answer
 use Rattle.sector_disk.specs.declared.place.Place.{Place}
-use Rattle.durable_worker.specs.declared.story.life.PlannedAct.{PlannedAct}
-use Rattle.durable_worker.specs.declared.story.life.PlannedAct.TheVariants as planned
-use Rattle.durable_worker.specs.declared.story.life.PlannedLife.{PlannedLife}
+use Rattle.worker.specs.declared.story.life.PlannedAct.{PlannedAct}
+use Rattle.worker.specs.declared.story.life.PlannedAct.TheVariants as planned
+use Rattle.worker.specs.declared.story.life.PlannedLife.{PlannedLife}
 use Rattle.wasmhost_serve.specs.declared.stories.line.ScriptLine.{ScriptLine}
 use Rattle.wasmhost_serve.specs.declared.stories.line.ScriptLine.TheVariants as said
 use Rattle.wasmhost_serve.specs.declared.stories.fault.ScriptFault.{ScriptFault}

@@ -6,22 +6,22 @@ use Rattle.sector_disk.specs.rules.Image.{Image}
 use Rattle.sector_disk.specs.rules.Medium.{Medium}
 use Rattle.disk_layout.specs.rules.Stored.{OnlyReads}
 use Rattle.record_replay.specs.rules.Calls.{Giving, Taking}
-use Rattle.worker.specs.declared.now.Now.{Now}
-use Rattle.worker.specs.declared.now.Now.TheVariants.{Spent}
-use Rattle.durable_worker.specs.declared.fault.DurableFault.{DurableFault}
-use Rattle.durable_worker.specs.declared.recover_fault.RecoverFault.{RecoverFault}
-use Rattle.durable_worker.specs.declared.recover_fault.RecoverFault.TheVariants as recover
-use Rattle.durable_worker.specs.rules.DurableValues.{DurableValue}
-use Rattle.durable_worker.specs.rules.LifeWords.{Act, by_recovery}
-use Rattle.durable_worker.specs.rules.Outlets.{HeedsOutlet, IsOutletFault, SaysOutletFault}
-use Rattle.durable_worker.specs.rules.Recoveries.{IsNoWorker, IsSettledBy, RecoveryCarries}
-use Rattle.durable_worker.specs.laws.OneLife.{IsOneLife}
+use Rattle.ephemeral_worker.specs.declared.now.Now.{Now}
+use Rattle.ephemeral_worker.specs.declared.now.Now.TheVariants.{Spent}
+use Rattle.worker.specs.declared.fault.DurableFault.{DurableFault}
+use Rattle.worker.specs.declared.recover_fault.RecoverFault.{RecoverFault}
+use Rattle.worker.specs.declared.recover_fault.RecoverFault.TheVariants as recover
+use Rattle.worker.specs.rules.DurableValues.{DurableValue}
+use Rattle.worker.specs.rules.LifeWords.{Act, by_recovery}
+use Rattle.worker.specs.rules.Outlets.{HeedsOutlet, IsOutletFault, SaysOutletFault}
+use Rattle.worker.specs.rules.Recoveries.{IsNoWorker, IsSettledBy, RecoveryCarries}
+use Rattle.worker.specs.laws.OneLife.{IsOneLife}
 use Rattle.wasmhost_serve.specs.declared.lines.outside.Outside.{Outside}
 use Rattle.wasmhost_serve.specs.declared.on_disk.fault.OnDiskFault.{OnDiskFault}
 use Rattle.wasmhost_serve.specs.Lines.Answers.{Standing, standing, HandsNext}
 use Rattle.wasmhost_serve.specs.rules.BrokenLives.{BreaksOffFrom, steps_among}
 use Rattle.wasmhost_serve.specs.rules.DiskStatuses.{IsToldOnDisk, told_of_opening, status_on_disk}
-use Rattle.durable_worker.specs.laws.Outcomes.{life_outcome}
+use Rattle.worker.specs.laws.Outcomes.{life_outcome}
 use Rattle.wasmhost_serve.specs.rules.Hearings.{AsksUnless, IsOfSource}
 use Rattle.wasmhost_serve.specs.rules.Paces.{IsPaced}
 use Rattle.wasmhost_serve.specs.rules.Printers.{PrinterState, IsSaid, SaysText, TellsPerson}

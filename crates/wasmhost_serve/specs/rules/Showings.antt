@@ -2,9 +2,9 @@
 use Rattle.std.specs.Prelude.{◌≡◌, ◌⊎◌, ℕ, ◌<◌, true, List, ◌++◌, codes, Result, Ok, Err}
 use Rattle.std.specs.Fmt.{decimal}
 use Rattle.sector_disk.specs.rules.Medium.{Medium}
-use Rattle.durable_worker.specs.declared.recover_fault.RecoverFault.{RecoverFault}
-use Rattle.durable_worker.specs.declared.surveyed.Survey.{Survey}
-use Rattle.durable_worker.specs.rules.Surveys.{Surveys}
+use Rattle.worker.specs.declared.recover_fault.RecoverFault.{RecoverFault}
+use Rattle.worker.specs.declared.surveyed.Survey.{Survey}
+use Rattle.worker.specs.rules.Surveys.{Surveys}
 use Rattle.wasmhost_serve.specs.rules.DiskStatuses.{told_of_opening, status_on_disk}
 use Rattle.wasmhost_serve.specs.rules.Printers.{PrinterState, IsSaid, SaysText}
 

@@ -3,8 +3,8 @@ use Rattle.std.specs.Prelude.{ℕ, List, Result, Ok, Err, ⊤, if◌then◌else�
 use Rattle.machine_loader.specs.declared.fault.FrontFault.{FrontFault}
 use Rattle.machine_loader.specs.rules.Acceptance.{HasAcceptedModule, HasNoAcceptedModule}
 use Rattle.machine_loader.specs.rules.Acceptance.{FrontDenies, is_want}
-use Rattle.worker.specs.declared.fault.WorkFault.{WorkFault}
-use Rattle.worker.specs.declared.fault.WorkFault.TheVariants as fault
+use Rattle.ephemeral_worker.specs.declared.fault.WorkFault.{WorkFault}
+use Rattle.ephemeral_worker.specs.declared.fault.WorkFault.TheVariants as fault
 use Rattle.wasmhost_serve.specs.declared.lines.fault.LineFault.{LineFault}
 use Rattle.wasmhost_serve.specs.declared.lines.fault.LineFault.TheVariants as line
 

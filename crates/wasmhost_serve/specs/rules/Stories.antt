@@ -4,19 +4,19 @@ use Rattle.std.specs.Io.KnownBytes.{Appends}
 use Rattle.hex.specs.Hex.{encode_lower}
 use Rattle.sha2.specs.Sha256.{sha256}
 use Rattle.record_replay.specs.declared.line_list.NumberedLine.{NumberedLine}
-use Rattle.durable_worker.specs.declared.story.life.PlannedLife.{PlannedLife}
-use Rattle.durable_worker.specs.declared.story.report.Opening.{Opening}
-use Rattle.durable_worker.specs.declared.story.report.Opening.TheVariants.{Created, Recovered}
-use Rattle.durable_worker.specs.declared.story.report.Opening.TheVariants.{Unopened}
-use Rattle.durable_worker.specs.declared.fault.DurableFault.TheVariants as durable
-use Rattle.durable_worker.specs.declared.recover_fault.RecoverFault.{RecoverFault}
-use Rattle.durable_worker.specs.declared.recover_fault.RecoverFault.TheVariants.{Worker}
-use Rattle.durable_worker.specs.declared.story.report.LifeEnd.{LifeEnd}
-use Rattle.durable_worker.specs.declared.story.report.LifeEnd.TheVariants.{Failed}
-use Rattle.durable_worker.specs.declared.story.report.LifeReport.{LifeReport}
-use Rattle.worker.specs.declared.fault.Refusal.TheVariants as refusal
-use Rattle.worker.specs.declared.fault.WorkFault.TheVariants as work
-use Rattle.durable_worker.specs.rules.StoryDisks.{TellsLives}
+use Rattle.worker.specs.declared.story.life.PlannedLife.{PlannedLife}
+use Rattle.worker.specs.declared.story.report.Opening.{Opening}
+use Rattle.worker.specs.declared.story.report.Opening.TheVariants.{Created, Recovered}
+use Rattle.worker.specs.declared.story.report.Opening.TheVariants.{Unopened}
+use Rattle.worker.specs.declared.fault.DurableFault.TheVariants as durable
+use Rattle.worker.specs.declared.recover_fault.RecoverFault.{RecoverFault}
+use Rattle.worker.specs.declared.recover_fault.RecoverFault.TheVariants.{Worker}
+use Rattle.worker.specs.declared.story.report.LifeEnd.{LifeEnd}
+use Rattle.worker.specs.declared.story.report.LifeEnd.TheVariants.{Failed}
+use Rattle.worker.specs.declared.story.report.LifeReport.{LifeReport}
+use Rattle.ephemeral_worker.specs.declared.fault.Refusal.TheVariants as refusal
+use Rattle.ephemeral_worker.specs.declared.fault.WorkFault.TheVariants as work
+use Rattle.worker.specs.rules.StoryDisks.{TellsLives}
 use Rattle.wasmhost_serve.specs.declared.configuring.Sizes.{Sizes}
 use Rattle.wasmhost_serve.specs.declared.preparing.Prepared.{Prepared}
 use Rattle.wasmhost_serve.specs.declared.preparing.Unprepared.{Unprepared}

@@ -8,11 +8,11 @@ use crate::on_disk::fault::{OnDiskFault, say_disk_fault};
 use crate::preparing::sectors_of;
 use crate::printer::Printer;
 use crate::status::UNWRITTEN;
-use durable_worker::DurableWorker;
 use sector_disk::Disk;
 use std::alloc::Global;
 use std::io::{self, Write};
 use wasi_abi::Config;
+use worker::Worker;
 
 /// Prints how many sectors a worker has.
 fn print_created<W: Write + Drop>(out: &mut Printer<W>, sectors: u64) -> io::Result<()>
@@ -49,7 +49,7 @@ pub fn create_on<D: Disk, W: Write + Drop, E: Write + Drop>(
         out.old out.new err.old err.new result }
     ensures known { result ≤ 7 }
 {
-    match DurableWorker::create(alloc, disk, wasm, config) {
+    match Worker::create(alloc, disk, wasm, config) {
         Ok(_worker) => say_created(out, sectors_of(config, wasm)),
         Err(fault) => say_disk_fault(err, OnDiskFault::from(fault)),
     }

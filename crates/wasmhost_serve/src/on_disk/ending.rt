@@ -7,9 +7,9 @@ ghost use Rattle.wasmhost_serve.specs.rules.Printers.{IsPrinted, SaysText};
 use crate::lines::trap_name;
 use crate::printer::Printer;
 use crate::status::UNWRITTEN;
+use ephemeral_worker::Now;
 use process::ProcessEnd;
 use std::io::{self, Write};
-use worker::Now;
 
 /// Writes the last words of a worker that is over.
 fn print_last_words<E: Write + Drop>(err: &mut Printer<E>, now: Now) -> io::Result<()>

@@ -9,11 +9,11 @@ ghost use Rattle.wasmhost_serve.specs.rules.Printers.{IsSaid};
 use crate::lines::LineFault;
 use crate::printer::Printer;
 use crate::status::{NO_MEMORY, REFUSED, UNREAD, UNWRITTEN, status_of_line, status_of_work};
-use durable_worker::{DurableFault, RecoverFault};
+use ephemeral_worker::WorkFault;
 use sector_disk::DiskFault;
 use std::io::Write;
 use thiserror::Error;
-use worker::WorkFault;
+use worker::{DurableFault, RecoverFault};
 
 /// What is told of a worker on its disk that isn't opened, or that fails.
 #[derive(Clone, Copy, Debug, PartialEq, Eq, Error)]

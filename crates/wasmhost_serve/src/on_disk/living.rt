@@ -4,15 +4,15 @@ ghost use Rattle.std.specs.Prelude.{◌≡◌, ◌≢◌, ◌≤◌, ◌<◌, �
 ghost use Rattle.std.specs.Int.NonZero.{non_zero_u64_get};
 ghost use Rattle.disk_layout.specs.rules.Places.{total_sectors};
 ghost use Rattle.process.specs.rules.Values.{IsProcess};
-ghost use Rattle.worker.specs.declared.now.Now.TheVariants.{Spent};
+ghost use Rattle.ephemeral_worker.specs.declared.now.Now.TheVariants.{Spent};
 ghost use Rattle.wasmhost_serve.specs.Livings.{scene, steps_left, IsRested};
 ghost use Rattle.wasmhost_serve.specs.Livings.{IsRound, IsBrokenRound, LivesAtPace};
 
-use durable_worker::{DurableFault, DurableWorker};
+use ephemeral_worker::Now;
 use record_replay::{Outlet, Source};
 use sector_disk::Disk;
 use std::num::NonZeroU64;
-use worker::Now;
+use worker::{DurableFault, Worker};
 
 /// How a worker on a disk is driven.
 #[derive(Clone, Copy, Debug)]
@@ -24,7 +24,7 @@ pub struct Pace {
 }
 
 /// What holds of a worker's process by its type.
-fn is_process(worker: &DurableWorker)
+fn is_process(worker: &Worker)
     ensures { IsProcess worker.now.process }
 {
     let _ = worker.process().steps();
@@ -41,7 +41,7 @@ fn is_spent(now: Now) -> bool
 }
 
 /// Saves a worker behind a slice that has answered this.
-fn rest_on<D: Disk>(worker: &mut DurableWorker, disk: &mut D, now: Now) -> Result<Now, DurableFault>
+fn rest_on<D: Disk>(worker: &mut Worker, disk: &mut D, now: Now) -> Result<Now, DurableFault>
     requires { total_sectors worker.old.store.geometry ≤ (D.medium disk.old).sectors }
     ensures rested { IsRested now result worker.old worker.new (D.medium disk.old)
         (D.medium disk.new) }
@@ -55,7 +55,7 @@ fn rest_on<D: Disk>(worker: &mut DurableWorker, disk: &mut D, now: Now) -> Resul
 
 /// Slice after slice, at most as many as come between two checkpoints, and then a checkpoint.
 fn round<D: Disk, S: Source, O: Outlet>(
-    worker: &mut DurableWorker,
+    worker: &mut Worker,
     disk: &mut D,
     pace: Pace,
     source: &mut S,
@@ -92,7 +92,7 @@ fn round<D: Disk, S: Source, O: Outlet>(
 
 /// Lives on until the worker is over. It comes to that, or fails, since its steps are numbered.
 pub(crate) fn live<D: Disk, S: Source, O: Outlet>(
-    worker: &mut DurableWorker,
+    worker: &mut Worker,
     disk: &mut D,
     pace: Pace,
     source: &mut S,

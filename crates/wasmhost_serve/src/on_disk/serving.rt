@@ -15,12 +15,12 @@ use crate::on_disk::fault::{OnDiskFault, say_disk_fault};
 use crate::on_disk::living::{Pace, live};
 use crate::on_disk::showing::print_number;
 use crate::printer::Printer;
-use durable_worker::{DurableFault, DurableWorker};
+use ephemeral_worker::{Now, WorkFault};
 use record_replay::Outlet;
 use sector_disk::Disk;
 use std::alloc::Global;
 use std::io::{self, Write};
-use worker::{Now, WorkFault};
+use worker::{DurableFault, Worker};
 
 /// A fault of the source is that of a request line, where there is one.
 fn call_fault_of(fault: DurableFault, line: Option<LineFault>) -> OnDiskFault
@@ -35,7 +35,7 @@ fn call_fault_of(fault: DurableFault, line: Option<LineFault>) -> OnDiskFault
 /// Runs a worker that is open on its disk: request lines behind those that it has taken, random
 /// bytes of its generation.
 fn go_on<D: Disk, R: LineReader + Drop, C: RealTime + Drop, O: Outlet>(
-    worker: &mut DurableWorker,
+    worker: &mut Worker,
     disk: &mut D,
     pace: Pace,
     source: &mut RequestSource<R, C>,
@@ -56,7 +56,7 @@ fn go_on<D: Disk, R: LineReader + Drop, C: RealTime + Drop, O: Outlet>(
 }
 
 /// Prints that a worker is recovered, and how far it was replayed.
-fn print_recovered<E: Write + Drop>(err: &mut Printer<E>, worker: &DurableWorker) -> io::Result<()>
+fn print_recovered<E: Write + Drop>(err: &mut Printer<E>, worker: &Worker) -> io::Result<()>
     ensures printed { OnOk result (IsPrinted err.old err.new (recovered_line worker.now)) }
     ensures failed { OnErr result (err.new.failed ≡ true) }
 {
@@ -67,7 +67,7 @@ fn print_recovered<E: Write + Drop>(err: &mut Printer<E>, worker: &DurableWorker
 }
 
 /// Tells a person that a worker is recovered. A worker runs on though this can't be printed.
-fn tell_recovered<E: Write + Drop>(err: &mut Printer<E>, worker: &DurableWorker)
+fn tell_recovered<E: Write + Drop>(err: &mut Printer<E>, worker: &Worker)
     ensures { TellsPerson (recovered_line worker.now) err.old err.new }
 {
     if err.is_terminal() {
@@ -101,7 +101,7 @@ pub fn serve<D: Disk, R: LineReader + Drop, C: RealTime + Drop, O: Outlet, E: Wr
     ensures refusal { HeedsRefusal O.takes outlet.old outlet.new err.new result }
     ensures known { result ≤ 7 }
 {
-    let mut worker = match DurableWorker::recover(alloc, disk, outlet) {
+    let mut worker = match Worker::recover(alloc, disk, outlet) {
         Ok(worker) => worker,
         Err(fault) => return say_disk_fault(err, OnDiskFault::from(fault)),
     };

@@ -2,7 +2,7 @@
 
 ghost use Rattle.std.specs.Prelude.{◌≡◌, ◌≤◌, true, OnErr, OnOk};
 ghost use Rattle.sector_disk.specs.rules.Image.{Image};
-ghost use Rattle.durable_worker.specs.rules.Surveys.{EachSurvey};
+ghost use Rattle.worker.specs.rules.Surveys.{EachSurvey};
 ghost use Rattle.wasmhost_serve.specs.rules.Printers.{IsPrinted};
 ghost use Rattle.wasmhost_serve.specs.rules.Showings.{named_number, survey_line};
 ghost use Rattle.wasmhost_serve.specs.rules.Showings.{ShowsDisk, ShowsSurvey, SaysSurvey};
@@ -10,10 +10,10 @@ ghost use Rattle.wasmhost_serve.specs.rules.Showings.{ShowsDisk, ShowsSurvey, Sa
 use crate::on_disk::fault::{OnDiskFault, say_disk_fault};
 use crate::printer::Printer;
 use crate::status::UNWRITTEN;
-use durable_worker::{Survey, read_survey};
 use sector_disk::Disk;
 use std::alloc::Global;
 use std::io::{self, Write};
+use worker::{Survey, read_survey};
 
 /// Writes a name, and a number.
 pub(super) fn print_number<W: Write + Drop>(

@@ -1,7 +1,7 @@
 //! Lives that are being read.
 
-use durable_worker::story::PlannedLife;
 use wasm_syntax::Row;
+use worker::story::PlannedLife;
 
 /// What the lines so far say.
 #[derive(Debug, Drop)]

@@ -1,9 +1,9 @@
 //! What a line of a script says.
 
-use durable_worker::story::PlannedAct;
 use sector_disk::Place;
 use wasi_abi::Answer;
 use wasm_syntax::Row;
+use worker::story::PlannedAct;
 
 #[derive(Debug, Drop)]
 pub enum ScriptLine {

@@ -9,12 +9,12 @@ ghost use Rattle.wasmhost_serve.specs.declared.stories.line.ScriptLine.TheVarian
 use crate::stories::draft::Draft;
 use crate::stories::line::ScriptLine;
 use crate::stories::words::read_line;
-use durable_worker::story::{PlannedAct, PlannedLife};
 use sector_disk::Place;
 use std::alloc::{AllocError, Global};
 use std::mem;
 use wasi_abi::Answer;
 use wasm_syntax::Row;
+use worker::story::{PlannedAct, PlannedLife};
 
 /// A life into which nothing is put.
 fn empty_life(alloc: Global) -> PlannedLife

@@ -9,9 +9,9 @@ use crate::stories::draft::Draft;
 use crate::stories::fault::ScriptFault;
 use crate::stories::lives::{close, new_draft, put_text};
 use crate::stories::pieces::split_once;
-use durable_worker::story::PlannedLife;
 use std::alloc::Global;
 use wasm_syntax::Row;
+use worker::story::PlannedLife;
 
 /// The line in front, and what stands behind its newline.
 pub(crate) fn cut_line(text: &[u8]) -> (&[u8], &[u8])

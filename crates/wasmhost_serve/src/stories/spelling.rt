@@ -10,12 +10,12 @@ ghost use Rattle.wasmhost_serve.specs.rules.Stories.{releases_text, story_text, 
 ghost use Rattle.wasmhost_serve.specs.rules.Stories.{end_line};
 
 use crate::lines::spell_line;
-use durable_worker::story::{LifeEnd, LifeReport, Opening};
-use durable_worker::{DurableFault, RecoverFault};
+use ephemeral_worker::{Refusal, WorkFault};
 use record_replay::NumberedLine;
 use sha2::{Digest, Sha256};
 use std::io::{self, Write};
-use worker::{Refusal, WorkFault};
+use worker::story::{LifeEnd, LifeReport, Opening};
+use worker::{DurableFault, RecoverFault};
 
 /// Digits of a digest.
 const DIGITS: usize = 64;

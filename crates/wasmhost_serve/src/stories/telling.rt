@@ -14,9 +14,9 @@ use crate::stories::fault::ScriptFault;
 use crate::stories::script::read_script;
 use crate::stories::spelling::spell_lives;
 use crate::telling::{Obstacle, report};
-use durable_worker::story::{LifeReport, StoryFault, story};
 use std::alloc::Global;
 use std::io::{self, Write};
+use worker::story::{LifeReport, StoryFault, story};
 
 /// The text of these lives.
 fn text_of(alloc: Global, reports: &[LifeReport]) -> io::Result<Vec<u8>>

@@ -8,11 +8,11 @@ ghost use Rattle.wasmhost_serve.specs.rules.Scripts.{number_spelled};
 use crate::stories::line::ScriptLine;
 use crate::stories::numbers::{read_count, read_front, read_number, read_place};
 use crate::stories::pieces::split_once;
-use durable_worker::story::PlannedAct;
 use hex::FromHexError;
 use std::alloc::{AllocError, Global};
 use wasi_abi::Answer;
 use wasm_syntax::Row;
+use worker::story::PlannedAct;
 
 /// The bytes that hexadecimal digits of either case spell, two for each.
 fn read_bytes(alloc: Global, digits: &[u8]) -> Result<Option<Row<u8>>, AllocError>

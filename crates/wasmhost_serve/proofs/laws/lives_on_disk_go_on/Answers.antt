@@ -1,5 +1,5 @@
-use Rattle.durable_worker.proofs.LifeLemmas.Replying.{lives_end_as_said}
-use Rattle.durable_worker.proofs.LifeLemmas.Uncut.{lives_go_on_uncut}
+use Rattle.worker.proofs.LifeLemmas.Replying.{lives_end_as_said}
+use Rattle.worker.proofs.LifeLemmas.Uncut.{lives_go_on_uncut}
 use Rattle.wasmhost_serve.specs.rules.ServedOnDisk.{handing}
 use Rattle.wasmhost_serve.proofs.laws.lives_on_disk_go_on.Goals as goal
 

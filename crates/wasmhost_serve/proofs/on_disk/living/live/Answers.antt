@@ -1,4 +1,4 @@
-use Rattle.worker.specs.declared.now.Now.TheVariants.{Waiting, Ended}
+use Rattle.ephemeral_worker.specs.declared.now.Now.TheVariants.{Waiting, Ended}
 use Rattle.wasmhost_serve.specs.Livings.{scene}
 use Rattle.wasmhost_serve.proofs.LivingLemmas.{round_more, round_last, round_broken}
 use Rattle.wasmhost_serve.proofs.on_disk.living.live.Goals as goal

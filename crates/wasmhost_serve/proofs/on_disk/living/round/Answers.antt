@@ -7,6 +7,7 @@ use Rattle.wasmhost_serve.proofs.LivingLemmas.{within_more, none_taken}
 use Rattle.wasmhost_serve.proofs.LivingLemmas.{within_fewer, slice_fewer}
 use Rattle.wasmhost_serve.proofs.on_disk.living.round.Goals as goal
 use Rattle.wasmhost_serve.proofs.on_disk.living.round.Goals.{then-taken-every-via-then-taken-every}
+use Rattle.wasmhost_serve.proofs.on_disk.living.round.Goals.{}
 use Rattle.wasmhost_serve.proofs.on_disk.living.round.Goals.{then-taken-every-via-else-taken-every+then-not-is_spent}
 
 pub loop-now-init : goal.loop-now-init

@@ -1,7 +1,7 @@
 use Rattle.std.proofs.Common.{sym, ap, ◌∙◌, subst, ◌≡◌, Some, Err, Result, List}
 use Rattle.std.specs.Prelude.{IfErr}
 use Rattle.std.proofs.lemmas.Result.{err_from_is_err_and}
-use Rattle.durable_worker.specs.declared.story.life.PlannedLife.{PlannedLife}
+use Rattle.worker.specs.declared.story.life.PlannedLife.{PlannedLife}
 use Rattle.wasmhost_serve.specs.declared.stories.fault.ScriptFault.{ScriptFault}
 use Rattle.wasmhost_serve.specs.rules.Pieces.{lines_of}
 use Rattle.wasmhost_serve.specs.rules.Scripts.{IsScript, IsScriptFault}

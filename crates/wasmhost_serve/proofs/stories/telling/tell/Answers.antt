@@ -1,7 +1,7 @@
 use Rattle.std.proofs.Common.{List, subst}
-use Rattle.durable_worker.specs.declared.story.life.PlannedLife.{PlannedLife}
-use Rattle.durable_worker.specs.declared.story.report.LifeReport.{LifeReport}
-use Rattle.durable_worker.specs.rules.StoryDisks.{TellsLives}
+use Rattle.worker.specs.declared.story.life.PlannedLife.{PlannedLife}
+use Rattle.worker.specs.declared.story.report.LifeReport.{LifeReport}
+use Rattle.worker.specs.rules.StoryDisks.{TellsLives}
 use Rattle.wasmhost_serve.specs.rules.Stories.{SaysLives}
 use Rattle.wasmhost_serve.proofs.TellingLemmas.{lives_told}
 use Rattle.wasmhost_serve.proofs.stories.telling.tell.Goals as goal

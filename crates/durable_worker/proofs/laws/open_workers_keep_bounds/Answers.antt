@@ -1,9 +1,0 @@
-use Rattle.durable_worker.proofs.DurableLemmas.Bounds.{open_workers_keep_bounds}
-use Rattle.durable_worker.proofs.DurableLemmas.Bounds.{staying_keeps_bounds}
-use Rattle.durable_worker.proofs.laws.open_workers_keep_bounds.Goals as goal
-
-pub returns-clause-keeps : goal.returns-clause-keeps
-returns-clause-keeps g c = open_workers_keep_bounds g.D.Disk.medium
-
-pub returns-clause-stays : goal.returns-clause-stays
-returns-clause-stays g c = staying_keeps_bounds g.D.Disk.medium

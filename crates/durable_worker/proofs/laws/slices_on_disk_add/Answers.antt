@@ -1,5 +1,0 @@
-use Rattle.durable_worker.proofs.AddingLemmas.{slices_on_disk_add}
-use Rattle.durable_worker.proofs.laws.slices_on_disk_add.Goals as goal
-
-pub returns : goal.returns
-returns g c = slices_on_disk_add g.S.Source.gives g.O.Outlet.takes

@@ -1,7 +1,0 @@
-use Rattle.durable_worker.proofs.EndLemmas.{is_found}
-use Rattle.durable_worker.proofs.story.ending.cut_by.Goals as goal
-
-pub returns-in-Ok-clause-found : goal.returns-in-Ok-clause-found
-returns-in-Ok-clause-found c =
-    is_found _ _ _ c.in-Ok.ensures.cut c.cut.ensures.left c.in-Ok.ensures.shows
-    c.in-Ok.ensures.settled

@@ -1,0 +1,4 @@
+pub mod Faults
+pub mod Refusals
+pub mod Slices
+pub mod Values

@@ -1,0 +1,23 @@
+-- What a worker says where a step of its making or running fails.
+use Rattle.std.specs.Prelude.{Bool, true, false}
+use Rattle.process.specs.declared.fault.ProcessFault.{ProcessFault}
+use Rattle.process.specs.declared.fault.ProcessFault.TheVariants as stop
+use Rattle.machine_loader.specs.declared.fault.FrontFault.{FrontFault}
+use Rattle.machine_loader.specs.rules.Acceptance.{is_want}
+use Rattle.ephemeral_worker.specs.declared.fault.WorkFault.{WorkFault}
+use Rattle.ephemeral_worker.specs.declared.fault.WorkFault.TheVariants as fault
+use Rattle.ephemeral_worker.specs.declared.fault.Refusal.TheVariants as refusal
+
+-- where its process can't do a step
+abbrev pub work_fault : ProcessFault → WorkFault
+work_fault stop.WrongAnswer = fault.Source
+work_fault stop.Memory = fault.Memory
+work_fault stop.StepsSpent = fault.Refused refusal.StepsSpent
+
+-- where the module isn't accepted, or the host has no room
+abbrev pub refusal_by : Bool → FrontFault → WorkFault
+refusal_by true why = fault.Memory
+refusal_by false why = fault.Refused (refusal.Front why)
+
+abbrev pub refusal_of : FrontFault → WorkFault
+refusal_of why = refusal_by (is_want why) why

@@ -1,0 +1,43 @@
+//! A worker: a process that is run slice by slice, answered from outside, and whose lines are
+//! released (this project's own). It keeps no disk: `worker` has one that does.
+//!
+//! # Promises
+//!
+//! - `EphemeralWorker::create`: the worker of the accepted module that the bytes spell, at its
+//!   start (`created`), or why they spell none (`refused`).
+//! - `slice`: whichever process it showed, the answers that were handed over lead in so many steps
+//!   to the one that it shows. All lines on the way were released, each once, in order, with its
+//!   number. It says why the slice is over (`done`).
+//! - Where `slice` fails, it has come to where the source, the outlet, memory or the count of
+//!   steps failed. From then on no call does anything (`failed`).
+//! - `slices_add`, `slices_add_in_vain`: two slices, of which the first spent its fuel, are one,
+//!   also where the second one fails.
+//! - `one_slice`: on the same answers two slices of the same fuel from one process come to one
+//!   process, and release the same lines.
+//! - `process` is the process as it is now, also after an error.
+//!
+//! # Definitions to read
+//!
+//! In `specs/rules/`: `WorkerValue`, `IsCreated` (`Values.antt`); `Slices`, `SliceLeadsTo`,
+//! `AreWanted`, `IsNow` (`Slices.antt`); `SlicesInVain`, `IsCause`, `IsRefusedByWorker`
+//! (`Faults.antt`); `work_fault` (`Refusals.antt`). The laws are stated in `specs/laws/Laws.antt`.
+//!
+//! # Who may touch what
+//!
+//! Only this crate decides when lines are released and answers asked for, of a worker without a
+//! disk. `wasmhost_serve` runs one, and `worker` uses its faults and its definitions of
+//! slices. It stands on `process`, `machine_loader` and `record_replay`. It takes no memory but
+//! what loading and the process take. After an error of `slice` the process has taken whole steps
+//! alone, and each slice answers `N5 Failed`.
+#![tactic(auto)]
+
+mod fault;
+mod laws;
+mod now;
+mod turns;
+mod worker;
+
+pub use fault::{Refusal, WorkFault};
+pub use laws::{one_slice, slices_add, slices_add_in_vain};
+pub use now::Now;
+pub use worker::EphemeralWorker;

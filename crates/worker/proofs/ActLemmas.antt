@@ -1,0 +1,116 @@
+-- Acts, one after another.
+use Rattle.std.proofs.Common.{◌≡◌, ℕ, ◌+◌, ◌<◌, ◌≤◌, List, [], ◌∷◌, length, get_or, drop, sym, ap}
+use Rattle.std.proofs.Common.{◌∙◌, subst, add-one}
+use Rattle.std.proofs.Math.Seq.{drop-cons}
+use Rattle.std.proofs.lemmas.List.{drop_all}
+use Rattle.std.specs.Prelude.{Result, Ok, Err, map}
+use Rattle.sector_disk.specs.rules.Medium.{Medium}
+use Rattle.record_replay.specs.rules.Calls.{Giving, Taking}
+use Rattle.worker_rules.specs.Lives.{Act, Checkpoint}
+use Rattle.worker_rules.specs.Lives.{Slice}
+use Rattle.ephemeral_worker.specs.declared.now.Now.{Now}
+use Rattle.worker.specs.declared.fault.DurableFault.{DurableFault}
+use Rattle.worker.specs.declared.recover_fault.RecoverFault.{RecoverFault}
+use Rattle.worker.specs.declared.recover_fault.RecoverFault.TheVariants as recover
+use Rattle.worker.specs.rules.Checkpoints.{CheckpointFails}
+use Rattle.worker.specs.rules.DurableCalls.{SliceCarries, CheckpointCarries}
+use Rattle.worker.specs.rules.DurableValues.{DurableValue}
+use Rattle.worker.specs.laws.OneLife.{CallsInOrder, no_more, sliced, slice_failed, saved}
+use Rattle.worker.specs.laws.OneLife.{saving_failed}
+use Rattle.worker.specs.declared.story.life.PlannedAct.{PlannedAct}
+use Rattle.worker.specs.rules.Planned.{act_of}
+use Rattle.worker.specs.LifeCalls.{DoesAct}
+
+module _ {D S O : Type 0} (medium : D → Medium) (gives : Giving S) (takes : Taking O)
+    (w w' : DurableValue) (disk disk' : D) where
+  pub slice_is_done : (fuel : ℕ) (said : Now) (source source' : S) (outlet outlet' : O)
+      → SliceCarries gives takes w fuel (Ok said) w' (medium disk) (medium disk') source source'
+      outlet outlet'
+      → DoesAct medium gives takes (Slice fuel) w disk source outlet (Ok tt) w' disk' source'
+      outlet'
+  slice_is_done fuel said source source' outlet outlet' carries =
+      λ acts left last source_last outlet_last rest. sliced said carries rest
+
+  pub slice_fails : (fuel : ℕ) (why : DurableFault) (source source' : S) (outlet outlet' : O)
+      → SliceCarries gives takes w fuel (Err why) w' (medium disk) (medium disk') source source'
+      outlet outlet'
+      → DoesAct medium gives takes (Slice fuel) w disk source outlet (Err why) w' disk' source'
+      outlet'
+  slice_fails fuel why source source' outlet outlet' carries = λ acts. slice_failed carries
+
+  pub saving_is_done : (source : S) (outlet : O)
+      → CheckpointCarries w (Ok tt) w' (medium disk) (medium disk')
+      → DoesAct medium gives takes Checkpoint w disk source outlet (Ok tt) w' disk' source outlet
+  saving_is_done source outlet carries =
+      λ acts left last source_last outlet_last rest. saved carries rest
+
+  pub saving_fails : (why : DurableFault) (source : S) (outlet : O)
+      → CheckpointCarries w (Err why) w' (medium disk) (medium disk')
+      → CheckpointFails w (medium disk) (medium disk') why
+      → DoesAct medium gives takes Checkpoint w disk source outlet (Err why) w' disk' source outlet
+  saving_fails why source outlet carries fails = λ acts. saving_failed carries fails
+
+-- ---- a list of them
+
+-- some acts are done; behind what comes of the rest all are done
+pub record HasDone {D S O : Type 0} (medium : D → Medium) (gives : Giving S) (takes : Taking O)
+    (all rest : List PlannedAct) (w w' : DurableValue) (disk disk' : D) (source source' : S)
+    (outlet outlet' : O) : Type 0 where
+  pub behind : (left : Result (List Act) RecoverFault) (last : D) (source_last : S)
+      (outlet_last : O)
+      → CallsInOrder medium gives takes (map act_of rest) w' disk' source' outlet' left last
+      source_last outlet_last
+      → CallsInOrder medium gives takes (map act_of all) w disk source outlet left last source_last
+      outlet_last
+
+-- an act that is read at a place is the first of those from there on
+acts_from : (acts : List PlannedAct) (i : ℕ) (other : PlannedAct) → i < length acts
+    → drop i acts ≡ get_or acts i other ∷ drop (i + 1) acts
+acts_from acts i other within =
+    drop-cons acts i other within
+    ∙ ap (λ (k : ℕ). get_or acts i other ∷ drop k acts) (sym (add-one i))
+
+module _ {D S O : Type 0} (medium : D → Medium) (gives : Giving S) (takes : Taking O)
+    (acts : List PlannedAct) (w : DurableValue) (disk : D) (source : S) (outlet : O) where
+  pub none_is_done : HasDone medium gives takes acts (drop 0 acts) w w disk disk source source
+      outlet outlet
+  none_is_done = record { behind = λ left last source_last outlet_last calls. calls }
+
+  module _ (i : ℕ) (other : PlannedAct) (within : i < length acts) (now : DurableValue)
+      (disk_now : D) (source_now : S) (outlet_now : O)
+      (so_far : HasDone medium gives takes acts (drop i acts) w now disk disk_now source source_now
+      outlet outlet_now)
+      (w' : DurableValue) (disk' : D) (source' : S) (outlet' : O) where
+    first_so_far : HasDone medium gives takes acts (get_or acts i other ∷ drop (i + 1) acts) w now
+        disk disk_now source source_now outlet outlet_now
+    first_so_far = subst (λ (rest : List PlannedAct). HasDone medium gives takes acts rest w now
+        disk disk_now source source_now outlet outlet_now) (acts_from acts i other within) so_far
+
+    pub one_more_is_done : DoesAct medium gives takes (act_of (get_or acts i other)) now disk_now
+        source_now outlet_now (Ok tt) w' disk' source' outlet'
+        → HasDone medium gives takes acts (drop (i + 1) acts) w w' disk disk' source source' outlet
+        outlet'
+    one_more_is_done does = record {
+      behind = λ left last source_last outlet_last calls.
+          first_so_far.behind left last source_last outlet_last
+          (does (map act_of (drop (i + 1) acts)) left last source_last outlet_last calls);
+    }
+
+    pub one_fails : (why : DurableFault) → DoesAct medium gives takes (act_of (get_or acts i other))
+        now disk_now source_now outlet_now (Err why) w' disk' source' outlet'
+        → CallsInOrder medium gives takes (map act_of acts) w disk source outlet
+        (Err (recover.Worker why)) disk' source' outlet'
+    one_fails why does =
+        first_so_far.behind (Err (recover.Worker why)) disk' source' outlet'
+        (does (map act_of (drop (i + 1) acts)))
+
+  pub all_are_done : (i : ℕ) → length acts ≤ i → (w' : DurableValue) (disk' : D) (source' : S)
+      (outlet' : O)
+      → HasDone medium gives takes acts (drop i acts) w w' disk disk' source source' outlet outlet'
+      → CallsInOrder medium gives takes (map act_of acts) w disk source outlet (Ok []) disk'
+      source' outlet'
+  all_are_done i all w' disk' source' outlet' so_far =
+      let none : HasDone medium gives takes acts [] w w' disk disk' source source' outlet outlet' =
+      subst (λ (rest : List PlannedAct). HasDone medium gives takes acts rest w w' disk disk'
+      source source' outlet outlet') (drop_all i acts all) so_far in
+      none.behind (Ok []) disk' source' outlet' no_more

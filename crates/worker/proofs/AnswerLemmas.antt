@@ -1,0 +1,317 @@
+-- What a recovery and a look at a disk answer, whatever stands there.
+use Rattle.std.proofs.Common.{◌≡◌, inl, inr, ℕ, ◌+◌, List, refl, sym, ap, ◌∙◌, subst}
+use Rattle.std.proofs.Common.{◌*◌, ◌<◌, length, false}
+use Rattle.std.specs.Prelude.{Result, Ok, Err, IfErr}
+use Rattle.process.specs.rules.Values.{ProcessValue, ShowsProcess}
+use Rattle.state_image.specs.rules.Image.{image}
+use Rattle.state_image.specs.rules.Saving.{saved_of}
+use Rattle.sector_disk.specs.declared.fault.DiskFault.{DiskFault}
+use Rattle.sector_disk.specs.rules.Image.{Image}
+use Rattle.sector_disk.specs.rules.Medium.{CallsUpTo, Medium, SyncsMedium}
+use Rattle.sector_disk.specs.declared.sector.TheConstants.{SECTOR_SIZE}
+use Rattle.disk_layout.specs.declared.geometry.Geometry.{Geometry}
+use Rattle.disk_layout.specs.declared.head.TheConstants.{IMAGE_VERSION}
+use Rattle.disk_layout.specs.rules.Sectors.{HoldsImage}
+use Rattle.disk_layout.specs.rules.Stored.{OnlyReads}
+use Rattle.record_replay.specs.declared.fault.ReplayFault.{ReplayFault}
+use Rattle.record_replay.specs.declared.fault.ReplayFault.TheVariants as replay
+use Rattle.record_replay.specs.rules.Calls.{Taking}
+use Rattle.record_replay.specs.rules.Replays.{StopsReplay, TellsFrom}
+use Rattle.worker_store.specs.declared.fault.StoreFault.{StoreFault}
+use Rattle.worker_store.specs.declared.fault.StoreFault.TheVariants as store
+use Rattle.worker_store.specs.rules.Calls.{ReopeningFails}
+use Rattle.worker.specs.declared.fault.DurableFault.TheVariants.{Disk}
+use Rattle.worker.specs.declared.found.Found.{Found}
+use Rattle.worker.specs.declared.recover_fault.RecoverFault.{RecoverFault}
+use Rattle.worker.specs.declared.recover_fault.RecoverFault.TheVariants as recover
+use Rattle.worker.specs.rules.DurableFaults.{fault_of_store}
+use Rattle.worker.specs.rules.DurableValues.{DurableValue}
+use Rattle.worker.specs.rules.RecoverFaults.{fault_of_replay}
+use Rattle.worker.specs.rules.Recoveries.{IsSettledBy}
+use Rattle.worker.specs.rules.ShownDisks.{HoldsWorker, RevivesHeld, StopsHeld, EndsHeld}
+use Rattle.worker.specs.rules.ShownDisks.{FailsHeld, AnswersDisk, RecoversAsShown}
+use Rattle.worker.specs.rules.ShownDisks.{LeavesRefused, SurveysDisk, IsOfSaving}
+use Rattle.worker.specs.rules.ShownDisks.{IsRefusal}
+use Rattle.worker.specs.Findings.{numbers_of_found}
+use Rattle.worker.specs.FoundDisks.{IsFoundIn, FindsIn}
+use Rattle.worker.specs.Revivals.{RevivesFound, IsReplayed, StopsInVain}
+use Rattle.worker.specs.Revivals.{OpensStore, ReplaysForNothing}
+use Rattle.worker.proofs.RecoveryLemmas.There.{released_is}
+use Rattle.worker.proofs.RecoveryLemmas.Results.{settled_by, reads_none, sync_faulted}
+
+-- ---- the worker that the disk holds
+
+module _ (sectors : ℕ) (disk : Image) (found : Found) (at : IsFoundIn sectors disk found) where
+  abbrev pub held_in : HoldsWorker sectors disk
+  held_in = record {
+    holds = at.holds;
+    generation = found.generation;
+    saved = saved_of found.process;
+    well_typed = at.process.restored.well_typed;
+    newest = subst (λ (b : List ℕ). HoldsImage at.holds.contents.geometry disk found.generation
+        IMAGE_VERSION b) at.process.restored.is at.process.newest;
+    records = found.records.items;
+    scanned = at.scanned;
+  }
+
+  -- the process that was found is the saved one
+  shows_saved : ShowsProcess found.process held_in.well_typed.guest held_in.well_typed.process
+  shows_saved =
+      let restored = at.process.restored in
+      let typed = restored.well_typed in
+      restored.shows typed.guest typed.process (record {
+        start = typed.start;
+        begins = typed.begins;
+        functions = typed.functions;
+        function_types = typed.function_types;
+        shown = typed.shown;
+        configured = typed.configured;
+      })
+
+  released : found.process.host.released ≡ held_in.saved.lines
+  released =
+      let restored = at.process.restored in
+      released_is found.process (saved_of found.process) restored.none_waits refl
+
+  pub surveyed : SurveysDisk sectors disk (Ok (numbers_of_found found))
+  surveyed = (held_in, refl)
+
+  module _ {O : Type 0} (takes : Taking O) (outlet outlet' : O) where
+    -- it has come to its last process
+    ends_held : (v : ProcessValue) (count : ℕ) → IsReplayed takes found v count outlet outlet'
+        → EndsHeld takes held_in v outlet outlet'
+    ends_held v count replayed =
+        let all = replayed.replays in
+        let led = all.shown held_in.well_typed.guest held_in.well_typed.process shows_saved in
+        record {
+          last = led.process;
+          recorded = led.recorded;
+          shows = led.shows;
+          told = subst (λ n. TellsFrom takes n led.process outlet outlet') released led.told;
+        }
+
+    pub revives_held : (w : DurableValue) (mid new : Medium)
+        → IsReplayed takes found w.process w.replayed outlet outlet'
+        → OpensStore found.geometry found.generation w.process w.store mid new
+        → w.has_failed ≡ false → RevivesHeld takes held_in w outlet outlet'
+    revives_held w mid new replayed opens works =
+        let ends = ends_held w.process w.replayed replayed in
+        let restored = at.process.restored in
+        record {
+          last = ends.last;
+          recorded = ends.recorded;
+          shows = ends.shows;
+          module_is = replayed.module_same ∙ restored.guest;
+          generation = opens.numbered;
+          counted = replayed.counted;
+          unfailed = works;
+          told = ends.told;
+        }
+
+    -- it has stopped on the way
+    stops_held : (fault : ReplayFault) → StopsHeld takes held_in fault outlet outlet'
+        → FailsHeld takes held_in (fault_of_replay fault) outlet outlet'
+    stops_held replay.Diverged stops = stops
+    stops_held replay.Memory stops = stops
+    stops_held replay.Outlet stops = stops
+
+    pub fails_on_way : {D : Type 0} (mid new : D) (why : RecoverFault)
+        → StopsInVain takes found why mid new outlet outlet'
+        → FailsHeld takes held_in why outlet outlet'
+    fails_on_way mid new why stops =
+        let come = stops.stops held_in.well_typed.guest held_in.well_typed.process shows_saved in
+        let first = come.0 in
+        subst (λ (e : RecoverFault). FailsHeld takes held_in e outlet outlet') (sym stops.is)
+        (stops_held stops.fault (
+          first,
+          subst (λ n. StopsReplay takes n held_in.well_typed.guest first.reached first.rest
+              first.process stops.fault outlet outlet') released come.1,
+        ))
+
+    -- the next generation couldn't be written
+    unsaved : (v : ProcessValue) (mid new : Medium) → EndsHeld takes held_in v outlet outlet'
+        → (fault : StoreFault)
+        → ReopeningFails found.geometry (found.generation + 1) v mid new fault
+        → FailsHeld takes held_in (recover.Worker (fault_of_store fault)) outlet outlet'
+    unsaved v mid new ends store.TooBig (inl late) = (v, ends, inl late)
+    unsaved v mid new ends store.TooBig (inr long) = (
+      v,
+      ends,
+      inr (subst (λ (p : Geometry). SECTOR_SIZE * p.area_sectors < length (image (saved_of v)))
+          at.process.placed long),
+    )
+    unsaved v mid new ends (store.Disk fault) fails = (v, ends)
+    unsaved v mid new ends store.Full fails = absurd fails
+    unsaved v mid new ends store.TooLong fails = absurd fails
+    unsaved v mid new ends store.Damaged fails = absurd fails
+    unsaved v mid new ends (store.Layout why) fails = absurd fails
+    unsaved v mid new ends store.Memory fails = absurd fails
+    unsaved v mid new ends store.Failed fails = absurd fails
+
+    pub fails_at_end : (why : RecoverFault) (mid new : Medium)
+        → ReplaysForNothing takes found why mid new outlet outlet'
+        → FailsHeld takes held_in why outlet outlet'
+    fails_at_end why mid new for =
+        let none = for.none in
+        subst (λ (e : RecoverFault). FailsHeld takes held_in e outlet outlet') (sym none.is)
+        (unsaved for.process mid new (ends_held for.process for.count for.replayed) none.fault
+        none.fails)
+
+-- ---- what is left as it is
+
+-- a replay that stops has written nothing, and is no refusal of what stands on the disk
+no_refusal : (fault : ReplayFault) → IsRefusal (fault_of_replay fault) → ⊥
+no_refusal replay.Diverged is = is
+no_refusal replay.Memory is = is
+no_refusal replay.Outlet is = is
+
+-- nor is a generation that can't be written
+no_refusal_of : (geometry : Geometry) (g : ℕ) (v : ProcessValue) (mid new : Medium)
+    (fault : StoreFault) → ReopeningFails geometry g v mid new fault
+    → IsRefusal (recover.Worker (fault_of_store fault)) → ⊥
+no_refusal_of geometry g v mid new store.TooBig fails is = is
+no_refusal_of geometry g v mid new (store.Disk fault) fails is = is
+no_refusal_of geometry g v mid new store.Full fails is = absurd fails
+no_refusal_of geometry g v mid new store.TooLong fails is = absurd fails
+no_refusal_of geometry g v mid new store.Damaged fails is = absurd fails
+no_refusal_of geometry g v mid new (store.Layout why) fails is = absurd fails
+no_refusal_of geometry g v mid new store.Memory fails is = absurd fails
+no_refusal_of geometry g v mid new store.Failed fails is = absurd fails
+
+of_saving : (geometry : Geometry) (g : ℕ) (v : ProcessValue) (mid new : Medium)
+    (fault : StoreFault) → ReopeningFails geometry g v mid new fault
+    → IsOfSaving (recover.Worker (fault_of_store fault))
+of_saving geometry g v mid new store.TooBig fails = tt
+of_saving geometry g v mid new (store.Disk fault) fails = tt
+of_saving geometry g v mid new store.Full fails = absurd fails
+of_saving geometry g v mid new store.TooLong fails = absurd fails
+of_saving geometry g v mid new store.Damaged fails = absurd fails
+of_saving geometry g v mid new (store.Layout why) fails = absurd fails
+of_saving geometry g v mid new store.Memory fails = absurd fails
+of_saving geometry g v mid new store.Failed fails = absurd fails
+
+module _ {D O : Type 0} (medium : D → Medium) (takes : Taking O) (found : Found) (mid new : D)
+    (outlet outlet' : O) where
+  left_on_way : (why : RecoverFault) → StopsInVain takes found why mid new outlet outlet'
+      → LeavesRefused why (medium mid) (medium new) outlet outlet'
+  left_on_way why stops = record {
+    untold = λ refusal.
+        absurd (no_refusal stops.fault
+        (subst (λ (e : RecoverFault). IsRefusal e) stops.is refusal));
+    unwritten = λ other.
+        subst (λ (d : D). OnlyReads (medium mid) (medium d)) (sym stops.same)
+        (reads_none (medium mid));
+  }
+
+  left_at_end : (why : RecoverFault)
+      → ReplaysForNothing takes found why (medium mid) (medium new) outlet outlet'
+      → LeavesRefused why (medium mid) (medium new) outlet outlet'
+  left_at_end why for =
+      let none = for.none in
+      record {
+        untold = λ refusal.
+            absurd (no_refusal_of found.geometry (found.generation + 1) for.process (medium mid)
+            (medium new) none.fault none.fails
+            (subst (λ (e : RecoverFault). IsRefusal e) none.is refusal));
+        unwritten = λ other.
+            absurd (other (subst (λ (e : RecoverFault). IsOfSaving e) (sym none.is)
+            (of_saving found.geometry (found.generation + 1) for.process (medium mid)
+            (medium new) none.fault none.fails)));
+      }
+
+  -- whatever comes of what was found
+  pub left_so : (result : Result DurableValue RecoverFault)
+      → RevivesFound medium takes found result mid new outlet outlet'
+      → IfErr result (λ why. LeavesRefused why (medium mid) (medium new) outlet outlet')
+  left_so (Ok w) revives = tt
+  left_so (Err why) (inl stops) = left_on_way why stops
+  left_so (Err why) (inr for) = left_at_end why for
+
+  pub answers_so : (sectors : ℕ) (disk : Image) (at : IsFoundIn sectors disk found)
+      (result : Result DurableValue RecoverFault)
+      → RevivesFound medium takes found result mid new outlet outlet'
+      → AnswersDisk takes sectors disk result outlet outlet'
+  answers_so sectors disk at (Ok w) revives = (
+    held_in sectors disk found at,
+    revives_held sectors disk found at takes outlet outlet' w (medium mid) (medium new)
+        revives.0 revives.1 revives.2,
+  )
+  answers_so sectors disk at (Err why) (inl stops) = inr (
+    held_in sectors disk found at,
+    fails_on_way sectors disk found at takes outlet outlet' mid new why stops,
+  )
+  answers_so sectors disk at (Err why) (inr for) = inr (
+    held_in sectors disk found at,
+    fails_at_end sectors disk found at takes outlet outlet' why (medium mid) (medium new) for,
+  )
+
+-- ---- the disk couldn't be synced
+
+module _ {D O : Type 0} (medium : D → Medium) (takes : Taking O) (old new : D) (outlet : O)
+    {T : Type 0} (fault : DiskFault)
+    (syncs : SyncsMedium {T = T} (Err fault) (medium old) (medium new)) (why : RecoverFault)
+    (is : why ≡ recover.Worker (Disk fault)) where
+  pub unsettled_shown : RecoversAsShown medium takes (Err why) old new outlet outlet
+  unsettled_shown =
+      let calls = syncs.calls in
+      inl (record {
+        fault = fault;
+        is = ap (λ e. Err e) is;
+        stays = syncs.stays;
+        calls = calls.begun;
+        faulted = sync_faulted (medium old) (medium new) fault syncs;
+        none_told = refl;
+      })
+
+-- ---- a good sync, and then reads
+
+module _ {T : Type 0} (old sync mid : Medium) (done : T)
+    (syncs : SyncsMedium {T = T} (Ok done) old sync) where
+  pub found_there : (result : Result Found RecoverFault)
+      → ((image : Image) → mid.shows image → FindsIn sync.sectors image result)
+      → (image : Image) → mid.shows image → FindsIn old.sectors image result
+  found_there result finds =
+      let passes = syncs.passes in
+      subst (λ n. (image : Image) → mid.shows image → FindsIn n image result) passes.sectors
+      finds
+
+module _ {D O T : Type 0} (medium : D → Medium) (takes : Taking O) (old sync mid : D) (done : T)
+    (syncs : SyncsMedium {T = T} (Ok done) (medium old) (medium sync))
+    (reads : OnlyReads (medium sync) (medium mid))
+    (few : CallsUpTo (2 * (medium sync).sectors) (medium sync) (medium mid)) (outlet : O) where
+  settled : IsSettledBy (medium old) (medium mid)
+  settled = settled_by (medium old) (medium sync) (medium mid) done syncs reads few
+
+  -- no worker was found
+  pub unfound_shown : (why : RecoverFault)
+      → ((image : Image) → (medium mid).shows image
+      → FindsIn (medium sync).sectors image (Err why))
+      → RecoversAsShown medium takes (Err why) old mid outlet outlet
+  unfound_shown why finds = inr (
+    mid,
+    settled,
+    λ image shown.
+        inl (
+          found_there (medium old) (medium sync) (medium mid) done syncs (Err why) finds image
+              shown,
+          refl,
+        ),
+    record { untold = λ refusal. refl; unwritten = λ other. reads_none (medium mid) },
+  )
+
+  -- one was
+  pub found_shown : (new : D) (outlet' : O) (found : Found)
+      → ((image : Image) → (medium mid).shows image
+      → FindsIn (medium sync).sectors image (Ok found))
+      → (result : Result DurableValue RecoverFault)
+      → RevivesFound medium takes found result mid new outlet outlet'
+      → RecoversAsShown medium takes result old new outlet outlet'
+  found_shown new outlet' found finds result revives = inr (
+    mid,
+    settled,
+    λ image shown.
+        answers_so medium takes found mid new outlet outlet' (medium old).sectors image
+        (found_there (medium old) (medium sync) (medium mid) done syncs (Ok found) finds image
+        shown) result revives,
+    left_so medium takes found mid new outlet outlet' result revives,
+  )

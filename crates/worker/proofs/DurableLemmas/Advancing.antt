@@ -1,0 +1,326 @@
+-- Steps of a worker on its disk, up to where it stops.
+use Rattle.std.proofs.Common.{◌≡◌, ℕ, ◌+◌, ◌-◌, ◌<◌, ◌≤◌, [], length, refl, sym, ap}
+use Rattle.std.proofs.Common.{◌∙◌, subst, inl, ⊎_elim, arith, Some, None, Ok, Err}
+use Rattle.std.specs.Prelude.{◌≢◌}
+use Rattle.wasi_abi.specs.declared.answer.Kind.{Kind}
+use Rattle.process_rules.specs.Processes.{ProcessState, Ending}
+use Rattle.process_rules.specs.Runs.{Runs}
+use Rattle.process_rules.proofs.Growing.{runs_count, move_counts}
+use Rattle.process_rules.proofs.Quiet.{quiet_runs_are_runs}
+use Rattle.process.specs.declared.fault.ProcessFault.{ProcessFault}
+use Rattle.process.specs.declared.fault.ProcessFault.TheVariants as stop
+use Rattle.process.specs.declared.stop.ProcessEnd.{ProcessEnd}
+use Rattle.process.specs.declared.stop.Stop.TheVariants as stops
+use Rattle.process.specs.rules.Values.{ProcessValue, ShowsProcess, waiting_in, ending_of}
+use Rattle.process.specs.rules.Stops.{ComesQuietly, ComesOwing, AdvancesProcess}
+use Rattle.record_replay.proofs.Emitted.{released_whole}
+use Rattle.record_replay.proofs.OnTheWay.{quiet_runs, owing_runs}
+use Rattle.sector_disk.specs.rules.Medium.{Medium}
+use Rattle.state_image.specs.rules.Saving.{saved_of}
+use Rattle.worker_rules.specs.Lives.{Slice, Reply, Spent, Over, Fails, Cause, OfMemory, OfBounds}
+use Rattle.worker_rules.specs.Courses.{Stage, Open, MayFail}
+use Rattle.worker_rules.specs.Promises.{Promise, IsEnding, synced_by}
+use Rattle.worker_rules.specs.Holds.{StaysWithin}
+use Rattle.worker_store.specs.laws.Underway.{IsUnderWay}
+use Rattle.worker_store.specs.laws.CallEnds.{IsSliceOver, HasBound}
+use Rattle.worker_store.proofs.LawLemmas.AtHand.{shown_is_saved}
+use Rattle.worker_store.proofs.LawLemmas.CallEnds.{spent_slices_end, ended_slices_end}
+use Rattle.worker_store.proofs.LawLemmas.Underway.{steps_go_on}
+use Rattle.worker.specs.declared.fault.DurableFault.TheVariants.{Work}
+use Rattle.worker.specs.declared.running.Running.{Running}
+use Rattle.ephemeral_worker.specs.rules.Refusals.{work_fault}
+use Rattle.worker.specs.DurableTurns.{Course, IsBetweenTurns, IsOwingTurn}
+use Rattle.worker.specs.DurableTurns.{IsAskingOn}
+use Rattle.worker.specs.DurableTurns.{TurnEnds, TurnFails}
+use Rattle.worker.proofs.DurableLemmas.OnDisk.{keeps_now, fewer_syncs, lowered_to}
+use Rattle.worker.proofs.DurableLemmas.OnDisk.{stepped_to}
+use Rattle.worker.proofs.DurableLemmas.OnDisk.{quiet_syncs}
+use Rattle.worker.proofs.DurableLemmas.Bounds.{on_disk_still}
+use Rattle.worker.proofs.DurableLemmas.Ends.{done_nothing, ends_on, failed_end, broken_open}
+use Rattle.worker.proofs.DurableLemmas.Ends.{open_again, stays_on, not_open}
+
+-- the same worker with its process further on
+abbrev pub with_process : Running → ProcessValue → Running
+with_process w v = record w { process = v }
+
+-- ---- the end of a slice
+
+module _ {D : Type 0} (medium : D → Medium) (c : Course) (promise : Promise) (stage : Stage)
+    (p : ProcessState) (w : Running) (disk : D)
+    (running : IsBetweenTurns c promise stage p w (medium disk)) where
+  told_steps : w.process.steps ≡ p.steps
+  told_steps = let shows = running.shows in shows.steps
+
+  -- the disk is left alone
+  bounds_still : StaysWithin (promise.events + 1) (medium disk) (medium disk)
+  bounds_still =
+      on_disk_still medium c.code c.config c.guest promise p p.steps promise.events w.store disk
+      running.on_disk (promise.events + 1) (omega arith)
+
+  -- by an error of its process
+  pub process_fails : (cause : Cause) → MayFail Open cause
+      → HasBound c.code c.config c.guest promise p cause
+      → TurnEnds c promise stage (Fails cause) [] w (medium disk) (medium disk)
+  process_fails cause may bound =
+      let is = running.on_disk in
+      let told = told_steps in
+      ends_on medium c promise promise stage stage [] w disk disk (Fails cause)
+      (length promise.kept) (done_nothing c promise stage)
+      (failed_end c promise stage p w Open (length promise.kept) cause
+      (broken_open c promise stage p p.steps promise.events w (medium disk) running) running.shows
+      running.module_is may bound)
+      (stays_on medium c promise disk running.opened
+      (keeps_now medium c.code c.config c.guest promise p p.steps promise.events w.store disk is))
+      bounds_still is.point w.store.journal is.records is.pending is.last is.now is.carried
+      (fewer_syncs c.code c.config promise _ p.steps (w.process.steps - 1) (omega (arith, told))
+      is.syncs)
+      (λ e. absurd (not_open cause e))
+
+  module _ (none_waits : waiting_in w.process ≡ []) where
+    way_told : IsUnderWay c.code c.config c.guest promise stage c.fuel (length p.host.lines) p
+    way_told = subst (λ n. IsUnderWay c.code c.config c.guest promise stage c.fuel n p)
+        (released_whole w.process c.guest p running.shows none_waits) running.way
+
+    over : IsSliceOver c.code c.config c.guest promise stage c.fuel p (saved_of w.process)
+    over = record {
+      way = way_told;
+      saved = shown_is_saved c.code c.config c.guest w.process p running.shows running.module_is;
+    }
+
+    -- in order
+    slice_over : (reply : Reply) → synced_by reply w.process.steps ≡ w.process.steps
+        → IsEnding c.code c.config promise stage (record {
+          act = Slice c.fuel;
+          reply = reply;
+          held = length promise.kept;
+          shown = saved_of w.process;
+        })
+        → TurnEnds c promise stage reply [] w (medium disk) (medium disk)
+    slice_over reply all_synced ending =
+        let is = running.on_disk in
+        let told = told_steps in
+        let below : synced_by reply w.process.steps ≤ p.steps = omega (arith, told, all_synced) in
+        let way = way_told in
+        ends_on medium c promise promise stage stage [] w disk disk reply
+        (length promise.kept) (done_nothing c promise stage) ending
+        (stays_on medium c promise disk running.opened
+        (keeps_now medium c.code c.config c.guest promise p p.steps promise.events w.store disk is))
+        bounds_still is.point w.store.journal is.records is.pending is.last is.now is.carried
+        (fewer_syncs c.code c.config promise _ p.steps (synced_by reply w.process.steps) below
+        is.syncs)
+        (λ is_over replayed. (
+          p,
+          open_again medium c promise stage p promise.events w disk reply (length promise.kept)
+              replayed running.opened running.texts running.shows running.module_is none_waits
+              way.in_slice way.line way.heard way.passed running.synced (omega arith) is below
+              is_over,
+        ))
+
+    pub spent_ends : p.steps ≡ c.first + c.fuel → p.ended ≡ None
+        → TurnEnds c promise stage Spent [] w (medium disk) (medium disk)
+    spent_ends all unended =
+        slice_over Spent refl (spent_slices_end c.code c.config c.guest promise stage c.fuel p
+        (saved_of w.process) over (all ∙ ap (λ n. n + c.fuel) (sym running.began)) unended)
+
+    pub over_ends : (why : Ending) → p.ended ≡ Some why
+        → TurnEnds c promise stage (Over why) [] w (medium disk) (medium disk)
+    over_ends why ended =
+        slice_over (Over why) refl (ended_slices_end c.code c.config c.guest promise stage c.fuel p
+        (saved_of w.process) why over ended)
+
+-- ---- steps
+
+module _ {D : Type 0} (medium : D → Medium) (c : Course) (promise : Promise) (stage : Stage)
+    (p : ProcessState) (w : Running) (v : ProcessValue) (disk : D)
+    (running : IsBetweenTurns c promise stage p w (medium disk))
+    (left : ℕ) (left_is : left ≡ c.fuel - (w.process.steps - c.first))
+    (same : v.host.released ≡ w.process.host.released)
+    (same_guest : v.machine.guest ≡ w.process.machine.guest) where
+  -- what was taken of the fuel, and what is left of it
+  in_time : (n : ℕ) → n ≤ left → p.steps + n ≤ stage.step + c.fuel
+  in_time n few =
+      let shows = running.shows in
+      let told : w.process.steps ≡ p.steps = shows.steps in
+      let way = running.way in
+      let slice = way.in_slice in
+      let begun : stage.step ≤ p.steps = slice.begun in
+      let within : p.steps ≤ stage.step + c.fuel = slice.in_time in
+      let began = running.began in
+      omega (arith, few, left_is, told, begun, within, began)
+
+  way_on : (q : ProcessState) (n : ℕ) → Runs c.guest p [] n q → n ≤ left
+      → IsUnderWay c.code c.config c.guest promise stage c.fuel v.host.released q
+  way_on q n runs few =
+      subst (λ k. IsUnderWay c.code c.config c.guest promise stage c.fuel k q) (sym same)
+      (steps_go_on c.code c.config c.guest promise stage c.fuel w.process.host.released n p q
+      running.way runs (in_time n few))
+
+  -- steps after which nothing is owed
+  pub quiet_on : (come : ComesQuietly v c.guest p) → come.steps ≤ left
+      → IsBetweenTurns c promise stage come.process (with_process w v) (medium disk)
+  quiet_on come few =
+      let is = running.on_disk in
+      let runs = quiet_runs v c.guest p come in
+      let count : come.process.steps ≡ p.steps + come.steps =
+      runs_count c.guest p come.process [] come.steps runs in
+      let synced : promise.synced ≤ p.steps = running.synced in
+      record {
+        opened = running.opened;
+        texts = running.texts;
+        shows = come.shows;
+        module_is = same_guest ∙ running.module_is;
+        way = way_on come.process come.steps runs few;
+        began = running.began;
+        on_disk = stepped_to medium c.code c.config c.guest promise p p.steps promise.events w.store
+            disk is come.process come.steps come.process.steps runs
+            (quiet_syncs medium c.code c.config c.guest promise p p.steps promise.events w.store
+            disk is come.process come.steps (omega arith) come.runs);
+        synced = omega (arith, synced, count);
+      }
+
+  -- and one more, after which something is owed
+  pub owing_on : (come : ComesOwing v c.guest p) → come.steps < left
+      → IsOwingTurn c promise stage come.process (with_process w v) (medium disk)
+  owing_on come few =
+      let is = running.on_disk in
+      let runs = owing_runs v c.guest p come in
+      let quiet = quiet_runs_are_runs c.guest p come.before come.steps come.runs in
+      let first : come.before.steps ≡ p.steps + come.steps =
+      runs_count c.guest p come.before [] come.steps quiet.0 in
+      let one : come.process.steps ≡ come.before.steps + 1 =
+      move_counts c.guest come.before come.process None come.moves in
+      let before : come.before.steps ≡ come.process.steps - 1 = omega (arith, one) in
+      let synced : promise.synced ≤ p.steps = running.synced in
+      record {
+        opened = running.opened;
+        texts = running.texts;
+        shows = come.shows;
+        module_is = same_guest ∙ running.module_is;
+        way = way_on come.process (come.steps + 1) runs (omega (arith, few));
+        began = running.began;
+        on_disk = stepped_to medium c.code c.config c.guest promise p p.steps promise.events w.store
+            disk is come.process (come.steps + 1) (come.process.steps - 1) runs
+            (fewer_syncs c.code c.config promise _ come.before.steps (come.process.steps - 1)
+            (omega (arith, before))
+            (quiet_syncs medium c.code c.config c.guest promise p p.steps promise.events w.store
+            disk is come.before come.steps (omega arith) come.runs));
+        synced = omega (arith, synced, first, one);
+      }
+
+  -- ---- what it stops for
+
+  -- something is owed
+  pub record OwesThere : Type 0 where
+    pub process : ProcessState
+    pub owing : IsOwingTurn c promise stage process (with_process w v) (medium disk)
+
+  pub advance_owes : AdvancesProcess w.process left (Ok stops.Owes) v → OwesThere
+  advance_owes advances = ⊎_elim
+      (λ (waits : (waiting_in w.process ≢ []) × (v ≡ w.process)).
+      let is = running.on_disk in
+      record {
+        process = p;
+        owing = record {
+          opened = running.opened;
+          texts = running.texts;
+          shows = subst (λ z. ShowsProcess z c.guest p) (sym waits.1) running.shows;
+          module_is = same_guest ∙ running.module_is;
+          way = subst (λ n. IsUnderWay c.code c.config c.guest promise stage c.fuel n p) (sym same)
+              running.way;
+          began = running.began;
+          on_disk = lowered_to medium c.code c.config c.guest promise p p.steps promise.events
+              w.store disk is (p.steps - 1) promise.events (omega arith) (omega arith);
+          synced = running.synced;
+        };
+      })
+      (λ (k : (waiting_in w.process ≡ []) × (come : ComesOwing v c.guest p)
+      × (come.steps < left)). record { process = k.1.process; owing = owing_on k.1 k.2 })
+      (advances c.guest p running.shows)
+
+  -- an answer is wanted
+  pub record AsksThere (kind : Kind) : Type 0 where
+    pub process : ProcessState
+    pub asking : IsAskingOn c promise stage process kind promise.events (with_process w v)
+        (medium disk)
+
+  pub advance_asks : (kind : Kind) → AdvancesProcess w.process left (Ok (stops.Asks kind)) v
+      → AsksThere kind
+  advance_asks kind advances =
+      let k = advances c.guest p running.shows in
+      let come = k.1 in
+      let less : come.steps < left = k.2 in
+      let few : come.steps ≤ left = omega (arith, less) in
+      let runs = quiet_runs v c.guest p come in
+      let count : come.process.steps ≡ p.steps + come.steps =
+      runs_count c.guest p come.process [] come.steps runs in
+      let within : p.steps + (come.steps + 1) ≤ stage.step + c.fuel =
+      in_time (come.steps + 1) (omega (arith, less)) in
+      record {
+        process = come.process;
+        asking = record {
+          running = quiet_on come few;
+          none_waits = come.none_waits;
+          unended = k.3;
+          wants = k.4;
+          room = omega (arith, count, within);
+        };
+      }
+
+  -- its fuel is spent
+  pub advance_spent : AdvancesProcess w.process left (Ok stops.Spent) v
+      → TurnEnds c promise stage Spent [] (with_process w v) (medium disk) (medium disk)
+  advance_spent advances =
+      let k = advances c.guest p running.shows in
+      let come = k.1 in
+      let all : come.steps ≡ left = k.2 in
+      let few : come.steps ≤ left = omega (arith, all) in
+      let runs = quiet_runs v c.guest p come in
+      let count : come.process.steps ≡ p.steps + come.steps =
+      runs_count c.guest p come.process [] come.steps runs in
+      let shows = running.shows in
+      let told : w.process.steps ≡ p.steps = shows.steps in
+      let way = running.way in
+      let slice = way.in_slice in
+      let begun : stage.step ≤ p.steps = slice.begun in
+      let within : p.steps ≤ stage.step + c.fuel = slice.in_time in
+      let began = running.began in
+      spent_ends medium c promise stage come.process (with_process w v) disk (quiet_on come few)
+      come.none_waits (omega (arith, all, count, left_is, told, begun, within, began)) k.3
+
+  -- it has ended
+  pub advance_over : (how : ProcessEnd) → AdvancesProcess w.process left (Ok (stops.Ended how)) v
+      → TurnEnds c promise stage (Over (ending_of how)) [] (with_process w v) (medium disk)
+      (medium disk)
+  advance_over how advances =
+      let k = advances c.guest p running.shows in
+      let come = k.1 in
+      over_ends medium c promise stage come.process (with_process w v) disk (quiet_on come k.2)
+      come.none_waits (ending_of how) k.3
+
+  -- it can't go on
+  pub advance_fails : (why : ProcessFault) → AdvancesProcess w.process left (Err why) v
+      → TurnFails c promise stage (Work (work_fault why)) [] (with_process w v) (medium disk)
+      (medium disk)
+  advance_fails stop.WrongAnswer advances = absurd (advances c.guest p running.shows)
+  advance_fails stop.Memory advances =
+      let k = advances c.guest p running.shows in
+      let come = k.1 in
+      let less : come.steps < left = k.2 in
+      let few : come.steps ≤ left = omega (arith, less) in (
+        OfMemory,
+        refl,
+        record { process = come.process; shows = come.shows; needs = inl k.4 },
+        process_fails medium c promise stage come.process (with_process w v) disk
+            (quiet_on come few) OfMemory tt tt,
+      )
+  advance_fails stop.StepsSpent advances =
+      let k = advances c.guest p running.shows in
+      let come = k.1 in
+      let less : come.steps < left = k.2 in
+      let few : come.steps ≤ left = omega (arith, less) in (
+        OfBounds,
+        refl,
+        tt,
+        process_fails medium c promise stage come.process (with_process w v) disk
+            (quiet_on come few) OfBounds tt (inl (None, k.4)),
+      )

@@ -1,0 +1,229 @@
+-- Room is made, and the source is asked.
+use Rattle.std.proofs.Common.{◌≡◌, ◌⊎◌, ℕ, ◌+◌, ◌≤◌, List, [], refl, sym, ap, ◌∙◌, subst, inl}
+use Rattle.std.proofs.Common.{⊎_elim, arith, Bool, true, false, Some, None, Ok, Err}
+use Rattle.std.specs.Prelude.{Result}
+use Rattle.wasi_abi.specs.declared.answer.Kind.{Kind}
+use Rattle.wasi_abi.specs.declared.answer.Answer.{Answer}
+use Rattle.sector_disk.specs.rules.Medium.{Medium}
+use Rattle.record_replay.specs.declared.fault.SourceFault.{SourceFault}
+use Rattle.record_replay.specs.rules.Calls.{Giving, Exchange}
+use Rattle.worker_rules.specs.Lives.{Reply, Fails, Waits, SourceSaid, OfSource}
+use Rattle.worker_rules.specs.Courses.{Stage}
+use Rattle.worker_rules.specs.Promises.{Promise}
+use Rattle.worker_rules.specs.Holds.{StaysWithin}
+use Rattle.worker_store.specs.laws.Turns.{GoesOnFrom, LeavesBegun}
+use Rattle.worker_store.proofs.LawLemmas.TurnLemmas.{turns_join, parts_leave_begun}
+use Rattle.ephemeral_worker.specs.declared.fault.WorkFault.{WorkFault}
+use Rattle.ephemeral_worker.specs.declared.fault.WorkFault.TheVariants as work
+use Rattle.worker.specs.declared.fault.DurableFault.{DurableFault}
+use Rattle.worker.specs.declared.fault.DurableFault.TheVariants.{Work}
+use Rattle.worker.specs.declared.running.Running.{Running}
+use Rattle.ephemeral_worker.specs.Turns.{AsksOnce, AnswersBy}
+use Rattle.worker.specs.DurableTurns.{Course, TurnGoes, TurnEnds, TurnFails}
+use Rattle.worker.specs.DurableTurns.{slice_end}
+use Rattle.worker.specs.DurableTurns.{MakesRoom, MakesNoRoom, asks_once, TakesOnRecord}
+use Rattle.worker.specs.DurableTurns.{TakesNone}
+use Rattle.worker.specs.DurableTurns.{LacksRecord, IsNotTaken, IsMisfit, HearsBy, Hears}
+use Rattle.worker.specs.DurableTurns.{AsksTurn}
+use Rattle.worker.proofs.DurableLemmas.Bounds.{bounds_join, question_counts}
+use Rattle.worker.proofs.DurableLemmas.Ends.{cause_before}
+use Rattle.worker.proofs.DurableLemmas.Hearing.{waits_once, source_fails, misfits}
+use Rattle.worker.proofs.DurableLemmas.Hearing.{lacks_record}
+use Rattle.worker.proofs.DurableLemmas.Hearing.{not_taken, taken}
+
+-- ---- behind a part without exchanges
+
+module _ {D : Type 0} (medium : D → Medium) (c : Course) (promise : Promise) (stage : Stage)
+    (exchanges : List Exchange) (w : Running) (disk mid disk' : D)
+    (goes : GoesOnFrom c.code c.config promise promise (medium disk) (medium mid))
+    (bounded : StaysWithin (promise.events + 1) (medium disk) (medium mid)) where
+  goes_behind : (turn : TurnGoes c promise stage exchanges w (medium mid) (medium disk'))
+      → promise.events + 1 ≤ turn.promise'.events
+      → TurnGoes c promise stage exchanges w (medium disk) (medium disk')
+  goes_behind turn counts = record {
+    promise' = turn.promise';
+    stage' = turn.stage';
+    process = turn.process;
+    done = turn.done;
+    onward = turns_join medium c.code c.config promise promise turn.promise' disk mid disk' goes
+        turn.onward;
+    bounded = bounds_join (promise.events + 1) turn.promise'.events (medium disk) (medium mid)
+        (medium disk') counts bounded turn.bounded;
+    running = turn.running;
+  }
+
+  ends_behind : (reply : Reply)
+      → TurnEnds c promise stage reply exchanges w (medium mid) (medium disk')
+      → TurnEnds c promise stage reply exchanges w (medium disk) (medium disk')
+  ends_behind reply turn = record {
+    between = turn.between;
+    inside = turn.inside;
+    held = turn.held;
+    done = turn.done;
+    ending = turn.ending;
+    onward = turns_join medium c.code c.config promise promise
+        (slice_end turn.between c.fuel reply turn.held w) disk mid disk' goes turn.onward;
+    bounded = bounds_join (promise.events + 1) (turn.between.events + 1) (medium disk)
+        (medium mid) (medium disk') (one_on begun.events) bounded turn.bounded;
+    keeps = turn.keeps;
+    goes_on = turn.goes_on;
+  }
+    where
+      begun : LeavesBegun promise turn.between stage turn.inside
+      begun = parts_leave_begun c.code c.config promise turn.between stage turn.inside exchanges
+          turn.done
+
+      one_on : promise.events ≤ turn.between.events → promise.events + 1 ≤ turn.between.events + 1
+      one_on le = omega (arith, le)
+
+  fails_behind : (why : DurableFault)
+      → TurnFails c promise stage why exchanges w (medium mid) (medium disk')
+      → TurnFails c promise stage why exchanges w (medium disk) (medium disk')
+  fails_behind why turn =
+      let leaves = goes.leaves in
+      let passes = leaves.passes in (
+        turn.0,
+        turn.1,
+        cause_before why c.guest c.config w.process (medium disk) (medium mid) (medium disk')
+            passes.room passes.faults turn.2,
+        ends_behind (Fails turn.0) turn.3,
+      )
+
+-- ---- the source is asked
+
+module _ {D S : Type 0} (medium : D → Medium) (gives : Giving S) (old mid new : Running)
+    (kind : Kind) (step : ℕ) (disk disk' : D) (source source' : S)
+    (makes : MakesRoom old mid (medium disk) (medium disk')) (same : mid.process ≡ old.process)
+    (step_is : step ≡ old.process.steps + 1) where
+  fails_so : (e : SourceFault) → gives source kind (Err e) source' → new ≡ mid
+      → AsksTurn gives old kind (Err (Work work.Source)) new (medium disk) (medium disk') source
+      source'
+  fails_so e asked still = (
+    asks_once kind (Err e),
+    (refl, asked),
+    λ c promise stage p asking foretold.
+        let made = makes c promise stage p kind asking in
+        fails_behind medium c promise stage (asks_once kind (Err e)) new disk disk' disk' made.2
+        made.3 (Work work.Source) (
+          OfSource,
+          inl refl,
+          tt,
+          subst (λ w. TurnEnds c promise stage (Fails OfSource) (asks_once kind (Err e)) w
+              (medium disk') (medium disk')) (sym still)
+              (source_fails medium c promise stage p kind mid disk' made.0 e foretold),
+        ),
+  )
+
+  waits_so : gives source kind (Ok None) source' → new ≡ mid
+      → AsksTurn gives old kind (Ok false) new (medium disk) (medium disk') source source'
+  waits_so asked still = (
+    asks_once kind (Ok None),
+    (refl, asked),
+    λ c promise stage p asking foretold.
+        let made = makes c promise stage p kind asking in
+        ends_behind medium c promise stage (asks_once kind (Ok None)) new disk disk' disk' made.2
+        made.3 Waits
+        (subst (λ w. TurnEnds c promise stage Waits (asks_once kind (Ok None)) w (medium disk')
+        (medium disk')) (sym still)
+        (waits_once medium c promise stage p kind mid disk' made.0 foretold)),
+    refl,
+  )
+
+  takes_so : (a : Answer) → gives source kind (Ok (Some a)) source'
+      → TakesOnRecord mid kind (record { step = step; answer = a }) new
+      → AsksTurn gives old kind (Ok true) new (medium disk) (medium disk') source source'
+  takes_so a asked takes = (
+    asks_once kind (Ok (Some a)),
+    (refl, asked),
+    λ c promise stage p asking foretold.
+        let made = makes c promise stage p kind asking in
+        let running = asking.running in
+        let shows = running.shows in
+        let steps : old.process.steps ≡ p.steps = shows.steps in
+        let turn = taken medium c promise stage p kind mid disk' made.0 a foretold step new
+        (step_is ∙ ap (λ n. n + 1) steps) takes in
+        goes_behind medium c promise stage (asks_once kind (Ok (Some a))) new disk disk' disk'
+        made.2 made.3 turn
+        (question_counts c.code c.config promise turn.promise' stage turn.stage'
+        (record { kind = kind; said = Ok (Some a) }) turn.done),
+    refl,
+  )
+
+  takes_none : (a : Answer) (why : DurableFault) → gives source kind (Ok (Some a)) source'
+      → TakesNone mid kind (record { step = step; answer = a }) why new
+      → AsksTurn gives old kind (Err why) new (medium disk) (medium disk') source source'
+  takes_none a why asked none = (
+    asks_once kind (Ok (Some a)),
+    (refl, asked),
+    λ c promise stage p asking foretold.
+        let made = makes c promise stage p kind asking in
+        fails_behind medium c promise stage (asks_once kind (Ok (Some a))) new disk disk' disk'
+        made.2 made.3 why (⊎_elim
+        (λ (h : IsMisfit mid kind (record { step = step; answer = a }) why new).
+        misfits medium c promise stage p kind mid disk' made.0 a foretold step why new h)
+        (λ (rest : LacksRecord mid kind (record { step = step; answer = a }) why new
+        ⊎ IsNotTaken mid kind (record { step = step; answer = a }) why new).
+        ⊎_elim
+        (λ (h : LacksRecord mid kind (record { step = step; answer = a }) why new).
+        lacks_record medium c promise stage p kind mid disk' made.0 a foretold step why new made.1
+        h)
+        (λ (h : IsNotTaken mid kind (record { step = step; answer = a }) why new).
+        not_taken medium c promise stage p kind mid disk' made.0 a foretold step why new h)
+        rest) none),
+  )
+
+  hears_so : (said : SourceSaid) (result : Result Bool DurableFault)
+      → gives source kind said source' → HearsBy mid kind step said result new
+      → AsksTurn gives old kind result new (medium disk) (medium disk') source source'
+  hears_so (Err e) result asked h =
+      subst (λ r. AsksTurn gives old kind r new (medium disk) (medium disk') source source')
+      (sym h.0) (fails_so e asked h.1)
+  hears_so (Ok None) result asked h =
+      subst (λ r. AsksTurn gives old kind r new (medium disk) (medium disk') source source')
+      (sym h.0) (waits_so asked h.1)
+  hears_so (Ok (Some a)) (Ok is_there) asked h =
+      subst (λ b. AsksTurn gives old kind (Ok b) new (medium disk) (medium disk') source source')
+      (sym h.0) (takes_so a asked h.1)
+  hears_so (Ok (Some a)) (Err why) asked h = takes_none a why asked h
+
+  pub asks_turn : (result : Result Bool DurableFault)
+      → Hears gives mid kind step result new source source'
+      → AsksTurn gives old kind result new (medium disk) (medium disk') source source'
+  asks_turn result h = hears_so h.said result h.asked h.hears
+
+-- no room was made
+pub asks_nothing : {D S : Type 0} (medium : D → Medium) (gives : Giving S) (old new : Running)
+    (kind : Kind) (why : DurableFault) (disk disk' : D) (source : S)
+    → MakesNoRoom old why new (medium disk) (medium disk')
+    → AsksTurn gives old kind (Err why) new (medium disk) (medium disk') source source
+asks_nothing medium gives old new kind why disk disk' source none = (
+  [],
+  refl,
+  λ c promise stage p asking foretold. none c promise stage p kind asking,
+)
+
+-- ---- as it is without a disk
+
+false_there : (b : Bool) → ◌≡◌ {A = Result Bool DurableFault} (Ok b) (Ok false)
+    → ◌≡◌ {A = Result Bool WorkFault} (Ok b) (Ok false)
+false_there b e = let is : b ≡ false = cc in ap (λ z. Ok z) is
+
+once_by : {S : Type 0} (gives : Giving S) (old new : Running) (kind : Kind) (step : ℕ)
+    (is_there : Bool) (said : SourceSaid) → HearsBy old kind step said (Ok is_there) new
+    → AnswersBy old.process said (Ok is_there) new.process
+once_by gives old new kind step is_there (Err e) h = absurd (let same = h.0 in cc)
+once_by gives old new kind step is_there (Ok None) h =
+    (false_there is_there h.0, ap (λ (w : Running). w.process) h.1)
+once_by gives old new kind step is_there (Ok (Some a)) h =
+    let takes = h.1 in (Ok tt, takes.given, ap (λ b. Ok b) h.0)
+
+pub asks_once_of : {S : Type 0} (gives : Giving S) (old mid new : Running) (kind : Kind) (step : ℕ)
+    (is_there : Bool) (source source' : S) → mid.process ≡ old.process
+    → Hears gives mid kind step (Ok is_there) new source source'
+    → AsksOnce gives kind old.process (Ok is_there) new.process source source'
+asks_once_of gives old mid new kind step is_there source source' same h =
+    subst (λ v. AsksOnce gives kind v (Ok is_there) new.process source source') same (record {
+      said = h.said;
+      asked = h.asked;
+      answers = once_by gives mid new kind step is_there h.said h.hears;
+    })

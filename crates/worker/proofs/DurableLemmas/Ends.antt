@@ -1,0 +1,279 @@
+-- How a slice of a worker on its disk ends.
+use Rattle.std.proofs.Common.{◌≡◌, ℕ, ◌+◌, ◌-◌, ◌≤◌, List, [], length, refl}
+use Rattle.std.proofs.Common.{ap, subst, arith, true, false, Some, inl, inr, ◌*◌}
+use Rattle.std.proofs.lemmas.List.{take_all}
+use Rattle.wasi_calls_rules.specs.laws.Laws.{IsOfBytes}
+use Rattle.process_rules.specs.Processes.{ProcessState, Guest, host_of}
+use Rattle.process_rules.specs.Runs.{Runs}
+use Rattle.wasi_abi.specs.rules.Configs.{Settings}
+use Rattle.process.specs.rules.Values.{ProcessValue, ShowsProcess, waiting_in}
+use Rattle.sector_disk.specs.declared.fault.DiskFault.{DiskFault}
+use Rattle.sector_disk.specs.rules.Medium.{Medium}
+use Rattle.disk_layout.specs.declared.geometry.Geometry.{Geometry}
+use Rattle.disk_layout.specs.declared.journal_sectors.TheConstants.{PAYLOAD_SIZE}
+use Rattle.disk_layout.specs.rules.Journal.{Record}
+use Rattle.journal.specs.rules.Packed.{sectors_for}
+use Rattle.journal.specs.rules.State.{JournalState}
+use Rattle.state_image.specs.rules.Saving.{saved_of}
+use Rattle.record_replay.specs.rules.Calls.{Exchange}
+use Rattle.worker_rules.specs.Lives.{Slice, Reply, Cause, Fails, Ended}
+use Rattle.worker_rules.specs.Courses.{Stage, Phase, Open, MayFail, phase_ended, next_stage}
+use Rattle.worker_rules.specs.Promises.{Promise, synced_by, IsEnding}
+use Rattle.worker_rules.specs.Holds.{KeepsPromise, CarriesPromise, StaysWithin}
+use Rattle.worker_rules.specs.Exchanges.{none}
+use Rattle.worker_store.specs.laws.Savepoints.{Savepoint, places}
+use Rattle.worker_store.specs.laws.Underway.{IsInItsSlice, IsBroken}
+use Rattle.worker_store.specs.laws.CallEnds.{HasBound}
+use Rattle.worker_store.specs.laws.Pieces.{AreDone}
+use Rattle.worker_store.specs.laws.Carried.{count_at, IsCarried}
+use Rattle.worker_store.specs.laws.Raised.{SyncsAreHeld}
+use Rattle.worker_store.specs.laws.Turns.{GoesOnFrom}
+use Rattle.worker_store.proofs.LawLemmas.AtHand.{shown_is_saved}
+use Rattle.worker_store.proofs.LawLemmas.CallEnds.{failed_slices_end, calls_leave_between}
+use Rattle.worker_store.proofs.LawLemmas.Carrying.{carried_keeps}
+use Rattle.worker_store.proofs.LawLemmas.Raising.{ended_carries}
+use Rattle.worker_store.proofs.LawLemmas.Saving.{ends_promise_no_less}
+use Rattle.worker_store.proofs.LawLemmas.TurnLemmas.{ended_still_holds, rests_go_on, turns_join}
+use Rattle.worker_store.proofs.LawLemmas.TurnLemmas.{same_no_more}
+use Rattle.worker_store.proofs.LawLemmas.Underway.{among_first}
+use Rattle.worker_store.specs.declared.fault.StoreFault.TheVariants as store
+use Rattle.worker_store.specs.declared.store.WorkerStore.{WorkerStore}
+use Rattle.ephemeral_worker.specs.declared.fault.WorkFault.TheVariants as work
+use Rattle.worker.specs.declared.fault.DurableFault.{DurableFault}
+use Rattle.worker.specs.declared.fault.DurableFault.TheVariants.{Work, Disk, Store}
+use Rattle.worker.specs.declared.running.Running.{Running}
+use Rattle.worker.specs.rules.DurableCalls.{HasCauseAt}
+use Rattle.worker.specs.rules.Savings.{IsSaveFault}
+use Rattle.worker.specs.rules.DurableValues.{durable_of}
+use Rattle.worker.specs.rules.OpenWorkers.{IsOnDisk, IsOpenOn}
+use Rattle.worker.specs.DurableTurns.{Course, IsRunningOn, TurnEnds, slice_end}
+use Rattle.worker.proofs.DurableLemmas.OnDisk.{ended_on, lowered_to}
+
+-- before the first exchange
+pub done_nothing : (c : Course) (promise : Promise) (stage : Stage)
+    → AreDone c.code c.config promise stage [] promise stage
+done_nothing c promise stage = record {
+  events = [];
+  are = none;
+  kept = tt;
+  promised_is = refl;
+  stage_is = refl;
+}
+
+-- so many bytes take no more sectors
+sectors_within : (kept n : ℕ) → kept ≤ PAYLOAD_SIZE * n → sectors_for kept ≤ n
+sectors_within kept n fits = omega (arith, fits)
+
+-- an error closes the worker
+pub not_open : (cause : Cause) → phase_ended (Fails cause) ≡ Open → ⊥
+not_open cause e = absurd (cc)
+
+-- ---- why a disk fails
+
+-- a cause at a later moment is one at an earlier moment
+pub cause_before : (why : DurableFault) (guest : Guest) (config : Settings) (v : ProcessValue)
+    (old mid new : Medium) → mid.room ≡ old.room → old.faults ≤ mid.faults
+    → HasCauseAt why guest config v mid new → HasCauseAt why guest config v old new
+cause_before (Disk fault) guest config v old mid new room faults (inl (inl few)) =
+    inl (inl (omega (arith, room, few)))
+cause_before (Disk fault) guest config v old mid new room faults (inl (inr few)) =
+    inl (inr (omega (arith, room, few)))
+cause_before (Disk fault) guest config v old mid new room faults (inr failed) =
+    inr (omega (arith, faults, failed))
+cause_before (Store fault) guest config v old mid new room faults cause = tt
+cause_before (Work work.Memory) guest config v old mid new room faults cause = cause
+cause_before (Work other) guest config v old mid new room faults cause = tt
+
+-- what a save says of the disk
+pub disk_cause : (c : Course) (promise : Promise) (p : ProcessState) (step latest : ℕ)
+    (before : WorkerStore) (process v : ProcessValue) (old new : Medium) (fault : DiskFault)
+    → IsOnDisk c.code c.config c.guest promise p step latest before old
+    → IsSaveFault before process old new (store.Disk fault)
+    → HasCauseAt (Disk fault) c.guest c.config v old new
+disk_cause c promise p step latest before process v old new fault is (inl few) =
+    let stores = is.stores in
+    let many = ap (λ (g : Geometry). g.journal_sectors) stores.geometry in
+    let fits = stores.fits in
+    let kept : sectors_for (length before.journal.kept)
+    ≤ (places is.point).journal_sectors - before.journal.used =
+    sectors_within (length before.journal.kept)
+    ((places is.point).journal_sectors - before.journal.used) fits in
+    inl (inl (omega (arith, few, kept)))
+disk_cause c promise p step latest before process v old new fault is (inr (inl few)) =
+    let stores = is.stores in
+    let area = ap (λ (g : Geometry). g.area_sectors) stores.geometry in
+    inl (inr (omega (arith, few, area)))
+disk_cause c promise p step latest before process v old new fault is (inr (inr (inl nothing))) =
+    inl (inr (omega (arith, nothing)))
+disk_cause c promise p step latest before process v old new fault is (inr (inr (inr failed))) =
+    inr failed
+
+module _ {D : Type 0} (medium : D → Medium) (c : Course) where
+  -- nothing has happened to the disk yet
+  pub stays_on : (promise : Promise) (disk : D) → promise.has_opened ≡ true
+      → KeepsPromise c.code c.config promise (medium disk)
+      → GoesOnFrom c.code c.config promise promise (medium disk) (medium disk)
+  stays_on promise disk opened keeps =
+      rests_go_on medium c.code c.config promise promise disk opened opened (same_no_more promise)
+      (λ first image no_more held. held) keeps
+
+  -- what a call of the disk carries goes on
+  pub carried_on : (promise : Promise) (old new : D) → promise.has_opened ≡ true
+      → CarriesPromise c.code c.config promise promise (medium old) (medium new)
+      → GoesOnFrom c.code c.config promise promise (medium old) (medium new)
+  carried_on promise old new opened carries = record {
+    opened = opened;
+    opened_now = opened;
+    no_more = same_no_more promise;
+    still = λ first image no_more held. held;
+    leaves = carries.at_any_moment;
+  }
+
+  module _ (promise between : Promise) (stage inside : Stage) (exchanges : List Exchange)
+      (w : Running) (disk disk' : D) (reply : Reply) (held : ℕ)
+      (done : AreDone c.code c.config promise stage exchanges between inside)
+      (ending : IsEnding c.code c.config between inside (record {
+        act = Slice c.fuel;
+        reply = reply;
+        held = held;
+        shown = saved_of w.process;
+      })) where
+    -- The end comes behind a part that has gone on, where the disk holds the syncs that it tells.
+    pub ends_on : GoesOnFrom c.code c.config promise between (medium disk) (medium disk')
+        → StaysWithin (between.events + 1) (medium disk) (medium disk')
+        → (point : Savepoint c.code c.config) (journal : JournalState)
+        (records pending : List Record) (last now : ProcessState)
+        → IsCarried between point journal records pending last now (medium disk')
+        → SyncsAreHeld c.code c.config between.kept (count_at point records)
+        (synced_by reply w.process.steps)
+        → (phase_ended reply ≡ Open → (replayed : ℕ) → (q : ProcessState)
+        × IsOpenOn c.code c.config c.guest (slice_end between c.fuel reply held w)
+        (next_stage inside (Ended (Slice c.fuel) reply held (saved_of w.process))) q
+        (durable_of w replayed false) (medium disk'))
+        → TurnEnds c promise stage reply exchanges w (medium disk) (medium disk')
+    ends_on goes bounded point journal records pending last now carried syncs goes_on =
+        let later = ended_carries medium c.code c.config between point journal records pending last
+        now (Slice c.fuel) reply held (saved_of w.process) disk' carried (λ count. refl) syncs in
+        let keeps = carried_keeps medium c.code c.config (slice_end between c.fuel reply held w)
+        point journal records pending last now disk' later in
+        let rest = rests_go_on medium c.code c.config between
+        (slice_end between c.fuel reply held w) disk' goes.opened_now goes.opened_now
+        (ends_promise_no_less between (Slice c.fuel) reply held (saved_of w.process))
+        (ended_still_holds c.code c.config between (Slice c.fuel) reply held (saved_of w.process))
+        keeps in
+        record {
+          between = between;
+          inside = inside;
+          held = held;
+          done = done;
+          ending = ending;
+          onward = turns_join medium c.code c.config promise between
+              (slice_end between c.fuel reply held w) disk disk' disk' goes rest;
+          bounded = bounded;
+          keeps = keeps;
+          goes_on = goes_on;
+        }
+
+  -- A call of the disk has failed before any exchange. What is promised at the end was carried.
+  pub fails_at_call : (promise : Promise) (stage : Stage) (w : Running) (disk disk' : D)
+      (cause : Cause) (held : ℕ) → promise.has_opened ≡ true
+      → IsEnding c.code c.config promise stage (record {
+        act = Slice c.fuel;
+        reply = Fails cause;
+        held = held;
+        shown = saved_of w.process;
+      })
+      → CarriesPromise c.code c.config promise (slice_end promise c.fuel (Fails cause) held w)
+      (medium disk) (medium disk')
+      → StaysWithin (promise.events + 1) (medium disk) (medium disk')
+      → TurnEnds c promise stage (Fails cause) [] w (medium disk) (medium disk')
+  fails_at_call promise stage w disk disk' cause held opened ending carries bounded = record {
+    between = promise;
+    inside = stage;
+    held = held;
+    done = done_nothing c promise stage;
+    ending = ending;
+    onward = record {
+      opened = opened;
+      opened_now = opened;
+      no_more = ends_promise_no_less promise (Slice c.fuel) (Fails cause) held
+          (saved_of w.process);
+      still = ended_still_holds c.code c.config promise (Slice c.fuel) (Fails cause) held
+          (saved_of w.process);
+      leaves = carries.at_any_moment;
+    };
+    bounded = bounded;
+    keeps = carries.in_the_end;
+    goes_on = λ e. absurd (not_open cause e);
+  }
+
+-- ---- the end as an event
+
+-- an error where the process has come to p
+pub failed_end : (c : Course) (promise : Promise) (stage : Stage) (p : ProcessState) (w : Running)
+    (phase : Phase) (held : ℕ) (cause : Cause)
+    → IsBroken c.code c.config c.guest promise stage c.fuel held p phase
+    → ShowsProcess w.process c.guest p → w.process.machine.guest ≡ c.code → MayFail phase cause
+    → HasBound c.code c.config c.guest promise p cause
+    → IsEnding c.code c.config promise stage (record {
+      act = Slice c.fuel;
+      reply = Fails cause;
+      held = held;
+      shown = saved_of w.process;
+    })
+failed_end c promise stage p w phase held cause broken shows module_is may bound =
+    failed_slices_end c.code c.config c.guest promise stage c.fuel held p (saved_of w.process) phase
+    cause broken (shown_is_saved c.code c.config c.guest w.process p shows module_is) may bound
+
+-- what is under way is where it was
+pub broken_open : (c : Course) (promise : Promise) (stage : Stage) (p : ProcessState)
+    (step latest : ℕ) (w : Running) (disk : Medium)
+    → IsRunningOn c promise stage p step latest w disk
+    → IsBroken c.code c.config c.guest promise stage c.fuel (length promise.kept) p Open
+broken_open c promise stage p step latest w disk running = record {
+  in_slice = running.way.in_slice;
+  is = running.way.is_open;
+  told = among_first stage.line _ (length p.host.lines) running.way.line running.way.emitted;
+}
+
+-- ---- open again
+
+-- A slice that is over without an error leaves the worker open.
+pub open_again : {D : Type 0} (medium : D → Medium) (c : Course) (promise : Promise)
+    (stage : Stage) (p : ProcessState) (latest : ℕ) (w : Running) (disk : D) (reply : Reply)
+    (held replayed : ℕ) → promise.has_opened ≡ true → IsOfBytes (host_of c.config)
+    → ShowsProcess w.process c.guest p → w.process.machine.guest ≡ c.code
+    → waiting_in w.process ≡ []
+    → IsInItsSlice c.code c.config c.guest promise stage c.fuel (length promise.kept) p
+    → stage.line ≡ Some (length p.host.lines) → length p.host.lines ≤ promise.heard
+    → promise.passed ≤ length p.host.lines → promise.synced ≤ p.steps
+    → latest ≤ promise.events + 1
+    → IsOnDisk c.code c.config c.guest promise p p.steps latest w.store (medium disk)
+    → synced_by reply w.process.steps ≤ p.steps → phase_ended reply ≡ Open
+    → IsOpenOn c.code c.config c.guest (slice_end promise c.fuel reply held w)
+    (next_stage stage (Ended (Slice c.fuel) reply held (saved_of w.process))) p
+    (durable_of w replayed false) (medium disk)
+open_again medium c promise stage p latest w disk reply held replayed opened texts shows module_is
+    none_waits slice line heard passed synced early on_disk told over =
+    let counted : w.process.steps ≡ p.steps = shows.steps in
+    record {
+      works = refl;
+      opened = opened;
+      texts = texts;
+      shows = shows;
+      module_is = module_is;
+      between = calls_leave_between c.code c.config c.guest promise stage (Slice c.fuel) reply held
+          p (saved_of w.process) slice.start slice.begins
+          (subst (λ l. Runs c.guest slice.start l p.steps p)
+          (take_all (length promise.kept) promise.kept (omega arith)) slice.runs)
+          line counted over;
+      heard = heard;
+      passed = omega (arith, passed);
+      none_waits = none_waits;
+      on_disk = lowered_to medium c.code c.config c.guest (slice_end promise c.fuel reply held w) p
+          p.steps latest w.store disk
+          (ended_on medium c.code c.config c.guest promise p p.steps latest w.store disk on_disk
+          (Slice c.fuel) reply held (saved_of w.process) (λ count. refl) told)
+          p.steps (promise.events + 1) (omega arith) early;
+      synced = omega (arith, synced, told);
+    }

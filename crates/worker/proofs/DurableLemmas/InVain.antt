@@ -1,0 +1,364 @@
+-- How far a slice has come that fails, as a worker without a disk.
+use Rattle.std.proofs.Common.{◌≡◌, ◌⊎◌, ℕ, ◌≤◌, List, [], ◌∷◌, ◌++◌, refl, sym, ap, ◌∙◌, subst}
+use Rattle.std.proofs.Common.{inl, inr, ⊎_elim, Bool, true, false, Option, Some, None, Ok, Err}
+use Rattle.std.specs.Prelude.{Result, IfErr, ◌≢◌}
+use Rattle.std.proofs.lemmas.List.{append-nil}
+use Rattle.wasi_abi.specs.declared.answer.Kind.{Kind}
+use Rattle.wasi_abi.specs.declared.answer.Kind.TheVariants as kinds
+use Rattle.wasi_abi.specs.declared.answer.Answer.{Answer}
+use Rattle.wasi_abi.specs.rules.Answers.{Fits}
+use Rattle.wasi_calls_rules.specs.Hosts.{Host, Line}
+use Rattle.process_rules.specs.Processes.{ProcessState, Guest}
+use Rattle.process.specs.declared.fault.ProcessFault.{ProcessFault}
+use Rattle.process.specs.declared.fault.ProcessFault.TheVariants as stop
+use Rattle.process.specs.rules.Values.{ProcessValue, ShowsProcess, waiting_in}
+use Rattle.process.specs.rules.Stops.{GivesAnswer}
+use Rattle.sector_disk.specs.declared.fault.DiskFault.{DiskFault}
+use Rattle.sector_disk.specs.rules.Medium.{Medium}
+use Rattle.disk_layout.specs.rules.Journal.{Record}
+use Rattle.record_replay.specs.rules.Calls.{Giving, Taking, Ask, Exchange, Asks}
+use Rattle.worker_rules.specs.Lives.{SourceSaid}
+use Rattle.worker_store.specs.declared.fault.StoreFault.{StoreFault}
+use Rattle.worker_store.specs.declared.fault.StoreFault.TheVariants as store
+use Rattle.worker_store.specs.declared.store.WorkerStore.{WorkerStore}
+use Rattle.worker_store.specs.rules.Calls.{BarrierFails, AppendFails}
+use Rattle.ephemeral_worker.specs.Turns.{working, failing}
+use Rattle.ephemeral_worker.specs.declared.fault.WorkFault.TheVariants as work
+use Rattle.ephemeral_worker.specs.rules.Faults.{IsBadAnswer, LeadsUpTo, Fails, SlicesInVain}
+use Rattle.ephemeral_worker.specs.rules.Refusals.{work_fault}
+use Rattle.ephemeral_worker.proofs.Ending.{Turning, Wishing, released_some, vainly}
+use Rattle.ephemeral_worker.proofs.Going.{Goes, leads, wish, asked_more}
+use Rattle.ephemeral_worker.proofs.Joining.{wanted_ask}
+use Rattle.worker.specs.declared.fault.DurableFault.{DurableFault}
+use Rattle.worker.specs.declared.fault.DurableFault.TheVariants.{Work}
+use Rattle.worker.specs.declared.running.Running.{Running}
+use Rattle.worker.specs.rules.DurableFaults.{fault_of_store}
+use Rattle.worker.specs.rules.DurableFailures.{StopsAtDisk, StopsAtStore, StopsAtQuestion}
+use Rattle.worker.specs.rules.DurableFailures.{StopsForMemory, IsDiskCause}
+use Rattle.worker.specs.rules.DurableFailures.{SlicesOnDiskInVain}
+use Rattle.worker.specs.DurableTurns.{SettlesVainly, AsksVainly, Hears}
+use Rattle.worker.specs.DurableTurns.{HearsBy, IsMisfit, LacksRecord, IsNotTaken}
+
+-- ---- faults
+
+same_fault : (a b : DurableFault) → ◌≡◌ {A = Result Bool DurableFault} (Err a) (Err b) → a ≡ b
+same_fault a b e = cc
+
+-- a barrier wants no memory, and no number
+pub no_memory : (before : WorkerStore) (old new : Medium) (fault : StoreFault)
+    → BarrierFails before old new fault → fault ≢ store.Memory
+no_memory before old new fault fails is = subst (λ f. BarrierFails before old new f) is fails
+
+pub no_number : (before : WorkerStore) (old new : Medium) (fault : StoreFault)
+    → BarrierFails before old new fault → fault ≢ store.TooBig
+no_number before old new fault fails is = subst (λ f. BarrierFails before old new f) is fails
+
+-- where a store fails
+module _ (guest : Guest) (p : ProcessState) (fuel : ℕ) (exchanges : List Exchange) (steps : ℕ)
+    (q : ProcessState) (within : steps ≤ fuel) where
+  store_cause : StopsAtStore guest p exchanges steps q → (fault : StoreFault)
+      → ((f : DiskFault) → fault ≡ store.Disk f → StopsAtDisk guest p exchanges steps q)
+      → (fault ≡ store.TooBig → StopsAtQuestion guest p fuel exchanges steps q)
+      → (fault ≡ store.Memory → StopsForMemory guest p fuel exchanges steps q)
+      → IsDiskCause guest p fuel exchanges steps q (fault_of_store fault)
+  store_cause stops (store.Disk f) disk big memory = (within, disk f refl)
+  store_cause stops store.Memory disk big memory = memory refl
+  store_cause stops store.TooBig disk big memory = big refl
+  store_cause stops store.Failed disk big memory = (within, stops)
+  store_cause stops store.Full disk big memory = (within, stops)
+  store_cause stops store.TooLong disk big memory = (within, stops)
+  store_cause stops store.Damaged disk big memory = (within, stops)
+  store_cause stops (store.Layout why) disk big memory = (within, stops)
+
+  -- where its disk is wanted
+  disk_cause_of : StopsAtDisk guest p exchanges steps q → (fault : StoreFault)
+      → (fault ≡ store.TooBig → StopsAtQuestion guest p fuel exchanges steps q)
+      → (fault ≡ store.Memory → StopsForMemory guest p fuel exchanges steps q)
+      → IsDiskCause guest p fuel exchanges steps q (fault_of_store fault)
+  disk_cause_of stops fault big memory =
+      store_cause (inl stops) fault (λ f is. stops) big memory
+
+module _ {S O : Type 0} (gives : Giving S) (takes : Taking O) where
+  -- what fails as without a disk
+  pub as_on_disk : (old new : ProcessValue) (fuel : ℕ) (why : ProcessFault) (s u : S) (o q : O)
+      → SlicesInVain gives takes (working old) fuel (work_fault why) (failing new) s u o q
+      → SlicesOnDiskInVain gives takes old fuel (Work (work_fault why)) new s u o q
+  as_on_disk old new fuel stop.WrongAnswer s u o q h guest p shows = h.2 guest p shows
+  as_on_disk old new fuel stop.StepsSpent s u o q h guest p shows = h.2 guest p shows
+  as_on_disk old new fuel stop.Memory s u o q h guest p shows =
+      let did = h.2 guest p shows in
+      let cause = did.1 in
+      (did.0, (cause.0, cause.1, inl cause.2, cause.3, cause.4))
+
+  -- ---- what is owed
+
+  module _ (old v : ProcessValue) (fuel first : ℕ) (s t : S) (o q : O)
+      (turning : Turning gives takes old v fuel first s t o q) where
+    abbrev gone : (guest : Guest) (p : ProcessState) → ShowsProcess old guest p
+        → Goes gives takes old v fuel guest p s t o q
+    gone guest p shows = turning.goes guest p shows
+
+    -- all lines were told
+    up_to_now : (guest : Guest) (p : ProcessState) (shows : ShowsProcess old guest p)
+        → waiting_in v ≡ []
+        → LeadsUpTo guest p (gone guest p shows).exchanges (gone guest p shows).steps
+        (gone guest p shows).process None
+    up_to_now guest p shows empty =
+        let g = gone guest p shows in
+        record {
+          front = g.exchanges;
+          kind = kinds.Realtime;
+          is = sym (append-nil g.exchanges);
+          leads = leads gives takes old v v fuel guest p s t o q g empty;
+          answered = g.answered;
+        }
+
+    stops_by : (guest : Guest) (p : ProcessState) (shows : ShowsProcess old guest p)
+        (lines : List Line) → waiting_in v ≡ lines
+        → StopsAtDisk guest p (gone guest p shows).exchanges (gone guest p shows).steps
+        (gone guest p shows).process
+    stops_by guest p shows [] is = inr (up_to_now guest p shows is)
+    stops_by guest p shows (line ∷ lines) is =
+        let g = gone guest p shows in
+        inl (waiting_in v, g.last (λ none. absurd (cc)))
+
+    -- it is as it was
+    abbrev stays_at : (guest : Guest) (p : ProcessState) → ShowsProcess old guest p
+        → Fails gives takes (working old) (failing v) guest p s t o q
+    stays_at guest p shows = record {
+      exchanges = (gone guest p shows).exchanges;
+      exchanged = (gone guest p shows).exchanged;
+      wanted = (gone guest p shows).wanted;
+      steps = (gone guest p shows).steps;
+      process = (gone guest p shows).process;
+      shows = (gone guest p shows).shows;
+    }
+
+    settles_stored : (fault : StoreFault) → fault ≢ store.Memory → fault ≢ store.TooBig
+        → SlicesOnDiskInVain gives takes old fuel (fault_of_store fault) v s t o q
+    settles_stored fault none fits guest p shows =
+        let g = gone guest p shows in (
+          stays_at guest p shows,
+          disk_cause_of guest p fuel g.exchanges g.steps g.process g.within
+              (stops_by guest p shows (waiting_in v) refl) fault (λ is. absurd (fits is))
+              (λ is. absurd (none is)),
+        )
+
+    pub settled_vainly : (why : DurableFault) (new : ProcessValue) (r : O)
+        → SettlesVainly takes v why new q r
+        → SlicesOnDiskInVain gives takes old fuel why new s t o r
+    settled_vainly why new r (inl stored) =
+        subst (λ z. SlicesOnDiskInVain gives takes old fuel why z s t o r) (sym stored.4)
+        (subst (λ z. SlicesOnDiskInVain gives takes old fuel why v s t o z) (sym stored.5)
+        (subst (λ z. SlicesOnDiskInVain gives takes old fuel z v s t o q) (sym stored.1)
+        (settles_stored stored.0 stored.2 stored.3)))
+    settled_vainly why new r (inr refused) =
+        subst (λ z. SlicesOnDiskInVain gives takes old fuel z new s t o r) (sym refused.0)
+        (told_vainly (released_some gives takes old v new fuel first s t o q r turning refused.1))
+      where
+        told_vainly : SlicesInVain gives takes (working old) fuel work.Outlet (failing new) s t o r
+            → SlicesOnDiskInVain gives takes old fuel (Work work.Outlet) new s t o r
+        told_vainly h guest p shows = h.2 guest p shows
+
+  -- ---- what is asked
+
+  module _ (old v : ProcessValue) (fuel first : ℕ) (s t : S) (o q : O) (kind : Kind)
+      (wishing : Wishing gives takes old v fuel first s t o q kind) where
+    abbrev so_far : (guest : Guest) (p : ProcessState) → ShowsProcess old guest p
+        → Goes gives takes old v fuel guest p s t o q
+    so_far guest p shows = wishing.turning.goes guest p shows
+
+    -- it may be memory for the answer
+    memory_for : (guest : Guest) (p : ProcessState) (shows : ShowsProcess old guest p)
+        (exchanges : List Exchange) (given : Option Answer)
+        → LeadsUpTo guest p exchanges (so_far guest p shows).steps (so_far guest p shows).process
+        given
+        → StopsForMemory guest p fuel exchanges (so_far guest p shows).steps
+        (so_far guest p shows).process
+    memory_for guest p shows exchanges given up = (
+      wishing.less guest p shows,
+      wishing.running guest p shows,
+      inr (kind, wishing.wants guest p shows),
+      given,
+      up,
+    )
+
+    -- the source isn't asked
+    room_vainly : (fault : StoreFault)
+        → SlicesOnDiskInVain gives takes old fuel (fault_of_store fault) v s t o q
+    room_vainly fault guest p shows =
+        let g = so_far guest p shows in
+        let up = up_to_now old v fuel first s t o q wishing.turning guest p shows wishing.empty in (
+          stays_at old v fuel first s t o q wishing.turning guest p shows,
+          disk_cause_of guest p fuel g.exchanges g.steps g.process g.within (inr up) fault
+              (λ is. (
+                wishing.less guest p shows,
+                wishing.running guest p shows,
+                kind,
+                wishing.wants guest p shows,
+                up,
+              ))
+              (λ is. memory_for guest p shows g.exchanges None up),
+        )
+
+    -- it is asked
+    module _ (u : S) (said : SourceSaid) (asked : gives t kind said u) (new : ProcessValue)
+        (same : new ≡ v) where
+      abbrev question : Ask
+      question = record { kind = kind; said = said }
+
+      abbrev asks_here : (guest : Guest) (p : ProcessState) → ShowsProcess old guest p
+          → Fails gives takes (working old) (failing new) guest p s u o q
+      asks_here guest p shows = record {
+        exchanges = (so_far guest p shows).exchanges ++ (Asks question ∷ []);
+        exchanged = asked_more gives takes old v v fuel guest p s t o q (so_far guest p shows) u
+            question asked;
+        wanted = wanted_ask guest p (so_far guest p shows).exchanges question
+            (so_far guest p shows).wanted
+            (wish gives takes old v v fuel guest p s t o q (so_far guest p shows) kind wishing.empty
+            (wishing.running guest p shows) (wishing.wants guest p shows));
+        steps = (so_far guest p shows).steps;
+        process = (so_far guest p shows).process;
+        shows = subst (λ z. ShowsProcess z guest (so_far guest p shows).process) (sym same)
+            (so_far guest p shows).shows;
+      }
+
+      bad_vainly : ((guest : Guest) (p : ProcessState) (shows : ShowsProcess old guest p)
+          → IsBadAnswer (so_far guest p shows).process.host.limit kind said)
+          → SlicesOnDiskInVain gives takes old fuel (Work work.Source) new s u o q
+      bad_vainly bad guest p shows = (
+        asks_here guest p shows,
+        (
+          wishing.less guest p shows,
+          record {
+            front = (so_far guest p shows).exchanges;
+            ask = question;
+            is = refl;
+            leads = leads gives takes old v v fuel guest p s t o q (so_far guest p shows)
+                wishing.empty;
+            bad = bad guest p shows;
+          },
+        ),
+      )
+
+      up_to_answer : (a : Answer) → said ≡ Ok (Some a)
+          → (guest : Guest) (p : ProcessState) (shows : ShowsProcess old guest p)
+          → LeadsUpTo guest p ((so_far guest p shows).exchanges ++ (Asks question ∷ []))
+          (so_far guest p shows).steps (so_far guest p shows).process (Some a)
+      up_to_answer a is guest p shows = record {
+        front = (so_far guest p shows).exchanges;
+        kind = kind;
+        is = ap (λ (z : SourceSaid). (so_far guest p shows).exchanges
+            ++ (Asks (record { kind = kind; said = z }) ∷ [])) is;
+        leads = leads gives takes old v v fuel guest p s t o q (so_far guest p shows)
+            wishing.empty;
+        answered = (so_far guest p shows).answered;
+      }
+
+      -- its answer isn't kept
+      kept_vainly : (a : Answer) → said ≡ Ok (Some a) → (from : WorkerStore) (r : Record)
+          (fault : StoreFault) → AppendFails from r fault
+          → SlicesOnDiskInVain gives takes old fuel (fault_of_store fault) new s u o q
+      kept_vainly a is from r fault fails guest p shows =
+          let g = so_far guest p shows in
+          let calls : List Exchange = g.exchanges ++ (Asks question ∷ []) in
+          let up = up_to_answer a is guest p shows in (
+            asks_here guest p shows,
+            store_cause guest p fuel calls g.steps g.process g.within (inr (a, up)) fault
+                (λ f none. absurd (subst (λ x. AppendFails from r x) none fails))
+                (λ none. absurd (subst (λ x. AppendFails from r x) none fails))
+                (λ none. memory_for guest p shows calls (Some a) up),
+          )
+
+    module _ (mid new : Running) (step : ℕ) (u : S) (why : DurableFault)
+        (same : mid.process ≡ v) where
+      same_limit : (guest : Guest) (p : ProcessState) (shows : ShowsProcess old guest p)
+          → (so_far guest p shows).process.host.limit ≡ mid.process.host.host.limit
+      same_limit guest p shows =
+          let g = so_far guest p shows in
+          let shown = g.shows in
+          let host = shown.host in
+          ap (λ (h : Host). h.limit) host.is
+          ∙ ap (λ (x : ProcessValue). x.host.host.limit) (sym same)
+
+      misfit_vainly : (a : Answer) → gives t kind (Ok (Some a)) u
+          → IsMisfit mid kind (record { step = step; answer = a }) why new
+          → SlicesOnDiskInVain gives takes old fuel why new.process s u o q
+      misfit_vainly a asked h =
+          subst (λ z. SlicesOnDiskInVain gives takes old fuel z new.process s u o q) (sym h.is)
+          (bad_vainly u (Ok (Some a)) asked new.process
+          (ap (λ (w : Running). w.process) h.same ∙ same)
+          (λ guest p shows fits. h.misfits (subst (λ n. Fits n kind a) (same_limit guest p shows)
+          fits)))
+
+      unkept_vainly : (a : Answer) → gives t kind (Ok (Some a)) u
+          → LacksRecord mid kind (record { step = step; answer = a }) why new
+          → SlicesOnDiskInVain gives takes old fuel why new.process s u o q
+      unkept_vainly a asked h =
+          subst (λ z. SlicesOnDiskInVain gives takes old fuel z new.process s u o q) (sym h.is)
+          (kept_vainly u (Ok (Some a)) asked new.process (h.same ∙ same) a refl
+          mid.store (record { step = step; answer = a }) h.fault h.fails)
+
+      untaken_vainly : (a : Answer) → gives t kind (Ok (Some a)) u
+          → IsNotTaken mid kind (record { step = step; answer = a }) why new
+          → SlicesOnDiskInVain gives takes old fuel why new.process s u o q
+      untaken_vainly a asked h =
+          subst (λ z. SlicesOnDiskInVain gives takes old fuel z new.process s u o q) (sym h.is)
+          (as_on_disk old new.process fuel h.fault s u o q
+          (vainly gives takes old v new.process fuel first s t u o q kind wishing
+          (work_fault h.fault) (record {
+            said = Ok (Some a);
+            asked = asked;
+            answers = (
+              Err h.fault,
+              subst (λ z. GivesAnswer z a (Err h.fault) new.process) same h.given,
+              refl,
+            );
+          })))
+
+      heard_vainly : (said : SourceSaid) → gives t kind said u
+          → HearsBy mid kind step said (Err why) new
+          → SlicesOnDiskInVain gives takes old fuel why new.process s u o q
+      heard_vainly (Err e) asked h =
+          subst (λ z. SlicesOnDiskInVain gives takes old fuel z new.process s u o q)
+          (sym (same_fault why (Work work.Source) h.0))
+          (bad_vainly u (Err e) asked new.process (ap (λ (w : Running). w.process) h.1 ∙ same)
+          (λ guest p shows. tt))
+      heard_vainly (Ok None) asked h = absurd (let no_error = h.0 in cc)
+      heard_vainly (Ok (Some a)) asked h = ⊎_elim
+          (λ (misfits : IsMisfit mid kind (record { step = step; answer = a }) why new).
+          misfit_vainly a asked misfits)
+          (λ (rest : LacksRecord mid kind (record { step = step; answer = a }) why new
+          ⊎ IsNotTaken mid kind (record { step = step; answer = a }) why new).
+          ⊎_elim
+          (λ (lacks : LacksRecord mid kind (record { step = step; answer = a }) why new).
+          unkept_vainly a asked lacks)
+          (λ (none : IsNotTaken mid kind (record { step = step; answer = a }) why new).
+          untaken_vainly a asked none)
+          rest) h
+
+    pub asked_vainly : (from new : Running) (why : DurableFault) (u : S) → from.process ≡ v
+        → AsksVainly gives from kind why new t u
+        → SlicesOnDiskInVain gives takes old fuel why new.process s u o q
+    asked_vainly from new why u at (inl stored) =
+        let by = stored.0 in
+        subst (λ z. SlicesOnDiskInVain gives takes old fuel why z s u o q)
+        (sym (stored.1 ∙ at))
+        (subst (λ z. SlicesOnDiskInVain gives takes old fuel why v s z o q) (sym stored.2)
+        (subst (λ z. SlicesOnDiskInVain gives takes old fuel z v s t o q) (sym by.1)
+        (room_vainly by.0)))
+    asked_vainly from new why u at (inr heard) =
+        let hears = heard.3 in
+        heard_vainly heard.0 new heard.1 u why (heard.2 ∙ at) hears.said hears.asked hears.hears
+
+-- what was said is why it fails
+pub hears_in_vain : {S : Type 0} (gives : Giving S) (old mid new : Running) (kind : Kind) (step : ℕ)
+    (result : Result Bool DurableFault) (source source' : S) → mid.process ≡ old.process
+    → Hears gives mid kind step result new source source'
+    → IfErr result (λ why. AsksVainly gives old kind why new source source')
+hears_in_vain gives old mid new kind step (Ok b) source source' same h = tt
+hears_in_vain gives old mid new kind step (Err why) source source' same h =
+    inr (mid, step, same, h)
+
+pub not_both : (b : Bool) → b ≡ true → b ≡ false → ⊥
+not_both b set unset = absurd (cc)

@@ -1,0 +1,82 @@
+-- An answer that is kept on record, and taken, or not.
+use Rattle.std.proofs.Common.{◌≡◌, ℕ, length, refl, sym, inl, inr, Bool, true}
+use Rattle.std.proofs.Common.{false}
+use Rattle.std.proofs.Common.{Ok, Err, ◌≤◌, subst}
+use Rattle.std.specs.Prelude.{◌↔◌, IsTrue}
+use Rattle.wasi_abi.specs.declared.answer.Kind.{Kind}
+use Rattle.wasi_abi.specs.rules.Answers.{Fits}
+use Rattle.process.specs.declared.fault.ProcessFault.{ProcessFault}
+use Rattle.process.specs.rules.Values.{ProcessValue, IsProcess}
+use Rattle.process.specs.rules.Stops.{GivesAnswer}
+use Rattle.disk_layout.specs.rules.Journal.{Record, record_bytes}
+use Rattle.journal.specs.rules.State.{room_of}
+use Rattle.journal.specs.rules.Steps.{RecordFits}
+use Rattle.worker_store.specs.declared.fault.StoreFault.{StoreFault}
+use Rattle.worker_store.specs.declared.store.WorkerStore.{WorkerStore}
+use Rattle.worker_store.specs.rules.Calls.{AppendFails}
+use Rattle.worker_store.specs.rules.Stores.{with_record}
+use Rattle.ephemeral_worker.specs.declared.fault.WorkFault.TheVariants as work
+use Rattle.worker.specs.declared.fault.DurableFault.TheVariants.{Work}
+use Rattle.worker.specs.declared.running.Running.{Running}
+use Rattle.worker.specs.rules.DurableFaults.{fault_of_store}
+use Rattle.ephemeral_worker.specs.rules.Refusals.{work_fault}
+use Rattle.worker.specs.DurableTurns.{TakesOnRecord, TakesNone}
+
+module _ (old : Running) (kind : Kind) (r : Record) (limit : ℕ)
+    (limit_is : limit ≡ old.process.host.host.limit) (does_fit : Bool)
+    (fitting : IsTrue does_fit ↔ Fits limit kind r.answer) where
+  fits_there : does_fit ≡ true → Fits old.process.host.host.limit kind r.answer
+  fits_there is = subst (λ n. Fits n kind r.answer) limit_is (fitting.0 is)
+
+  -- it doesn't fit
+  pub misfit_refused : does_fit ≡ false → TakesNone old kind r (Work work.Source) old
+  misfit_refused is = inl (record {
+    misfits = λ fits. not_both (fitting.1 (subst (λ n. Fits n kind r.answer) (sym limit_is) fits));
+    is = refl;
+    same = refl;
+  })
+    where
+      not_both : does_fit ≡ true → ⊥
+      not_both fits = absurd (cc)
+
+  module _ (is : does_fit ≡ true) (process : ProcessValue) (after : WorkerStore) where
+    -- its record isn't kept
+    pub record_lacking : (fault : StoreFault) → AppendFails old.store r fault
+        → TakesNone old kind r (fault_of_store fault) (record old { store = after })
+    record_lacking fault fails = inr (inl (record {
+      fits = fits_there is;
+      fault = fault;
+      fails = fails;
+      is = refl;
+      same = refl;
+    }))
+
+    -- the process doesn't take it
+    pub answer_refused : (fault : ProcessFault)
+        → GivesAnswer old.process r.answer (Err fault) process
+        → TakesNone old kind r (Work (work_fault fault))
+        (record old { process = process; store = after })
+    answer_refused fault given = inr (inr (record {
+      fits = fits_there is;
+      fault = fault;
+      given = given;
+      is = refl;
+    }))
+
+    -- it does
+    pub answer_taken : after ≡ with_record old.store r → RecordFits r
+        → length (record_bytes r) ≤ room_of old.store.geometry old.store.journal
+        → GivesAnswer old.process r.answer (Ok tt) process → IsProcess process
+        → process.host.released ≡ old.process.host.released
+        → process.machine.guest ≡ old.process.machine.guest
+        → TakesOnRecord old kind r (record old { process = process; store = after })
+    answer_taken appended fits room given some released guest = record {
+      fits = fits_there is;
+      appended = appended;
+      record_fits = fits;
+      room = room;
+      given = given;
+      some = some;
+      released_same = released;
+      guest_same = guest;
+    }

@@ -1,0 +1,130 @@
+-- What is known of a worker whose disk holds what is promised.
+use Rattle.std.proofs.Common.{◌≡◌, ℕ, ◌+◌, ◌≤◌, [], sym, ◌∙◌}
+use Rattle.std.proofs.Common.{subst, arith}
+use Rattle.wasm_syntax.specs.declared.module.Module.{Module}
+use Rattle.wasm_syntax_rules.specs.Validity.{IsValid}
+use Rattle.wasi_abi.specs.rules.Configs.{Settings}
+use Rattle.process_rules.specs.Processes.{ProcessState, Guest}
+use Rattle.process_rules.specs.Runs.{Runs, Reaches}
+use Rattle.process_rules.specs.Owing.{RunsQuietly}
+use Rattle.process_rules.proofs.Quiet.{runs_join}
+use Rattle.sector_disk.specs.rules.Medium.{Medium}
+use Rattle.state_image.specs.rules.Image.{Saved}
+use Rattle.worker_rules.specs.Lives.{Act, Reply, Ended}
+use Rattle.worker_rules.specs.Promises.{Promise, after, saved_by, synced_by}
+use Rattle.worker_rules.specs.Holds.{KeepsPromise}
+use Rattle.worker_store.specs.laws.Carried.{count_at}
+use Rattle.worker_store.specs.laws.Raised.{SyncsAreHeld}
+use Rattle.worker_store.proofs.LawLemmas.Carrying.{carried_keeps}
+use Rattle.worker_store.proofs.LawLemmas.Raising.{carried_is_reached, quiet_syncs_are_held}
+use Rattle.worker_store.proofs.LawLemmas.Raising.{ended_carries}
+use Rattle.worker_store.specs.declared.store.WorkerStore.{WorkerStore}
+use Rattle.worker.specs.rules.OpenWorkers.{IsOnDisk}
+
+-- all kept answers lead there
+pub record IsReachedBy (m : Module) (config : Settings) (guest : Guest) (promise : Promise)
+    (p : ProcessState) : Type 0 where
+  pub reached : Reaches m config promise.kept p.steps p
+  pub guest_is : reached.guest ≡ guest
+
+-- up to an earlier step
+pub fewer_syncs : (m : Module) (config : Settings) (promise : Promise) (held step earlier : ℕ)
+    → earlier ≤ step → SyncsAreHeld m config promise.kept held step
+    → SyncsAreHeld m config promise.kept held earlier
+fewer_syncs m config promise held step earlier le syncs k a below behind =
+    syncs k a (up_to k below) behind
+  where
+    up_to : (k : ℕ) → k ≤ earlier → k ≤ step
+    up_to k below = omega (arith, below, le)
+
+module _ {D : Type 0} (medium : D → Medium) (m : Module) (config : Settings) (guest : Guest)
+    (promise : Promise) (p : ProcessState) (step latest : ℕ) (store : WorkerStore) (disk : D)
+    (is : IsOnDisk m config guest promise p step latest store (medium disk)) where
+  pub valid_module : IsValid m
+  valid_module = is.point.accepted.valid
+
+  pub runs_there : Runs is.point.reached.guest is.now [] is.n p
+  runs_there = subst (λ g. Runs g is.now [] is.n p) (sym is.same) is.runs
+
+  pub reached_now : IsReachedBy m config guest promise p
+  reached_now =
+      let r = carried_is_reached medium m config promise is.point store.journal is.records
+      is.pending is.last is.now p is.n disk is.carried is.on_record runs_there in
+      record { reached = r.0; guest_is = r.1 ∙ is.same }
+
+  pub keeps_now : KeepsPromise m config promise (medium disk)
+  keeps_now =
+      carried_keeps medium m config promise is.point store.journal is.records is.pending is.last
+      is.now disk is.carried
+
+  -- less is asked of it
+  pub lowered_to : (earlier later : ℕ) → earlier ≤ step → latest ≤ later
+      → IsOnDisk m config guest promise p earlier later store (medium disk)
+  lowered_to earlier later le more = record {
+    point = is.point;
+    same = is.same;
+    records = is.records;
+    pending = is.pending;
+    last = is.last;
+    now = is.now;
+    stores = is.stores;
+    carried = is.carried;
+    on_record = is.on_record;
+    n = is.n;
+    runs = is.runs;
+    syncs = fewer_syncs m config promise (count_at is.point is.records) step earlier le is.syncs;
+    early = (let early = is.early in omega (arith, early, more));
+  }
+
+  -- steps without answers
+  pub stepped_to : (q : ProcessState) (k next : ℕ) → Runs guest p [] k q
+      → SyncsAreHeld m config promise.kept (count_at is.point is.records) next
+      → IsOnDisk m config guest promise q next latest store (medium disk)
+  stepped_to q k next runs syncs = record {
+    point = is.point;
+    same = is.same;
+    records = is.records;
+    pending = is.pending;
+    last = is.last;
+    now = is.now;
+    stores = is.stores;
+    carried = is.carried;
+    on_record = is.on_record;
+    n = is.n + k;
+    runs = runs_join guest is.now p q [] [] is.n k is.runs runs;
+    syncs = syncs;
+    early = is.early;
+  }
+
+  -- after which nothing is owed
+  pub quiet_syncs : (q : ProcessState) (k : ℕ) → p.steps ≤ step → RunsQuietly guest p k q
+      → SyncsAreHeld m config promise.kept (count_at is.point is.records) q.steps
+  quiet_syncs q k here quiet =
+      let by = reached_now in
+      quiet_syncs_are_held m config promise.kept (count_at is.point is.records) k p q valid_module
+      by.reached (subst (λ g. RunsQuietly g p k q) (sym by.guest_is) quiet)
+      (fewer_syncs m config promise (count_at is.point is.records) step p.steps here is.syncs)
+
+  -- a call ends that saves nothing
+  pub ended_on : (act : Act) (reply : Reply) (held : ℕ) (shown : Saved)
+      → ((count : ℕ) → saved_by act reply count ≡ 0) → synced_by reply shown.steps ≤ step
+      → IsOnDisk m config guest (after promise (Ended act reply held shown)) p step latest store
+      (medium disk)
+  ended_on act reply held shown saves_none below = record {
+    point = is.point;
+    same = is.same;
+    records = is.records;
+    pending = is.pending;
+    last = is.last;
+    now = is.now;
+    stores = is.stores;
+    carried = ended_carries medium m config promise is.point store.journal is.records is.pending
+        is.last is.now act reply held shown disk is.carried saves_none
+        (fewer_syncs m config promise (count_at is.point is.records) step
+        (synced_by reply shown.steps) below is.syncs);
+    on_record = is.on_record;
+    n = is.n;
+    runs = is.runs;
+    syncs = is.syncs;
+    early = is.early;
+  }

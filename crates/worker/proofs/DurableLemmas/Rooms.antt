@@ -1,0 +1,318 @@
+-- Room on the disk for the next answer.
+use Rattle.std.proofs.Common.{◌≡◌, ℕ, ◌+◌, ◌-◌, ◌*◌, ◌≤◌, [], length, refl}
+use Rattle.std.proofs.Common.{sym, ap, ◌∙◌, subst, inl, inr, arith, false}
+use Rattle.std.proofs.lemmas.List.{append-nil}
+use Rattle.wasi_abi.specs.declared.answer.Kind.{Kind}
+use Rattle.wasi_abi.specs.declared.numbers.TheConstants.{NUMBERS_END}
+use Rattle.process_rules.specs.Processes.{ProcessState}
+use Rattle.process_rules.specs.Runs.{Runs, none}
+use Rattle.process.specs.rules.Values.{ProcessValue, IsProcess}
+use Rattle.sector_disk.specs.rules.Medium.{Medium}
+use Rattle.state_image.specs.rules.Saving.{saved_of}
+use Rattle.disk_layout.specs.declared.geometry.Geometry.{Geometry}
+use Rattle.disk_layout.specs.declared.journal_sectors.TheConstants.{PAYLOAD_SIZE}
+use Rattle.journal.specs.rules.State.{JournalState, state}
+use Rattle.record_replay.proofs.Emitted.{released_whole}
+use Rattle.worker_rules.specs.Lives.{Slice, Fails, Cause, OfDisk, OfBounds}
+use Rattle.worker_rules.specs.Courses.{Stage, Open, MayFail}
+use Rattle.worker_rules.specs.Promises.{Promise}
+use Rattle.worker_rules.specs.Holds.{StaysWithin}
+use Rattle.worker_store.specs.laws.Savepoints.{Savepoint}
+use Rattle.worker_store.specs.laws.CallEnds.{HasBound}
+use Rattle.worker_store.specs.laws.Carried.{count_at}
+use Rattle.worker_store.specs.laws.Raised.{AreOnRecord}
+use Rattle.worker_store.specs.laws.Turns.{GoesOnFrom}
+use Rattle.worker_store.proofs.LawLemmas.Carrying.{begins_carried}
+use Rattle.worker_store.proofs.LawLemmas.Raising.{all_syncs_are_held, ended_carries}
+use Rattle.worker_store.proofs.LawLemmas.Saving.{next_held, save_carries, ends_promise_no_less}
+use Rattle.worker_store.proofs.LawLemmas.TurnLemmas.{same_no_more}
+use Rattle.worker_store.specs.declared.fault.StoreFault.{StoreFault}
+use Rattle.worker_store.specs.declared.fault.StoreFault.TheVariants as store
+use Rattle.worker_store.specs.declared.store.WorkerStore.{WorkerStore}
+use Rattle.worker_store.specs.laws.Laws.{ImagesFitAreas}
+use Rattle.worker_store.specs.rules.Calls.{StoresNext}
+use Rattle.worker_store.specs.rules.Stores.{IsStoreOf}
+use Rattle.worker.specs.declared.running.Running.{Running}
+use Rattle.worker.specs.rules.DurableFaults.{fault_of_store}
+use Rattle.worker.specs.rules.DurableCalls.{ComesOf, HasCauseAt}
+use Rattle.worker.specs.rules.OpenWorkers.{IsOnDisk}
+use Rattle.worker.specs.rules.Savings.{LeavesFrontOrNext, IsSaveFault, SaveFails}
+use Rattle.worker.specs.DurableTurns.{Course, IsAskingOn, HasRoom, MakesRoom}
+use Rattle.worker.specs.DurableTurns.{MakesNoRoom}
+use Rattle.worker.specs.DurableTurns.{TurnFails, slice_end, longest_record}
+use Rattle.worker.proofs.CheckpointLemmas.{CanSave, can_save}
+use Rattle.worker.proofs.DurableLemmas.OnDisk.{keeps_now, fewer_syncs, lowered_to}
+use Rattle.worker.proofs.DurableLemmas.Bounds.{on_disk_still, saves_within}
+use Rattle.worker.proofs.DurableLemmas.Ends.{fails_at_call, failed_end, broken_open}
+use Rattle.worker.proofs.DurableLemmas.Ends.{carried_on}
+use Rattle.worker.proofs.DurableLemmas.Ends.{stays_on, disk_cause}
+use Rattle.worker.proofs.DurableLemmas.Settling.{with_store}
+
+-- ---- there is room already
+
+module _ {D : Type 0} (medium : D → Medium) where
+  pub has_room : (w : Running) (disk : D) → HasRoom w → MakesRoom w w (medium disk) (medium disk)
+  has_room w disk room c promise stage p kind asking =
+      let running = asking.running in
+      let is = running.on_disk in (
+        record {
+          running = record {
+            opened = running.opened;
+            texts = running.texts;
+            shows = running.shows;
+            module_is = running.module_is;
+            way = running.way;
+            began = running.began;
+            on_disk = lowered_to medium c.code c.config c.guest promise p p.steps promise.events
+                w.store disk is p.steps (promise.events + 1) (omega arith) (omega arith);
+            synced = running.synced;
+          };
+          none_waits = asking.none_waits;
+          unended = asking.unended;
+          wants = asking.wants;
+          room = asking.room;
+        },
+        room,
+        stays_on medium c promise disk running.opened
+            (keeps_now medium c.code c.config c.guest promise p p.steps promise.events w.store disk
+            is),
+        on_disk_still medium c.code c.config c.guest promise p p.steps promise.events w.store disk
+            is (promise.events + 1) (omega arith),
+      )
+
+-- ---- it is made
+
+too_late : (n g events : ℕ) → NUMBERS_END ≤ n + 1 → n ≡ g → g ≤ events → NUMBERS_END ≤ events + 1
+too_late n g events late e early = omega (arith, late, e, early)
+
+-- an empty journal has room for the longest record
+enough : (sectors used kept : ℕ) → 64 ≤ sectors → used ≡ 0 → kept ≡ 0
+    → longest_record ≤ PAYLOAD_SIZE * (sectors - used) - kept
+enough sectors used kept many none_used none_kept =
+    omega (arith, many, none_used, none_kept)
+
+-- why an error of a save comes
+record SaveComes (c : Course) (promise : Promise) (p : ProcessState) (fault : StoreFault)
+    (v : ProcessValue) (old new : Medium) : Type 0 where
+  pub cause : Cause
+  pub comes : ComesOf (fault_of_store fault) cause
+  pub cause_is : HasCauseAt (fault_of_store fault) c.guest c.config v old new
+  pub may : MayFail Open cause
+  pub bound : HasBound c.code c.config c.guest promise p cause
+
+module _ {D : Type 0} (medium : D → Medium) (w : Running) (after : WorkerStore) (disk disk' : D)
+    (fit : ImagesFitAreas) (numbered : IsProcess w.process)
+    (leaves : LeavesFrontOrNext w.store w.process (medium disk) (medium disk')) where
+  module _ (c : Course) (promise : Promise) (stage : Stage) (p : ProcessState) (kind : Kind)
+      (asking : IsAskingOn c promise stage p kind promise.events w (medium disk)) where
+    ready : CanSave c.code c.config c.guest promise p p.steps promise.events w.store (medium disk)
+        asking.running.on_disk w.process
+    ready =
+        let running = asking.running in
+        can_save medium c.code c.config c.guest promise p p.steps promise.events w.store disk
+        w.process running.on_disk running.shows numbered running.module_is running.texts fit
+
+    -- all lines were told
+    heard : length p.host.lines ≤ promise.heard
+    heard =
+        let running = asking.running in
+        let way = running.way in
+        let told : w.process.host.released ≡ length p.host.lines =
+        released_whole w.process c.guest p running.shows asking.none_waits in
+        let few : w.process.host.released ≤ promise.heard = way.heard in
+        omega (arith, told, few)
+
+    -- at any moment it is one generation on at most
+    save_bounds : StaysWithin (promise.events + 1) (medium disk) (medium disk')
+    save_bounds =
+        let running = asking.running in
+        let is = running.on_disk in
+        let stores = is.stores in
+        let next_is = ready.is_next in
+        let early = is.early in
+        saves_within c.code c.config is.point (promise.events + 1) (medium disk) (medium disk')
+        stores.sectors ready.next is.records is.pending is.last next_is.comes
+        (omega (arith, early))
+        (leaves c.code c.config is.point ready.next is.records is.pending is.last is.now is.stores
+        next_is.comes next_is.saved)
+
+    comes : (fault : StoreFault)
+        → IsSaveFault w.store w.process (medium disk) (medium disk') fault
+        → SaveComes c promise p fault w.process (medium disk) (medium disk')
+    comes store.TooBig (inl late) =
+        let running = asking.running in
+        let is = running.on_disk in
+        let stores = is.stores in
+        let journaled = stores.journaled in
+        record {
+          cause = OfBounds;
+          comes = refl;
+          cause_is = tt;
+          may = tt;
+          bound = inr (too_late w.store.journal.generation is.point.generation promise.events late
+              journaled.generation is.early);
+        }
+    comes store.TooBig (inr long) = let few = ready.fits in absurd (omega (arith, long, few))
+    comes store.Full h = absurd h
+    comes store.TooLong h = absurd h
+    comes store.Damaged h = absurd h
+    comes (store.Layout why) h = absurd h
+    comes (store.Disk why) h =
+        let running = asking.running in
+        record {
+          cause = OfDisk;
+          comes = refl;
+          cause_is = disk_cause c promise p p.steps promise.events w.store w.process
+              w.process (medium disk) (medium disk') why running.on_disk h;
+          may = tt;
+          bound = tt;
+        }
+    comes store.Memory h = absurd h
+    comes store.Failed h = absurd h
+
+    save_in_vain : (fault : StoreFault)
+        → SaveFails w.store w.process (medium disk) (medium disk') fault
+        → TurnFails c promise stage (fault_of_store fault) [] (with_store w after) (medium disk)
+        (medium disk')
+    save_in_vain fault fails =
+        let running = asking.running in
+        let is = running.on_disk in
+        let point = is.point in
+        let can = ready in
+        let next_is = can.is_next in
+        let held : ℕ = length promise.kept in
+        let why = comes fault (fails c.code c.config point is.records is.pending is.last is.now
+        is.stores) in
+        let told : w.process.steps ≡ p.steps = (let shows = running.shows in shows.steps) in
+        let here : w.process.steps - 1 ≤ p.steps = omega (arith, told) in
+        let later = ended_carries medium c.code c.config promise point w.store.journal is.records
+        is.pending is.last is.now (Slice c.fuel) (Fails why.cause) held (saved_of w.process) disk
+        is.carried
+        (λ count. refl)
+        (fewer_syncs c.code c.config promise (count_at point is.records) p.steps
+        (w.process.steps - 1) here is.syncs) in (
+          why.cause,
+          why.comes,
+          why.cause_is,
+          fails_at_call medium c promise stage (with_store w after) disk disk' why.cause held
+              running.opened
+              (failed_end c promise stage p (with_store w after) Open held why.cause
+              (broken_open c promise stage p _ _ w (medium disk) running) running.shows
+              running.module_is why.may why.bound)
+              (save_carries medium c.code c.config promise
+              (slice_end promise c.fuel (Fails why.cause) held w) point can.next w.store.journal
+              is.records is.pending is.last is.now disk disk'
+              (ends_promise_no_less promise (Slice c.fuel) (Fails why.cause) held
+              (saved_of w.process)) later
+              (next_is.saves (slice_end promise c.fuel (Fails why.cause) held w) heard)
+              (leaves c.code c.config point can.next is.records is.pending is.last is.now is.stores
+              next_is.comes next_is.saved))
+              save_bounds,
+        )
+
+    module _ (stores : StoresNext w.store after w.process (medium disk) (medium disk')) where
+      stored : IsStoreOf ready.next after [] [] ready.next.process ready.next.process
+          (medium disk')
+      stored =
+          let running = asking.running in
+          let is = running.on_disk in
+          let next_is = ready.is_next in
+          stores c.code c.config is.point ready.next is.records is.pending is.last is.now is.stores
+          next_is.comes next_is.saved
+
+      all_on_record : AreOnRecord promise ready.next []
+      all_on_record = sym ready.all ∙ sym (append-nil ready.next.front)
+
+      save_goes : GoesOnFrom c.code c.config promise promise (medium disk) (medium disk')
+      save_goes =
+          let running = asking.running in
+          let is = running.on_disk in
+          let next_is = ready.is_next in
+          carried_on medium c promise disk disk' running.opened
+          (save_carries medium c.code c.config promise promise is.point ready.next w.store.journal
+          is.records is.pending is.last is.now disk disk' (same_no_more promise) is.carried
+          (next_is.saves promise heard)
+          (leaves c.code c.config is.point ready.next is.records is.pending is.last is.now is.stores
+          next_is.comes next_is.saved))
+
+      saved_on : IsOnDisk c.code c.config c.guest promise p p.steps (promise.events + 1) after
+          (medium disk')
+      saved_on =
+          let running = asking.running in
+          let is = running.on_disk in
+          let can = ready in
+          let next : Savepoint c.code c.config = can.next in
+          let next_is = can.is_next in
+          let comes = next_is.comes in
+          let later : next.generation ≡ is.point.generation + 1 = comes.generation in
+          let early : is.point.generation ≤ promise.events = is.early in
+          let journaled = stored.journaled in
+          record {
+            point = next;
+            same = can.same;
+            records = [];
+            pending = [];
+            last = next.process;
+            now = next.process;
+            stores = stored;
+            carried = begins_carried medium c.code c.config promise next after.journal disk'
+                (next_held medium c.code c.config promise is.point next w.store.journal is.records
+                is.pending is.last is.now disk is.carried (next_is.saves promise heard))
+                journaled;
+            on_record = all_on_record;
+            n = 0;
+            runs = subst (λ z. Runs c.guest next.process [] 0 z) next_is.process none;
+            syncs = all_syncs_are_held c.code c.config promise next [] p.steps all_on_record;
+            early = omega (arith, later, early);
+          }
+
+      room_after : after.journal ≡ state after.journal.generation 0 [] false
+          → HasRoom (with_store w after)
+      room_after fresh =
+          let running = asking.running in
+          let is = running.on_disk in
+          let point = is.point in
+          let settings = point.settings in
+          let range = settings.in_range in
+          let journal = range.journal in
+          let sectors : after.geometry.journal_sectors ≡ c.config.journal =
+          ap (λ (g : Geometry). g.journal_sectors) stored.geometry in
+          let many : 64 ≤ c.config.journal = journal.0 in
+          let none_used : after.journal.used ≡ 0 =
+          ap (λ (j : JournalState). j.used) fresh in
+          let none_kept : length after.journal.kept ≡ 0 =
+          ap (λ (j : JournalState). length j.kept) fresh in
+          enough after.geometry.journal_sectors after.journal.used (length after.journal.kept)
+          (omega (arith, sectors, many)) none_used none_kept
+
+  pub makes_no_room : (fault : StoreFault)
+      → SaveFails w.store w.process (medium disk) (medium disk') fault
+      → MakesNoRoom w (fault_of_store fault) (with_store w after) (medium disk) (medium disk')
+  makes_no_room fault fails c promise stage p kind asking =
+      save_in_vain c promise stage p kind asking fault fails
+
+  pub makes_room : StoresNext w.store after w.process (medium disk) (medium disk')
+      → after.journal ≡ state after.journal.generation 0 [] false
+      → MakesRoom w (with_store w after) (medium disk) (medium disk')
+  makes_room stores fresh c promise stage p kind asking =
+      let running = asking.running in (
+        record {
+          running = record {
+            opened = running.opened;
+            texts = running.texts;
+            shows = running.shows;
+            module_is = running.module_is;
+            way = running.way;
+            began = running.began;
+            on_disk = saved_on c promise stage p kind asking stores;
+            synced = running.synced;
+          };
+          none_waits = asking.none_waits;
+          unended = asking.unended;
+          wants = asking.wants;
+          room = asking.room;
+        },
+        room_after c promise stage p kind asking stores fresh,
+        save_goes c promise stage p kind asking stores,
+        save_bounds c promise stage p kind asking,
+      )

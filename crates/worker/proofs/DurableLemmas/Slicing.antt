@@ -1,0 +1,227 @@
+-- What holds between two turns of a slice of a worker on its disk.
+use Rattle.std.proofs.Common.{◌≡◌, ℕ, ◌-◌, ◌<◌, refl, ap, ◌∙◌, Bool, true}
+use Rattle.std.proofs.Common.{false}
+use Rattle.std.proofs.Common.{Ok, Err, []}
+use Rattle.std.specs.Prelude.{Result, IfOk}
+use Rattle.wasi_abi.specs.declared.answer.Kind.{Kind}
+use Rattle.process.specs.declared.fault.ProcessFault.{ProcessFault}
+use Rattle.process.specs.declared.stop.ProcessEnd.{ProcessEnd}
+use Rattle.process.specs.declared.stop.Stop.TheVariants as stops
+use Rattle.process.specs.rules.Values.{ProcessValue, IsProcess, waiting_in}
+use Rattle.process.specs.rules.Stops.{AdvancesProcess}
+use Rattle.sector_disk.specs.rules.Medium.{Medium, CallsUpTo}
+use Rattle.record_replay.specs.rules.Calls.{Giving, Taking}
+use Rattle.record_replay.specs.rules.Waiting.{ReleasesAll}
+use Rattle.record_replay.proofs.Emitted.{released_none, released_steps}
+use Rattle.ephemeral_worker.specs.declared.now.Now.TheVariants as now
+use Rattle.worker.specs.declared.fault.DurableFault.{DurableFault}
+use Rattle.worker.specs.declared.fault.DurableFault.TheVariants.{Work}
+use Rattle.worker.specs.declared.running.Running.{Running}
+use Rattle.ephemeral_worker.specs.rules.Refusals.{work_fault}
+use Rattle.ephemeral_worker.specs.rules.Slices.{Slices}
+use Rattle.ephemeral_worker.specs.Turns.{working, AsksOnce}
+use Rattle.worker.specs.DurableTurns.{Hears, SettlesTurn, SettlesInVain, AsksTurn, WorksOn}
+use Rattle.worker.specs.DurableTurns.{SettlesVainly, AsksVainly}
+use Rattle.worker.specs.StoreTurns.{StoreGoes, StoreStops, StoreRuns, PaysCalls}
+use Rattle.worker.specs.rules.CallCounts.{most_saving}
+use Rattle.worker.specs.rules.DurableFailures.{SlicesOnDiskInVain}
+use Rattle.ephemeral_worker.proofs.Ending.{measure, Turning, turning_none, owes}
+use Rattle.ephemeral_worker.proofs.Ending.{owes_less, asks, asks_counts, released_all, waiting}
+use Rattle.ephemeral_worker.proofs.Ending.{given}
+use Rattle.ephemeral_worker.proofs.Ending.{given_less, Wishing, cannot_advance}
+use Rattle.worker.proofs.DurableLemmas.InVain.{as_on_disk, settled_vainly, asked_vainly}
+use Rattle.worker.proofs.DurableLemmas.Asking.{asks_once_of}
+use Rattle.worker.proofs.DurableLemmas.Advancing.{with_process}
+use Rattle.worker.proofs.StoreTurnLemmas.{goes_none, goes_join, goes_stop, runs_join}
+use Rattle.worker.proofs.StoreTurnLemmas.{process_cause}
+use Rattle.worker.proofs.DurableLemmas.Working.{SoFar, so_far_none, works_spent, works_over}
+use Rattle.worker.proofs.DurableLemmas.Working.{works_in_vain, works_settled}
+use Rattle.worker.proofs.DurableLemmas.Working.{works_unsettled}
+use Rattle.worker.proofs.DurableLemmas.Working.{works_given, works_waiting, works_unasked}
+
+-- where the source has answered, or has none
+pub once_if_ok : {S : Type 0} (gives : Giving S) (old mid new : Running) (kind : Kind) (step : ℕ)
+    (result : Result Bool DurableFault) (source source' : S) → mid.process ≡ old.process
+    → Hears gives mid kind step result new source source'
+    → IfOk result (λ b. AsksOnce gives kind old.process (Ok b) new.process source source')
+once_if_ok gives old mid new kind step (Ok b) source source' same h =
+    asks_once_of gives old mid new kind step b source source' same h
+once_if_ok gives old mid new kind step (Err why) source source' same h = tt
+
+module _ {D S O : Type 0} (medium : D → Medium) (gives : Giving S) (takes : Taking O) where
+  -- it goes on, with and without its disk
+  pub record InSlice (old w : Running) (fuel first : ℕ) (disk disk' : D) (source source' : S)
+      (outlet outlet' : O) : Type 0 where
+    pub turning : Turning gives takes old.process w.process fuel first source source' outlet
+        outlet'
+    pub so_far : SoFar medium gives takes old fuel w disk disk' source source' outlet outlet'
+    pub goes : StoreGoes old.store w.store (medium disk) (medium disk')
+    pub places : w.store.geometry ≡ old.store.geometry
+    pub sectors : (medium disk').sectors ≡ (medium disk).sectors
+
+  pub in_slice_none : (w : Running) (fuel first : ℕ) (disk : D) (source : S) (outlet : O)
+      → waiting_in w.process ≡ [] → IsProcess w.process → first ≡ w.process.steps
+      → InSlice w w fuel first disk disk source source outlet outlet
+  in_slice_none w fuel first disk source outlet none_waits is first_is = record {
+    turning = turning_none gives takes w.process fuel first source outlet none_waits is first_is;
+    so_far = so_far_none medium gives takes w fuel disk source outlet;
+    goes = goes_none w.store (medium disk);
+    places = refl;
+    sectors = refl;
+  }
+
+  module _ (old w : Running) (v : ProcessValue) (fuel first left : ℕ) (disk mid : D) (s t : S)
+      (o q : O) (i : InSlice old w fuel first disk mid s t o q)
+      (left_is : left ≡ fuel - (w.process.steps - first))
+      (same : v.host.released ≡ w.process.host.released)
+      (same_guest : v.machine.guest ≡ w.process.machine.guest) where
+    left_there : left ≡ fuel - (w.process.steps - old.process.steps)
+    left_there =
+        let turning = i.turning in
+        left_is ∙ ap (λ n. fuel - (w.process.steps - n)) turning.first_is
+
+    pub spent_on : AdvancesProcess w.process left (Ok stops.Spent) v
+        → WorksOn gives takes old fuel (Ok now.Spent) (with_process w v) (medium disk) (medium mid)
+        s t o q
+    spent_on advances =
+        works_spent medium gives takes old w v fuel left disk mid s t o q i.so_far left_there same
+        same_guest i.sectors advances
+
+    pub over_on : (how : ProcessEnd) → AdvancesProcess w.process left (Ok (stops.Ended how)) v
+        → WorksOn gives takes old fuel (Ok (now.Ended how)) (with_process w v) (medium disk)
+        (medium mid) s t o q
+    over_on how advances =
+        works_over medium gives takes old w v fuel left disk mid s t o q i.so_far left_there same
+        same_guest i.sectors how advances
+
+    pub vain_on : (why : ProcessFault) → AdvancesProcess w.process left (Err why) v
+        → WorksOn gives takes old fuel (Err (Work (work_fault why))) (with_process w v)
+        (medium disk) (medium mid) s t o q
+    vain_on why advances =
+        works_in_vain medium gives takes old w v fuel left disk mid s t o q i.so_far left_there same
+        same_guest i.sectors why advances
+
+    pub vain_stops : (why : ProcessFault)
+        → StoreStops old.store w.store (Work (work_fault why)) (medium disk) (medium mid)
+    vain_stops why =
+        goes_stop old.store w.store (medium disk) (medium mid) i.goes (Work (work_fault why))
+        (process_cause old.store (medium disk) (medium mid) why)
+
+    -- what comes behind the turns so far
+    pub turn_runs : {T : Type 0} (w' : Running) (disk' : D) (result : Result T DurableFault)
+        → StoreRuns result w.store w'.store (medium mid) (medium disk')
+        → StoreRuns result old.store w'.store (medium disk) (medium disk')
+    turn_runs w' disk' result runs =
+        runs_join old.store w.store (medium disk) (medium mid) i.goes w'.store result
+        (medium disk') runs
+
+    -- as a worker without a disk
+    pub vain_so_far : (why : ProcessFault) → AdvancesProcess w.process left (Err why) v
+        → SlicesOnDiskInVain gives takes old.process fuel (Work (work_fault why)) v s t o q
+    vain_so_far why advances =
+        as_on_disk gives takes old.process v fuel why s t o q
+        (cannot_advance gives takes old.process w.process v fuel first left s t o q i.turning
+        left_is same why advances)
+
+    module _ (advances : AdvancesProcess w.process left (Ok stops.Owes) v) (w' : Running)
+        (disk' : D) (r : O) where
+      pub settled_on : ReleasesAll takes v w'.process q r
+          → SettlesTurn takes (with_process w v) w' (medium mid) (medium disk') q r
+          → StoreGoes w.store w'.store (medium mid) (medium disk')
+          → w'.store.geometry ≡ w.store.geometry → (medium disk').sectors ≡ (medium mid).sectors
+          → PaysCalls {T = Unit {0}} (Ok tt) w.store w'.store (medium mid) (medium disk')
+          → InSlice old w' fuel first disk disk' s t o r
+      settled_on all settles goes places sectors pays = record {
+        turning = released_all gives takes old.process v w'.process fuel first s t o q r
+            (owes gives takes old.process w.process v fuel first left s t o q i.turning left_is
+            same advances) all;
+        so_far = works_settled medium gives takes old w v fuel left disk mid s t o q i.so_far
+            left_there same same_guest i.sectors advances w' disk' r settles pays;
+        goes = goes_join old.store w.store (medium disk) (medium mid) i.goes w'.store
+            (medium disk') goes;
+        places = places ∙ i.places;
+        sectors = sectors ∙ i.sectors;
+      }
+
+      pub settled_less : ReleasesAll takes v w'.process q r
+          → measure fuel first w'.process < measure fuel first w.process
+      settled_less all =
+          owes_less gives takes old.process w.process v fuel first left s t o q i.turning left_is
+          same advances w'.process (released_none takes v w'.process q r all)
+          (released_steps takes v w'.process q r all)
+
+      pub unsettled_on : (why : DurableFault)
+          → SettlesInVain takes (with_process w v) why w' (medium mid) (medium disk') q r
+          → PaysCalls {T = Unit {0}} (Err why) w.store w'.store (medium mid) (medium disk')
+          → WorksOn gives takes old fuel (Err why) w' (medium disk) (medium disk') s t o r
+      unsettled_on why settles pays =
+          works_unsettled medium gives takes old w v fuel left disk mid s t o q i.so_far left_there
+          same same_guest i.sectors advances w' disk' r why settles pays
+
+      pub unsettled_so_far : (why : DurableFault) → SettlesVainly takes v why w'.process q r
+          → SlicesOnDiskInVain gives takes old.process fuel why w'.process s t o r
+      unsettled_so_far why vain =
+          settled_vainly gives takes old.process v fuel first s t o q
+          (owes gives takes old.process w.process v fuel first left s t o q i.turning left_is same
+          advances) why w'.process r vain
+
+    module _ (kind : Kind) (advances : AdvancesProcess w.process left (Ok (stops.Asks kind)) v)
+        (w' : Running) (disk' : D) (u : S) where
+      wishing : Wishing gives takes old.process v fuel first s t o q kind
+      wishing =
+          asks gives takes old.process w.process v fuel first left s t o q i.turning left_is same
+          kind advances
+
+      pub given_on : AsksOnce gives kind v (Ok true) w'.process t u
+          → w'.process.host.released ≡ v.host.released
+          → AsksTurn gives (with_process w v) kind (Ok true) w' (medium mid) (medium disk') t u
+          → StoreGoes w.store w'.store (medium mid) (medium disk')
+          → w'.store.geometry ≡ w.store.geometry → (medium disk').sectors ≡ (medium mid).sectors
+          → CallsUpTo (most_saving (medium mid).sectors) (medium mid) (medium disk')
+          → InSlice old w' fuel first disk disk' s u o q
+      given_on once still asked goes places sectors few = record {
+        turning = given gives takes old.process v w'.process fuel first s t u o q kind wishing once
+            still;
+        so_far = works_given medium gives takes old w v fuel left disk mid s t o q i.so_far
+            left_there same same_guest i.sectors kind advances w' disk' u few asked;
+        goes = goes_join old.store w.store (medium disk) (medium mid) i.goes w'.store
+            (medium disk') goes;
+        places = places ∙ i.places;
+        sectors = sectors ∙ i.sectors;
+      }
+
+      pub given_lower : AsksOnce gives kind v (Ok true) w'.process t u
+          → measure fuel first w'.process < measure fuel first w.process
+      given_lower once =
+          given_less gives takes old.process v w'.process fuel first s t u o q kind wishing once
+          w.process
+          (asks_counts gives takes old.process w.process v fuel first left s t o q i.turning left_is
+          same kind advances)
+
+      pub waits_done : AsksOnce gives kind v (Ok false) w'.process t u
+          → Slices gives takes (working old.process) fuel now.Waiting (working w'.process) s u o q
+      waits_done once =
+          waiting gives takes old.process v w'.process fuel first s t u o q kind wishing once
+
+      pub waits_on : AsksTurn gives (with_process w v) kind (Ok false) w' (medium mid)
+          (medium disk') t u
+          → CallsUpTo (most_saving (medium mid).sectors) (medium mid) (medium disk')
+          → WorksOn gives takes old fuel (Ok now.Waiting) w' (medium disk) (medium disk') s u o q
+      waits_on asked few =
+          works_waiting medium gives takes old w v fuel left disk mid s t o q i.so_far left_there
+          same same_guest i.sectors kind advances w' disk' u few asked
+
+      pub unasked_on : (why : DurableFault)
+          → AsksTurn gives (with_process w v) kind (Err why) w' (medium mid) (medium disk') t u
+          → CallsUpTo (most_saving (medium mid).sectors) (medium mid) (medium disk')
+          → WorksOn gives takes old fuel (Err why) w' (medium disk) (medium disk') s u o q
+      unasked_on why asked few =
+          works_unasked medium gives takes old w v fuel left disk mid s t o q i.so_far left_there
+          same same_guest i.sectors kind advances w' disk' u few why asked
+
+      pub unasked_so_far : (why : DurableFault)
+          → AsksVainly gives (with_process w v) kind why w' t u
+          → SlicesOnDiskInVain gives takes old.process fuel why w'.process s u o q
+      unasked_so_far why vain =
+          asked_vainly gives takes old.process v fuel first s t o q kind wishing (with_process w v)
+          w' why u refl vain

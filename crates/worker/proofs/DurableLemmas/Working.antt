@@ -1,0 +1,513 @@
+-- The turns of a slice of a worker on its disk, one after another.
+use Rattle.std.proofs.Common.{◌≡◌, ℕ, ◌+◌, ◌-◌, ◌≤◌, List, [], ◌∷◌, ◌++◌, refl, sym, ap}
+use Rattle.std.proofs.Common.{◌∙◌}
+use Rattle.std.proofs.Common.{subst, arith, Bool, true, false, Ok, Err, ◌*◌, length, length-append}
+use Rattle.std.specs.Prelude.{Result}
+use Rattle.wasm_syntax.specs.declared.module.Module.{Module}
+use Rattle.wasi_abi.specs.declared.answer.Kind.{Kind}
+use Rattle.wasi_abi.specs.rules.Configs.{Settings}
+use Rattle.process_rules.specs.Processes.{ProcessState, Guest}
+use Rattle.process.specs.declared.fault.ProcessFault.{ProcessFault}
+use Rattle.process.specs.declared.stop.ProcessEnd.{ProcessEnd}
+use Rattle.process.specs.declared.stop.Stop.TheVariants as stops
+use Rattle.process.specs.rules.Values.{ProcessValue, ending_of}
+use Rattle.process.specs.rules.Stops.{AdvancesProcess}
+use Rattle.sector_disk.specs.rules.Image.{Image}
+use Rattle.sector_disk.specs.rules.Medium.{Medium, CallsUpTo, Passes}
+use Rattle.state_image.specs.rules.Saving.{saved_of}
+use Rattle.record_replay.specs.rules.Calls.{Giving, Taking, Begun, Exchange, Asks, Tells, Exchanges}
+use Rattle.record_replay.specs.rules.Calls.{Releases, AnswersInOrder}
+use Rattle.record_replay.proofs.Following.{exchanges_join}
+use Rattle.worker_rules.specs.Lives.{Act, Slice, Reply, Spent, Over, Waits, Fails, Ended}
+use Rattle.worker_rules.specs.Courses.{Stage, Open, phase_ended, next_stage, stage_after}
+use Rattle.worker_rules.specs.Promises.{Promise}
+use Rattle.worker_rules.specs.Holds.{CarriesPromise, StaysWithin}
+use Rattle.worker_store.specs.laws.Underway.{IsUnderWay}
+use Rattle.worker_store.specs.laws.Pieces.{IsForetold}
+use Rattle.worker_store.specs.laws.Turns.{LeavesBegun}
+use Rattle.worker_store.proofs.LawLemmas.CallEnds.{slices_begin}
+use Rattle.worker_store.proofs.LawLemmas.Pieces.{parts_join, parts_are_foretold, ends_join}
+use Rattle.worker_store.proofs.LawLemmas.TurnLemmas.{turns_join, turns_carry, parts_leave_begun}
+use Rattle.record_replay.proofs.Emitted.{released_whole}
+use Rattle.ephemeral_worker.specs.declared.now.Now.{Now}
+use Rattle.ephemeral_worker.specs.declared.now.Now.TheVariants as now
+use Rattle.worker.specs.declared.fault.DurableFault.{DurableFault}
+use Rattle.worker.specs.declared.fault.DurableFault.TheVariants.{Work}
+use Rattle.worker.specs.declared.running.Running.{Running}
+use Rattle.ephemeral_worker.specs.rules.Refusals.{work_fault}
+use Rattle.worker.specs.rules.CallCounts.{most_calls, most_saving, CallsForEvents}
+use Rattle.worker.specs.StoreTurns.{owed, PaysCalls}
+use Rattle.worker.proofs.CallCountLemmas.{turns_then, turns_end, turn_once, turn_free}
+use Rattle.worker.proofs.CallCountLemmas.{turn_last, owed_within}
+use Rattle.worker.specs.rules.DurableValues.{DurableValue, durable_of}
+use Rattle.worker.specs.rules.OpenWorkers.{IsOpenOn}
+use Rattle.worker.specs.rules.DurableCalls.{HasCauseOf, IsReplyOf, CallCarries}
+use Rattle.worker.specs.rules.DurableCalls.{SliceCarries}
+use Rattle.worker.specs.DurableTurns.{Course, IsBetweenTurns, TurnGoes, TurnEnds}
+use Rattle.worker.specs.DurableTurns.{slice_end, told_lines_of, SettlesTurn, SettlesInVain}
+use Rattle.worker.specs.DurableTurns.{AsksOutside, AsksTurn, WorksOn}
+use Rattle.ephemeral_worker.proofs.Joining.{tells_ask_nothing, releases_of_tells}
+use Rattle.worker.proofs.DurableLemmas.OnDisk.{keeps_now}
+use Rattle.worker.proofs.DurableLemmas.Bounds.{bounds_join, on_disk_still}
+use Rattle.worker.proofs.DurableLemmas.Ends.{cause_before, done_nothing, stays_on, not_open}
+use Rattle.worker.proofs.DurableLemmas.Advancing.{with_process, advance_owes, advance_asks}
+use Rattle.worker.proofs.DurableLemmas.Advancing.{advance_spent, advance_over}
+use Rattle.worker.proofs.DurableLemmas.Advancing.{advance_fails}
+
+-- ---- two parts of a slice
+
+module _ {D : Type 0} (medium : D → Medium) (c : Course) (promise : Promise) (stage : Stage)
+    (xs ys : List Exchange) (w w' : Running) (disk mid disk' : D)
+    (a : TurnGoes c promise stage xs w (medium disk) (medium mid)) where
+  goes_after : TurnGoes c a.promise' a.stage' ys w' (medium mid) (medium disk')
+      → TurnGoes c promise stage (xs ++ ys) w' (medium disk) (medium disk')
+  goes_after b = record {
+    promise' = b.promise';
+    stage' = b.stage';
+    process = b.process;
+    done = parts_join c.code c.config promise a.promise' b.promise' stage a.stage' b.stage' xs ys
+        a.done b.done;
+    onward = turns_join medium c.code c.config promise a.promise' b.promise' disk mid disk' a.onward
+        b.onward;
+    bounded = bounds_join a.promise'.events b.promise'.events (medium disk) (medium mid)
+        (medium disk') begun.events a.bounded b.bounded;
+    running = b.running;
+  }
+    where
+      begun : LeavesBegun a.promise' b.promise' a.stage' b.stage'
+      begun = parts_leave_begun c.code c.config a.promise' b.promise' a.stage' b.stage' ys b.done
+
+  ends_after : (reply : Reply)
+      → TurnEnds c a.promise' a.stage' reply ys w' (medium mid) (medium disk')
+      → TurnEnds c promise stage reply (xs ++ ys) w' (medium disk) (medium disk')
+  ends_after reply b = record {
+    between = b.between;
+    inside = b.inside;
+    held = b.held;
+    done = parts_join c.code c.config promise a.promise' b.between stage a.stage' b.inside xs ys
+        a.done b.done;
+    ending = b.ending;
+    onward = turns_join medium c.code c.config promise a.promise'
+        (slice_end b.between c.fuel reply b.held w') disk mid disk' a.onward b.onward;
+    bounded = bounds_join a.promise'.events (b.between.events + 1) (medium disk) (medium mid)
+        (medium disk') (one_on begun.events) a.bounded b.bounded;
+    keeps = b.keeps;
+    goes_on = b.goes_on;
+  }
+    where
+      begun : LeavesBegun a.promise' b.between a.stage' b.inside
+      begun = parts_leave_begun c.code c.config a.promise' b.between a.stage' b.inside ys b.done
+
+      one_on : a.promise'.events ≤ b.between.events → a.promise'.events ≤ b.between.events + 1
+      one_on le = omega (arith, le)
+
+-- a cause at a later moment is one at an earlier moment
+causes_before : (result : Result Now DurableFault) (guest : Guest) (config : Settings)
+    (v : ProcessValue) (old mid new : Medium) {P : Image → Type 0} → Passes old mid P
+    → HasCauseOf result guest config v mid new → HasCauseOf result guest config v old new
+causes_before (Ok why) guest config v old mid new passes cause = tt
+causes_before (Err why) guest config v old mid new passes cause =
+    cause_before why guest config v old mid new passes.room passes.faults cause
+
+-- ---- exchanges
+
+module _ {S O : Type 0} (gives : Giving S) (takes : Taking O) where
+  told_alone : (source : S) (outlet outlet' : O) (begun : List Begun)
+      → Releases takes outlet begun outlet'
+      → Exchanges gives takes source outlet (told_lines_of begun) source outlet'
+  told_alone source outlet outlet' begun released = record {
+    asked = subst (λ z. AnswersInOrder gives source z source) (sym (tells_ask_nothing begun)) refl;
+    released = subst (λ z. Releases takes outlet z outlet') (sym (releases_of_tells begun))
+        released;
+  }
+
+  asked_alone : (kind : Kind) (exchanges : List Exchange) (source source' : S) (outlet : O)
+      → AsksOutside gives kind exchanges source source'
+      → Exchanges gives takes source outlet exchanges source' outlet
+  asked_alone kind [] source source' outlet same = record { asked = same; released = refl }
+  asked_alone kind (Asks ask ∷ []) source source' outlet h =
+      record { asked = (source', h.1, refl); released = refl }
+  asked_alone kind (Asks ask ∷ (x ∷ others)) source source' outlet h = absurd h
+  asked_alone kind (Tells begun ∷ others) source source' outlet h = absurd h
+
+  nothing_alone : (source : S) (outlet : O) → Exchanges gives takes source outlet [] source outlet
+  nothing_alone source outlet = record { asked = refl; released = refl }
+
+-- ---- a slice so far
+
+module _ {D S O : Type 0} (medium : D → Medium) (gives : Giving S) (takes : Taking O) where
+  -- the exchanges so far are those of a worker that goes on
+  abbrev pub SoFar : Running → ℕ → Running → D → D → S → S → O → O → Type 0
+  SoFar old fuel w disk disk' source source' outlet outlet' =
+      (exchanges : List Exchange)
+      × Exchanges gives takes source outlet exchanges source' outlet'
+      × ((c : Course) (promise : Promise) (stage : Stage) (p : ProcessState) → c.fuel ≡ fuel
+      → c.first ≡ old.process.steps → IsBetweenTurns c promise stage p old (medium disk)
+      → IsForetold stage exchanges
+      → TurnGoes c promise stage exchanges w (medium disk) (medium disk'))
+      × ((medium disk').counted + owed (medium disk).sectors w.store.journal.kept
+      ≤ (medium disk).counted + (medium disk).sectors
+      + length exchanges * most_calls (medium disk).sectors)
+
+  pub so_far_none : (w : Running) (fuel : ℕ) (disk : D) (source : S) (outlet : O)
+      → SoFar w fuel w disk disk source source outlet outlet
+  so_far_none w fuel disk source outlet = (
+    [],
+    nothing_alone gives takes source outlet,
+    λ c promise stage p fuel_is first_is between foretold. record {
+      promise' = promise;
+      stage' = stage;
+      process = p;
+      done = done_nothing c promise stage;
+      onward = stays_on medium c promise disk between.opened
+          (keeps_now medium c.code c.config c.guest promise p p.steps promise.events w.store disk
+          between.on_disk);
+      bounded = on_disk_still medium c.code c.config c.guest promise p p.steps promise.events
+          w.store disk between.on_disk promise.events (omega arith);
+      running = between;
+    },
+    (let few = owed_within (medium disk).sectors w.store.journal.kept in omega (arith, few)),
+  )
+
+  module _ (old w : Running) (fuel : ℕ) (disk mid disk' : D) (s t u : S) (o q r : O)
+      (so_far : SoFar old fuel w disk mid s t o q) (w' : Running) (ys : List Exchange)
+      (more : Exchanges gives takes t q ys u r) where
+    -- it goes on
+    pub then_goes : ((c : Course) (promise : Promise) (stage : Stage) (p : ProcessState)
+        → c.fuel ≡ fuel → c.first ≡ old.process.steps
+        → IsBetweenTurns c promise stage p w (medium mid) → IsForetold stage ys
+        → TurnGoes c promise stage ys w' (medium mid) (medium disk'))
+        → (medium disk').counted + owed (medium disk).sectors w'.store.journal.kept
+        ≤ (medium mid).counted + owed (medium disk).sectors w.store.journal.kept
+        + length ys * most_calls (medium disk).sectors
+        → SoFar old fuel w' disk disk' s u o r
+    then_goes turn pays = (
+      so_far.0 ++ ys,
+      exchanges_join gives takes s u t o r q so_far.0 ys so_far.1 more,
+      λ c promise stage p fuel_is first_is between foretold.
+          let first = parts_are_foretold c.code c.config promise promise stage stage so_far.0 ys
+          foretold in
+          let a = so_far.2 c promise stage p fuel_is first_is between first.1 in
+          let both = parts_are_foretold c.code c.config promise a.promise' stage a.stage' so_far.0
+          ys foretold in
+          goes_after medium c promise stage so_far.0 ys w w' disk mid disk' a
+          (turn c a.promise' a.stage' a.process fuel_is first_is a.running (both.0 a.done)),
+      turns_then (length so_far.0) (length ys) (length (so_far.0 ++ ys))
+          (most_calls (medium disk).sectors) (medium disk).counted (medium mid).counted
+          (medium disk').counted (medium disk).sectors
+          (owed (medium disk).sectors w.store.journal.kept)
+          (owed (medium disk).sectors w'.store.journal.kept) so_far.3 pays
+          (length-append so_far.0 ys),
+    )
+
+    -- it is over
+    pub then_ends : (result : Result Now DurableFault)
+        → ((c : Course) (promise : Promise) (stage : Stage) (p : ProcessState)
+        → c.fuel ≡ fuel → c.first ≡ old.process.steps
+        → IsBetweenTurns c promise stage p w (medium mid) → IsForetold stage ys
+        → (reply : Reply) × IsReplyOf result reply
+        × HasCauseOf result c.guest c.config w'.process (medium mid) (medium disk')
+        × TurnEnds c promise stage reply ys w' (medium mid) (medium disk'))
+        → (medium disk').counted ≤ (medium mid).counted
+        + owed (medium disk).sectors w.store.journal.kept + most_saving (medium disk).sectors
+        → WorksOn gives takes old fuel result w' (medium disk) (medium disk') s u o r
+    then_ends result turn pays = (
+      so_far.0 ++ ys,
+      exchanges_join gives takes s u t o r q so_far.0 ys so_far.1 more,
+      λ c promise stage p fuel_is first_is between foretold.
+          let first = parts_are_foretold c.code c.config promise promise stage stage so_far.0 ys
+          foretold in
+          let a = so_far.2 c promise stage p fuel_is first_is between first.1 in
+          let both = parts_are_foretold c.code c.config promise a.promise' stage a.stage' so_far.0
+          ys foretold in
+          let last = turn c a.promise' a.stage' a.process fuel_is first_is a.running
+          (both.0 a.done) in
+          let onward = a.onward in
+          let leaves = onward.leaves in (
+            last.0,
+            last.1,
+            causes_before result c.guest c.config w'.process (medium disk) (medium mid)
+                (medium disk') leaves.passes last.2,
+            ends_after medium c promise stage so_far.0 ys w w' disk mid disk' a last.0 last.3,
+          ),
+      turns_end (length so_far.0) (length ys) (length (so_far.0 ++ ys))
+          (most_calls (medium disk).sectors) (medium disk).counted (medium mid).counted
+          (medium disk').counted (medium disk).sectors
+          (owed (medium disk).sectors w.store.journal.kept)
+          (most_saving (medium disk).sectors) so_far.3
+          (turn_last (length ys) (most_calls (medium disk).sectors) (medium mid).counted
+          (medium disk').counted (owed (medium disk).sectors w.store.journal.kept)
+          (most_saving (medium disk).sectors) pays) (length-append so_far.0 ys) (omega arith),
+    )
+
+  -- ---- its turns
+
+  module _ (old w : Running) (v : ProcessValue) (fuel left : ℕ) (disk mid : D) (s t : S) (o q : O)
+      (so_far : SoFar old fuel w disk mid s t o q)
+      (left_is : left ≡ fuel - (w.process.steps - old.process.steps))
+      (same : v.host.released ≡ w.process.host.released)
+      (same_guest : v.machine.guest ≡ w.process.machine.guest)
+      (long : (medium mid).sectors ≡ (medium disk).sectors) where
+    nothing_called : (medium mid).counted ≤ (medium mid).counted
+        + owed (medium disk).sectors w.store.journal.kept + most_saving (medium disk).sectors
+    nothing_called = omega arith
+
+    left_of : (c : Course) → c.fuel ≡ fuel → c.first ≡ old.process.steps
+        → left ≡ c.fuel - (w.process.steps - c.first)
+    left_of c fuel_is first_is =
+        left_is ∙ ap (λ n. n - (w.process.steps - old.process.steps)) (sym fuel_is)
+        ∙ ap (λ n. c.fuel - (w.process.steps - n)) (sym first_is)
+
+    pub works_spent : AdvancesProcess w.process left (Ok stops.Spent) v
+        → WorksOn gives takes old fuel (Ok now.Spent) (with_process w v) (medium disk) (medium mid)
+        s t o q
+    works_spent advances =
+        then_ends old w fuel disk mid mid s t t o q q so_far (with_process w v) []
+        (nothing_alone gives takes t q) (Ok now.Spent)
+        (λ c promise stage p fuel_is first_is between foretold. (
+          Spent,
+          refl,
+          tt,
+          advance_spent medium c promise stage p w v mid between left (left_of c fuel_is first_is)
+              same same_guest advances,
+        )) nothing_called
+
+    pub works_over : (how : ProcessEnd) → AdvancesProcess w.process left (Ok (stops.Ended how)) v
+        → WorksOn gives takes old fuel (Ok (now.Ended how)) (with_process w v) (medium disk)
+        (medium mid) s t o q
+    works_over how advances =
+        then_ends old w fuel disk mid mid s t t o q q so_far (with_process w v) []
+        (nothing_alone gives takes t q) (Ok (now.Ended how))
+        (λ c promise stage p fuel_is first_is between foretold. (
+          Over (ending_of how),
+          refl,
+          tt,
+          advance_over medium c promise stage p w v mid between left (left_of c fuel_is first_is)
+              same same_guest how advances,
+        )) nothing_called
+
+    pub works_in_vain : (why : ProcessFault) → AdvancesProcess w.process left (Err why) v
+        → WorksOn gives takes old fuel (Err (Work (work_fault why))) (with_process w v)
+        (medium disk) (medium mid) s t o q
+    works_in_vain why advances =
+        then_ends old w fuel disk mid mid s t t o q q so_far (with_process w v) []
+        (nothing_alone gives takes t q) (Err (Work (work_fault why)))
+        (λ c promise stage p fuel_is first_is between foretold.
+        let fails = advance_fails medium c promise stage p w v mid between left
+        (left_of c fuel_is first_is) same same_guest why advances in
+        (Fails fails.0, (fails.0, fails.1, refl), fails.2, fails.3)) nothing_called
+
+    -- what is owed
+    module _ (advances : AdvancesProcess w.process left (Ok stops.Owes) v) (w' : Running)
+        (disk' : D) (r : O) where
+      pub works_settled : SettlesTurn takes (with_process w v) w' (medium mid) (medium disk') q r
+          → PaysCalls {T = Unit {0}} (Ok tt) w.store w'.store (medium mid) (medium disk')
+          → SoFar old fuel w' disk disk' s t o r
+      works_settled settles pays =
+          then_goes old w fuel disk mid disk' s t t o q r so_far w' (told_lines_of settles.0)
+          (told_alone gives takes t q r settles.0 settles.1)
+          (λ c promise stage p fuel_is first_is between foretold.
+          let owes = advance_owes medium c promise stage p w v mid between left
+          (left_of c fuel_is first_is) same same_guest advances in
+          settles.2 c promise stage owes.process owes.owing foretold)
+          (turn_free (length (told_lines_of settles.0)) (most_calls (medium disk).sectors)
+          (medium mid).counted (medium disk').counted
+          (owed (medium disk).sectors w.store.journal.kept)
+          (owed (medium disk).sectors w'.store.journal.kept)
+          (subst (λ (n : ℕ). (medium disk').counted + owed n w'.store.journal.kept
+          ≤ (medium mid).counted + owed n w.store.journal.kept) long pays))
+
+      pub works_unsettled : (why : DurableFault)
+          → SettlesInVain takes (with_process w v) why w' (medium mid) (medium disk') q r
+          → PaysCalls {T = Unit {0}} (Err why) w.store w'.store (medium mid) (medium disk')
+          → WorksOn gives takes old fuel (Err why) w' (medium disk) (medium disk') s t o r
+      works_unsettled why settles pays =
+          then_ends old w fuel disk mid disk' s t t o q r so_far w' (told_lines_of settles.0)
+          (told_alone gives takes t q r settles.0 settles.1) (Err why)
+          (λ c promise stage p fuel_is first_is between foretold.
+          let owes = advance_owes medium c promise stage p w v mid between left
+          (left_of c fuel_is first_is) same same_guest advances in
+          let fails = settles.2 c promise stage owes.process owes.owing foretold in
+          (Fails fails.0, (fails.0, fails.1, refl), fails.2, fails.3))
+          (let paid = subst (λ (n : ℕ). (medium disk').counted
+          ≤ (medium mid).counted + owed n w.store.journal.kept) long pays in omega (arith, paid))
+
+    -- what is asked
+    module _ (kind : Kind) (advances : AdvancesProcess w.process left (Ok (stops.Asks kind)) v)
+        (w' : Running) (disk' : D) (u : S)
+        (few : CallsUpTo (most_saving (medium mid).sectors) (medium mid) (medium disk')) where
+      -- it ends the slice, if it does
+      called_last : (medium disk').counted ≤ (medium mid).counted
+          + owed (medium disk).sectors w.store.journal.kept + most_saving (medium disk).sectors
+      called_last = omega (arith, few, long)
+
+      pub works_given : AsksTurn gives (with_process w v) kind (Ok true) w' (medium mid)
+          (medium disk') t u → SoFar old fuel w' disk disk' s u o q
+      works_given asks =
+          then_goes old w fuel disk mid disk' s t u o q q so_far w' asks.0
+          (asked_alone gives takes kind asks.0 t u q asks.1)
+          (λ c promise stage p fuel_is first_is between foretold.
+          let there = advance_asks medium c promise stage p w v mid between left
+          (left_of c fuel_is first_is) same same_guest kind advances in
+          asks.2 c promise stage there.process there.asking foretold)
+          (let less = owed_within (medium disk).sectors w'.store.journal.kept in
+          let one = asks.3 in
+          turn_once (length asks.0) (most_calls (medium disk).sectors) (medium mid).counted
+          (medium disk').counted (owed (medium disk).sectors w.store.journal.kept)
+          (owed (medium disk).sectors w'.store.journal.kept) (most_saving (medium mid).sectors) few
+          (omega (arith, less, long)) (omega (arith, one)))
+
+      pub works_waiting : AsksTurn gives (with_process w v) kind (Ok false) w' (medium mid)
+          (medium disk') t u
+          → WorksOn gives takes old fuel (Ok now.Waiting) w' (medium disk) (medium disk') s u o q
+      works_waiting asks =
+          then_ends old w fuel disk mid disk' s t u o q q so_far w' asks.0
+          (asked_alone gives takes kind asks.0 t u q asks.1) (Ok now.Waiting)
+          (λ c promise stage p fuel_is first_is between foretold.
+          let there = advance_asks medium c promise stage p w v mid between left
+          (left_of c fuel_is first_is) same same_guest kind advances in
+          (Waits, refl, tt, asks.2 c promise stage there.process there.asking foretold)) called_last
+
+      pub works_unasked : (why : DurableFault)
+          → AsksTurn gives (with_process w v) kind (Err why) w' (medium mid) (medium disk') t u
+          → WorksOn gives takes old fuel (Err why) w' (medium disk) (medium disk') s u o q
+      works_unasked why asks =
+          then_ends old w fuel disk mid disk' s t u o q q so_far w' asks.0
+          (asked_alone gives takes kind asks.0 t u q asks.1) (Err why)
+          (λ c promise stage p fuel_is first_is between foretold.
+          let there = advance_asks medium c promise stage p w v mid between left
+          (left_of c fuel_is first_is) same same_guest kind advances in
+          let fails = asks.2 c promise stage there.process there.asking foretold in
+          (Fails fails.0, (fails.0, fails.1, refl), fails.2, fails.3)) called_last
+
+-- ---- the whole slice
+
+-- a worker that is open begins a slice
+begins : (m : Module) (config : Settings) (guest : Guest) (promise : Promise) (stage : Stage)
+    (p : ProcessState) (acts : List Act) (running : Running) (replayed fuel : ℕ) (failed : Bool)
+    (disk : Medium)
+    → IsOpenOn m config guest promise stage p (durable_of running replayed failed) disk
+    → stage.acts ≡ Slice fuel ∷ acts
+    → IsBetweenTurns (record {
+      code = m;
+      config = config;
+      guest = guest;
+      fuel = fuel;
+      first = running.process.steps;
+    }) promise stage p running disk
+begins m config guest promise stage p acts running replayed fuel failed disk open_on next_act =
+    let shows = open_on.shows in
+    let between = open_on.between in
+    record {
+      opened = open_on.opened;
+      texts = open_on.texts;
+      shows = open_on.shows;
+      module_is = open_on.module_is;
+      way = subst (λ n. IsUnderWay m config guest promise stage fuel n p)
+          (sym (released_whole running.process guest p open_on.shows open_on.none_waits))
+          (slices_begin m config guest promise stage fuel acts p between next_act open_on.heard
+          open_on.passed);
+      began = between.step ∙ sym shows.steps;
+      on_disk = open_on.on_disk;
+      synced = open_on.synced;
+    }
+
+-- how a slice ends is how its call does
+module _ {D : Type 0} (medium : D → Medium) (c : Course) (promise : Promise) (stage : Stage)
+    (reply : Reply) (exchanges : List Exchange) (w : Running) (replayed : ℕ) (failed : Bool)
+    (disk disk' : D)
+    (ends : TurnEnds c promise stage reply exchanges w (medium disk) (medium disk'))
+    (few : CallsForEvents (length exchanges + 1) (medium disk) (medium disk')) where
+  call_carries : (phase_ended reply ≡ Open → failed ≡ false)
+      → CallCarries c.code c.config c.guest promise stage (Slice c.fuel) reply
+      (durable_of w replayed failed) (medium disk) (medium disk') exchanges
+  call_carries works =
+      let done = ends.done in
+      let joined = ends_join c.code c.config promise ends.between stage ends.inside exchanges
+      (Ended (Slice c.fuel) reply ends.held (saved_of w.process)) done ends.ending in
+      record {
+        events = done.events;
+        are = done.are;
+        held = ends.held;
+        kept = joined.0;
+        carried = subst (λ z. CarriesPromise c.code c.config promise z (medium disk)
+            (medium disk')) (sym joined.1)
+            (turns_carry medium c.code c.config promise _ disk disk' ends.onward ends.keeps);
+        bounded = subst (λ (z : Promise). StaysWithin z.events (medium disk) (medium disk'))
+            (sym joined.1) ends.bounded;
+        counted = few;
+        goes_on = λ over.
+            let again = ends.goes_on over replayed in (
+              again.0,
+              subst (λ z. IsOpenOn c.code c.config c.guest z (stage_after stage (done.events
+                  ++ Ended (Slice c.fuel) reply ends.held (saved_of w.process) ∷ [])) again.0
+                  (durable_of w replayed failed) (medium disk')) (sym joined.1)
+                  (subst (λ z. IsOpenOn c.code c.config c.guest
+                  (slice_end ends.between c.fuel reply ends.held w) z again.0
+                  (durable_of w replayed failed) (medium disk')) (sym joined.2)
+                  (subst (λ b. IsOpenOn c.code c.config c.guest
+                  (slice_end ends.between c.fuel reply ends.held w)
+                  (next_stage ends.inside
+                  (Ended (Slice c.fuel) reply ends.held (saved_of w.process))) again.0
+                  (durable_of w replayed b) (medium disk')) (sym (works over)) again.1)),
+            );
+      }
+
+module _ {D S O : Type 0} (medium : D → Medium) (gives : Giving S) (takes : Taking O)
+    (old new : Running) (replayed fuel : ℕ) (before after : Bool) (disk disk' : D)
+    (source source' : S) (outlet outlet' : O) where
+  carries_by : (result : Result Now DurableFault) → ((reply : Reply) → IsReplyOf result reply
+      → phase_ended reply ≡ Open → after ≡ false)
+      → WorksOn gives takes old fuel result new (medium disk) (medium disk') source source' outlet
+      outlet'
+      → SliceCarries gives takes (durable_of old replayed before) fuel result
+      (durable_of new replayed after) (medium disk) (medium disk') source source' outlet outlet'
+  carries_by result works worked = (
+    worked.0,
+    worked.1,
+    λ m config guest promise stage p acts open_on next_act foretold.
+        let c : Course = record {
+          code = m;
+          config = config;
+          guest = guest;
+          fuel = fuel;
+          first = old.process.steps;
+        } in
+        let ended = worked.2 c promise stage p refl refl
+        (begins m config guest promise stage p acts old replayed fuel before (medium disk) open_on
+        next_act) foretold in (
+          ended.0,
+          ended.1,
+          ended.2,
+          call_carries medium c promise stage ended.0 worked.0 new replayed after disk disk'
+              ended.3 worked.3 (works ended.0 ended.1),
+        ),
+  )
+
+  pub slice_carries : (why : Now) → after ≡ false
+      → WorksOn gives takes old fuel (Ok why) new (medium disk) (medium disk') source source'
+      outlet outlet'
+      → SliceCarries gives takes (durable_of old replayed before) fuel (Ok why)
+      (durable_of new replayed after) (medium disk) (medium disk') source source' outlet outlet'
+  slice_carries why works worked = carries_by (Ok why) (λ reply is over. works) worked
+
+  pub slice_fails : (why : DurableFault)
+      → WorksOn gives takes old fuel (Err why) new (medium disk) (medium disk') source source'
+      outlet outlet'
+      → SliceCarries gives takes (durable_of old replayed before) fuel (Err why)
+      (durable_of new replayed after) (medium disk) (medium disk') source source' outlet outlet'
+  slice_fails why worked =
+      carries_by (Err why)
+      (λ reply is over. absurd (not_open is.0 (ap phase_ended (sym is.2) ∙ over))) worked
+
+-- one that has failed is not open
+pub failed_carries : {S O : Type 0} (gives : Giving S) (takes : Taking O) (old new : DurableValue)
+    (fuel : ℕ) (result : Result Now DurableFault) (disk disk' : Medium) (source : S) (outlet : O)
+    → old.has_failed ≡ true
+    → SliceCarries gives takes old fuel result new disk disk' source source outlet outlet
+failed_carries gives takes old new fuel result disk disk' source outlet failed = (
+  [],
+  nothing_alone gives takes source outlet,
+  λ m config guest promise stage p acts open_on next_act foretold.
+      let works = open_on.works in absurd (cc),
+)

@@ -1,0 +1,269 @@
+-- What calls of a worker that is open, one after another, make of a life.
+use Rattle.std.proofs.Common.{◌≡◌, ℕ, ◌+◌, List, [], ◌∷◌, ◌++◌, refl, sym, ap, ◌∙◌}
+use Rattle.std.proofs.Common.{subst, arith, length, length-append}
+use Rattle.std.specs.Prelude.{Result, Ok, Err, None, true}
+use Rattle.wasm_syntax.specs.declared.module.Module.{Module}
+use Rattle.wasi_abi.specs.rules.Configs.{Settings}
+use Rattle.process_rules.specs.Processes.{ProcessState, Guest}
+use Rattle.state_image.specs.rules.Image.{Saved}
+use Rattle.sector_disk.specs.rules.Medium.{Medium}
+use Rattle.record_replay.specs.rules.Calls.{Giving, Taking, Exchange, Exchanges}
+use Rattle.record_replay.proofs.Following.{exchanges_join}
+use Rattle.worker_rules.specs.Lives.{Act, Slice, Checkpoint, Cause, Reply, Fails, Event}
+use Rattle.worker_rules.specs.Lives.{Ended, told_in}
+use Rattle.worker_rules.specs.Courses.{Stage, Open, phase_ended, stage_after, without_first}
+use Rattle.worker_rules.specs.Promises.{Promise, after, promised, IsKept, AreKept}
+use Rattle.worker_rules.specs.Holds.{KeepsPromise, KeepsBounds}
+use Rattle.worker_rules.proofs.Promised.{calls_join}
+use Rattle.worker_store.specs.laws.Pieces.{IsForetold}
+use Rattle.worker_store.proofs.LawLemmas.Pieces.{parts_are_foretold}
+use Rattle.worker.specs.declared.fault.DurableFault.{DurableFault}
+use Rattle.worker.specs.declared.recover_fault.RecoverFault.{RecoverFault}
+use Rattle.worker.specs.declared.recover_fault.RecoverFault.TheVariants.{Worker}
+use Rattle.worker.specs.rules.CallCounts.{CallsForEvents}
+use Rattle.worker.specs.rules.DurableValues.{DurableValue}
+use Rattle.worker.specs.rules.OpenWorkers.{IsOpenOn}
+use Rattle.worker.specs.rules.DurableCalls.{CallCarries}
+use Rattle.worker.specs.laws.OneLife.{IsLater, CallsInOrder, no_more, sliced, slice_failed}
+use Rattle.worker.specs.laws.OneLife.{saved}
+use Rattle.worker.specs.laws.OneLife.{saving_failed, IsCauseOf, opened_in, released_in}
+use Rattle.worker.proofs.CallCountLemmas.{calls_none, calls_then}
+use Rattle.worker.proofs.LifeLemmas.Joined.{told_join}
+use Rattle.worker.proofs.LifeLemmas.Joined.{released_join, opened_behind}
+use Rattle.worker.proofs.LifeLemmas.Called.{later_still, HasDiskCause, cause_since}
+use Rattle.worker.proofs.LifeLemmas.Called.{CallGoes}
+use Rattle.worker.proofs.LifeLemmas.Called.{cause_of_slice}
+use Rattle.worker.proofs.LifeLemmas.Saving.{cause_of_saving}
+use Rattle.worker.proofs.LifeLemmas.Called.{CallFails, call_goes, call_fails, slices_go}
+
+module _ (m : Module) (config : Settings) where
+  -- no call has failed
+  pub record IsGoing (promise : Promise) (stage : Stage) (acts : List Act) (last : Medium) : Type 0
+    where
+      pub phase : stage.phase ≡ Open
+      pub acts_are : stage.acts ≡ acts
+      pub keeps : KeepsPromise m config promise last
+      pub bounded : KeepsBounds promise.events last
+
+  -- one has, which ends so
+  pub record HasBroken (promise : Promise) (stage : Stage) (why : RecoverFault) (old last : Medium)
+      : Type 0 where
+    pub act : Act
+    pub cause : Cause
+    pub held : ℕ
+    pub shown : Saved
+    pub ended : IsKept m config promise stage (Ended act (Fails cause) held shown)
+    pub is : IsCauseOf why cause
+    pub has_opened : promise.has_opened ≡ true
+    pub keeps : KeepsPromise m config (after promise (Ended act (Fails cause) held shown)) last
+    pub bounded : KeepsBounds (promise.events + 1) last
+    pub disk : HasDiskCause config why old last
+
+  abbrev pub ComeTo : Promise → Stage → Result (List Act) RecoverFault → Medium → Medium → Type 0
+  ComeTo promise stage (Ok acts) old last = IsGoing promise stage acts last
+  ComeTo promise stage (Err why) old last = HasBroken promise stage why old last
+
+  -- the events of calls, but for the end of one that failed
+  pub record CallsMake (promise : Promise) (stage : Stage) (exchanges : List Exchange)
+      (left : Result (List Act) RecoverFault) (old last : Medium) : Type 0 where
+    pub events : List Event
+    pub kept : AreKept m config promise stage events
+    pub told : told_in events ≡ released_in exchanges
+    pub shut : opened_in events ≡ None
+    pub come : ComeTo (promised promise events) (stage_after stage events) left old last
+    pub later : IsLater old last
+    pub counted : CallsForEvents (length events + 1) old last
+
+  pub come_since : (promise : Promise) (stage : Stage) (left : Result (List Act) RecoverFault)
+      (old mid last : Medium) → IsLater old mid → ComeTo promise stage left mid last
+      → ComeTo promise stage left old last
+  come_since promise stage (Ok acts) old mid last later come = come
+  come_since promise stage (Err why) old mid last later come =
+      record {
+        act = come.act;
+        cause = come.cause;
+        held = come.held;
+        shown = come.shown;
+        ended = come.ended;
+        is = come.is;
+        has_opened = come.has_opened;
+        keeps = come.keeps;
+        bounded = come.bounded;
+        disk = cause_since config why old mid last later come.disk;
+      }
+
+  -- a call without an error, and those behind it
+  calls_on : (guest : Guest) (promise : Promise) (stage : Stage) (act : Act) (reply : Reply)
+      (w : DurableValue) (first rest : List Exchange) (left : Result (List Act) RecoverFault)
+      (old mid last : Medium)
+      → (call : CallGoes m config guest promise stage act reply w first old mid)
+      → CallsMake (promised promise call.events) (stage_after stage call.events) rest left mid last
+      → CallsMake promise stage (first ++ rest) left old last
+  calls_on guest promise stage act reply w first rest left old mid last call more =
+      let joined = calls_join m config promise stage call.events more.events call.kept more.kept in
+      record {
+        events = call.events ++ more.events;
+        kept = joined.0;
+        told = told_join call.events more.events
+            ∙ ap (λ l. l ++ told_in more.events) call.told
+            ∙ ap (λ l. released_in first ++ l) more.told ∙ sym (released_join first rest);
+        shut = opened_behind call.events more.events call.shut ∙ more.shut;
+        come = come_since _ _ left old mid last call.later
+            (subst (λ (p : Promise). ComeTo p (stage_after stage (call.events ++ more.events)) left
+            mid last) (sym joined.1)
+            (subst (λ (s : Stage). ComeTo (promised (promised promise call.events) more.events) s
+            left mid last) (sym joined.2) more.come));
+        later = later_still old mid last call.later more.later;
+        counted = (let still = call.later in
+            calls_then (length call.events) (length more.events + 1)
+            (length (call.events ++ more.events) + 1) old mid last still.sectors call.counted
+            more.counted (omega (arith, length-append call.events more.events)));
+      }
+
+  -- the call that failed
+  calls_end : (promise : Promise) (stage : Stage) (why : DurableFault) (exchanges : List Exchange)
+      (old last : Medium) → CallFails m config promise stage why exchanges old last
+      → CallsMake promise stage exchanges (Err (Worker why)) old last
+  calls_end promise stage why exchanges old last call = record {
+    events = call.events;
+    kept = call.kept;
+    told = call.told;
+    shut = call.shut;
+    come = record {
+      act = call.act;
+      cause = call.cause;
+      held = call.held;
+      shown = call.shown;
+      ended = call.ended;
+      is = call.is;
+      has_opened = call.has_opened;
+      keeps = call.keeps;
+      bounded = call.bounded;
+      disk = call.disk;
+    };
+    later = call.later;
+    counted = call.counted;
+  }
+
+-- what calls exchange with source and outlet, and what they make of any life that they are in
+abbrev pub CallsComeOut : {S O : Type 0} → Giving S → Taking O → List Act → DurableValue
+    → Result (List Act) RecoverFault → Medium → Medium → S → S → O → O → Type 0
+CallsComeOut gives takes acts w left disk last source source' outlet outlet' =
+    (exchanges : List Exchange) × Exchanges gives takes source outlet exchanges source' outlet'
+    × ((m : Module) (config : Settings) (guest : Guest) (promise : Promise) (stage : Stage)
+    (p : ProcessState) → IsOpenOn m config guest promise stage p w disk → stage.acts ≡ acts
+    → IsForetold stage exchanges → KeepsPromise m config promise disk
+    → KeepsBounds promise.events disk → CallsMake m config promise stage exchanges left disk last)
+
+none_called : (m : Module) (config : Settings) (guest : Guest) (promise : Promise) (stage : Stage)
+    (p : ProcessState) (acts : List Act) (w : DurableValue) (disk : Medium)
+    → IsOpenOn m config guest promise stage p w disk → stage.acts ≡ acts
+    → KeepsPromise m config promise disk → KeepsBounds promise.events disk
+    → CallsMake m config promise stage [] (Ok acts) disk disk
+none_called m config guest promise stage p acts w disk open_on acts_are keeps bounded =
+    let between = open_on.between in
+    record {
+      events = [];
+      kept = tt;
+      told = refl;
+      shut = refl;
+      come = record {
+        phase = between.is_open;
+        acts_are = acts_are;
+        keeps = keeps;
+        bounded = bounded;
+      };
+      later = record { sectors = refl; told = refl; room = refl; faults = omega arith };
+      counted = calls_none 1 disk;
+    }
+
+-- what is next of a call that was done
+call_then : (m : Module) (config : Settings) (guest : Guest) (promise : Promise) (stage : Stage)
+    (act : Act) (reply : Reply) (acts : List Act) (w : DurableValue) (first rest : List Exchange)
+    (left : Result (List Act) RecoverFault) (old mid last : Medium) → stage.acts ≡ act ∷ acts
+    → IsForetold stage (first ++ rest)
+    → CallGoes m config guest promise stage act reply w first old mid
+    → ((promise' : Promise) (stage' : Stage) (q : ProcessState)
+    → IsOpenOn m config guest promise' stage' q w mid → stage'.acts ≡ acts
+    → IsForetold stage' rest → KeepsPromise m config promise' mid
+    → KeepsBounds promise'.events mid
+    → CallsMake m config promise' stage' rest left mid last)
+    → CallsMake m config promise stage (first ++ rest) left old last
+call_then m config guest promise stage act reply acts w first rest left old mid last acts_are
+    foretold call more =
+    calls_on m config guest promise stage act reply w first rest left old mid last call
+    (more (promised promise call.events) (stage_after stage call.events) call.process call.opened
+    (call.acts ∙ ap without_first acts_are) (call.foretold rest foretold) call.keeps call.bounded)
+
+module _ {D S O : Type 0} (medium : D → Medium) (gives : Giving S) (takes : Taking O) where
+  pub calls_make : (acts : List Act) (w : DurableValue) (disk last : D) (source source' : S)
+      (outlet outlet' : O) (left : Result (List Act) RecoverFault)
+      → CallsInOrder medium gives takes acts w disk source outlet left last source' outlet'
+      → CallsComeOut gives takes acts w left (medium disk) (medium last) source source' outlet
+      outlet'
+  calls_make acts w disk last source source' outlet outlet' left no_more = (
+    [],
+    record { asked = refl; released = refl },
+    λ m config guest promise stage p open_on acts_are foretold keeps bounded.
+        none_called m config guest promise stage p acts w (medium disk) open_on acts_are keeps
+        bounded,
+  )
+  calls_make acts w disk last source source' outlet outlet' left
+      (sliced {fuel = fuel} {acts = others} {w' = w'} {disk' = mid} {source' = inside}
+      {outlet' = beyond} said slice more) =
+      let rest = calls_make others w' mid last inside source' beyond outlet' left more in (
+        slice.0 ++ rest.0,
+        exchanges_join gives takes source source' inside outlet outlet' beyond slice.0 rest.0
+            slice.1 rest.1,
+        λ m config guest promise stage p open_on acts_are foretold keeps bounded.
+            let first = parts_are_foretold m config promise promise stage stage slice.0 rest.0
+            foretold in
+            let did = slice.2 m config guest promise stage p others open_on acts_are first.1 in
+            call_then m config guest promise stage (Slice fuel) did.0 others w' slice.0 rest.0 left
+            (medium disk) (medium mid) (medium last) acts_are foretold
+            (call_goes m config guest promise stage (Slice fuel) did.0 w' slice.0 (medium disk)
+            (medium mid) (slices_go said did.0 did.1) did.3) (rest.2 m config guest),
+      )
+  calls_make acts w disk last source source' outlet outlet' left
+      (slice_failed {fuel = fuel} {acts = others} {w' = w'} {why = why} slice) = (
+        slice.0,
+        slice.1,
+        λ m config guest promise stage p open_on acts_are foretold keeps bounded.
+            let did = slice.2 m config guest promise stage p others open_on acts_are foretold in
+            let failure = did.1 in
+            calls_end m config promise stage why slice.0 (medium disk) (medium last)
+            (call_fails m config guest promise stage (Slice fuel) failure.0 why w' slice.0
+            (medium disk) (medium last) failure.1
+            (cause_of_slice why guest config w'.process (medium disk) (medium last) did.2)
+            open_on.opened
+            (subst (λ (r : Reply). CallCarries m config guest promise stage (Slice fuel) r w'
+            (medium disk) (medium last) slice.0) failure.2 did.3)),
+      )
+  calls_make acts w disk last source source' outlet outlet' left
+      (saved {acts = others} {w' = w'} {disk' = mid} checkpoint more) =
+      let rest = calls_make others w' mid last source source' outlet outlet' left more in (
+        rest.0,
+        rest.1,
+        λ m config guest promise stage p open_on acts_are foretold keeps bounded.
+            let did = checkpoint m config guest promise stage p others open_on acts_are in
+            call_then m config guest promise stage Checkpoint did.0 others w' [] rest.0 left
+            (medium disk) (medium mid) (medium last) acts_are foretold
+            (call_goes m config guest promise stage Checkpoint did.0 w' [] (medium disk)
+            (medium mid) (ap phase_ended did.1) did.2) (rest.2 m config guest),
+      )
+  calls_make acts w disk last source source' outlet outlet' left
+      (saving_failed {acts = others} {w' = w'} {why = why} checkpoint cause) = (
+        [],
+        record { asked = refl; released = refl },
+        λ m config guest promise stage p open_on acts_are foretold keeps bounded.
+            let did = checkpoint m config guest promise stage p others open_on acts_are in
+            let failure = did.1 in
+            calls_end m config promise stage why [] (medium disk) (medium last)
+            (call_fails m config guest promise stage Checkpoint failure.0 why w' [] (medium disk)
+            (medium last) failure.1
+            (cause_of_saving m config guest promise stage p w why (medium disk) (medium last)
+            open_on
+            (cause m config guest promise stage p open_on)) open_on.opened
+            (subst (λ (r : Reply). CallCarries m config guest promise stage Checkpoint r w'
+            (medium disk) (medium last) []) failure.2 did.2)),
+      )

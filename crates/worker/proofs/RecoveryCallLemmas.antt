@@ -1,0 +1,29 @@
+-- How many calls of the disk a recovery begins behind its reads.
+use Rattle.std.proofs.Common.{◌+◌, ℕ, subst, sym, arith, inl, inr}
+use Rattle.std.specs.Prelude.{Result, Ok, Err}
+use Rattle.sector_disk.specs.rules.Medium.{Medium, CallsUpTo}
+use Rattle.record_replay.specs.rules.Calls.{Taking}
+use Rattle.worker.specs.Revivals.{RevivesFound}
+use Rattle.worker.specs.declared.found.Found.{Found}
+use Rattle.worker.specs.declared.recover_fault.RecoverFault.{RecoverFault}
+use Rattle.worker.specs.rules.DurableValues.{DurableValue}
+
+none_called : (few : ℕ) (m : Medium) → CallsUpTo few m m
+none_called few m = omega arith
+
+-- those of the next generation, or none
+pub revival_calls : {D O : Type 0} (medium : D → Medium) (takes : Taking O) (found : Found)
+    (result : Result DurableValue RecoverFault) (mid new : D) (outlet outlet' : O)
+    → RevivesFound medium takes found result mid new outlet outlet'
+    → CallsUpTo ((medium mid).sectors + 2) (medium mid) (medium new)
+revival_calls medium takes found (Ok w) mid new outlet outlet' revives =
+    let opens = revives.1 in
+    let writes = opens.writes in
+    writes.counted
+revival_calls medium takes found (Err why) mid new outlet outlet' (inl stops) =
+    subst (λ d. CallsUpTo ((medium mid).sectors + 2) (medium mid) (medium d)) (sym stops.same)
+    (none_called ((medium mid).sectors + 2) (medium mid))
+revival_calls medium takes found (Err why) mid new outlet outlet' (inr for) =
+    let none = for.none in
+    let writes = none.writes in
+    writes.counted

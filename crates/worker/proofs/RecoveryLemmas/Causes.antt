@@ -1,0 +1,109 @@
+-- Why a recovery fails, whatever stands on the disk.
+use Rattle.std.proofs.Common.{◌≡◌, ℕ, ◌+◌, ◌<◌, ◌≤◌, refl, sym, subst, inl, inr, arith}
+use Rattle.std.specs.Prelude.{Result, Ok, Err, IfErr}
+use Rattle.process.specs.rules.Values.{ProcessValue}
+use Rattle.sector_disk.specs.declared.fault.DiskFault.{DiskFault}
+use Rattle.sector_disk.specs.rules.Medium.{Medium}
+use Rattle.disk_layout.specs.rules.Places.{total_sectors}
+use Rattle.record_replay.specs.declared.fault.ReplayFault.{ReplayFault}
+use Rattle.record_replay.specs.declared.fault.ReplayFault.TheVariants as replay
+use Rattle.record_replay.specs.rules.Calls.{Taking}
+use Rattle.worker_store.specs.declared.fault.StoreFault.{StoreFault}
+use Rattle.worker_store.specs.declared.fault.StoreFault.TheVariants as store
+use Rattle.worker_store.specs.rules.Calls.{ReopeningFails}
+use Rattle.ephemeral_worker.specs.declared.fault.WorkFault.TheVariants as work
+use Rattle.worker.specs.declared.fault.DurableFault.TheVariants.{Work, Disk, Store}
+use Rattle.worker.specs.declared.found.Found.{Found}
+use Rattle.worker.specs.declared.recover_fault.RecoverFault.{RecoverFault}
+use Rattle.worker.specs.declared.recover_fault.RecoverFault.TheVariants as recover
+use Rattle.worker.specs.rules.DurableFaults.{fault_of_store}
+use Rattle.worker.specs.rules.DurableValues.{DurableValue}
+use Rattle.worker.specs.rules.RecoverFaults.{fault_of_replay}
+use Rattle.worker.specs.rules.Recoveries.{HasRecoveryCause, IsSettledBy}
+use Rattle.worker.specs.Revivals.{RevivesFound}
+
+-- the disk couldn't be settled
+pub unsettled_cause : (old new : Medium) (fault : DiskFault) (why : RecoverFault)
+    → why ≡ recover.Worker (Disk fault) → old.faults < new.faults
+    → HasRecoveryCause old new why
+unsettled_cause old new fault why is failed =
+    subst (λ (e : RecoverFault). HasRecoveryCause old new e) (sym is) (inl failed)
+
+-- what a search has answered
+abbrev pub found_none : RecoverFault → Result Found RecoverFault
+found_none why = Err why
+
+-- no worker was found
+module _ (old sync mid : Medium) (earlier : old.faults ≤ sync.faults) where
+  pub unfound_cause : (why : RecoverFault)
+      → ((fault : DiskFault) → found_none why ≡ found_none (recover.Worker (Disk fault))
+      → sync.faults < mid.faults)
+      → (found_none why ≡ found_none (recover.Worker (Work work.Failed)) → ⊥)
+      → HasRecoveryCause old mid why
+  unfound_cause recover.NotAnImage cause unfailed = tt
+  unfound_cause recover.Diverged cause unfailed = tt
+  unfound_cause (recover.Worker (Work work.Source)) cause unfailed = tt
+  unfound_cause (recover.Worker (Work work.Outlet)) cause unfailed = tt
+  unfound_cause (recover.Worker (Work work.Memory)) cause unfailed = tt
+  unfound_cause (recover.Worker (Work work.Failed)) cause unfailed = unfailed refl
+  unfound_cause (recover.Worker (Work (work.Refused why))) cause unfailed = tt
+  unfound_cause (recover.Worker (Disk fault)) cause unfailed =
+      let failed = cause fault refl in inl (omega (arith, earlier, failed))
+  unfound_cause (recover.Worker (Store fault)) cause unfailed = tt
+
+-- the records have led to no process
+replay_cause : (old new : Medium) (fault : ReplayFault)
+    → HasRecoveryCause old new (fault_of_replay fault)
+replay_cause old new replay.Diverged = tt
+replay_cause old new replay.Memory = tt
+replay_cause old new replay.Outlet = tt
+
+-- the next generation couldn't be written
+module _ (old mid new : Medium) (settled : IsSettledBy old mid) (found : Found)
+    (room : total_sectors found.geometry ≤ mid.sectors) where
+  reopening_cause : (g : ℕ) (v : ProcessValue) (fault : StoreFault)
+      → ReopeningFails found.geometry g v mid new fault
+      → HasRecoveryCause old new (recover.Worker (fault_of_store fault))
+  reopening_cause g v store.TooBig fails = tt
+  reopening_cause g v (store.Disk fault) (inl few) =
+      let passes = settled.leaves.passes in
+      let sectors = passes.sectors in
+      let same = passes.room in
+      let synced = settled.settled.unsynced in
+      inr (
+        found.geometry,
+        omega (arith, room, sectors),
+        inl (omega (arith, few, same, synced)),
+      )
+  reopening_cause g v (store.Disk fault) (inr (inl no_room)) =
+      let passes = settled.leaves.passes in
+      let sectors = passes.sectors in
+      let same = passes.room in
+      inr (found.geometry, omega (arith, room, sectors), inr (omega (arith, no_room, same)))
+  reopening_cause g v (store.Disk fault) (inr (inr failed)) =
+      let passes = settled.leaves.passes in
+      let faults = passes.faults in
+      inl (omega (arith, failed, faults))
+  reopening_cause g v store.Full fails = absurd fails
+  reopening_cause g v store.TooLong fails = absurd fails
+  reopening_cause g v store.Damaged fails = absurd fails
+  reopening_cause g v (store.Layout why) fails = absurd fails
+  reopening_cause g v store.Memory fails = absurd fails
+  reopening_cause g v store.Failed fails = absurd fails
+
+-- whatever comes of what was found
+module _ {D O : Type 0} (medium : D → Medium) (takes : Taking O) (old mid new : D)
+    (settled : IsSettledBy (medium old) (medium mid)) (found : Found)
+    (room : total_sectors found.geometry ≤ (medium mid).sectors) (outlet outlet' : O) where
+  pub revival_cause : (result : Result DurableValue RecoverFault)
+      → RevivesFound medium takes found result mid new outlet outlet'
+      → IfErr result (λ why. HasRecoveryCause (medium old) (medium new) why)
+  revival_cause (Ok w) revives = tt
+  revival_cause (Err why) (inl stops) =
+      subst (λ (e : RecoverFault). HasRecoveryCause (medium old) (medium new) e) (sym stops.is)
+      (replay_cause (medium old) (medium new) stops.fault)
+  revival_cause (Err why) (inr for) =
+      let none = for.none in
+      subst (λ (e : RecoverFault). HasRecoveryCause (medium old) (medium new) e) (sym none.is)
+      (reopening_cause (medium old) (medium mid) (medium new) settled found room
+      (found.generation + 1) for.process none.fault none.fails)

@@ -1,0 +1,609 @@
+-- What a recovery answers, by what its disk shows and by what was promised.
+use Rattle.std.proofs.Common.{◌≡◌, inl, inr, ⊎_elim, ℕ, suc, ◌+◌, ◌<◌, ◌≤◌, List, []}
+use Rattle.std.proofs.Common.{◌*◌}
+use Rattle.std.proofs.Common.{◌++◌, length, drop, take, refl, sym, ap, ◌∙◌, subst, arith, false}
+use Rattle.std.specs.Prelude.{Result, Ok, Err}
+use Rattle.std.proofs.lemmas.List.{append-nil}
+use Rattle.wasm_syntax.specs.declared.module.Module.{Module}
+use Rattle.wasi_abi.specs.rules.Configs.{Settings}
+use Rattle.process_rules.specs.Processes.{ProcessState}
+use Rattle.process_rules.specs.Runs.{Kept}
+use Rattle.process.specs.rules.Values.{ProcessValue}
+use Rattle.state_image.specs.rules.Image.{image}
+use Rattle.state_image.specs.rules.Saving.{saved_of}
+use Rattle.sector_disk.specs.declared.fault.DiskFault.{DiskFault}
+use Rattle.sector_disk.specs.rules.Image.{Image}
+use Rattle.sector_disk.specs.rules.Medium.{Medium, SyncsMedium}
+use Rattle.sector_disk.proofs.CountLemmas.{counts_same, counts_then, unsynced_within}
+use Rattle.sector_disk.specs.rules.Medium.{CallsUpTo}
+use Rattle.sector_disk.proofs.Moments.{leaves_weaker, leaves_only, started, settled_only}
+use Rattle.sector_disk.proofs.Moments.{settled_stays, stays_left, stays_on}
+use Rattle.sector_disk.proofs.Moments.{stays_leaves_only}
+use Rattle.disk_layout.specs.declared.fault.LayoutFault.TheVariants as layout
+use Rattle.disk_layout.specs.rules.Places.{geometry_of, area_place, rounded_up, total_sectors}
+use Rattle.disk_layout.specs.rules.Stored.{OnlyReads}
+use Rattle.disk_layout.specs.declared.geometry.Geometry.{Geometry}
+use Rattle.disk_layout.specs.rules.Journal.{Record}
+use Rattle.snapshot.specs.declared.writing.Writing.TheVariants.{Changes}
+use Rattle.snapshot.specs.rules.Calls.{AreStores, with_head}
+use Rattle.record_replay.specs.declared.fault.ReplayFault.{ReplayFault}
+use Rattle.record_replay.specs.declared.fault.ReplayFault.TheVariants as replay
+use Rattle.record_replay.specs.rules.Calls.{Taking, all_taken}
+use Rattle.record_replay.specs.rules.Records.{Recorded}
+use Rattle.record_replay.specs.rules.Replays.{ReplaysUpTo, StopsReplay}
+use Rattle.worker_rules.specs.Stands.{StandsFor, IsBlank}
+use Rattle.worker_rules.specs.Lives.{Inputs}
+use Rattle.worker_rules.specs.Courses.{Shut}
+use Rattle.worker_rules.specs.Promises.{Promise}
+use Rattle.worker_rules.specs.Holds.{HoldsPromise, IsUnopened, KeepsPromise}
+use Rattle.worker_rules.specs.Holds.{IsBounded, KeepsBounds}
+use Rattle.worker_store.specs.laws.Savepoints.{point_of}
+use Rattle.worker_store.proofs.LawLemmas.Carrying.{blank_is_unopened}
+use Rattle.worker_store.proofs.LawLemmas.Points.{stands_at_its_point}
+use Rattle.worker_store.specs.declared.fault.StoreFault.{StoreFault}
+use Rattle.worker_store.specs.declared.fault.StoreFault.TheVariants as store
+use Rattle.worker_store.specs.rules.Calls.{ReopeningFails}
+use Rattle.worker_store.specs.laws.Laws.{ImagesFitAreas}
+use Rattle.ephemeral_worker.specs.declared.fault.WorkFault.TheVariants as work
+use Rattle.worker.specs.declared.fault.DurableFault.TheVariants.{Work, Disk, Store}
+use Rattle.worker.specs.declared.found.Found.{Found}
+use Rattle.worker.specs.declared.recover_fault.RecoverFault.{RecoverFault}
+use Rattle.worker.specs.declared.recover_fault.RecoverFault.TheVariants as recover
+use Rattle.worker.specs.rules.DurableFaults.{fault_of_store}
+use Rattle.worker.specs.rules.RecoverFaults.{fault_of_replay}
+use Rattle.worker.specs.rules.DurableValues.{DurableValue}
+use Rattle.worker.specs.rules.Recoveries.{IsNoWorker, IsNoWorkerOr, SaysNothing}
+use Rattle.worker.specs.rules.Recoveries.{MarksDecide, IsSettledBy}
+use Rattle.worker.specs.rules.Recoveries.{Recovers, RecoveryCarries, MayNotReopen}
+use Rattle.worker.specs.rules.Recoveries.{ReopensInVain, FindsNone, EndsInVain}
+use Rattle.worker.specs.rules.Recoveries.{Revives, RevivesInVain, TellsSome, OpeningCalls}
+use Rattle.worker.specs.Findings.{FindsWorker, FindsOne, IsFoundAt}
+use Rattle.worker.specs.Revivals.{RevivesFound, IsReplayed, StopsInVain, OpensNone}
+use Rattle.worker.specs.Revivals.{OpensStore, ReplaysForNothing}
+use Rattle.worker.proofs.RecoveryLemmas.Undiverged.{undiverged, tells_some, refuses_on}
+use Rattle.worker.proofs.RecoveryLemmas.There.{IsThere, is_there, leaves_join}
+use Rattle.worker.proofs.RecoveryLemmas.Lives.{IsBack, is_back, tells_as, fits_area}
+use Rattle.worker.proofs.RecoveryLemmas.Lives.{released_lines}
+use Rattle.worker.proofs.RecoveryLemmas.Written.{is_retold}
+use Rattle.worker.proofs.RecoveryLemmas.Opening.{reopens}
+use Rattle.worker.proofs.RecoveryLemmas.InVain.{nothing_done, stopped_so, written_so}
+use Rattle.worker.proofs.RecoveryLemmas.InVain.{refuses_as}
+
+-- ---- the disk is settled and read
+
+-- a good sync, and then reads
+pub settled_by : {T : Type 0} (old sync mid : Medium) (done : T)
+    → SyncsMedium {T = T} (Ok done) old sync → OnlyReads sync mid
+    → CallsUpTo (2 * sync.sectors) sync mid → IsSettledBy old mid
+settled_by old sync mid done syncs reads few =
+    let passes = syncs.passes in
+    let calls = syncs.calls in
+    record {
+      settled = settled_stays sync mid reads.stays syncs.settles;
+      stays = stays_on old sync mid passes.later syncs.stays reads.stays;
+      leaves = leaves_join old sync mid old.may_leave
+          (stays_leaves_only old sync syncs.stays syncs.passes)
+          (leaves_weaker sync mid sync.may_leave old.may_leave reads.leaves
+          (λ image left. stays_left old sync syncs.stays image left));
+      counts = counts_then old.unsynced sync.unsynced old.unsynced old sync mid (omega arith)
+          (unsynced_within old.unsynced old sync (omega arith) passes.later syncs.counts)
+          passes.later syncs.counts reads.counts;
+      calls = reads.calls ∙ calls.all;
+      counted = omega (arith, syncs.counted, few, passes.sectors);
+    }
+
+pub reads_none : (mid : Medium) → OnlyReads mid mid
+reads_none mid = record {
+  stays = record {
+    may = λ shown image both. both;
+    since = λ t shown image le both. both;
+    unsynced = omega arith;
+  };
+  leaves = leaves_only mid mid mid.may_leave (started mid mid.may_leave) (λ image left. left);
+  unsynced = refl;
+  counts = counts_same mid mid.unsynced;
+  calls = refl;
+}
+
+-- ---- the disk couldn't be settled
+
+-- a sync fails only where the disk fails
+pub sync_faulted : {T : Type 0} (old new : Medium) (fault : DiskFault)
+    → SyncsMedium {T = T} (Err fault) old new → old.faults < new.faults
+sync_faulted old new fault syncs =
+    let cause = syncs.cause in
+    ⊎_elim (λ named. ⊎_elim (λ out. absurd out) (λ full. absurd full) named) (λ more. more)
+    (cause.fault refl)
+
+module _ {D O : Type 0} (medium : D → Medium) (takes : Taking O) (old new : D) (outlet : O)
+    {T : Type 0} (fault : DiskFault)
+    (syncs : SyncsMedium {T = T} (Err fault) (medium old) (medium new)) (why : RecoverFault)
+    (is : why ≡ recover.Worker (Disk fault)) where
+  failed : (medium old).faults < (medium new).faults
+  failed = sync_faulted (medium old) (medium new) fault syncs
+
+  pub unsettled_recovers : Recovers medium takes (Err why) old new outlet outlet
+  unsettled_recovers =
+      let calls = syncs.calls in
+      inl (record {
+        fault = fault;
+        is = ap (λ e. Err e) is;
+        stays = syncs.stays;
+        calls = calls.begun;
+        faulted = failed;
+        none_told = refl;
+      })
+
+  pub unsettled_carries : RecoveryCarries takes (Err why) (medium old) (medium new) outlet outlet
+  unsettled_carries m config promise left is_left keeps bounds = (
+    [],
+    refl,
+    λ inputs foretold.
+        subst (λ (e : RecoverFault). EndsInVain m config promise inputs [] e (medium old)
+        (medium new)) (sym is)
+        (nothing_done m config promise inputs (recover.Worker (Disk fault)) (medium old)
+        (medium new) (stays_leaves_only (medium old) (medium new) syncs.stays syncs.passes) keeps
+        bounds (refl, inr failed) (omega (arith, syncs.counted))),
+  )
+
+-- ---- no worker was found
+
+says_or : (why : RecoverFault) → SaysNothing why → IsNoWorkerOr why
+says_or recover.NotAnImage says = absurd says
+says_or recover.Diverged says = absurd says
+says_or (recover.Worker (Work work.Source)) says = absurd says
+says_or (recover.Worker (Work work.Outlet)) says = absurd says
+says_or (recover.Worker (Work work.Memory)) says = tt
+says_or (recover.Worker (Work work.Failed)) says = absurd says
+says_or (recover.Worker (Work (work.Refused why))) says = absurd says
+says_or (recover.Worker (Disk fault)) says = tt
+says_or (recover.Worker (Store fault)) says = absurd says
+
+-- what such an error keeps
+finds_vain : (m : Module) (config : Settings) (promise : Promise) (inputs : Inputs)
+    (old mid : Medium) (why : RecoverFault) → IsNoWorkerOr why
+    → ((fault : DiskFault) → why ≡ recover.Worker (Disk fault) → old.faults < mid.faults)
+    → (IsNoWorker why → FindsNone promise [] old mid)
+    → (MayNotReopen config promise Shut why old mid
+    → ReopensInVain m config promise inputs [] why old mid)
+    → EndsInVain m config promise inputs [] why old mid
+finds_vain m config promise inputs old mid recover.NotAnImage or cause none vain = absurd or
+finds_vain m config promise inputs old mid recover.Diverged or cause none vain = absurd or
+finds_vain m config promise inputs old mid (recover.Worker (Work work.Source)) or cause none vain =
+    absurd or
+finds_vain m config promise inputs old mid (recover.Worker (Work work.Outlet)) or cause none vain =
+    absurd or
+finds_vain m config promise inputs old mid (recover.Worker (Work work.Memory)) or cause none vain =
+    vain refl
+finds_vain m config promise inputs old mid (recover.Worker (Work work.Failed)) or cause none vain =
+    absurd or
+finds_vain m config promise inputs old mid (recover.Worker (Work (work.Refused why))) or cause none
+    vain = absurd or
+finds_vain m config promise inputs old mid (recover.Worker (Disk fault)) or cause none vain =
+    vain (refl, inr (cause fault refl))
+finds_vain m config promise inputs old mid (recover.Worker (Store store.Full)) or cause none vain =
+    absurd or
+finds_vain m config promise inputs old mid (recover.Worker (Store store.TooLong)) or cause none
+    vain = absurd or
+finds_vain m config promise inputs old mid (recover.Worker (Store store.TooBig)) or cause none
+    vain = absurd or
+finds_vain m config promise inputs old mid (recover.Worker (Store store.Damaged)) or cause none
+    vain = absurd or
+finds_vain m config promise inputs old mid (recover.Worker (Store (store.Disk fault))) or cause
+    none vain = absurd or
+finds_vain m config promise inputs old mid (recover.Worker (Store store.Memory)) or cause none
+    vain = absurd or
+finds_vain m config promise inputs old mid (recover.Worker (Store store.Failed)) or cause none
+    vain = absurd or
+finds_vain m config promise inputs old mid
+    (recover.Worker (Store (store.Layout layout.NotAWorker))) or cause none vain = none tt
+finds_vain m config promise inputs old mid
+    (recover.Worker (Store (store.Layout layout.Version))) or cause none vain = absurd or
+finds_vain m config promise inputs old mid
+    (recover.Worker (Store (store.Layout layout.TooSmall))) or cause none vain = absurd or
+finds_vain m config promise inputs old mid
+    (recover.Worker (Store (store.Layout layout.Damaged))) or cause none vain = absurd or
+finds_vain m config promise inputs old mid
+    (recover.Worker (Store (store.Layout layout.Memory))) or cause none vain = absurd or
+finds_vain m config promise inputs old mid
+    (recover.Worker (Store (store.Layout (layout.Disk fault)))) or cause none vain = absurd or
+
+tells_none : {O : Type 0} (takes : Taking O) (released : ℕ) (p : ProcessState) (outlet : O)
+    → TellsSome takes released p outlet outlet
+tells_none takes released p outlet =
+    record { told = []; others = drop released p.host.lines; are = refl; releases = refl }
+
+-- it has told nothing
+nothing_revived : {O : Type 0} (takes : Taking O) {disk : Image} {m : Module} {config : Settings}
+    {kept : List Kept} {n : ℕ} (stands : StandsFor disk m config kept n) (outlet : O)
+    (why : RecoverFault) → SaysNothing why → RevivesInVain takes stands why outlet outlet
+nothing_revived takes stands outlet recover.NotAnImage says = absurd says
+nothing_revived takes stands outlet recover.Diverged says = absurd says
+nothing_revived takes stands outlet (recover.Worker (Work work.Source)) says = absurd says
+nothing_revived takes stands outlet (recover.Worker (Work work.Outlet)) says = absurd says
+nothing_revived takes stands outlet (recover.Worker (Work work.Memory)) says =
+    tells_none takes stands.saved.lines stands.last outlet
+nothing_revived takes stands outlet (recover.Worker (Work work.Failed)) says = absurd says
+nothing_revived takes stands outlet (recover.Worker (Work (work.Refused why))) says = absurd says
+nothing_revived takes stands outlet (recover.Worker (Disk fault)) says =
+    tells_none takes stands.saved.lines stands.last outlet
+nothing_revived takes stands outlet (recover.Worker (Store fault)) says = absurd says
+
+module _ {D O : Type 0} (medium : D → Medium) (takes : Taking O) (old mid : D) (outlet : O)
+    (settled : IsSettledBy (medium old) (medium mid)) (why : RecoverFault) (wasm : List ℕ)
+    (finds : (image : Image) → (medium mid).shows image
+    → FindsWorker (medium old).sectors wasm image (Err why))
+    (marks : (image : Image) → (medium mid).shows image
+    → MarksDecide {T = Found} image (Err why)) where
+  pub unfound_recovers : Recovers medium takes (Err why) old mid outlet outlet
+  unfound_recovers = inr (
+    mid,
+    settled,
+    λ image shows. (let decide = marks image shows in record {
+      marks = record { only = decide.only; always = decide.always };
+      revives = λ m config kept n stands room. nothing_revived takes stands outlet why
+          (finds image shows m config (point_of stands) stands.records stands.last
+          (stands_at_its_point image m config kept n stands) room);
+    }),
+    λ denies. (reads_none (medium mid), refl),
+    tt,
+  )
+
+  pub unfound_carries : ((fault : DiskFault) → why ≡ recover.Worker (Disk fault)
+      → (medium old).faults < (medium mid).faults)
+      → RecoveryCarries takes (Err why) (medium old) (medium mid) outlet outlet
+  unfound_carries cause m config promise left is_left keeps bounds = (
+    [],
+    refl,
+    λ inputs foretold.
+        finds_vain m config promise inputs (medium old) (medium mid) why or cause none
+        (λ may. nothing_done m config promise inputs why (medium old) (medium mid) settled.leaves
+        keeps bounds may (omega (arith, settled.counted))),
+  )
+    where
+      shown_of : (image : Image) → (medium mid).may_leave image → (medium mid).shows image
+      shown_of image left = settled_only (medium mid) settled.settled image left
+
+      before : (image : Image) → (medium mid).may_leave image → (medium old).may_leave image
+      before image left = stays_left (medium old) (medium mid) settled.stays image left
+
+      or : IsNoWorkerOr why
+      or = ⊎_elim
+          (λ (unopened : IsUnopened promise left).
+          let decide = marks left (shown_of left is_left) in decide.always unopened.1)
+          (λ (holds : HoldsPromise m config promise promise left).
+          let stands = holds.stands in
+          let within = bounds left (before left is_left) m config
+          (take holds.held promise.kept) holds.steps holds.stands in
+          says_or why
+          (finds left (shown_of left is_left) m config (point_of stands) stands.records
+          stands.last
+          (stands_at_its_point left m config (take holds.held promise.kept) holds.steps stands)
+          within.1))
+          (keeps left (before left is_left))
+
+      none : IsNoWorker why → FindsNone promise [] (medium old) (medium mid)
+      none denies = record {
+        none_told = refl;
+        unopened = λ image left.
+            let decide = marks image (shown_of image left) in
+            let blank : IsBlank image = decide.only denies in (
+              blank_is_unopened m config promise image (keeps image (before image left)) blank,
+              blank,
+            );
+        bounded = leaves_weaker (medium old) (medium mid) (medium old).may_leave
+            (IsBounded promise.events (medium old).sectors) settled.leaves bounds;
+        counted = omega (arith, settled.counted);
+      }
+
+-- ---- a worker was found
+
+-- no error behind the reads says that there is none
+module _ {D O : Type 0} (takes : Taking O) (found : Found) (mid new : D) (outlet outlet' : O) where
+  stops_some : (fault : ReplayFault) → IsNoWorker (fault_of_replay fault) → ⊥
+  stops_some replay.Diverged denies = denies
+  stops_some replay.Memory denies = denies
+  stops_some replay.Outlet denies = denies
+
+  pub stopped_some : (why : RecoverFault) → StopsInVain takes found why mid new outlet outlet'
+      → IsNoWorker why → ⊥
+  stopped_some why stops denies =
+      stops_some stops.fault (subst (λ (e : RecoverFault). IsNoWorker e) stops.is denies)
+
+writes_some : (geometry : Geometry) (g : ℕ) (v : ProcessValue) (mid new : Medium)
+    (fault : StoreFault) → ReopeningFails geometry g v mid new fault
+    → IsNoWorker (recover.Worker (fault_of_store fault)) → ⊥
+writes_some geometry g v mid new store.TooBig fails denies = denies
+writes_some geometry g v mid new (store.Disk fault) fails denies = denies
+writes_some geometry g v mid new store.Full fails denies = absurd fails
+writes_some geometry g v mid new store.TooLong fails denies = absurd fails
+writes_some geometry g v mid new store.Damaged fails denies = absurd fails
+writes_some geometry g v mid new (store.Layout why) fails denies = absurd fails
+writes_some geometry g v mid new store.Memory fails denies = absurd fails
+writes_some geometry g v mid new store.Failed fails denies = absurd fails
+
+pub unwritten_some : (geometry : Geometry) (generation : ℕ) (v : ProcessValue)
+    (why : RecoverFault) (mid new : Medium) → OpensNone geometry generation v why mid new
+    → IsNoWorker why → ⊥
+unwritten_some geometry generation v why mid new none denies =
+    writes_some geometry (generation + 1) v mid new none.fault none.fails
+    (subst (λ (e : RecoverFault). IsNoWorker e) none.is denies)
+
+-- the calls of a store that is opened
+opening_calls : (found : Found) (w : DurableValue) (mid new : Medium)
+    → OpensStore found.geometry found.generation w.process w.store mid new
+    → OpeningCalls w mid new
+opening_calls found w mid new opens =
+    let calls = opens.calls in
+    let made = calls.2 in (
+      calls.0,
+      subst (λ g. AreStores Changes (area_place w.store.geometry g)
+          (rounded_up (length (image (saved_of w.process)))) calls.0) (sym opens.numbered)
+          (subst (λ (z : Geometry). AreStores Changes (area_place z (found.generation + 1))
+          (rounded_up (length (image (saved_of w.process)))) calls.0) (sym opens.placed) calls.1),
+      subst (λ g. new.calls ≡ with_head g calls.0 ++ mid.calls) (sym opens.numbered) made.all,
+    )
+
+-- what an image stands for, by which it was found
+module _ {O : Type 0} (takes : Taking O) (found : Found) (wasm : List ℕ) (disk : Image)
+    (m : Module) (config : Settings) (kept : List Kept) (n : ℕ)
+    (stands : StandsFor disk m config kept n)
+    (at : IsFoundAt wasm (point_of stands) stands.records found) (outlet outlet' : O) where
+  saved_few : stands.saved.lines ≤ length stands.process.host.lines
+  saved_few = (let shown = stands.shown in let lines : stands.saved.lines
+      ≡ length stands.process.host.lines = shown.lines in omega (arith, lines))
+
+  back_of : (v : ProcessValue) (count : ℕ) → IsReplayed takes found v count outlet outlet'
+      → IsBack takes (point_of stands) stands.last v count outlet outlet'
+  back_of v count replayed =
+      is_back takes m config wasm (point_of stands) stands.records found at stands.last
+      stands.recorded v count outlet outlet' replayed
+
+  recorded_found : Recorded stands.reached.guest stands.process found.records.items stands.last
+  recorded_found = subst (λ (l : List Record). Recorded stands.reached.guest stands.process l
+      stands.last) (sym at.records_are) stands.recorded
+
+  pub revived : (w : DurableValue) (mid new : Medium)
+      → IsReplayed takes found w.process w.replayed outlet outlet'
+      → OpensStore found.geometry found.generation w.process w.store mid new
+      → w.has_failed ≡ false → Revives takes stands (Ok w) outlet outlet'
+  revived w mid new replayed opens works =
+      let back = back_of w.process w.replayed replayed in
+      let counted : stands.last.steps ≡ stands.process.steps + w.replayed = back.counted in
+      let step : n ≡ stands.last.steps = stands.at_step in (
+        record {
+          shows = back.shows;
+          module_is = back.module_is;
+          generation = opens.numbered ∙ ap (λ g. g + 1) at.generation;
+          counted = omega (arith, counted, step);
+          unfailed = works;
+        },
+        back.told,
+      )
+
+  stop_revives : (fault : ReplayFault)
+      → (come : ReplaysUpTo stands.reached.guest stands.process found.records.items)
+      → StopsReplay takes found.process.host.released stands.reached.guest come.reached come.rest
+      come.process fault outlet outlet'
+      → RevivesInVain takes stands (fault_of_replay fault) outlet outlet'
+  stop_revives replay.Diverged come stops =
+      absurd (undiverged stands.reached.guest stands.process stands.last found.records.items
+      recorded_found come stands.numbers stops.1)
+  stop_revives replay.Memory come stops =
+      tells_some stands.reached.guest stands.process stands.last found.records.items
+      recorded_found come takes stands.saved.lines saved_few outlet outlet'
+      (tells_as takes found.process.host.released stands.saved.lines come.process outlet outlet'
+      (released_lines takes m config wasm (point_of stands) stands.records found at) stops.0)
+  stop_revives replay.Outlet come stops =
+      refuses_on stands.reached.guest stands.process stands.last found.records.items
+      recorded_found come takes stands.saved.lines saved_few outlet outlet'
+      (refuses_as takes found.process.host.released stands.saved.lines come.process outlet
+      outlet' (released_lines takes m config wasm (point_of stands) stands.records found at)
+      stops)
+
+  pub stopped_revives : {D : Type 0} (mid new : D) (why : RecoverFault)
+      → StopsInVain takes found why mid new outlet outlet'
+      → RevivesInVain takes stands why outlet outlet'
+  stopped_revives mid new why stops =
+      let come = stops.stops stands.reached.guest stands.process at.shows in
+      subst (λ (e : RecoverFault). RevivesInVain takes stands e outlet outlet') (sym stops.is)
+      (stop_revives stops.fault come.0 come.1)
+
+  write_revives : (fit : ImagesFitAreas) (v : ProcessValue) (count : ℕ) (mid new : Medium)
+      → IsReplayed takes found v count outlet outlet' → (fault : StoreFault)
+      → ReopeningFails found.geometry (found.generation + 1) v mid new fault
+      → RevivesInVain takes stands (recover.Worker (fault_of_store fault)) outlet outlet'
+  write_revives fit v count mid new replayed store.TooBig (inl late) =
+      let back = back_of v count replayed in
+      let same : found.generation ≡ stands.generation = at.generation in
+      (omega (arith, late, same), back.told)
+  write_revives fit v count mid new replayed store.TooBig (inr long) =
+      let back = back_of v count replayed in
+      let few = fits_area m config (point_of stands) stands.records stands.last v found.geometry
+      stands.recorded back.shows back.some back.module_is at.texts at.geometry fit in
+      absurd (omega (arith, few, long))
+  write_revives fit v count mid new replayed (store.Disk fault) cause =
+      let back = back_of v count replayed in
+      record {
+        told = drop stands.saved.lines stands.last.host.lines;
+        others = [];
+        are = sym (append-nil (drop stands.saved.lines stands.last.host.lines));
+        releases = back.told;
+      }
+  write_revives fit v count mid new replayed store.Full cause = absurd cause
+  write_revives fit v count mid new replayed store.TooLong cause = absurd cause
+  write_revives fit v count mid new replayed store.Damaged cause = absurd cause
+  write_revives fit v count mid new replayed (store.Layout why) cause = absurd cause
+  write_revives fit v count mid new replayed store.Memory cause = absurd cause
+  write_revives fit v count mid new replayed store.Failed cause = absurd cause
+
+  pub unwritten_revives : (fit : ImagesFitAreas) (why : RecoverFault) (mid new : Medium)
+      → ReplaysForNothing takes found why mid new outlet outlet'
+      → RevivesInVain takes stands why outlet outlet'
+  unwritten_revives fit why mid new for =
+      let none = for.none in
+      subst (λ (e : RecoverFault). RevivesInVain takes stands e outlet outlet') (sym none.is)
+      (write_revives fit for.process for.count mid new for.replayed none.fault none.fails)
+
+module _ {D O : Type 0} (medium : D → Medium) (takes : Taking O) (old mid new : D)
+    (outlet outlet' : O) (fit : ImagesFitAreas) (settled : IsSettledBy (medium old) (medium mid))
+    (found : Found) (wasm : List ℕ)
+    (finds : (image : Image) → (medium mid).shows image
+    → FindsWorker (medium old).sectors wasm image (Ok found))
+    (marks : (image : Image) → (medium mid).shows image
+    → MarksDecide {T = Found} image (Ok found)) where
+  found_for : (image : Image) → (medium mid).shows image → (m : Module) (config : Settings)
+      (kept : List Kept) (n : ℕ) (stands : StandsFor image m config kept n)
+      → total_sectors (geometry_of config (length stands.wasm)) ≤ (medium old).sectors
+      → IsFoundAt wasm (point_of stands) stands.records found
+  found_for image shows m config kept n stands room =
+      finds image shows m config (point_of stands) stands.records stands.last
+      (stands_at_its_point image m config kept n stands) room
+
+  pub found_recovers : (result : Result DurableValue RecoverFault)
+      → RevivesFound medium takes found result mid new outlet outlet'
+      → Recovers medium takes result old new outlet outlet'
+  found_recovers (Ok w) revives = inr (
+    mid,
+    settled,
+    λ image shows. (let decide = marks image shows in record {
+      marks = record {
+        only = λ denies. absurd denies;
+        always = λ blank. absurd (decide.always blank);
+      };
+      revives = λ m config kept n stands room.
+          revived takes found wasm image m config kept n stands
+          (found_for image shows m config kept n stands room) outlet outlet' w (medium mid)
+          (medium new) revives.0 revives.1 revives.2;
+    }),
+    λ denies. absurd denies,
+    opening_calls found w (medium mid) (medium new) revives.1,
+  )
+  found_recovers (Err why) (inl stops) = inr (
+    mid,
+    settled,
+    λ image shows. (let decide = marks image shows in record {
+      marks = record {
+        only = λ denies. absurd (stopped_some takes found mid new outlet outlet' why stops denies);
+        always = λ blank. absurd (decide.always blank);
+      };
+      revives = λ m config kept n stands room.
+          stopped_revives takes found wasm image m config kept n stands
+          (found_for image shows m config kept n stands room) outlet outlet' mid new why stops;
+    }),
+    λ denies. absurd (stopped_some takes found mid new outlet outlet' why stops denies),
+    tt,
+  )
+  found_recovers (Err why) (inr for) = inr (
+    mid,
+    settled,
+    λ image shows. (let decide = marks image shows in record {
+      marks = record {
+        only = λ denies. absurd (unwritten_some found.geometry found.generation for.process why
+            (medium mid) (medium new) for.none denies);
+        always = λ blank. absurd (decide.always blank);
+      };
+      revives = λ m config kept n stands room.
+          unwritten_revives takes found wasm image m config kept n stands
+          (found_for image shows m config kept n stands room) outlet outlet' fit why (medium mid)
+          (medium new) for;
+    }),
+    λ denies. absurd (unwritten_some found.geometry found.generation for.process why (medium mid)
+        (medium new) for.none denies),
+    tt,
+  )
+
+  -- where an image was left
+  there_for : (m : Module) (config : Settings) (promise : Promise) (first : Image)
+      → (medium mid).may_leave first → KeepsPromise m config promise (medium old)
+      → KeepsBounds promise.events (medium old)
+      → IsThere m config promise found (medium old).sectors (medium mid)
+  there_for m config promise first left keeps bounds =
+      is_there m config promise (medium old) (medium mid) settled keeps found wasm finds marks
+      bounds first left
+
+  pub found_carries : (result : Result DurableValue RecoverFault)
+      → RevivesFound medium takes found result mid new outlet outlet'
+      → RecoveryCarries takes result (medium old) (medium new) outlet outlet'
+  found_carries (Ok w) revives m config promise left is_left keeps bounds =
+      let opens = revives.1 in
+      let writes = opens.writes in
+      let first = writes.some left is_left in
+      let there = there_for m config promise first.0 first.1 keeps bounds in
+      let held = there.held in
+      let back = is_back takes m config there.wasm there.point found.records.items found
+      there.found_at there.last held.recorded w.process w.replayed outlet outlet' revives.0 in (
+        all_taken (suc there.point.saved.lines)
+            (drop there.point.saved.lines there.last.host.lines),
+        back.told,
+        λ inputs foretold.
+            reopens medium takes m config promise found old mid new there w outlet outlet' back
+            opens revives.2 inputs
+            (is_retold m config promise inputs there.point found.records.items there.last held
+            foretold) settled keeps bounds,
+      )
+  found_carries (Err why) (inl stops) m config promise left is_left keeps bounds =
+      let there = there_for m config promise left
+      (subst (λ (d : D). (medium d).may_leave left) stops.same is_left) keeps bounds in
+      stopped_so medium takes m config promise found old mid settled keeps bounds there outlet
+      outlet' why new stops
+  found_carries (Err why) (inr for) m config promise left is_left keeps bounds =
+      let none = for.none in
+      let writes = none.writes in
+      let first = writes.some left is_left in
+      let there = there_for m config promise first.0 first.1 keeps bounds in
+      written_so medium takes m config promise found old mid settled keeps bounds there outlet
+      outlet' new for.process for.count for.replayed fit why for.none
+
+-- ---- a good sync, and then reads
+
+module _ {D O T : Type 0} (medium : D → Medium) (takes : Taking O) (old sync mid : D) (done : T)
+    (syncs : SyncsMedium {T = T} (Ok done) (medium old) (medium sync))
+    (reads : OnlyReads (medium sync) (medium mid))
+    (few : CallsUpTo (2 * (medium sync).sectors) (medium sync) (medium mid)) (outlet : O) where
+  settled : IsSettledBy (medium old) (medium mid)
+  settled = settled_by (medium old) (medium sync) (medium mid) done syncs reads few
+
+  finds_of : (result : Result Found RecoverFault)
+      → (one : FindsOne (medium sync).sectors (medium mid) result) → (image : Image)
+      → (medium mid).shows image → FindsWorker (medium old).sectors one.0 image result
+  finds_of result one =
+      let passes = syncs.passes in
+      subst (λ n. (image : Image) → (medium mid).shows image → FindsWorker n one.0 image result)
+      passes.sectors one.1
+
+  module _ (why : RecoverFault)
+      (one : FindsOne (medium sync).sectors (medium mid) (Err why))
+      (marks : (image : Image) → (medium mid).shows image
+      → MarksDecide {T = Found} image (Err why)) where
+    pub not_found_recovers : Recovers medium takes (Err why) old mid outlet outlet
+    not_found_recovers = unfound_recovers medium takes old mid outlet settled why one.0
+        (finds_of (Err why) one) marks
+
+    pub not_found_carries : ((fault : DiskFault)
+        → ◌≡◌ {A = Result Found RecoverFault} (Err why) (Err (recover.Worker (Disk fault)))
+        → (medium sync).faults < (medium mid).faults)
+        → RecoveryCarries takes (Err why) (medium old) (medium mid) outlet outlet
+    not_found_carries cause = unfound_carries medium takes old mid outlet settled why one.0
+        (finds_of (Err why) one) marks
+        (λ fault is. since (medium old).faults (medium sync).faults (medium mid).faults earlier
+        (cause fault (ap (λ e. Err e) is)))
+      where
+        earlier : (medium old).faults ≤ (medium sync).faults
+        earlier = (let passes = syncs.passes in passes.faults)
+
+        since : (a b c : ℕ) → a ≤ b → b < c → a < c
+        since a b c x y = omega (arith, x, y)
+
+  module _ (new : D) (outlet' : O) (fit : ImagesFitAreas) (found : Found)
+      (one : FindsOne (medium sync).sectors (medium mid) (Ok found))
+      (marks : (image : Image) → (medium mid).shows image
+      → MarksDecide {T = Found} image (Ok found)) (result : Result DurableValue RecoverFault)
+      (revives : RevivesFound medium takes found result mid new outlet outlet') where
+    pub is_found_recovers : Recovers medium takes result old new outlet outlet'
+    is_found_recovers = found_recovers medium takes old mid new outlet outlet' fit settled found
+        one.0 (finds_of (Ok found) one) marks result revives
+
+    pub is_found_carries : RecoveryCarries takes result (medium old) (medium new) outlet outlet'
+    is_found_carries = found_carries medium takes old mid new outlet outlet' fit settled found
+        one.0 (finds_of (Ok found) one) marks result revives

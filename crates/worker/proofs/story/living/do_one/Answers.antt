@@ -1,0 +1,20 @@
+use Rattle.worker.proofs.ActLemmas.{slice_is_done, slice_fails, saving_is_done}
+use Rattle.worker.proofs.ActLemmas.{saving_fails}
+use Rattle.worker.proofs.story.living.do_one.Goals as goal
+
+pub returns-in-Ok-clause-does : goal.returns-in-Ok-clause-does
+returns-in-Ok-clause-does g c = rw c.in-Slice.is (slice_is_done g.D.Disk.medium g.S.Source.gives
+    g.O.Outlet.takes _ _ _ _ _ c.in-Ok._now _ _ _ _ c.in-Ok.ensures.carries)
+
+pub returns-in-Err-clause-does : goal.returns-in-Err-clause-does
+returns-in-Err-clause-does g c = rw c.in-Slice.is (slice_fails g.D.Disk.medium g.S.Source.gives
+    g.O.Outlet.takes _ _ _ _ _ c.in-Err.fault _ _ _ _ c.in-Err.ensures.carries)
+
+pub returns-in-Ok-checkpoint-clause-does : goal.returns-in-Ok-checkpoint-clause-does
+returns-in-Ok-checkpoint-clause-does g c = rw c.in-Checkpoint.is (saving_is_done g.D.Disk.medium
+    g.S.Source.gives g.O.Outlet.takes _ _ _ _ _ _ c.in-Ok-checkpoint.ensures.carries)
+
+pub returns-in-Err-checkpoint-clause-does : goal.returns-in-Err-checkpoint-clause-does
+returns-in-Err-checkpoint-clause-does g c = rw c.in-Checkpoint.is (saving_fails g.D.Disk.medium
+    g.S.Source.gives g.O.Outlet.takes _ _ _ _ _ _ _ c.in-Err-checkpoint.ensures.carries
+    c.in-Err-checkpoint.ensures.cause)

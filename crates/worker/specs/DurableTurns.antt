@@ -1,0 +1,310 @@
+-- The turns of a slice of a worker on its disk.
+use Rattle.std.specs.Prelude.{◌≡◌, ◌≢◌, ℕ, ◌⊎◌, ◌+◌, ◌-◌, ◌<◌, ◌≤◌, Bool, true, false, List, []}
+use Rattle.std.specs.Prelude.{◌∷◌}
+use Rattle.std.specs.Prelude.{length, map, Some, None, Result, Ok, Err}
+use Rattle.wasm_syntax.specs.declared.module.Module.{Module}
+use Rattle.wasi_abi.specs.declared.answer.Kind.{Kind}
+use Rattle.wasi_abi.specs.rules.Configs.{Settings}
+use Rattle.wasi_calls_rules.specs.laws.Laws.{IsOfBytes}
+use Rattle.process_rules.specs.Processes.{ProcessState, Guest, host_of}
+use Rattle.process_rules.specs.Runs.{Wants, next_of}
+use Rattle.wasi_abi.specs.rules.Answers.{Fits}
+use Rattle.process.specs.declared.fault.ProcessFault.{ProcessFault}
+use Rattle.process.specs.rules.Values.{ProcessValue, ShowsProcess, IsProcess, waiting_in}
+use Rattle.process.specs.rules.Stops.{GivesAnswer}
+use Rattle.disk_layout.specs.rules.Journal.{Record, record_bytes}
+use Rattle.journal.specs.rules.Steps.{RecordFits}
+use Rattle.worker_store.specs.declared.fault.StoreFault.{StoreFault}
+use Rattle.worker_store.specs.declared.fault.StoreFault.TheVariants as store
+use Rattle.record_replay.specs.rules.Waiting.{ReleasesSome}
+use Rattle.worker_store.specs.rules.Stores.{with_record}
+use Rattle.worker_store.specs.rules.Calls.{AppendFails}
+use Rattle.sector_disk.specs.rules.Medium.{Medium}
+use Rattle.state_image.specs.rules.Saving.{saved_of}
+use Rattle.journal.specs.rules.State.{room_of}
+use Rattle.record_replay.specs.rules.Calls.{Giving, Taking, Begun, Exchange, Asks, Tells}
+use Rattle.record_replay.specs.rules.Calls.{Releases, Exchanges}
+use Rattle.worker_rules.specs.Lives.{Slice, Reply, Fails, Waits, Cause, SourceSaid, Ended}
+use Rattle.worker_rules.specs.Courses.{Stage, Open, phase_ended, next_stage}
+use Rattle.worker_rules.specs.Promises.{Promise, after, IsEnding}
+use Rattle.worker_rules.specs.Holds.{KeepsPromise, StaysWithin}
+use Rattle.worker_store.specs.laws.Underway.{IsUnderWay}
+use Rattle.worker_store.specs.laws.Pieces.{IsForetold, AreDone}
+use Rattle.worker_store.specs.laws.Turns.{GoesOnFrom}
+use Rattle.ephemeral_worker.specs.declared.now.Now.{Now}
+use Rattle.ephemeral_worker.specs.declared.fault.WorkFault.TheVariants as work
+use Rattle.worker.specs.declared.fault.DurableFault.{DurableFault}
+use Rattle.worker.specs.declared.fault.DurableFault.TheVariants.{Work}
+use Rattle.worker.specs.rules.CallCounts.{CallsForEvents}
+use Rattle.worker.specs.rules.DurableFaults.{fault_of_store}
+use Rattle.ephemeral_worker.specs.rules.Refusals.{work_fault}
+use Rattle.worker.specs.declared.running.Running.{Running}
+use Rattle.worker.specs.rules.DurableValues.{durable_of}
+use Rattle.worker.specs.rules.OpenWorkers.{IsOnDisk, IsOpenOn}
+use Rattle.worker.specs.rules.DurableCalls.{ComesOf, HasCauseOf, HasCauseAt, IsReplyOf}
+
+-- the most bytes of a record: kind, step, length and payload
+abbrev pub longest_record : ℕ
+longest_record = 4107
+
+-- ---- within a slice
+
+-- what a slice is of, how much fuel it has, and at which step it began
+pub record Course : Type 0 where
+  pub code : Module
+  pub config : Settings
+  pub guest : Guest
+  pub fuel : ℕ
+  pub first : ℕ
+
+-- A worker within a slice, which has come to p. The disk holds what is promised, the guest's syncs
+-- up to this step included, by a savepoint of this generation at most.
+pub record IsRunningOn (c : Course) (promise : Promise) (stage : Stage) (p : ProcessState)
+    (step latest : ℕ) (w : Running) (disk : Medium) : Type 0 where
+  pub opened : promise.has_opened ≡ true
+  pub texts : IsOfBytes (host_of c.config)
+  pub shows : ShowsProcess w.process c.guest p
+  pub module_is : w.process.machine.guest ≡ c.code
+  pub way : IsUnderWay c.code c.config c.guest promise stage c.fuel w.process.host.released p
+  pub began : stage.step ≡ c.first
+  pub on_disk : IsOnDisk c.code c.config c.guest promise p step latest w.store disk
+  pub synced : promise.synced ≤ p.steps
+
+-- between two turns
+abbrev pub IsBetweenTurns : Course → Promise → Stage → ProcessState → Running → Medium → Type 0
+IsBetweenTurns c promise stage p w disk =
+    IsRunningOn c promise stage p p.steps promise.events w disk
+
+-- something may be owed for the last step
+abbrev pub IsOwingTurn : Course → Promise → Stage → ProcessState → Running → Medium → Type 0
+IsOwingTurn c promise stage p w disk =
+    IsRunningOn c promise stage p (p.steps - 1) promise.events w disk
+
+-- the next step wants an answer
+pub record IsAskingOn (c : Course) (promise : Promise) (stage : Stage) (p : ProcessState)
+    (kind : Kind) (latest : ℕ) (w : Running) (disk : Medium) : Type 0 where
+  pub running : IsRunningOn c promise stage p p.steps latest w disk
+  pub none_waits : waiting_in w.process ≡ []
+  pub unended : p.ended ≡ None
+  pub wants : next_of c.guest p None ≡ Wants kind
+  pub room : p.steps < stage.step + c.fuel
+
+-- ---- what a turn does
+
+-- it goes on, by these exchanges
+pub record TurnGoes (c : Course) (promise : Promise) (stage : Stage) (exchanges : List Exchange)
+    (w : Running) (disk disk' : Medium) : Type 0 where
+  pub promise' : Promise
+  pub stage' : Stage
+  pub process : ProcessState
+  pub done : AreDone c.code c.config promise stage exchanges promise' stage'
+  pub onward : GoesOnFrom c.code c.config promise promise' disk disk'
+  pub bounded : StaysWithin promise'.events disk disk'
+  pub running : IsBetweenTurns c promise' stage' process w disk'
+
+-- the end of a slice
+abbrev pub slice_end : Promise → ℕ → Reply → ℕ → Running → Promise
+slice_end promise fuel reply held w =
+    after promise (Ended (Slice fuel) reply held (saved_of w.process))
+
+-- it ends the slice, by these exchanges
+pub record TurnEnds (c : Course) (promise : Promise) (stage : Stage) (reply : Reply)
+    (exchanges : List Exchange) (w : Running) (disk disk' : Medium) : Type 0 where
+  pub between : Promise
+  pub inside : Stage
+  pub held : ℕ
+  pub done : AreDone c.code c.config promise stage exchanges between inside
+  pub ending : IsEnding c.code c.config between inside (record {
+    act = Slice c.fuel;
+    reply = reply;
+    held = held;
+    shown = saved_of w.process;
+  })
+  pub onward : GoesOnFrom c.code c.config promise (slice_end between c.fuel reply held w) disk
+      disk'
+  pub bounded : StaysWithin (slice_end between c.fuel reply held w).events disk disk'
+  pub keeps : KeepsPromise c.code c.config (slice_end between c.fuel reply held w) disk'
+  pub goes_on : phase_ended reply ≡ Open → (replayed : ℕ) → (q : ProcessState)
+      × IsOpenOn c.code c.config c.guest (slice_end between c.fuel reply held w)
+      (next_stage inside (Ended (Slice c.fuel) reply held (saved_of w.process))) q
+      (durable_of w replayed false) disk'
+
+-- an error ends it
+abbrev pub TurnFails : Course → Promise → Stage → DurableFault → List Exchange → Running → Medium
+    → Medium → Type 0
+TurnFails c promise stage why exchanges w disk disk' = (cause : Cause) × ComesOf why cause
+    × HasCauseAt why c.guest c.config w.process disk disk'
+    × TurnEnds c promise stage (Fails cause) exchanges w disk disk'
+
+-- ---- what is owed
+
+-- the lines of a turn, as exchanges
+abbrev pub told_lines_of : List Begun → List Exchange
+told_lines_of begun = map Tells begun
+
+-- the records were put on the disk, and the lines that waited were released
+abbrev pub SettlesTurn : {O : Type 0} → Taking O → Running → Running → Medium → Medium → O → O
+    → Type 0
+SettlesTurn takes old new disk disk' outlet outlet' = (begun : List Begun)
+    × Releases takes outlet begun outlet'
+    × ((c : Course) (promise : Promise) (stage : Stage) (p : ProcessState)
+    → IsOwingTurn c promise stage p old disk → IsForetold stage (told_lines_of begun)
+    → TurnGoes c promise stage (told_lines_of begun) new disk disk')
+
+-- one of the two failed
+abbrev pub SettlesInVain : {O : Type 0} → Taking O → Running → DurableFault → Running → Medium
+    → Medium → O → O → Type 0
+SettlesInVain takes old why new disk disk' outlet outlet' = (begun : List Begun)
+    × Releases takes outlet begun outlet'
+    × ((c : Course) (promise : Promise) (stage : Stage) (p : ProcessState)
+    → IsOwingTurn c promise stage p old disk → IsForetold stage (told_lines_of begun)
+    → TurnFails c promise stage why (told_lines_of begun) new disk disk')
+
+-- the store failed, which wants no memory and no number; or the outlet did
+abbrev pub SettlesVainly : {O : Type 0} → Taking O → ProcessValue → DurableFault → ProcessValue
+    → O → O → Type 0
+SettlesVainly takes old why new outlet outlet' =
+    ((fault : StoreFault) × (why ≡ fault_of_store fault) × (fault ≢ store.Memory)
+    × (fault ≢ store.TooBig) × (new ≡ old) × (outlet' ≡ outlet))
+    ⊎ ((why ≡ Work work.Outlet) × ReleasesSome takes old new outlet outlet')
+
+-- ---- what is asked
+
+-- an error of the store
+abbrev pub IsOfStoreFault : DurableFault → Type 0
+IsOfStoreFault why = (fault : StoreFault) × (why ≡ fault_of_store fault)
+
+-- there is room in the journal for any record
+abbrev pub HasRoom : Running → Type 0
+HasRoom w = longest_record ≤ room_of w.store.geometry w.store.journal
+
+-- The disk has room for the answer. It may be one generation on: the question comes next.
+abbrev pub MakesRoom : Running → Running → Medium → Medium → Type 0
+MakesRoom old new disk disk' =
+    (c : Course) (promise : Promise) (stage : Stage) (p : ProcessState) (kind : Kind)
+    → IsAskingOn c promise stage p kind promise.events old disk
+    → IsAskingOn c promise stage p kind (promise.events + 1) new disk'
+    × HasRoom new × GoesOnFrom c.code c.config promise promise disk disk'
+    × StaysWithin (promise.events + 1) disk disk'
+
+-- there is none
+abbrev pub MakesNoRoom : Running → DurableFault → Running → Medium → Medium → Type 0
+MakesNoRoom old why new disk disk' =
+    (c : Course) (promise : Promise) (stage : Stage) (p : ProcessState) (kind : Kind)
+    → IsAskingOn c promise stage p kind promise.events old disk
+    → TurnFails c promise stage why [] new disk disk'
+
+-- a question, with what the source said to it
+abbrev pub asks_once : Kind → SourceSaid → List Exchange
+asks_once kind said = Asks (record { kind = kind; said = said }) ∷ []
+
+-- an answer that fits was kept on record, and the process has taken it
+pub record TakesOnRecord (old : Running) (kind : Kind) (r : Record) (new : Running) : Type 0 where
+  pub fits : Fits old.process.host.host.limit kind r.answer
+  pub appended : new.store ≡ with_record old.store r
+  pub record_fits : RecordFits r
+  pub room : length (record_bytes r) ≤ room_of old.store.geometry old.store.journal
+  pub given : GivesAnswer old.process r.answer (Ok tt) new.process
+  pub some : IsProcess new.process
+  pub released_same : new.process.host.released ≡ old.process.host.released
+  pub guest_same : new.process.machine.guest ≡ old.process.machine.guest
+
+-- an answer that fits isn't kept on record
+pub record LacksRecord (old : Running) (kind : Kind) (r : Record) (why : DurableFault)
+    (new : Running) : Type 0 where
+  pub fits : Fits old.process.host.host.limit kind r.answer
+  pub fault : StoreFault
+  pub fails : AppendFails old.store r fault
+  pub is : why ≡ fault_of_store fault
+  pub same : new.process ≡ old.process
+
+-- an answer that fits is one that the process doesn't take
+pub record IsNotTaken (old : Running) (kind : Kind) (r : Record) (why : DurableFault)
+    (new : Running) : Type 0 where
+  pub fits : Fits old.process.host.host.limit kind r.answer
+  pub fault : ProcessFault
+  pub given : GivesAnswer old.process r.answer (Err fault) new.process
+  pub is : why ≡ Work (work_fault fault)
+
+-- an answer doesn't fit
+pub record IsMisfit (old : Running) (kind : Kind) (r : Record) (why : DurableFault)
+    (new : Running) : Type 0 where
+  pub misfits : Fits old.process.host.host.limit kind r.answer → ⊥
+  pub is : why ≡ Work work.Source
+  pub same : new ≡ old
+
+-- why it isn't taken on record
+abbrev pub TakesNone : Running → Kind → Record → DurableFault → Running → Type 0
+TakesNone old kind r why new = IsMisfit old kind r why new
+    ⊎ (LacksRecord old kind r why new ⊎ IsNotTaken old kind r why new)
+
+-- what becomes of an answer
+abbrev pub HearsAnswer : Running → Kind → Record → Result Bool DurableFault → Running → Type 0
+HearsAnswer old kind r (Ok is_there) new = (is_there ≡ true) × TakesOnRecord old kind r new
+HearsAnswer old kind r (Err why) new = TakesNone old kind r why new
+
+-- what becomes of what the source says to the question before this step
+abbrev pub HearsBy : Running → Kind → ℕ → SourceSaid → Result Bool DurableFault → Running → Type 0
+HearsBy old kind step (Err e) result new = (result ≡ Err (Work work.Source)) × (new ≡ old)
+HearsBy old kind step (Ok None) result new = (result ≡ Ok false) × (new ≡ old)
+HearsBy old kind step (Ok (Some a)) result new =
+    HearsAnswer old kind (record { step = step; answer = a }) result new
+
+-- the source was asked once
+pub record Hears {S : Type 0} (gives : Giving S) (old : Running) (kind : Kind) (step : ℕ)
+    (result : Result Bool DurableFault) (new : Running) (source source' : S) : Type 0 where
+  pub said : SourceSaid
+  pub asked : gives source kind said source'
+  pub hears : HearsBy old kind step said result new
+
+-- Whether there was an answer, which the process has taken. Where there was none, the slice is
+-- over.
+abbrev pub TurnAsks : Course → Promise → Stage → Bool → List Exchange → Running → Medium → Medium
+    → Type 0
+TurnAsks c promise stage true exchanges w disk disk' =
+    TurnGoes c promise stage exchanges w disk disk'
+TurnAsks c promise stage false exchanges w disk disk' =
+    TurnEnds c promise stage Waits exchanges w disk disk'
+
+-- the source was asked once or not at all
+abbrev pub AsksOutside : {S : Type 0} → Giving S → Kind → List Exchange → S → S → Type 0
+AsksOutside gives kind [] source source' = source' ≡ source
+AsksOutside gives kind (Asks ask ∷ []) source source' =
+    (ask.kind ≡ kind) × gives source ask.kind ask.said source'
+AsksOutside gives kind _ source source' = ⊥
+
+-- room is made, and the source is asked
+abbrev pub AsksTurn : {S : Type 0} → Giving S → Running → Kind → Result Bool DurableFault
+    → Running → Medium → Medium → S → S → Type 0
+AsksTurn gives old kind (Ok is_there) new disk disk' source source' = (exchanges : List Exchange)
+    × AsksOutside gives kind exchanges source source'
+    × ((c : Course) (promise : Promise) (stage : Stage) (p : ProcessState)
+    → IsAskingOn c promise stage p kind promise.events old disk → IsForetold stage exchanges
+    → TurnAsks c promise stage is_there exchanges new disk disk') × (length exchanges ≡ 1)
+AsksTurn gives old kind (Err why) new disk disk' source source' = (exchanges : List Exchange)
+    × AsksOutside gives kind exchanges source source'
+    × ((c : Course) (promise : Promise) (stage : Stage) (p : ProcessState)
+    → IsAskingOn c promise stage p kind promise.events old disk → IsForetold stage exchanges
+    → TurnFails c promise stage why exchanges new disk disk')
+
+-- the store failed, and the source wasn't asked; or it was, in vain
+abbrev pub AsksVainly : {S : Type 0} → Giving S → Running → Kind → DurableFault → Running → S → S
+    → Type 0
+AsksVainly gives old kind why new source source' =
+    (IsOfStoreFault why × (new.process ≡ old.process) × (source' ≡ source))
+    ⊎ ((mid : Running) × (step : ℕ) × (mid.process ≡ old.process)
+    × Hears gives mid kind step (Err why) new source source')
+
+-- ---- a slice
+
+-- All turns of a slice, or those so far. It is over for this reason, or fails.
+abbrev pub WorksOn : {S O : Type 0} → Giving S → Taking O → Running → ℕ → Result Now DurableFault
+    → Running → Medium → Medium → S → S → O → O → Type 0
+WorksOn gives takes old fuel result new disk disk' source source' outlet outlet' =
+    (exchanges : List Exchange) × Exchanges gives takes source outlet exchanges source' outlet'
+    × ((c : Course) (promise : Promise) (stage : Stage) (p : ProcessState) → c.fuel ≡ fuel
+    → c.first ≡ old.process.steps → IsBetweenTurns c promise stage p old disk
+    → IsForetold stage exchanges → (reply : Reply) × IsReplyOf result reply
+    × HasCauseOf result c.guest c.config new.process disk disk'
+    × TurnEnds c promise stage reply exchanges new disk disk')
+    × CallsForEvents (length exchanges + 1) disk disk'

@@ -1,0 +1,51 @@
+-- How a life ended, and what it leaves to the next one.
+use Rattle.std.specs.Prelude.{◌≡◌, ℕ, Bool, true, false, Option, Result, Ok, Err}
+use Rattle.sector_disk.specs.declared.fault_disk.FaultDisk.{FaultDisk}
+use Rattle.sector_disk.specs.declared.memory.MemDisk.{MemDisk}
+use Rattle.sector_disk.specs.rules.FaultDisk.{call_counts_of, disk_below}
+use Rattle.sector_disk.specs.rules.Memory.{memory_medium}
+use Rattle.sector_disk.specs.rules.Trouble.{call_number}
+use Rattle.worker_rules.specs.Between.{IsFoundAfterCut}
+use Rattle.worker_rules.specs.Courses.{HasStopped}
+use Rattle.worker.specs.declared.recover_fault.RecoverFault.{RecoverFault}
+use Rattle.worker.specs.declared.story.hearing.HeardLines.{HeardLines}
+use Rattle.worker.specs.declared.story.life.PlannedLife.{PlannedLife}
+use Rattle.worker.specs.declared.story.living.LivedOnce.{LivedOnce}
+use Rattle.worker.specs.declared.story.report.LifeEnd.{LifeEnd}
+use Rattle.worker.specs.declared.story.report.LifeEnd.TheVariants.{Finished, Stopped}
+use Rattle.worker.specs.declared.story.report.LifeEnd.TheVariants.{Failed}
+use Rattle.worker.specs.declared.story.report.LifeReport.{LifeReport}
+use Rattle.worker.specs.rules.Planned.{call_at}
+use Rattle.worker.specs.rules.StoryDisks.{IsLeftBy}
+
+-- the end of a life by its stop, or by what ended its calls
+abbrev pub end_told : Bool → Result (Unit {0}) RecoverFault → LifeEnd
+end_told true ended = Stopped
+end_told false (Ok done) = Finished
+end_told false (Err why) = Failed why
+
+-- after an error the next life finds the same disk, and else what a cut leaves of it
+abbrev pub IsFoundBehind : LifeEnd → MemDisk → MemDisk → Type 0
+IsFoundBehind (Failed why) left next = next ≡ left
+IsFoundBehind Finished left next = IsFoundAfterCut (memory_medium left) (memory_medium next)
+IsFoundBehind Stopped left next = IsFoundAfterCut (memory_medium left) (memory_medium next)
+
+-- a stop has come, or has not, as a test says
+abbrev pub StopSays : Bool → Option ℕ → ℕ → Type 0
+StopSays true stop calls = HasStopped stop calls
+StopSays false stop calls = HasStopped stop calls → ⊥
+
+-- The end of a life on this disk: no line of it was refused, all is told, and the power is cut
+-- where the life says so.
+pub record EndsLife (lived : LivedOnce) (disk : FaultDisk MemDisk) (heard : HeardLines)
+    (life : PlannedLife) (report : LifeReport) (next : MemDisk) : Type 0 where
+  pub unrefused : heard.has_refused ≡ false
+  pub opened : report.opened ≡ lived.opened
+  pub releases : report.releases ≡ heard.lines
+  pub calls : report.calls ≡ call_number (call_counts_of disk)
+  pub stopped : Bool
+  pub stops : StopSays stopped (call_at life.stop) (call_number (call_counts_of disk))
+  pub ended : report.ended ≡ end_told stopped lived.ended
+  pub behind : IsFoundBehind report.ended (disk_below disk) next
+  pub left : IsLeftBy life.tears report.ended disk next
+  pub room : (memory_medium next).room ≡ (memory_medium (disk_below disk)).room

@@ -1,0 +1,84 @@
+-- The calls of one life, each as its clause says, on any disk.
+use Rattle.std.specs.Prelude.{◌≡◌, ℕ, Bool, true, false, List, [], ◌∷◌, Option}
+use Rattle.std.specs.Prelude.{Result, Ok, Err}
+use Rattle.wasi_abi.specs.rules.Configs.{Settings}
+use Rattle.sector_disk.specs.rules.Image.{Image}
+use Rattle.sector_disk.specs.rules.Medium.{Medium}
+use Rattle.record_replay.specs.rules.Calls.{Giving, Taking}
+use Rattle.worker_rules.specs.Lives.{Act, Beginning, Recovers, Creates}
+use Rattle.worker.specs.declared.fault.DurableFault.{DurableFault}
+use Rattle.worker.specs.declared.recover_fault.RecoverFault.{RecoverFault}
+use Rattle.worker.specs.declared.recover_fault.RecoverFault.TheVariants as recover
+use Rattle.worker.specs.rules.DurableValues.{DurableValue}
+use Rattle.worker.specs.laws.OneLife.{CallsInOrder, BeginsLife, IsOneLife, shown_first}
+use Rattle.worker.specs.laws.OneLife.{left_undone}
+use Rattle.worker.specs.declared.story.living.LivedOnce.{LivedOnce}
+use Rattle.worker.specs.declared.story.opening.OpenedWorker.{OpenedWorker}
+use Rattle.worker.specs.declared.story.report.Opening.{Opening}
+use Rattle.worker.specs.declared.story.report.Opening.TheVariants.{Recovered}
+use Rattle.worker.specs.rules.Recoveries.{Recovers as recovers_on}
+use Rattle.worker.specs.rules.Told.{TellsOpening}
+
+-- a cut of each disk may leave some image: its answers fit one
+abbrev pub LeavesSome : {D : Type 0} → (D → Medium) → Type 0
+LeavesSome {D} medium = (disk : D) → (image : Image) × (medium disk).may_leave image
+
+-- ---- acts
+
+-- One act, and then any others that are done in order.
+abbrev pub DoesAct : {D S O : Type 0} → (D → Medium) → Giving S → Taking O → Act → DurableValue
+    → D → S → O → Result (Unit {0}) DurableFault → DurableValue → D → S → O → Type 0
+DoesAct {D} {S} {O} medium gives takes act w disk source outlet (Ok done) w' disk' source' outlet' =
+    (acts : List Act) (left : Result (List Act) RecoverFault) (last : D) (source_last : S)
+    (outlet_last : O)
+    → CallsInOrder medium gives takes acts w' disk' source' outlet' left last source_last
+    outlet_last
+    → CallsInOrder medium gives takes (act ∷ acts) w disk source outlet left last source_last
+    outlet_last
+DoesAct medium gives takes act w disk source outlet (Err why) w' disk' source' outlet' =
+    (acts : List Act) → CallsInOrder medium gives takes (act ∷ acts) w disk source outlet
+    (Err (recover.Worker why)) disk' source' outlet'
+
+-- ---- openings
+
+abbrev pub beginning_of : Bool → Beginning
+beginning_of true = Creates
+beginning_of false = Recovers
+
+-- how a life begins, whatever its recovery or creation answers
+abbrev pub Opens : {D O : Type 0} → (D → Medium) → Taking O → List ℕ → Settings → D → O
+    → Result OpenedWorker RecoverFault → D → O → Type 0
+Opens medium takes bytes config found outlet (Ok opened) disk outlet' =
+    BeginsLife medium takes bytes config found outlet (beginning_of opened.is_created)
+    (Ok opened.worker) disk outlet'
+    × (opened.is_created ≡ false
+    → recovers_on medium takes (Ok opened.worker) found disk outlet outlet')
+Opens medium takes bytes config found outlet (Err why) disk outlet' = (begins : Beginning)
+    × BeginsLife medium takes bytes config found outlet begins (Err why) disk outlet'
+
+-- ---- a life
+
+-- A recovered life, which is none that is created, tells this generation.
+abbrev pub TellsGeneration : Bool → ℕ → Opening → Type 0
+TellsGeneration is_created g (Recovered generation steps answers lines bytes) =
+    (is_created ≡ false) × (generation ≡ g)
+TellsGeneration is_created g other = Unit {0}
+
+-- A recovered life tells the generation of a worker that a recovery of this disk has opened.
+abbrev pub IsOfRecovery : {D O : Type 0} → (D → Medium) → Taking O → D → O → Opening → Type 0
+IsOfRecovery {D} {O} medium takes found outlet
+    (Recovered generation steps answers lines bytes) =
+    (w : DurableValue) × (disk : D) × (outlet' : O) × (generation ≡ w.store.journal.generation)
+    × recovers_on medium takes (Ok w) found disk outlet outlet'
+IsOfRecovery medium takes found outlet other = Unit {0}
+
+-- the calls of one life, and what is told of its opening
+pub record LivesOnce {D S O : Type 0} (medium : D → Medium) (gives : Giving S) (takes : Taking O)
+    (bytes : List ℕ) (config : Settings) (acts : List Act) (lived : LivedOnce) (found : D)
+    (source : S) (outlet : O) (last : D) (source' : S) (outlet' : O) : Type 0 where
+  pub begins : Beginning
+  pub worker : Option DurableValue
+  pub calls : IsOneLife medium gives takes bytes config acts found source outlet begins worker
+      (left_undone lived.ended) last source' outlet'
+  pub told : TellsOpening begins (shown_first worker) lived.opened
+  pub generation : IsOfRecovery medium takes found outlet lived.opened

@@ -1,0 +1,34 @@
+-- What the last slice of a life has answered (this project's own).
+use Rattle.std.specs.Prelude.{ℕ, List, Option, Result}
+use Rattle.wasi_abi.specs.rules.Configs.{Settings}
+use Rattle.sector_disk.specs.rules.Medium.{Medium}
+use Rattle.record_replay.specs.rules.Calls.{Giving, Taking}
+use Rattle.ephemeral_worker.specs.declared.now.Now.{Now}
+use Rattle.ephemeral_worker.specs.declared.now.Now.TheVariants.{Spent}
+use Rattle.worker.specs.declared.recover_fault.RecoverFault.{RecoverFault}
+use Rattle.worker.specs.rules.DurableValues.{DurableValue}
+use Rattle.worker.specs.rules.LifeWords.{Act, Beginning}
+use Rattle.worker.specs.laws.OneLife.{CallsInOrder, no_more, sliced, slice_failed, saved}
+use Rattle.worker.specs.laws.OneLife.{saving_failed, IsOneLife, opened, unopened}
+
+-- What the last slice of these calls has answered, of those without an error; where there is none,
+-- what was answered before them.
+abbrev pub outcome_after : {D S O : Type 0} {medium : D → Medium} {gives : Giving S}
+    {takes : Taking O} {acts : List Act} {w : DurableValue} {disk last : D} {source source' : S}
+    {outlet outlet' : O} {left : Result (List Act) RecoverFault} → Now
+    → CallsInOrder medium gives takes acts w disk source outlet left last source' outlet' → Now
+outcome_after before no_more = before
+outcome_after before (sliced said carries others) = outcome_after said others
+outcome_after before (slice_failed carries) = before
+outcome_after before (saved carries others) = outcome_after before others
+outcome_after before (saving_failed carries cause) = before
+
+-- the same of a life; where there is none, nothing has ended the worker
+abbrev pub life_outcome : {D S O : Type 0} {medium : D → Medium} {gives : Giving S}
+    {takes : Taking O} {bytes : List ℕ} {config : Settings} {acts : List Act} {found last : D}
+    {source source' : S} {outlet outlet' : O} {begins : Beginning} {worker : Option DurableValue}
+    {left : Result (List Act) RecoverFault}
+    → IsOneLife medium gives takes bytes config acts found source outlet begins worker left last
+    source' outlet' → Now
+life_outcome (opened begun calls) = outcome_after Spent calls
+life_outcome (unopened begun) = Spent

@@ -1,0 +1,83 @@
+-- What the last slice of a life has answered, among what happened in it (this project's own).
+use Rattle.std.specs.Prelude.{◌≡◌, ◌⊎◌, ℕ, ◌≤◌, List, [], ◌∷◌, ◌++◌, length, Option, Result, Ok}
+use Rattle.wasm_syntax.specs.declared.module.Module.{Module}
+use Rattle.wasm_syntax_rules.specs.Acceptance.{IsAccepted}
+use Rattle.wasi_abi.specs.rules.Configs.{Settings}
+use Rattle.machine.specs.rules.Offers.{offer}
+use Rattle.process.specs.rules.Values.{ending_of}
+use Rattle.state_image.specs.rules.Image.{Saved}
+use Rattle.sector_disk.specs.rules.Medium.{Medium}
+use Rattle.disk_layout.specs.rules.Places.{geometry_of, total_sectors}
+use Rattle.disk_layout.specs.rules.Unsynced.{most_unsynced}
+use Rattle.record_replay.specs.rules.Calls.{Giving, Taking, Exchange, Exchanges}
+use Rattle.worker_rules.specs.Lives.{Act, Slice, Checkpoint, Reply, Spent, Waits, Over, Event, Told}
+use Rattle.worker_rules.specs.Lives.{Asked, Opened, Ended, told_in, Beginning, Inputs}
+use Rattle.worker_rules.specs.Courses.{at_first, stage_after}
+use Rattle.worker_rules.specs.Promises.{Promise, as_begun, promised, AreKept, IsEnding}
+use Rattle.worker_rules.specs.Holds.{KeepsPromise, KeepsBounds}
+use Rattle.ephemeral_worker.specs.declared.now.Now.{Now}
+use Rattle.ephemeral_worker.specs.declared.now.Now.TheVariants as now
+use Rattle.worker.specs.declared.recover_fault.RecoverFault.{RecoverFault}
+use Rattle.worker.specs.rules.DurableValues.{DurableValue}
+use Rattle.worker.specs.laws.OneLife.{IsOneLife, released_in}
+use Rattle.worker.specs.laws.Uncut.{uncut}
+use Rattle.worker.specs.laws.Outcomes.{life_outcome}
+
+-- what a slice has answered, in the words of a life
+abbrev pub reply_of : Now → Reply
+reply_of now.Spent = Spent
+reply_of now.Waiting = Waits
+reply_of (now.Ended how) = Over (ending_of how)
+
+-- What the last slice that ends among these events has answered; where there is none, what was
+-- answered before them.
+abbrev pub reply_after : Reply → List Event → Reply
+reply_after before [] = before
+reply_after before (Told r is_taken ∷ events) = reply_after before events
+reply_after before (Asked steps kind said fits ∷ events) = reply_after before events
+reply_after before (Opened held shown ∷ events) = reply_after before events
+reply_after before (Ended (Slice fuel) reply held shown ∷ events) = reply_after reply events
+reply_after before (Ended Checkpoint reply held shown ∷ events) = reply_after before events
+
+-- The last slice among these events ends so, behind others. It keeps what was promised then: the
+-- process that it shows is one that all kept answers lead to.
+pub record LastSliceEnds (m : Module) (config : Settings) (so_far : Promise) (inputs : Inputs)
+    (events : List Event) (reply : Reply) : Type 0 where
+  pub front : List Event
+  pub back : List Event
+  pub fuel : ℕ
+  pub held : ℕ
+  pub shown : Saved
+  pub is : events ≡ front ++ (Ended (Slice fuel) reply held shown ∷ back)
+  pub none_later : (before : Reply) → reply_after before back ≡ before
+  pub ends : IsEnding m config (promised so_far front) (stage_after (at_first inputs) front)
+      (record { act = Slice fuel; reply = reply; held = held; shown = shown })
+
+-- The exchanges of a life in which the power isn't cut, and its events, which keep what was
+-- promised. Either its outcome is that the worker goes on, of which no more is said. Or its last
+-- slice has answered this outcome.
+pub record EndsAsSaid {S O : Type 0} (gives : Giving S) (takes : Taking O) (m : Module)
+    (config : Settings) (so_far : Promise) (acts : List Act) (outcome : Now) (source source' : S)
+    (outlet outlet' : O) : Type 0 where
+  pub exchanges : List Exchange
+  pub exchanged : Exchanges gives takes source outlet exchanges source' outlet'
+  pub events : List Event
+  pub kept : AreKept m config so_far (at_first (uncut acts exchanges)) events
+  pub told : told_in events ≡ released_in exchanges
+  pub answered : (outcome ≡ now.Spent)
+      ⊎ LastSliceEnds m config so_far (uncut acts exchanges) events (reply_of outcome)
+
+-- so it is of each life without an error, on a disk with room for the worker
+abbrev pub LivesEndAsSaid : {D S O : Type 0} → (D → Medium) → Giving S → Taking O → Type 0
+LivesEndAsSaid {D} {S} {O} medium gives takes =
+    (m : Module) (config : Settings) (bytes : List ℕ) (so_far : Promise) (acts : List Act)
+    (found last : D) (source source' : S) (outlet outlet' : O) (begins : Beginning)
+    (worker : Option DurableValue) (left : Result (List Act) RecoverFault)
+    → IsAccepted offer config.pages bytes m
+    → (one : IsOneLife medium gives takes bytes config acts found source outlet begins worker left
+    last source' outlet') → left ≡ Ok []
+    → total_sectors (geometry_of config (length bytes)) ≤ (medium found).sectors
+    → most_unsynced (geometry_of config (length bytes)) ≤ (medium found).room
+    → KeepsPromise m config so_far (medium found) → KeepsBounds so_far.events (medium found)
+    → EndsAsSaid gives takes m config (as_begun begins so_far) acts (life_outcome one) source
+    source' outlet outlet'

@@ -1,0 +1,72 @@
+-- What a checkpoint does to a worker and its disk (this project's own).
+use Rattle.std.specs.Prelude.{◌≡◌, ◌⊎◌, ◌+◌, ◌-◌, ◌*◌, ◌≤◌, ◌<◌, List, ◌++◌, length, true, Result}
+use Rattle.wasm_syntax.specs.declared.module.Module.{Module}
+use Rattle.wasi_abi.specs.declared.numbers.TheConstants.{NUMBERS_END}
+use Rattle.wasi_abi.specs.rules.Configs.{Settings}
+use Rattle.process_rules.specs.Processes.{ProcessState, Guest}
+use Rattle.state_image.specs.rules.Image.{image}
+use Rattle.state_image.specs.rules.Saving.{saved_of}
+use Rattle.sector_disk.specs.declared.disk_call.DiskCall.{DiskCall}
+use Rattle.sector_disk.specs.declared.sector.TheConstants.{SECTOR_SIZE}
+use Rattle.sector_disk.specs.rules.Medium.{Medium, MakesCalls, spare}
+use Rattle.disk_layout.specs.rules.Places.{area_place, rounded_up}
+use Rattle.journal.specs.rules.Packed.{sectors_for}
+use Rattle.journal.specs.rules.Steps.{barrier_calls}
+use Rattle.snapshot.specs.declared.writing.Writing.TheVariants.{Changes}
+use Rattle.snapshot.specs.rules.Calls.{AreStores, with_head}
+use Rattle.worker_rules.specs.Courses.{Stage}
+use Rattle.worker_rules.specs.Promises.{Promise}
+use Rattle.worker_store.specs.declared.fault.StoreFault.TheVariants as store
+use Rattle.ephemeral_worker.specs.declared.fault.WorkFault.TheVariants as work
+use Rattle.worker.specs.declared.fault.DurableFault.{DurableFault}
+use Rattle.worker.specs.declared.fault.DurableFault.TheVariants.{Work, Disk, Store}
+use Rattle.worker.specs.rules.DurableValues.{DurableValue}
+use Rattle.worker.specs.rules.OpenWorkers.{IsOpenOn}
+
+-- the same worker but for its store, which is one generation on
+pub record IsSavedIn (old new : DurableValue) : Type 0 where
+  pub process : new.process ≡ old.process
+  pub replayed : new.replayed ≡ old.replayed
+  pub unfailed : new.has_failed ≡ old.has_failed
+  pub generation : new.store.journal.generation ≡ old.store.journal.generation + 1
+
+-- The pending records are written, and synced. Then some sectors of the image are written, in
+-- rising order and each once at most. Behind a sync come the head of the next generation, and a
+-- sync. After an error these calls are begun.
+abbrev pub CheckpointCalls : {T E : Type 0} → DurableValue → Result T E → Medium → Medium → Type 0
+CheckpointCalls w result old new = (stores : List DiskCall)
+    × AreStores Changes (area_place w.store.geometry (w.store.journal.generation + 1))
+    (rounded_up (length (image (saved_of w.process)))) stores
+    × MakesCalls (with_head (w.store.journal.generation + 1) stores
+    ++ barrier_calls w.store.geometry w.store.journal) result old new
+
+-- When each error comes of a worker that is open. The number of the generation is at its end, or
+-- the disk failed, or it surely takes too few writes between two syncs.
+abbrev pub IsCheckpointFault : DurableValue → Medium → Medium → DurableFault → Type 0
+IsCheckpointFault w old new (Store store.TooBig) = NUMBERS_END ≤ w.store.journal.generation + 1
+IsCheckpointFault w old new (Disk fault) =
+    (old.room < sectors_for (length w.store.journal.kept))
+    ⊎ (old.room < w.store.geometry.area_sectors) ⊎ (old.room ≡ 0) ⊎ (old.faults < new.faults)
+IsCheckpointFault w old new other = ⊥
+
+-- so it is whatever was promised of it
+abbrev pub CheckpointFails : DurableValue → Medium → Medium → DurableFault → Type 0
+CheckpointFails w old new fault =
+    (m : Module) (config : Settings) (guest : Guest) (promise : Promise) (stage : Stage)
+    (p : ProcessState) → IsOpenOn m config guest promise stage p w old
+    → IsCheckpointFault w old new fault
+
+-- When each error comes, whatever stands on the disk. Then the journal may also have too few
+-- sectors for the pending records, and the area for the image. The disk may have taken writes since
+-- its last good sync. The worker says that it has failed only where it had failed before.
+abbrev pub HasCheckpointCause : DurableValue → Medium → Medium → DurableFault → Type 0
+HasCheckpointCause w old new (Work work.Failed) = w.has_failed ≡ true
+HasCheckpointCause w old new (Store store.TooBig) = (NUMBERS_END ≤ w.store.journal.generation + 1)
+    ⊎ (SECTOR_SIZE * w.store.geometry.area_sectors < length (image (saved_of w.process)))
+HasCheckpointCause w old new (Store store.Full) =
+    w.store.geometry.journal_sectors - w.store.journal.used
+    < sectors_for (length w.store.journal.kept)
+HasCheckpointCause w old new (Disk fault) =
+    (spare old < sectors_for (length w.store.journal.kept))
+    ⊎ (spare old < w.store.geometry.area_sectors) ⊎ (old.room ≡ 0) ⊎ (old.faults < new.faults)
+HasCheckpointCause w old new other = ⊥

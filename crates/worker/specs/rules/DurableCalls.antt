@@ -1,0 +1,141 @@
+-- What a call of a worker on its disk keeps of what was promised (this project's own).
+use Rattle.std.specs.Prelude.{◌≡◌, ◌⊎◌, ℕ, ◌+◌, ◌<◌, List, [], ◌∷◌, ◌++◌, length, None, Result}
+use Rattle.std.specs.Prelude.{Ok, Err}
+use Rattle.wasm_syntax.specs.declared.module.Module.{Module}
+use Rattle.wasi_abi.specs.declared.answer.Kind.{Kind}
+use Rattle.wasi_abi.specs.rules.Configs.{Settings}
+use Rattle.process_rules.specs.Processes.{ProcessState, Guest}
+use Rattle.process_rules.specs.Runs.{Wants, next_of}
+use Rattle.process.specs.rules.Values.{ProcessValue, ShowsProcess, ending_of}
+use Rattle.process.specs.rules.Stops.{CallsHost}
+use Rattle.record_replay.specs.rules.Calls.{Giving, Taking, Exchange, Exchanges}
+use Rattle.sector_disk.specs.rules.Medium.{Medium}
+use Rattle.state_image.specs.rules.Saving.{saved_of}
+use Rattle.disk_layout.specs.rules.Places.{geometry_of}
+use Rattle.worker_rules.specs.Lives.{Act, Slice, Checkpoint, Cause, OfDisk, OfSource, OfAnswer}
+use Rattle.worker_rules.specs.Lives.{OfOutlet, OfMemory, OfBounds, Reply, Spent, Waits, Over, Done}
+use Rattle.worker_rules.specs.Lives.{Fails, Event, Ended}
+use Rattle.worker_rules.specs.Courses.{Stage, Open, phase_ended, stage_after}
+use Rattle.worker_rules.specs.Promises.{Promise, promised, AreKept}
+use Rattle.worker_rules.specs.Holds.{CarriesPromise, StaysWithin}
+use Rattle.worker_rules.specs.Exchanges.{AreEvents}
+use Rattle.worker_store.specs.laws.Pieces.{IsForetold}
+use Rattle.worker_store.specs.declared.fault.StoreFault.TheVariants as store
+use Rattle.ephemeral_worker.specs.declared.now.Now.{Now}
+use Rattle.ephemeral_worker.specs.declared.now.Now.TheVariants as now
+use Rattle.ephemeral_worker.specs.declared.fault.WorkFault.TheVariants as work
+use Rattle.ephemeral_worker.specs.declared.fault.Refusal.TheVariants as refusal
+use Rattle.worker.specs.declared.fault.DurableFault.{DurableFault}
+use Rattle.worker.specs.declared.fault.DurableFault.TheVariants.{Work, Disk, Store}
+use Rattle.worker.specs.rules.CallCounts.{CallsForEvents}
+use Rattle.worker.specs.rules.DurableValues.{DurableValue}
+use Rattle.worker.specs.rules.OpenWorkers.{IsOpenOn}
+
+-- ---- what a call answers
+
+-- What an error of an open worker is in a life. A source fails, or hands over what doesn't fit. A
+-- number at its end is that of a step, of a line or of a generation. No other error comes.
+abbrev pub ComesOf : DurableFault → Cause → Type 0
+ComesOf (Work work.Source) cause = (cause ≡ OfSource) ⊎ (cause ≡ OfAnswer)
+ComesOf (Work work.Outlet) cause = cause ≡ OfOutlet
+ComesOf (Work work.Memory) cause = cause ≡ OfMemory
+ComesOf (Work (work.Refused refusal.StepsSpent)) cause = cause ≡ OfBounds
+ComesOf (Work (work.Refused (refusal.Front why))) cause = ⊥
+ComesOf (Work work.Failed) cause = ⊥
+ComesOf (Disk fault) cause = cause ≡ OfDisk
+ComesOf (Store store.TooBig) cause = cause ≡ OfBounds
+ComesOf (Store other) cause = ⊥
+
+-- an error, with its cause
+abbrev pub IsFailureOf : DurableFault → Reply → Type 0
+IsFailureOf why reply = (cause : Cause) × ComesOf why cause × (reply ≡ Fails cause)
+
+-- what a slice answers
+abbrev pub IsReplyOf : Result Now DurableFault → Reply → Type 0
+IsReplyOf (Ok now.Spent) reply = reply ≡ Spent
+IsReplyOf (Ok now.Waiting) reply = reply ≡ Waits
+IsReplyOf (Ok (now.Ended how)) reply = reply ≡ Over (ending_of how)
+IsReplyOf (Err why) reply = IsFailureOf why reply
+
+-- what a checkpoint answers
+abbrev pub IsReplyOfSaving : Result (Unit {0}) DurableFault → Reply → Type 0
+IsReplyOfSaving (Ok done) reply = reply ≡ Done
+IsReplyOfSaving (Err why) reply = IsFailureOf why reply
+
+-- ---- why a disk fails it
+
+-- Between two syncs the disk surely takes fewer writes than a journal or an area has sectors.
+abbrev pub TakesTooFew : Settings → Medium → Type 0
+TakesTooFew config disk =
+    (disk.room < config.journal) ⊎ (disk.room < (geometry_of config 0).area_sectors)
+
+-- the next step of the process shown is a call of the host, or it takes an answer
+pub record NeedsMemory (guest : Guest) (v : ProcessValue) : Type 0 where
+  pub process : ProcessState
+  pub shows : ShowsProcess v guest process
+  pub needs : CallsHost guest process ⊎ ((kind : Kind) × (next_of guest process None ≡ Wants kind))
+
+-- Why a call fails after which this process is shown. The disk has failed since, or takes too few
+-- writes. Memory was wanted for the next step, or to keep its answer.
+abbrev pub HasCauseAt : DurableFault → Guest → Settings → ProcessValue → Medium → Medium → Type 0
+HasCauseAt (Disk fault) guest config v old new =
+    TakesTooFew config old ⊎ (old.faults < new.faults)
+HasCauseAt (Work work.Memory) guest config v old new = NeedsMemory guest v
+HasCauseAt (Work other) guest config v old new = Unit {0}
+HasCauseAt (Store fault) guest config v old new = Unit {0}
+
+-- where there is one
+abbrev pub HasCauseOf : {T : Type 0} → Result T DurableFault → Guest → Settings → ProcessValue
+    → Medium → Medium → Type 0
+HasCauseOf (Ok done) guest config v old new = Unit {0}
+HasCauseOf (Err why) guest config v old new = HasCauseAt why guest config v old new
+
+-- ---- a call
+
+-- what happens in a call, its end included, after which it shows this worker
+abbrev pub call_events : List Event → Act → Reply → ℕ → DurableValue → List Event
+call_events events act reply held w = events ++ Ended act reply held (saved_of w.process) ∷ []
+
+-- The exchanges of a call, and its end, are events that keep what was promised. At any moment of it
+-- the disk holds what was promised before, and in the end what is promised then. No image that a
+-- cut leaves is of a later generation than as much has then happened, or of a worker for which
+-- there is no room. Few calls of the disk are begun before each exchange and before the end.
+-- Without an error the worker is open on the disk again.
+pub record CallCarries (m : Module) (config : Settings) (guest : Guest) (promise : Promise)
+    (stage : Stage) (act : Act) (reply : Reply) (new : DurableValue) (disk disk' : Medium)
+    (exchanges : List Exchange) : Type 0 where
+  pub events : List Event
+  pub are : AreEvents exchanges events
+  pub held : ℕ
+  pub kept : AreKept m config promise stage (call_events events act reply held new)
+  pub carried : CarriesPromise m config promise
+      (promised promise (call_events events act reply held new)) disk disk'
+  pub bounded : StaysWithin (promised promise (call_events events act reply held new)).events disk
+      disk'
+  pub counted : CallsForEvents (length exchanges + 1) disk disk'
+  pub goes_on : phase_ended reply ≡ Open → (q : ProcessState)
+      × IsOpenOn m config guest (promised promise (call_events events act reply held new))
+      (stage_after stage (call_events events act reply held new)) q new disk'
+
+-- A slice has these exchanges with its source and its outlet. Whatever was promised of the worker
+-- that is open on this disk, and wherever a life stands whose source and outlet will say what they
+-- now said, it keeps it.
+abbrev pub SliceCarries : {S O : Type 0} → Giving S → Taking O → DurableValue → ℕ
+    → Result Now DurableFault → DurableValue → Medium → Medium → S → S → O → O → Type 0
+SliceCarries gives takes old fuel result new disk disk' source source' outlet outlet' =
+    (exchanges : List Exchange) × Exchanges gives takes source outlet exchanges source' outlet'
+    × ((m : Module) (config : Settings) (guest : Guest) (promise : Promise) (stage : Stage)
+    (p : ProcessState) (acts : List Act) → IsOpenOn m config guest promise stage p old disk
+    → stage.acts ≡ Slice fuel ∷ acts → IsForetold stage exchanges
+    → (reply : Reply) × IsReplyOf result reply
+    × HasCauseOf result guest config new.process disk disk'
+    × CallCarries m config guest promise stage (Slice fuel) reply new disk disk' exchanges)
+
+-- So does a checkpoint, which asks no source and tells no line.
+abbrev pub CheckpointCarries : DurableValue → Result (Unit {0}) DurableFault → DurableValue → Medium
+    → Medium → Type 0
+CheckpointCarries old result new disk disk' =
+    (m : Module) (config : Settings) (guest : Guest) (promise : Promise) (stage : Stage)
+    (p : ProcessState) (acts : List Act) → IsOpenOn m config guest promise stage p old disk
+    → stage.acts ≡ Checkpoint ∷ acts → (reply : Reply) × IsReplyOfSaving result reply
+    × CallCarries m config guest promise stage Checkpoint reply new disk disk' []

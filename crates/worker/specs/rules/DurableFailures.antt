@@ -1,0 +1,89 @@
+-- Why a slice of a worker on its disk fails, and what it has done until then (this project's own).
+-- It is said in the words of a worker that has no disk.
+use Rattle.std.specs.Prelude.{◌≡◌, ◌⊎◌, ℕ, ◌<◌, ◌≤◌, List, Option, Some, None, true}
+use Rattle.wasi_abi.specs.declared.answer.Kind.{Kind}
+use Rattle.wasi_calls_rules.specs.Hosts.{Line}
+use Rattle.process_rules.specs.Processes.{ProcessState, Guest}
+use Rattle.process_rules.specs.Runs.{Wants, next_of}
+use Rattle.process.specs.rules.Values.{ProcessValue, ShowsProcess}
+use Rattle.process.specs.rules.Stops.{CallsHost}
+use Rattle.wasi_abi.specs.declared.answer.Answer.{Answer}
+use Rattle.sector_disk.specs.rules.Medium.{Medium, spare}
+use Rattle.disk_layout.specs.declared.geometry.Geometry.{Geometry}
+use Rattle.record_replay.specs.rules.Calls.{Giving, Taking, Exchange}
+use Rattle.worker_store.specs.declared.fault.StoreFault.TheVariants as store
+use Rattle.ephemeral_worker.specs.Turns.{working, failing}
+use Rattle.ephemeral_worker.specs.declared.fault.WorkFault.TheVariants as work
+use Rattle.ephemeral_worker.specs.rules.Faults.{LeadsUpTo, EmitsLast, Fails, IsCause}
+use Rattle.worker.specs.declared.fault.DurableFault.{DurableFault}
+use Rattle.worker.specs.declared.fault.DurableFault.TheVariants.{Work, Disk, Store}
+use Rattle.worker.specs.rules.DurableValues.{DurableValue}
+
+-- It stops where the disk is wanted. The lines of the last step aren't told yet, or all lines were.
+abbrev pub StopsAtDisk : Guest → ProcessState → List Exchange → ℕ → ProcessState → Type 0
+StopsAtDisk guest p exchanges steps q =
+    ((lines : List Line) × EmitsLast guest p exchanges steps q lines)
+    ⊎ LeadsUpTo guest p exchanges steps q None
+
+-- It stops where the store is wanted: there, or where one more answer has been handed over.
+abbrev pub StopsAtStore : Guest → ProcessState → List Exchange → ℕ → ProcessState → Type 0
+StopsAtStore guest p exchanges steps q = StopsAtDisk guest p exchanges steps q
+    ⊎ ((answer : Answer) × LeadsUpTo guest p exchanges steps q (Some answer))
+
+-- It stops where an answer is to be asked for.
+abbrev pub StopsAtQuestion : Guest → ProcessState → ℕ → List Exchange → ℕ → ProcessState → Type 0
+StopsAtQuestion guest p fuel exchanges steps q = (steps < fuel) × (q.ended ≡ None)
+    × (kind : Kind) × (next_of guest q None ≡ Wants kind)
+    × LeadsUpTo guest p exchanges steps q None
+
+-- Memory is wanted for the next step, for which some fuel is left, or to keep its answer.
+abbrev pub StopsForMemory : Guest → ProcessState → ℕ → List Exchange → ℕ → ProcessState → Type 0
+StopsForMemory guest p fuel exchanges steps q = (steps < fuel) × (q.ended ≡ None)
+    × (CallsHost guest q ⊎ ((kind : Kind) × (next_of guest q None ≡ Wants kind)))
+    × (given : Option Answer) × LeadsUpTo guest p exchanges steps q given
+
+-- What failed: memory; the disk; the number of the next generation; the store, which may have
+-- failed before. Else it is the source, the outlet or a number, as of a worker without a disk.
+abbrev pub IsDiskCause : Guest → ProcessState → ℕ → List Exchange → ℕ → ProcessState
+    → DurableFault → Type 0
+IsDiskCause guest p fuel exchanges steps q (Work work.Memory) =
+    StopsForMemory guest p fuel exchanges steps q
+IsDiskCause guest p fuel exchanges steps q (Work work.Failed) =
+    (steps ≤ fuel) × StopsAtStore guest p exchanges steps q
+IsDiskCause guest p fuel exchanges steps q (Work other) =
+    IsCause guest p fuel exchanges steps q other
+IsDiskCause guest p fuel exchanges steps q (Disk fault) =
+    (steps ≤ fuel) × StopsAtDisk guest p exchanges steps q
+IsDiskCause guest p fuel exchanges steps q (Store store.TooBig) =
+    StopsAtQuestion guest p fuel exchanges steps q
+IsDiskCause guest p fuel exchanges steps q (Store fault) =
+    (steps ≤ fuel) × StopsAtStore guest p exchanges steps q
+
+-- Whichever process was shown has gone on to one that is then shown, up to what failed.
+abbrev pub SlicesOnDiskInVain : {S O : Type 0} → Giving S → Taking O → ProcessValue → ℕ
+    → DurableFault → ProcessValue → S → S → O → O → Type 0
+SlicesOnDiskInVain gives takes old fuel why new source source' outlet outlet' =
+    (guest : Guest) (p : ProcessState) → ShowsProcess old guest p
+    → (fails : Fails gives takes (working old) (failing new) guest p source source' outlet outlet')
+    × IsDiskCause guest p fuel fails.exchanges fails.steps fails.process why
+
+-- ---- on whatever disk
+
+-- Before its next good sync the disk surely takes fewer writes than the journal has sectors, or
+-- than an area has; or it surely takes none.
+abbrev pub LacksRoom : Geometry → Medium → Type 0
+LacksRoom places disk = (spare disk < places.journal_sectors)
+    ⊎ (spare disk < places.area_sectors) ⊎ (disk.room ≡ 0)
+
+-- When an error of a slice comes, whatever stands on the disk. A fault of the disk comes only where
+-- the disk has failed since, or lacks room. A worker says that it has failed only where it had
+-- failed before. No other fault of its store comes but those of its journal and its next image.
+abbrev pub HasSliceCause : DurableValue → Medium → Medium → DurableFault → Type 0
+HasSliceCause w old new (Disk fault) =
+    LacksRoom w.store.geometry old ⊎ (old.faults < new.faults)
+HasSliceCause w old new (Work work.Failed) = w.has_failed ≡ true
+HasSliceCause w old new (Work other) = Unit {0}
+HasSliceCause w old new (Store store.Full) = Unit {0}
+HasSliceCause w old new (Store store.TooLong) = Unit {0}
+HasSliceCause w old new (Store store.TooBig) = Unit {0}
+HasSliceCause w old new (Store other) = ⊥

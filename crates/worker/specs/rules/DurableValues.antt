@@ -1,0 +1,32 @@
+-- What contracts see of a worker on its disk (this project's own).
+use Rattle.std.specs.Prelude.{◌≡◌, ℕ, Bool, false, []}
+use Rattle.process.specs.rules.Values.{ProcessValue, waiting_in}
+use Rattle.worker_store.specs.declared.store.WorkerStore.{WorkerStore}
+use Rattle.worker_store.specs.rules.Stores.{IsUnfailed}
+use Rattle.worker.specs.declared.running.Running.{Running}
+use Rattle.ephemeral_worker.specs.rules.Values.{WorkerValue}
+
+-- its process, its store, how many records were replayed when it was recovered, and whether a call
+-- of it has failed
+pub record DurableValue : Type 0 where
+  pub process : ProcessValue
+  pub store : WorkerStore
+  pub replayed : ℕ
+  pub has_failed : Bool
+
+-- of its parts
+abbrev pub durable_of : Running → ℕ → Bool → DurableValue
+durable_of running replayed has_failed = record {
+  process = running.process;
+  store = running.store;
+  replayed = replayed;
+  has_failed = has_failed;
+}
+
+-- until a call has failed no line waits between two calls, and none of its store has failed
+abbrev pub IsDurable : DurableValue → Type 0
+IsDurable w = w.has_failed ≡ false → (waiting_in w.process ≡ []) × IsUnfailed w.store
+
+-- the same worker without its disk
+abbrev pub without_disk : DurableValue → WorkerValue
+without_disk w = record { process = w.process; failed = w.has_failed }

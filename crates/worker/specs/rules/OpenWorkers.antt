@@ -1,0 +1,57 @@
+-- A worker that is open on its disk, and what has been promised of it (this project's own).
+use Rattle.std.specs.Prelude.{◌≡◌, ℕ, ◌≤◌, true, false, List, [], ◌++◌, length}
+use Rattle.wasm_syntax.specs.declared.module.Module.{Module}
+use Rattle.wasi_abi.specs.rules.Configs.{Settings}
+use Rattle.wasi_calls_rules.specs.laws.Laws.{IsOfBytes}
+use Rattle.process_rules.specs.Processes.{ProcessState, Guest, host_of}
+use Rattle.process_rules.specs.Runs.{Runs}
+use Rattle.process.specs.rules.Values.{ShowsProcess, waiting_in}
+use Rattle.sector_disk.specs.rules.Medium.{Medium}
+use Rattle.disk_layout.specs.rules.Journal.{Record}
+use Rattle.worker_rules.specs.Courses.{Stage}
+use Rattle.worker_rules.specs.Promises.{Promise}
+use Rattle.worker_store.specs.laws.Savepoints.{Savepoint}
+use Rattle.worker_store.specs.laws.CallEnds.{IsBetween}
+use Rattle.worker_store.specs.laws.Carried.{count_at, IsCarried}
+use Rattle.worker_store.specs.laws.Raised.{SyncsAreHeld, AreOnRecord}
+use Rattle.worker_store.specs.declared.store.WorkerStore.{WorkerStore}
+use Rattle.worker_store.specs.rules.Stores.{IsStoreOf}
+use Rattle.worker.specs.rules.DurableValues.{DurableValue}
+
+-- The disk of a worker, and its store, which hold what is promised. The answers of a savepoint, of
+-- the records behind it and of those that are pending are all kept answers. They lead to p without
+-- another one. The answers behind the guest's syncs up to this step are among those on the disk.
+-- The savepoint's generation is at most this one.
+pub record IsOnDisk (m : Module) (config : Settings) (guest : Guest) (promise : Promise)
+    (p : ProcessState) (step latest : ℕ) (store : WorkerStore) (disk : Medium) : Type 0 where
+  pub point : Savepoint m config
+  pub same : point.reached.guest ≡ guest
+  pub records : List Record
+  pub pending : List Record
+  pub last : ProcessState
+  pub now : ProcessState
+  pub stores : IsStoreOf point store records pending last now disk
+  pub carried : IsCarried promise point store.journal records pending last now disk
+  pub on_record : AreOnRecord promise point (records ++ pending)
+  pub n : ℕ
+  pub runs : Runs guest now [] n p
+  pub syncs : SyncsAreHeld m config promise.kept (count_at point records) step
+  pub early : point.generation ≤ latest
+
+-- A worker between two calls, none of which has failed. It shows the process that all kept answers
+-- lead to. All its lines were told in this life, an outlet has taken each, and none waits. Each
+-- sync of the guest that is promised is behind it. So many generations have an event of their own.
+-- The configuration's texts are bytes.
+pub record IsOpenOn (m : Module) (config : Settings) (guest : Guest) (promise : Promise)
+    (stage : Stage) (p : ProcessState) (w : DurableValue) (disk : Medium) : Type 0 where
+  pub works : w.has_failed ≡ false
+  pub opened : promise.has_opened ≡ true
+  pub texts : IsOfBytes (host_of config)
+  pub shows : ShowsProcess w.process guest p
+  pub module_is : w.process.machine.guest ≡ m
+  pub between : IsBetween m config guest promise stage p
+  pub heard : length p.host.lines ≤ promise.heard
+  pub passed : promise.passed ≤ length p.host.lines
+  pub none_waits : waiting_in w.process ≡ []
+  pub on_disk : IsOnDisk m config guest promise p p.steps promise.events w.store disk
+  pub synced : promise.synced ≤ p.steps

@@ -1,0 +1,219 @@
+-- What a recovery answers whatever stands on its disk (this project's own).
+use Rattle.std.specs.Prelude.{◌≡◌, ◌≢◌, ◌⊎◌, ℕ, ◌+◌, ◌*◌, ◌≤◌, ◌<◌, false, List, length, Result}
+use Rattle.std.specs.Prelude.{Ok, Err, IfErr}
+use Rattle.wasm_syntax.specs.declared.module.Module.{Module}
+use Rattle.wasm_syntax_rules.specs.Acceptance.{IsAccepted}
+use Rattle.wasi_abi.specs.declared.numbers.TheConstants.{NUMBERS_END}
+use Rattle.process_rules.specs.Processes.{ProcessState}
+use Rattle.machine.specs.rules.Offers.{offer}
+use Rattle.machine_loader.specs.declared.fault.FrontFault.{FrontFault}
+use Rattle.machine_loader.specs.rules.Acceptance.{IsTold, HasNoAcceptedModule}
+use Rattle.process.specs.rules.Values.{ProcessValue, ShowsProcess}
+use Rattle.state_image.specs.rules.Image.{Saved, image}
+use Rattle.state_image.specs.rules.Saving.{saved_of}
+use Rattle.state_image.specs.rules.WellTyped.{IsWellTyped}
+use Rattle.sector_disk.specs.declared.sector.TheConstants.{SECTOR_SIZE}
+use Rattle.sector_disk.specs.rules.Image.{Image}
+use Rattle.sector_disk.specs.rules.Medium.{Medium}
+use Rattle.disk_layout.specs.declared.fault.LayoutFault.{LayoutFault}
+use Rattle.disk_layout.specs.declared.fault.LayoutFault.TheVariants as layout
+use Rattle.disk_layout.specs.declared.head.TheConstants.{IMAGE_VERSION}
+use Rattle.disk_layout.specs.declared.reading.contents.Contents.{Contents}
+use Rattle.disk_layout.specs.declared.record.TheConstants.{LONGEST_PAYLOAD}
+use Rattle.disk_layout.specs.rules.Held.{GivesContents}
+use Rattle.disk_layout.specs.rules.Journal.{Record, scan}
+use Rattle.disk_layout.specs.rules.Sectors.{HoldsImage}
+use Rattle.disk_layout.specs.rules.Stored.{OnlyReads}
+use Rattle.record_replay.specs.declared.fault.ReplayFault.{ReplayFault}
+use Rattle.record_replay.specs.declared.fault.ReplayFault.TheVariants as replay
+use Rattle.record_replay.specs.rules.Calls.{Taking}
+use Rattle.record_replay.specs.rules.Records.{Recorded}
+use Rattle.record_replay.specs.rules.Replays.{ReplaysUpTo, StopsReplay, TellsFrom}
+use Rattle.ephemeral_worker.specs.declared.fault.Refusal.TheVariants as refusal
+use Rattle.ephemeral_worker.specs.declared.fault.WorkFault.TheVariants as work
+use Rattle.worker_store.specs.declared.fault.StoreFault.TheVariants as store
+use Rattle.worker_store.specs.rules.AnyDisk.{HasOtherVersion, LacksItsImage}
+use Rattle.snapshot.specs.rules.Heads.{HasNone}
+use Rattle.worker.specs.declared.fault.DurableFault.TheVariants.{Work, Disk, Store}
+use Rattle.worker.specs.declared.recover_fault.RecoverFault.{RecoverFault}
+use Rattle.worker.specs.declared.recover_fault.RecoverFault.TheVariants as recover
+use Rattle.worker.specs.declared.surveyed.Survey.{Survey}
+use Rattle.worker.specs.rules.DurableValues.{DurableValue}
+use Rattle.worker.specs.rules.Recoveries.{IsSettledBy, IsUnsettled}
+
+-- ---- what a disk of so many sectors holds
+
+-- Configuration and module are there, whole, and the module is accepted.
+pub record HoldsModule (sectors : ℕ) (disk : Image) : Type 0 where
+  pub contents : Contents
+  pub whole : GivesContents sectors disk (Ok contents)
+  pub module_is : Module
+  pub accepted : IsAccepted offer contents.config.pages contents.wasm module_is
+
+-- The newest complete head names an image of the known version, and it is there, whole. It is that
+-- of a well-typed process of this module. These are the records of its generation.
+pub record HoldsWorker (sectors : ℕ) (disk : Image) : Type 0 where
+  pub holds : HoldsModule sectors disk
+  pub generation : ℕ
+  pub saved : Saved
+  pub well_typed : IsWellTyped holds.module_is holds.contents.config saved
+  pub newest : HoldsImage holds.contents.geometry disk generation IMAGE_VERSION (image saved)
+  pub records : List Record
+  pub scanned : scan holds.contents.geometry LONGEST_PAYLOAD disk generation ≡ records
+
+-- ---- what is wrong with it
+
+-- configuration and module are there, whole, and this is what the module isn't accepted for
+pub record HoldsRefused (sectors : ℕ) (disk : Image) (fault : FrontFault) : Type 0 where
+  pub contents : Contents
+  pub whole : GivesContents sectors disk (Ok contents)
+  pub told : IsTold contents.config.pages contents.wasm fault
+  pub none : HasNoAcceptedModule contents.config.pages contents.wasm
+
+-- no head is complete, or the newest one names an image that its area doesn't hold
+pub record HoldsNoImage (sectors : ℕ) (disk : Image) : Type 0 where
+  pub holds : HoldsModule sectors disk
+  pub none : HasNone disk ⊎ LacksItsImage holds.contents.geometry disk
+
+-- the image that it names is there, whole, and is that of no well-typed process of the module
+pub record HoldsNoProcess (sectors : ℕ) (disk : Image) : Type 0 where
+  pub holds : HoldsModule sectors disk
+  pub generation : ℕ
+  pub bytes : List ℕ
+  pub newest : HoldsImage holds.contents.geometry disk generation IMAGE_VERSION bytes
+  pub other : (s : Saved) → IsWellTyped holds.module_is holds.contents.config s → bytes ≢ image s
+
+-- A mark, the layout, a length or a digest is wrong, or the disk is too small; or the newest head
+-- is of a version that isn't known.
+abbrev pub ShowsLayoutFault : ℕ → Image → LayoutFault → Type 0
+ShowsLayoutFault sectors disk layout.Version = GivesContents sectors disk (Err layout.Version)
+    ⊎ (HoldsModule sectors disk × HasOtherVersion disk)
+ShowsLayoutFault sectors disk fault = GivesContents sectors disk (Err fault)
+
+-- What the disk shows, where this fault is found before anything is told. Want of memory and a
+-- fault of the disk show nothing.
+abbrev pub ShowsFault : ℕ → Image → RecoverFault → Type 0
+ShowsFault sectors disk (recover.Worker (Store (store.Layout fault))) =
+    ShowsLayoutFault sectors disk fault
+ShowsFault sectors disk (recover.Worker (Work (work.Refused (refusal.Front fault)))) =
+    HoldsRefused sectors disk fault
+ShowsFault sectors disk (recover.Worker (Store store.Damaged)) = HoldsNoImage sectors disk
+ShowsFault sectors disk recover.NotAnImage = HoldsNoProcess sectors disk
+ShowsFault sectors disk (recover.Worker (Work work.Memory)) = Unit {0}
+ShowsFault sectors disk (recover.Worker (Disk fault)) = Unit {0}
+ShowsFault sectors disk other = ⊥
+
+-- ---- what comes of a worker that was found
+
+-- The records lead from the saved process to that of the worker, one generation on. Each line
+-- behind those of the saved process was told, once and in order.
+pub record RevivesHeld {O : Type 0} {sectors : ℕ} {disk : Image} (takes : Taking O)
+    (held : HoldsWorker sectors disk) (w : DurableValue) (outlet outlet' : O) : Type 0 where
+  pub last : ProcessState
+  pub recorded : Recorded held.well_typed.guest held.well_typed.process held.records last
+  pub shows : ShowsProcess w.process held.well_typed.guest last
+  pub module_is : w.process.machine.guest ≡ held.holds.module_is
+  pub generation : w.store.journal.generation ≡ held.generation + 1
+  pub counted : w.process.steps ≡ held.saved.steps + w.replayed
+  pub unfailed : w.has_failed ≡ false
+  pub told : TellsFrom takes held.saved.lines last outlet outlet'
+
+-- The records have led so far, and a replay stops there for this. The lines up to there were told.
+abbrev pub StopsHeld : {O : Type 0} {sectors : ℕ} {disk : Image} → Taking O
+    → HoldsWorker sectors disk → ReplayFault → O → O → Type 0
+StopsHeld takes held fault outlet outlet' =
+    (come : ReplaysUpTo held.well_typed.guest held.well_typed.process held.records)
+    × StopsReplay takes held.saved.lines held.well_typed.guest come.reached come.rest come.process
+    fault outlet outlet'
+
+-- The records have led to the last process, and all lines were told.
+pub record EndsHeld {O : Type 0} {sectors : ℕ} {disk : Image} (takes : Taking O)
+    (held : HoldsWorker sectors disk) (v : ProcessValue) (outlet outlet' : O) : Type 0 where
+  pub last : ProcessState
+  pub recorded : Recorded held.well_typed.guest held.well_typed.process held.records last
+  pub shows : ShowsProcess v held.well_typed.guest last
+  pub told : TellsFrom takes held.saved.lines last outlet outlet'
+
+-- the number of the next generation is at its end, or its image is longer than an area
+abbrev pub IsTooBig : {sectors : ℕ} {disk : Image} → HoldsWorker sectors disk → ProcessValue
+    → Type 0
+IsTooBig held v = (NUMBERS_END ≤ held.generation + 1)
+    ⊎ (SECTOR_SIZE * held.holds.contents.geometry.area_sectors < length (image (saved_of v)))
+
+-- A record can't be replayed; or the worker has come to its last process, and can't be saved.
+abbrev pub FailsHeld : {O : Type 0} {sectors : ℕ} {disk : Image} → Taking O
+    → HoldsWorker sectors disk → RecoverFault → O → O → Type 0
+FailsHeld takes held recover.Diverged outlet outlet' =
+    StopsHeld takes held replay.Diverged outlet outlet'
+FailsHeld takes held (recover.Worker (Work work.Memory)) outlet outlet' =
+    StopsHeld takes held replay.Memory outlet outlet'
+FailsHeld takes held (recover.Worker (Work work.Outlet)) outlet outlet' =
+    StopsHeld takes held replay.Outlet outlet outlet'
+FailsHeld takes held (recover.Worker (Store store.TooBig)) outlet outlet' =
+    (v : ProcessValue) × EndsHeld takes held v outlet outlet' × IsTooBig held v
+FailsHeld takes held (recover.Worker (Disk fault)) outlet outlet' =
+    (v : ProcessValue) × EndsHeld takes held v outlet outlet'
+FailsHeld takes held other outlet outlet' = ⊥
+
+-- ---- what a recovery answers
+
+-- The worker is the one that the image holds, by its newest head and by no other. An error says
+-- what is wrong with the image, and nothing was told; or why the worker that it holds can't go on.
+abbrev pub AnswersDisk : {O : Type 0} → Taking O → ℕ → Image → Result DurableValue RecoverFault
+    → O → O → Type 0
+AnswersDisk takes sectors disk (Ok w) outlet outlet' =
+    (held : HoldsWorker sectors disk) × RevivesHeld takes held w outlet outlet'
+AnswersDisk takes sectors disk (Err why) outlet outlet' =
+    (ShowsFault sectors disk why × (outlet' ≡ outlet))
+    ⊎ ((held : HoldsWorker sectors disk) × FailsHeld takes held why outlet outlet')
+
+-- what stands on the disk is refused, before anything is told
+abbrev pub IsRefusal : RecoverFault → Type 0
+IsRefusal (recover.Worker (Store (store.Layout fault))) = Unit {0}
+IsRefusal (recover.Worker (Work (work.Refused why))) = Unit {0}
+IsRefusal (recover.Worker (Store store.Damaged)) = Unit {0}
+IsRefusal recover.NotAnImage = Unit {0}
+IsRefusal other = ⊥
+
+-- the next generation can't be written
+abbrev pub IsOfSaving : RecoverFault → Type 0
+IsOfSaving (recover.Worker (Disk fault)) = Unit {0}
+IsOfSaving (recover.Worker (Store store.TooBig)) = Unit {0}
+IsOfSaving other = ⊥
+
+-- Nothing is told where what stands on the disk is refused. Nothing is written either, but where
+-- all is well with it and the next generation can't be written.
+pub record LeavesRefused {O : Type 0} (why : RecoverFault) (mid new : Medium) (outlet outlet' : O)
+    : Type 0 where
+  pub untold : IsRefusal why → outlet' ≡ outlet
+  pub unwritten : (IsOfSaving why → ⊥) → OnlyReads mid new
+
+-- The disk couldn't be synced, and nothing was told. Or it was, and the answer is that of whatever
+-- it then shows. What is refused there is left as it is.
+abbrev pub RecoversAsShown : {D O : Type 0} → (D → Medium) → Taking O
+    → Result DurableValue RecoverFault → D → D → O → O → Type 0
+RecoversAsShown {D} medium takes result old new outlet outlet' =
+    IsUnsettled result (medium old) (medium new) outlet outlet'
+    ⊎ ((mid : D) × IsSettledBy (medium old) (medium mid)
+    × ((image : Image) → (medium mid).shows image
+    → AnswersDisk takes (medium old).sectors image result outlet outlet')
+    × IfErr result (λ why. LeavesRefused why (medium mid) (medium new) outlet outlet'))
+
+-- ---- what a look at a disk answers
+
+-- the numbers of the process that the image has saved, and how many records there are
+abbrev pub survey_in : {sectors : ℕ} {disk : Image} → HoldsWorker sectors disk → Survey
+survey_in held = record {
+  generation = held.generation;
+  steps = held.saved.steps;
+  answers = held.saved.answers;
+  lines = held.saved.lines;
+  records = length held.records;
+}
+
+-- They are those of the worker that the image holds, by its newest head and by no other. An error
+-- says what is wrong with the image.
+abbrev pub SurveysDisk : ℕ → Image → Result Survey RecoverFault → Type 0
+SurveysDisk sectors disk (Ok told) =
+    (held : HoldsWorker sectors disk) × (told ≡ survey_in held)
+SurveysDisk sectors disk (Err why) = ShowsFault sectors disk why

@@ -1,0 +1,159 @@
+//! A worker that is recovered from its disk.
+
+ghost use Rattle.std.specs.Prelude.{◌≡◌, ◌≤◌, []};
+ghost use Rattle.process.specs.rules.Values.{IsProcess, waiting_in};
+ghost use Rattle.disk_layout.specs.rules.Places.{total_sectors};
+ghost use Rattle.worker.specs.Revivals.{OpensNext, OpensAgain, RevivesFound};
+
+use crate::durable::Worker;
+use crate::fault::DurableFault;
+use crate::finding::find;
+use crate::found::Found;
+use crate::recover_fault::RecoverFault;
+use crate::running::Running;
+use crate::saving::is_process;
+use disk_layout::Geometry;
+use process::Process;
+use record_replay::{Outlet, replay};
+use sector_disk::Disk;
+use std::alloc::Global;
+use worker_store::laws::images_fit_areas;
+use worker_store::{StoreFault, WorkerStore};
+
+impl Worker {
+    ghost use Rattle.std.specs.Prelude.{IfErr, IfOk};
+    ghost use Rattle.worker.specs.rules.Outlets.{HeedsOutlet, SaysOutletFault};
+    ghost use Rattle.worker.specs.rules.Recoveries.{HasRecoveryCause, Recovers};
+    ghost use Rattle.worker.specs.rules.Recoveries.{RecoveryCarries};
+    ghost use Rattle.worker.specs.rules.ShownDisks.{RecoversAsShown};
+    ghost use Rattle.worker.specs.rules.CallCounts.{most_recovering};
+    ghost use Rattle.sector_disk.specs.rules.Medium.{CallsUpTo};
+    ghost use Rattle.worker.specs.rules.Unsynced.{CountsInRecovery};
+
+    /// The worker that the disk stands for goes on. Syncs the disk, and reads what it shows. Then
+    /// the process takes the answers on record, and each line that it emits on the way is released.
+    /// Where that leads is saved as the next generation.
+    pub fn recover<D: Disk, O: Outlet>(
+        alloc: Global,
+        disk: &mut D,
+        outlet: &mut O,
+    ) -> Result<Worker, RecoverFault>
+        // Nothing is written or told before a good sync. What the disk then shows decides the
+        // result.
+        ensures recovers { Recovers D.medium O.takes result disk.old disk.new outlet.old
+            outlet.new }
+
+        // Whatever stands on the disk, the result is what the newest head and all behind it say,
+        // and what is refused there is left as it is.
+        ensures shown { RecoversAsShown D.medium O.takes result disk.old disk.new outlet.old
+            outlet.new }
+
+        // Whatever was promised is kept, by Ok or by any error.
+        ensures carries { RecoveryCarries O.takes result (D.medium disk.old) (D.medium disk.new)
+            outlet.old outlet.new }
+        ensures room { IfOk result (λ w.
+            total_sectors w.store.geometry ≤ (D.medium disk.new).sectors) }
+
+        // Whatever stands on the disk, a fault of the disk has its cause, and nothing has failed
+        // before.
+        ensures on_any_disk { IfErr result (λ why. HasRecoveryCause (D.medium disk.old)
+            (D.medium disk.new) why) }
+        ensures asks { CallsUpTo (most_recovering (D.medium disk.old).sectors)
+            (D.medium disk.old) (D.medium disk.new) }
+
+        // Whatever stands on the disk, the outlet took each line; or it refused the last one, and
+        // the error says so.
+        ensures heeds { HeedsOutlet O.takes (SaysOutletFault result) outlet.old outlet.new }
+
+        // At no moment were there more unsynced writes than before, or than an area's and its
+        // head.
+        ensures counts { CountsInRecovery result (D.medium disk.old) (D.medium disk.new) }
+    {
+        images_fit_areas();
+        if let Err(fault) = disk.sync() {
+            return Err(RecoverFault::from(fault));
+        }
+        match find(alloc, disk) {
+            Ok(found) => {
+                is_process(&found.process);
+                revive(alloc, disk, found, outlet)
+            }
+            Err(fault) => Err(fault),
+        }
+    }
+}
+
+/// Runs the process that was found to where its records lead, and saves that.
+fn revive<D: Disk, O: Outlet>(
+    alloc: Global,
+    disk: &mut D,
+    found: Found,
+    outlet: &mut O,
+) -> Result<Worker, RecoverFault>
+    requires { total_sectors found.geometry ≤ (D.medium disk.old).sectors }
+    ensures { RevivesFound D.medium O.takes found result disk.old disk.new outlet.old outlet.new }
+{
+    let Found {
+        geometry,
+        generation,
+        process,
+        records,
+    } = found;
+    match replay(alloc, process, records.as_slice(), outlet) {
+        Ok((process, replayed)) => {
+            open_again(alloc, disk, &geometry, generation, process, replayed)
+        }
+        Err(fault) => Err(RecoverFault::from(fault)),
+    }
+}
+
+/// The worker of a process that so many steps have led to, where it can be saved.
+fn open_again<D: Disk>(
+    alloc: Global,
+    disk: &mut D,
+    geometry: &Geometry,
+    generation: u64,
+    process: Process,
+    replayed: u64,
+) -> Result<Worker, RecoverFault>
+    requires sectors { total_sectors geometry.now ≤ (D.medium disk.old).sectors }
+    requires none_waits { waiting_in process ≡ [] }
+    ensures opens { OpensAgain geometry.now generation process replayed result
+        (D.medium disk.old) (D.medium disk.new) }
+    ensures some { IsProcess process }
+{
+    is_process(&process);
+    match open_next(alloc, disk, geometry, generation, &process) {
+        Ok(store) => Ok(Worker {
+            running: Running {
+                alloc,
+                process,
+                store,
+            },
+            replayed,
+            has_failed: false,
+        }),
+        Err(fault) => Err(fault),
+    }
+}
+
+/// Saves a process as the generation behind this one.
+fn open_next<D: Disk>(
+    alloc: Global,
+    disk: &mut D,
+    geometry: &Geometry,
+    generation: u64,
+    process: &Process,
+) -> Result<WorkerStore, RecoverFault>
+    requires { total_sectors geometry.now ≤ (D.medium disk.old).sectors }
+    ensures { OpensNext geometry.now generation process.now result (D.medium disk.old)
+        (D.medium disk.new) }
+{
+    let Some(next) = generation.checked_add(1) else {
+        return Err(RecoverFault::Worker(DurableFault::Store(StoreFault::TooBig)));
+    };
+    match WorkerStore::reopen(alloc, disk, geometry, next, process) {
+        Ok(store) => Ok(store),
+        Err(fault) => Err(RecoverFault::from(fault)),
+    }
+}

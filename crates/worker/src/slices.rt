@@ -1,0 +1,125 @@
+//! Slices of a worker on its disk.
+
+ghost use Rattle.std.specs.Prelude.{◌≡◌, ◌≤◌, [], IfErr, IfOk};
+ghost use Rattle.process.specs.rules.Values.{waiting_in};
+ghost use Rattle.disk_layout.specs.rules.Places.{total_sectors};
+ghost use Rattle.ephemeral_worker.specs.rules.Slices.{Slices};
+ghost use Rattle.ephemeral_worker.specs.Turns.{working};
+ghost use Rattle.worker.specs.DurableTurns.{WorksOn};
+ghost use Rattle.worker.specs.StoreTurns.{StoreRuns};
+ghost use Rattle.worker.specs.rules.DurableFailures.{SlicesOnDiskInVain};
+
+use crate::durable::Worker;
+use crate::fault::DurableFault;
+use crate::running::Running;
+use ephemeral_worker::{Now, WorkFault};
+use process::Stop;
+use record_replay::{Outlet, Source};
+use sector_disk::Disk;
+
+impl Running {
+    /// Takes at most `fuel` steps. Each line is released, and each answer asked for, before the
+    /// next step. A line comes behind a barrier, and an answer where the journal has room for it.
+    fn work<D: Disk, S: Source, O: Outlet>(
+        &mut self,
+        disk: &mut D,
+        fuel: u64,
+        source: &mut S,
+        outlet: &mut O,
+    ) -> Result<Now, DurableFault>
+        requires none_waits { waiting_in self.old.process ≡ [] }
+        requires sectors { total_sectors self.old.store.geometry ≤ (D.medium disk.old).sectors }
+        ensures done { IfOk result (λ now. Slices S.gives O.takes (working self.old.process) fuel
+            now (working self.new.process) source.old source.new outlet.old outlet.new) }
+        ensures works { WorksOn S.gives O.takes self.old fuel result self.new
+            (D.medium disk.old) (D.medium disk.new) source.old source.new outlet.old outlet.new }
+        ensures failed { IfErr result (λ why. SlicesOnDiskInVain S.gives O.takes self.old.process
+            fuel why self.new.process source.old source.new outlet.old outlet.new) }
+        ensures runs { StoreRuns result self.old.store self.new.store (D.medium disk.old)
+            (D.medium disk.new) }
+        ensures places { self.new.store.geometry ≡ self.old.store.geometry }
+        ensures sectors { (D.medium disk.new).sectors ≡ (D.medium disk.old).sectors }
+    {
+        let first = self.process.steps();
+        loop {
+            let left = fuel - (self.process.steps() - first);
+            match self.process.advance(left)? {
+                Stop::Owes => self.settle(disk, outlet)?,
+                Stop::Ended(how) => return Ok(Now::Ended(how)),
+                Stop::Spent => return Ok(Now::Spent),
+                Stop::Asks(kind) => {
+                    if !self.ask(kind, disk, source)? {
+                        return Ok(Now::Waiting);
+                    }
+                }
+            }
+        }
+    }
+}
+
+impl Worker {
+    ghost use Rattle.std.specs.Prelude.{true, false, Err, OnErr};
+    ghost use Rattle.worker.specs.rules.DurableValues.{without_disk};
+    ghost use Rattle.worker.specs.rules.DurableCalls.{SliceCarries};
+    ghost use Rattle.worker.specs.rules.DurableFailures.{HasSliceCause};
+    ghost use Rattle.worker.specs.rules.SliceCalls.{SliceCalls};
+    ghost use Rattle.worker.specs.rules.Unsynced.{CountsInSlice};
+
+    /// Takes at most `fuel` steps: answers from the source, lines to the outlet. Before a line is
+    /// released all answers are on the disk, and so they are before a sync of the guest returns.
+    /// An answer is kept before the process takes it. Where the journal may be too full for the
+    /// next one, the process is saved, as the next generation.
+    pub fn slice<D: Disk, S: Source, O: Outlet>(
+        &mut self,
+        disk: &mut D,
+        fuel: u64,
+        source: &mut S,
+        outlet: &mut O,
+    ) -> Result<Now, DurableFault>
+        requires { total_sectors self.old.store.geometry ≤ (D.medium disk.old).sectors }
+
+        // It runs as a worker does that has no disk.
+        ensures done { IfOk result (λ now. Slices S.gives O.takes (without_disk self.old) fuel now
+            (without_disk self.new) source.old source.new outlet.old outlet.new) }
+
+        // Whatever was promised is kept, by Ok or by any error.
+        ensures carries { SliceCarries S.gives O.takes self.old fuel result self.new
+            (D.medium disk.old) (D.medium disk.new) source.old source.new outlet.old outlet.new }
+        ensures fails { OnErr result (self.new.has_failed ≡ true) }
+
+        // Its calls of the disk: barriers and saves. The generation is one more by each save that
+        // has succeeded, and by nothing else.
+        ensures calls { SliceCalls result self.old.store self.new.store (D.medium disk.old)
+            (D.medium disk.new) }
+        ensures replayed { self.new.replayed ≡ self.old.replayed }
+
+        // So far it has run as a worker that has no disk.
+        ensures failed { self.old.has_failed ≡ false
+            → IfErr result (λ why. SlicesOnDiskInVain S.gives O.takes self.old.process fuel why
+            self.new.process source.old source.new outlet.old outlet.new) }
+        ensures refused { self.old.has_failed ≡ true
+            → (result ≡ Err (DurableFault.Work WorkFault.Failed)) × (self.new ≡ self.old)
+            × (disk.new ≡ disk.old) × (source.new ≡ source.old) × (outlet.new ≡ outlet.old) }
+
+        // Whatever stands on the disk, a fault of the disk has its cause, and `Failed` too.
+        ensures on_any_disk { IfErr result (λ why. HasSliceCause self.old (D.medium disk.old)
+            (D.medium disk.new) why) }
+        ensures room { total_sectors self.new.store.geometry ≤ (D.medium disk.new).sectors }
+
+        // At no moment were there more unsynced writes than before and the journal's, or an area's
+        // and its head.
+        ensures counts { CountsInSlice self.old.store.geometry (D.medium disk.old)
+            (D.medium disk.new) }
+    {
+        if self.has_failed {
+            return Err(DurableFault::Work(WorkFault::Failed));
+        }
+        match self.running.work(disk, fuel, source, outlet) {
+            Ok(now) => Ok(now),
+            Err(fault) => {
+                self.has_failed = true;
+                Err(fault)
+            }
+        }
+    }
+}

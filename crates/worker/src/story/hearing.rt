@@ -1,0 +1,41 @@
+//! Where the lines of a life go.
+
+ghost use Rattle.std.specs.Prelude.{◌≡◌, [], false};
+
+use record_replay::{LineList, Outlet, OutletFault};
+use std::alloc::Global;
+
+/// The lines of a life, and whether one was refused, which happens for want of memory alone.
+#[derive(Debug, Drop)]
+pub(crate) struct HeardLines {
+    pub(crate) lines: LineList,
+    pub(crate) has_refused: bool,
+}
+
+impl HeardLines {
+    pub(crate) fn new(alloc: Global) -> Self
+        ensures none { result.lines ≡ [] }
+        ensures unrefused { result.has_refused ≡ false }
+    {
+        HeardLines {
+            lines: LineList::new(alloc),
+            has_refused: false,
+        }
+    }
+}
+
+impl Outlet for HeardLines {
+    ghost use Rattle.worker.specs.Hearing.{HearsLine};
+
+    ghost takes = { λ old number line said new. HearsLine old number line said new };
+
+    fn release(&mut self, number: u64, stream: u8, text: &[u8]) -> Result<(), OutletFault> {
+        match self.lines.release(number, stream, text) {
+            Ok(()) => Ok(()),
+            Err(fault) => {
+                self.has_refused = true;
+                Err(fault)
+            }
+        }
+    }
+}

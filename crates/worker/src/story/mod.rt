@@ -1,0 +1,210 @@
+//! Lists of lives of a worker on one disk in memory, with a cut of the power or an error behind
+//! each (this project's own).
+//!
+//! # Promises
+//!
+//! - `story` runs any list of lives, and tells them. Where the bytes spell an accepted module,
+//!   there are lives with just these inputs that go on as one that was never stopped (`GoesOn`).
+//!   Among them are the call of the disk that fails, and the release that is refused.
+//!   The report tells each (`TellsLives`). It says how it was opened, and the image and the numbers
+//!   of the process then. It has all its lines in order, and says how it ended, and with how many
+//!   calls of the disk.
+//! - A life begins at most `most_calls` calls of its disk before each of its events, and behind the
+//!   last one (`BeginFewCalls`). So it isn't told as stopped at a call that it can't have come to.
+//! - So a life isn't opened, or leaves an act undone, only where its stop came first, or an error
+//!   with its cause. That is the call of the disk that fails, the line that is refused, want of
+//!   memory, an answer that doesn't fit, or a number at its end (`MayEnd` of `worker_rules`).
+//! - Want of memory inside of a life ends that life. `StoryFault` is told only where memory was
+//!   refused to `story` itself.
+//! - A life without a stop, or whose stop isn't reached, is cut behind its last act. One that ends
+//!   by another error isn't cut, and the next one finds the same disk (`IsFoundBehind`). The fronts
+//!   that a cut keeps are those that are told, in order, of all writes but the front of a stop
+//!   (`IsLeftBy`).
+//! - All lives are run on one disk, which is empty at first, by the calls of a worker (`AreRunOn`).
+//!   It takes as many writes between two syncs as ever wait for one (`most_unsynced`), and not one
+//!   more. A life whose worker left more of them unsynced would end in a fault of the disk.
+//! - A recovered life is of the generation after that of the worker that it found on the disk
+//!   (`IsNextGeneration`).
+//!
+//! Nothing is said of a module that isn't accepted. How many calls of the disk a life takes is said
+//! up to that bound alone. So a stop within it may be told that never came.
+//!
+//! # Definitions to read
+//!
+//! In `specs/rules/`: `inputs_of` (`Planned.antt`), what is put into each life; `TellsLife`,
+//! (`Told.antt`), what a report tells of one; `TellsLives` (`StoryDisks.antt`), what it tells of
+//! all, and on which disk they were run; `most_calls` (`CallCounts.antt`). They speak in the words
+//! of `worker_rules`. What is read off a life is `opened_in` (`specs/laws/OneLife.antt`) and
+//! `told_in` of `worker_rules`, and `IsCauseOf` says which error is which cause.
+//!
+//! # Who may touch what
+//!
+//! It makes its disk, its sources and its outlets itself, and hands out none. It makes the four
+//! calls of a `Worker`, over the disks of `sector_disk`. It takes memory for the disk, and
+//! for what a cut leaves of it. It takes some for copies of the answers, and for the lines and
+//! images that it tells.
+
+ghost use Rattle.std.specs.Prelude.{◌≡◌, ◌<◌, ◌^◌, IfOk, length};
+ghost use Rattle.record_replay.specs.rules.Lists.{inner_outlet};
+ghost use Rattle.worker.specs.rules.Planned.{number_refused};
+ghost use Rattle.worker.specs.rules.StoryDisks.{IsEmptyDiskFor, IsRunOn, TellsLives};
+ghost use Rattle.disk_layout.specs.rules.Unsynced.{most_unsynced};
+ghost use Rattle.worker.specs.Endings.{EndsLife};
+ghost use Rattle.worker.specs.Going.{LivesOn};
+
+mod copying;
+mod ending;
+mod fault;
+mod hearing;
+mod life;
+mod living;
+mod opening;
+mod report;
+
+use crate::laws::calls_make_lives;
+use crate::story::copying::copy_answers;
+use crate::story::ending::{call_count, disk_behind, end_of, has_stopped};
+use crate::story::hearing::HeardLines;
+use crate::story::living::{LivedOnce, SpelledWorker, live_once};
+use disk_layout::Geometry;
+pub use fault::StoryFault;
+pub use life::{PlannedAct, PlannedLife};
+use record_replay::{AnswerList, RefusingOutlet};
+pub use report::{LifeEnd, LifeReport, Opening, Report};
+use sector_disk::{FaultDisk, MemDisk};
+use std::alloc::Global;
+use wasi_abi::Config;
+use wasm_syntax::Row;
+
+/// How many heads a disk has.
+const HEADS: usize = 2;
+
+/// Lives of a worker of this module, one after another, on a disk that is empty at first.
+pub fn story(
+    alloc: Global,
+    wasm: &[u8],
+    config: &Config,
+    lives: &[PlannedLife],
+) -> Result<Report, StoryFault>
+    ensures { IfOk result (λ report. TellsLives wasm.now config.now lives.now report.lives) }
+{
+    let mut disk = empty_disk(alloc, wasm, config)?;
+    let mut told = Row::new(alloc);
+    for life in lives {
+        let LivedOn { report, disk: left } = live(
+            alloc,
+            SpelledWorker { wasm, config },
+            disk,
+            life,
+        )?;
+        disk = left;
+        match told.push(report) {
+            Ok(()) => {}
+            Err(_) => return Err(StoryFault::Memory),
+        }
+    }
+    Ok(Report { lives: told })
+}
+
+/// A disk of zeros with all sectors of this worker, which takes as many writes between two syncs as
+/// ever wait for one.
+fn empty_disk(alloc: Global, wasm: &[u8], config: &Config) -> Result<MemDisk, StoryFault>
+    ensures { IfOk result (λ disk. length wasm.now < 2 ^ 32
+        → IsEmptyDiskFor wasm.now config.now disk) }
+{
+    let places = Geometry::of(config, module_len(wasm));
+    match MemDisk::new(alloc, places.total_sectors(), writes_at_once(&places)) {
+        Ok(disk) => Ok(disk),
+        Err(_) => Err(StoryFault::Memory),
+    }
+}
+
+/// How many writes of a worker ever wait for a sync.
+fn writes_at_once(places: &Geometry) -> usize
+    ensures { result ≡ most_unsynced places.now }
+{
+    places.area_sectors as usize
+        + places.module_sectors as usize
+        + places.journal_sectors as usize
+        + HEADS
+}
+
+/// How many bytes the module has. One that has too many for a disk is accepted by nobody.
+fn module_len(wasm: &[u8]) -> u32
+    ensures { length wasm.now < 2 ^ 32 → result ≡ length wasm.now }
+{
+    match u32::try_from(wasm.len()) {
+        Ok(len) => len,
+        Err(_) => 0,
+    }
+}
+
+/// What is told of a life, and the disk that the next one finds.
+#[derive(Drop)]
+struct LivedOn {
+    report: LifeReport,
+    disk: MemDisk,
+}
+
+/// One life on this disk, up to its stop, and the cut behind it.
+fn live(
+    alloc: Global,
+    spelled: SpelledWorker,
+    disk: MemDisk,
+    life: &PlannedLife,
+) -> Result<LivedOn, StoryFault>
+    ensures lives { IfOk result (λ lived. LivesOn spelled.entry.wasm.now spelled.entry.config.now
+        life.now disk lived.report lived.disk) }
+    ensures run { IfOk result (λ lived. IsRunOn spelled.entry.wasm.now spelled.entry.config.now
+        life.now lived.report disk lived.disk) }
+{
+    let answers = copy_answers(alloc, life.answers.as_slice())?;
+    let mut source = AnswerList::new(answers.into_vec());
+    let mut outlet = RefusingOutlet::new(HeardLines::new(alloc), number_refused(life.refuse));
+    let mut disk = FaultDisk::new(disk, life.stop, life.fail);
+    let acts = life.acts.as_slice();
+    calls_make_lives::<FaultDisk<MemDisk>, AnswerList, RefusingOutlet<HeardLines>>();
+    match live_once(alloc, spelled, &mut disk, acts, &mut source, &mut outlet) {
+        Ok(lived) => end_life(alloc, lived, disk, outlet, life),
+        Err(_) => Err(StoryFault::Memory),
+    }
+}
+
+/// The number of the release that is refused, or 0.
+fn number_refused(refuse: Option<u64>) -> u64
+    ensures { result ≡ number_refused refuse }
+{
+    match refuse {
+        Some(number) => number,
+        None => 0,
+    }
+}
+
+/// What is told of a life that was lived, and what it leaves.
+fn end_life(
+    alloc: Global,
+    lived: LivedOnce,
+    disk: FaultDisk<MemDisk>,
+    outlet: RefusingOutlet<HeardLines>,
+    life: &PlannedLife,
+) -> Result<LivedOn, StoryFault>
+    ensures { IfOk result (λ on. EndsLife lived disk (inner_outlet outlet) life.now on.report
+        on.disk) }
+{
+    let heard = outlet.into_inner();
+    if heard.has_refused {
+        return Err(StoryFault::Memory);
+    }
+    let calls = call_count(&disk);
+    let ended = end_of(has_stopped(life.stop, calls), lived.ended);
+    let disk = disk_behind(alloc, disk, ended, life.tears.as_slice())?;
+    Ok(LivedOn {
+        report: LifeReport {
+            opened: lived.opened,
+            releases: heard.lines,
+            ended,
+            calls,
+        },
+        disk,
+    })
+}
