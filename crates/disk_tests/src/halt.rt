@@ -5,7 +5,7 @@ use sector_disk::DiskFault;
 use std::alloc::{AllocError, AllocFailed};
 use wasi_abi::ConfigFault;
 use worker::story::StoryFault;
-use worker::{DurableFault, RecoverFault, StoreFault, WorkFault};
+use worker::{RecoverFault, SliceFault, StoreFault, WorkFault};
 
 /// Want of memory, wherever it is found, or what else a step refuses.
 #[derive(Clone, Copy, Debug, PartialEq, Eq)]
@@ -13,14 +13,14 @@ pub(crate) enum Halt {
     Memory,
     Settings(ConfigFault),
     Disk(DiskFault),
-    Work(DurableFault),
+    Work(WorkFault),
     Recovery(RecoverFault),
     /// More answers were taken than there were requests.
     Answers,
 }
 
 /// No worker was ever made on the disk.
-pub(crate) const NO_WORKER: Halt = Halt::Work(DurableFault::Store(StoreFault::Layout(
+pub(crate) const NO_WORKER: Halt = Halt::Work(WorkFault::Store(StoreFault::Layout(
     LayoutFault::NotAWorker,
 )));
 
@@ -52,10 +52,10 @@ impl From<DiskFault> for Halt {
 }
 
 /// The outlet of the lives fails for want of memory alone.
-impl From<DurableFault> for Halt {
-    fn from(fault: DurableFault) -> Halt {
+impl From<WorkFault> for Halt {
+    fn from(fault: WorkFault) -> Halt {
         match fault {
-            DurableFault::Work(WorkFault::Memory | WorkFault::Outlet) => Halt::Memory,
+            WorkFault::Work(SliceFault::Memory | SliceFault::Outlet) => Halt::Memory,
             _ => Halt::Work(fault),
         }
     }

@@ -21,14 +21,14 @@ use Rattle.process.specs.declared.stop.Stop.TheVariants as stops
 use Rattle.process.specs.rules.Values.{ProcessValue, ShowsProcess, IsProcess, waiting_in}
 use Rattle.process.specs.rules.Stops.{ComesQuietly, TakesAnswer, AdvancesProcess, GivesAnswer}
 use Rattle.ephemeral_worker.specs.declared.now.Now.TheVariants as ends
-use Rattle.ephemeral_worker.specs.declared.fault.WorkFault.{WorkFault}
-use Rattle.ephemeral_worker.specs.declared.fault.WorkFault.TheVariants as fault
+use Rattle.ephemeral_worker.specs.declared.fault.SliceFault.{SliceFault}
+use Rattle.ephemeral_worker.specs.declared.fault.SliceFault.TheVariants as fault
 use Rattle.ephemeral_worker.specs.declared.fault.Refusal.TheVariants as refusal
 use Rattle.ephemeral_worker.specs.rules.Slices.{handed_by, SliceLeadsTo, LeadsToWish, AreWanted}
 use Rattle.ephemeral_worker.specs.rules.Slices.{Slices}
 use Rattle.ephemeral_worker.specs.rules.Faults.{IsBadAnswer, LeadsUpTo, Fails, IsCause}
 use Rattle.ephemeral_worker.specs.rules.Faults.{SlicesInVain}
-use Rattle.ephemeral_worker.specs.rules.Refusals.{work_fault}
+use Rattle.ephemeral_worker.specs.rules.Refusals.{slice_fault}
 use Rattle.ephemeral_worker.specs.Turns.{working, failing, taken_by, AnswersBy, AsksOnce}
 use Rattle.record_replay.specs.rules.Waiting.{first_waiting, ReleasesAll, ReleasesSome}
 use Rattle.record_replay.proofs.Emitted.{released_count}
@@ -280,7 +280,7 @@ module _ {S O : Type 0} (gives : Giving S) (takes : Taking O) where
     -- ---- where no step could be taken
 
     pub cannot_advance : (why : ProcessFault) → AdvancesProcess now left (Err why) new
-        → SlicesInVain gives takes (working old) fuel (work_fault why) (failing new) s t o q
+        → SlicesInVain gives takes (working old) fuel (slice_fault why) (failing new) s t o q
     unfolding advance_on
     cannot_advance stop.WrongAnswer advances = (
       refl,
@@ -468,7 +468,7 @@ module _ {S O : Type 0} (gives : Giving S) (takes : Taking O) where
           (so_far guest p shows).shows
 
       -- the process stands where it stood, and the call has failed for this
-      stops_here : (why : WorkFault) → new ≡ mid
+      stops_here : (why : SliceFault) → new ≡ mid
           → ((guest : Guest) (p : ProcessState) (shows : ShowsProcess old guest p)
           → IsCause guest p fuel (asked_calls guest p shows) (so_far guest p shows).steps
           (so_far guest p shows).process why)
@@ -549,7 +549,7 @@ module _ {S O : Type 0} (gives : Giving S) (takes : Taking O) where
       }
 
     not_taken : (given : Result (Unit {0}) ProcessFault)
-        → ◌≡◌ {A = Result Bool WorkFault} (Ok false) (taken_by given) → ⊥
+        → ◌≡◌ {A = Result Bool SliceFault} (Ok false) (taken_by given) → ⊥
     not_taken (Ok done) e = absurd (cc)
     not_taken (Err why) e = absurd (cc)
 
@@ -573,7 +573,7 @@ module _ {S O : Type 0} (gives : Giving S) (takes : Taking O) where
           → TakesAnswer new guest p answer
 
     given_so : (a : Answer) (given : Result (Unit {0}) ProcessFault) → GivesAnswer mid a given new
-        → ◌≡◌ {A = Result Bool WorkFault} (Ok true) (taken_by given) → IsGiven (Ok (Some a))
+        → ◌≡◌ {A = Result Bool SliceFault} (Ok true) (taken_by given) → IsGiven (Ok (Some a))
     given_so a (Ok done) h e = record {
       answer = a;
       is = refl;
@@ -633,7 +633,7 @@ module _ {S O : Type 0} (gives : Giving S) (takes : Taking O) where
 
     refused_by : (a : Answer) (why : ProcessFault) → gives t kind (Ok (Some a)) u
         → GivesAnswer mid a (Err why) new
-        → SlicesInVain gives takes (working old) fuel (work_fault why) (failing new) s u o q
+        → SlicesInVain gives takes (working old) fuel (slice_fault why) (failing new) s u o q
     refused_by a stop.WrongAnswer asked h = (
       refl,
       refl,
@@ -673,24 +673,24 @@ module _ {S O : Type 0} (gives : Giving S) (takes : Taking O) where
           )),
     )
 
-    given_vainly : (a : Answer) (why : WorkFault) (given : Result (Unit {0}) ProcessFault)
+    given_vainly : (a : Answer) (why : SliceFault) (given : Result (Unit {0}) ProcessFault)
         → gives t kind (Ok (Some a)) u → GivesAnswer mid a given new
-        → ◌≡◌ {A = Result Bool WorkFault} (Err why) (taken_by given)
+        → ◌≡◌ {A = Result Bool SliceFault} (Err why) (taken_by given)
         → SlicesInVain gives takes (working old) fuel why (failing new) s u o q
     given_vainly a why (Ok done) asked h e = absurd (cc)
     given_vainly a why (Err stopped) asked h e =
-        let same : work_fault stopped ≡ why = cc in
-        let P : WorkFault → Type 0 =
+        let same : slice_fault stopped ≡ why = cc in
+        let P : SliceFault → Type 0 =
         λ z. SlicesInVain gives takes (working old) fuel z (failing new) s u o q in
         subst P same (refused_by a stopped asked h)
 
-    vainly_by : (said : Result (Option Answer) SourceFault) (why : WorkFault) → gives t kind said u
+    vainly_by : (said : Result (Option Answer) SourceFault) (why : SliceFault) → gives t kind said u
         → AnswersBy mid said (Err why) new
         → SlicesInVain gives takes (working old) fuel why (failing new) s u o q
     vainly_by (Err e) why asked answers =
         let is = answers.0 in
         let same : fault.Source ≡ why = cc in
-        let P : WorkFault → Type 0 =
+        let P : SliceFault → Type 0 =
         λ z. SlicesInVain gives takes (working old) fuel z (failing new) s u o q in
         subst P same (
           refl,
@@ -702,6 +702,6 @@ module _ {S O : Type 0} (gives : Giving S) (takes : Taking O) where
     vainly_by (Ok (Some a)) why asked answers =
         given_vainly a why answers.0 asked answers.1 answers.2
 
-    pub vainly : (why : WorkFault) → AsksOnce gives kind mid (Err why) new t u
+    pub vainly : (why : SliceFault) → AsksOnce gives kind mid (Err why) new t u
         → SlicesInVain gives takes (working old) fuel why (failing new) s u o q
     vainly why once = vainly_by once.said why once.asked once.answers

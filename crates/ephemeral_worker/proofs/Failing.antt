@@ -7,8 +7,8 @@ use Rattle.record_replay.specs.rules.Calls.{Giving, Taking, Exchange}
 use Rattle.record_replay.proofs.Following.{exchanges_join}
 use Rattle.process.specs.rules.Values.{ShowsProcess}
 use Rattle.ephemeral_worker.specs.declared.now.Now.TheVariants as now
-use Rattle.ephemeral_worker.specs.declared.fault.WorkFault.{WorkFault}
-use Rattle.ephemeral_worker.specs.declared.fault.WorkFault.TheVariants as fault
+use Rattle.ephemeral_worker.specs.declared.fault.SliceFault.{SliceFault}
+use Rattle.ephemeral_worker.specs.declared.fault.SliceFault.TheVariants as fault
 use Rattle.ephemeral_worker.specs.declared.fault.Refusal.TheVariants as refusal
 use Rattle.ephemeral_worker.specs.rules.Values.{WorkerValue}
 use Rattle.ephemeral_worker.specs.rules.Slices.{SliceLeadsTo, AreAnswered, Slices}
@@ -60,7 +60,7 @@ module _ (guest : Guest) (p q : ProcessState) (xs : List Exchange) (n : ℕ)
           is = ap (λ z. xs ++ z) h.is ∙ sym (append_assoc xs h.front _);
         }
 
-    cause_join : (f g : ℕ) (why : WorkFault) → n ≡ f → IsCause guest q g ys k r why
+    cause_join : (f g : ℕ) (why : SliceFault) → n ≡ f → IsCause guest q g ys k r why
         → IsCause guest p (f + g) (xs ++ ys) (n + k) r why
     cause_join f g fault.Source spent h = let less : k < g = h.0 in (omega arith, answer_join h.1)
     cause_join f g fault.Outlet spent h = let few : k ≤ g = h.0 in (omega arith, line_join h.1)
@@ -75,13 +75,13 @@ module _ {S O : Type 0} (gives : Giving S) (takes : Taking O) (first second thir
     (f g : ℕ) (s t u : S) (o p q : O) (a : Slices gives takes first f now.Spent second s t o p)
   where
     -- what a slice in vain does to each process that is shown
-    abbrev InVain : WorkerValue → ℕ → S → O → WorkFault → Type 0
+    abbrev InVain : WorkerValue → ℕ → S → O → SliceFault → Type 0
     InVain from fuel source outlet why =
         (guest : Guest) (start : ProcessState) → ShowsProcess from.process guest start
         → (fails : Fails gives takes from third guest start source u outlet q)
         × IsCause guest start fuel fails.exchanges fails.steps fails.process why
 
-    in_vain_join : (why : WorkFault) → InVain second g t p why → InVain first (f + g) s o why
+    in_vain_join : (why : SliceFault) → InVain second g t p why → InVain first (f + g) s o why
     in_vain_join why b = λ guest start shows.
         let one = a.shown guest start shows in
         let middle = one.0.process in
@@ -101,7 +101,7 @@ module _ {S O : Type 0} (gives : Giving S) (takes : Taking O) (first second thir
               two.0.exchanges two.0.steps f g why one.1.0 two.1,
         )
 
-    add_in_vain : (why : WorkFault) → SlicesInVain gives takes second g why third t u p q
+    add_in_vain : (why : SliceFault) → SlicesInVain gives takes second g why third t u p q
         → SlicesInVain gives takes first (f + g) why third s u o q
     add_in_vain fault.Source h = (a.had_not_failed, h.1, in_vain_join fault.Source h.2)
     add_in_vain fault.Outlet h = (a.had_not_failed, h.1, in_vain_join fault.Outlet h.2)

@@ -7,9 +7,9 @@ use Rattle.record_replay.specs.rules.Calls.{Giving}
 use Rattle.process.specs.declared.fault.ProcessFault.{ProcessFault}
 use Rattle.process.specs.rules.Values.{ProcessValue}
 use Rattle.process.specs.rules.Stops.{GivesAnswer}
-use Rattle.ephemeral_worker.specs.declared.fault.WorkFault.{WorkFault}
-use Rattle.ephemeral_worker.specs.declared.fault.WorkFault.TheVariants as fault
-use Rattle.ephemeral_worker.specs.rules.Refusals.{work_fault}
+use Rattle.ephemeral_worker.specs.declared.fault.SliceFault.{SliceFault}
+use Rattle.ephemeral_worker.specs.declared.fault.SliceFault.TheVariants as fault
+use Rattle.ephemeral_worker.specs.rules.Refusals.{slice_fault}
 use Rattle.ephemeral_worker.specs.rules.Values.{WorkerValue}
 
 -- a worker of this process, before and after a call of it has failed
@@ -22,12 +22,12 @@ failing v = record { process = v; failed = true }
 -- ---- answers
 
 -- whether the step that takes the answer was taken, or why not
-abbrev pub taken_by : Result (Unit {0}) ProcessFault → Result Bool WorkFault
+abbrev pub taken_by : Result (Unit {0}) ProcessFault → Result Bool SliceFault
 taken_by (Ok done) = Ok true
-taken_by (Err why) = Err (work_fault why)
+taken_by (Err why) = Err (slice_fault why)
 
 -- The source failed; it had no answer yet; or it gave one, which the process was given.
-abbrev pub AnswersBy : ProcessValue → Result (Option Answer) SourceFault → Result Bool WorkFault
+abbrev pub AnswersBy : ProcessValue → Result (Option Answer) SourceFault → Result Bool SliceFault
     → ProcessValue → Type 0
 AnswersBy old (Err e) result new = (result ≡ Err fault.Source) × (new ≡ old)
 AnswersBy old (Ok None) result new = (result ≡ Ok false) × (new ≡ old)
@@ -35,7 +35,7 @@ AnswersBy old (Ok (Some a)) result new = (given : Result (Unit {0}) ProcessFault
     × GivesAnswer old a given new × (result ≡ taken_by given)
 
 pub record AsksOnce {S : Type 0} (gives : Giving S) (kind : Kind) (old : ProcessValue)
-    (result : Result Bool WorkFault) (new : ProcessValue) (source source' : S) : Type 0 where
+    (result : Result Bool SliceFault) (new : ProcessValue) (source source' : S) : Type 0 where
   pub said : Result (Option Answer) SourceFault
   pub asked : gives source kind said source'
   pub answers : AnswersBy old said result new

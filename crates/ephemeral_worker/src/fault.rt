@@ -2,8 +2,8 @@
 
 ghost use Rattle.std.specs.Prelude.{◌≡◌};
 ghost use Rattle.machine_loader.specs.declared.fault.FrontFault.TheVariants as front;
-ghost use Rattle.ephemeral_worker.specs.rules.Refusals.{work_fault, refusal_of};
-ghost use Rattle.ephemeral_worker.specs.declared.fault.WorkFault.TheVariants as work;
+ghost use Rattle.ephemeral_worker.specs.rules.Refusals.{slice_fault, refusal_of};
+ghost use Rattle.ephemeral_worker.specs.declared.fault.SliceFault.TheVariants as slice;
 
 use machine::LinkFault;
 use machine_loader::FrontFault;
@@ -23,7 +23,7 @@ pub enum Refusal {
 
 /// Why a call of a worker failed. A refusal is printed as what is refused.
 #[derive(Clone, Copy, Debug, PartialEq, Eq, Error)]
-pub enum WorkFault {
+pub enum SliceFault {
     /// The source failed, or gave an answer that doesn't fit.
     #[error("N2 Source")]
     Source,
@@ -38,42 +38,42 @@ pub enum WorkFault {
     Refused(Refusal),
 }
 
-impl From<ProcessFault> for WorkFault {
-    ghost from_gives = { λ fault e. e ≡ work_fault fault };
+impl From<ProcessFault> for SliceFault {
+    ghost from_gives = { λ fault e. e ≡ slice_fault fault };
 
-    fn from(fault: ProcessFault) -> WorkFault {
+    fn from(fault: ProcessFault) -> SliceFault {
         match fault {
-            ProcessFault::WrongAnswer => WorkFault::Source,
-            ProcessFault::Memory => WorkFault::Memory,
-            ProcessFault::StepsSpent => WorkFault::Refused(Refusal::StepsSpent),
+            ProcessFault::WrongAnswer => SliceFault::Source,
+            ProcessFault::Memory => SliceFault::Memory,
+            ProcessFault::StepsSpent => SliceFault::Refused(Refusal::StepsSpent),
         }
     }
 }
 
-impl From<OutletFault> for WorkFault {
-    ghost from_gives = { λ _ e. e ≡ work.Outlet };
+impl From<OutletFault> for SliceFault {
+    ghost from_gives = { λ _ e. e ≡ slice.Outlet };
 
-    fn from(_fault: OutletFault) -> WorkFault {
-        WorkFault::Outlet
+    fn from(_fault: OutletFault) -> SliceFault {
+        SliceFault::Outlet
     }
 }
 
-impl From<FrontFault> for WorkFault {
+impl From<FrontFault> for SliceFault {
     ghost from_gives = { λ fault e. e ≡ refusal_of fault };
 
-    fn from(fault: FrontFault) -> WorkFault {
+    fn from(fault: FrontFault) -> SliceFault {
         if fault.is_want_of_memory() {
-            WorkFault::Memory
+            SliceFault::Memory
         } else {
-            WorkFault::Refused(Refusal::Front(fault))
+            SliceFault::Refused(Refusal::Front(fault))
         }
     }
 }
 
-impl From<LinkFault> for WorkFault {
+impl From<LinkFault> for SliceFault {
     ghost from_gives = { λ fault e. e ≡ refusal_of (front.Link fault) };
 
-    fn from(fault: LinkFault) -> WorkFault {
-        WorkFault::from(FrontFault::Link(fault))
+    fn from(fault: LinkFault) -> SliceFault {
+        SliceFault::from(FrontFault::Link(fault))
     }
 }

@@ -20,7 +20,7 @@
 //!
 //! In `specs/rules/`: `WorkerValue`, `IsCreated` (`Values.antt`); `Slices`, `SliceLeadsTo`,
 //! `AreWanted`, `IsNow` (`Slices.antt`); `SlicesInVain`, `IsCause`, `IsRefusedByWorker`
-//! (`Faults.antt`); `work_fault` (`Refusals.antt`). The laws are stated in `specs/laws/Laws.antt`.
+//! (`Faults.antt`); `slice_fault` (`Refusals.antt`). The laws are stated in `specs/laws/Laws.antt`.
 //!
 //! # Who may touch what
 //!
@@ -37,7 +37,7 @@ mod now;
 mod turns;
 mod worker;
 
-pub use fault::{Refusal, WorkFault};
+pub use fault::{Refusal, SliceFault};
 pub use laws::{one_slice, slices_add, slices_add_in_vain};
 pub use now::Now;
 pub use worker::EphemeralWorker;

@@ -8,7 +8,7 @@ ghost use Rattle.ephemeral_worker.specs.rules.Slices.{Slices};
 ghost use Rattle.ephemeral_worker.specs.rules.Faults.{SlicesInVain};
 ghost use Rattle.ephemeral_worker.specs.Turns.{working, failing, AsksOnce};
 
-use crate::fault::WorkFault;
+use crate::fault::SliceFault;
 use crate::now::Now;
 use process::{Process, Stop};
 use record_replay::{Outlet, Source, release_waiting};
@@ -21,7 +21,7 @@ pub(crate) fn work<S: Source, O: Outlet>(
     fuel: u64,
     source: &mut S,
     outlet: &mut O,
-) -> Result<Now, WorkFault>
+) -> Result<Now, SliceFault>
     requires none_waits { waiting_in process.old ≡ [] }
     ensures done { IfOk result (λ now. Slices S.gives O.takes (working process.old) fuel now
         (working process.new) source.old source.new outlet.old outlet.new) }
@@ -46,16 +46,16 @@ pub(crate) fn work<S: Source, O: Outlet>(
 }
 
 /// Asks the source once, and gives the process the answer, where there is one. Whether there was.
-fn ask<S: Source>(process: &mut Process, kind: Kind, source: &mut S) -> Result<bool, WorkFault>
+fn ask<S: Source>(process: &mut Process, kind: Kind, source: &mut S) -> Result<bool, SliceFault>
     ensures once { AsksOnce S.gives kind process.old result process.new source.old source.new }
     ensures released { process.new.host.released ≡ process.old.host.released }
 {
     match source.answer(kind) {
-        Err(_) => Err(WorkFault::Source),
+        Err(_) => Err(SliceFault::Source),
         Ok(None) => Ok(false),
         Ok(Some(answer)) => match process.give(answer) {
             Ok(()) => Ok(true),
-            Err(fault) => Err(WorkFault::from(fault)),
+            Err(fault) => Err(SliceFault::from(fault)),
         },
     }
 }

@@ -3,7 +3,7 @@
 ghost use Rattle.std.specs.Prelude.{◌≡◌, IfOk, IfErr};
 ghost use Rattle.ephemeral_worker.specs.rules.Faults.{IsRefusedByWorker};
 
-use crate::fault::WorkFault;
+use crate::fault::SliceFault;
 use crate::now::Now;
 use crate::turns::work;
 use machine_loader::read;
@@ -36,7 +36,7 @@ impl EphemeralWorker {
     ghost use Rattle.ephemeral_worker.specs.rules.Faults.{SlicesInVain};
 
     /// A fresh worker of the module that the bytes spell.
-    pub fn create(alloc: Global, wasm: &[u8], config: Config) -> Result<EphemeralWorker, WorkFault>
+    pub fn create(alloc: Global, wasm: &[u8], config: Config) -> Result<EphemeralWorker, SliceFault>
         ensures created { IfOk result (IsCreated wasm.now config) }
         ensures refused { IfErr result (IsRefusedByWorker config.pages wasm.now) }
     {
@@ -55,7 +55,7 @@ impl EphemeralWorker {
         fuel: u64,
         source: &mut S,
         outlet: &mut O,
-    ) -> Result<Now, WorkFault>
+    ) -> Result<Now, SliceFault>
         ensures done { IfOk result (λ now.
             Slices S.gives O.takes self.old fuel now self.new source.old source.new outlet.old
             outlet.new) }
@@ -64,7 +64,7 @@ impl EphemeralWorker {
             outlet.old outlet.new) }
     {
         if self.failed {
-            return Err(WorkFault::Failed);
+            return Err(SliceFault::Failed);
         }
         match work(&mut self.process, fuel, source, outlet) {
             Ok(now) => Ok(now),

@@ -1,7 +1,7 @@
 //! A process and a worker of `echo`, which asks for requests.
 
 use crate::check::bytes_of;
-use ephemeral_worker::{EphemeralWorker, WorkFault};
+use ephemeral_worker::{EphemeralWorker, SliceFault};
 use machine_loader::read;
 use process::{Process, ProcessEnd, ProcessFault, Stop};
 use record_replay::{AnswerList, LineList};
@@ -120,7 +120,7 @@ fn one_time(alloc: Global) -> Result<AnswerList, Fail> {
 }
 
 /// What slices fail with, one after another.
-static FAULTS: [WorkFault; 3] = [WorkFault::Source, WorkFault::Failed, WorkFault::Failed];
+static FAULTS: [SliceFault; 3] = [SliceFault::Source, SliceFault::Failed, SliceFault::Failed];
 
 /// Whether slices fail so.
 fn fail_so(worker: &mut EphemeralWorker, source: &mut AnswerList, outlet: &mut LineList) -> bool {

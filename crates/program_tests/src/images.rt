@@ -2,7 +2,7 @@
 
 use crate::asking::{ECHO, create_worker};
 use crate::check::bytes_of;
-use ephemeral_worker::{EphemeralWorker, WorkFault};
+use ephemeral_worker::{EphemeralWorker, SliceFault};
 use record_replay::{AnswerList, LineList, NumberedLine};
 use state_image::write_image;
 use std::alloc::Global;
@@ -38,7 +38,7 @@ fn slice_twice(
     first: u64,
     source: &mut AnswerList,
     told: &mut LineList,
-) -> Result<(), WorkFault> {
+) -> Result<(), SliceFault> {
     let _now = worker.slice(first, source, told)?;
     let _now = worker.slice(STEPS.saturating_sub(first), source, told)?;
     Ok(())

@@ -8,7 +8,7 @@ use crate::check::{BEFORE_CODE, EMPTY_BODY, HELLO, bytes_of};
 use crate::lines::{NoClock, OUTSIDE};
 use crate::serving::pace_of;
 use crate::show::{SECTORS, WRITES, fresh_disk};
-use ephemeral_worker::{EphemeralWorker, Now, WorkFault};
+use ephemeral_worker::{EphemeralWorker, Now, SliceFault};
 use record_replay::{AnswerList, LineList};
 use sector_disk::MemDisk;
 use std::alloc::Global;
@@ -125,7 +125,7 @@ fn run_to_end(
     fuel: u64,
     source: &mut AnswerList,
     outlet: &mut LineList,
-) -> Result<(), WorkFault> {
+) -> Result<(), SliceFault> {
     for _ in 0..10_000 {
         if let Now::Ended(_) = worker.slice(fuel, source, outlet)? {
             break;
@@ -135,7 +135,7 @@ fn run_to_end(
 }
 
 /// The same, where nothing is answered.
-fn run_alone(alloc: Global, worker: &mut EphemeralWorker, fuel: u64) -> Result<(), WorkFault> {
+fn run_alone(alloc: Global, worker: &mut EphemeralWorker, fuel: u64) -> Result<(), SliceFault> {
     let mut source = AnswerList::new(Vec::new(alloc));
     let mut outlet = LineList::new(alloc);
     run_to_end(worker, fuel, &mut source, &mut outlet)

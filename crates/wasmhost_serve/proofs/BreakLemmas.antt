@@ -10,15 +10,15 @@ use Rattle.process_rules.specs.Runs.{none}
 use Rattle.process.specs.rules.Values.{ProcessValue, ShowsProcess}
 use Rattle.record_replay.specs.rules.Calls.{Giving, Taking, Exchanges}
 use Rattle.record_replay.proofs.Following.{exchanges_join}
-use Rattle.ephemeral_worker.specs.declared.fault.WorkFault.TheVariants as work
+use Rattle.ephemeral_worker.specs.declared.fault.SliceFault.TheVariants as slice
 use Rattle.ephemeral_worker.specs.declared.now.Now.{Now}
 use Rattle.ephemeral_worker.specs.declared.now.Now.TheVariants as now
 use Rattle.ephemeral_worker.specs.rules.Slices.{SliceLeadsTo, AreWanted, Slices}
 use Rattle.ephemeral_worker.specs.rules.Faults.{LeadsUpTo}
 use Rattle.ephemeral_worker.proofs.Joining.{answered_join, leads_join, none_answered, none_wanted}
 use Rattle.ephemeral_worker.proofs.Joining.{wanted_join}
-use Rattle.worker.specs.declared.fault.DurableFault.{DurableFault}
-use Rattle.worker.specs.declared.fault.DurableFault.TheVariants as durable
+use Rattle.worker.specs.declared.fault.WorkFault.{WorkFault}
+use Rattle.worker.specs.declared.fault.WorkFault.TheVariants as work
 use Rattle.worker.specs.rules.DurableValues.{DurableValue, without_disk}
 use Rattle.worker.specs.rules.DurableFailures.{SlicesOnDiskInVain}
 use Rattle.worker.specs.rules.LifeWords.{Act, Slice, Checkpoint}
@@ -109,11 +109,11 @@ module _ {S O : Type 0} (gives : Giving S) (takes : Taking O) where
           shows = works.0.shows;
         }
 
-    abbrev pub BreaksBy : ProcessValue → DurableFault → Type 0
+    abbrev pub BreaksBy : ProcessValue → WorkFault → Type 0
     BreaksBy old why = BreaksOffFrom gives takes old fuel fuel why s t o p
 
     -- one that fails
-    breaks_in_slice : (old new : ProcessValue) (why : DurableFault)
+    breaks_in_slice : (old new : ProcessValue) (why : WorkFault)
         → SlicesOnDiskInVain gives takes old fuel why new s t o p → BreaksBy old why
     breaks_in_slice old new why vain guest start is =
         let fails = vain guest start is in
@@ -133,7 +133,7 @@ module _ {S O : Type 0} (gives : Giving S) (takes : Taking O) where
         }
 
     -- a checkpoint that fails behind one that doesn't
-    pub breaks_in_checkpoint : (w w' : DurableValue) (said : Now) (why : DurableFault)
+    pub breaks_in_checkpoint : (w w' : DurableValue) (said : Now) (why : WorkFault)
         → Slices gives takes (without_disk w) fuel said (without_disk w') s t o p
         → BreaksBy w.process why
     breaks_in_checkpoint w w' said why slices guest start is =
@@ -155,7 +155,7 @@ module _ {S O : Type 0} (gives : Giving S) (takes : Taking O) where
 
   -- a worker that had failed does nothing
   breaks_failed : (fuel : ℕ) (s : S) (o : O) (old : ProcessValue)
-      → BreaksBy fuel s s o o old (durable.Work work.Failed)
+      → BreaksBy fuel s s o o old (work.Work slice.Failed)
   breaks_failed fuel s o old guest start is = record {
     front = [];
     answered = none_answered;
@@ -171,24 +171,24 @@ module _ {S O : Type 0} (gives : Giving S) (takes : Taking O) where
     counted = omega arith;
   }
 
-  pub same_fault : (a b : DurableFault) → ◌≡◌ {A = Result Now DurableFault} (Err a) (Err b) → a ≡ b
+  pub same_fault : (a b : WorkFault) → ◌≡◌ {A = Result Now WorkFault} (Err a) (Err b) → a ≡ b
   same_fault a b e = cc
 
   -- a slice that fails, of a worker that had failed or not
   pub slice_breaks_off : (fuel : ℕ) (s t : S) (o p : O) (old new : ProcessValue)
-      (why : DurableFault) (has_failed : Bool)
+      (why : WorkFault) (has_failed : Bool)
       → (has_failed ≡ false → SlicesOnDiskInVain gives takes old fuel why new s t o p)
       → (has_failed ≡ true
-      → ◌≡◌ {A = Result Now DurableFault} (Err why) (Err (durable.Work work.Failed)))
+      → ◌≡◌ {A = Result Now WorkFault} (Err why) (Err (work.Work slice.Failed)))
       → (has_failed ≡ true → t ≡ s) → (has_failed ≡ true → p ≡ o)
       → BreaksBy fuel s t o p old why
   slice_breaks_off fuel s t o p old new why false vain failed steady silent =
       breaks_in_slice fuel s t o p old new why (vain refl)
   slice_breaks_off fuel s t o p old new why true vain failed steady silent =
       subst (λ z. BreaksBy fuel s t o p old z)
-      (sym (same_fault why (durable.Work work.Failed) (failed refl)))
-      (subst (λ z. BreaksBy fuel s z o p old (durable.Work work.Failed)) (sym (steady refl))
-      (subst (λ z. BreaksBy fuel s s o z old (durable.Work work.Failed)) (sym (silent refl))
+      (sym (same_fault why (work.Work slice.Failed) (failed refl)))
+      (subst (λ z. BreaksBy fuel s z o p old (work.Work slice.Failed)) (sym (steady refl))
+      (subst (λ z. BreaksBy fuel s s o z old (work.Work slice.Failed)) (sym (silent refl))
       (breaks_failed fuel s o old)))
 
   -- ---- slices, and what comes behind them
@@ -211,7 +211,7 @@ module _ {S O : Type 0} (gives : Giving S) (takes : Taking O) where
       shows = second.shows;
     }
 
-    pub breaks_join : (fuel all : ℕ) (why : DurableFault)
+    pub breaks_join : (fuel all : ℕ) (why : WorkFault)
         → BreaksOff gives takes guest first.process u t q p fuel all why
         → BreaksOff gives takes guest start s t o p fuel (n + all) why
     breaks_join fuel all why second =

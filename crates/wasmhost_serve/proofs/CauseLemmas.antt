@@ -8,10 +8,10 @@ use Rattle.wasi_abi.specs.declared.answer.Kind.TheVariants as kinds
 use Rattle.sector_disk.specs.rules.Medium.{Medium}
 use Rattle.sector_disk.specs.declared.fault.DiskFault.TheVariants as disk
 use Rattle.record_replay.specs.rules.Calls.{Taking, Ask, AnswersInOrder}
-use Rattle.ephemeral_worker.specs.declared.fault.WorkFault.TheVariants as work
+use Rattle.ephemeral_worker.specs.declared.fault.SliceFault.TheVariants as slice
 use Rattle.ephemeral_worker.specs.rules.Slices.{handed}
-use Rattle.worker.specs.declared.fault.DurableFault.{DurableFault}
-use Rattle.worker.specs.declared.fault.DurableFault.TheVariants as durable
+use Rattle.worker.specs.declared.fault.WorkFault.{WorkFault}
+use Rattle.worker.specs.declared.fault.WorkFault.TheVariants as work
 use Rattle.worker.specs.declared.recover_fault.RecoverFault.{RecoverFault}
 use Rattle.worker.specs.declared.recover_fault.RecoverFault.TheVariants as recover
 use Rattle.worker.specs.rules.LifeWords.{Act}
@@ -125,25 +125,25 @@ steady_unless Refused s t heard unrefused = by_heard heard.heard
 
 module _ {D O : Type 0} (medium : D → Medium) (takes : Taking O) where
   module _ (given : DiskJob) (found last : D) (outlet outlet' : O) (failed' : Bool) where
-    abbrev Fails : (RecoverFault → Type 0) → (DurableFault → Type 0) → Type 0
+    abbrev Fails : (RecoverFault → Type 0) → (WorkFault → Type 0) → Type 0
     Fails IsOfOpening IsOfCall =
         FailsOnDisk medium takes given found last outlet outlet' failed' IsOfOpening IsOfCall
 
     -- memory that was refused to a call
-    abbrev IsOfMemory : DurableFault → Type 0
-    IsOfMemory why = why ≡ durable.Work work.Memory
+    abbrev IsOfMemory : WorkFault → Type 0
+    IsOfMemory why = why ≡ work.Work slice.Memory
 
     -- a line of a call that the outlet refused
-    abbrev IsOfOutlet : DurableFault → Type 0
-    IsOfOutlet why = why ≡ durable.Work work.Outlet
+    abbrev IsOfOutlet : WorkFault → Type 0
+    IsOfOutlet why = why ≡ work.Work slice.Outlet
 
     -- a life that was ended by this error
-    abbrev LifeUpTo : Standing → DurableFault → Type 0
+    abbrev LifeUpTo : Standing → WorkFault → Type 0
     LifeUpTo source' why = LivesOnDisk medium takes given (Err (recover.Worker why)) found last
         outlet outlet' source'
 
     -- each line was told, where none waits
-    each_told : (why : DurableFault) (source' : Standing) (lives : LifeUpTo source' why)
+    each_told : (why : WorkFault) (source' : Standing) (lives : LifeUpTo source' why)
         → HasBrokenOff lives why → LeavesNoLine why → HasToldItsLines lives why
     each_told why source' lives breaks none guest p is = (
       breaks guest p is,
@@ -155,19 +155,19 @@ module _ {D O : Type 0} (medium : D → Medium) (takes : Taking O) where
     Asks Holds = AsksInVain medium takes given found last outlet outlet' failed' Holds
 
     -- so it is where a call of it has failed
-    abbrev BrokenLife : Standing → DurableFault → Type 0
+    abbrev BrokenLife : Standing → WorkFault → Type 0
     BrokenLife source' why = (lives : LifeUpTo source' why) × HasBrokenOff lives why
 
     -- a question was refused for this
     vain : (source' : Standing) (why : LineFault)
-        (lives : LifeUpTo source' (durable.Work work.Source))
-        → HasBrokenOff lives (durable.Work work.Source)
+        (lives : LifeUpTo source' (work.Work slice.Source))
+        → HasBrokenOff lives (work.Work slice.Source)
         → source'.failed ≡ failed' → source'.fault ≡ Some why
         → Asks (λ old asks failed. HasRefused old asks failed why)
     vain source' why lives breaks heeded is = record {
       source' = source';
       lives = lives;
-      told = each_told (durable.Work work.Source) source' lives breaks tt;
+      told = each_told (work.Work slice.Source) source' lives breaks tt;
       heeded = heeded;
       asks = lives.heard.asks;
       led = lives.heard.led;
@@ -274,46 +274,46 @@ module _ {D O : Type 0} (medium : D → Medium) (takes : Taking O) where
 
       -- a fault of the recovery
       by_opening : (why : RecoverFault)
-          → ((IsOfOpening : RecoverFault → Type 0) (IsOfCall : DurableFault → Type 0)
+          → ((IsOfOpening : RecoverFault → Type 0) (IsOfCall : WorkFault → Type 0)
           → IsOfOpening why → Fails IsOfOpening IsOfCall) → IsSteady
           → Says (status_on_disk (told_of_opening why))
       by_opening recover.NotAnImage f steady = three (f IsStuck IsAtItsEnd tt) steady
       by_opening recover.Diverged f steady = three (f IsStuck IsAtItsEnd tt) steady
-      by_opening (recover.Worker (durable.Store why)) f steady =
+      by_opening (recover.Worker (work.Store why)) f steady =
           three (f IsStuck IsAtItsEnd tt) steady
-      by_opening (recover.Worker (durable.Disk disk.Memory)) f steady =
+      by_opening (recover.Worker (work.Disk disk.Memory)) f steady =
           five (inl (f IsWanting IsOfMemory tt))
-      by_opening (recover.Worker (durable.Disk disk.Range)) f steady =
+      by_opening (recover.Worker (work.Disk disk.Range)) f steady =
           four (inl (f IsFailing IsUnanswering tt))
-      by_opening (recover.Worker (durable.Disk disk.Io)) f steady =
+      by_opening (recover.Worker (work.Disk disk.Io)) f steady =
           four (inl (f IsFailing IsUnanswering tt))
-      by_opening (recover.Worker (durable.Disk disk.Cut)) f steady =
+      by_opening (recover.Worker (work.Disk disk.Cut)) f steady =
           four (inl (f IsFailing IsUnanswering tt))
-      by_opening (recover.Worker (durable.Work work.Source)) f steady =
+      by_opening (recover.Worker (work.Work slice.Source)) f steady =
           four (inl (f IsFailing IsUnanswering tt))
-      by_opening (recover.Worker (durable.Work work.Failed)) f steady =
+      by_opening (recover.Worker (work.Work slice.Failed)) f steady =
           four (inl (f IsFailing IsUnanswering tt))
-      by_opening (recover.Worker (durable.Work work.Memory)) f steady =
+      by_opening (recover.Worker (work.Work slice.Memory)) f steady =
           five (inl (f IsWanting IsOfMemory tt))
-      by_opening (recover.Worker (durable.Work work.Outlet)) f steady =
+      by_opening (recover.Worker (work.Work slice.Outlet)) f steady =
           seven (inl (f IsOutletFault IsOfOutlet tt))
-      by_opening (recover.Worker (durable.Work (work.Refused why))) f steady =
+      by_opening (recover.Worker (work.Work (slice.Refused why))) f steady =
           three (f IsStuck IsAtItsEnd tt) steady
 
       -- one of a call
-      by_calling : (why : DurableFault)
-          → ((IsOfOpening : RecoverFault → Type 0) (IsOfCall : DurableFault → Type 0)
+      by_calling : (why : WorkFault)
+          → ((IsOfOpening : RecoverFault → Type 0) (IsOfCall : WorkFault → Type 0)
           → IsOfCall why → Fails IsOfOpening IsOfCall)
-          → ((why ≡ durable.Work work.Source → ⊥) → IsSteady)
+          → ((why ≡ work.Work slice.Source → ⊥) → IsSteady)
           → Says (status_of_call why)
-      by_calling (durable.Store why) f steady =
+      by_calling (work.Store why) f steady =
           three (f IsStuck IsAtItsEnd tt) (steady (λ e. absurd (cc)))
-      by_calling (durable.Disk why) f steady = four (inl (f IsFailing IsUnanswering tt))
-      by_calling (durable.Work work.Source) f steady = four (inl (f IsFailing IsUnanswering tt))
-      by_calling (durable.Work work.Failed) f steady = four (inl (f IsFailing IsUnanswering tt))
-      by_calling (durable.Work work.Memory) f steady = five (inl (f IsWanting IsOfMemory refl))
-      by_calling (durable.Work work.Outlet) f steady = seven (inl (f IsOutletFault IsOfOutlet refl))
-      by_calling (durable.Work (work.Refused why)) f steady =
+      by_calling (work.Disk why) f steady = four (inl (f IsFailing IsUnanswering tt))
+      by_calling (work.Work slice.Source) f steady = four (inl (f IsFailing IsUnanswering tt))
+      by_calling (work.Work slice.Failed) f steady = four (inl (f IsFailing IsUnanswering tt))
+      by_calling (work.Work slice.Memory) f steady = five (inl (f IsWanting IsOfMemory refl))
+      by_calling (work.Work slice.Outlet) f steady = seven (inl (f IsOutletFault IsOfOutlet refl))
+      by_calling (work.Work (slice.Refused why)) f steady =
           three (f IsStuck IsAtItsEnd tt) (steady (λ e. absurd (cc)))
 
       -- one of a request line
@@ -349,11 +349,11 @@ module _ {D O : Type 0} (medium : D → Medium) (takes : Taking O) where
       said_as between status told (inr unsaid) says =
           subst Says (sym unsaid.0) (seven (inr unsaid.1))
 
-      same_call : (a b : DurableFault) → ◌≡◌ {A = Result (List Act) RecoverFault}
+      same_call : (a b : WorkFault) → ◌≡◌ {A = Result (List Act) RecoverFault}
           (Err (recover.Worker a)) (Err (recover.Worker b)) → a ≡ b
       same_call a b is = cc
 
-      by_told : (why : DurableFault) (told : OnDiskFault) (source' : Standing)
+      by_told : (why : WorkFault) (told : OnDiskFault) (source' : Standing)
           (lives : LifeUpTo source' why) → HasBrokenOff lives why → source'.failed ≡ failed'
           → IsToldOnDisk why source'.fault told → Says (status_on_disk told)
       by_told why told source' lives breaks heeded (inl e) =
@@ -362,9 +362,9 @@ module _ {D O : Type 0} (medium : D → Medium) (takes : Taking O) where
           calling why source' lives (each_told why source' lives breaks) e.1 heeded is)
           (λ other. sym heeded ∙ steady_unless (IsOfSource (Err (recover.Worker why)))
           (stands_behind given lives.worker) source' lives.heard
-          (λ source. other (same_call why (durable.Work work.Source) source))))
+          (λ source. other (same_call why (work.Work slice.Source) source))))
       by_told why told source' lives breaks heeded (inr e) =
-          let both : BrokenLife source' (durable.Work work.Source) =
+          let both : BrokenLife source' (work.Work slice.Source) =
           subst (BrokenLife source') e.1 (lives, breaks) in
           subst (λ t. Says (status_on_disk t)) (sym e.3)
           (by_line e.0 (vain source' e.0 both.0 both.1 heeded e.2))

@@ -6,9 +6,9 @@ use Rattle.wasmhost_serve.specs.declared.preparing.Prepared.{Prepared}
 use Rattle.wasmhost_serve.specs.declared.preparing.Unprepared.{Unprepared}
 use Rattle.wasmhost_serve.specs.declared.preparing.Unprepared.TheVariants as unprepared
 use Rattle.sector_disk.specs.rules.Medium.{Medium}
-use Rattle.ephemeral_worker.specs.declared.fault.WorkFault.TheVariants as work
-use Rattle.worker.specs.declared.fault.DurableFault.{DurableFault}
-use Rattle.worker.specs.declared.fault.DurableFault.TheVariants as durable
+use Rattle.ephemeral_worker.specs.declared.fault.SliceFault.TheVariants as slice
+use Rattle.worker.specs.declared.fault.WorkFault.{WorkFault}
+use Rattle.worker.specs.declared.fault.WorkFault.TheVariants as work
 use Rattle.worker.specs.rules.DurableCreations.{IsNotCreatedOn}
 use Rattle.wasmhost_serve.specs.declared.on_disk.fault.OnDiskFault.{OnDiskFault}
 use Rattle.wasmhost_serve.specs.rules.Creations.{IsUnaccepted, IsUnprepared, prepared_with}
@@ -42,17 +42,17 @@ prepared_in_vain config given bytes measured result same is within refused =
 
 module _ (bytes : List ℕ) (config : Settings) (old new : Medium) where
   -- nothing is released in a creation
-  not_seven : (why : DurableFault) → IsNotCreatedOn bytes config old new why
+  not_seven : (why : WorkFault) → IsNotCreatedOn bytes config old new why
       → status_of_call why ≢ 7
-  not_seven (durable.Work work.Source) refused = λ is. omega (arith, is)
-  not_seven (durable.Work work.Outlet) refused = λ is. refused
-  not_seven (durable.Work work.Memory) refused = λ is. omega (arith, is)
-  not_seven (durable.Work work.Failed) refused = λ is. omega (arith, is)
-  not_seven (durable.Work (work.Refused why)) refused = λ is. omega (arith, is)
-  not_seven (durable.Disk fault) refused = λ is. omega (arith, is)
-  not_seven (durable.Store fault) refused = λ is. omega (arith, is)
+  not_seven (work.Work slice.Source) refused = λ is. omega (arith, is)
+  not_seven (work.Work slice.Outlet) refused = λ is. refused
+  not_seven (work.Work slice.Memory) refused = λ is. omega (arith, is)
+  not_seven (work.Work slice.Failed) refused = λ is. omega (arith, is)
+  not_seven (work.Work (slice.Refused why)) refused = λ is. omega (arith, is)
+  not_seven (work.Disk fault) refused = λ is. omega (arith, is)
+  not_seven (work.Store fault) refused = λ is. omega (arith, is)
 
-  pub refused_heeded : (why : DurableFault) → IsNotCreatedOn bytes config old new why
+  pub refused_heeded : (why : WorkFault) → IsNotCreatedOn bytes config old new why
       → (told : OnDiskFault) → told ≡ told_of_call why → (out err : PrinterState) (status : ℕ)
       (err' : PrinterState) → IsSaid (status_on_disk told) err status err'
       → HeedsBoth out out err err' status

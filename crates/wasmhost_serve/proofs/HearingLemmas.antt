@@ -11,15 +11,15 @@ use Rattle.record_replay.specs.rules.Calls.{Giving, Taking, Ask, Asked, Begun, E
 use Rattle.record_replay.specs.rules.Calls.{Tells, asks_of, last_refused}
 use Rattle.record_replay.proofs.Following.{asks_of-append, leads_join}
 use Rattle.process.specs.rules.Values.{ProcessValue, IsProcess}
-use Rattle.ephemeral_worker.specs.declared.fault.WorkFault.TheVariants as work
+use Rattle.ephemeral_worker.specs.declared.fault.SliceFault.TheVariants as slice
 use Rattle.ephemeral_worker.specs.declared.fault.Refusal.TheVariants as refusal
 use Rattle.ephemeral_worker.specs.declared.now.Now.{Now}
 use Rattle.ephemeral_worker.specs.declared.now.Now.TheVariants as now
 use Rattle.ephemeral_worker.specs.rules.Values.{WorkerValue}
 use Rattle.ephemeral_worker.specs.rules.Slices.{HasAnswer, AreWanted, IsNow, Slices}
 use Rattle.ephemeral_worker.specs.rules.Faults.{LeadsUpTo, EmitsLast, StopsAtLine, last_answer}
-use Rattle.worker.specs.declared.fault.DurableFault.{DurableFault}
-use Rattle.worker.specs.declared.fault.DurableFault.TheVariants as durable
+use Rattle.worker.specs.declared.fault.WorkFault.{WorkFault}
+use Rattle.worker.specs.declared.fault.WorkFault.TheVariants as work
 use Rattle.worker.specs.declared.recover_fault.RecoverFault.TheVariants as recover
 use Rattle.worker.specs.rules.DurableFailures.{SlicesOnDiskInVain, IsDiskCause}
 use Rattle.worker.specs.rules.DurableFailures.{StopsAtDisk, StopsAtStore}
@@ -136,18 +136,18 @@ module _ (guest : Guest) (p : ProcessState) (exchanges : List Exchange) (steps :
   store_heard (inl h) = disk_heard h
   store_heard (inr h) = up_to_heard guest p exchanges steps q (Some h.0) h.1
 
-  cause_heard : (fuel : ℕ) (why : DurableFault) → IsDiskCause guest p fuel exchanges steps q why
+  cause_heard : (fuel : ℕ) (why : WorkFault) → IsDiskCause guest p fuel exchanges steps q why
       → AllHeard ⊎ IsOfSource (Err (recover.Worker why))
-  cause_heard fuel (durable.Work work.Source) h = inr refl
-  cause_heard fuel (durable.Work work.Outlet) h = inl (line_heard h.1)
-  cause_heard fuel (durable.Work work.Memory) h =
+  cause_heard fuel (work.Work slice.Source) h = inr refl
+  cause_heard fuel (work.Work slice.Outlet) h = inl (line_heard h.1)
+  cause_heard fuel (work.Work slice.Memory) h =
       inl (up_to_heard guest p exchanges steps q h.3 h.4)
-  cause_heard fuel (durable.Work work.Failed) h = inl (store_heard h.1)
-  cause_heard fuel (durable.Work (work.Refused refusal.StepsSpent)) h =
+  cause_heard fuel (work.Work slice.Failed) h = inl (store_heard h.1)
+  cause_heard fuel (work.Work (slice.Refused refusal.StepsSpent)) h =
       inl (up_to_heard guest p exchanges steps q h.2 h.3)
-  cause_heard fuel (durable.Work (work.Refused (refusal.Front why))) h = absurd h
-  cause_heard fuel (durable.Disk why) h = inl (disk_heard h.1)
-  cause_heard fuel (durable.Store why) h =
+  cause_heard fuel (work.Work (slice.Refused (refusal.Front why))) h = absurd h
+  cause_heard fuel (work.Disk why) h = inl (disk_heard h.1)
+  cause_heard fuel (work.Store why) h =
       inl (store_heard (stops_at_store guest p fuel exchanges steps q why h))
 
 module _ {S O : Type 0} (gives : Giving S) (takes : Taking O) (fuel : ℕ) (s t : S) (o p : O) where
@@ -162,10 +162,10 @@ module _ {S O : Type 0} (gives : Giving S) (takes : Taking O) (fuel : ℕ) (s t 
             fuel why works.0.wanted works.1);
       }
 
-  abbrev HearsUpTo : DurableFault → Type 0
+  abbrev HearsUpTo : WorkFault → Type 0
   HearsUpTo why = AsksUnless gives (IsOfSource (Err (recover.Worker why))) s t
 
-  break_hears : (old new : ProcessValue) (why : DurableFault) → IsProcess old
+  break_hears : (old new : ProcessValue) (why : WorkFault) → IsProcess old
       → SlicesOnDiskInVain gives takes old fuel why new s t o p → HearsUpTo why
   break_hears old new why is slices =
       let fails = slices is.guest is.process is.shows in
@@ -177,7 +177,7 @@ module _ {S O : Type 0} (gives : Giving S) (takes : Taking O) (fuel : ℕ) (s t 
       }
 
   -- a worker that had failed asks nothing
-  pub slice_hears_up_to : (old new : ProcessValue) (why : DurableFault)
+  pub slice_hears_up_to : (old new : ProcessValue) (why : WorkFault)
       (has_failed : Bool) → IsProcess old
       → (has_failed ≡ false → SlicesOnDiskInVain gives takes old fuel why new s t o p)
       → (has_failed ≡ true → t ≡ s) → HearsUpTo why

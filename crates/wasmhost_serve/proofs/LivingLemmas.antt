@@ -15,7 +15,7 @@ use Rattle.ephemeral_worker.specs.declared.now.Now.{Now}
 use Rattle.ephemeral_worker.specs.declared.now.Now.TheVariants as now
 use Rattle.ephemeral_worker.specs.rules.Values.{WorkerValue}
 use Rattle.ephemeral_worker.specs.rules.Slices.{handed, Slices}
-use Rattle.worker.specs.declared.fault.DurableFault.{DurableFault}
+use Rattle.worker.specs.declared.fault.WorkFault.{WorkFault}
 use Rattle.worker.specs.declared.recover_fault.RecoverFault.{RecoverFault}
 use Rattle.worker.specs.declared.recover_fault.RecoverFault.TheVariants as recover
 use Rattle.worker.specs.rules.DurableValues.{DurableValue, without_disk}
@@ -132,7 +132,7 @@ module _ {D S O : Type 0} (medium : D → Medium) (gives : Giving S) (takes : Ta
     }
 
     -- one that fails, in a round
-    slice_breaks : (why : DurableFault)
+    slice_breaks : (why : WorkFault)
         → SliceCarries gives takes w fuel (Err why) w' (medium disk) (medium disk') source source'
         outlet outlet'
         → AreCalled medium gives takes (round_of fuel (n + 1)) from (Err (recover.Worker why)) disk'
@@ -168,7 +168,7 @@ module _ {D S O : Type 0} (medium : D → Medium) (gives : Giving S) (takes : Ta
         (taken : TakesEach takes from.outlet outlet)
         (lead : said ≡ now.Spent → SlicesLeadOn gives takes from
         (steps_among (replicate n (Slice fuel))) (scene w disk source outlet))
-        (result : Result Now DurableFault) → (said ≡ now.Spent → n ≡ every)
+        (result : Result Now WorkFault) → (said ≡ now.Spent → n ≡ every)
         → IsRested said result w w' (medium disk) (medium disk')
         → IfOk result (λ why. IsRound medium gives takes fuel every from why
         (scene w' disk' source outlet))
@@ -191,9 +191,9 @@ module _ {D S O : Type 0} (medium : D → Medium) (gives : Giving S) (takes : Ta
 
     broken : (some : 1 ≤ n) (within : n ≤ every) (heard : AsksUnless gives ⊥ from.source source)
         (taken : TakesEach takes from.outlet outlet)
-        (breaks : (why : DurableFault) → BreaksOffAt gives takes fuel
+        (breaks : (why : WorkFault) → BreaksOffAt gives takes fuel
         (steps_among (round_of fuel n)) from why source outlet)
-        (result : Result Now DurableFault)
+        (result : Result Now WorkFault)
         → IsRested said result w w' (medium disk) (medium disk')
         → IfErr result (λ why. IsBrokenRound medium gives takes fuel every from why disk' source
         outlet)
@@ -248,7 +248,7 @@ module _ {D S O : Type 0} (medium : D → Medium) (gives : Giving S) (takes : Ta
       (so_far : IsWithin fuel every n from here) (given : ℕ) (same : given ≡ fuel)
       (w' : DurableValue) (disk' : D) (source' : S) (outlet' : O) where
     -- what a slice of this fuel carries
-    abbrev Slicing : Result Now DurableFault → Type 0
+    abbrev Slicing : Result Now WorkFault → Type 0
     Slicing result = SliceCarries gives takes here.worker given result w' (medium here.disk)
         (medium disk') here.source source' here.outlet outlet'
 
@@ -284,7 +284,7 @@ module _ {D S O : Type 0} (medium : D → Medium) (gives : Giving S) (takes : Ta
         first.shows))
 
     -- this one has failed, or a checkpoint behind it
-    breaks_more : (why : DurableFault)
+    breaks_more : (why : WorkFault)
         → BreaksBy gives takes fuel here.source source' here.outlet outlet' here.worker.process why
         → BreaksOffAt gives takes fuel (steps_among (round_of fuel (n + 1))) from why source'
         outlet'
@@ -333,7 +333,7 @@ module _ {D S O : Type 0} (medium : D → Medium) (gives : Giving S) (takes : Ta
       within = let few = so_far.fewer in omega (arith, few, is_most)
 
       -- one that fails
-      pub within_breaks : (why : DurableFault) → Slicing (Err why)
+      pub within_breaks : (why : WorkFault) → Slicing (Err why)
           → AsksUnless gives (IsOfSource (Err (recover.Worker why))) here.source source'
           → HeedsOutlet takes (IsOutletsCall why) here.outlet outlet'
           → BreaksBy gives takes given here.source source' here.outlet outlet' here.worker.process
@@ -356,7 +356,7 @@ module _ {D S O : Type 0} (medium : D → Medium) (gives : Giving S) (takes : Ta
 
       -- the last one, and a checkpoint
       module _ (said : Now) (carries : Slicing (Ok said)) (slices : Sliced given said)
-          (result : Result Now DurableFault) (w'' : DurableValue) (disk'' : D)
+          (result : Result Now WorkFault) (w'' : DurableValue) (disk'' : D)
           (rests : IsRested said result w' w'' (medium disk') (medium disk'')) where
         pub within_rests : AsksUnless gives ⊥ here.source source'
             → TakesEach takes here.outlet outlet' → (said ≡ now.Spent → n + 1 ≡ every)
@@ -382,7 +382,7 @@ module _ {D S O : Type 0} (medium : D → Medium) (gives : Giving S) (takes : Ta
             → IfOk result (λ why. why ≡ now.Spent → steps_left w'' < steps_left from.worker)
         within_fewer fewer = ends result rests
           where
-            ends : (result : Result Now DurableFault)
+            ends : (result : Result Now WorkFault)
                 → IsRested said result w' w'' (medium disk') (medium disk'')
                 → IfOk result (λ why. why ≡ now.Spent → steps_left w'' < steps_left from.worker)
             ends (Ok told) r = λ spent.
@@ -400,7 +400,7 @@ module _ {D S O : Type 0} (medium : D → Medium) (gives : Giving S) (takes : Ta
     pub room : total_sectors here.worker.store.geometry ≤ (medium here.disk).sectors
     pub heard : AsksUnless gives ⊥ from.source here.source
     pub taken : TakesEach takes from.outlet here.outlet
-    pub on : (rest : List Act) (result : Result Now DurableFault) (disk : D) (source : S)
+    pub on : (rest : List Act) (result : Result Now WorkFault) (disk : D) (source : S)
         (outlet : O) → IsPaced fuel every rest
         → AsksUnless gives (IsOfSource (left_after result)) from.source source
         → HeedsOutlet takes (SaysOutletFault (left_after result)) from.outlet outlet
@@ -431,7 +431,7 @@ module _ {D S O : Type 0} (medium : D → Medium) (gives : Giving S) (takes : Ta
   module _ (fuel every : ℕ) (from here : Scene D S O) (so_far : SoFar fuel every from here) where
     -- what is done behind a round whose fuel is spent
     module _ (there : Scene D S O) (r : IsRound medium gives takes fuel every here now.Spent there)
-        (rest : List Act) (result : Result Now DurableFault) (disk : D) (source : S) (outlet : O)
+        (rest : List Act) (result : Result Now WorkFault) (disk : D) (source : S) (outlet : O)
         (done : AreCalled medium gives takes rest there (left_after result) disk source outlet)
       where
         is_whole : round_of fuel r.count ++ rest ≡ round_of fuel every ++ rest
@@ -453,7 +453,7 @@ module _ {D S O : Type 0} (medium : D → Medium) (gives : Giving S) (takes : Ta
             (r.leads.behind rest (left_after result) disk source outlet done)
             ∙ r.leads.says rest (left_after result) disk source outlet done)) says
 
-        abbrev Breaks : List Act → Scene D S O → DurableFault → Type 0
+        abbrev Breaks : List Act → Scene D S O → WorkFault → Type 0
         Breaks acts at why = BreaksOffAt gives takes fuel (steps_among acts) at why source outlet
 
         all_steps : steps_among (round_of fuel r.count) + steps_among rest
@@ -461,7 +461,7 @@ module _ {D S O : Type 0} (medium : D → Medium) (gives : Giving S) (takes : Ta
         all_steps = ap (λ n. steps_among (round_of fuel n) + steps_among rest) (r.whole refl)
             ∙ sym (steps_both (round_of fuel every) rest)
 
-        then_breaks : (why : DurableFault) → Breaks rest there why
+        then_breaks : (why : WorkFault) → Breaks rest there why
             → Breaks (round_of fuel every ++ rest) here why
         then_breaks why breaks guest p is =
             let first = r.spent refl guest p is in
@@ -507,7 +507,7 @@ module _ {D S O : Type 0} (medium : D → Medium) (gives : Giving S) (takes : Ta
         )) (leads_out (round_of fuel r.count) here why there r.leads)
         (says_out (round_of fuel r.count) here why there r.leads) tt
 
-    pub round_broken : (why : DurableFault) (disk : D) (source : S) (outlet : O)
+    pub round_broken : (why : WorkFault) (disk : D) (source : S) (outlet : O)
         → IsBrokenRound medium gives takes fuel every here why disk source outlet
         → LivesAtPace medium gives takes fuel every from (Err why) disk source outlet
     round_broken why disk source outlet r =

@@ -8,11 +8,11 @@ use Rattle.sector_disk.specs.declared.fault.DiskFault.{DiskFault}
 use Rattle.sector_disk.specs.declared.fault.DiskFault.TheVariants as disk
 use Rattle.sector_disk.specs.rules.Medium.{Medium}
 use Rattle.record_replay.specs.rules.Calls.{Taking, AnswersInOrder}
-use Rattle.ephemeral_worker.specs.declared.fault.WorkFault.TheVariants as work
+use Rattle.ephemeral_worker.specs.declared.fault.SliceFault.TheVariants as slice
 use Rattle.ephemeral_worker.specs.declared.now.Now.{Now}
 use Rattle.ephemeral_worker.specs.declared.now.Now.TheVariants as now
-use Rattle.worker.specs.declared.fault.DurableFault.{DurableFault}
-use Rattle.worker.specs.declared.fault.DurableFault.TheVariants as durable
+use Rattle.worker.specs.declared.fault.WorkFault.{WorkFault}
+use Rattle.worker.specs.declared.fault.WorkFault.TheVariants as work
 use Rattle.worker.specs.declared.recover_fault.RecoverFault.{RecoverFault}
 use Rattle.worker.specs.declared.recover_fault.RecoverFault.TheVariants as recover
 use Rattle.worker.specs.rules.DurableValues.{DurableValue}
@@ -60,7 +60,7 @@ module _ {R : Type 0} (unread : R → Option (List ℕ)) (failed : R → Bool) w
 module _ {D S O : Type 0} (medium : D → Medium) (stands : S → Standing) (takes : Taking O) where
   -- where it has failed, seen by where its source stands
   breaks_so : (given : DiskJob) (w : DurableValue) (disk : D) (all : ℕ) (s t : S) (o p : O)
-      (why : DurableFault) → stands s ≡ stands_behind given w
+      (why : WorkFault) → stands s ≡ stands_behind given w
       → BreaksOffAt (gives_so stands handing takes) takes given.fuel all (scene w disk s o) why t p
       → BreaksOffAt handing takes given.fuel all (scene w disk (stands_behind given w) o) why
       (stands t) p
@@ -71,7 +71,7 @@ module _ {D S O : Type 0} (medium : D → Medium) (stands : S → Standing) (tak
 
   -- what was done of a worker, seen by where its source stands
   lives_so : (given : DiskJob) (w : DurableValue) (disk last : D) (s t : S) (o p : O)
-      (result : Result Now DurableFault) → stands s ≡ stands_behind given w
+      (result : Result Now WorkFault) → stands s ≡ stands_behind given w
       → LivesAtPace medium (gives_so stands handing takes) takes given.fuel given.every
       (scene w disk s o) result last t p
       → LivesAtPace medium handing takes given.fuel given.every
@@ -114,7 +114,7 @@ module _ {D S O : Type 0} (medium : D → Medium) (stands : S → Standing) (tak
     has_gone why gone lives =
         (stands t, gone, refl, lives_so given w disk last s t o p (Ok why) is lives)
 
-    pub has_failed : (why : DurableFault) (told : OnDiskFault)
+    pub has_failed : (why : WorkFault) (told : OnDiskFault)
         → IsToldOnDisk why (stands t).fault told
         → LivesAtPace medium (gives_so stands handing takes) takes given.fuel given.every
         (scene w disk s o) (Err why) last t p
@@ -138,13 +138,13 @@ module _ {D O : Type 0} (medium : D → Medium) (takes : Taking O) where
       absurd (not_a_disk why (error_is unsettled.is) none)
     where
       not_a_disk : (why : RecoverFault) {fault : DiskFault}
-          → why ≡ recover.Worker (durable.Disk fault) → IsNoWorker why → ⊥
+          → why ≡ recover.Worker (work.Disk fault) → IsNoWorker why → ⊥
       not_a_disk why is none = subst IsNoWorker is none
 
       error_is : {fault : DiskFault}
           → ◌≡◌ {A = Result DurableValue RecoverFault} (Err why)
-          (Err (recover.Worker (durable.Disk fault)))
-          → why ≡ recover.Worker (durable.Disk fault)
+          (Err (recover.Worker (work.Disk fault)))
+          → why ≡ recover.Worker (work.Disk fault)
       error_is is = cc
   left_alone why found last o p (inr settled) none =
       let alone = settled.3 none in
@@ -164,7 +164,7 @@ module _ {D O : Type 0} (medium : D → Medium) (takes : Taking O) where
   }
 
   -- one that is, and lives
-  lives_on : (given : DiskJob) (w : DurableValue) (result : Result Now DurableFault)
+  lives_on : (given : DiskJob) (w : DurableValue) (result : Result Now WorkFault)
       (found opening last : D) (o p q : O) (source' : Standing)
       → RecoveryCarries takes (Ok w) (medium found) (medium opening) o p
       → HeedsOutlet takes ⊥ o p
@@ -224,14 +224,14 @@ module _ {D O : Type 0} (medium : D → Medium) (takes : Taking O) where
 
 -- ---- statuses
 
-few_of_call : (fault : DurableFault) → status_of_call fault ≤ 7
-few_of_call (durable.Work work.Source) = lit≤ tt
-few_of_call (durable.Work work.Outlet) = lit≤ tt
-few_of_call (durable.Work work.Memory) = lit≤ tt
-few_of_call (durable.Work work.Failed) = lit≤ tt
-few_of_call (durable.Work (work.Refused why)) = lit≤ tt
-few_of_call (durable.Disk fault) = lit≤ tt
-few_of_call (durable.Store fault) = lit≤ tt
+few_of_call : (fault : WorkFault) → status_of_call fault ≤ 7
+few_of_call (work.Work slice.Source) = lit≤ tt
+few_of_call (work.Work slice.Outlet) = lit≤ tt
+few_of_call (work.Work slice.Memory) = lit≤ tt
+few_of_call (work.Work slice.Failed) = lit≤ tt
+few_of_call (work.Work (slice.Refused why)) = lit≤ tt
+few_of_call (work.Disk fault) = lit≤ tt
+few_of_call (work.Store fault) = lit≤ tt
 
 few_of_disk : (fault : DiskFault) → status_of_disk fault ≤ 7
 few_of_disk disk.Range = lit≤ tt

@@ -8,13 +8,13 @@ use Rattle.process_rules.specs.Processes.{ProcessState, Guest}
 use Rattle.record_replay.specs.rules.Calls.{Taking, Exchange, Asks, Releases, releases_of}
 use Rattle.record_replay.specs.rules.Calls.{all_taken}
 use Rattle.record_replay.proofs.Following.{releases_of-append}
-use Rattle.ephemeral_worker.specs.declared.fault.WorkFault.TheVariants as work
+use Rattle.ephemeral_worker.specs.declared.fault.SliceFault.TheVariants as slice
 use Rattle.ephemeral_worker.specs.declared.fault.Refusal.TheVariants as refusal
 use Rattle.ephemeral_worker.specs.rules.Slices.{SliceLeadsTo}
 use Rattle.ephemeral_worker.specs.rules.Faults.{LeadsUpTo, last_answer}
 use Rattle.ephemeral_worker.proofs.Joining.{leads_join}
-use Rattle.worker.specs.declared.fault.DurableFault.{DurableFault}
-use Rattle.worker.specs.declared.fault.DurableFault.TheVariants as durable
+use Rattle.worker.specs.declared.fault.WorkFault.{WorkFault}
+use Rattle.worker.specs.declared.fault.WorkFault.TheVariants as work
 use Rattle.wasmhost_serve.specs.Lines.Answers.{Standing}
 use Rattle.wasmhost_serve.specs.rules.BrokenLives.{IsBrokenAt, in_slice, in_checkpoint, BreaksOff}
 use Rattle.wasmhost_serve.specs.rules.BrokenLives.{LeavesNoLine, TellsItsLines}
@@ -47,7 +47,7 @@ module _ (guest : Guest) (p : ProcessState) (exchanges : List Exchange) (steps :
     leads = h.leads;
   }
 
-  told_before : (fuel : ℕ) (why : DurableFault) → LeavesNoLine why
+  told_before : (fuel : ℕ) (why : WorkFault) → LeavesNoLine why
       → IsBrokenAt guest p fuel exchanges steps q why → AllTold guest p exchanges q
   told_before fuel why none (in_checkpoint said leads answers) = record {
     front = exchanges;
@@ -57,7 +57,7 @@ module _ (guest : Guest) (p : ProcessState) (exchanges : List Exchange) (steps :
     steps = steps;
     leads = leads;
   }
-  told_before fuel (durable.Work work.Source) none (in_slice h) = record {
+  told_before fuel (work.Work slice.Source) none (in_slice h) = record {
     front = h.1.front;
     last = Asks h.1.ask ∷ [];
     is = h.1.is;
@@ -65,14 +65,14 @@ module _ (guest : Guest) (p : ProcessState) (exchanges : List Exchange) (steps :
     steps = steps;
     leads = h.1.leads;
   }
-  told_before fuel (durable.Work work.Memory) none (in_slice h) = told_up_to h.3 h.4
-  told_before fuel (durable.Work (work.Refused refusal.StepsSpent)) none (in_slice h) =
+  told_before fuel (work.Work slice.Memory) none (in_slice h) = told_up_to h.3 h.4
+  told_before fuel (work.Work (slice.Refused refusal.StepsSpent)) none (in_slice h) =
       told_up_to h.2 h.3
-  told_before fuel (durable.Work (work.Refused (refusal.Front why))) none (in_slice h) = absurd h
-  told_before fuel (durable.Work work.Outlet) none (in_slice h) = absurd none
-  told_before fuel (durable.Work work.Failed) none (in_slice h) = absurd none
-  told_before fuel (durable.Disk why) none (in_slice h) = absurd none
-  told_before fuel (durable.Store why) none (in_slice h) =
+  told_before fuel (work.Work (slice.Refused (refusal.Front why))) none (in_slice h) = absurd h
+  told_before fuel (work.Work slice.Outlet) none (in_slice h) = absurd none
+  told_before fuel (work.Work slice.Failed) none (in_slice h) = absurd none
+  told_before fuel (work.Disk why) none (in_slice h) = absurd none
+  told_before fuel (work.Store why) none (in_slice h) =
       told_up_to None (none guest p fuel exchanges steps q h).4
 
 module _ (guest : Guest) (p : ProcessState) where
@@ -106,7 +106,7 @@ module _ (guest : Guest) (p : ProcessState) where
 
     -- each line was told that was written until a call failed
     pub lines_told : (source source' : Standing) (outlet outlet' : O) (fuel all : ℕ)
-        (why : DurableFault) → LeavesNoLine why
+        (why : WorkFault) → LeavesNoLine why
         → (b : BreaksOff handing takes guest p source source' outlet outlet' fuel all why)
         → TellsItsLines takes p b.process outlet outlet'
     lines_told source source' outlet outlet' fuel all why none b =

@@ -7,9 +7,9 @@ use Rattle.sector_disk.specs.declared.fault.DiskFault.TheVariants as disk
 use Rattle.sector_disk.specs.rules.Medium.{Medium}
 use Rattle.record_replay.specs.declared.fault.OutletFault.{OutletFault}
 use Rattle.record_replay.specs.rules.Calls.{Taking, Begun, Releases}
-use Rattle.ephemeral_worker.specs.declared.fault.WorkFault.TheVariants as work
-use Rattle.worker.specs.declared.fault.DurableFault.{DurableFault}
-use Rattle.worker.specs.declared.fault.DurableFault.TheVariants as durable
+use Rattle.ephemeral_worker.specs.declared.fault.SliceFault.TheVariants as slice
+use Rattle.worker.specs.declared.fault.WorkFault.{WorkFault}
+use Rattle.worker.specs.declared.fault.WorkFault.TheVariants as work
 use Rattle.worker.specs.declared.recover_fault.RecoverFault.{RecoverFault}
 use Rattle.worker.specs.declared.recover_fault.RecoverFault.TheVariants as recover
 use Rattle.worker.specs.rules.Outlets.{WasTaken, TakesEach, HeedsOutlet, IsOutletFault}
@@ -34,39 +34,39 @@ abbrev IsSeven : Type 0 → ℕ → Type 0
 IsSeven Failed status = (Failed × (status ≡ 7)) ⊎ ((Failed → ⊥) × (status ≢ 7))
 
 -- a call's fault is told by 7 just where it is the outlet's
-seven_of_call : (why : DurableFault)
+seven_of_call : (why : WorkFault)
     → IsSeven (IsOutletFault (recover.Worker why)) (status_of_call why)
-seven_of_call (durable.Work work.Outlet) = inl (tt, refl)
-seven_of_call (durable.Work work.Source) = inr ((λ told. told), λ e. omega (arith, e))
-seven_of_call (durable.Work work.Memory) = inr ((λ told. told), λ e. omega (arith, e))
-seven_of_call (durable.Work work.Failed) = inr ((λ told. told), λ e. omega (arith, e))
-seven_of_call (durable.Work (work.Refused why)) = inr ((λ told. told), λ e. omega (arith, e))
-seven_of_call (durable.Disk why) = inr ((λ told. told), λ e. omega (arith, e))
-seven_of_call (durable.Store why) = inr ((λ told. told), λ e. omega (arith, e))
+seven_of_call (work.Work slice.Outlet) = inl (tt, refl)
+seven_of_call (work.Work slice.Source) = inr ((λ told. told), λ e. omega (arith, e))
+seven_of_call (work.Work slice.Memory) = inr ((λ told. told), λ e. omega (arith, e))
+seven_of_call (work.Work slice.Failed) = inr ((λ told. told), λ e. omega (arith, e))
+seven_of_call (work.Work (slice.Refused why)) = inr ((λ told. told), λ e. omega (arith, e))
+seven_of_call (work.Disk why) = inr ((λ told. told), λ e. omega (arith, e))
+seven_of_call (work.Store why) = inr ((λ told. told), λ e. omega (arith, e))
 
 -- so is a recovery's
 seven_of_opening : (why : RecoverFault)
     → IsSeven (IsOutletFault why) (status_on_disk (told_of_opening why))
 seven_of_opening recover.NotAnImage = inr ((λ told. told), λ e. omega (arith, e))
 seven_of_opening recover.Diverged = inr ((λ told. told), λ e. omega (arith, e))
-seven_of_opening (recover.Worker (durable.Disk disk.Memory)) =
+seven_of_opening (recover.Worker (work.Disk disk.Memory)) =
     inr ((λ told. told), λ e. omega (arith, e))
-seven_of_opening (recover.Worker (durable.Disk disk.Range)) =
+seven_of_opening (recover.Worker (work.Disk disk.Range)) =
     inr ((λ told. told), λ e. omega (arith, e))
-seven_of_opening (recover.Worker (durable.Disk disk.Io)) =
+seven_of_opening (recover.Worker (work.Disk disk.Io)) =
     inr ((λ told. told), λ e. omega (arith, e))
-seven_of_opening (recover.Worker (durable.Disk disk.Cut)) =
+seven_of_opening (recover.Worker (work.Disk disk.Cut)) =
     inr ((λ told. told), λ e. omega (arith, e))
-seven_of_opening (recover.Worker (durable.Work work.Outlet)) = inl (tt, refl)
-seven_of_opening (recover.Worker (durable.Work work.Source)) =
-    seven_of_call (durable.Work work.Source)
-seven_of_opening (recover.Worker (durable.Work work.Memory)) =
-    seven_of_call (durable.Work work.Memory)
-seven_of_opening (recover.Worker (durable.Work work.Failed)) =
-    seven_of_call (durable.Work work.Failed)
-seven_of_opening (recover.Worker (durable.Work (work.Refused why))) =
-    seven_of_call (durable.Work (work.Refused why))
-seven_of_opening (recover.Worker (durable.Store why)) = seven_of_call (durable.Store why)
+seven_of_opening (recover.Worker (work.Work slice.Outlet)) = inl (tt, refl)
+seven_of_opening (recover.Worker (work.Work slice.Source)) =
+    seven_of_call (work.Work slice.Source)
+seven_of_opening (recover.Worker (work.Work slice.Memory)) =
+    seven_of_call (work.Work slice.Memory)
+seven_of_opening (recover.Worker (work.Work slice.Failed)) =
+    seven_of_call (work.Work slice.Failed)
+seven_of_opening (recover.Worker (work.Work (slice.Refused why))) =
+    seven_of_call (work.Work (slice.Refused why))
+seven_of_opening (recover.Worker (work.Store why)) = seven_of_call (work.Store why)
 
 -- no fault of a request line is
 line_is_other : (why : LineFault) → status_of_line why ≢ 7
@@ -77,7 +77,7 @@ line_is_other line.Memory = λ e. omega (arith, e)
 line_is_other (line.Number given wanted) = λ e. omega (arith, e)
 line_is_other line.Form = λ e. omega (arith, e)
 
-seven_as_told : (why : DurableFault) (found : Option LineFault) (told : OnDiskFault)
+seven_as_told : (why : WorkFault) (found : Option LineFault) (told : OnDiskFault)
     → IsToldOnDisk why found told
     → IsSeven (IsOutletFault (recover.Worker why)) (status_on_disk told)
 seven_as_told why found told (inl e) =

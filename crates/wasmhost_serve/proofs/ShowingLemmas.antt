@@ -7,8 +7,8 @@ use Rattle.sector_disk.specs.declared.fault.DiskFault.{DiskFault}
 use Rattle.sector_disk.specs.declared.fault.DiskFault.TheVariants as disk
 use Rattle.sector_disk.specs.rules.Image.{Image}
 use Rattle.sector_disk.specs.rules.Medium.{Medium}
-use Rattle.ephemeral_worker.specs.declared.fault.WorkFault.TheVariants as work
-use Rattle.worker.specs.declared.fault.DurableFault.TheVariants as durable
+use Rattle.ephemeral_worker.specs.declared.fault.SliceFault.TheVariants as slice
+use Rattle.worker.specs.declared.fault.WorkFault.TheVariants as work
 use Rattle.worker.specs.declared.recover_fault.RecoverFault.{RecoverFault}
 use Rattle.worker.specs.declared.recover_fault.RecoverFault.TheVariants as recover
 use Rattle.worker.specs.declared.surveyed.Survey.{Survey}
@@ -25,40 +25,40 @@ use Rattle.wasmhost_serve.proofs.PrinterLemmas.{few_said, text_is_said}
 
 -- what says nothing of the disk is told by 4, where the disk has failed, or by 5
 status_of_nothing : (old new : Medium) (why : RecoverFault) → SaysNothing why
-    → ((fault : DiskFault) → why ≡ recover.Worker (durable.Disk fault) → old.faults < new.faults)
+    → ((fault : DiskFault) → why ≡ recover.Worker (work.Disk fault) → old.faults < new.faults)
     → ((status_on_disk (told_of_opening why) ≡ 4) × (old.faults < new.faults))
     ⊎ (status_on_disk (told_of_opening why) ≡ 5)
 status_of_nothing old new recover.NotAnImage says failed = absurd says
 status_of_nothing old new recover.Diverged says failed = absurd says
-status_of_nothing old new (recover.Worker (durable.Work work.Memory)) says failed = inr refl
-status_of_nothing old new (recover.Worker (durable.Work work.Source)) says failed = absurd says
-status_of_nothing old new (recover.Worker (durable.Work work.Outlet)) says failed = absurd says
-status_of_nothing old new (recover.Worker (durable.Work work.Failed)) says failed = absurd says
-status_of_nothing old new (recover.Worker (durable.Work (work.Refused why))) says failed =
+status_of_nothing old new (recover.Worker (work.Work slice.Memory)) says failed = inr refl
+status_of_nothing old new (recover.Worker (work.Work slice.Source)) says failed = absurd says
+status_of_nothing old new (recover.Worker (work.Work slice.Outlet)) says failed = absurd says
+status_of_nothing old new (recover.Worker (work.Work slice.Failed)) says failed = absurd says
+status_of_nothing old new (recover.Worker (work.Work (slice.Refused why))) says failed =
     absurd says
-status_of_nothing old new (recover.Worker (durable.Disk disk.Memory)) says failed = inr refl
-status_of_nothing old new (recover.Worker (durable.Disk disk.Range)) says failed =
+status_of_nothing old new (recover.Worker (work.Disk disk.Memory)) says failed = inr refl
+status_of_nothing old new (recover.Worker (work.Disk disk.Range)) says failed =
     inl (refl, failed disk.Range refl)
-status_of_nothing old new (recover.Worker (durable.Disk disk.Io)) says failed =
+status_of_nothing old new (recover.Worker (work.Disk disk.Io)) says failed =
     inl (refl, failed disk.Io refl)
-status_of_nothing old new (recover.Worker (durable.Disk disk.Cut)) says failed =
+status_of_nothing old new (recover.Worker (work.Disk disk.Cut)) says failed =
     inl (refl, failed disk.Cut refl)
-status_of_nothing old new (recover.Worker (durable.Store fault)) says failed = absurd says
+status_of_nothing old new (recover.Worker (work.Store fault)) says failed = absurd says
 
 -- no status is above 7
 opening_known : (why : RecoverFault) → status_on_disk (told_of_opening why) ≤ 7
 opening_known recover.NotAnImage = omega arith
 opening_known recover.Diverged = omega arith
-opening_known (recover.Worker (durable.Work work.Source)) = omega arith
-opening_known (recover.Worker (durable.Work work.Outlet)) = omega arith
-opening_known (recover.Worker (durable.Work work.Memory)) = omega arith
-opening_known (recover.Worker (durable.Work work.Failed)) = omega arith
-opening_known (recover.Worker (durable.Work (work.Refused why))) = omega arith
-opening_known (recover.Worker (durable.Disk disk.Memory)) = omega arith
-opening_known (recover.Worker (durable.Disk disk.Range)) = omega arith
-opening_known (recover.Worker (durable.Disk disk.Io)) = omega arith
-opening_known (recover.Worker (durable.Disk disk.Cut)) = omega arith
-opening_known (recover.Worker (durable.Store fault)) = omega arith
+opening_known (recover.Worker (work.Work slice.Source)) = omega arith
+opening_known (recover.Worker (work.Work slice.Outlet)) = omega arith
+opening_known (recover.Worker (work.Work slice.Memory)) = omega arith
+opening_known (recover.Worker (work.Work slice.Failed)) = omega arith
+opening_known (recover.Worker (work.Work (slice.Refused why))) = omega arith
+opening_known (recover.Worker (work.Disk disk.Memory)) = omega arith
+opening_known (recover.Worker (work.Disk disk.Range)) = omega arith
+opening_known (recover.Worker (work.Disk disk.Io)) = omega arith
+opening_known (recover.Worker (work.Disk disk.Cut)) = omega arith
+opening_known (recover.Worker (work.Store fault)) = omega arith
 
 says_known : (result : Result Survey RecoverFault) (out out' err err' : PrinterState) (status : ℕ)
     → SaysResult result out out' err err' status → status ≤ 7
@@ -81,7 +81,7 @@ module _ (old new : Medium) where
       let from = settled.2 image shows in from.tells m config kept n stands room
 
   fails_so : (result : Result Survey RecoverFault) → Surveys result old new
-      → (fault : DiskFault) → result ≡ Err (recover.Worker (durable.Disk fault))
+      → (fault : DiskFault) → result ≡ Err (recover.Worker (work.Disk fault))
       → old.faults < new.faults
   fails_so result (inl unsettled) fault is = unsettled.faulted
   fails_so result (inr settled) fault is = settled.1 fault is
@@ -118,7 +118,7 @@ module _ (old new : Medium) (out out' err err' : PrinterState) (status : ℕ) wh
 
   says_as : (survey : Survey) (result : Result Survey RecoverFault)
       → TellsSurvey result survey
-      → ((fault : DiskFault) → result ≡ Err (recover.Worker (durable.Disk fault))
+      → ((fault : DiskFault) → result ≡ Err (recover.Worker (work.Disk fault))
       → old.faults < new.faults)
       → SaysResult result out out' err err' status
       → ShowsSurvey old new out out' err' status survey

@@ -12,7 +12,7 @@ use Rattle.worker.specs.laws.OneLife.{CallsInOrder, no_more, sliced, slice_faile
 use Rattle.worker.specs.laws.OneLife.{saving_failed}
 use Rattle.worker.specs.laws.Outcomes.{outcome_after}
 use Rattle.process.specs.rules.Values.{ProcessValue}
-use Rattle.worker.specs.declared.fault.DurableFault.{DurableFault}
+use Rattle.worker.specs.declared.fault.WorkFault.{WorkFault}
 use Rattle.wasmhost_serve.specs.rules.BrokenLives.{BreaksOffFrom}
 
 module _ {S T O : Type 0} (stands : S → T) (gives : Giving T) (takes : Taking O) where
@@ -33,7 +33,7 @@ module _ {S T O : Type 0} (stands : S → T) (gives : Giving T) (takes : Taking 
   }
 
   -- a call that has failed
-  pub broken_so : (v : ProcessValue) (fuel all : ℕ) (why : DurableFault) (s t : S) (o p : O)
+  pub broken_so : (v : ProcessValue) (fuel all : ℕ) (why : WorkFault) (s t : S) (o p : O)
       → BreaksOffFrom gives_so takes v fuel all why s t o p
       → BreaksOffFrom gives takes v fuel all why (stands s) (stands t) o p
   broken_so v fuel all why s t o p breaks guest start is =

@@ -10,14 +10,14 @@ use Rattle.sector_disk.specs.rules.Medium.{Medium}
 use Rattle.record_replay.specs.rules.Calls.{Giving, Taking, Begun, Exchange, Asks, Tells, Released}
 use Rattle.record_replay.specs.rules.Calls.{Releases, releases_of, all_taken, last_refused}
 use Rattle.record_replay.proofs.Following.{leads_split, releases_of-append}
-use Rattle.ephemeral_worker.specs.declared.fault.WorkFault.TheVariants as work
+use Rattle.ephemeral_worker.specs.declared.fault.SliceFault.TheVariants as slice
 use Rattle.ephemeral_worker.specs.declared.fault.Refusal.TheVariants as refusal
 use Rattle.ephemeral_worker.specs.declared.now.Now.{Now}
 use Rattle.ephemeral_worker.specs.rules.Values.{WorkerValue}
 use Rattle.ephemeral_worker.specs.rules.Slices.{SliceLeadsTo, Slices}
 use Rattle.ephemeral_worker.specs.rules.Faults.{LeadsUpTo, EmitsLast, StopsAtLine, last_answer}
-use Rattle.worker.specs.declared.fault.DurableFault.{DurableFault}
-use Rattle.worker.specs.declared.fault.DurableFault.TheVariants as durable
+use Rattle.worker.specs.declared.fault.WorkFault.{WorkFault}
+use Rattle.worker.specs.declared.fault.WorkFault.TheVariants as work
 use Rattle.worker.specs.declared.recover_fault.RecoverFault.TheVariants as recover
 use Rattle.worker.specs.rules.Checkpoints.{HasCheckpointCause}
 use Rattle.worker.specs.rules.DurableFailures.{SlicesOnDiskInVain, IsDiskCause}
@@ -31,19 +31,19 @@ use Rattle.wasmhost_serve.proofs.BreakLemmas.{same_fault}
 use Rattle.wasmhost_serve.proofs.PrintedLemmas.{asks_only}
 
 -- an error of a call that is the outlet's
-abbrev pub IsOutletsCall : DurableFault → Type 0
+abbrev pub IsOutletsCall : WorkFault → Type 0
 IsOutletsCall why = IsOutletFault (recover.Worker why)
 
 -- no checkpoint has one
-pub saving_is_other : (w : DurableValue) (old new : Medium) (why : DurableFault)
+pub saving_is_other : (w : DurableValue) (old new : Medium) (why : WorkFault)
     → HasCheckpointCause w old new why → IsOutletsCall why → ⊥
-saving_is_other w old new (durable.Work work.Source) cause told = told
-saving_is_other w old new (durable.Work work.Outlet) cause told = cause
-saving_is_other w old new (durable.Work work.Memory) cause told = told
-saving_is_other w old new (durable.Work work.Failed) cause told = told
-saving_is_other w old new (durable.Work (work.Refused why)) cause told = told
-saving_is_other w old new (durable.Disk why) cause told = told
-saving_is_other w old new (durable.Store why) cause told = told
+saving_is_other w old new (work.Work slice.Source) cause told = told
+saving_is_other w old new (work.Work slice.Outlet) cause told = cause
+saving_is_other w old new (work.Work slice.Memory) cause told = told
+saving_is_other w old new (work.Work slice.Failed) cause told = told
+saving_is_other w old new (work.Work (slice.Refused why)) cause told = told
+saving_is_other w old new (work.Disk why) cause told = told
+saving_is_other w old new (work.Store why) cause told = told
 
 -- The releases among these calls are of some lines, each of which was taken.
 record AllTaken (exchanges : List Exchange) : Type 0 where
@@ -119,31 +119,31 @@ module _ {O : Type 0} (takes : Taking O) where
 
   module _ (guest : Guest) (p : ProcessState) (exchanges : List Exchange) (steps : ℕ)
       (q : ProcessState) (o o' : O) (led : Releases takes o (releases_of exchanges) o') where
-    heeds : (why : DurableFault) → (IsOutletsCall why → ⊥) → AllTaken exchanges
+    heeds : (why : WorkFault) → (IsOutletsCall why → ⊥) → AllTaken exchanges
         → HeedsOutlet takes (IsOutletsCall why) o o'
     heeds why other all = inl (by_taken exchanges o o' all led, other)
 
-    heeds_cause : (fuel : ℕ) (why : DurableFault) → IsDiskCause guest p fuel exchanges steps q why
+    heeds_cause : (fuel : ℕ) (why : WorkFault) → IsDiskCause guest p fuel exchanges steps q why
         → HeedsOutlet takes (IsOutletsCall why) o o'
-    heeds_cause fuel (durable.Work work.Source) h =
-        heeds (durable.Work work.Source) (λ told. told)
+    heeds_cause fuel (work.Work slice.Source) h =
+        heeds (work.Work slice.Source) (λ told. told)
         (taken_then exchanges h.1.front (Asks h.1.ask ∷ []) h.1.is refl
         (by_leads guest p h.1.front steps q h.1.leads))
-    heeds_cause fuel (durable.Work work.Outlet) h =
+    heeds_cause fuel (work.Work slice.Outlet) h =
         inr (at_line guest p exchanges steps q o o' h.1 led, tt)
-    heeds_cause fuel (durable.Work work.Memory) h =
-        heeds (durable.Work work.Memory) (λ told. told)
+    heeds_cause fuel (work.Work slice.Memory) h =
+        heeds (work.Work slice.Memory) (λ told. told)
         (up_to guest p exchanges steps q h.3 h.4)
-    heeds_cause fuel (durable.Work work.Failed) h =
-        heeds (durable.Work work.Failed) (λ told. told) (at_store guest p exchanges steps q h.1)
-    heeds_cause fuel (durable.Work (work.Refused refusal.StepsSpent)) h =
-        heeds (durable.Work (work.Refused refusal.StepsSpent)) (λ told. told)
+    heeds_cause fuel (work.Work slice.Failed) h =
+        heeds (work.Work slice.Failed) (λ told. told) (at_store guest p exchanges steps q h.1)
+    heeds_cause fuel (work.Work (slice.Refused refusal.StepsSpent)) h =
+        heeds (work.Work (slice.Refused refusal.StepsSpent)) (λ told. told)
         (up_to guest p exchanges steps q h.2 h.3)
-    heeds_cause fuel (durable.Work (work.Refused (refusal.Front why))) h = absurd h
-    heeds_cause fuel (durable.Disk why) h =
-        heeds (durable.Disk why) (λ told. told) (at_disk guest p exchanges steps q h.1)
-    heeds_cause fuel (durable.Store why) h =
-        heeds (durable.Store why) (λ told. told)
+    heeds_cause fuel (work.Work (slice.Refused (refusal.Front why))) h = absurd h
+    heeds_cause fuel (work.Disk why) h =
+        heeds (work.Disk why) (λ told. told) (at_disk guest p exchanges steps q h.1)
+    heeds_cause fuel (work.Store why) h =
+        heeds (work.Store why) (λ told. told)
         (at_store guest p exchanges steps q
         (stops_at_store guest p fuel exchanges steps q why h))
 
@@ -157,11 +157,11 @@ module _ {S O : Type 0} (gives : Giving S) (takes : Taking O) (fuel : ℕ) (s t 
       works.0.exchanged.released
 
   -- a slice that fails, of a worker that had failed or not
-  pub slice_heeds : (old new : ProcessValue) (why : DurableFault) (has_failed : Bool)
+  pub slice_heeds : (old new : ProcessValue) (why : WorkFault) (has_failed : Bool)
       → IsProcess old
       → (has_failed ≡ false → SlicesOnDiskInVain gives takes old fuel why new s t o p)
       → (has_failed ≡ true
-      → ◌≡◌ {A = Result Now DurableFault} (Err why) (Err (durable.Work work.Failed)))
+      → ◌≡◌ {A = Result Now WorkFault} (Err why) (Err (work.Work slice.Failed)))
       → (has_failed ≡ true → p ≡ o) → HeedsOutlet takes (IsOutletsCall why) o p
   slice_heeds old new why false is vain failed silent =
       let fails = vain refl is.guest is.process is.shows in
@@ -170,5 +170,5 @@ module _ {S O : Type 0} (gives : Giving S) (takes : Taking O) (fuel : ℕ) (s t 
   slice_heeds old new why true is vain failed silent = inl (
     subst (TakesEach takes o) (sym (silent refl)) (none_told takes o),
     λ told. subst IsOutletsCall
-        (same_fault gives takes why (durable.Work work.Failed) (failed refl)) told,
+        (same_fault gives takes why (work.Work slice.Failed) (failed refl)) told,
   )

@@ -7,7 +7,7 @@ use Rattle.sector_disk.specs.rules.Medium.{Medium}
 use Rattle.record_replay.specs.rules.Calls.{Giving, Taking}
 use Rattle.ephemeral_worker.specs.declared.now.Now.{Now}
 use Rattle.ephemeral_worker.specs.declared.now.Now.TheVariants as now
-use Rattle.worker.specs.declared.fault.DurableFault.{DurableFault}
+use Rattle.worker.specs.declared.fault.WorkFault.{WorkFault}
 use Rattle.worker.specs.declared.recover_fault.RecoverFault.{RecoverFault}
 use Rattle.worker.specs.declared.recover_fault.RecoverFault.TheVariants as recover
 use Rattle.worker.specs.rules.DurableValues.{DurableValue}
@@ -51,13 +51,13 @@ SlicesLeadOn gives takes from steps to =
 
 -- Calls from there on, whose slices of this fuel may take so many steps, have failed so.
 abbrev pub BreaksOffAt : {D S O : Type 0} → Giving S → Taking O → ℕ → ℕ → Scene D S O
-    → DurableFault → S → O → Type 0
+    → WorkFault → S → O → Type 0
 BreaksOffAt gives takes fuel all from why source outlet =
     BreaksOffFrom gives takes from.worker.process fuel all why from.source source from.outlet
     outlet
 
 -- nothing is left to be done, or there was this error
-abbrev pub left_after : Result Now DurableFault → Result (List Act) RecoverFault
+abbrev pub left_after : Result Now WorkFault → Result (List Act) RecoverFault
 left_after (Ok now) = Ok []
 left_after (Err why) = Err (recover.Worker why)
 
@@ -102,7 +102,7 @@ module _ {D S O : Type 0} (medium : D → Medium) (gives : Giving S) (takes : Ta
 
   -- One within which there was an error. No question was refused, unless it is the source's, and no
   -- line, unless it is the outlet's.
-  pub record IsBrokenRound (fuel every : ℕ) (from : Scene D S O) (why : DurableFault) (disk : D)
+  pub record IsBrokenRound (fuel every : ℕ) (from : Scene D S O) (why : WorkFault) (disk : D)
       (source : S) (outlet : O) : Type 0 where
     pub count : ℕ
     pub some : 1 ≤ count
@@ -116,7 +116,7 @@ module _ {D S O : Type 0} (medium : D → Medium) (gives : Giving S) (takes : Ta
   -- All that a worker is told at this pace is done, and the last slice has answered this; or it is
   -- done up to this error. No question was refused, unless that is the source's, and no line,
   -- unless it is the outlet's.
-  pub record LivesAtPace (fuel every : ℕ) (from : Scene D S O) (result : Result Now DurableFault)
+  pub record LivesAtPace (fuel every : ℕ) (from : Scene D S O) (result : Result Now WorkFault)
       (disk : D) (source : S) (outlet : O) : Type 0 where
     pub acts : List Act
     pub paced : IsPaced fuel every acts
@@ -128,7 +128,7 @@ module _ {D S O : Type 0} (medium : D → Medium) (gives : Giving S) (takes : Ta
         source outlet)
 
 -- a checkpoint of a worker whose slice has answered this
-abbrev pub IsRested : Now → Result Now DurableFault → DurableValue → DurableValue → Medium → Medium
+abbrev pub IsRested : Now → Result Now WorkFault → DurableValue → DurableValue → Medium → Medium
     → Type 0
 IsRested why (Ok told) old new disk disk' = (told ≡ why)
     × CheckpointCarries old (Ok tt) new disk disk' × (new.process ≡ old.process)
@@ -144,6 +144,6 @@ HasGoneOn medium takes given w disk disk' outlet outlet' failed' (Ok why) = (sou
     × LivesAtPace medium handing takes given.fuel given.every
     (scene w disk (stands_behind given w) outlet) (Ok why) disk' source' outlet'
 HasGoneOn medium takes given w disk disk' outlet outlet' failed' (Err told) = (source' : Standing)
-    × (why : DurableFault) × IsToldOnDisk why source'.fault told × (source'.failed ≡ failed')
+    × (why : WorkFault) × IsToldOnDisk why source'.fault told × (source'.failed ≡ failed')
     × LivesAtPace medium handing takes given.fuel given.every
     (scene w disk (stands_behind given w) outlet) (Err why) disk' source' outlet'

@@ -4,7 +4,7 @@ ghost use Rattle.std.specs.Prelude.{◌≡◌};
 ghost use Rattle.wasmhost_serve.specs.rules.Statuses.{status_of_line, status_of_work};
 
 use crate::lines::LineFault;
-use ephemeral_worker::WorkFault;
+use ephemeral_worker::SliceFault;
 
 /// A command line that isn't understood.
 pub const USAGE: u8 = 2;
@@ -25,14 +25,14 @@ pub const BAD_LINE: u8 = 6;
 pub const UNWRITTEN: u8 = 7;
 
 /// The exit status of what a worker's call says.
-pub(crate) fn status_of_work(fault: WorkFault) -> u8
+pub(crate) fn status_of_work(fault: SliceFault) -> u8
     ensures { result ≡ status_of_work fault }
 {
     match fault {
-        WorkFault::Refused(_) => REFUSED,
-        WorkFault::Source | WorkFault::Failed => UNREAD,
-        WorkFault::Memory => NO_MEMORY,
-        WorkFault::Outlet => UNWRITTEN,
+        SliceFault::Refused(_) => REFUSED,
+        SliceFault::Source | SliceFault::Failed => UNREAD,
+        SliceFault::Memory => NO_MEMORY,
+        SliceFault::Outlet => UNWRITTEN,
     }
 }
 

@@ -9,7 +9,7 @@ use Rattle.record_replay.specs.rules.Calls.{Giving, Taking}
 use Rattle.worker_rules.specs.Lives.{Act, Checkpoint}
 use Rattle.worker_rules.specs.Lives.{Slice}
 use Rattle.ephemeral_worker.specs.declared.now.Now.{Now}
-use Rattle.worker.specs.declared.fault.DurableFault.{DurableFault}
+use Rattle.worker.specs.declared.fault.WorkFault.{WorkFault}
 use Rattle.worker.specs.declared.recover_fault.RecoverFault.{RecoverFault}
 use Rattle.worker.specs.declared.recover_fault.RecoverFault.TheVariants as recover
 use Rattle.worker.specs.rules.Checkpoints.{CheckpointFails}
@@ -31,7 +31,7 @@ module _ {D S O : Type 0} (medium : D → Medium) (gives : Giving S) (takes : Ta
   slice_is_done fuel said source source' outlet outlet' carries =
       λ acts left last source_last outlet_last rest. sliced said carries rest
 
-  pub slice_fails : (fuel : ℕ) (why : DurableFault) (source source' : S) (outlet outlet' : O)
+  pub slice_fails : (fuel : ℕ) (why : WorkFault) (source source' : S) (outlet outlet' : O)
       → SliceCarries gives takes w fuel (Err why) w' (medium disk) (medium disk') source source'
       outlet outlet'
       → DoesAct medium gives takes (Slice fuel) w disk source outlet (Err why) w' disk' source'
@@ -44,7 +44,7 @@ module _ {D S O : Type 0} (medium : D → Medium) (gives : Giving S) (takes : Ta
   saving_is_done source outlet carries =
       λ acts left last source_last outlet_last rest. saved carries rest
 
-  pub saving_fails : (why : DurableFault) (source : S) (outlet : O)
+  pub saving_fails : (why : WorkFault) (source : S) (outlet : O)
       → CheckpointCarries w (Err why) w' (medium disk) (medium disk')
       → CheckpointFails w (medium disk) (medium disk') why
       → DoesAct medium gives takes Checkpoint w disk source outlet (Err why) w' disk' source outlet
@@ -96,7 +96,7 @@ module _ {D S O : Type 0} (medium : D → Medium) (gives : Giving S) (takes : Ta
           (does (map act_of (drop (i + 1) acts)) left last source_last outlet_last calls);
     }
 
-    pub one_fails : (why : DurableFault) → DoesAct medium gives takes (act_of (get_or acts i other))
+    pub one_fails : (why : WorkFault) → DoesAct medium gives takes (act_of (get_or acts i other))
         now disk_now source_now outlet_now (Err why) w' disk' source' outlet'
         → CallsInOrder medium gives takes (map act_of acts) w disk source outlet
         (Err (recover.Worker why)) disk' source' outlet'

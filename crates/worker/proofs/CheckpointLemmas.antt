@@ -51,8 +51,8 @@ use Rattle.worker_store.specs.rules.Calls.{StoresNext}
 use Rattle.worker_store.specs.rules.Stores.{IsStoreOf}
 use Rattle.worker_store.proofs.LawLemmas.Telling.{max_within}
 use Rattle.worker.specs.declared.running.Running.{Running}
-use Rattle.worker.specs.declared.fault.DurableFault.{DurableFault}
-use Rattle.worker.specs.rules.DurableFaults.{fault_of_store}
+use Rattle.worker.specs.declared.fault.WorkFault.{WorkFault}
+use Rattle.worker.specs.rules.WorkFaults.{fault_of_store}
 use Rattle.worker.specs.rules.DurableValues.{DurableValue, durable_of}
 use Rattle.worker.specs.rules.DurableCalls.{CheckpointCarries, CallCarries, IsFailureOf}
 use Rattle.worker.specs.rules.OpenWorkers.{IsOnDisk, IsOpenOn}
@@ -374,15 +374,15 @@ module _ {D : Type 0} (medium : D → Medium) (running : Running) (replayed : �
 
 -- it does nothing
 module _ (old : DurableValue) (failed : old.has_failed ≡ true) (disk disk' : Medium) where
-  pub failed_carries : (why : DurableFault) (new : DurableValue)
+  pub failed_carries : (why : WorkFault) (new : DurableValue)
       → CheckpointCarries old (Err why) new disk disk'
   failed_carries why new m config guest promise stage p acts opened next_act =
       let works = opened.works in absurd (cc)
 
-  pub failed_fails : (why : DurableFault) → CheckpointFails old disk disk' why
+  pub failed_fails : (why : WorkFault) → CheckpointFails old disk disk' why
   failed_fails why m config guest promise stage p opened = let works = opened.works in absurd (cc)
 
-pub failed_calls : (old : DurableValue) (why : DurableFault) (disk : Medium)
+pub failed_calls : (old : DurableValue) (why : WorkFault) (disk : Medium)
     → CheckpointCalls {T = Unit {0}} old (Err why) disk disk
 failed_calls old why disk = (
   [],
@@ -424,7 +424,7 @@ module _ {D : Type 0} (medium : D → Medium) (running : Running) (replayed : �
       IsSavedIn w (durable_of (record running { store = after_store }) replayed flag)) is_old
       (record { process = refl; replayed = refl; unfailed = refl; generation = numbered })
 
-  pub calls_err : (fault : StoreFault) (why : DurableFault)
+  pub calls_err : (fault : StoreFault) (why : WorkFault)
       → SaveCalls {T = Unit {0}} running.store running.process (Err fault) (medium disk)
       (medium disk') → CheckpointCalls {T = Unit {0}} old (Err why) (medium disk) (medium disk')
   calls_err fault why made = subst (λ (w : DurableValue).
@@ -433,9 +433,9 @@ module _ {D : Type 0} (medium : D → Medium) (running : Running) (replayed : �
 
   pub calls_ok : (done : Unit {0})
       → SaveCalls running.store running.process (Ok done) (medium disk) (medium disk')
-      → CheckpointCalls {E = DurableFault} old (Ok done) (medium disk) (medium disk')
+      → CheckpointCalls {E = WorkFault} old (Ok done) (medium disk) (medium disk')
   calls_ok done made = subst (λ (w : DurableValue).
-      CheckpointCalls {E = DurableFault} w (Ok done) (medium disk) (medium disk')) is_old
+      CheckpointCalls {E = WorkFault} w (Ok done) (medium disk) (medium disk')) is_old
       (let makes = made.2 in (made.0, made.1, record { all = makes.all; begun = makes.begun }))
 
   module _ (fit : ImagesFitAreas) (is : IsProcess running.process) (after_store : WorkerStore)
@@ -452,12 +452,12 @@ module _ {D : Type 0} (medium : D → Medium) (running : Running) (replayed : �
         (done_carries medium running replayed flag disk disk' fit is after_store leaves few works
         stores)
 
-    module _ (fault : StoreFault) (why : DurableFault) (same : why ≡ fault_of_store fault)
+    module _ (fault : StoreFault) (why : WorkFault) (same : why ≡ fault_of_store fault)
         (fails : SaveFails running.store running.process (medium disk) (medium disk') fault) where
       pub fault_keeps : CheckpointCarries old (Err why)
           (durable_of (record running { store = after_store }) replayed true) (medium disk)
           (medium disk')
-      fault_keeps = subst (λ (e : DurableFault). CheckpointCarries old (Err e)
+      fault_keeps = subst (λ (e : WorkFault). CheckpointCarries old (Err e)
           (durable_of (record running { store = after_store }) replayed true) (medium disk)
           (medium disk')) (sym same)
           (subst (λ (w : DurableValue). CheckpointCarries w (Err (fault_of_store fault))
@@ -467,7 +467,7 @@ module _ {D : Type 0} (medium : D → Medium) (running : Running) (replayed : �
           fails))
 
       pub fault_cause : CheckpointFails old (medium disk) (medium disk') why
-      fault_cause = subst (λ (e : DurableFault).
+      fault_cause = subst (λ (e : WorkFault).
           CheckpointFails old (medium disk) (medium disk') e) (sym same)
           (subst (λ (w : DurableValue).
           CheckpointFails w (medium disk) (medium disk') (fault_of_store fault)) is_old

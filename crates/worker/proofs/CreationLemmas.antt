@@ -61,13 +61,13 @@ use Rattle.worker_store.specs.rules.Stores.{IsStoreOf}
 use Rattle.worker_store.proofs.LawLemmas.Telling.{max_within}
 use Rattle.ephemeral_worker.specs.Turns.{working}
 use Rattle.ephemeral_worker.specs.rules.Values.{IsCreated}
-use Rattle.worker.specs.declared.fault.DurableFault.{DurableFault}
+use Rattle.worker.specs.declared.fault.WorkFault.{WorkFault}
 use Rattle.worker.specs.Laying.{fresh_of, worker_laid}
 use Rattle.worker.specs.rules.CallCounts.{most_creating}
 use Rattle.worker.specs.rules.DurableCreations.{places_for, IsCreatedOn, IsNotCreatedOn}
 use Rattle.worker.specs.rules.DurableCreations.{CreationCalls, CreationKeeps, OpensOn}
 use Rattle.worker.specs.rules.DurableCreations.{IsRefusedAtFirst, LeavesCreation}
-use Rattle.worker.specs.rules.DurableFaults.{fault_of_store}
+use Rattle.worker.specs.rules.WorkFaults.{fault_of_store}
 use Rattle.worker.proofs.RestoringLemmas.{few_pages}
 
 -- ---- a disk that is left alone
@@ -99,13 +99,13 @@ left_alone {D} medium m config promise old new same nothing blank =
     holds image left = inl (nothing, blank image left)
 
 pub refused_keeps : {D : Type 0} (medium : D → Medium) (bytes : List ℕ) (config : Settings)
-    (why : DurableFault) (disk : D)
+    (why : WorkFault) (disk : D)
     → CreationKeeps bytes config (Err why) (medium disk) (medium disk)
 refused_keeps medium bytes config why disk m promise inputs accepted nothing created blank =
     left_alone medium m config promise disk disk refl nothing blank
 
 -- and it was asked for nothing
-pub refused_calls : (bytes : List ℕ) (config : Settings) (why : DurableFault) (disk : Medium)
+pub refused_calls : (bytes : List ℕ) (config : Settings) (why : WorkFault) (disk : Medium)
     → CreationCalls bytes config (Err why) disk disk
 refused_calls bytes config why disk =
     (0, omega arith, no_calls (creation_calls (places_for config bytes) 0) disk)

@@ -20,7 +20,7 @@ use Rattle.worker_store.specs.rules.Readings.{GivesOr, DeniesWorker, DeniesWorke
 use Rattle.worker.specs.declared.found.Found.{Found}
 use Rattle.worker.specs.declared.recover_fault.RecoverFault.{RecoverFault}
 use Rattle.worker.specs.declared.recover_fault.RecoverFault.TheVariants.{Worker}
-use Rattle.worker.specs.rules.DurableFaults.{fault_of_store}
+use Rattle.worker.specs.rules.WorkFaults.{fault_of_store}
 use Rattle.worker.specs.rules.Recoveries.{SaysNothing, SaysNoWorker, SaysNoWorkerOr}
 use Rattle.worker.specs.rules.Recoveries.{MarksDecide}
 use Rattle.worker.specs.Findings.{IsFoundAt, IsRestoredAt}

@@ -30,10 +30,10 @@ use Rattle.ephemeral_worker.specs.rules.Refusals.{refusal_by, refusal_of}
 use Rattle.worker_store.specs.declared.fault.StoreFault.{StoreFault}
 use Rattle.worker_store.specs.declared.fault.StoreFault.TheVariants as store
 use Rattle.worker_store.specs.rules.AnyDisk.{TellsContents, TellsNewest, TellsRecords}
-use Rattle.worker.specs.declared.fault.DurableFault.TheVariants.{Work}
+use Rattle.worker.specs.declared.fault.WorkFault.TheVariants.{Work}
 use Rattle.worker.specs.declared.recover_fault.RecoverFault.{RecoverFault}
 use Rattle.worker.specs.declared.recover_fault.RecoverFault.TheVariants.{Worker}
-use Rattle.worker.specs.rules.DurableFaults.{fault_of_store}
+use Rattle.worker.specs.rules.WorkFaults.{fault_of_store}
 use Rattle.worker.specs.rules.RecoverFaults.{fault_of_restore}
 use Rattle.worker.specs.rules.ShownDisks.{HoldsModule, ShowsFault}
 use Rattle.worker.specs.FoundDisks.{IsMachineIn, IsRestoredIn, IsFoundIn}

@@ -9,7 +9,7 @@ use Rattle.record_replay.specs.rules.Calls.{Giving, Taking}
 use Rattle.worker_rules.specs.Lives.{Act}
 use Rattle.worker_rules.specs.Lives.{Creates}
 use Rattle.worker_rules.specs.Lives.Beginning.{Recovers as recovers}
-use Rattle.worker.specs.declared.fault.DurableFault.{DurableFault}
+use Rattle.worker.specs.declared.fault.WorkFault.{WorkFault}
 use Rattle.worker.specs.declared.recover_fault.RecoverFault.{RecoverFault}
 use Rattle.worker.specs.declared.recover_fault.RecoverFault.TheVariants as recover
 use Rattle.worker.specs.rules.DurableCreations.{CreationKeeps, IsNotCreatedOn}
@@ -59,7 +59,7 @@ module _ {D O : Type 0} (medium : D → Medium) (takes : Taking O) (bytes : List
         let left = some mid in
         created (Err none) (Ok w) left.0 left.1 says recovery carries keeps tt
 
-    pub opens_none : (why : DurableFault)
+    pub opens_none : (why : WorkFault)
         → CreationKeeps bytes config (Err why) (medium mid) (medium disk)
         → IsNotCreatedOn bytes config (medium mid) (medium disk) why
         → BeginsLife medium takes bytes config found outlet Creates (Err (recover.Worker why)) disk

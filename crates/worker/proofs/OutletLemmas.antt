@@ -15,13 +15,13 @@ use Rattle.record_replay.specs.rules.Replays.{Replays, ReplaysInVain}
 use Rattle.record_replay.proofs.Following.{leads_join, leads_before}
 use Rattle.worker_store.specs.declared.fault.StoreFault.{StoreFault}
 use Rattle.worker_store.specs.declared.fault.StoreFault.TheVariants as store
-use Rattle.ephemeral_worker.specs.declared.fault.WorkFault.TheVariants as work
-use Rattle.worker.specs.declared.fault.DurableFault.{DurableFault}
-use Rattle.worker.specs.declared.fault.DurableFault.TheVariants.{Work, Disk, Store}
+use Rattle.ephemeral_worker.specs.declared.fault.SliceFault.TheVariants as slice
+use Rattle.worker.specs.declared.fault.WorkFault.{WorkFault}
+use Rattle.worker.specs.declared.fault.WorkFault.TheVariants.{Work, Disk, Store}
 use Rattle.worker.specs.declared.found.Found.{Found}
 use Rattle.worker.specs.declared.recover_fault.RecoverFault.{RecoverFault}
 use Rattle.worker.specs.declared.recover_fault.RecoverFault.TheVariants as recover
-use Rattle.worker.specs.rules.DurableFaults.{fault_of_store}
+use Rattle.worker.specs.rules.WorkFaults.{fault_of_store}
 use Rattle.worker.specs.rules.DurableValues.{DurableValue}
 use Rattle.worker.specs.rules.Outlets.{WasTaken, TakesEach, RefusesLast, HeedsOutlet}
 use Rattle.worker.specs.rules.Outlets.{IsOutletFault, SaysOutletFault}
@@ -106,15 +106,15 @@ disk_is_other fault why is told =
     subst IsOutletFault is told
 
 pub found_is_other : (why : RecoverFault)
-    → (◌≡◌ {A = Result Found RecoverFault} (Err why) (Err (recover.Worker (Work work.Outlet))) → ⊥)
+    → (◌≡◌ {A = Result Found RecoverFault} (Err why) (Err (recover.Worker (Work slice.Outlet))) → ⊥)
     → IsOutletFault why → ⊥
 found_is_other recover.NotAnImage none told = told
 found_is_other recover.Diverged none told = told
-found_is_other (recover.Worker (Work work.Source)) none told = told
-found_is_other (recover.Worker (Work work.Outlet)) none told = none refl
-found_is_other (recover.Worker (Work work.Memory)) none told = told
-found_is_other (recover.Worker (Work work.Failed)) none told = told
-found_is_other (recover.Worker (Work (work.Refused why))) none told = told
+found_is_other (recover.Worker (Work slice.Source)) none told = told
+found_is_other (recover.Worker (Work slice.Outlet)) none told = none refl
+found_is_other (recover.Worker (Work slice.Memory)) none told = told
+found_is_other (recover.Worker (Work slice.Failed)) none told = told
+found_is_other (recover.Worker (Work (slice.Refused why))) none told = told
 found_is_other (recover.Worker (Disk why)) none told = told
 found_is_other (recover.Worker (Store why)) none told = told
 

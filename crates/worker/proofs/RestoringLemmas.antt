@@ -29,7 +29,7 @@ use Rattle.state_image.specs.rules.WellTyped.{IsWellTyped}
 use Rattle.worker_rules.specs.Stands.{IsNumbered}
 use Rattle.worker_store.specs.laws.Savepoints.{Savepoint}
 use Rattle.ephemeral_worker.specs.rules.Refusals.{refusal_by, refusal_of}
-use Rattle.worker.specs.declared.fault.DurableFault.TheVariants.{Work}
+use Rattle.worker.specs.declared.fault.WorkFault.TheVariants.{Work}
 use Rattle.worker.specs.declared.recover_fault.RecoverFault.{RecoverFault}
 use Rattle.worker.specs.declared.recover_fault.RecoverFault.TheVariants.{Worker}
 use Rattle.worker.specs.rules.RecoverFaults.{fault_of_restore}

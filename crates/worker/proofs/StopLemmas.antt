@@ -4,7 +4,7 @@ use Rattle.process_rules.specs.Processes.{ProcessState, Guest}
 use Rattle.record_replay.specs.rules.Calls.{Exchange}
 use Rattle.worker_store.specs.declared.fault.StoreFault.{StoreFault}
 use Rattle.worker_store.specs.declared.fault.StoreFault.TheVariants as store
-use Rattle.worker.specs.declared.fault.DurableFault.TheVariants.{Store}
+use Rattle.worker.specs.declared.fault.WorkFault.TheVariants.{Store}
 use Rattle.worker.specs.rules.DurableFailures.{StopsAtStore, IsDiskCause}
 
 -- whatever the store refuses, it stops where the store is wanted

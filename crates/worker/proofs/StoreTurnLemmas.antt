@@ -26,12 +26,12 @@ use Rattle.worker_store.specs.declared.store.WorkerStore.{WorkerStore}
 use Rattle.worker_store.specs.rules.Calls.{AppendFails, BarrierFails, CommitFails, CommitCalls}
 use Rattle.worker_store.specs.rules.Stores.{IsOfStore, begun_store, with_record}
 use Rattle.worker_store.specs.rules.Stores.{with_stored}
-use Rattle.ephemeral_worker.specs.declared.fault.WorkFault.TheVariants as work
-use Rattle.ephemeral_worker.specs.rules.Refusals.{work_fault}
-use Rattle.worker.specs.declared.fault.DurableFault.{DurableFault}
-use Rattle.worker.specs.declared.fault.DurableFault.TheVariants.{Work, Disk, Store}
+use Rattle.ephemeral_worker.specs.declared.fault.SliceFault.TheVariants as slice
+use Rattle.ephemeral_worker.specs.rules.Refusals.{slice_fault}
+use Rattle.worker.specs.declared.fault.WorkFault.{WorkFault}
+use Rattle.worker.specs.declared.fault.WorkFault.TheVariants.{Work, Disk, Store}
 use Rattle.worker.specs.rules.DurableFailures.{LacksRoom}
-use Rattle.worker.specs.rules.DurableFaults.{fault_of_store}
+use Rattle.worker.specs.rules.WorkFaults.{fault_of_store}
 use Rattle.worker.specs.rules.Savings.{HasSaveCause}
 use Rattle.worker.specs.rules.SliceCalls.{AreSliceCalls, AreLastCalls, AreBarrierCalls}
 use Rattle.worker.specs.rules.SliceCalls.{SliceCalls, none, barrier, save}
@@ -88,17 +88,17 @@ module _ (a b : WorkerStore) (d e : Medium) (one : StoreGoes a b d e) where
     both_pass =
         goes_on d e f (λ image. Unit {0}) (λ image. Unit {0}) one.passes later (λ image at. tt)
 
-    caused_since : (why : DurableFault) → HasTurnCause b e f why → HasTurnCause a d f why
+    caused_since : (why : WorkFault) → HasTurnCause b e f why → HasTurnCause a d f why
     caused_since (Disk fault) (inl lacks) =
         inl (lacked a.geometry d e one.passes one.unsynced
         (subst (λ (g : Geometry). LacksRoom g e) one.geometry lacks))
     caused_since (Disk fault) (inr failed) =
         let faults = one.passes.faults in inr (omega (arith, failed, faults))
-    caused_since (Work work.Failed) failed = λ is. failed (one.works is)
-    caused_since (Work work.Source) cause = tt
-    caused_since (Work work.Outlet) cause = tt
-    caused_since (Work work.Memory) cause = tt
-    caused_since (Work (work.Refused why)) cause = tt
+    caused_since (Work slice.Failed) failed = λ is. failed (one.works is)
+    caused_since (Work slice.Source) cause = tt
+    caused_since (Work slice.Outlet) cause = tt
+    caused_since (Work slice.Memory) cause = tt
+    caused_since (Work (slice.Refused why)) cause = tt
     caused_since (Store store.Full) cause = tt
     caused_since (Store store.TooLong) cause = tt
     caused_since (Store store.TooBig) cause = tt
@@ -125,7 +125,7 @@ module _ (a b : WorkerStore) (d e : Medium) (one : StoreGoes a b d e) where
         ∙ sym (append_assoc two.made one.made d.calls);
   }
 
-  pub stops_join : (c : WorkerStore) (why : DurableFault) (f : Medium)
+  pub stops_join : (c : WorkerStore) (why : WorkFault) (f : Medium)
       → StoreStops b c why e f → StoreStops a c why d f
   stops_join c why f two = record {
     geometry = two.geometry ∙ one.geometry;
@@ -148,7 +148,7 @@ module _ (a b : WorkerStore) (d e : Medium) (one : StoreGoes a b d e) where
   }
 
   -- it fails there, at something else
-  pub goes_stop : (why : DurableFault) → HasTurnCause a d e why → StoreStops a b why d e
+  pub goes_stop : (why : WorkFault) → HasTurnCause a d e why → StoreStops a b why d e
   goes_stop why cause = record {
     geometry = one.geometry;
     passes = one.passes;
@@ -162,14 +162,14 @@ module _ (a b : WorkerStore) (d e : Medium) (one : StoreGoes a b d e) where
     cause = cause;
   }
 
-  pub runs_join : {T : Type 0} (c : WorkerStore) (result : Result T DurableFault) (f : Medium)
+  pub runs_join : {T : Type 0} (c : WorkerStore) (result : Result T WorkFault) (f : Medium)
       → StoreRuns result b c e f → StoreRuns result a c d f
   runs_join c (Ok done) f two = goes_join c f two
   runs_join c (Err why) f two = stops_join c why f two
 
 -- a fault of the process alone
 pub process_cause : (old : WorkerStore) (disk disk' : Medium) (why : ProcessFault)
-    → HasTurnCause old disk disk' (Work (work_fault why))
+    → HasTurnCause old disk disk' (Work (slice_fault why))
 process_cause old disk disk' stop.WrongAnswer = tt
 process_cause old disk disk' stop.Memory = tt
 process_cause old disk disk' stop.StepsSpent = tt
@@ -506,14 +506,14 @@ hears_goes old new disk hears =
       calls = refl;
     }
 
-heard_cause : (old : WorkerStore) (why : DurableFault) (disk : Medium)
+heard_cause : (old : WorkerStore) (why : WorkFault) (disk : Medium)
     → HasHearingCause old why → HasTurnCause old disk disk why
 heard_cause old (Disk fault) disk cause = absurd cause
-heard_cause old (Work work.Failed) disk cause = cause
-heard_cause old (Work work.Source) disk cause = tt
-heard_cause old (Work work.Outlet) disk cause = tt
-heard_cause old (Work work.Memory) disk cause = tt
-heard_cause old (Work (work.Refused why)) disk cause = tt
+heard_cause old (Work slice.Failed) disk cause = cause
+heard_cause old (Work slice.Source) disk cause = tt
+heard_cause old (Work slice.Outlet) disk cause = tt
+heard_cause old (Work slice.Memory) disk cause = tt
+heard_cause old (Work (slice.Refused why)) disk cause = tt
 heard_cause old (Store store.Full) disk cause = tt
 heard_cause old (Store store.TooLong) disk cause = tt
 heard_cause old (Store store.TooBig) disk cause = absurd cause
@@ -523,7 +523,7 @@ heard_cause old (Store (store.Disk fault)) disk cause = cause
 heard_cause old (Store store.Memory) disk cause = cause
 heard_cause old (Store store.Failed) disk cause = cause
 
-pub hears_runs : {T : Type 0} (old new : WorkerStore) (result : Result T DurableFault)
+pub hears_runs : {T : Type 0} (old new : WorkerStore) (result : Result T WorkFault)
     (disk : Medium) → HearsOrNot result old new → StoreRuns result old new disk disk
 hears_runs old new (Ok done) disk hears = hears_goes old new disk hears
 hears_runs old new (Err why) disk hears =
@@ -565,7 +565,7 @@ append_cause old r store.Failed (inr failed) =
     λ is. (let works = is.journal_works in absurd (cc))
 
 pub taken_cause : (old : WorkerStore) (why : ProcessFault)
-    → HasHearingCause old (Work (work_fault why))
+    → HasHearingCause old (Work (slice_fault why))
 taken_cause old stop.WrongAnswer = tt
 taken_cause old stop.Memory = tt
 taken_cause old stop.StepsSpent = tt
@@ -573,6 +573,6 @@ taken_cause old stop.StepsSpent = tt
 -- ---- as contracts see it
 
 -- of a worker that had failed
-pub failed_slice_calls : (T : Type 0) (store : WorkerStore) (disk : Medium) (why : DurableFault)
+pub failed_slice_calls : (T : Type 0) (store : WorkerStore) (disk : Medium) (why : WorkFault)
     → SliceCalls {T = T} (Err why) store store disk disk
 failed_slice_calls T store disk why = ([], [], none, inl (0, 0, omega arith, refl), 0, refl)

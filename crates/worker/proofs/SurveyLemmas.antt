@@ -16,7 +16,7 @@ use Rattle.disk_layout.specs.rules.Stored.{OnlyReads}
 use Rattle.worker_rules.specs.Stands.{StandsFor}
 use Rattle.worker_store.specs.laws.Savepoints.{point_of}
 use Rattle.worker_store.proofs.LawLemmas.Points.{stands_at_its_point}
-use Rattle.worker.specs.declared.fault.DurableFault.TheVariants.{Disk}
+use Rattle.worker.specs.declared.fault.WorkFault.TheVariants.{Disk}
 use Rattle.worker.specs.declared.found.Found.{Found}
 use Rattle.worker.specs.declared.recover_fault.RecoverFault.{RecoverFault}
 use Rattle.worker.specs.declared.recover_fault.RecoverFault.TheVariants as recover

@@ -32,12 +32,12 @@ use Rattle.worker_store.specs.laws.Underway.{IsUnderWay}
 use Rattle.worker_store.specs.laws.Pieces.{IsForetold, AreDone}
 use Rattle.worker_store.specs.laws.Turns.{GoesOnFrom}
 use Rattle.ephemeral_worker.specs.declared.now.Now.{Now}
-use Rattle.ephemeral_worker.specs.declared.fault.WorkFault.TheVariants as work
-use Rattle.worker.specs.declared.fault.DurableFault.{DurableFault}
-use Rattle.worker.specs.declared.fault.DurableFault.TheVariants.{Work}
+use Rattle.ephemeral_worker.specs.declared.fault.SliceFault.TheVariants as slice
+use Rattle.worker.specs.declared.fault.WorkFault.{WorkFault}
+use Rattle.worker.specs.declared.fault.WorkFault.TheVariants.{Work}
 use Rattle.worker.specs.rules.CallCounts.{CallsForEvents}
-use Rattle.worker.specs.rules.DurableFaults.{fault_of_store}
-use Rattle.ephemeral_worker.specs.rules.Refusals.{work_fault}
+use Rattle.worker.specs.rules.WorkFaults.{fault_of_store}
+use Rattle.ephemeral_worker.specs.rules.Refusals.{slice_fault}
 use Rattle.worker.specs.declared.running.Running.{Running}
 use Rattle.worker.specs.rules.DurableValues.{durable_of}
 use Rattle.worker.specs.rules.OpenWorkers.{IsOnDisk, IsOpenOn}
@@ -130,7 +130,7 @@ pub record TurnEnds (c : Course) (promise : Promise) (stage : Stage) (reply : Re
       (durable_of w replayed false) disk'
 
 -- an error ends it
-abbrev pub TurnFails : Course → Promise → Stage → DurableFault → List Exchange → Running → Medium
+abbrev pub TurnFails : Course → Promise → Stage → WorkFault → List Exchange → Running → Medium
     → Medium → Type 0
 TurnFails c promise stage why exchanges w disk disk' = (cause : Cause) × ComesOf why cause
     × HasCauseAt why c.guest c.config w.process disk disk'
@@ -152,7 +152,7 @@ SettlesTurn takes old new disk disk' outlet outlet' = (begun : List Begun)
     → TurnGoes c promise stage (told_lines_of begun) new disk disk')
 
 -- one of the two failed
-abbrev pub SettlesInVain : {O : Type 0} → Taking O → Running → DurableFault → Running → Medium
+abbrev pub SettlesInVain : {O : Type 0} → Taking O → Running → WorkFault → Running → Medium
     → Medium → O → O → Type 0
 SettlesInVain takes old why new disk disk' outlet outlet' = (begun : List Begun)
     × Releases takes outlet begun outlet'
@@ -161,17 +161,17 @@ SettlesInVain takes old why new disk disk' outlet outlet' = (begun : List Begun)
     → TurnFails c promise stage why (told_lines_of begun) new disk disk')
 
 -- the store failed, which wants no memory and no number; or the outlet did
-abbrev pub SettlesVainly : {O : Type 0} → Taking O → ProcessValue → DurableFault → ProcessValue
+abbrev pub SettlesVainly : {O : Type 0} → Taking O → ProcessValue → WorkFault → ProcessValue
     → O → O → Type 0
 SettlesVainly takes old why new outlet outlet' =
     ((fault : StoreFault) × (why ≡ fault_of_store fault) × (fault ≢ store.Memory)
     × (fault ≢ store.TooBig) × (new ≡ old) × (outlet' ≡ outlet))
-    ⊎ ((why ≡ Work work.Outlet) × ReleasesSome takes old new outlet outlet')
+    ⊎ ((why ≡ Work slice.Outlet) × ReleasesSome takes old new outlet outlet')
 
 -- ---- what is asked
 
 -- an error of the store
-abbrev pub IsOfStoreFault : DurableFault → Type 0
+abbrev pub IsOfStoreFault : WorkFault → Type 0
 IsOfStoreFault why = (fault : StoreFault) × (why ≡ fault_of_store fault)
 
 -- there is room in the journal for any record
@@ -188,7 +188,7 @@ MakesRoom old new disk disk' =
     × StaysWithin (promise.events + 1) disk disk'
 
 -- there is none
-abbrev pub MakesNoRoom : Running → DurableFault → Running → Medium → Medium → Type 0
+abbrev pub MakesNoRoom : Running → WorkFault → Running → Medium → Medium → Type 0
 MakesNoRoom old why new disk disk' =
     (c : Course) (promise : Promise) (stage : Stage) (p : ProcessState) (kind : Kind)
     → IsAskingOn c promise stage p kind promise.events old disk
@@ -210,7 +210,7 @@ pub record TakesOnRecord (old : Running) (kind : Kind) (r : Record) (new : Runni
   pub guest_same : new.process.machine.guest ≡ old.process.machine.guest
 
 -- an answer that fits isn't kept on record
-pub record LacksRecord (old : Running) (kind : Kind) (r : Record) (why : DurableFault)
+pub record LacksRecord (old : Running) (kind : Kind) (r : Record) (why : WorkFault)
     (new : Running) : Type 0 where
   pub fits : Fits old.process.host.host.limit kind r.answer
   pub fault : StoreFault
@@ -219,40 +219,40 @@ pub record LacksRecord (old : Running) (kind : Kind) (r : Record) (why : Durable
   pub same : new.process ≡ old.process
 
 -- an answer that fits is one that the process doesn't take
-pub record IsNotTaken (old : Running) (kind : Kind) (r : Record) (why : DurableFault)
+pub record IsNotTaken (old : Running) (kind : Kind) (r : Record) (why : WorkFault)
     (new : Running) : Type 0 where
   pub fits : Fits old.process.host.host.limit kind r.answer
   pub fault : ProcessFault
   pub given : GivesAnswer old.process r.answer (Err fault) new.process
-  pub is : why ≡ Work (work_fault fault)
+  pub is : why ≡ Work (slice_fault fault)
 
 -- an answer doesn't fit
-pub record IsMisfit (old : Running) (kind : Kind) (r : Record) (why : DurableFault)
+pub record IsMisfit (old : Running) (kind : Kind) (r : Record) (why : WorkFault)
     (new : Running) : Type 0 where
   pub misfits : Fits old.process.host.host.limit kind r.answer → ⊥
-  pub is : why ≡ Work work.Source
+  pub is : why ≡ Work slice.Source
   pub same : new ≡ old
 
 -- why it isn't taken on record
-abbrev pub TakesNone : Running → Kind → Record → DurableFault → Running → Type 0
+abbrev pub TakesNone : Running → Kind → Record → WorkFault → Running → Type 0
 TakesNone old kind r why new = IsMisfit old kind r why new
     ⊎ (LacksRecord old kind r why new ⊎ IsNotTaken old kind r why new)
 
 -- what becomes of an answer
-abbrev pub HearsAnswer : Running → Kind → Record → Result Bool DurableFault → Running → Type 0
+abbrev pub HearsAnswer : Running → Kind → Record → Result Bool WorkFault → Running → Type 0
 HearsAnswer old kind r (Ok is_there) new = (is_there ≡ true) × TakesOnRecord old kind r new
 HearsAnswer old kind r (Err why) new = TakesNone old kind r why new
 
 -- what becomes of what the source says to the question before this step
-abbrev pub HearsBy : Running → Kind → ℕ → SourceSaid → Result Bool DurableFault → Running → Type 0
-HearsBy old kind step (Err e) result new = (result ≡ Err (Work work.Source)) × (new ≡ old)
+abbrev pub HearsBy : Running → Kind → ℕ → SourceSaid → Result Bool WorkFault → Running → Type 0
+HearsBy old kind step (Err e) result new = (result ≡ Err (Work slice.Source)) × (new ≡ old)
 HearsBy old kind step (Ok None) result new = (result ≡ Ok false) × (new ≡ old)
 HearsBy old kind step (Ok (Some a)) result new =
     HearsAnswer old kind (record { step = step; answer = a }) result new
 
 -- the source was asked once
 pub record Hears {S : Type 0} (gives : Giving S) (old : Running) (kind : Kind) (step : ℕ)
-    (result : Result Bool DurableFault) (new : Running) (source source' : S) : Type 0 where
+    (result : Result Bool WorkFault) (new : Running) (source source' : S) : Type 0 where
   pub said : SourceSaid
   pub asked : gives source kind said source'
   pub hears : HearsBy old kind step said result new
@@ -274,7 +274,7 @@ AsksOutside gives kind (Asks ask ∷ []) source source' =
 AsksOutside gives kind _ source source' = ⊥
 
 -- room is made, and the source is asked
-abbrev pub AsksTurn : {S : Type 0} → Giving S → Running → Kind → Result Bool DurableFault
+abbrev pub AsksTurn : {S : Type 0} → Giving S → Running → Kind → Result Bool WorkFault
     → Running → Medium → Medium → S → S → Type 0
 AsksTurn gives old kind (Ok is_there) new disk disk' source source' = (exchanges : List Exchange)
     × AsksOutside gives kind exchanges source source'
@@ -288,7 +288,7 @@ AsksTurn gives old kind (Err why) new disk disk' source source' = (exchanges : L
     → TurnFails c promise stage why exchanges new disk disk')
 
 -- the store failed, and the source wasn't asked; or it was, in vain
-abbrev pub AsksVainly : {S : Type 0} → Giving S → Running → Kind → DurableFault → Running → S → S
+abbrev pub AsksVainly : {S : Type 0} → Giving S → Running → Kind → WorkFault → Running → S → S
     → Type 0
 AsksVainly gives old kind why new source source' =
     (IsOfStoreFault why × (new.process ≡ old.process) × (source' ≡ source))
@@ -298,7 +298,7 @@ AsksVainly gives old kind why new source source' =
 -- ---- a slice
 
 -- All turns of a slice, or those so far. It is over for this reason, or fails.
-abbrev pub WorksOn : {S O : Type 0} → Giving S → Taking O → Running → ℕ → Result Now DurableFault
+abbrev pub WorksOn : {S O : Type 0} → Giving S → Taking O → Running → ℕ → Result Now WorkFault
     → Running → Medium → Medium → S → S → O → O → Type 0
 WorksOn gives takes old fuel result new disk disk' source source' outlet outlet' =
     (exchanges : List Exchange) × Exchanges gives takes source outlet exchanges source' outlet'

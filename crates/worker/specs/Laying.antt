@@ -3,8 +3,8 @@ use Rattle.std.specs.Prelude.{false, Result, Ok, Err}
 use Rattle.process.specs.rules.Values.{ProcessValue}
 use Rattle.worker_store.specs.declared.fault.StoreFault.{StoreFault}
 use Rattle.worker_store.specs.declared.store.WorkerStore.{WorkerStore}
-use Rattle.worker.specs.declared.fault.DurableFault.{DurableFault}
-use Rattle.worker.specs.rules.DurableFaults.{fault_of_store}
+use Rattle.worker.specs.declared.fault.WorkFault.{WorkFault}
+use Rattle.worker.specs.rules.WorkFaults.{fault_of_store}
 use Rattle.worker.specs.rules.DurableValues.{DurableValue}
 
 -- of this process and this store
@@ -13,6 +13,6 @@ fresh_of v store = record { process = v; store = store; replayed = 0; has_failed
 
 -- of what laying it out has answered
 abbrev pub worker_laid : ProcessValue → Result WorkerStore StoreFault
-    → Result DurableValue DurableFault
+    → Result DurableValue WorkFault
 worker_laid v (Ok store) = Ok (fresh_of v store)
 worker_laid v (Err why) = Err (fault_of_store why)

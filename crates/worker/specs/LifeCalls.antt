@@ -6,7 +6,7 @@ use Rattle.sector_disk.specs.rules.Image.{Image}
 use Rattle.sector_disk.specs.rules.Medium.{Medium}
 use Rattle.record_replay.specs.rules.Calls.{Giving, Taking}
 use Rattle.worker_rules.specs.Lives.{Act, Beginning, Recovers, Creates}
-use Rattle.worker.specs.declared.fault.DurableFault.{DurableFault}
+use Rattle.worker.specs.declared.fault.WorkFault.{WorkFault}
 use Rattle.worker.specs.declared.recover_fault.RecoverFault.{RecoverFault}
 use Rattle.worker.specs.declared.recover_fault.RecoverFault.TheVariants as recover
 use Rattle.worker.specs.rules.DurableValues.{DurableValue}
@@ -27,7 +27,7 @@ LeavesSome {D} medium = (disk : D) → (image : Image) × (medium disk).may_leav
 
 -- One act, and then any others that are done in order.
 abbrev pub DoesAct : {D S O : Type 0} → (D → Medium) → Giving S → Taking O → Act → DurableValue
-    → D → S → O → Result (Unit {0}) DurableFault → DurableValue → D → S → O → Type 0
+    → D → S → O → Result (Unit {0}) WorkFault → DurableValue → D → S → O → Type 0
 DoesAct {D} {S} {O} medium gives takes act w disk source outlet (Ok done) w' disk' source' outlet' =
     (acts : List Act) (left : Result (List Act) RecoverFault) (last : D) (source_last : S)
     (outlet_last : O)

@@ -7,11 +7,11 @@ use Rattle.worker_store.specs.declared.fault.StoreFault.{StoreFault}
 use Rattle.worker_store.specs.declared.fault.StoreFault.TheVariants as store
 use Rattle.worker_store.specs.declared.store.WorkerStore.{WorkerStore}
 use Rattle.worker_store.specs.rules.Stores.{IsOfStore, IsUnfailed}
-use Rattle.ephemeral_worker.specs.declared.fault.WorkFault.TheVariants as work
-use Rattle.worker.specs.declared.fault.DurableFault.{DurableFault}
-use Rattle.worker.specs.declared.fault.DurableFault.TheVariants.{Work, Disk, Store}
+use Rattle.ephemeral_worker.specs.declared.fault.SliceFault.TheVariants as slice
+use Rattle.worker.specs.declared.fault.WorkFault.{WorkFault}
+use Rattle.worker.specs.declared.fault.WorkFault.TheVariants.{Work, Disk, Store}
 use Rattle.worker.specs.rules.DurableFailures.{LacksRoom}
-use Rattle.worker.specs.rules.DurableFaults.{fault_of_store}
+use Rattle.worker.specs.rules.WorkFaults.{fault_of_store}
 use Rattle.worker.specs.rules.SliceCalls.{AreSliceCalls, AreLastCalls}
 use Rattle.worker.specs.rules.Unsynced.{CountsInSlice}
 
@@ -27,10 +27,10 @@ pub record StoreGoes (old new : WorkerStore) (disk disk' : Medium) : Type 0 wher
   pub calls : disk'.calls ≡ made ++ disk.calls
 
 -- why it has failed
-abbrev pub HasTurnCause : WorkerStore → Medium → Medium → DurableFault → Type 0
+abbrev pub HasTurnCause : WorkerStore → Medium → Medium → WorkFault → Type 0
 HasTurnCause old disk disk' (Disk fault) =
     LacksRoom old.geometry disk ⊎ (disk.faults < disk'.faults)
-HasTurnCause old disk disk' (Work work.Failed) = IsUnfailed old → ⊥
+HasTurnCause old disk disk' (Work slice.Failed) = IsUnfailed old → ⊥
 HasTurnCause old disk disk' (Work other) = Unit {0}
 HasTurnCause old disk disk' (Store store.Full) = Unit {0}
 HasTurnCause old disk disk' (Store store.TooLong) = Unit {0}
@@ -38,7 +38,7 @@ HasTurnCause old disk disk' (Store store.TooBig) = Unit {0}
 HasTurnCause old disk disk' (Store other) = ⊥
 
 -- it has failed: behind these calls of the disk others were begun
-pub record StoreStops (old new : WorkerStore) (why : DurableFault) (disk disk' : Medium) : Type 0
+pub record StoreStops (old new : WorkerStore) (why : WorkFault) (disk disk' : Medium) : Type 0
   where
     pub geometry : new.geometry ≡ old.geometry
     pub passes : Passes disk disk' (λ _. Unit {0})
@@ -52,7 +52,7 @@ pub record StoreStops (old new : WorkerStore) (why : DurableFault) (disk disk' :
     pub cause : HasTurnCause old disk disk' why
 
 -- one of the two
-abbrev pub StoreRuns : {T : Type 0} → Result T DurableFault → WorkerStore → WorkerStore → Medium
+abbrev pub StoreRuns : {T : Type 0} → Result T WorkFault → WorkerStore → WorkerStore → Medium
     → Medium → Type 0
 StoreRuns (Ok done) old new disk disk' = StoreGoes old new disk disk'
 StoreRuns (Err why) old new disk disk' = StoreStops old new why disk disk'
@@ -64,9 +64,9 @@ StoreSaves (Ok done) old new disk disk' = StoreGoes old new disk disk'
 StoreSaves (Err fault) old new disk disk' = StoreStops old new (fault_of_store fault) disk disk'
 
 -- why an answer isn't kept, for which the disk isn't asked
-abbrev pub HasHearingCause : WorkerStore → DurableFault → Type 0
+abbrev pub HasHearingCause : WorkerStore → WorkFault → Type 0
 HasHearingCause old (Disk fault) = ⊥
-HasHearingCause old (Work work.Failed) = IsUnfailed old → ⊥
+HasHearingCause old (Work slice.Failed) = IsUnfailed old → ⊥
 HasHearingCause old (Work other) = Unit {0}
 HasHearingCause old (Store store.Full) = Unit {0}
 HasHearingCause old (Store store.TooLong) = Unit {0}
@@ -78,12 +78,12 @@ pub record StoreHears (old new : WorkerStore) : Type 0 where
   pub works : IsUnfailed old → IsUnfailed new
 
 -- it isn't
-pub record StoreHearsNone (old new : WorkerStore) (why : DurableFault) : Type 0 where
+pub record StoreHearsNone (old new : WorkerStore) (why : WorkFault) : Type 0 where
   pub stays : IsOfStore old new
   pub cause : HasHearingCause old why
 
 -- one of the two
-abbrev pub HearsOrNot : {T : Type 0} → Result T DurableFault → WorkerStore → WorkerStore → Type 0
+abbrev pub HearsOrNot : {T : Type 0} → Result T WorkFault → WorkerStore → WorkerStore → Type 0
 HearsOrNot (Ok done) old new = StoreHears old new
 HearsOrNot (Err why) old new = StoreHearsNone old new why
 
@@ -95,7 +95,7 @@ owed sectors [] = 0
 owed sectors (byte ∷ bytes) = sectors
 
 -- one takes no more than that, and behind it none is owed
-abbrev pub PaysCalls : {T : Type 0} → Result T DurableFault → WorkerStore → WorkerStore → Medium
+abbrev pub PaysCalls : {T : Type 0} → Result T WorkFault → WorkerStore → WorkerStore → Medium
     → Medium → Type 0
 PaysCalls (Ok done) old new disk disk' =
     disk'.counted + owed disk.sectors new.journal.kept

@@ -3,7 +3,7 @@ pub mod Checkpoints
 pub mod DurableCalls
 pub mod DurableCreations
 pub mod DurableFailures
-pub mod DurableFaults
+pub mod WorkFaults
 pub mod DurableValues
 pub mod LifeWords
 pub mod OpenWorkers

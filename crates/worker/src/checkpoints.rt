@@ -1,9 +1,9 @@
 //! A worker's process, saved at its own wish.
 
 use crate::durable::Worker;
-use crate::fault::DurableFault;
+use crate::fault::WorkFault;
 use crate::saving::{is_process, save};
-use ephemeral_worker::WorkFault;
+use ephemeral_worker::SliceFault;
 use sector_disk::Disk;
 use worker_store::laws::images_fit_areas;
 
@@ -19,7 +19,7 @@ impl Worker {
 
     /// Puts all answers on the disk, and then the process, as a snapshot of the next generation.
     /// What the guest does next is the same with it or without.
-    pub fn checkpoint<D: Disk>(&mut self, disk: &mut D) -> Result<(), DurableFault>
+    pub fn checkpoint<D: Disk>(&mut self, disk: &mut D) -> Result<(), WorkFault>
         requires { total_sectors self.old.store.geometry ≤ (D.medium disk.old).sectors }
 
         // Whatever was promised is kept, by Ok or by any error; once it has answered Ok, also
@@ -45,7 +45,7 @@ impl Worker {
         ensures on_any_disk { IfErr result (λ e.
             HasCheckpointCause self.old (D.medium disk.old) (D.medium disk.new) e) }
         ensures refused { self.old.has_failed ≡ true
-            → (result ≡ Err (DurableFault.Work WorkFault.Failed)) × (self.new ≡ self.old)
+            → (result ≡ Err (WorkFault.Work SliceFault.Failed)) × (self.new ≡ self.old)
             × (disk.new ≡ disk.old) }
         ensures room { total_sectors self.new.store.geometry ≤ (D.medium disk.new).sectors }
         ensures asks { CallsUpTo (most_saving (D.medium disk.old).sectors) (D.medium disk.old)
@@ -57,7 +57,7 @@ impl Worker {
             (D.medium disk.new) }
     {
         if self.has_failed {
-            return Err(DurableFault::Work(WorkFault::Failed));
+            return Err(WorkFault::Work(SliceFault::Failed));
         }
         images_fit_areas();
         is_process(&self.running.process);
@@ -65,7 +65,7 @@ impl Worker {
         let saved = save(running.alloc, disk, &mut running.store, &running.process);
         if let Err(fault) = saved {
             self.has_failed = true;
-            return Err(DurableFault::from(fault));
+            return Err(WorkFault::from(fault));
         }
         Ok(())
     }

@@ -13,10 +13,10 @@ ghost use Rattle.worker.specs.Laying.{worker_laid};
 
 use crate::copying::copy_config;
 use crate::durable::Worker;
-use crate::fault::DurableFault;
+use crate::fault::WorkFault;
 use crate::running::Running;
 use crate::saving::is_process;
-use ephemeral_worker::WorkFault;
+use ephemeral_worker::SliceFault;
 use machine_loader::read;
 use process::Process;
 use sector_disk::Disk;
@@ -26,20 +26,20 @@ use worker_store::laws::images_fit_areas;
 use worker_store::{StoreFault, WorkerStore, lay_out};
 
 /// The process of the module that the bytes spell, as it begins. It has a configuration of its own.
-fn begin(alloc: Global, wasm: &[u8], config: &Config) -> Result<Process, WorkFault>
+fn begin(alloc: Global, wasm: &[u8], config: &Config) -> Result<Process, SliceFault>
     ensures begun { IfOk result (λ process. IsCreated wasm.now config.now (working process)) }
     ensures within { IfOk result (λ _. AreSettingsWithinLimits config.now) }
     ensures texts { IfOk result (λ _. IsOfBytes (host_of config.now)) }
     ensures refused { IfErr result (IsRefusedByWorker config.now.pages wasm.now) }
 {
     let Ok(copy) = copy_config(alloc, config) else {
-        return Err(WorkFault::Memory);
+        return Err(SliceFault::Memory);
     };
     start(alloc, wasm, copy)
 }
 
 /// The process of the module that the bytes spell, as it begins.
-fn start(alloc: Global, wasm: &[u8], config: Config) -> Result<Process, WorkFault>
+fn start(alloc: Global, wasm: &[u8], config: Config) -> Result<Process, SliceFault>
     ensures begun { IfOk result (λ process. IsCreated wasm.now config (working process)) }
     ensures refused { IfErr result (IsRefusedByWorker config.pages wasm.now) }
 {
@@ -53,7 +53,7 @@ fn worker_of(
     alloc: Global,
     process: Process,
     laid: Result<WorkerStore, StoreFault>,
-) -> Result<Worker, DurableFault>
+) -> Result<Worker, WorkFault>
     requires none_waits { waiting_in process ≡ [] }
     requires works { IfOk laid (λ store. IsUnfailed store) }
     ensures { result ≡ worker_laid process laid }
@@ -68,7 +68,7 @@ fn worker_of(
             replayed: 0,
             has_failed: false,
         }),
-        Err(fault) => Err(DurableFault::from(fault)),
+        Err(fault) => Err(WorkFault::from(fault)),
     }
 }
 
@@ -89,7 +89,7 @@ impl Worker {
         disk: &mut D,
         wasm: &[u8],
         config: &Config,
-    ) -> Result<Worker, DurableFault>
+    ) -> Result<Worker, WorkFault>
         ensures created { IfOk result (λ w. IsCreatedOn wasm.now config.now w
             (D.medium disk.new)) }
         ensures refused { IfErr result (λ why. IsNotCreatedOn wasm.now config.now

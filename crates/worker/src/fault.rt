@@ -1,12 +1,12 @@
 //! Why a call of a worker on its disk fails.
 
 ghost use Rattle.std.specs.Prelude.{◌≡◌};
-ghost use Rattle.worker.specs.declared.fault.DurableFault.TheVariants.{Work};
-ghost use Rattle.ephemeral_worker.specs.declared.fault.WorkFault.TheVariants as work;
-ghost use Rattle.ephemeral_worker.specs.rules.Refusals.{work_fault};
-ghost use Rattle.worker.specs.rules.DurableFaults.{fault_of_store};
+ghost use Rattle.worker.specs.declared.fault.WorkFault.TheVariants.{Work};
+ghost use Rattle.ephemeral_worker.specs.declared.fault.SliceFault.TheVariants as slice;
+ghost use Rattle.ephemeral_worker.specs.rules.Refusals.{slice_fault};
+ghost use Rattle.worker.specs.rules.WorkFaults.{fault_of_store};
 
-use ephemeral_worker::WorkFault;
+use ephemeral_worker::SliceFault;
 use process::ProcessFault;
 use record_replay::OutletFault;
 use sector_disk::DiskFault;
@@ -15,9 +15,9 @@ use worker_store::StoreFault;
 
 /// What a worker without a disk says, what its disk says, or what the store refuses.
 #[derive(Clone, Copy, Debug, PartialEq, Eq, Error)]
-pub enum DurableFault {
+pub enum WorkFault {
     #[error("{0}")]
-    Work(WorkFault),
+    Work(SliceFault),
     #[error("N1 Disk")]
     Disk(DiskFault),
     /// Neither want of memory nor a fault of the disk.
@@ -25,39 +25,39 @@ pub enum DurableFault {
     Store(StoreFault),
 }
 
-impl From<WorkFault> for DurableFault {
+impl From<SliceFault> for WorkFault {
     ghost from_gives = { λ fault e. e ≡ Work fault };
 
-    fn from(fault: WorkFault) -> DurableFault {
-        DurableFault::Work(fault)
+    fn from(fault: SliceFault) -> WorkFault {
+        WorkFault::Work(fault)
     }
 }
 
-impl From<ProcessFault> for DurableFault {
-    ghost from_gives = { λ fault e. e ≡ Work (work_fault fault) };
+impl From<ProcessFault> for WorkFault {
+    ghost from_gives = { λ fault e. e ≡ Work (slice_fault fault) };
 
-    fn from(fault: ProcessFault) -> DurableFault {
-        DurableFault::Work(WorkFault::from(fault))
+    fn from(fault: ProcessFault) -> WorkFault {
+        WorkFault::Work(SliceFault::from(fault))
     }
 }
 
-impl From<OutletFault> for DurableFault {
-    ghost from_gives = { λ _ e. e ≡ Work work.Outlet };
+impl From<OutletFault> for WorkFault {
+    ghost from_gives = { λ _ e. e ≡ Work slice.Outlet };
 
-    fn from(_fault: OutletFault) -> DurableFault {
-        DurableFault::Work(WorkFault::Outlet)
+    fn from(_fault: OutletFault) -> WorkFault {
+        WorkFault::Work(SliceFault::Outlet)
     }
 }
 
-impl From<StoreFault> for DurableFault {
+impl From<StoreFault> for WorkFault {
     ghost from_gives = { λ fault e. e ≡ fault_of_store fault };
 
-    fn from(fault: StoreFault) -> DurableFault {
+    fn from(fault: StoreFault) -> WorkFault {
         match fault {
-            StoreFault::Disk(fault) => DurableFault::Disk(fault),
-            StoreFault::Memory => DurableFault::Work(WorkFault::Memory),
-            StoreFault::Failed => DurableFault::Work(WorkFault::Failed),
-            other => DurableFault::Store(other),
+            StoreFault::Disk(fault) => WorkFault::Disk(fault),
+            StoreFault::Memory => WorkFault::Work(SliceFault::Memory),
+            StoreFault::Failed => WorkFault::Work(SliceFault::Failed),
+            other => WorkFault::Store(other),
         }
     }
 }

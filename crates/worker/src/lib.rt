@@ -71,7 +71,7 @@
 //! `SlicesOnDiskInVain`, `IsDiskCause`, `HasSliceCause` (`DurableFailures.antt`); `SliceCalls`
 //! (`SliceCalls.antt`); `CheckpointCalls`, `CheckpointFails`, `HasCheckpointCause`
 //! (`Checkpoints.antt`); `CountsInSlice`, `CountsInRecovery` (`Unsynced.antt`); `fault_of_store`
-//! (`DurableFaults.antt`); `fault_of_restore`, `fault_of_replay` (`RecoverFaults.antt`);
+//! (`WorkFaults.antt`); `fault_of_restore`, `fault_of_replay` (`RecoverFaults.antt`);
 //! `most_calls`, `CallsForEvents` (`CallCounts.antt`); `inputs_of` (`Planned.antt`), `TellsLives`
 //! (`StoryDisks.antt`). They speak in the words of `worker_rules` and `worker_store`.
 //!
@@ -104,8 +104,8 @@ mod surveying;
 mod turns;
 
 pub use durable::Worker;
-pub use ephemeral_worker::WorkFault;
-pub use fault::DurableFault;
+pub use ephemeral_worker::SliceFault;
+pub use fault::WorkFault;
 pub use recover_fault::RecoverFault;
 pub use running::Running;
 pub use surveyed::Survey;

@@ -2,13 +2,13 @@
 
 ghost use Rattle.std.specs.Prelude.{◌≡◌};
 ghost use Rattle.ephemeral_worker.specs.rules.Refusals.{refusal_of};
-ghost use Rattle.worker.specs.declared.fault.DurableFault.TheVariants as durable;
+ghost use Rattle.worker.specs.declared.fault.WorkFault.TheVariants as work;
 ghost use Rattle.worker.specs.declared.recover_fault.RecoverFault.TheVariants.{Worker};
-ghost use Rattle.worker.specs.rules.DurableFaults.{fault_of_store};
+ghost use Rattle.worker.specs.rules.WorkFaults.{fault_of_store};
 ghost use Rattle.worker.specs.rules.RecoverFaults.{fault_of_restore, fault_of_replay};
 
-use crate::fault::DurableFault;
-use ephemeral_worker::WorkFault;
+use crate::fault::WorkFault;
+use ephemeral_worker::SliceFault;
 use machine_loader::FrontFault;
 use record_replay::ReplayFault;
 use sector_disk::DiskFault;
@@ -20,7 +20,7 @@ use worker_store::StoreFault;
 #[derive(Clone, Copy, Debug, PartialEq, Eq, Error)]
 pub enum RecoverFault {
     #[error("{0}")]
-    Worker(DurableFault),
+    Worker(WorkFault),
     /// The bytes of the newest snapshot are the image of no process of this module.
     #[error("I1 NotAnImage")]
     NotAnImage,
@@ -30,10 +30,10 @@ pub enum RecoverFault {
 }
 
 impl From<DiskFault> for RecoverFault {
-    ghost from_gives = { λ fault e. e ≡ Worker (durable.Disk fault) };
+    ghost from_gives = { λ fault e. e ≡ Worker (work.Disk fault) };
 
     fn from(fault: DiskFault) -> RecoverFault {
-        RecoverFault::Worker(DurableFault::Disk(fault))
+        RecoverFault::Worker(WorkFault::Disk(fault))
     }
 }
 
@@ -41,15 +41,15 @@ impl From<StoreFault> for RecoverFault {
     ghost from_gives = { λ fault e. e ≡ Worker (fault_of_store fault) };
 
     fn from(fault: StoreFault) -> RecoverFault {
-        RecoverFault::Worker(DurableFault::from(fault))
+        RecoverFault::Worker(WorkFault::from(fault))
     }
 }
 
 impl From<FrontFault> for RecoverFault {
-    ghost from_gives = { λ fault e. e ≡ Worker (durable.Work (refusal_of fault)) };
+    ghost from_gives = { λ fault e. e ≡ Worker (work.Work (refusal_of fault)) };
 
     fn from(fault: FrontFault) -> RecoverFault {
-        RecoverFault::Worker(DurableFault::Work(WorkFault::from(fault)))
+        RecoverFault::Worker(WorkFault::Work(SliceFault::from(fault)))
     }
 }
 
@@ -59,7 +59,7 @@ impl From<RestoreFault> for RecoverFault {
     fn from(fault: RestoreFault) -> RecoverFault {
         match fault {
             RestoreFault::NotAnImage => RecoverFault::NotAnImage,
-            RestoreFault::Memory => RecoverFault::Worker(DurableFault::Work(WorkFault::Memory)),
+            RestoreFault::Memory => RecoverFault::Worker(WorkFault::Work(SliceFault::Memory)),
         }
     }
 }
@@ -70,8 +70,8 @@ impl From<ReplayFault> for RecoverFault {
     fn from(fault: ReplayFault) -> RecoverFault {
         match fault {
             ReplayFault::Diverged => RecoverFault::Diverged,
-            ReplayFault::Memory => RecoverFault::Worker(DurableFault::Work(WorkFault::Memory)),
-            ReplayFault::Outlet => RecoverFault::Worker(DurableFault::Work(WorkFault::Outlet)),
+            ReplayFault::Memory => RecoverFault::Worker(WorkFault::Work(SliceFault::Memory)),
+            ReplayFault::Outlet => RecoverFault::Worker(WorkFault::Work(SliceFault::Outlet)),
         }
     }
 }

@@ -6,7 +6,7 @@ ghost use Rattle.disk_layout.specs.rules.Places.{total_sectors};
 ghost use Rattle.worker.specs.Revivals.{OpensNext, OpensAgain, RevivesFound};
 
 use crate::durable::Worker;
-use crate::fault::DurableFault;
+use crate::fault::WorkFault;
 use crate::finding::find;
 use crate::found::Found;
 use crate::recover_fault::RecoverFault;
@@ -150,7 +150,7 @@ fn open_next<D: Disk>(
         (D.medium disk.new) }
 {
     let Some(next) = generation.checked_add(1) else {
-        return Err(RecoverFault::Worker(DurableFault::Store(StoreFault::TooBig)));
+        return Err(RecoverFault::Worker(WorkFault::Store(StoreFault::TooBig)));
     };
     match WorkerStore::reopen(alloc, disk, geometry, next, process) {
         Ok(store) => Ok(store),

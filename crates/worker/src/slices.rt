@@ -10,9 +10,9 @@ ghost use Rattle.worker.specs.StoreTurns.{StoreRuns};
 ghost use Rattle.worker.specs.rules.DurableFailures.{SlicesOnDiskInVain};
 
 use crate::durable::Worker;
-use crate::fault::DurableFault;
+use crate::fault::WorkFault;
 use crate::running::Running;
-use ephemeral_worker::{Now, WorkFault};
+use ephemeral_worker::{Now, SliceFault};
 use process::Stop;
 use record_replay::{Outlet, Source};
 use sector_disk::Disk;
@@ -26,7 +26,7 @@ impl Running {
         fuel: u64,
         source: &mut S,
         outlet: &mut O,
-    ) -> Result<Now, DurableFault>
+    ) -> Result<Now, WorkFault>
         requires none_waits { waiting_in self.old.process ≡ [] }
         requires sectors { total_sectors self.old.store.geometry ≤ (D.medium disk.old).sectors }
         ensures done { IfOk result (λ now. Slices S.gives O.takes (working self.old.process) fuel
@@ -75,7 +75,7 @@ impl Worker {
         fuel: u64,
         source: &mut S,
         outlet: &mut O,
-    ) -> Result<Now, DurableFault>
+    ) -> Result<Now, WorkFault>
         requires { total_sectors self.old.store.geometry ≤ (D.medium disk.old).sectors }
 
         // It runs as a worker does that has no disk.
@@ -98,7 +98,7 @@ impl Worker {
             → IfErr result (λ why. SlicesOnDiskInVain S.gives O.takes self.old.process fuel why
             self.new.process source.old source.new outlet.old outlet.new) }
         ensures refused { self.old.has_failed ≡ true
-            → (result ≡ Err (DurableFault.Work WorkFault.Failed)) × (self.new ≡ self.old)
+            → (result ≡ Err (WorkFault.Work SliceFault.Failed)) × (self.new ≡ self.old)
             × (disk.new ≡ disk.old) × (source.new ≡ source.old) × (outlet.new ≡ outlet.old) }
 
         // Whatever stands on the disk, a fault of the disk has its cause, and `Failed` too.
@@ -112,7 +112,7 @@ impl Worker {
             (D.medium disk.new) }
     {
         if self.has_failed {
-            return Err(DurableFault::Work(WorkFault::Failed));
+            return Err(WorkFault::Work(SliceFault::Failed));
         }
         match self.running.work(disk, fuel, source, outlet) {
             Ok(now) => Ok(now),

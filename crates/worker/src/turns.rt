@@ -14,11 +14,11 @@ ghost use Rattle.worker.specs.DurableTurns.{SettlesInVain, TakesNone, TakesOnRec
 ghost use Rattle.worker.specs.rules.CallCounts.{most_saving};
 ghost use Rattle.worker.specs.StoreTurns.{HearsOrNot, PaysCalls, StoreRuns};
 
-use crate::fault::DurableFault;
+use crate::fault::WorkFault;
 use crate::running::Running;
 use crate::saving::save;
 use disk_layout::{LONGEST_PAYLOAD, RECORD_HEAD_BYTES, Record};
-use ephemeral_worker::WorkFault;
+use ephemeral_worker::SliceFault;
 use record_replay::{Outlet, Source, release_waiting};
 use sector_disk::Disk;
 use wasi_abi::{Kind, NUMBERS_END, fits};
@@ -33,7 +33,7 @@ impl Running {
         &mut self,
         disk: &mut D,
         outlet: &mut O,
-    ) -> Result<(), DurableFault>
+    ) -> Result<(), WorkFault>
         requires { total_sectors self.old.store.geometry ≤ (D.medium disk.old).sectors }
         ensures all { OnOk result
             (ReleasesAll O.takes self.old.process self.new.process outlet.old outlet.new) }
@@ -62,7 +62,7 @@ impl Running {
         kind: Kind,
         disk: &mut D,
         source: &mut S,
-    ) -> Result<bool, DurableFault>
+    ) -> Result<bool, WorkFault>
         requires { total_sectors self.old.store.geometry ≤ (D.medium disk.old).sectors }
         ensures once { IfOk result (λ is_there. AsksOnce S.gives kind self.old.process
             (Ok is_there) self.new.process source.old source.new) }
@@ -84,7 +84,7 @@ impl Running {
     }
 
     /// Saves the process, where the journal may be too full for the next record.
-    fn make_room<D: Disk>(&mut self, disk: &mut D) -> Result<(), DurableFault>
+    fn make_room<D: Disk>(&mut self, disk: &mut D) -> Result<(), WorkFault>
         requires sectors { total_sectors self.old.store.geometry ≤ (D.medium disk.old).sectors }
         requires shown { IsProcess self.old.process }
         ensures same { self.new.process ≡ self.old.process }
@@ -109,19 +109,14 @@ impl Running {
     }
 
     /// Asks the source once. Its answer would be taken by this step.
-    fn hear<S: Source>(
-        &mut self,
-        kind: Kind,
-        step: u64,
-        source: &mut S,
-    ) -> Result<bool, DurableFault>
+    fn hear<S: Source>(&mut self, kind: Kind, step: u64, source: &mut S) -> Result<bool, WorkFault>
         ensures hears { Hears S.gives self.old kind step result self.new source.old source.new }
         ensures released { self.new.process.host.released ≡ self.old.process.host.released }
         ensures kept { HearsOrNot result self.old.store self.new.store }
         ensures places { self.new.store.geometry ≡ self.old.store.geometry }
     {
         match source.answer(kind) {
-            Err(_) => Err(DurableFault::Work(WorkFault::Source)),
+            Err(_) => Err(WorkFault::Work(SliceFault::Source)),
             Ok(None) => Ok(false),
             Ok(Some(answer)) => match self.keep(kind, Record { step, answer }) {
                 Ok(()) => Ok(true),
@@ -131,7 +126,7 @@ impl Running {
     }
 
     /// Keeps an answer that fits on record, and gives it to the process.
-    fn keep(&mut self, kind: Kind, entry: Record) -> Result<(), DurableFault>
+    fn keep(&mut self, kind: Kind, entry: Record) -> Result<(), WorkFault>
         ensures taken { OnOk result (TakesOnRecord self.old kind entry self.new) }
         ensures not_taken { IfErr result (λ why. TakesNone self.old kind entry why self.new) }
         ensures released { self.new.process.host.released ≡ self.old.process.host.released }
@@ -140,7 +135,7 @@ impl Running {
     {
         let does_fit = fits(self.process.host().limit(), kind, &entry.answer);
         if !does_fit {
-            return Err(DurableFault::Work(WorkFault::Source));
+            return Err(WorkFault::Work(SliceFault::Source));
         }
         self.store.append(&entry)?;
         self.process.give(entry.answer)?;

@@ -11,7 +11,7 @@ use std::alloc::Global;
 use wasi_abi::Answer;
 use wasm_syntax::Row;
 use worker::story::{LifeEnd, LifeReport, PlannedLife, Report};
-use worker::{DurableFault, RecoverFault, WorkFault};
+use worker::{RecoverFault, SliceFault, WorkFault};
 
 /// The last call of the disk with which `echo` is created, behind two of the recovery that found
 /// no worker: 72 of zeros, contents and syncs, 129 of the image, and five behind it.
@@ -206,7 +206,7 @@ static TALES: [Tale; 8] = [
         told: &[
             Told {
                 opened: [1, 0, 0, 0],
-                ended: LifeEnd::Failed(RecoverFault::Worker(DurableFault::Work(WorkFault::Outlet))),
+                ended: LifeEnd::Failed(RecoverFault::Worker(WorkFault::Work(SliceFault::Outlet))),
                 line: b"hello",
             },
             AGAIN,
@@ -268,7 +268,7 @@ fn are_shut(alloc: Global, wasm: &[u8]) -> Result<bool, Halt> {
 static MISTOLD: [Told; 2] = [
     Told {
         opened: [1, 0, 0, 0],
-        ended: LifeEnd::Failed(RecoverFault::Worker(DurableFault::Work(WorkFault::Source))),
+        ended: LifeEnd::Failed(RecoverFault::Worker(WorkFault::Work(SliceFault::Source))),
         line: b"",
     },
     Told {
@@ -294,7 +294,7 @@ fn is_ended_by_a_time(alloc: Global) -> Result<bool, Halt> {
 static SAVED_IN_VAIN: [Told; 2] = [
     Told {
         opened: [1, 0, 0, 0],
-        ended: LifeEnd::Failed(RecoverFault::Worker(DurableFault::Disk(DiskFault::Io))),
+        ended: LifeEnd::Failed(RecoverFault::Worker(WorkFault::Disk(DiskFault::Io))),
         line: b"",
     },
     Told {

@@ -6,12 +6,12 @@ use crate::stories::lives::{AGAIN, CREATED, FIRST, Plan, TELLS, Told, are_told_s
 use sector_disk::DiskFault;
 use std::alloc::Global;
 use worker::story::{LifeEnd, LifeReport, Report};
-use worker::{DurableFault, RecoverFault, WorkFault};
+use worker::{RecoverFault, SliceFault, WorkFault};
 
 /// What is told of lives that want memory, for themselves or for their disk.
 static STARVED: [LifeEnd; 2] = [
-    LifeEnd::Failed(RecoverFault::Worker(DurableFault::Work(WorkFault::Memory))),
-    LifeEnd::Failed(RecoverFault::Worker(DurableFault::Disk(DiskFault::Memory))),
+    LifeEnd::Failed(RecoverFault::Worker(WorkFault::Work(SliceFault::Memory))),
+    LifeEnd::Failed(RecoverFault::Worker(WorkFault::Disk(DiskFault::Memory))),
 ];
 
 /// Whether a life ended by want of memory.

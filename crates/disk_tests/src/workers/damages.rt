@@ -6,7 +6,7 @@ use crate::workers::working::{Stand, create, open};
 use disk_layout::LayoutFault;
 use sector_disk::{Disk, DiskFault, MemDisk};
 use std::alloc::Global;
-use worker::{DurableFault, RecoverFault, StoreFault};
+use worker::{RecoverFault, StoreFault, WorkFault};
 
 /// Bytes of a disk, from a place of a sector on.
 struct Piece {
@@ -31,13 +31,13 @@ const FRESH: Stand = Stand {
     replayed: 0,
 };
 
-const VERSION: Halt = Halt::Work(DurableFault::Store(StoreFault::Layout(LayoutFault::Version)));
+const VERSION: Halt = Halt::Work(WorkFault::Store(StoreFault::Layout(LayoutFault::Version)));
 
-const TOO_SMALL: Halt = Halt::Work(DurableFault::Store(StoreFault::Layout(LayoutFault::TooSmall)));
+const TOO_SMALL: Halt = Halt::Work(WorkFault::Store(StoreFault::Layout(LayoutFault::TooSmall)));
 
-const FIELDS: Halt = Halt::Work(DurableFault::Store(StoreFault::Layout(LayoutFault::Damaged)));
+const FIELDS: Halt = Halt::Work(WorkFault::Store(StoreFault::Layout(LayoutFault::Damaged)));
 
-const SNAPSHOT: Halt = Halt::Work(DurableFault::Store(StoreFault::Damaged));
+const SNAPSHOT: Halt = Halt::Work(WorkFault::Store(StoreFault::Damaged));
 
 const NO_IMAGE: Halt = Halt::Recovery(RecoverFault::NotAnImage);
 

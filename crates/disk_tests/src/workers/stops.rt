@@ -10,18 +10,18 @@ use crate::workers::working::{Stand, Work, are_all_told, create, open, was_stopp
 use record_replay::{AnswerList, LineList};
 use sector_disk::{Disk, DiskFault, FaultDisk, MemDisk, Place};
 use std::alloc::Global;
-use worker::{DurableFault, WorkFault, Worker};
+use worker::{SliceFault, WorkFault, Worker};
 
-const CUT: Halt = Halt::Work(DurableFault::Disk(DiskFault::Cut));
+const CUT: Halt = Halt::Work(WorkFault::Disk(DiskFault::Cut));
 
 /// The first checkpoint of a fresh worker makes 129 reads, 3 writes and 2 syncs. This is the last.
 const HEAD_SYNC: u64 = 134;
 
 /// What two checkpoints and a slice then say.
-static SAID: [Option<DurableFault>; 3] = [
-    Some(DurableFault::Disk(DiskFault::Io)),
-    Some(DurableFault::Work(WorkFault::Failed)),
-    Some(DurableFault::Work(WorkFault::Failed)),
+static SAID: [Option<WorkFault>; 3] = [
+    Some(WorkFault::Disk(DiskFault::Io)),
+    Some(WorkFault::Work(SliceFault::Failed)),
+    Some(WorkFault::Work(SliceFault::Failed)),
 ];
 
 /// Generation 2 was found, and nothing was done yet.
@@ -40,7 +40,7 @@ fn count_of(disk: &FaultDisk<MemDisk>) -> u64 {
 }
 
 /// What two checkpoints and a slice say, one after another.
-fn say_three<D: Disk>(alloc: Global, worker: &mut Worker, disk: &mut D) -> [Option<DurableFault>; 3]
+fn say_three<D: Disk>(alloc: Global, worker: &mut Worker, disk: &mut D) -> [Option<WorkFault>; 3]
     requires { total_sectors worker.old.store.geometry ≤ (D.medium disk.old).sectors }
 {
     let mut source = AnswerList::new(Vec::new(alloc));

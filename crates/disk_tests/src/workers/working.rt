@@ -8,7 +8,7 @@ use crate::halt::Halt;
 use record_replay::{AnswerList, LineList, NumberedLine};
 use sector_disk::{Disk, DiskFault};
 use std::alloc::Global;
-use worker::{DurableFault, Worker};
+use worker::{WorkFault, Worker};
 
 /// Where a worker stands.
 #[derive(Clone, Copy, PartialEq, Eq)]
@@ -162,7 +162,7 @@ pub(crate) fn open<D: Disk>(alloc: Global, disk: &mut D) -> Result<Stand, Halt> 
 pub(crate) fn was_stopped(worked: Result<(), Halt>) -> Result<bool, Halt> {
     match worked {
         Ok(()) => Ok(false),
-        Err(Halt::Work(DurableFault::Disk(DiskFault::Cut))) => Ok(true),
+        Err(Halt::Work(WorkFault::Disk(DiskFault::Cut))) => Ok(true),
         Err(halt) => Err(halt),
     }
 }

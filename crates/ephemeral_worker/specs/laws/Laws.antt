@@ -5,7 +5,7 @@ use Rattle.record_replay.specs.rules.Calls.{Giving, Taking, Exchange, asks_of, r
 use Rattle.ephemeral_worker.specs.declared.now.Now.{Now}
 use Rattle.ephemeral_worker.specs.declared.now.Now.TheVariants as now
 use Rattle.ephemeral_worker.specs.rules.Values.{WorkerValue}
-use Rattle.ephemeral_worker.specs.declared.fault.WorkFault.{WorkFault}
+use Rattle.ephemeral_worker.specs.declared.fault.SliceFault.{SliceFault}
 use Rattle.ephemeral_worker.specs.rules.Slices.{handed, SliceLeadsTo, IsNow, Slices}
 use Rattle.ephemeral_worker.specs.rules.Faults.{SlicesInVain}
 
@@ -21,7 +21,7 @@ SlicesAdd {S} {O} gives takes =
 -- A slice that fails behind one whose fuel is spent is one slice of the fuel of both that fails.
 abbrev pub SlicesAddInVain : {S O : Type 0} → Giving S → Taking O → Type 0
 SlicesAddInVain {S} {O} gives takes =
-    (first second third : WorkerValue) (f g : ℕ) (why : WorkFault) (s t u : S) (o p q : O)
+    (first second third : WorkerValue) (f g : ℕ) (why : SliceFault) (s t u : S) (o p q : O)
     → Slices gives takes first f now.Spent second s t o p
     → SlicesInVain gives takes second g why third t u p q
     → SlicesInVain gives takes first (f + g) why third s u o q

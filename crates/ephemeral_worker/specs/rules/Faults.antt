@@ -13,8 +13,8 @@ use Rattle.record_replay.specs.rules.Calls.{last_refused}
 use Rattle.machine_loader.specs.rules.Acceptance.{IsTold, HasNoAcceptedModule, is_want}
 use Rattle.process.specs.rules.Values.{ShowsProcess}
 use Rattle.process.specs.rules.Stops.{CallsHost, IsBeyond}
-use Rattle.ephemeral_worker.specs.declared.fault.WorkFault.{WorkFault}
-use Rattle.ephemeral_worker.specs.declared.fault.WorkFault.TheVariants as fault
+use Rattle.ephemeral_worker.specs.declared.fault.SliceFault.{SliceFault}
+use Rattle.ephemeral_worker.specs.declared.fault.SliceFault.TheVariants as fault
 use Rattle.ephemeral_worker.specs.declared.fault.Refusal.TheVariants as refusal
 use Rattle.ephemeral_worker.specs.rules.Values.{WorkerValue}
 use Rattle.ephemeral_worker.specs.rules.Slices.{SliceLeadsTo, AreAnswered, AreWanted}
@@ -22,7 +22,7 @@ use Rattle.ephemeral_worker.specs.rules.Slices.{SliceLeadsTo, AreAnswered, AreWa
 -- ---- a creation
 
 -- a refusal of the module says why it isn't accepted
-abbrev pub IsRefusedByWorker : ℕ → List ℕ → WorkFault → Type 0
+abbrev pub IsRefusedByWorker : ℕ → List ℕ → SliceFault → Type 0
 IsRefusedByWorker pages bytes (fault.Refused (refusal.Front why)) = (is_want why ≡ false)
     × IsTold pages bytes why × HasNoAcceptedModule pages bytes
 IsRefusedByWorker pages bytes (fault.Refused refusal.StepsSpent) = ⊥
@@ -98,7 +98,7 @@ module _ {S O : Type 0} (gives : Giving S) (takes : Taking O) where
 
 -- What failed: the source; the outlet; an allocation for the call that is the next step; or the
 -- next step can't be counted. A next step is one that some fuel is left for.
-abbrev pub IsCause : Guest → ProcessState → ℕ → List Exchange → ℕ → ProcessState → WorkFault
+abbrev pub IsCause : Guest → ProcessState → ℕ → List Exchange → ℕ → ProcessState → SliceFault
     → Type 0
 IsCause guest p fuel exchanges steps q fault.Source =
     (steps < fuel) × StopsAtAnswer guest p exchanges steps q
@@ -115,7 +115,7 @@ IsCause guest p fuel exchanges steps q fault.Failed = ⊥
 
 -- A worker that had failed does nothing. One that fails has failed from then on; whichever process
 -- it showed.
-abbrev pub SlicesInVain : {S O : Type 0} → Giving S → Taking O → WorkerValue → ℕ → WorkFault
+abbrev pub SlicesInVain : {S O : Type 0} → Giving S → Taking O → WorkerValue → ℕ → SliceFault
     → WorkerValue → S → S → O → O → Type 0
 SlicesInVain gives takes old fuel fault.Failed new source source' outlet outlet' =
     (old.failed ≡ true) × (new ≡ old) × (source' ≡ source) × (outlet' ≡ outlet)

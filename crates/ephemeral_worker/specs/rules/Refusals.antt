@@ -4,20 +4,20 @@ use Rattle.process.specs.declared.fault.ProcessFault.{ProcessFault}
 use Rattle.process.specs.declared.fault.ProcessFault.TheVariants as stop
 use Rattle.machine_loader.specs.declared.fault.FrontFault.{FrontFault}
 use Rattle.machine_loader.specs.rules.Acceptance.{is_want}
-use Rattle.ephemeral_worker.specs.declared.fault.WorkFault.{WorkFault}
-use Rattle.ephemeral_worker.specs.declared.fault.WorkFault.TheVariants as fault
+use Rattle.ephemeral_worker.specs.declared.fault.SliceFault.{SliceFault}
+use Rattle.ephemeral_worker.specs.declared.fault.SliceFault.TheVariants as fault
 use Rattle.ephemeral_worker.specs.declared.fault.Refusal.TheVariants as refusal
 
 -- where its process can't do a step
-abbrev pub work_fault : ProcessFault → WorkFault
-work_fault stop.WrongAnswer = fault.Source
-work_fault stop.Memory = fault.Memory
-work_fault stop.StepsSpent = fault.Refused refusal.StepsSpent
+abbrev pub slice_fault : ProcessFault → SliceFault
+slice_fault stop.WrongAnswer = fault.Source
+slice_fault stop.Memory = fault.Memory
+slice_fault stop.StepsSpent = fault.Refused refusal.StepsSpent
 
 -- where the module isn't accepted, or the host has no room
-abbrev pub refusal_by : Bool → FrontFault → WorkFault
+abbrev pub refusal_by : Bool → FrontFault → SliceFault
 refusal_by true why = fault.Memory
 refusal_by false why = fault.Refused (refusal.Front why)
 
-abbrev pub refusal_of : FrontFault → WorkFault
+abbrev pub refusal_of : FrontFault → SliceFault
 refusal_of why = refusal_by (is_want why) why

@@ -6,10 +6,10 @@ use Rattle.process.specs.rules.Values.{ProcessValue, ShowsProcess}
 use Rattle.record_replay.specs.rules.Calls.{Giving, Taking, Exchange, Exchanges, Releases}
 use Rattle.record_replay.specs.rules.Calls.{all_taken}
 use Rattle.ephemeral_worker.specs.declared.now.Now.{Now}
-use Rattle.ephemeral_worker.specs.declared.fault.WorkFault.TheVariants as work
+use Rattle.ephemeral_worker.specs.declared.fault.SliceFault.TheVariants as slice
 use Rattle.ephemeral_worker.specs.rules.Slices.{SliceLeadsTo, AreAnswered, AreWanted, IsNow}
-use Rattle.worker.specs.declared.fault.DurableFault.{DurableFault}
-use Rattle.worker.specs.declared.fault.DurableFault.TheVariants as durable
+use Rattle.worker.specs.declared.fault.WorkFault.{WorkFault}
+use Rattle.worker.specs.declared.fault.WorkFault.TheVariants as work
 use Rattle.worker.specs.rules.DurableFailures.{IsDiskCause, StopsAtQuestion}
 use Rattle.worker.specs.rules.LifeWords.{Act, Slice, Checkpoint}
 
@@ -22,7 +22,7 @@ steps_among (Checkpoint ∷ acts) = steps_among acts
 -- A slice of this fuel has failed there, as its own clause says. Or it has answered there, when no
 -- line waits, and the checkpoint behind it has failed (by what, `CallsInOrder` says).
 pub data IsBrokenAt (guest : Guest) (p : ProcessState) (fuel : ℕ) (exchanges : List Exchange)
-    (steps : ℕ) (q : ProcessState) (why : DurableFault) : Type 0 where
+    (steps : ℕ) (q : ProcessState) (why : WorkFault) : Type 0 where
   in_slice : IsDiskCause guest p fuel exchanges steps q why
       → IsBrokenAt guest p fuel exchanges steps q why
   in_checkpoint : (said : Now) → SliceLeadsTo guest p exchanges steps q
@@ -43,7 +43,7 @@ module _ {S O : Type 0} (gives : Giving S) (takes : Taking O) (guest : Guest) (p
 
   -- Slices have led the process to where the last one began, by all of their steps. From there the
   -- last one has led it to where that slice, or the checkpoint behind it, has failed.
-  pub record BreaksOff (fuel all : ℕ) (why : DurableFault) : Type 0 where
+  pub record BreaksOff (fuel all : ℕ) (why : WorkFault) : Type 0 where
     pub front : List Exchange
     pub answered : AreAnswered front
     pub steps : ℕ
@@ -59,7 +59,7 @@ module _ {S O : Type 0} (gives : Giving S) (takes : Taking O) (guest : Guest) (p
 
 -- so it is whichever process the worker showed
 abbrev pub BreaksOffFrom : {S O : Type 0} → Giving S → Taking O → ProcessValue → ℕ → ℕ
-    → DurableFault → S → S → O → O → Type 0
+    → WorkFault → S → S → O → O → Type 0
 BreaksOffFrom gives takes old fuel all why source source' outlet outlet' =
     (guest : Guest) (p : ProcessState) → ShowsProcess old guest p
     → BreaksOff gives takes guest p source source' outlet outlet' fuel all why
@@ -67,18 +67,18 @@ BreaksOffFrom gives takes old fuel all why source source' outlet outlet' =
 -- ---- lines
 
 -- Whatever slice fails by this stops where an answer is to be asked for.
-abbrev pub IsOfQuestion : DurableFault → Type 0
+abbrev pub IsOfQuestion : WorkFault → Type 0
 IsOfQuestion why = (guest : Guest) (p : ProcessState) (fuel : ℕ) (exchanges : List Exchange)
     (steps : ℕ) (q : ProcessState) → IsDiskCause guest p fuel exchanges steps q why
     → StopsAtQuestion guest p fuel exchanges steps q
 
 -- Where a slice fails by this no line waits: an answer or memory was refused, or a number can't be
 -- counted. That is of a step or its lines; or of a generation, which is wanted at a question alone.
-abbrev pub LeavesNoLine : DurableFault → Type 0
-LeavesNoLine (durable.Work work.Source) = ⊤
-LeavesNoLine (durable.Work work.Memory) = ⊤
-LeavesNoLine (durable.Work (work.Refused why)) = ⊤
-LeavesNoLine (durable.Store why) = IsOfQuestion (durable.Store why)
+abbrev pub LeavesNoLine : WorkFault → Type 0
+LeavesNoLine (work.Work slice.Source) = ⊤
+LeavesNoLine (work.Work slice.Memory) = ⊤
+LeavesNoLine (work.Work (slice.Refused why)) = ⊤
+LeavesNoLine (work.Store why) = IsOfQuestion (work.Store why)
 LeavesNoLine other = ⊥
 
 -- Each line that the process has written on its way from p to q was released, once and in order,

@@ -10,7 +10,7 @@ use Rattle.machine_loader.specs.rules.Acceptance.{is_want}
 use Rattle.sector_disk.specs.rules.Medium.{Medium, spare}
 use Rattle.disk_layout.specs.rules.Places.{total_sectors}
 use Rattle.disk_layout.specs.rules.Unsynced.{most_unsynced}
-use Rattle.worker.specs.declared.fault.DurableFault.{DurableFault}
+use Rattle.worker.specs.declared.fault.WorkFault.{WorkFault}
 use Rattle.worker.specs.rules.DurableCreations.{CreationKeeps, IsCreatedOn, places_for}
 use Rattle.worker.specs.rules.DurableValues.{DurableValue}
 use Rattle.wasmhost_serve.specs.declared.configuring.Sizes.{Sizes}
@@ -91,7 +91,7 @@ created_line sectors = codes "created " ++ decimal sectors ++ codes " sectors\n"
 -- The worker of these bytes and this configuration is created on the disk, and how many sectors it
 -- has was printed.
 pub record IsCreatedAndTold (bytes : List ℕ) (config : Settings)
-    (answer : Result DurableValue DurableFault) (disk : Medium) (out out' : Option (List ℕ))
+    (answer : Result DurableValue WorkFault) (disk : Medium) (out out' : Option (List ℕ))
     : Type 0 where
   pub worker : DurableValue
   pub answered : answer ≡ Ok worker
@@ -114,7 +114,7 @@ HasDiskFailed bytes config old new = (spare old ≡ 0)
 -- disk without a worker is lost, and a cut at any moment leaves no worker on it, or this one.
 pub record CreatesOn {D : Type 0} (medium : D → Medium) (bytes : List ℕ) (config : Settings)
     (old new : D) (out out' err err' : PrinterState) (status : ℕ) : Type 0 where
-  pub answer : Result DurableValue DurableFault
+  pub answer : Result DurableValue WorkFault
   pub keeps : CreationKeeps bytes config answer (medium old) (medium new)
   pub made : status ≡ 0
       → IsCreatedAndTold bytes config answer (medium new) out.contents out'.contents

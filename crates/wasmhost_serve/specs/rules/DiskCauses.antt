@@ -9,12 +9,12 @@ use Rattle.process_rules.specs.Processes.{ProcessState, Guest}
 use Rattle.process.specs.rules.Values.{ShowsProcess}
 use Rattle.record_replay.specs.declared.fault.SourceFault.{SourceFault}
 use Rattle.record_replay.specs.rules.Calls.{Taking, Ask, AnswersInOrder}
-use Rattle.ephemeral_worker.specs.declared.fault.WorkFault.TheVariants as work
+use Rattle.ephemeral_worker.specs.declared.fault.SliceFault.TheVariants as slice
 use Rattle.ephemeral_worker.specs.declared.now.Now.{Now}
 use Rattle.ephemeral_worker.specs.declared.now.Now.TheVariants.{Spent}
 use Rattle.ephemeral_worker.specs.rules.Slices.{handed}
-use Rattle.worker.specs.declared.fault.DurableFault.{DurableFault}
-use Rattle.worker.specs.declared.fault.DurableFault.TheVariants as durable
+use Rattle.worker.specs.declared.fault.WorkFault.{WorkFault}
+use Rattle.worker.specs.declared.fault.WorkFault.TheVariants as work
 use Rattle.worker.specs.declared.recover_fault.RecoverFault.{RecoverFault}
 use Rattle.worker.specs.declared.recover_fault.RecoverFault.TheVariants as recover
 use Rattle.worker.specs.rules.LifeWords.{Act}
@@ -89,7 +89,7 @@ LacksAnswerAt old asks failed' = (IsRefusedAmong asks kinds.Request × (failed' 
 abbrev pub HasToldItsLines : {D O : Type 0} {medium : D → Medium} {takes : Taking O}
     {given : DiskJob} {left : Result (List Act) RecoverFault} {found last : D} {outlet outlet' : O}
     {source' : Standing} → LivesOnDisk medium takes given left found last outlet outlet' source'
-    → DurableFault → Type 0
+    → WorkFault → Type 0
 HasToldItsLines {takes = takes} {given = given} {outlet' = outlet'} {source' = source'} lives why =
     (guest : Guest) (p : ProcessState) → ShowsProcess lives.worker.process guest p
     → (broken : BreaksOff handing takes guest p (stands_behind given lives.worker) source'
@@ -99,16 +99,16 @@ HasToldItsLines {takes = takes} {given = given} {outlet' = outlet'} {source' = s
 -- ---- faults of a call
 
 -- a step, its lines or a generation that can't be counted, or a store that refuses
-abbrev pub IsAtItsEnd : DurableFault → Type 0
-IsAtItsEnd (durable.Work (work.Refused why)) = ⊤
-IsAtItsEnd (durable.Store why) = ⊤
+abbrev pub IsAtItsEnd : WorkFault → Type 0
+IsAtItsEnd (work.Work (slice.Refused why)) = ⊤
+IsAtItsEnd (work.Store why) = ⊤
 IsAtItsEnd other = ⊥
 
 -- a disk or a source that fails, or a worker that had failed
-abbrev pub IsUnanswering : DurableFault → Type 0
-IsUnanswering (durable.Disk why) = ⊤
-IsUnanswering (durable.Work work.Source) = ⊤
-IsUnanswering (durable.Work work.Failed) = ⊤
+abbrev pub IsUnanswering : WorkFault → Type 0
+IsUnanswering (work.Disk why) = ⊤
+IsUnanswering (work.Work slice.Source) = ⊤
+IsUnanswering (work.Work slice.Failed) = ⊤
 IsUnanswering other = ⊥
 
 -- ---- faults of a recovery
@@ -126,8 +126,8 @@ IsFailing other = ⊥
 
 -- memory that was refused
 abbrev pub IsWanting : RecoverFault → Type 0
-IsWanting (recover.Worker (durable.Work work.Memory)) = ⊤
-IsWanting (recover.Worker (durable.Disk disk.Memory)) = ⊤
+IsWanting (recover.Worker (work.Work slice.Memory)) = ⊤
+IsWanting (recover.Worker (work.Disk disk.Memory)) = ⊤
 IsWanting other = ⊥
 
 -- ---- what each exit status says
@@ -150,24 +150,24 @@ module _ {D O : Type 0} (medium : D → Medium) (takes : Taking O) (given : Disk
   -- The recovery has failed by a fault of this kind, or a call of the life by one of that kind.
   -- Where that is the source's, it isn't one of a request line. Where no line can wait, each line
   -- that the process had written by then was told.
-  pub data FailsOnDisk (IsOfOpening : RecoverFault → Type 0) (IsOfCall : DurableFault → Type 0)
+  pub data FailsOnDisk (IsOfOpening : RecoverFault → Type 0) (IsOfCall : WorkFault → Type 0)
       : Type 0 where
     opening : (why : RecoverFault) → IsUnopenedRun medium takes why found last outlet outlet'
         → failed' ≡ given.failed → IsOfOpening why → FailsOnDisk IsOfOpening IsOfCall
-    calling : (why : DurableFault) (source' : Standing)
+    calling : (why : WorkFault) (source' : Standing)
         → (lives : LivesOnDisk medium takes given (Err (recover.Worker why)) found last outlet
         outlet' source')
         → (LeavesNoLine why → HasToldItsLines lives why)
-        → (why ≡ durable.Work work.Source → source'.fault ≡ None) → source'.failed ≡ failed'
+        → (why ≡ work.Work slice.Source → source'.fault ≡ None) → source'.failed ≡ failed'
         → IsOfCall why → FailsOnDisk IsOfOpening IsOfCall
 
   -- A call of the life has failed since the source refused a question. Each line that the process
   -- had written by then was told. This holds behind all that the source was asked in the life.
   pub record AsksInVain (Holds : Standing → List Ask → Bool → Type 0) : Type 0 where
     pub source' : Standing
-    pub lives : LivesOnDisk medium takes given (Err (recover.Worker (durable.Work work.Source)))
+    pub lives : LivesOnDisk medium takes given (Err (recover.Worker (work.Work slice.Source)))
         found last outlet outlet' source'
-    pub told : HasToldItsLines lives (durable.Work work.Source)
+    pub told : HasToldItsLines lives (work.Work slice.Source)
     pub heeded : source'.failed ≡ failed'
     pub asks : List Ask
     pub led : AnswersInOrder handing (stands_behind given lives.worker) asks source'
@@ -185,10 +185,10 @@ module _ {D O : Type 0} (medium : D → Medium) (takes : Taking O) (given : Disk
     pub unanswered : status ≡ 4
         → FailsOnDisk IsFailing IsUnanswering ⊎ AsksInVain LacksAnswerAt
     pub starved : status ≡ 5
-        → FailsOnDisk IsWanting (λ why. why ≡ durable.Work work.Memory) ⊎ AsksInVain LacksMemoryAt
+        → FailsOnDisk IsWanting (λ why. why ≡ work.Work slice.Memory) ⊎ AsksInVain LacksMemoryAt
     pub bad_line : status ≡ 6 → AsksInVain MeetsBadLineAt
     pub unprinted : status ≡ 7
-        → FailsOnDisk IsOutletFault (λ why. why ≡ durable.Work work.Outlet) ⊎ (err'.failed ≡ true)
+        → FailsOnDisk IsOutletFault (λ why. why ≡ work.Work slice.Outlet) ⊎ (err'.failed ≡ true)
     pub heeded : (failed' ≡ given.failed) ⊎ (status ≡ 4) ⊎ (status ≡ 5) ⊎ (status ≡ 7)
     pub known : (status ≡ 0) ⊎ ((3 ≤ status) × (status ≤ 7))
 

@@ -3,9 +3,9 @@
 use Rattle.std.specs.Prelude.{◌≡◌, ◌⊎◌, ℕ, Option, Some, None}
 use Rattle.sector_disk.specs.declared.fault.DiskFault.{DiskFault}
 use Rattle.sector_disk.specs.declared.fault.DiskFault.TheVariants as disk
-use Rattle.ephemeral_worker.specs.declared.fault.WorkFault.TheVariants as work
-use Rattle.worker.specs.declared.fault.DurableFault.{DurableFault}
-use Rattle.worker.specs.declared.fault.DurableFault.TheVariants as durable
+use Rattle.ephemeral_worker.specs.declared.fault.SliceFault.TheVariants as slice
+use Rattle.worker.specs.declared.fault.WorkFault.{WorkFault}
+use Rattle.worker.specs.declared.fault.WorkFault.TheVariants as work
 use Rattle.worker.specs.declared.recover_fault.RecoverFault.{RecoverFault}
 use Rattle.worker.specs.declared.recover_fault.RecoverFault.TheVariants as recover
 use Rattle.wasmhost_serve.specs.declared.lines.fault.LineFault.{LineFault}
@@ -16,20 +16,20 @@ use Rattle.wasmhost_serve.specs.rules.Statuses.{status_of_work, status_of_line}
 -- While it is opened, a fault of the disk is told as that, and one of the output as one of a
 -- replay. Any other is told as it is.
 abbrev pub told_of_opening : RecoverFault → OnDiskFault
-told_of_opening (recover.Worker (durable.Disk fault)) = told.Disk fault
-told_of_opening (recover.Worker (durable.Work work.Outlet)) = told.Replay
+told_of_opening (recover.Worker (work.Disk fault)) = told.Disk fault
+told_of_opening (recover.Worker (work.Work slice.Outlet)) = told.Replay
 told_of_opening other = told.Recovery other
 
 -- a fault of a call is told as it is
-abbrev pub told_of_call : DurableFault → OnDiskFault
+abbrev pub told_of_call : WorkFault → OnDiskFault
 told_of_call fault = told.Call fault
 
 -- A fault of a call is told as it is; or, where it is the source's, as that of a line, where there
 -- is one.
-abbrev pub IsToldOnDisk : DurableFault → Option LineFault → OnDiskFault → Type 0
+abbrev pub IsToldOnDisk : WorkFault → Option LineFault → OnDiskFault → Type 0
 IsToldOnDisk why found is =
-    ((is ≡ told_of_call why) × (why ≡ durable.Work work.Source → found ≡ None))
-    ⊎ ((line : LineFault) × (why ≡ durable.Work work.Source) × (found ≡ Some line)
+    ((is ≡ told_of_call why) × (why ≡ work.Work slice.Source → found ≡ None))
+    ⊎ ((line : LineFault) × (why ≡ work.Work slice.Source) × (found ≡ Some line)
     × (is ≡ told.Line line))
 
 -- ---- exit statuses
@@ -41,10 +41,10 @@ status_of_disk other = 4
 
 -- What a call of a worker on its disk says. What a store refuses is neither want of memory nor a
 -- fault of the disk.
-abbrev pub status_of_call : DurableFault → ℕ
-status_of_call (durable.Work fault) = status_of_work fault
-status_of_call (durable.Disk fault) = 4
-status_of_call (durable.Store fault) = 3
+abbrev pub status_of_call : WorkFault → ℕ
+status_of_call (work.Work fault) = status_of_work fault
+status_of_call (work.Disk fault) = 4
+status_of_call (work.Store fault) = 3
 
 -- all that is told, where that is printed
 abbrev pub status_on_disk : OnDiskFault → ℕ

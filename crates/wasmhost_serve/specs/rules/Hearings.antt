@@ -3,8 +3,8 @@ use Rattle.std.specs.Prelude.{◌≡◌, ◌⊎◌, List, Option, Result, Ok, Er
 use Rattle.std.specs.List.{AllByRecursion}
 use Rattle.wasi_abi.specs.declared.answer.Answer.{Answer}
 use Rattle.record_replay.specs.rules.Calls.{Giving, Ask, AnswersInOrder}
-use Rattle.ephemeral_worker.specs.declared.fault.WorkFault.TheVariants as work
-use Rattle.worker.specs.declared.fault.DurableFault.TheVariants as durable
+use Rattle.ephemeral_worker.specs.declared.fault.SliceFault.TheVariants as slice
+use Rattle.worker.specs.declared.fault.WorkFault.TheVariants as work
 use Rattle.worker.specs.declared.recover_fault.RecoverFault.{RecoverFault}
 use Rattle.worker.specs.declared.recover_fault.RecoverFault.TheVariants as recover
 use Rattle.worker.specs.rules.LifeWords.{Act}
@@ -22,4 +22,4 @@ pub record AsksUnless {S : Type 0} (gives : Giving S) (Refused : Type 0) (source
 
 -- the error that ended the calls of a life is that of its source
 abbrev pub IsOfSource : Result (List Act) RecoverFault → Type 0
-IsOfSource left = left ≡ Err (recover.Worker (durable.Work work.Source))
+IsOfSource left = left ≡ Err (recover.Worker (work.Work slice.Source))

@@ -8,7 +8,7 @@ use Rattle.disk_layout.specs.rules.Stored.{OnlyReads}
 use Rattle.record_replay.specs.rules.Calls.{Giving, Taking}
 use Rattle.ephemeral_worker.specs.declared.now.Now.{Now}
 use Rattle.ephemeral_worker.specs.declared.now.Now.TheVariants.{Spent}
-use Rattle.worker.specs.declared.fault.DurableFault.{DurableFault}
+use Rattle.worker.specs.declared.fault.WorkFault.{WorkFault}
 use Rattle.worker.specs.declared.recover_fault.RecoverFault.{RecoverFault}
 use Rattle.worker.specs.declared.recover_fault.RecoverFault.TheVariants as recover
 use Rattle.worker.specs.rules.DurableValues.{DurableValue}
@@ -109,7 +109,7 @@ HasOutcome {medium = medium} lives now =
 abbrev pub HasBrokenOff : {D O : Type 0} {medium : D → Medium} {takes : Taking O} {given : DiskJob}
     {left : Result (List Act) RecoverFault} {found last : D} {outlet outlet' : O}
     {source' : Standing} → LivesOnDisk medium takes given left found last outlet outlet' source'
-    → DurableFault → Type 0
+    → WorkFault → Type 0
 HasBrokenOff {takes = takes} {given = given} {outlet' = outlet'} {source' = source'} lives why =
     BreaksOffFrom handing takes lives.worker.process given.fuel (steps_among lives.acts) why
     (stands_behind given lives.worker) source' lives.retold outlet'
@@ -143,7 +143,7 @@ pub data ServesOnDisk {D O : Type 0} (medium : D → Medium) (takes : Taking O) 
       → TellsPerson (recovered_line lives.worker) err between
       → SaysText (last_words (ended_by now)) 0 between status err'
       → ServesOnDisk medium takes given found last outlet outlet' err err' failed' status
-  broken : (why : DurableFault) (told : OnDiskFault) (source' : Standing) (between : PrinterState)
+  broken : (why : WorkFault) (told : OnDiskFault) (source' : Standing) (between : PrinterState)
       → (lives : LivesOnDisk medium takes given (Err (recover.Worker why)) found last outlet
       outlet' source')
       → HasBrokenOff lives why → source'.failed ≡ failed' → IsToldOnDisk why source'.fault told

@@ -3,8 +3,8 @@ use Rattle.std.specs.Prelude.{ℕ, List, Result, Ok, Err, ⊤, if◌then◌else�
 use Rattle.machine_loader.specs.declared.fault.FrontFault.{FrontFault}
 use Rattle.machine_loader.specs.rules.Acceptance.{HasAcceptedModule, HasNoAcceptedModule}
 use Rattle.machine_loader.specs.rules.Acceptance.{FrontDenies, is_want}
-use Rattle.ephemeral_worker.specs.declared.fault.WorkFault.{WorkFault}
-use Rattle.ephemeral_worker.specs.declared.fault.WorkFault.TheVariants as fault
+use Rattle.ephemeral_worker.specs.declared.fault.SliceFault.{SliceFault}
+use Rattle.ephemeral_worker.specs.declared.fault.SliceFault.TheVariants as fault
 use Rattle.wasmhost_serve.specs.declared.lines.fault.LineFault.{LineFault}
 use Rattle.wasmhost_serve.specs.declared.lines.fault.LineFault.TheVariants as line
 
@@ -20,7 +20,7 @@ status_by (Ok done) = 0
 status_by (Err fault) = if is_want fault then 5 else 3
 
 -- the exit status of what a worker's call says
-abbrev pub status_of_work : WorkFault → ℕ
+abbrev pub status_of_work : SliceFault → ℕ
 status_of_work fault.Source = 4
 status_of_work fault.Outlet = 7
 status_of_work fault.Memory = 5

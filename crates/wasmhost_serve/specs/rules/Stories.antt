@@ -8,14 +8,14 @@ use Rattle.worker.specs.declared.story.life.PlannedLife.{PlannedLife}
 use Rattle.worker.specs.declared.story.report.Opening.{Opening}
 use Rattle.worker.specs.declared.story.report.Opening.TheVariants.{Created, Recovered}
 use Rattle.worker.specs.declared.story.report.Opening.TheVariants.{Unopened}
-use Rattle.worker.specs.declared.fault.DurableFault.TheVariants as durable
+use Rattle.worker.specs.declared.fault.WorkFault.TheVariants as work
 use Rattle.worker.specs.declared.recover_fault.RecoverFault.{RecoverFault}
 use Rattle.worker.specs.declared.recover_fault.RecoverFault.TheVariants.{Worker}
 use Rattle.worker.specs.declared.story.report.LifeEnd.{LifeEnd}
 use Rattle.worker.specs.declared.story.report.LifeEnd.TheVariants.{Failed}
 use Rattle.worker.specs.declared.story.report.LifeReport.{LifeReport}
 use Rattle.ephemeral_worker.specs.declared.fault.Refusal.TheVariants as refusal
-use Rattle.ephemeral_worker.specs.declared.fault.WorkFault.TheVariants as work
+use Rattle.ephemeral_worker.specs.declared.fault.SliceFault.TheVariants as slice
 use Rattle.worker.specs.rules.StoryDisks.{TellsLives}
 use Rattle.wasmhost_serve.specs.declared.configuring.Sizes.{Sizes}
 use Rattle.wasmhost_serve.specs.declared.preparing.Prepared.{Prepared}
@@ -58,13 +58,13 @@ releases_text (line ∷ lines) = release_text line ++ releases_text lines
 -- The code and the name of an error by which a life ends that was opened. Of a store only the
 -- number of a generation is at its end then.
 abbrev pub error_name : RecoverFault → List ℕ
-error_name (Worker (durable.Disk fault)) = codes "N1 Disk"
-error_name (Worker (durable.Work work.Source)) = codes "N2 Source"
-error_name (Worker (durable.Work work.Outlet)) = codes "N3 Outlet"
-error_name (Worker (durable.Work work.Memory)) = codes "N4 Memory"
-error_name (Worker (durable.Work work.Failed)) = codes "N5 Failed"
-error_name (Worker (durable.Work (work.Refused refusal.StepsSpent))) = codes "P3 StepsSpent"
-error_name (Worker (durable.Store fault)) = codes "S1 TooBig"
+error_name (Worker (work.Disk fault)) = codes "N1 Disk"
+error_name (Worker (work.Work slice.Source)) = codes "N2 Source"
+error_name (Worker (work.Work slice.Outlet)) = codes "N3 Outlet"
+error_name (Worker (work.Work slice.Memory)) = codes "N4 Memory"
+error_name (Worker (work.Work slice.Failed)) = codes "N5 Failed"
+error_name (Worker (work.Work (slice.Refused refusal.StepsSpent))) = codes "P3 StepsSpent"
+error_name (Worker (work.Store fault)) = codes "S1 TooBig"
 error_name other = codes "N6 Refused"
 
 -- the line that tells by which error a life ended that was opened, if by one

@@ -9,11 +9,11 @@ ghost use Rattle.wasmhost_serve.specs.rules.Printers.{IsSaid};
 use crate::lines::LineFault;
 use crate::printer::Printer;
 use crate::status::{NO_MEMORY, REFUSED, UNREAD, UNWRITTEN, status_of_line, status_of_work};
-use ephemeral_worker::WorkFault;
+use ephemeral_worker::SliceFault;
 use sector_disk::DiskFault;
 use std::io::Write;
 use thiserror::Error;
-use worker::{DurableFault, RecoverFault};
+use worker::{RecoverFault, WorkFault};
 
 /// What is told of a worker on its disk that isn't opened, or that fails.
 #[derive(Clone, Copy, Debug, PartialEq, Eq, Error)]
@@ -29,7 +29,7 @@ pub(crate) enum OnDiskFault {
     Recovery(RecoverFault),
     /// What a call of the worker says.
     #[error("failed {0}")]
-    Call(DurableFault),
+    Call(WorkFault),
     /// What is wrong with a request line, or with its reader.
     #[error("{0}")]
     Line(LineFault),
@@ -40,17 +40,17 @@ impl From<RecoverFault> for OnDiskFault {
 
     fn from(fault: RecoverFault) -> Self {
         match fault {
-            RecoverFault::Worker(DurableFault::Disk(fault)) => OnDiskFault::Disk(fault),
-            RecoverFault::Worker(DurableFault::Work(WorkFault::Outlet)) => OnDiskFault::Replay,
+            RecoverFault::Worker(WorkFault::Disk(fault)) => OnDiskFault::Disk(fault),
+            RecoverFault::Worker(WorkFault::Work(SliceFault::Outlet)) => OnDiskFault::Replay,
             other => OnDiskFault::Recovery(other),
         }
     }
 }
 
-impl From<DurableFault> for OnDiskFault {
+impl From<WorkFault> for OnDiskFault {
     ghost from_gives = { λ fault told. told ≡ told_of_call fault };
 
-    fn from(fault: DurableFault) -> Self {
+    fn from(fault: WorkFault) -> Self {
         OnDiskFault::Call(fault)
     }
 }
@@ -66,13 +66,13 @@ fn status_of_disk(fault: DiskFault) -> u8
 }
 
 /// The exit status of what a call of a worker on its disk says.
-fn status_of_call(fault: DurableFault) -> u8
+fn status_of_call(fault: WorkFault) -> u8
     ensures { result ≡ status_of_call fault }
 {
     match fault {
-        DurableFault::Work(fault) => status_of_work(fault),
-        DurableFault::Disk(_) => UNREAD,
-        DurableFault::Store(_) => REFUSED,
+        WorkFault::Work(fault) => status_of_work(fault),
+        WorkFault::Disk(_) => UNREAD,
+        WorkFault::Store(_) => REFUSED,
     }
 }
 

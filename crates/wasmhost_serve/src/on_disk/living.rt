@@ -12,7 +12,7 @@ use ephemeral_worker::Now;
 use record_replay::{Outlet, Source};
 use sector_disk::Disk;
 use std::num::NonZeroU64;
-use worker::{DurableFault, Worker};
+use worker::{WorkFault, Worker};
 
 /// How a worker on a disk is driven.
 #[derive(Clone, Copy, Debug)]
@@ -41,7 +41,7 @@ fn is_spent(now: Now) -> bool
 }
 
 /// Saves a worker behind a slice that has answered this.
-fn rest_on<D: Disk>(worker: &mut Worker, disk: &mut D, now: Now) -> Result<Now, DurableFault>
+fn rest_on<D: Disk>(worker: &mut Worker, disk: &mut D, now: Now) -> Result<Now, WorkFault>
     requires { total_sectors worker.old.store.geometry ≤ (D.medium disk.old).sectors }
     ensures rested { IsRested now result worker.old worker.new (D.medium disk.old)
         (D.medium disk.new) }
@@ -60,7 +60,7 @@ fn round<D: Disk, S: Source, O: Outlet>(
     pace: Pace,
     source: &mut S,
     outlet: &mut O,
-) -> Result<Now, DurableFault>
+) -> Result<Now, WorkFault>
     requires { total_sectors worker.old.store.geometry ≤ (D.medium disk.old).sectors }
     ensures done { IfOk result (λ now. IsRound D.medium S.gives O.takes
         (non_zero_u64_get pace.fuel) (non_zero_u64_get pace.every)
@@ -97,7 +97,7 @@ pub(crate) fn live<D: Disk, S: Source, O: Outlet>(
     pace: Pace,
     source: &mut S,
     outlet: &mut O,
-) -> Result<Now, DurableFault>
+) -> Result<Now, WorkFault>
     requires { total_sectors worker.old.store.geometry ≤ (D.medium disk.old).sectors }
     ensures lives { LivesAtPace D.medium S.gives O.takes
         (non_zero_u64_get pace.fuel) (non_zero_u64_get pace.every)

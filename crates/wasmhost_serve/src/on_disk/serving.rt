@@ -15,19 +15,19 @@ use crate::on_disk::fault::{OnDiskFault, say_disk_fault};
 use crate::on_disk::living::{Pace, live};
 use crate::on_disk::showing::print_number;
 use crate::printer::Printer;
-use ephemeral_worker::{Now, WorkFault};
+use ephemeral_worker::{Now, SliceFault};
 use record_replay::Outlet;
 use sector_disk::Disk;
 use std::alloc::Global;
 use std::io::{self, Write};
-use worker::{DurableFault, Worker};
+use worker::{WorkFault, Worker};
 
 /// A fault of the source is that of a request line, where there is one.
-fn call_fault_of(fault: DurableFault, line: Option<LineFault>) -> OnDiskFault
+fn call_fault_of(fault: WorkFault, line: Option<LineFault>) -> OnDiskFault
     ensures { IsToldOnDisk fault line result }
 {
     match line {
-        Some(line) if fault == DurableFault::Work(WorkFault::Source) => OnDiskFault::Line(line),
+        Some(line) if fault == WorkFault::Work(SliceFault::Source) => OnDiskFault::Line(line),
         _ => OnDiskFault::from(fault),
     }
 }

@@ -10,12 +10,12 @@ ghost use Rattle.wasmhost_serve.specs.rules.Stories.{releases_text, story_text, 
 ghost use Rattle.wasmhost_serve.specs.rules.Stories.{end_line};
 
 use crate::lines::spell_line;
-use ephemeral_worker::{Refusal, WorkFault};
+use ephemeral_worker::{Refusal, SliceFault};
 use record_replay::NumberedLine;
 use sha2::{Digest, Sha256};
 use std::io::{self, Write};
 use worker::story::{LifeEnd, LifeReport, Opening};
-use worker::{DurableFault, RecoverFault};
+use worker::{RecoverFault, WorkFault};
 
 /// Digits of a digest.
 const DIGITS: usize = 64;
@@ -94,13 +94,13 @@ fn error_name(why: RecoverFault) -> &'static str
         return "N6 Refused";
     };
     match fault {
-        DurableFault::Disk(_) => "N1 Disk",
-        DurableFault::Work(WorkFault::Source) => "N2 Source",
-        DurableFault::Work(WorkFault::Outlet) => "N3 Outlet",
-        DurableFault::Work(WorkFault::Memory) => "N4 Memory",
-        DurableFault::Work(WorkFault::Failed) => "N5 Failed",
-        DurableFault::Work(WorkFault::Refused(Refusal::StepsSpent)) => "P3 StepsSpent",
-        DurableFault::Store(_) => "S1 TooBig",
+        WorkFault::Disk(_) => "N1 Disk",
+        WorkFault::Work(SliceFault::Source) => "N2 Source",
+        WorkFault::Work(SliceFault::Outlet) => "N3 Outlet",
+        WorkFault::Work(SliceFault::Memory) => "N4 Memory",
+        WorkFault::Work(SliceFault::Failed) => "N5 Failed",
+        WorkFault::Work(SliceFault::Refused(Refusal::StepsSpent)) => "P3 StepsSpent",
+        WorkFault::Store(_) => "S1 TooBig",
         _ => "N6 Refused",
     }
 }

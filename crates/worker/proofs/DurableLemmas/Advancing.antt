@@ -26,9 +26,9 @@ use Rattle.worker_store.specs.laws.CallEnds.{IsSliceOver, HasBound}
 use Rattle.worker_store.proofs.LawLemmas.AtHand.{shown_is_saved}
 use Rattle.worker_store.proofs.LawLemmas.CallEnds.{spent_slices_end, ended_slices_end}
 use Rattle.worker_store.proofs.LawLemmas.Underway.{steps_go_on}
-use Rattle.worker.specs.declared.fault.DurableFault.TheVariants.{Work}
+use Rattle.worker.specs.declared.fault.WorkFault.TheVariants.{Work}
 use Rattle.worker.specs.declared.running.Running.{Running}
-use Rattle.ephemeral_worker.specs.rules.Refusals.{work_fault}
+use Rattle.ephemeral_worker.specs.rules.Refusals.{slice_fault}
 use Rattle.worker.specs.DurableTurns.{Course, IsBetweenTurns, IsOwingTurn}
 use Rattle.worker.specs.DurableTurns.{IsAskingOn}
 use Rattle.worker.specs.DurableTurns.{TurnEnds, TurnFails}
@@ -299,7 +299,7 @@ module _ {D : Type 0} (medium : D → Medium) (c : Course) (promise : Promise) (
 
   -- it can't go on
   pub advance_fails : (why : ProcessFault) → AdvancesProcess w.process left (Err why) v
-      → TurnFails c promise stage (Work (work_fault why)) [] (with_process w v) (medium disk)
+      → TurnFails c promise stage (Work (slice_fault why)) [] (with_process w v) (medium disk)
       (medium disk)
   advance_fails stop.WrongAnswer advances = absurd (advances c.guest p running.shows)
   advance_fails stop.Memory advances =

@@ -13,10 +13,10 @@ use Rattle.worker_rules.specs.Promises.{Promise}
 use Rattle.worker_rules.specs.Holds.{StaysWithin}
 use Rattle.worker_store.specs.laws.Turns.{GoesOnFrom, LeavesBegun}
 use Rattle.worker_store.proofs.LawLemmas.TurnLemmas.{turns_join, parts_leave_begun}
-use Rattle.ephemeral_worker.specs.declared.fault.WorkFault.{WorkFault}
-use Rattle.ephemeral_worker.specs.declared.fault.WorkFault.TheVariants as work
-use Rattle.worker.specs.declared.fault.DurableFault.{DurableFault}
-use Rattle.worker.specs.declared.fault.DurableFault.TheVariants.{Work}
+use Rattle.ephemeral_worker.specs.declared.fault.SliceFault.{SliceFault}
+use Rattle.ephemeral_worker.specs.declared.fault.SliceFault.TheVariants as slice
+use Rattle.worker.specs.declared.fault.WorkFault.{WorkFault}
+use Rattle.worker.specs.declared.fault.WorkFault.TheVariants.{Work}
 use Rattle.worker.specs.declared.running.Running.{Running}
 use Rattle.ephemeral_worker.specs.Turns.{AsksOnce, AnswersBy}
 use Rattle.worker.specs.DurableTurns.{Course, TurnGoes, TurnEnds, TurnFails}
@@ -76,7 +76,7 @@ module _ {D : Type 0} (medium : D → Medium) (c : Course) (promise : Promise) (
       one_on : promise.events ≤ turn.between.events → promise.events + 1 ≤ turn.between.events + 1
       one_on le = omega (arith, le)
 
-  fails_behind : (why : DurableFault)
+  fails_behind : (why : WorkFault)
       → TurnFails c promise stage why exchanges w (medium mid) (medium disk')
       → TurnFails c promise stage why exchanges w (medium disk) (medium disk')
   fails_behind why turn =
@@ -96,7 +96,7 @@ module _ {D S : Type 0} (medium : D → Medium) (gives : Giving S) (old mid new 
     (makes : MakesRoom old mid (medium disk) (medium disk')) (same : mid.process ≡ old.process)
     (step_is : step ≡ old.process.steps + 1) where
   fails_so : (e : SourceFault) → gives source kind (Err e) source' → new ≡ mid
-      → AsksTurn gives old kind (Err (Work work.Source)) new (medium disk) (medium disk') source
+      → AsksTurn gives old kind (Err (Work slice.Source)) new (medium disk) (medium disk') source
       source'
   fails_so e asked still = (
     asks_once kind (Err e),
@@ -104,7 +104,7 @@ module _ {D S : Type 0} (medium : D → Medium) (gives : Giving S) (old mid new 
     λ c promise stage p asking foretold.
         let made = makes c promise stage p kind asking in
         fails_behind medium c promise stage (asks_once kind (Err e)) new disk disk' disk' made.2
-        made.3 (Work work.Source) (
+        made.3 (Work slice.Source) (
           OfSource,
           inl refl,
           tt,
@@ -149,7 +149,7 @@ module _ {D S : Type 0} (medium : D → Medium) (gives : Giving S) (old mid new 
     refl,
   )
 
-  takes_none : (a : Answer) (why : DurableFault) → gives source kind (Ok (Some a)) source'
+  takes_none : (a : Answer) (why : WorkFault) → gives source kind (Ok (Some a)) source'
       → TakesNone mid kind (record { step = step; answer = a }) why new
       → AsksTurn gives old kind (Err why) new (medium disk) (medium disk') source source'
   takes_none a why asked none = (
@@ -172,7 +172,7 @@ module _ {D S : Type 0} (medium : D → Medium) (gives : Giving S) (old mid new 
         rest) none),
   )
 
-  hears_so : (said : SourceSaid) (result : Result Bool DurableFault)
+  hears_so : (said : SourceSaid) (result : Result Bool WorkFault)
       → gives source kind said source' → HearsBy mid kind step said result new
       → AsksTurn gives old kind result new (medium disk) (medium disk') source source'
   hears_so (Err e) result asked h =
@@ -186,14 +186,14 @@ module _ {D S : Type 0} (medium : D → Medium) (gives : Giving S) (old mid new 
       (sym h.0) (takes_so a asked h.1)
   hears_so (Ok (Some a)) (Err why) asked h = takes_none a why asked h
 
-  pub asks_turn : (result : Result Bool DurableFault)
+  pub asks_turn : (result : Result Bool WorkFault)
       → Hears gives mid kind step result new source source'
       → AsksTurn gives old kind result new (medium disk) (medium disk') source source'
   asks_turn result h = hears_so h.said result h.asked h.hears
 
 -- no room was made
 pub asks_nothing : {D S : Type 0} (medium : D → Medium) (gives : Giving S) (old new : Running)
-    (kind : Kind) (why : DurableFault) (disk disk' : D) (source : S)
+    (kind : Kind) (why : WorkFault) (disk disk' : D) (source : S)
     → MakesNoRoom old why new (medium disk) (medium disk')
     → AsksTurn gives old kind (Err why) new (medium disk) (medium disk') source source
 asks_nothing medium gives old new kind why disk disk' source none = (
@@ -204,8 +204,8 @@ asks_nothing medium gives old new kind why disk disk' source none = (
 
 -- ---- as it is without a disk
 
-false_there : (b : Bool) → ◌≡◌ {A = Result Bool DurableFault} (Ok b) (Ok false)
-    → ◌≡◌ {A = Result Bool WorkFault} (Ok b) (Ok false)
+false_there : (b : Bool) → ◌≡◌ {A = Result Bool WorkFault} (Ok b) (Ok false)
+    → ◌≡◌ {A = Result Bool SliceFault} (Ok b) (Ok false)
 false_there b e = let is : b ≡ false = cc in ap (λ z. Ok z) is
 
 once_by : {S : Type 0} (gives : Giving S) (old new : Running) (kind : Kind) (step : ℕ)

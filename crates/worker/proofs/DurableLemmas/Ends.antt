@@ -38,9 +38,9 @@ use Rattle.worker_store.proofs.LawLemmas.TurnLemmas.{same_no_more}
 use Rattle.worker_store.proofs.LawLemmas.Underway.{among_first}
 use Rattle.worker_store.specs.declared.fault.StoreFault.TheVariants as store
 use Rattle.worker_store.specs.declared.store.WorkerStore.{WorkerStore}
-use Rattle.ephemeral_worker.specs.declared.fault.WorkFault.TheVariants as work
-use Rattle.worker.specs.declared.fault.DurableFault.{DurableFault}
-use Rattle.worker.specs.declared.fault.DurableFault.TheVariants.{Work, Disk, Store}
+use Rattle.ephemeral_worker.specs.declared.fault.SliceFault.TheVariants as sliced
+use Rattle.worker.specs.declared.fault.WorkFault.{WorkFault}
+use Rattle.worker.specs.declared.fault.WorkFault.TheVariants.{Work, Disk, Store}
 use Rattle.worker.specs.declared.running.Running.{Running}
 use Rattle.worker.specs.rules.DurableCalls.{HasCauseAt}
 use Rattle.worker.specs.rules.Savings.{IsSaveFault}
@@ -71,7 +71,7 @@ not_open cause e = absurd (cc)
 -- ---- why a disk fails
 
 -- a cause at a later moment is one at an earlier moment
-pub cause_before : (why : DurableFault) (guest : Guest) (config : Settings) (v : ProcessValue)
+pub cause_before : (why : WorkFault) (guest : Guest) (config : Settings) (v : ProcessValue)
     (old mid new : Medium) → mid.room ≡ old.room → old.faults ≤ mid.faults
     → HasCauseAt why guest config v mid new → HasCauseAt why guest config v old new
 cause_before (Disk fault) guest config v old mid new room faults (inl (inl few)) =
@@ -81,7 +81,7 @@ cause_before (Disk fault) guest config v old mid new room faults (inl (inr few))
 cause_before (Disk fault) guest config v old mid new room faults (inr failed) =
     inr (omega (arith, faults, failed))
 cause_before (Store fault) guest config v old mid new room faults cause = tt
-cause_before (Work work.Memory) guest config v old mid new room faults cause = cause
+cause_before (Work sliced.Memory) guest config v old mid new room faults cause = cause
 cause_before (Work other) guest config v old mid new room faults cause = tt
 
 -- what a save says of the disk

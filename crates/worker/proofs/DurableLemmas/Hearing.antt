@@ -54,11 +54,11 @@ use Rattle.worker_store.specs.declared.fault.StoreFault.TheVariants as store
 use Rattle.worker_store.specs.rules.Stores.{IsStoreOf}
 use Rattle.worker_store.specs.rules.Calls.{AppendFails}
 use Rattle.worker_store.proofs.StoreLemmas.{append_stores}
-use Rattle.worker.specs.declared.fault.DurableFault.{DurableFault}
-use Rattle.worker.specs.declared.fault.DurableFault.TheVariants.{Work}
+use Rattle.worker.specs.declared.fault.WorkFault.{WorkFault}
+use Rattle.worker.specs.declared.fault.WorkFault.TheVariants.{Work}
 use Rattle.worker.specs.declared.running.Running.{Running}
-use Rattle.worker.specs.rules.DurableFaults.{fault_of_store}
-use Rattle.ephemeral_worker.specs.rules.Refusals.{work_fault}
+use Rattle.worker.specs.rules.WorkFaults.{fault_of_store}
+use Rattle.ephemeral_worker.specs.rules.Refusals.{slice_fault}
 use Rattle.worker.specs.rules.DurableCalls.{ComesOf, NeedsMemory, HasCauseAt}
 use Rattle.worker.specs.rules.OpenWorkers.{IsOnDisk}
 use Rattle.worker.specs.DurableTurns.{Course, IsAskingOn, HasRoom, TurnGoes}
@@ -294,7 +294,7 @@ module _ {D : Type 0} (medium : D → Medium) (c : Course) (promise : Promise) (
 
   module _ (a : Answer) (foretold : IsForetold stage (asks_once kind (Ok (Some a)))) where
     -- it doesn't fit
-    pub misfits : (step : ℕ) (why : DurableFault) (w' : Running)
+    pub misfits : (step : ℕ) (why : WorkFault) (w' : Running)
         → IsMisfit w kind (record_of step a) why w'
         → TurnFails c promise stage why (asks_once kind (Ok (Some a))) w' (medium disk)
         (medium disk)
@@ -374,7 +374,7 @@ module _ {D : Type 0} (medium : D → Medium) (c : Course) (promise : Promise) (
 
       -- the process doesn't take it
       not_taken_by : (fault : ProcessFault) → GivesAnswer w.process a (Err fault) w'.process
-          → TurnFails c promise stage (Work (work_fault fault)) (asks_once kind (Ok (Some a))) w'
+          → TurnFails c promise stage (Work (slice_fault fault)) (asks_once kind (Ok (Some a))) w'
           (medium disk) (medium disk)
       not_taken_by stop.WrongAnswer given =
           let running = asking.running in
@@ -389,7 +389,7 @@ module _ {D : Type 0} (medium : D → Medium) (c : Course) (promise : Promise) (
           let h = given c.guest p running.shows in
           (OfBounds, refl, tt, kept_once h.0 OfBounds tt (inl (Some a, h.3)))
 
-    pub lacks_record : (step : ℕ) (why : DurableFault) (w' : Running) → HasRoom w
+    pub lacks_record : (step : ℕ) (why : WorkFault) (w' : Running) → HasRoom w
         → LacksRecord w kind (record_of step a) why w'
         → TurnFails c promise stage why (asks_once kind (Ok (Some a))) w' (medium disk)
         (medium disk)
@@ -399,7 +399,7 @@ module _ {D : Type 0} (medium : D → Medium) (c : Course) (promise : Promise) (
         (lacks_by (subst (λ n. Fits n kind a) (sym same_limit) h.fits) w' step h.fault room h.fails
         h.same)
 
-    pub not_taken : (step : ℕ) (why : DurableFault) (w' : Running)
+    pub not_taken : (step : ℕ) (why : WorkFault) (w' : Running)
         → IsNotTaken w kind (record_of step a) why w'
         → TurnFails c promise stage why (asks_once kind (Ok (Some a))) w' (medium disk)
         (medium disk)

@@ -23,16 +23,16 @@ use Rattle.worker_store.specs.declared.fault.StoreFault.TheVariants as store
 use Rattle.worker_store.specs.declared.store.WorkerStore.{WorkerStore}
 use Rattle.worker_store.specs.rules.Calls.{BarrierFails, AppendFails}
 use Rattle.ephemeral_worker.specs.Turns.{working, failing}
-use Rattle.ephemeral_worker.specs.declared.fault.WorkFault.TheVariants as work
+use Rattle.ephemeral_worker.specs.declared.fault.SliceFault.TheVariants as slice
 use Rattle.ephemeral_worker.specs.rules.Faults.{IsBadAnswer, LeadsUpTo, Fails, SlicesInVain}
-use Rattle.ephemeral_worker.specs.rules.Refusals.{work_fault}
+use Rattle.ephemeral_worker.specs.rules.Refusals.{slice_fault}
 use Rattle.ephemeral_worker.proofs.Ending.{Turning, Wishing, released_some, vainly}
 use Rattle.ephemeral_worker.proofs.Going.{Goes, leads, wish, asked_more}
 use Rattle.ephemeral_worker.proofs.Joining.{wanted_ask}
-use Rattle.worker.specs.declared.fault.DurableFault.{DurableFault}
-use Rattle.worker.specs.declared.fault.DurableFault.TheVariants.{Work}
+use Rattle.worker.specs.declared.fault.WorkFault.{WorkFault}
+use Rattle.worker.specs.declared.fault.WorkFault.TheVariants.{Work}
 use Rattle.worker.specs.declared.running.Running.{Running}
-use Rattle.worker.specs.rules.DurableFaults.{fault_of_store}
+use Rattle.worker.specs.rules.WorkFaults.{fault_of_store}
 use Rattle.worker.specs.rules.DurableFailures.{StopsAtDisk, StopsAtStore, StopsAtQuestion}
 use Rattle.worker.specs.rules.DurableFailures.{StopsForMemory, IsDiskCause}
 use Rattle.worker.specs.rules.DurableFailures.{SlicesOnDiskInVain}
@@ -41,7 +41,7 @@ use Rattle.worker.specs.DurableTurns.{HearsBy, IsMisfit, LacksRecord, IsNotTaken
 
 -- ---- faults
 
-same_fault : (a b : DurableFault) → ◌≡◌ {A = Result Bool DurableFault} (Err a) (Err b) → a ≡ b
+same_fault : (a b : WorkFault) → ◌≡◌ {A = Result Bool WorkFault} (Err a) (Err b) → a ≡ b
 same_fault a b e = cc
 
 -- a barrier wants no memory, and no number
@@ -81,8 +81,8 @@ module _ (guest : Guest) (p : ProcessState) (fuel : ℕ) (exchanges : List Excha
 module _ {S O : Type 0} (gives : Giving S) (takes : Taking O) where
   -- what fails as without a disk
   pub as_on_disk : (old new : ProcessValue) (fuel : ℕ) (why : ProcessFault) (s u : S) (o q : O)
-      → SlicesInVain gives takes (working old) fuel (work_fault why) (failing new) s u o q
-      → SlicesOnDiskInVain gives takes old fuel (Work (work_fault why)) new s u o q
+      → SlicesInVain gives takes (working old) fuel (slice_fault why) (failing new) s u o q
+      → SlicesOnDiskInVain gives takes old fuel (Work (slice_fault why)) new s u o q
   as_on_disk old new fuel stop.WrongAnswer s u o q h guest p shows = h.2 guest p shows
   as_on_disk old new fuel stop.StepsSpent s u o q h guest p shows = h.2 guest p shows
   as_on_disk old new fuel stop.Memory s u o q h guest p shows =
@@ -144,7 +144,7 @@ module _ {S O : Type 0} (gives : Giving S) (takes : Taking O) where
               (λ is. absurd (none is)),
         )
 
-    pub settled_vainly : (why : DurableFault) (new : ProcessValue) (r : O)
+    pub settled_vainly : (why : WorkFault) (new : ProcessValue) (r : O)
         → SettlesVainly takes v why new q r
         → SlicesOnDiskInVain gives takes old fuel why new s t o r
     settled_vainly why new r (inl stored) =
@@ -156,8 +156,8 @@ module _ {S O : Type 0} (gives : Giving S) (takes : Taking O) where
         subst (λ z. SlicesOnDiskInVain gives takes old fuel z new s t o r) (sym refused.0)
         (told_vainly (released_some gives takes old v new fuel first s t o q r turning refused.1))
       where
-        told_vainly : SlicesInVain gives takes (working old) fuel work.Outlet (failing new) s t o r
-            → SlicesOnDiskInVain gives takes old fuel (Work work.Outlet) new s t o r
+        told_vainly : SlicesInVain gives takes (working old) fuel slice.Outlet (failing new) s t o r
+            → SlicesOnDiskInVain gives takes old fuel (Work slice.Outlet) new s t o r
         told_vainly h guest p shows = h.2 guest p shows
 
   -- ---- what is asked
@@ -225,7 +225,7 @@ module _ {S O : Type 0} (gives : Giving S) (takes : Taking O) where
 
       bad_vainly : ((guest : Guest) (p : ProcessState) (shows : ShowsProcess old guest p)
           → IsBadAnswer (so_far guest p shows).process.host.limit kind said)
-          → SlicesOnDiskInVain gives takes old fuel (Work work.Source) new s u o q
+          → SlicesOnDiskInVain gives takes old fuel (Work slice.Source) new s u o q
       bad_vainly bad guest p shows = (
         asks_here guest p shows,
         (
@@ -270,7 +270,7 @@ module _ {S O : Type 0} (gives : Giving S) (takes : Taking O) where
                 (λ none. memory_for guest p shows calls (Some a) up),
           )
 
-    module _ (mid new : Running) (step : ℕ) (u : S) (why : DurableFault)
+    module _ (mid new : Running) (step : ℕ) (u : S) (why : WorkFault)
         (same : mid.process ≡ v) where
       same_limit : (guest : Guest) (p : ProcessState) (shows : ShowsProcess old guest p)
           → (so_far guest p shows).process.host.limit ≡ mid.process.host.host.limit
@@ -306,7 +306,7 @@ module _ {S O : Type 0} (gives : Giving S) (takes : Taking O) where
           subst (λ z. SlicesOnDiskInVain gives takes old fuel z new.process s u o q) (sym h.is)
           (as_on_disk old new.process fuel h.fault s u o q
           (vainly gives takes old v new.process fuel first s t u o q kind wishing
-          (work_fault h.fault) (record {
+          (slice_fault h.fault) (record {
             said = Ok (Some a);
             asked = asked;
             answers = (
@@ -321,7 +321,7 @@ module _ {S O : Type 0} (gives : Giving S) (takes : Taking O) where
           → SlicesOnDiskInVain gives takes old fuel why new.process s u o q
       heard_vainly (Err e) asked h =
           subst (λ z. SlicesOnDiskInVain gives takes old fuel z new.process s u o q)
-          (sym (same_fault why (Work work.Source) h.0))
+          (sym (same_fault why (Work slice.Source) h.0))
           (bad_vainly u (Err e) asked new.process (ap (λ (w : Running). w.process) h.1 ∙ same)
           (λ guest p shows. tt))
       heard_vainly (Ok None) asked h = absurd (let no_error = h.0 in cc)
@@ -337,7 +337,7 @@ module _ {S O : Type 0} (gives : Giving S) (takes : Taking O) where
           untaken_vainly a asked none)
           rest) h
 
-    pub asked_vainly : (from new : Running) (why : DurableFault) (u : S) → from.process ≡ v
+    pub asked_vainly : (from new : Running) (why : WorkFault) (u : S) → from.process ≡ v
         → AsksVainly gives from kind why new t u
         → SlicesOnDiskInVain gives takes old fuel why new.process s u o q
     asked_vainly from new why u at (inl stored) =
@@ -353,7 +353,7 @@ module _ {S O : Type 0} (gives : Giving S) (takes : Taking O) where
 
 -- what was said is why it fails
 pub hears_in_vain : {S : Type 0} (gives : Giving S) (old mid new : Running) (kind : Kind) (step : ℕ)
-    (result : Result Bool DurableFault) (source source' : S) → mid.process ≡ old.process
+    (result : Result Bool WorkFault) (source source' : S) → mid.process ≡ old.process
     → Hears gives mid kind step result new source source'
     → IfErr result (λ why. AsksVainly gives old kind why new source source')
 hears_in_vain gives old mid new kind step (Ok b) source source' same h = tt

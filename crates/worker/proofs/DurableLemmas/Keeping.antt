@@ -15,11 +15,11 @@ use Rattle.worker_store.specs.declared.fault.StoreFault.{StoreFault}
 use Rattle.worker_store.specs.declared.store.WorkerStore.{WorkerStore}
 use Rattle.worker_store.specs.rules.Calls.{AppendFails}
 use Rattle.worker_store.specs.rules.Stores.{with_record}
-use Rattle.ephemeral_worker.specs.declared.fault.WorkFault.TheVariants as work
-use Rattle.worker.specs.declared.fault.DurableFault.TheVariants.{Work}
+use Rattle.ephemeral_worker.specs.declared.fault.SliceFault.TheVariants as slice
+use Rattle.worker.specs.declared.fault.WorkFault.TheVariants.{Work}
 use Rattle.worker.specs.declared.running.Running.{Running}
-use Rattle.worker.specs.rules.DurableFaults.{fault_of_store}
-use Rattle.ephemeral_worker.specs.rules.Refusals.{work_fault}
+use Rattle.worker.specs.rules.WorkFaults.{fault_of_store}
+use Rattle.ephemeral_worker.specs.rules.Refusals.{slice_fault}
 use Rattle.worker.specs.DurableTurns.{TakesOnRecord, TakesNone}
 
 module _ (old : Running) (kind : Kind) (r : Record) (limit : ℕ)
@@ -29,7 +29,7 @@ module _ (old : Running) (kind : Kind) (r : Record) (limit : ℕ)
   fits_there is = subst (λ n. Fits n kind r.answer) limit_is (fitting.0 is)
 
   -- it doesn't fit
-  pub misfit_refused : does_fit ≡ false → TakesNone old kind r (Work work.Source) old
+  pub misfit_refused : does_fit ≡ false → TakesNone old kind r (Work slice.Source) old
   misfit_refused is = inl (record {
     misfits = λ fits. not_both (fitting.1 (subst (λ n. Fits n kind r.answer) (sym limit_is) fits));
     is = refl;
@@ -54,7 +54,7 @@ module _ (old : Running) (kind : Kind) (r : Record) (limit : ℕ)
     -- the process doesn't take it
     pub answer_refused : (fault : ProcessFault)
         → GivesAnswer old.process r.answer (Err fault) process
-        → TakesNone old kind r (Work (work_fault fault))
+        → TakesNone old kind r (Work (slice_fault fault))
         (record old { process = process; store = after })
     answer_refused fault given = inr (inr (record {
       fits = fits_there is;

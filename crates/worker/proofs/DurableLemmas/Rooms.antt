@@ -33,7 +33,7 @@ use Rattle.worker_store.specs.laws.Laws.{ImagesFitAreas}
 use Rattle.worker_store.specs.rules.Calls.{StoresNext}
 use Rattle.worker_store.specs.rules.Stores.{IsStoreOf}
 use Rattle.worker.specs.declared.running.Running.{Running}
-use Rattle.worker.specs.rules.DurableFaults.{fault_of_store}
+use Rattle.worker.specs.rules.WorkFaults.{fault_of_store}
 use Rattle.worker.specs.rules.DurableCalls.{ComesOf, HasCauseAt}
 use Rattle.worker.specs.rules.OpenWorkers.{IsOnDisk}
 use Rattle.worker.specs.rules.Savings.{LeavesFrontOrNext, IsSaveFault, SaveFails}

@@ -34,10 +34,10 @@ use Rattle.worker_store.specs.declared.fault.StoreFault.TheVariants as store
 use Rattle.worker_store.specs.declared.store.WorkerStore.{WorkerStore}
 use Rattle.worker_store.specs.rules.Calls.{LeavesFronts, StoresAll, BarrierFails}
 use Rattle.worker_store.specs.rules.Stores.{IsStoreOf}
-use Rattle.ephemeral_worker.specs.declared.fault.WorkFault.TheVariants as work
-use Rattle.worker.specs.declared.fault.DurableFault.TheVariants.{Work}
+use Rattle.ephemeral_worker.specs.declared.fault.SliceFault.TheVariants as slice
+use Rattle.worker.specs.declared.fault.WorkFault.TheVariants.{Work}
 use Rattle.worker.specs.declared.running.Running.{Running}
-use Rattle.worker.specs.rules.DurableFaults.{fault_of_store}
+use Rattle.worker.specs.rules.WorkFaults.{fault_of_store}
 use Rattle.worker.specs.rules.OpenWorkers.{IsOnDisk}
 use Rattle.worker.specs.rules.DurableCalls.{ComesOf, HasCauseAt}
 use Rattle.worker.specs.DurableTurns.{Course, IsOwingTurn, TurnGoes}
@@ -275,7 +275,7 @@ module _ {D : Type 0} (medium : D → Medium) (c : Course) (promise : Promise) (
       pub lines_in_vain : (some : ReleasesSome takes w.process w'.process outlet outlet')
           → IsForetold stage (told_lines_of (last_refused (suc w.process.host.released) some.told
           some.line))
-          → TurnFails c promise stage (Work work.Outlet) (told_lines_of
+          → TurnFails c promise stage (Work slice.Outlet) (told_lines_of
           (last_refused (suc w.process.host.released) some.told some.line)) w' (medium disk)
           (medium disk')
       lines_in_vain some foretold =
@@ -339,7 +339,7 @@ module _ {D O : Type 0} (medium : D → Medium) (takes : Taking O) (w : Running)
     )
 
     pub settles_some : ReleasesSome takes w.process w'.process outlet outlet'
-        → SettlesInVain takes w (Work work.Outlet) w' (medium disk) (medium disk') outlet outlet'
+        → SettlesInVain takes w (Work slice.Outlet) w' (medium disk) (medium disk') outlet outlet'
     settles_some some = (
       last_refused (suc w.process.host.released) some.told some.line,
       some.refused,

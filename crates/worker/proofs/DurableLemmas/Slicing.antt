@@ -14,10 +14,10 @@ use Rattle.record_replay.specs.rules.Calls.{Giving, Taking}
 use Rattle.record_replay.specs.rules.Waiting.{ReleasesAll}
 use Rattle.record_replay.proofs.Emitted.{released_none, released_steps}
 use Rattle.ephemeral_worker.specs.declared.now.Now.TheVariants as now
-use Rattle.worker.specs.declared.fault.DurableFault.{DurableFault}
-use Rattle.worker.specs.declared.fault.DurableFault.TheVariants.{Work}
+use Rattle.worker.specs.declared.fault.WorkFault.{WorkFault}
+use Rattle.worker.specs.declared.fault.WorkFault.TheVariants.{Work}
 use Rattle.worker.specs.declared.running.Running.{Running}
-use Rattle.ephemeral_worker.specs.rules.Refusals.{work_fault}
+use Rattle.ephemeral_worker.specs.rules.Refusals.{slice_fault}
 use Rattle.ephemeral_worker.specs.rules.Slices.{Slices}
 use Rattle.ephemeral_worker.specs.Turns.{working, AsksOnce}
 use Rattle.worker.specs.DurableTurns.{Hears, SettlesTurn, SettlesInVain, AsksTurn, WorksOn}
@@ -41,7 +41,7 @@ use Rattle.worker.proofs.DurableLemmas.Working.{works_given, works_waiting, work
 
 -- where the source has answered, or has none
 pub once_if_ok : {S : Type 0} (gives : Giving S) (old mid new : Running) (kind : Kind) (step : ℕ)
-    (result : Result Bool DurableFault) (source source' : S) → mid.process ≡ old.process
+    (result : Result Bool WorkFault) (source source' : S) → mid.process ≡ old.process
     → Hears gives mid kind step result new source source'
     → IfOk result (λ b. AsksOnce gives kind old.process (Ok b) new.process source source')
 once_if_ok gives old mid new kind step (Ok b) source source' same h =
@@ -95,20 +95,20 @@ module _ {D S O : Type 0} (medium : D → Medium) (gives : Giving S) (takes : Ta
         same_guest i.sectors how advances
 
     pub vain_on : (why : ProcessFault) → AdvancesProcess w.process left (Err why) v
-        → WorksOn gives takes old fuel (Err (Work (work_fault why))) (with_process w v)
+        → WorksOn gives takes old fuel (Err (Work (slice_fault why))) (with_process w v)
         (medium disk) (medium mid) s t o q
     vain_on why advances =
         works_in_vain medium gives takes old w v fuel left disk mid s t o q i.so_far left_there same
         same_guest i.sectors why advances
 
     pub vain_stops : (why : ProcessFault)
-        → StoreStops old.store w.store (Work (work_fault why)) (medium disk) (medium mid)
+        → StoreStops old.store w.store (Work (slice_fault why)) (medium disk) (medium mid)
     vain_stops why =
-        goes_stop old.store w.store (medium disk) (medium mid) i.goes (Work (work_fault why))
+        goes_stop old.store w.store (medium disk) (medium mid) i.goes (Work (slice_fault why))
         (process_cause old.store (medium disk) (medium mid) why)
 
     -- what comes behind the turns so far
-    pub turn_runs : {T : Type 0} (w' : Running) (disk' : D) (result : Result T DurableFault)
+    pub turn_runs : {T : Type 0} (w' : Running) (disk' : D) (result : Result T WorkFault)
         → StoreRuns result w.store w'.store (medium mid) (medium disk')
         → StoreRuns result old.store w'.store (medium disk) (medium disk')
     turn_runs w' disk' result runs =
@@ -117,7 +117,7 @@ module _ {D S O : Type 0} (medium : D → Medium) (gives : Giving S) (takes : Ta
 
     -- as a worker without a disk
     pub vain_so_far : (why : ProcessFault) → AdvancesProcess w.process left (Err why) v
-        → SlicesOnDiskInVain gives takes old.process fuel (Work (work_fault why)) v s t o q
+        → SlicesOnDiskInVain gives takes old.process fuel (Work (slice_fault why)) v s t o q
     vain_so_far why advances =
         as_on_disk gives takes old.process v fuel why s t o q
         (cannot_advance gives takes old.process w.process v fuel first left s t o q i.turning
@@ -150,7 +150,7 @@ module _ {D S O : Type 0} (medium : D → Medium) (gives : Giving S) (takes : Ta
           same advances w'.process (released_none takes v w'.process q r all)
           (released_steps takes v w'.process q r all)
 
-      pub unsettled_on : (why : DurableFault)
+      pub unsettled_on : (why : WorkFault)
           → SettlesInVain takes (with_process w v) why w' (medium mid) (medium disk') q r
           → PaysCalls {T = Unit {0}} (Err why) w.store w'.store (medium mid) (medium disk')
           → WorksOn gives takes old fuel (Err why) w' (medium disk) (medium disk') s t o r
@@ -158,7 +158,7 @@ module _ {D S O : Type 0} (medium : D → Medium) (gives : Giving S) (takes : Ta
           works_unsettled medium gives takes old w v fuel left disk mid s t o q i.so_far left_there
           same same_guest i.sectors advances w' disk' r why settles pays
 
-      pub unsettled_so_far : (why : DurableFault) → SettlesVainly takes v why w'.process q r
+      pub unsettled_so_far : (why : WorkFault) → SettlesVainly takes v why w'.process q r
           → SlicesOnDiskInVain gives takes old.process fuel why w'.process s t o r
       unsettled_so_far why vain =
           settled_vainly gives takes old.process v fuel first s t o q
@@ -211,7 +211,7 @@ module _ {D S O : Type 0} (medium : D → Medium) (gives : Giving S) (takes : Ta
           works_waiting medium gives takes old w v fuel left disk mid s t o q i.so_far left_there
           same same_guest i.sectors kind advances w' disk' u few asked
 
-      pub unasked_on : (why : DurableFault)
+      pub unasked_on : (why : WorkFault)
           → AsksTurn gives (with_process w v) kind (Err why) w' (medium mid) (medium disk') t u
           → CallsUpTo (most_saving (medium mid).sectors) (medium mid) (medium disk')
           → WorksOn gives takes old fuel (Err why) w' (medium disk) (medium disk') s u o q
@@ -219,7 +219,7 @@ module _ {D S O : Type 0} (medium : D → Medium) (gives : Giving S) (takes : Ta
           works_unasked medium gives takes old w v fuel left disk mid s t o q i.so_far left_there
           same same_guest i.sectors kind advances w' disk' u few why asked
 
-      pub unasked_so_far : (why : DurableFault)
+      pub unasked_so_far : (why : WorkFault)
           → AsksVainly gives (with_process w v) kind why w' t u
           → SlicesOnDiskInVain gives takes old.process fuel why w'.process s u o q
       unasked_so_far why vain =

@@ -31,10 +31,10 @@ use Rattle.worker_store.proofs.LawLemmas.TurnLemmas.{turns_join, turns_carry, pa
 use Rattle.record_replay.proofs.Emitted.{released_whole}
 use Rattle.ephemeral_worker.specs.declared.now.Now.{Now}
 use Rattle.ephemeral_worker.specs.declared.now.Now.TheVariants as now
-use Rattle.worker.specs.declared.fault.DurableFault.{DurableFault}
-use Rattle.worker.specs.declared.fault.DurableFault.TheVariants.{Work}
+use Rattle.worker.specs.declared.fault.WorkFault.{WorkFault}
+use Rattle.worker.specs.declared.fault.WorkFault.TheVariants.{Work}
 use Rattle.worker.specs.declared.running.Running.{Running}
-use Rattle.ephemeral_worker.specs.rules.Refusals.{work_fault}
+use Rattle.ephemeral_worker.specs.rules.Refusals.{slice_fault}
 use Rattle.worker.specs.rules.CallCounts.{most_calls, most_saving, CallsForEvents}
 use Rattle.worker.specs.StoreTurns.{owed, PaysCalls}
 use Rattle.worker.proofs.CallCountLemmas.{turns_then, turns_end, turn_once, turn_free}
@@ -102,7 +102,7 @@ module _ {D : Type 0} (medium : D → Medium) (c : Course) (promise : Promise) (
       one_on le = omega (arith, le)
 
 -- a cause at a later moment is one at an earlier moment
-causes_before : (result : Result Now DurableFault) (guest : Guest) (config : Settings)
+causes_before : (result : Result Now WorkFault) (guest : Guest) (config : Settings)
     (v : ProcessValue) (old mid new : Medium) {P : Image → Type 0} → Passes old mid P
     → HasCauseOf result guest config v mid new → HasCauseOf result guest config v old new
 causes_before (Ok why) guest config v old mid new passes cause = tt
@@ -201,7 +201,7 @@ module _ {D S O : Type 0} (medium : D → Medium) (gives : Giving S) (takes : Ta
     )
 
     -- it is over
-    pub then_ends : (result : Result Now DurableFault)
+    pub then_ends : (result : Result Now WorkFault)
         → ((c : Course) (promise : Promise) (stage : Stage) (p : ProcessState)
         → c.fuel ≡ fuel → c.first ≡ old.process.steps
         → IsBetweenTurns c promise stage p w (medium mid) → IsForetold stage ys
@@ -287,11 +287,11 @@ module _ {D S O : Type 0} (medium : D → Medium) (gives : Giving S) (takes : Ta
         )) nothing_called
 
     pub works_in_vain : (why : ProcessFault) → AdvancesProcess w.process left (Err why) v
-        → WorksOn gives takes old fuel (Err (Work (work_fault why))) (with_process w v)
+        → WorksOn gives takes old fuel (Err (Work (slice_fault why))) (with_process w v)
         (medium disk) (medium mid) s t o q
     works_in_vain why advances =
         then_ends old w fuel disk mid mid s t t o q q so_far (with_process w v) []
-        (nothing_alone gives takes t q) (Err (Work (work_fault why)))
+        (nothing_alone gives takes t q) (Err (Work (slice_fault why)))
         (λ c promise stage p fuel_is first_is between foretold.
         let fails = advance_fails medium c promise stage p w v mid between left
         (left_of c fuel_is first_is) same same_guest why advances in
@@ -317,7 +317,7 @@ module _ {D S O : Type 0} (medium : D → Medium) (gives : Giving S) (takes : Ta
           (subst (λ (n : ℕ). (medium disk').counted + owed n w'.store.journal.kept
           ≤ (medium mid).counted + owed n w.store.journal.kept) long pays))
 
-      pub works_unsettled : (why : DurableFault)
+      pub works_unsettled : (why : WorkFault)
           → SettlesInVain takes (with_process w v) why w' (medium mid) (medium disk') q r
           → PaysCalls {T = Unit {0}} (Err why) w.store w'.store (medium mid) (medium disk')
           → WorksOn gives takes old fuel (Err why) w' (medium disk) (medium disk') s t o r
@@ -368,7 +368,7 @@ module _ {D S O : Type 0} (medium : D → Medium) (gives : Giving S) (takes : Ta
           (left_of c fuel_is first_is) same same_guest kind advances in
           (Waits, refl, tt, asks.2 c promise stage there.process there.asking foretold)) called_last
 
-      pub works_unasked : (why : DurableFault)
+      pub works_unasked : (why : WorkFault)
           → AsksTurn gives (with_process w v) kind (Err why) w' (medium mid) (medium disk') t u
           → WorksOn gives takes old fuel (Err why) w' (medium disk) (medium disk') s u o q
       works_unasked why asks =
@@ -456,7 +456,7 @@ module _ {D : Type 0} (medium : D → Medium) (c : Course) (promise : Promise) (
 module _ {D S O : Type 0} (medium : D → Medium) (gives : Giving S) (takes : Taking O)
     (old new : Running) (replayed fuel : ℕ) (before after : Bool) (disk disk' : D)
     (source source' : S) (outlet outlet' : O) where
-  carries_by : (result : Result Now DurableFault) → ((reply : Reply) → IsReplyOf result reply
+  carries_by : (result : Result Now WorkFault) → ((reply : Reply) → IsReplyOf result reply
       → phase_ended reply ≡ Open → after ≡ false)
       → WorksOn gives takes old fuel result new (medium disk) (medium disk') source source' outlet
       outlet'
@@ -491,7 +491,7 @@ module _ {D S O : Type 0} (medium : D → Medium) (gives : Giving S) (takes : Ta
       (durable_of new replayed after) (medium disk) (medium disk') source source' outlet outlet'
   slice_carries why works worked = carries_by (Ok why) (λ reply is over. works) worked
 
-  pub slice_fails : (why : DurableFault)
+  pub slice_fails : (why : WorkFault)
       → WorksOn gives takes old fuel (Err why) new (medium disk) (medium disk') source source'
       outlet outlet'
       → SliceCarries gives takes (durable_of old replayed before) fuel (Err why)
@@ -502,7 +502,7 @@ module _ {D S O : Type 0} (medium : D → Medium) (gives : Giving S) (takes : Ta
 
 -- one that has failed is not open
 pub failed_carries : {S O : Type 0} (gives : Giving S) (takes : Taking O) (old new : DurableValue)
-    (fuel : ℕ) (result : Result Now DurableFault) (disk disk' : Medium) (source : S) (outlet : O)
+    (fuel : ℕ) (result : Result Now WorkFault) (disk disk' : Medium) (source : S) (outlet : O)
     → old.has_failed ≡ true
     → SliceCarries gives takes old fuel result new disk disk' source source outlet outlet
 failed_carries gives takes old new fuel result disk disk' source outlet failed = (

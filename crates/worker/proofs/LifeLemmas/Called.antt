@@ -24,8 +24,8 @@ use Rattle.worker_store.proofs.LawLemmas.Pieces.{parts_are_foretold}
 use Rattle.worker_store.proofs.LawLemmas.Passing.{left_in_the_end}
 use Rattle.ephemeral_worker.specs.declared.now.Now.{Now}
 use Rattle.ephemeral_worker.specs.declared.now.Now.TheVariants as now
-use Rattle.worker.specs.declared.fault.DurableFault.{DurableFault}
-use Rattle.worker.specs.declared.fault.DurableFault.TheVariants.{Disk, Work, Store}
+use Rattle.worker.specs.declared.fault.WorkFault.{WorkFault}
+use Rattle.worker.specs.declared.fault.WorkFault.TheVariants.{Disk, Work, Store}
 use Rattle.worker.specs.declared.recover_fault.RecoverFault.{RecoverFault}
 use Rattle.worker.specs.declared.recover_fault.RecoverFault.TheVariants.{Worker}
 use Rattle.worker.specs.rules.CallCounts.{CallsForEvents}
@@ -84,7 +84,7 @@ cause_since config (Worker (Disk fault)) old mid new later (inr failed) =
 cause_since config other old mid new later cause = tt
 
 -- what a slice says of its error
-pub cause_of_slice : (why : DurableFault) (guest : Guest) (config : Settings) (v : ProcessValue)
+pub cause_of_slice : (why : WorkFault) (guest : Guest) (config : Settings) (v : ProcessValue)
     (old new : Medium) → HasCauseAt why guest config v old new
     → HasDiskCause config (Worker why) old new
 cause_of_slice (Disk fault) guest config v old new cause = cause
@@ -163,7 +163,7 @@ module _ (m : Module) (config : Settings) (guest : Guest) (promise : Promise) (s
 
 -- what it leaves of a life, but for its end
 pub record CallFails (m : Module) (config : Settings) (promise : Promise) (stage : Stage)
-    (why : DurableFault) (exchanges : List Exchange) (old new : Medium) : Type 0 where
+    (why : WorkFault) (exchanges : List Exchange) (old new : Medium) : Type 0 where
   pub events : List Event
   pub kept : AreKept m config promise stage events
   pub told : told_in events ≡ released_in exchanges
@@ -184,7 +184,7 @@ pub record CallFails (m : Module) (config : Settings) (promise : Promise) (stage
   pub counted : CallsForEvents (length events + 1) old new
 
 pub call_fails : (m : Module) (config : Settings) (guest : Guest) (promise : Promise)
-    (stage : Stage) (act : Act) (cause : Cause) (why : DurableFault) (w : DurableValue)
+    (stage : Stage) (act : Act) (cause : Cause) (why : WorkFault) (w : DurableValue)
     (exchanges : List Exchange) (old new : Medium) → ComesOf why cause
     → HasDiskCause config (Worker why) old new → promise.has_opened ≡ true
     → CallCarries m config guest promise stage act (Fails cause) w old new exchanges

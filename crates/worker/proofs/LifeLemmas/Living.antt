@@ -35,9 +35,9 @@ use Rattle.worker_store.specs.laws.Carried.{PromisesNoMore}
 use Rattle.worker_store.proofs.LawLemmas.Carrying.{less_is_held}
 use Rattle.worker_store.proofs.LawLemmas.Pieces.{parts_are_foretold}
 use Rattle.worker_store.specs.declared.fault.StoreFault.TheVariants as store
-use Rattle.ephemeral_worker.specs.declared.fault.WorkFault.TheVariants as work
+use Rattle.ephemeral_worker.specs.declared.fault.SliceFault.TheVariants as slice
 use Rattle.ephemeral_worker.specs.declared.fault.Refusal.TheVariants as refusal
-use Rattle.worker.specs.declared.fault.DurableFault.TheVariants.{Work, Disk, Store}
+use Rattle.worker.specs.declared.fault.WorkFault.TheVariants.{Work, Disk, Store}
 use Rattle.worker.specs.declared.recover_fault.RecoverFault.{RecoverFault}
 use Rattle.worker.specs.declared.recover_fault.RecoverFault.TheVariants as recover
 use Rattle.worker.specs.rules.CallCounts.{CallsForEvents}
@@ -108,18 +108,18 @@ module _ (bytes : List ℕ) (config : Settings) (inputs : Inputs) (exchanges : L
       subst (λ (c : Cause). HasDiskFault inputs.fails c calls) (sym is) told)
       (λ (stopped : HasStopped inputs.stop calls).
       absurd (not_both inputs.stop calls stopped going)) (met.faults later failed)
-  fault_of (recover.Worker (Work work.Source)) cause (inl is) disk =
+  fault_of (recover.Worker (Work slice.Source)) cause (inl is) disk =
       other_fault inputs.fails calls cause (λ e. absurd (cc))
-  fault_of (recover.Worker (Work work.Source)) cause (inr is) disk =
+  fault_of (recover.Worker (Work slice.Source)) cause (inr is) disk =
       other_fault inputs.fails calls cause (λ e. absurd (cc))
-  fault_of (recover.Worker (Work work.Outlet)) cause is disk =
+  fault_of (recover.Worker (Work slice.Outlet)) cause is disk =
       other_fault inputs.fails calls cause (λ e. absurd (cc))
-  fault_of (recover.Worker (Work work.Memory)) cause is disk =
+  fault_of (recover.Worker (Work slice.Memory)) cause is disk =
       other_fault inputs.fails calls cause (λ e. absurd (cc))
-  fault_of (recover.Worker (Work (work.Refused refusal.StepsSpent))) cause is disk =
+  fault_of (recover.Worker (Work (slice.Refused refusal.StepsSpent))) cause is disk =
       other_fault inputs.fails calls cause (λ e. absurd (cc))
-  fault_of (recover.Worker (Work (work.Refused (refusal.Front why)))) cause is disk = absurd is
-  fault_of (recover.Worker (Work work.Failed)) cause is disk = absurd is
+  fault_of (recover.Worker (Work (slice.Refused (refusal.Front why)))) cause is disk = absurd is
+  fault_of (recover.Worker (Work slice.Failed)) cause is disk = absurd is
   fault_of (recover.Worker (Store store.TooBig)) cause is disk =
       other_fault inputs.fails calls cause (λ e. absurd (cc))
   fault_of (recover.Worker (Store other)) cause is disk = absurd is

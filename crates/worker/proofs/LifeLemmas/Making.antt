@@ -17,7 +17,7 @@ use Rattle.worker_rules.specs.Holds.{KeepsPromise, KeepsBounds}
 use Rattle.worker_rules.proofs.Promised.{calls_join}
 use Rattle.worker_store.specs.laws.Pieces.{IsForetold}
 use Rattle.worker_store.proofs.LawLemmas.Pieces.{parts_are_foretold}
-use Rattle.worker.specs.declared.fault.DurableFault.{DurableFault}
+use Rattle.worker.specs.declared.fault.WorkFault.{WorkFault}
 use Rattle.worker.specs.declared.recover_fault.RecoverFault.{RecoverFault}
 use Rattle.worker.specs.declared.recover_fault.RecoverFault.TheVariants.{Worker}
 use Rattle.worker.specs.rules.CallCounts.{CallsForEvents}
@@ -121,7 +121,7 @@ module _ (m : Module) (config : Settings) where
       }
 
   -- the call that failed
-  calls_end : (promise : Promise) (stage : Stage) (why : DurableFault) (exchanges : List Exchange)
+  calls_end : (promise : Promise) (stage : Stage) (why : WorkFault) (exchanges : List Exchange)
       (old last : Medium) → CallFails m config promise stage why exchanges old last
       → CallsMake promise stage exchanges (Err (Worker why)) old last
   calls_end promise stage why exchanges old last call = record {

@@ -28,10 +28,10 @@ use Rattle.worker_rules.specs.Holds.{IsNothingYet, KeepsPromise, KeepsBounds}
 use Rattle.worker_store.specs.laws.Pieces.{IsForetold}
 use Rattle.worker_store.proofs.LawLemmas.Pieces.{parts_are_foretold}
 use Rattle.worker_store.specs.declared.fault.StoreFault.TheVariants as store
-use Rattle.ephemeral_worker.specs.declared.fault.WorkFault.TheVariants as work
+use Rattle.ephemeral_worker.specs.declared.fault.SliceFault.TheVariants as slice
 use Rattle.ephemeral_worker.specs.declared.fault.Refusal.TheVariants as refusal
-use Rattle.worker.specs.declared.fault.DurableFault.{DurableFault}
-use Rattle.worker.specs.declared.fault.DurableFault.TheVariants.{Work, Disk, Store}
+use Rattle.worker.specs.declared.fault.WorkFault.{WorkFault}
+use Rattle.worker.specs.declared.fault.WorkFault.TheVariants.{Work, Disk, Store}
 use Rattle.worker.specs.declared.recover_fault.RecoverFault.{RecoverFault}
 use Rattle.worker.specs.declared.recover_fault.RecoverFault.TheVariants.{Worker}
 use Rattle.worker.specs.rules.CallCounts.{most_calls, most_creating, most_recovering}
@@ -176,14 +176,14 @@ module _ (m : Module) (config : Settings) (so_far : Promise) (inputs : Inputs) w
   why_in_vain : (events : ℕ) (phase : Phase) (why : RecoverFault) (old new : Medium)
       → so_far.events ≤ events → MayNotReopen config so_far phase why old new
       → HasNotOpened events phase why old new
-  why_in_vain events phase (Worker (Work work.Memory)) old new grow may = record {
+  why_in_vain events phase (Worker (Work slice.Memory)) old new grow may = record {
     cause = OfMemory;
     is = refl;
     failed = subst (λ (z : Phase). HasFailed events z OfMemory) (sym may) tt;
     cut = subst IsCutIn (sym may) tt;
     disk = tt;
   }
-  why_in_vain events phase (Worker (Work work.Outlet)) old new grow may = record {
+  why_in_vain events phase (Worker (Work slice.Outlet)) old new grow may = record {
     cause = OfOutlet;
     is = refl;
     failed = subst (λ (z : Phase). HasFailed events z OfOutlet) (sym may) tt;
@@ -283,12 +283,12 @@ module _ (m : Module) (config : Settings) (so_far : Promise) (inputs : Inputs) w
         let some = some_writes (geometry_of config (length bytes)) in
         let same = later.room in absurd (omega (arith, some, room, same, none_there))
 
-    why_not_created : (why : DurableFault) → IsLater mid new
+    why_not_created : (why : WorkFault) → IsLater mid new
         → IsNotCreatedOn bytes config mid new why
         → HasNotOpened so_far.events Shut (Worker why) found new
-    why_not_created (Work (work.Refused (refusal.Front why))) after is = absurd (is.2 m accepted)
-    why_not_created (Work (work.Refused refusal.StepsSpent)) after is = absurd is
-    why_not_created (Work work.Memory) after is = record {
+    why_not_created (Work (slice.Refused (refusal.Front why))) after is = absurd (is.2 m accepted)
+    why_not_created (Work (slice.Refused refusal.StepsSpent)) after is = absurd is
+    why_not_created (Work slice.Memory) after is = record {
       cause = OfMemory;
       is = refl;
       failed = tt;
@@ -321,7 +321,7 @@ module _ (m : Module) (config : Settings) (so_far : Promise) (inputs : Inputs) w
           disk = inr (omega (arith, failed, before));
         }
 
-    created_in_vain : (why : DurableFault) → LeavesCreation m config so_far so_far mid new
+    created_in_vain : (why : WorkFault) → LeavesCreation m config so_far so_far mid new
         → IsNotCreatedOn bytes config mid new why → IsUnopenedBy Creates [] (Worker why) found new
     created_in_vain why leaves is =
         let carried = leaves.carried in
@@ -360,7 +360,7 @@ module _ (m : Module) (config : Settings) (so_far : Promise) (inputs : Inputs) w
           (settled : ((medium mid).unsynced ≡ 0) ⊎ ((medium found).faults < (medium mid).faults))
           (image : Image) (leaves : (medium mid).may_leave image)
           (begun : so_far.was_created ≡ true) where
-        created_so : (told : List Begun) (result : Result DurableValue DurableFault)
+        created_so : (told : List Begun) (result : Result DurableValue WorkFault)
             → FindsNone so_far told (medium found) (medium mid)
             → CreationKeeps bytes config result (medium mid) (medium disk)
             → IfErr result (IsNotCreatedOn bytes config (medium mid) (medium disk))
@@ -375,7 +375,7 @@ module _ (m : Module) (config : Settings) (so_far : Promise) (inputs : Inputs) w
             (medium found) (medium disk)) (sym none.none_told)
             (by result later here.0 (creation m so_far inputs accepted here.0 begun) causes)
           where
-            by : (result : Result DurableValue DurableFault) → IsLater (medium found) (medium mid)
+            by : (result : Result DurableValue WorkFault) → IsLater (medium found) (medium mid)
                 → IsNothingYet so_far
                 → OpensOrNot m config so_far inputs result (medium mid) (medium disk)
                 → IfErr result (IsNotCreatedOn bytes config (medium mid) (medium disk))

@@ -5,8 +5,8 @@ use Rattle.process_rules.specs.Processes.{ProcessState, Guest}
 use Rattle.sector_disk.specs.rules.Medium.{Medium}
 use Rattle.worker_rules.specs.Courses.{Stage}
 use Rattle.worker_rules.specs.Promises.{Promise}
-use Rattle.worker.specs.declared.fault.DurableFault.{DurableFault}
-use Rattle.worker.specs.declared.fault.DurableFault.TheVariants.{Work, Disk, Store}
+use Rattle.worker.specs.declared.fault.WorkFault.{WorkFault}
+use Rattle.worker.specs.declared.fault.WorkFault.TheVariants.{Work, Disk, Store}
 use Rattle.worker.specs.declared.recover_fault.RecoverFault.TheVariants.{Worker}
 use Rattle.worker.specs.rules.DurableValues.{DurableValue}
 use Rattle.worker.specs.rules.OpenWorkers.{IsOpenOn}
@@ -16,7 +16,7 @@ use Rattle.worker.proofs.LifeLemmas.Called.{HasDiskCause}
 
 -- what a checkpoint says of its error
 pub cause_of_saving : (m : Module) (config : Settings) (guest : Guest) (promise : Promise)
-    (stage : Stage) (p : ProcessState) (w : DurableValue) (why : DurableFault) (old new : Medium)
+    (stage : Stage) (p : ProcessState) (w : DurableValue) (why : WorkFault) (old new : Medium)
     → IsOpenOn m config guest promise stage p w old → IsCheckpointFault w old new why
     → HasDiskCause config (Worker why) old new
 cause_of_saving m config guest promise stage p w (Disk fault) old new open_on fails =

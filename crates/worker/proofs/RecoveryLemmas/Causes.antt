@@ -11,12 +11,12 @@ use Rattle.record_replay.specs.rules.Calls.{Taking}
 use Rattle.worker_store.specs.declared.fault.StoreFault.{StoreFault}
 use Rattle.worker_store.specs.declared.fault.StoreFault.TheVariants as store
 use Rattle.worker_store.specs.rules.Calls.{ReopeningFails}
-use Rattle.ephemeral_worker.specs.declared.fault.WorkFault.TheVariants as work
-use Rattle.worker.specs.declared.fault.DurableFault.TheVariants.{Work, Disk, Store}
+use Rattle.ephemeral_worker.specs.declared.fault.SliceFault.TheVariants as slice
+use Rattle.worker.specs.declared.fault.WorkFault.TheVariants.{Work, Disk, Store}
 use Rattle.worker.specs.declared.found.Found.{Found}
 use Rattle.worker.specs.declared.recover_fault.RecoverFault.{RecoverFault}
 use Rattle.worker.specs.declared.recover_fault.RecoverFault.TheVariants as recover
-use Rattle.worker.specs.rules.DurableFaults.{fault_of_store}
+use Rattle.worker.specs.rules.WorkFaults.{fault_of_store}
 use Rattle.worker.specs.rules.DurableValues.{DurableValue}
 use Rattle.worker.specs.rules.RecoverFaults.{fault_of_replay}
 use Rattle.worker.specs.rules.Recoveries.{HasRecoveryCause, IsSettledBy}
@@ -38,15 +38,15 @@ module _ (old sync mid : Medium) (earlier : old.faults ≤ sync.faults) where
   pub unfound_cause : (why : RecoverFault)
       → ((fault : DiskFault) → found_none why ≡ found_none (recover.Worker (Disk fault))
       → sync.faults < mid.faults)
-      → (found_none why ≡ found_none (recover.Worker (Work work.Failed)) → ⊥)
+      → (found_none why ≡ found_none (recover.Worker (Work slice.Failed)) → ⊥)
       → HasRecoveryCause old mid why
   unfound_cause recover.NotAnImage cause unfailed = tt
   unfound_cause recover.Diverged cause unfailed = tt
-  unfound_cause (recover.Worker (Work work.Source)) cause unfailed = tt
-  unfound_cause (recover.Worker (Work work.Outlet)) cause unfailed = tt
-  unfound_cause (recover.Worker (Work work.Memory)) cause unfailed = tt
-  unfound_cause (recover.Worker (Work work.Failed)) cause unfailed = unfailed refl
-  unfound_cause (recover.Worker (Work (work.Refused why))) cause unfailed = tt
+  unfound_cause (recover.Worker (Work slice.Source)) cause unfailed = tt
+  unfound_cause (recover.Worker (Work slice.Outlet)) cause unfailed = tt
+  unfound_cause (recover.Worker (Work slice.Memory)) cause unfailed = tt
+  unfound_cause (recover.Worker (Work slice.Failed)) cause unfailed = unfailed refl
+  unfound_cause (recover.Worker (Work (slice.Refused why))) cause unfailed = tt
   unfound_cause (recover.Worker (Disk fault)) cause unfailed =
       let failed = cause fault refl in inl (omega (arith, earlier, failed))
   unfound_cause (recover.Worker (Store fault)) cause unfailed = tt

@@ -39,14 +39,14 @@ use Rattle.worker_store.specs.declared.fault.StoreFault.{StoreFault}
 use Rattle.worker_store.specs.declared.fault.StoreFault.TheVariants as store
 use Rattle.worker_store.specs.laws.Laws.{ImagesFitAreas}
 use Rattle.worker_store.specs.rules.Calls.{ReopeningFails}
-use Rattle.ephemeral_worker.specs.declared.fault.WorkFault.TheVariants as work
-use Rattle.worker.specs.declared.fault.DurableFault.TheVariants.{Work, Disk, Store}
+use Rattle.ephemeral_worker.specs.declared.fault.SliceFault.TheVariants as slice
+use Rattle.worker.specs.declared.fault.WorkFault.TheVariants.{Work, Disk, Store}
 use Rattle.worker.specs.declared.found.Found.{Found}
 use Rattle.worker.specs.declared.recover_fault.RecoverFault.{RecoverFault}
 use Rattle.worker.specs.declared.recover_fault.RecoverFault.TheVariants as recover
 use Rattle.worker.specs.rules.CallCounts.{most_recovering}
 use Rattle.worker.specs.rules.DurableCalls.{TakesTooFew}
-use Rattle.worker.specs.rules.DurableFaults.{fault_of_store}
+use Rattle.worker.specs.rules.WorkFaults.{fault_of_store}
 use Rattle.worker.specs.rules.RecoverFaults.{fault_of_replay}
 use Rattle.worker.specs.rules.Recoveries.{IsNoWorker, IsSettledBy, MayNotReopen}
 use Rattle.worker.specs.rules.Recoveries.{ReopensInVain, EndsInVain}
@@ -259,7 +259,7 @@ module _ {D O : Type 0} (medium : D → Medium) (takes : Taking O) (m : Module)
                 lines (lives inputs) (omega arith) refl foretold in
                 let now = told.1 in
                 told_in_vain inputs (all_taken (suc first) lines)
-                (recover.Worker (Work work.Memory)) (length come.process.host.lines) lines_few
+                (recover.Worker (Work slice.Memory)) (length come.process.host.lines) lines_few
                 told.0 now.shut,
           )
       stop_fails replay.Outlet stops =
@@ -275,7 +275,7 @@ module _ {D O : Type 0} (medium : D → Medium) (takes : Taking O) (m : Module)
                 (at_first inputs) (count_at there.point come.front) first (suc first) come.process
                 r.told r.others r.line (lives inputs) (omega arith) r.are foretold in
                 told_in_vain inputs (last_refused (suc first) r.told r.line)
-                (recover.Worker (Work work.Outlet)) (length come.process.host.lines) lines_few
+                (recover.Worker (Work slice.Outlet)) (length come.process.host.lines) lines_few
                 told.0 told.1,
           )
 

@@ -32,11 +32,11 @@ use Rattle.worker_store.specs.declared.store.WorkerStore.{WorkerStore}
 use Rattle.worker_store.specs.rules.Calls.{IsAgain, LeavesPointOrNext, StoresAgain}
 use Rattle.worker_store.specs.rules.Calls.{ReopeningFails, CommitCalls}
 use Rattle.worker_store.specs.rules.Stores.{IsStoreOf, begun_store}
-use Rattle.worker.specs.declared.fault.DurableFault.TheVariants.{Store}
+use Rattle.worker.specs.declared.fault.WorkFault.TheVariants.{Store}
 use Rattle.worker.specs.declared.found.Found.{Found}
 use Rattle.worker.specs.declared.recover_fault.RecoverFault.{RecoverFault}
 use Rattle.worker.specs.declared.recover_fault.RecoverFault.TheVariants.{Worker}
-use Rattle.worker.specs.rules.DurableFaults.{fault_of_store}
+use Rattle.worker.specs.rules.WorkFaults.{fault_of_store}
 use Rattle.worker.specs.rules.DurableValues.{DurableValue}
 use Rattle.worker.specs.rules.RecoverFaults.{fault_of_replay}
 use Rattle.worker.specs.Revivals.{WritesNext, OpensStore, OpensNone, OpensAgain}

@@ -44,12 +44,12 @@ use Rattle.worker_store.specs.declared.fault.StoreFault.{StoreFault}
 use Rattle.worker_store.specs.declared.fault.StoreFault.TheVariants as store
 use Rattle.worker_store.specs.rules.Calls.{ReopeningFails}
 use Rattle.worker_store.specs.laws.Laws.{ImagesFitAreas}
-use Rattle.ephemeral_worker.specs.declared.fault.WorkFault.TheVariants as work
-use Rattle.worker.specs.declared.fault.DurableFault.TheVariants.{Work, Disk, Store}
+use Rattle.ephemeral_worker.specs.declared.fault.SliceFault.TheVariants as slice
+use Rattle.worker.specs.declared.fault.WorkFault.TheVariants.{Work, Disk, Store}
 use Rattle.worker.specs.declared.found.Found.{Found}
 use Rattle.worker.specs.declared.recover_fault.RecoverFault.{RecoverFault}
 use Rattle.worker.specs.declared.recover_fault.RecoverFault.TheVariants as recover
-use Rattle.worker.specs.rules.DurableFaults.{fault_of_store}
+use Rattle.worker.specs.rules.WorkFaults.{fault_of_store}
 use Rattle.worker.specs.rules.RecoverFaults.{fault_of_replay}
 use Rattle.worker.specs.rules.DurableValues.{DurableValue}
 use Rattle.worker.specs.rules.Recoveries.{IsNoWorker, IsNoWorkerOr, SaysNothing}
@@ -151,11 +151,11 @@ module _ {D O : Type 0} (medium : D → Medium) (takes : Taking O) (old new : D)
 says_or : (why : RecoverFault) → SaysNothing why → IsNoWorkerOr why
 says_or recover.NotAnImage says = absurd says
 says_or recover.Diverged says = absurd says
-says_or (recover.Worker (Work work.Source)) says = absurd says
-says_or (recover.Worker (Work work.Outlet)) says = absurd says
-says_or (recover.Worker (Work work.Memory)) says = tt
-says_or (recover.Worker (Work work.Failed)) says = absurd says
-says_or (recover.Worker (Work (work.Refused why))) says = absurd says
+says_or (recover.Worker (Work slice.Source)) says = absurd says
+says_or (recover.Worker (Work slice.Outlet)) says = absurd says
+says_or (recover.Worker (Work slice.Memory)) says = tt
+says_or (recover.Worker (Work slice.Failed)) says = absurd says
+says_or (recover.Worker (Work (slice.Refused why))) says = absurd says
 says_or (recover.Worker (Disk fault)) says = tt
 says_or (recover.Worker (Store fault)) says = absurd says
 
@@ -169,15 +169,15 @@ finds_vain : (m : Module) (config : Settings) (promise : Promise) (inputs : Inpu
     → EndsInVain m config promise inputs [] why old mid
 finds_vain m config promise inputs old mid recover.NotAnImage or cause none vain = absurd or
 finds_vain m config promise inputs old mid recover.Diverged or cause none vain = absurd or
-finds_vain m config promise inputs old mid (recover.Worker (Work work.Source)) or cause none vain =
+finds_vain m config promise inputs old mid (recover.Worker (Work slice.Source)) or cause none vain =
     absurd or
-finds_vain m config promise inputs old mid (recover.Worker (Work work.Outlet)) or cause none vain =
+finds_vain m config promise inputs old mid (recover.Worker (Work slice.Outlet)) or cause none vain =
     absurd or
-finds_vain m config promise inputs old mid (recover.Worker (Work work.Memory)) or cause none vain =
+finds_vain m config promise inputs old mid (recover.Worker (Work slice.Memory)) or cause none vain =
     vain refl
-finds_vain m config promise inputs old mid (recover.Worker (Work work.Failed)) or cause none vain =
+finds_vain m config promise inputs old mid (recover.Worker (Work slice.Failed)) or cause none vain =
     absurd or
-finds_vain m config promise inputs old mid (recover.Worker (Work (work.Refused why))) or cause none
+finds_vain m config promise inputs old mid (recover.Worker (Work (slice.Refused why))) or cause none
     vain = absurd or
 finds_vain m config promise inputs old mid (recover.Worker (Disk fault)) or cause none vain =
     vain (refl, inr (cause fault refl))
@@ -219,12 +219,12 @@ nothing_revived : {O : Type 0} (takes : Taking O) {disk : Image} {m : Module} {c
     (why : RecoverFault) → SaysNothing why → RevivesInVain takes stands why outlet outlet
 nothing_revived takes stands outlet recover.NotAnImage says = absurd says
 nothing_revived takes stands outlet recover.Diverged says = absurd says
-nothing_revived takes stands outlet (recover.Worker (Work work.Source)) says = absurd says
-nothing_revived takes stands outlet (recover.Worker (Work work.Outlet)) says = absurd says
-nothing_revived takes stands outlet (recover.Worker (Work work.Memory)) says =
+nothing_revived takes stands outlet (recover.Worker (Work slice.Source)) says = absurd says
+nothing_revived takes stands outlet (recover.Worker (Work slice.Outlet)) says = absurd says
+nothing_revived takes stands outlet (recover.Worker (Work slice.Memory)) says =
     tells_none takes stands.saved.lines stands.last outlet
-nothing_revived takes stands outlet (recover.Worker (Work work.Failed)) says = absurd says
-nothing_revived takes stands outlet (recover.Worker (Work (work.Refused why))) says = absurd says
+nothing_revived takes stands outlet (recover.Worker (Work slice.Failed)) says = absurd says
+nothing_revived takes stands outlet (recover.Worker (Work (slice.Refused why))) says = absurd says
 nothing_revived takes stands outlet (recover.Worker (Disk fault)) says =
     tells_none takes stands.saved.lines stands.last outlet
 nothing_revived takes stands outlet (recover.Worker (Store fault)) says = absurd says

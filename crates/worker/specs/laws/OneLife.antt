@@ -23,7 +23,7 @@ use Rattle.worker_rules.specs.Between.{IsLivedOn}
 use Rattle.worker_rules.specs.Exchanges.{was_taken, release_of}
 use Rattle.worker_store.specs.laws.Pieces.{Foretell}
 use Rattle.ephemeral_worker.specs.declared.now.Now.{Now}
-use Rattle.worker.specs.declared.fault.DurableFault.{DurableFault}
+use Rattle.worker.specs.declared.fault.WorkFault.{WorkFault}
 use Rattle.worker.specs.declared.recover_fault.RecoverFault.{RecoverFault}
 use Rattle.worker.specs.declared.recover_fault.RecoverFault.TheVariants as recover
 use Rattle.worker.specs.rules.CallCounts.{CallsForEvents}
@@ -52,7 +52,7 @@ pub data CallsInOrder {D S O : Type 0} (medium : D → Medium) (gives : Giving S
         → CallsInOrder medium gives takes (Slice fuel ∷ acts) w disk source outlet left last
         source_last
         outlet_last
-    slice_failed : {fuel : ℕ} {acts : List Act} {w w' : DurableValue} {why : DurableFault}
+    slice_failed : {fuel : ℕ} {acts : List Act} {w w' : DurableValue} {why : WorkFault}
         {disk last : D} {source source' : S} {outlet outlet' : O}
         → SliceCarries gives takes w fuel (Err why) w' (medium disk) (medium last) source source'
         outlet outlet'
@@ -66,7 +66,7 @@ pub data CallsInOrder {D S O : Type 0} (medium : D → Medium) (gives : Giving S
         → CallsInOrder medium gives takes (Checkpoint ∷ acts) w disk source outlet left last
         source_last
         outlet_last
-    saving_failed : {acts : List Act} {w w' : DurableValue} {why : DurableFault} {disk last : D}
+    saving_failed : {acts : List Act} {w w' : DurableValue} {why : WorkFault} {disk last : D}
         {source : S} {outlet : O}
         → CheckpointCarries w (Err why) w' (medium disk) (medium last)
         → CheckpointFails w (medium disk) (medium last) why
@@ -74,7 +74,7 @@ pub data CallsInOrder {D S O : Type 0} (medium : D → Medium) (gives : Giving S
         (Err (recover.Worker why)) last source outlet
 
 -- what a creation answers, in the words of a recovery
-abbrev pub opened_by : Result DurableValue DurableFault → Result DurableValue RecoverFault
+abbrev pub opened_by : Result DurableValue WorkFault → Result DurableValue RecoverFault
 opened_by (Ok w) = Ok w
 opened_by (Err why) = Err (recover.Worker why)
 
@@ -88,7 +88,7 @@ pub data BeginsLife {D O : Type 0} (medium : D → Medium) (takes : Taking O) (b
         → RecoveryCarries takes result (medium found) (medium disk) outlet outlet'
         → BeginsLife medium takes bytes config found outlet recovers result disk outlet'
     created : {found mid disk : D} {outlet outlet' : O} (none : Result DurableValue RecoverFault)
-        (result : Result DurableValue DurableFault) (image : Image)
+        (result : Result DurableValue WorkFault) (image : Image)
         → (medium mid).may_leave image → SaysNoWorker none
         → Recovers medium takes none found mid outlet outlet'
         → RecoveryCarries takes none (medium found) (medium mid) outlet outlet'

@@ -17,9 +17,9 @@ use Rattle.snapshot.specs.rules.Calls.{AreStores, with_head}
 use Rattle.worker_rules.specs.Courses.{Stage}
 use Rattle.worker_rules.specs.Promises.{Promise}
 use Rattle.worker_store.specs.declared.fault.StoreFault.TheVariants as store
-use Rattle.ephemeral_worker.specs.declared.fault.WorkFault.TheVariants as work
-use Rattle.worker.specs.declared.fault.DurableFault.{DurableFault}
-use Rattle.worker.specs.declared.fault.DurableFault.TheVariants.{Work, Disk, Store}
+use Rattle.ephemeral_worker.specs.declared.fault.SliceFault.TheVariants as slice
+use Rattle.worker.specs.declared.fault.WorkFault.{WorkFault}
+use Rattle.worker.specs.declared.fault.WorkFault.TheVariants.{Work, Disk, Store}
 use Rattle.worker.specs.rules.DurableValues.{DurableValue}
 use Rattle.worker.specs.rules.OpenWorkers.{IsOpenOn}
 
@@ -42,7 +42,7 @@ CheckpointCalls w result old new = (stores : List DiskCall)
 
 -- When each error comes of a worker that is open. The number of the generation is at its end, or
 -- the disk failed, or it surely takes too few writes between two syncs.
-abbrev pub IsCheckpointFault : DurableValue → Medium → Medium → DurableFault → Type 0
+abbrev pub IsCheckpointFault : DurableValue → Medium → Medium → WorkFault → Type 0
 IsCheckpointFault w old new (Store store.TooBig) = NUMBERS_END ≤ w.store.journal.generation + 1
 IsCheckpointFault w old new (Disk fault) =
     (old.room < sectors_for (length w.store.journal.kept))
@@ -50,7 +50,7 @@ IsCheckpointFault w old new (Disk fault) =
 IsCheckpointFault w old new other = ⊥
 
 -- so it is whatever was promised of it
-abbrev pub CheckpointFails : DurableValue → Medium → Medium → DurableFault → Type 0
+abbrev pub CheckpointFails : DurableValue → Medium → Medium → WorkFault → Type 0
 CheckpointFails w old new fault =
     (m : Module) (config : Settings) (guest : Guest) (promise : Promise) (stage : Stage)
     (p : ProcessState) → IsOpenOn m config guest promise stage p w old
@@ -59,8 +59,8 @@ CheckpointFails w old new fault =
 -- When each error comes, whatever stands on the disk. Then the journal may also have too few
 -- sectors for the pending records, and the area for the image. The disk may have taken writes since
 -- its last good sync. The worker says that it has failed only where it had failed before.
-abbrev pub HasCheckpointCause : DurableValue → Medium → Medium → DurableFault → Type 0
-HasCheckpointCause w old new (Work work.Failed) = w.has_failed ≡ true
+abbrev pub HasCheckpointCause : DurableValue → Medium → Medium → WorkFault → Type 0
+HasCheckpointCause w old new (Work slice.Failed) = w.has_failed ≡ true
 HasCheckpointCause w old new (Store store.TooBig) = (NUMBERS_END ≤ w.store.journal.generation + 1)
     ⊎ (SECTOR_SIZE * w.store.geometry.area_sectors < length (image (saved_of w.process)))
 HasCheckpointCause w old new (Store store.Full) =

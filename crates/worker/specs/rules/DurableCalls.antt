@@ -23,10 +23,10 @@ use Rattle.worker_store.specs.laws.Pieces.{IsForetold}
 use Rattle.worker_store.specs.declared.fault.StoreFault.TheVariants as store
 use Rattle.ephemeral_worker.specs.declared.now.Now.{Now}
 use Rattle.ephemeral_worker.specs.declared.now.Now.TheVariants as now
-use Rattle.ephemeral_worker.specs.declared.fault.WorkFault.TheVariants as work
+use Rattle.ephemeral_worker.specs.declared.fault.SliceFault.TheVariants as slice
 use Rattle.ephemeral_worker.specs.declared.fault.Refusal.TheVariants as refusal
-use Rattle.worker.specs.declared.fault.DurableFault.{DurableFault}
-use Rattle.worker.specs.declared.fault.DurableFault.TheVariants.{Work, Disk, Store}
+use Rattle.worker.specs.declared.fault.WorkFault.{WorkFault}
+use Rattle.worker.specs.declared.fault.WorkFault.TheVariants.{Work, Disk, Store}
 use Rattle.worker.specs.rules.CallCounts.{CallsForEvents}
 use Rattle.worker.specs.rules.DurableValues.{DurableValue}
 use Rattle.worker.specs.rules.OpenWorkers.{IsOpenOn}
@@ -35,30 +35,30 @@ use Rattle.worker.specs.rules.OpenWorkers.{IsOpenOn}
 
 -- What an error of an open worker is in a life. A source fails, or hands over what doesn't fit. A
 -- number at its end is that of a step, of a line or of a generation. No other error comes.
-abbrev pub ComesOf : DurableFault → Cause → Type 0
-ComesOf (Work work.Source) cause = (cause ≡ OfSource) ⊎ (cause ≡ OfAnswer)
-ComesOf (Work work.Outlet) cause = cause ≡ OfOutlet
-ComesOf (Work work.Memory) cause = cause ≡ OfMemory
-ComesOf (Work (work.Refused refusal.StepsSpent)) cause = cause ≡ OfBounds
-ComesOf (Work (work.Refused (refusal.Front why))) cause = ⊥
-ComesOf (Work work.Failed) cause = ⊥
+abbrev pub ComesOf : WorkFault → Cause → Type 0
+ComesOf (Work slice.Source) cause = (cause ≡ OfSource) ⊎ (cause ≡ OfAnswer)
+ComesOf (Work slice.Outlet) cause = cause ≡ OfOutlet
+ComesOf (Work slice.Memory) cause = cause ≡ OfMemory
+ComesOf (Work (slice.Refused refusal.StepsSpent)) cause = cause ≡ OfBounds
+ComesOf (Work (slice.Refused (refusal.Front why))) cause = ⊥
+ComesOf (Work slice.Failed) cause = ⊥
 ComesOf (Disk fault) cause = cause ≡ OfDisk
 ComesOf (Store store.TooBig) cause = cause ≡ OfBounds
 ComesOf (Store other) cause = ⊥
 
 -- an error, with its cause
-abbrev pub IsFailureOf : DurableFault → Reply → Type 0
+abbrev pub IsFailureOf : WorkFault → Reply → Type 0
 IsFailureOf why reply = (cause : Cause) × ComesOf why cause × (reply ≡ Fails cause)
 
 -- what a slice answers
-abbrev pub IsReplyOf : Result Now DurableFault → Reply → Type 0
+abbrev pub IsReplyOf : Result Now WorkFault → Reply → Type 0
 IsReplyOf (Ok now.Spent) reply = reply ≡ Spent
 IsReplyOf (Ok now.Waiting) reply = reply ≡ Waits
 IsReplyOf (Ok (now.Ended how)) reply = reply ≡ Over (ending_of how)
 IsReplyOf (Err why) reply = IsFailureOf why reply
 
 -- what a checkpoint answers
-abbrev pub IsReplyOfSaving : Result (Unit {0}) DurableFault → Reply → Type 0
+abbrev pub IsReplyOfSaving : Result (Unit {0}) WorkFault → Reply → Type 0
 IsReplyOfSaving (Ok done) reply = reply ≡ Done
 IsReplyOfSaving (Err why) reply = IsFailureOf why reply
 
@@ -77,15 +77,15 @@ pub record NeedsMemory (guest : Guest) (v : ProcessValue) : Type 0 where
 
 -- Why a call fails after which this process is shown. The disk has failed since, or takes too few
 -- writes. Memory was wanted for the next step, or to keep its answer.
-abbrev pub HasCauseAt : DurableFault → Guest → Settings → ProcessValue → Medium → Medium → Type 0
+abbrev pub HasCauseAt : WorkFault → Guest → Settings → ProcessValue → Medium → Medium → Type 0
 HasCauseAt (Disk fault) guest config v old new =
     TakesTooFew config old ⊎ (old.faults < new.faults)
-HasCauseAt (Work work.Memory) guest config v old new = NeedsMemory guest v
+HasCauseAt (Work slice.Memory) guest config v old new = NeedsMemory guest v
 HasCauseAt (Work other) guest config v old new = Unit {0}
 HasCauseAt (Store fault) guest config v old new = Unit {0}
 
 -- where there is one
-abbrev pub HasCauseOf : {T : Type 0} → Result T DurableFault → Guest → Settings → ProcessValue
+abbrev pub HasCauseOf : {T : Type 0} → Result T WorkFault → Guest → Settings → ProcessValue
     → Medium → Medium → Type 0
 HasCauseOf (Ok done) guest config v old new = Unit {0}
 HasCauseOf (Err why) guest config v old new = HasCauseAt why guest config v old new
@@ -121,7 +121,7 @@ pub record CallCarries (m : Module) (config : Settings) (guest : Guest) (promise
 -- that is open on this disk, and wherever a life stands whose source and outlet will say what they
 -- now said, it keeps it.
 abbrev pub SliceCarries : {S O : Type 0} → Giving S → Taking O → DurableValue → ℕ
-    → Result Now DurableFault → DurableValue → Medium → Medium → S → S → O → O → Type 0
+    → Result Now WorkFault → DurableValue → Medium → Medium → S → S → O → O → Type 0
 SliceCarries gives takes old fuel result new disk disk' source source' outlet outlet' =
     (exchanges : List Exchange) × Exchanges gives takes source outlet exchanges source' outlet'
     × ((m : Module) (config : Settings) (guest : Guest) (promise : Promise) (stage : Stage)
@@ -132,7 +132,7 @@ SliceCarries gives takes old fuel result new disk disk' source source' outlet ou
     × CallCarries m config guest promise stage (Slice fuel) reply new disk disk' exchanges)
 
 -- So does a checkpoint, which asks no source and tells no line.
-abbrev pub CheckpointCarries : DurableValue → Result (Unit {0}) DurableFault → DurableValue → Medium
+abbrev pub CheckpointCarries : DurableValue → Result (Unit {0}) WorkFault → DurableValue → Medium
     → Medium → Type 0
 CheckpointCarries old result new disk disk' =
     (m : Module) (config : Settings) (guest : Guest) (promise : Promise) (stage : Stage)

@@ -25,8 +25,8 @@ use Rattle.worker_rules.specs.Holds.{IsNothingYet, CarriesPromise, StaysWithin}
 use Rattle.worker_store.specs.declared.fault.StoreFault.TheVariants as store
 use Rattle.worker_store.specs.rules.Creations.{creation_calls}
 use Rattle.ephemeral_worker.specs.rules.Faults.{IsRefusedByWorker}
-use Rattle.worker.specs.declared.fault.DurableFault.{DurableFault}
-use Rattle.worker.specs.declared.fault.DurableFault.TheVariants.{Work, Disk, Store}
+use Rattle.worker.specs.declared.fault.WorkFault.{WorkFault}
+use Rattle.worker.specs.declared.fault.WorkFault.TheVariants.{Work, Disk, Store}
 use Rattle.worker.specs.rules.CallCounts.{most_creating}
 use Rattle.worker.specs.rules.DurableValues.{DurableValue}
 use Rattle.worker.specs.rules.OpenWorkers.{IsOpenOn}
@@ -53,7 +53,7 @@ pub record IsCreatedOn (bytes : List ℕ) (config : Settings) (w : DurableValue)
 
 -- When each error comes. The module isn't accepted, or the host has no room. Or the disk has too
 -- few sectors. Or it failed, or it surely takes too few writes between two syncs.
-abbrev pub IsNotCreatedOn : List ℕ → Settings → Medium → Medium → DurableFault → Type 0
+abbrev pub IsNotCreatedOn : List ℕ → Settings → Medium → Medium → WorkFault → Type 0
 IsNotCreatedOn bytes config old new (Work why) = IsRefusedByWorker config.pages bytes why
 IsNotCreatedOn bytes config old new (Store (store.Layout TooSmall)) =
     old.sectors < total_sectors (places_for config bytes)
@@ -62,14 +62,14 @@ IsNotCreatedOn bytes config old new (Disk fault) = (spare old ≡ 0)
 IsNotCreatedOn bytes config old new other = ⊥
 
 -- the module or the disk is refused, or the host has no room, before anything is written
-abbrev pub IsRefusedAtFirst : DurableFault → Type 0
+abbrev pub IsRefusedAtFirst : WorkFault → Type 0
 IsRefusedAtFirst (Work why) = Unit {0}
 IsRefusedAtFirst (Store why) = Unit {0}
 IsRefusedAtFirst (Disk fault) = ⊥
 
 -- The disk is laid out by these calls alone, for an image that fits into its area. After an error
 -- they are begun.
-abbrev pub CreationCalls : List ℕ → Settings → Result DurableValue DurableFault → Medium → Medium
+abbrev pub CreationCalls : List ℕ → Settings → Result DurableValue WorkFault → Medium → Medium
     → Type 0
 CreationCalls bytes config (Ok w) old new = new.calls
     ≡ creation_calls (places_for config bytes) (length (image (saved_of w.process))) ++ old.calls
@@ -102,7 +102,7 @@ pub record OpensOn (m : Module) (config : Settings) (promise : Promise) (inputs 
       → LeavesCreation m config promise (after promise (Opened 0 (saved_of w.process))) old new
 
 -- After an error nothing is promised of what a creation has left where no worker was.
-abbrev pub OpensOrNot : Module → Settings → Promise → Inputs → Result DurableValue DurableFault
+abbrev pub OpensOrNot : Module → Settings → Promise → Inputs → Result DurableValue WorkFault
     → Medium → Medium → Type 0
 OpensOrNot m config promise inputs (Ok w) old new = OpensOn m config promise inputs w old new
 OpensOrNot m config promise inputs (Err why) old new =
@@ -110,7 +110,7 @@ OpensOrNot m config promise inputs (Err why) old new =
 
 -- So it is of the module that these bytes spell, where nothing was promised before, and the
 -- creation counts as begun.
-abbrev pub CreationKeeps : List ℕ → Settings → Result DurableValue DurableFault → Medium → Medium
+abbrev pub CreationKeeps : List ℕ → Settings → Result DurableValue WorkFault → Medium → Medium
     → Type 0
 CreationKeeps bytes config result old new =
     (m : Module) (promise : Promise) (inputs : Inputs) → IsAccepted offer config.pages bytes m

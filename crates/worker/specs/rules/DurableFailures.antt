@@ -13,10 +13,10 @@ use Rattle.disk_layout.specs.declared.geometry.Geometry.{Geometry}
 use Rattle.record_replay.specs.rules.Calls.{Giving, Taking, Exchange}
 use Rattle.worker_store.specs.declared.fault.StoreFault.TheVariants as store
 use Rattle.ephemeral_worker.specs.Turns.{working, failing}
-use Rattle.ephemeral_worker.specs.declared.fault.WorkFault.TheVariants as work
+use Rattle.ephemeral_worker.specs.declared.fault.SliceFault.TheVariants as slice
 use Rattle.ephemeral_worker.specs.rules.Faults.{LeadsUpTo, EmitsLast, Fails, IsCause}
-use Rattle.worker.specs.declared.fault.DurableFault.{DurableFault}
-use Rattle.worker.specs.declared.fault.DurableFault.TheVariants.{Work, Disk, Store}
+use Rattle.worker.specs.declared.fault.WorkFault.{WorkFault}
+use Rattle.worker.specs.declared.fault.WorkFault.TheVariants.{Work, Disk, Store}
 use Rattle.worker.specs.rules.DurableValues.{DurableValue}
 
 -- It stops where the disk is wanted. The lines of the last step aren't told yet, or all lines were.
@@ -45,10 +45,10 @@ StopsForMemory guest p fuel exchanges steps q = (steps < fuel) × (q.ended ≡ N
 -- What failed: memory; the disk; the number of the next generation; the store, which may have
 -- failed before. Else it is the source, the outlet or a number, as of a worker without a disk.
 abbrev pub IsDiskCause : Guest → ProcessState → ℕ → List Exchange → ℕ → ProcessState
-    → DurableFault → Type 0
-IsDiskCause guest p fuel exchanges steps q (Work work.Memory) =
+    → WorkFault → Type 0
+IsDiskCause guest p fuel exchanges steps q (Work slice.Memory) =
     StopsForMemory guest p fuel exchanges steps q
-IsDiskCause guest p fuel exchanges steps q (Work work.Failed) =
+IsDiskCause guest p fuel exchanges steps q (Work slice.Failed) =
     (steps ≤ fuel) × StopsAtStore guest p exchanges steps q
 IsDiskCause guest p fuel exchanges steps q (Work other) =
     IsCause guest p fuel exchanges steps q other
@@ -61,7 +61,7 @@ IsDiskCause guest p fuel exchanges steps q (Store fault) =
 
 -- Whichever process was shown has gone on to one that is then shown, up to what failed.
 abbrev pub SlicesOnDiskInVain : {S O : Type 0} → Giving S → Taking O → ProcessValue → ℕ
-    → DurableFault → ProcessValue → S → S → O → O → Type 0
+    → WorkFault → ProcessValue → S → S → O → O → Type 0
 SlicesOnDiskInVain gives takes old fuel why new source source' outlet outlet' =
     (guest : Guest) (p : ProcessState) → ShowsProcess old guest p
     → (fails : Fails gives takes (working old) (failing new) guest p source source' outlet outlet')
@@ -78,10 +78,10 @@ LacksRoom places disk = (spare disk < places.journal_sectors)
 -- When an error of a slice comes, whatever stands on the disk. A fault of the disk comes only where
 -- the disk has failed since, or lacks room. A worker says that it has failed only where it had
 -- failed before. No other fault of its store comes but those of its journal and its next image.
-abbrev pub HasSliceCause : DurableValue → Medium → Medium → DurableFault → Type 0
+abbrev pub HasSliceCause : DurableValue → Medium → Medium → WorkFault → Type 0
 HasSliceCause w old new (Disk fault) =
     LacksRoom w.store.geometry old ⊎ (old.faults < new.faults)
-HasSliceCause w old new (Work work.Failed) = w.has_failed ≡ true
+HasSliceCause w old new (Work slice.Failed) = w.has_failed ≡ true
 HasSliceCause w old new (Work other) = Unit {0}
 HasSliceCause w old new (Store store.Full) = Unit {0}
 HasSliceCause w old new (Store store.TooLong) = Unit {0}

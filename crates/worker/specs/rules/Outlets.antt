@@ -3,8 +3,8 @@ use Rattle.std.specs.Prelude.{◌≡◌, ◌⊎◌, List, Result, Ok, Err}
 use Rattle.std.specs.List.{AllByRecursion}
 use Rattle.record_replay.specs.declared.fault.OutletFault.{OutletFault}
 use Rattle.record_replay.specs.rules.Calls.{Taking, Begun, Released, Releases}
-use Rattle.ephemeral_worker.specs.declared.fault.WorkFault.TheVariants as work
-use Rattle.worker.specs.declared.fault.DurableFault.TheVariants.{Work}
+use Rattle.ephemeral_worker.specs.declared.fault.SliceFault.TheVariants as slice
+use Rattle.worker.specs.declared.fault.WorkFault.TheVariants.{Work}
 use Rattle.worker.specs.declared.recover_fault.RecoverFault.{RecoverFault}
 use Rattle.worker.specs.declared.recover_fault.RecoverFault.TheVariants.{Worker}
 
@@ -34,7 +34,7 @@ HeedsOutlet takes IsTold outlet outlet' = (TakesEach takes outlet outlet' × (Is
 
 -- an error that says that the outlet has failed
 abbrev pub IsOutletFault : RecoverFault → Type 0
-IsOutletFault (Worker (Work work.Outlet)) = Unit {0}
+IsOutletFault (Worker (Work slice.Outlet)) = Unit {0}
 IsOutletFault other = ⊥
 
 -- a result that says so

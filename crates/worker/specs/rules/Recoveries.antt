@@ -33,8 +33,8 @@ use Rattle.worker_rules.specs.Holds.{KeepsBounds, StaysWithin}
 use Rattle.worker_rules.specs.Exchanges.{AreEvents}
 use Rattle.worker_store.specs.laws.Pieces.{IsForetold}
 use Rattle.worker_store.specs.declared.fault.StoreFault.TheVariants as store
-use Rattle.ephemeral_worker.specs.declared.fault.WorkFault.TheVariants as work
-use Rattle.worker.specs.declared.fault.DurableFault.TheVariants.{Work, Disk, Store}
+use Rattle.ephemeral_worker.specs.declared.fault.SliceFault.TheVariants as slice
+use Rattle.worker.specs.declared.fault.WorkFault.TheVariants.{Work, Disk, Store}
 use Rattle.worker.specs.declared.recover_fault.RecoverFault.{RecoverFault}
 use Rattle.worker.specs.declared.recover_fault.RecoverFault.TheVariants.{Worker}
 use Rattle.worker.specs.rules.CallCounts.{most_recovering}
@@ -52,13 +52,13 @@ IsNoWorker other = ⊥
 -- that, or an error that says nothing of what stands on the disk
 abbrev pub IsNoWorkerOr : RecoverFault → Type 0
 IsNoWorkerOr (Worker (Store (store.Layout NotAWorker))) = Unit {0}
-IsNoWorkerOr (Worker (Work work.Memory)) = Unit {0}
+IsNoWorkerOr (Worker (Work slice.Memory)) = Unit {0}
 IsNoWorkerOr (Worker (Disk fault)) = Unit {0}
 IsNoWorkerOr other = ⊥
 
 -- an error that says nothing of what stands on the disk
 abbrev pub SaysNothing : RecoverFault → Type 0
-SaysNothing (Worker (Work work.Memory)) = Unit {0}
+SaysNothing (Worker (Work slice.Memory)) = Unit {0}
 SaysNothing (Worker (Disk fault)) = Unit {0}
 SaysNothing other = ⊥
 
@@ -101,9 +101,9 @@ pub record TellsSome {O : Type 0} (takes : Taking O) (released : ℕ) (p : Proce
 abbrev pub RevivesInVain : {O : Type 0} {disk : Image} {m : Module} {config : Settings}
     {kept : List Kept} {n : ℕ} → Taking O → StandsFor disk m config kept n → RecoverFault → O → O
     → Type 0
-RevivesInVain takes stands (Worker (Work work.Memory)) outlet outlet' =
+RevivesInVain takes stands (Worker (Work slice.Memory)) outlet outlet' =
     TellsSome takes stands.saved.lines stands.last outlet outlet'
-RevivesInVain takes stands (Worker (Work work.Outlet)) outlet outlet' =
+RevivesInVain takes stands (Worker (Work slice.Outlet)) outlet outlet' =
     RefusesFrom takes stands.saved.lines stands.last outlet outlet'
 RevivesInVain takes stands (Worker (Disk fault)) outlet outlet' =
     TellsSome takes stands.saved.lines stands.last outlet outlet'
@@ -198,8 +198,8 @@ pub record Reopens (m : Module) (config : Settings) (promise : Promise) (inputs 
 -- memory was refused, or the outlet took a line no more. Or so much has happened that the number of
 -- a generation may be at its end. No other error comes.
 abbrev pub MayNotReopen : Settings → Promise → Phase → RecoverFault → Medium → Medium → Type 0
-MayNotReopen config promise phase (Worker (Work work.Memory)) old new = phase ≡ Shut
-MayNotReopen config promise phase (Worker (Work work.Outlet)) old new = phase ≡ Unheard
+MayNotReopen config promise phase (Worker (Work slice.Memory)) old new = phase ≡ Shut
+MayNotReopen config promise phase (Worker (Work slice.Outlet)) old new = phase ≡ Unheard
 MayNotReopen config promise phase (Worker (Disk fault)) old new =
     (phase ≡ Shut) × (TakesTooFew config old ⊎ (old.faults < new.faults))
 MayNotReopen config promise phase (Worker (Store store.TooBig)) old new =
@@ -213,7 +213,7 @@ abbrev pub HasRecoveryCause : Medium → Medium → RecoverFault → Type 0
 HasRecoveryCause old new (Worker (Disk fault)) = (old.faults < new.faults)
     ⊎ ((places : Geometry) × (total_sectors places ≤ old.sectors)
     × ((old.room < places.area_sectors) ⊎ (old.room ≡ 0)))
-HasRecoveryCause old new (Worker (Work work.Failed)) = ⊥
+HasRecoveryCause old new (Worker (Work slice.Failed)) = ⊥
 HasRecoveryCause old new other = Unit {0}
 
 -- The lines that were told keep what was promised, and so does the disk.

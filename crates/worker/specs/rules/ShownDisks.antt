@@ -30,11 +30,11 @@ use Rattle.record_replay.specs.rules.Calls.{Taking}
 use Rattle.record_replay.specs.rules.Records.{Recorded}
 use Rattle.record_replay.specs.rules.Replays.{ReplaysUpTo, StopsReplay, TellsFrom}
 use Rattle.ephemeral_worker.specs.declared.fault.Refusal.TheVariants as refusal
-use Rattle.ephemeral_worker.specs.declared.fault.WorkFault.TheVariants as work
+use Rattle.ephemeral_worker.specs.declared.fault.SliceFault.TheVariants as slice
 use Rattle.worker_store.specs.declared.fault.StoreFault.TheVariants as store
 use Rattle.worker_store.specs.rules.AnyDisk.{HasOtherVersion, LacksItsImage}
 use Rattle.snapshot.specs.rules.Heads.{HasNone}
-use Rattle.worker.specs.declared.fault.DurableFault.TheVariants.{Work, Disk, Store}
+use Rattle.worker.specs.declared.fault.WorkFault.TheVariants.{Work, Disk, Store}
 use Rattle.worker.specs.declared.recover_fault.RecoverFault.{RecoverFault}
 use Rattle.worker.specs.declared.recover_fault.RecoverFault.TheVariants as recover
 use Rattle.worker.specs.declared.surveyed.Survey.{Survey}
@@ -95,11 +95,11 @@ ShowsLayoutFault sectors disk fault = GivesContents sectors disk (Err fault)
 abbrev pub ShowsFault : ℕ → Image → RecoverFault → Type 0
 ShowsFault sectors disk (recover.Worker (Store (store.Layout fault))) =
     ShowsLayoutFault sectors disk fault
-ShowsFault sectors disk (recover.Worker (Work (work.Refused (refusal.Front fault)))) =
+ShowsFault sectors disk (recover.Worker (Work (slice.Refused (refusal.Front fault)))) =
     HoldsRefused sectors disk fault
 ShowsFault sectors disk (recover.Worker (Store store.Damaged)) = HoldsNoImage sectors disk
 ShowsFault sectors disk recover.NotAnImage = HoldsNoProcess sectors disk
-ShowsFault sectors disk (recover.Worker (Work work.Memory)) = Unit {0}
+ShowsFault sectors disk (recover.Worker (Work slice.Memory)) = Unit {0}
 ShowsFault sectors disk (recover.Worker (Disk fault)) = Unit {0}
 ShowsFault sectors disk other = ⊥
 
@@ -145,9 +145,9 @@ abbrev pub FailsHeld : {O : Type 0} {sectors : ℕ} {disk : Image} → Taking O
     → HoldsWorker sectors disk → RecoverFault → O → O → Type 0
 FailsHeld takes held recover.Diverged outlet outlet' =
     StopsHeld takes held replay.Diverged outlet outlet'
-FailsHeld takes held (recover.Worker (Work work.Memory)) outlet outlet' =
+FailsHeld takes held (recover.Worker (Work slice.Memory)) outlet outlet' =
     StopsHeld takes held replay.Memory outlet outlet'
-FailsHeld takes held (recover.Worker (Work work.Outlet)) outlet outlet' =
+FailsHeld takes held (recover.Worker (Work slice.Outlet)) outlet outlet' =
     StopsHeld takes held replay.Outlet outlet outlet'
 FailsHeld takes held (recover.Worker (Store store.TooBig)) outlet outlet' =
     (v : ProcessValue) × EndsHeld takes held v outlet outlet' × IsTooBig held v
@@ -170,7 +170,7 @@ AnswersDisk takes sectors disk (Err why) outlet outlet' =
 -- what stands on the disk is refused, before anything is told
 abbrev pub IsRefusal : RecoverFault → Type 0
 IsRefusal (recover.Worker (Store (store.Layout fault))) = Unit {0}
-IsRefusal (recover.Worker (Work (work.Refused why))) = Unit {0}
+IsRefusal (recover.Worker (Work (slice.Refused why))) = Unit {0}
 IsRefusal (recover.Worker (Store store.Damaged)) = Unit {0}
 IsRefusal recover.NotAnImage = Unit {0}
 IsRefusal other = ⊥

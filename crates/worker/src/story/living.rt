@@ -13,7 +13,7 @@ ghost use Rattle.worker.specs.LifeCalls.{beginning_of};
 use crate::story::life::PlannedAct;
 use crate::story::opening::{OpenedWorker, open_worker};
 use crate::story::report::Opening;
-use crate::{DurableFault, RecoverFault, Worker};
+use crate::{RecoverFault, WorkFault, Worker};
 use record_replay::{Outlet, Source};
 use sector_disk::Disk;
 use state_image::write_image;
@@ -137,7 +137,7 @@ fn do_one<D: Disk, S: Source, O: Outlet>(
     act: PlannedAct,
     source: &mut S,
     outlet: &mut O,
-) -> Result<(), DurableFault>
+) -> Result<(), WorkFault>
     requires { total_sectors worker.old.store.geometry ≤ (D.medium disk.old).sectors }
     ensures does { DoesAct D.medium S.gives O.takes (act_of act) worker.old disk.old source.old
         outlet.old result worker.new disk.new source.new outlet.new }

@@ -5,7 +5,7 @@ ghost use Rattle.disk_layout.specs.rules.Places.{total_sectors};
 ghost use Rattle.worker.specs.rules.Recoveries.{IsNoWorker};
 ghost use Rattle.worker.specs.LifeCalls.{LeavesSome, Opens};
 
-use crate::{DurableFault, RecoverFault, Worker};
+use crate::{RecoverFault, WorkFault, Worker};
 use disk_layout::LayoutFault;
 use record_replay::Outlet;
 use sector_disk::Disk;
@@ -59,7 +59,7 @@ fn is_no_worker(fault: RecoverFault) -> bool
     let RecoverFault::Worker(fault) = fault else {
         return false;
     };
-    let DurableFault::Store(fault) = fault else {
+    let WorkFault::Store(fault) = fault else {
         return false;
     };
     let StoreFault::Layout(fault) = fault else {

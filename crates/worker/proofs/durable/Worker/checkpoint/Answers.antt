@@ -1,6 +1,6 @@
 use Rattle.std.proofs.Common.{sym, ◌∙◌, ap, subst}
-use Rattle.worker.specs.declared.fault.DurableFault.TheVariants.{Work}
-use Rattle.ephemeral_worker.specs.declared.fault.WorkFault.TheVariants as work
+use Rattle.worker.specs.declared.fault.WorkFault.TheVariants.{Work}
+use Rattle.ephemeral_worker.specs.declared.fault.SliceFault.TheVariants as slice
 use Rattle.worker.specs.rules.DurableValues.{DurableValue}
 use Rattle.worker.proofs.CheckpointLemmas.{done_keeps, fault_keeps, fault_cause, room_for}
 use Rattle.worker.proofs.CheckpointLemmas.{room_after, saved_in}
@@ -22,18 +22,18 @@ returns-then-self-clause-carries g c =
     let disk = g.D.Disk.medium c.args.disk.now in
     failed_carries c.args.self.now
     (ap (λ (w : DurableValue). w.has_failed) (sym c.self.view_is) ∙ c.if-self.true) disk disk
-    (Work work.Failed) c.args.self.now
+    (Work slice.Failed) c.args.self.now
 
 pub returns-then-self-clause-calls : goal.returns-then-self-clause-calls
 returns-then-self-clause-calls g c =
-    failed_calls c.args.self.now (Work work.Failed) (g.D.Disk.medium c.args.disk.now)
+    failed_calls c.args.self.now (Work slice.Failed) (g.D.Disk.medium c.args.disk.now)
 
 pub returns-then-self-clause-cause : goal.returns-then-self-clause-cause
 returns-then-self-clause-cause g c =
     let disk = g.D.Disk.medium c.args.disk.now in
     failed_fails c.args.self.now
     (ap (λ (w : DurableValue). w.has_failed) (sym c.self.view_is) ∙ c.if-self.true) disk disk
-    (Work work.Failed)
+    (Work slice.Failed)
 
 pub returns-in-Err-clause-carries : goal.returns-in-Err-clause-carries
 returns-in-Err-clause-carries g c =

@@ -1,7 +1,7 @@
 use Rattle.std.proofs.Common.{◌≡◌, true, ap, sym, ◌∙◌, subst, Ok, Err}
 use Rattle.ephemeral_worker.specs.declared.now.Now.{Now}
-use Rattle.ephemeral_worker.specs.declared.fault.WorkFault.TheVariants as work
-use Rattle.worker.specs.declared.fault.DurableFault.TheVariants.{Work}
+use Rattle.ephemeral_worker.specs.declared.fault.SliceFault.TheVariants as slice
+use Rattle.worker.specs.declared.fault.WorkFault.TheVariants.{Work}
 use Rattle.ephemeral_worker.specs.Turns.{working}
 use Rattle.worker.specs.rules.DurableValues.{DurableValue, durable_of, without_disk}
 use Rattle.worker.specs.rules.DurableCalls.{SliceCarries}
@@ -17,7 +17,7 @@ use Rattle.worker.proofs.durable.Worker.slice.Goals as goal
 pub returns-then-self-clause-carries : goal.returns-then-self-clause-carries
 returns-then-self-clause-carries g c =
     failed_carries g.S.Source.gives g.O.Outlet.takes _ _ c.args.fuel
-    (Err (Work work.Failed)) _ _ _ _
+    (Err (Work slice.Failed)) _ _ _ _
     (subst (λ (w : DurableValue). w.has_failed ≡ true) c.self.view_is c.if-self.true)
 
 pub returns-in-Ok-clause-done : goal.returns-in-Ok-clause-done
@@ -66,7 +66,7 @@ returns-in-Err-clause-failed g c unfailed =
 pub returns-then-self-clause-calls : goal.returns-then-self-clause-calls
 returns-then-self-clause-calls g c =
     failed_slice_calls Now c.args.self.now.store (g.D.Disk.medium c.args.disk.now)
-    (Work work.Failed)
+    (Work slice.Failed)
 
 pub returns-then-self-clause-counts : goal.returns-then-self-clause-counts
 returns-then-self-clause-counts g c =

@@ -1,7 +1,7 @@
 use Rattle.std.proofs.Common.{refl, inl, inr}
 use Rattle.std.proofs.lemmas.Result.{err_from_is_err_and}
-use Rattle.ephemeral_worker.specs.declared.fault.WorkFault.TheVariants as work
-use Rattle.worker.specs.declared.fault.DurableFault.TheVariants.{Work}
+use Rattle.ephemeral_worker.specs.declared.fault.SliceFault.TheVariants as slice
+use Rattle.worker.specs.declared.fault.WorkFault.TheVariants.{Work}
 use Rattle.worker.specs.declared.running.Running.{Running}
 use Rattle.worker.proofs.DurableLemmas.Settling.{settles_not_stored, settles_all}
 use Rattle.worker.proofs.DurableLemmas.Settling.{settles_some}
@@ -81,7 +81,7 @@ returns-in_err-release_waiting-clause-runs g c =
     (g.D.Disk.medium c.args.disk.now) (g.D.Disk.medium c.barrier.new.disk)
     (barrier_went g.D.Disk.medium c.args.self.now.store c.barrier.new.self c.args.disk.now
     c.barrier.new.disk done.stays done.passes done.counts tt done.full done.stored done.quiet
-    done.settled done.calls.all) (Work work.Outlet) tt)
+    done.settled done.calls.all) (Work slice.Outlet) tt)
 
 pub returns-clause-runs : goal.returns-clause-runs
 returns-clause-runs g c =
