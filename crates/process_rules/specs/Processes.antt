@@ -51,6 +51,7 @@ HasLineNumbers h = length (lines_ended h).lines + 2 < 2 ^ 63
 
 -- ---- the beginning
 
+-- the host with which a process begins under this configuration
 abbrev pub host_of : Settings → Host
 host_of config =
     first_host (config.files * UNIT_BYTES) TEXT_BYTES config.arguments config.environment
@@ -64,6 +65,7 @@ abbrev pub closed_at : Thread → List ℕ → ProcessState → ProcessState
 closed_at [] [] p = over (Exited 0) p
 closed_at thread later p = p
 
+-- a process, which has ended if its program has returned
 abbrev pub closed : ProcessState → ProcessState
 closed p = closed_at p.configuration.thread p.configuration.later p
 

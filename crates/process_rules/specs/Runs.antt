@@ -37,6 +37,7 @@ abbrev pub given_by : Call → ℕ → List Value
 given_by call.ProcExit number = []
 given_by _ number = value.I32 number ∷ []
 
+-- where a call's rule leads: on with its result or its error, to the end, or to a wish
 abbrev pub after_row : Call → Ruling → Configuration → Host → Thread → Next
 after_row c (Ok done) before h waits =
     On (answered before done.memory (given_by c 0) waits) done.host
@@ -45,6 +46,7 @@ after_row c (Err (Refuses e)) before h waits =
 after_row c (Err (Ends code)) before h waits = Over (Exited code) (stopped before) h
 after_row c (Err (Wishes kind)) before h waits = Wants kind
 
+-- where a call with these arguments leads; an import that is no call leads nowhere
 abbrev pub after_call : Option Call → List Value → Option Answer → Configuration → Host → Thread
     → Next
 after_call None arguments given before h waits = Nowhere
@@ -52,6 +54,7 @@ after_call (Some c) arguments given before h waits =
     after_row c (row c (reverse (map number_in arguments)) given before.store.memory h) before h
     waits
 
+-- where the rule that applies leads: on, to a trap, or to a call of the host
 abbrev pub after_rule : Guest → Outcome → Option Answer → Configuration → Host → Next
 after_rule guest (Goes next) given before h = On next h
 after_rule guest (Traps why) given before h = Over (Trapped why) (stopped before) h
@@ -59,16 +62,19 @@ after_rule guest (Asks f arguments waits) given before h =
     after_call (slice_get guest.calls f) arguments given before h waits
 after_rule guest Stuck given before h = Nowhere
 
+-- where the next thing of a process leads, given this answer or none
 abbrev pub next_of : Guest → ProcessState → Option Answer → Next
 next_of guest p given =
     after_rule guest (rule guest.program p.configuration) given p.configuration p.host
 
 -- ---- a step of a process
 
+-- how many answers a step has taken
 abbrev pub taken : Option Answer → ℕ
 taken None = 0
 taken (Some a) = 1
 
+-- how many of them are a request or the end of input
 abbrev pub request_taken : Option Answer → ℕ
 request_taken (Some (answer.Request text)) = 1
 request_taken (Some answer.End) = 1

@@ -21,6 +21,7 @@ use Rattle.file_tree.specs.rules.Files.{is_directory}
 use Rattle.wasi_calls_rules.specs.Hosts.{Target, Stream, Node, Descriptor, Host}
 use Rattle.wasi_calls_rules.specs.declared.limits.TheConstants.{IOVECS, MOVED_BYTES}
 
+-- the bytes of a memory or of a text
 abbrev pub Bytes : Type 0
 Bytes = List ℕ
 
@@ -35,10 +36,12 @@ pub record Done : Type 0 where
   pub memory : Bytes
   pub host : Host
 
+-- what a call's rule gives: memory and host after it, or why it halts
 abbrev pub Ruling : Type 0
 Ruling = Result Done Halt
 
 infixl 10 ◌>>=◌
+-- goes on with what a check gives, or halts as it does
 abbrev pub ◌>>=◌ : {A B : Type 0} → Result A Halt → (A → Result B Halt) → Result B Halt
 (Ok x) >>= go = go x
 (Err halt) >>= go = Err halt
@@ -48,12 +51,14 @@ abbrev pub check_or : Bool → Errno → Result (Unit {0}) Halt
 check_or true e = Ok tt
 check_or false e = Err (Refuses e)
 
+-- what there is, or this error
 abbrev pub some_or : {A : Type 0} → Errno → Option A → Result A Halt
 some_or e None = Err (Refuses e)
 some_or e (Some x) = Ok x
 
 -- ---- descriptors and their kinds
 
+-- an option of an option, as one
 abbrev pub flat : {A : Type 0} → Option (Option A) → Option A
 flat None = None
 flat (Some o) = o
@@ -62,14 +67,17 @@ flat (Some o) = o
 abbrev pub open_descriptor : Host → ℕ → Result Descriptor Halt
 open_descriptor h fd = some_or Badf (flat (slice_get h.descriptors fd))
 
+-- a stream
 abbrev pub is_stream : Target → Bool
 is_stream (Stream s) = true
 is_stream (Node k) = false
 
+-- a node that is a directory
 abbrev pub names_directory : Host → Target → Bool
 names_directory h (Stream s) = false
 names_directory h (Node k) = is_directory h.files k
 
+-- refuses a directory by `isdir`
 abbrev pub no_directory : Host → Descriptor → Result (Unit {0}) Halt
 no_directory h d = check_or (not (names_directory h d.target)) Isdir
 
@@ -77,6 +85,7 @@ no_directory h d = check_or (not (names_directory h d.target)) Isdir
 abbrev pub a_file : Host → Descriptor → Result (Unit {0}) Halt
 a_file h d = check_or (not (is_stream d.target)) Spipe >>= λ _. no_directory h d
 
+-- refuses all but a directory by `notdir`
 abbrev pub a_directory : Host → Descriptor → Result (Unit {0}) Halt
 a_directory h d = check_or (names_directory h d.target) Notdir
 
@@ -87,6 +96,7 @@ node_named (Node k) = k
 
 -- ---- rights
 
+-- refuses by `notcapable` where this right is missing
 abbrev pub with_right : ℕ → Descriptor → Result (Unit {0}) Halt
 with_right bit d = check_or (has_right d.base bit) Notcapable
 
@@ -94,11 +104,13 @@ with_right bit d = check_or (has_right d.base bit) Notcapable
 abbrev pub needs : Bool → ℕ → Descriptor → Result (Unit {0}) Halt
 needs is_asked bit d = check_or (not is_asked || has_right d.base bit) Notcapable
 
+-- refuses by `notcapable` where rights are wanted beyond these
 abbrev pub within_rights : ℕ → ℕ → Result (Unit {0}) Halt
 within_rights rights all = check_or (are_within rights all) Notcapable
 
 -- ---- guest ranges
 
+-- refuses by `fault` where so many bytes aren't in memory
 abbrev pub in_memory : Bytes → ℕ → ℕ → Result (Unit {0}) Halt
 in_memory m from len = check_or (nat_le (from + len) (length m)) Fault
 
@@ -117,6 +129,7 @@ buffers_at m iovs zero = []
 buffers_at m iovs (suc count) =
     record { from = u32_at m iovs; len = u32_at m (iovs + 4) } ∷ buffers_at m (iovs + 8) count
 
+-- a buffer lies in memory
 abbrev pub is_inside : Bytes → Buffer → Bool
 is_inside m b = nat_le (b.from + b.len) (length m)
 
@@ -153,6 +166,7 @@ abbrev pub asked : Kind → Option Answer → Result Answer Halt
 asked k None = Err (Asks k)
 asked k (Some a) = Ok a
 
+-- a text without a newline
 abbrev pub has_no_newline : Bytes → Bool
 has_no_newline text = list_all (λ b. not (b == newline)) text
 
@@ -160,6 +174,7 @@ has_no_newline text = list_all (λ b. not (b == newline)) text
 abbrev pub has_bytes_alone : Bytes → Bool
 has_bytes_alone bytes = list_all (λ b. nat_lt b 256) bytes
 
+-- a number below 2 ^ 64
 abbrev pub has_64_bits : ℕ → Bool
 has_64_bits n = nat_lt n (2 ^ 64)
 
@@ -179,5 +194,6 @@ abbrev pub fitting : ℕ → Kind → Option Answer → Option Answer
 fitting limit k None = None
 fitting limit k (Some a) = if does_fit limit k a then Some a else None
 
+-- the answer that was given where it fits, else a wish for one
 abbrev pub answered_by : Host → Kind → Option Answer → Result Answer Halt
 answered_by h k given = asked k (fitting h.limit k given)

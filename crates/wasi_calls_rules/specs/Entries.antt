@@ -28,6 +28,7 @@ use Rattle.wasi_calls_rules.specs.Small.{call_done, with_descriptor, filestat_by
 
 -- ---- directories
 
+-- the file type of a node
 abbrev pub node_type : Files → ℕ → ℕ
 node_type fs k = if is_directory fs k then directory_type else regular_file
 
@@ -68,6 +69,7 @@ whole_path fs d name = some_or Noent (option_map (λ p. p ++ name ∷ []) (path_
 abbrev pub a_free_node : Files → Result (Unit {0}) Halt
 a_free_node fs = check_or (nat_lt (length fs.nodes) NODES) Nospc
 
+-- `path_create_directory`
 abbrev pub path_create_directory : ℕ → ℕ → ℕ → Bytes → Host → Ruling
 path_create_directory fd path len m h =
     open_descriptor h fd >>= λ d.
@@ -82,6 +84,7 @@ path_create_directory fd path len m h =
     a_free_node h.files >>= λ _.
     call_done m (record h { files = created p Directory h.files }))
 
+-- `path_filestat_get`
 abbrev pub path_filestat_get : ℕ → ℕ → ℕ → ℕ → ℕ → Bytes → Host → Ruling
 path_filestat_get fd flags path len ret m h =
     open_descriptor h fd >>= λ d.
@@ -95,6 +98,7 @@ path_filestat_get fd flags path len ret m h =
     some_or Noent (node_at h.files place) >>= λ k.
     call_done (with_part m ret (filestat_bytes_of h (Node k))) h
 
+-- a directory without entries
 abbrev pub is_directory_empty : Files → ℕ → Bool
 is_directory_empty fs k = length (entries_of fs k) == 0
 
@@ -102,6 +106,7 @@ is_directory_empty fs k = length (entries_of fs k) == 0
 abbrev pub without : ℕ → Host → Host
 without k h = record h { files = swept (Node k) h.descriptors (removed k h.files) }
 
+-- `path_remove_directory`
 abbrev pub path_remove_directory : ℕ → ℕ → ℕ → Bytes → Host → Ruling
 path_remove_directory fd path len m h =
     open_descriptor h fd >>= λ d.
@@ -116,6 +121,7 @@ path_remove_directory fd path len m h =
     check_or (is_directory_empty h.files k) Notempty >>= λ _.
     call_done m (without k h))
 
+-- `path_unlink_file`
 abbrev pub path_unlink_file : ℕ → ℕ → ℕ → Bytes → Host → Ruling
 path_unlink_file fd path len m h =
     open_descriptor h fd >>= λ d.
@@ -135,6 +141,7 @@ path_unlink_file fd path len m h =
 abbrev pub is_below : Path → Path → Bool
 is_below above p = is_some (path_behind above p)
 
+-- directory d is node k, or lies below it
 abbrev pub is_within_node : Files → ℕ → ℕ → Bool
 is_within_node fs k d = within_path (path_of fs k) (path_of fs d)
   where
@@ -150,6 +157,7 @@ gives_way fs k (Some j) =
     check_or (not (is_directory fs k) || is_directory fs j) Notdir >>= λ _.
     check_or (not (is_directory fs j) || is_directory_empty fs j) Notempty
 
+-- the host without the node that a rename replaces, if there is one
 abbrev pub without_target : Option ℕ → Host → Host
 without_target None h = h
 without_target (Some j) h = without j h
@@ -159,6 +167,7 @@ abbrev pub renamed_over : ℕ → Option ℕ → Path → Path → Host → Host
 renamed_over k j from to h = let cleared : Host = without_target j h in
     record cleared { files = renamed from to cleared.files }
 
+-- there is a node, and it is this one
 abbrev pub is_same_node : ℕ → Option ℕ → Bool
 is_same_node k None = false
 is_same_node k (Some j) = j == k
@@ -174,6 +183,7 @@ renamed_to d name source e other target m h =
     else (gives_way h.files k (node_at h.files target)
     >>= λ _. call_done m (renamed_over k (node_at h.files target) from to h))
 
+-- `path_rename`
 abbrev pub path_rename : ℕ → ℕ → ℕ → ℕ → ℕ → ℕ → Bytes → Host → Ruling
 path_rename old_fd old_path old_len new_fd new_path new_len m h =
     open_descriptor h old_fd >>= λ d.
@@ -200,6 +210,7 @@ free_from n [] = None
 free_from n (None ∷ ds) = if nat_lt n 3 then free_from (n + 1) ds else Some n
 free_from n (Some d ∷ ds) = free_from (n + 1) ds
 
+-- the lowest number that no descriptor has, or `mfile`
 abbrev pub free_number : Host → Result ℕ Halt
 free_number h = some_or Mfile (free_from 0 h.descriptors)
 
@@ -220,6 +231,7 @@ pub record Wish : Type 0 where
   pub inheriting : ℕ
   pub fdflags : ℕ
 
+-- the files, where `trunc` was asked for with no bytes in this one
 abbrev pub cut_if : Bool → ℕ → Files → Files
 cut_if is_cut k fs = if is_cut then with_file_bytes k [] fs else fs
 
@@ -250,10 +262,12 @@ opened_new place w ret m h =
     opened_as ret n (new_descriptor false h.files.next w.fdflags w.base w.inheriting) m
     (record h { files = created p (File []) h.files }))
 
+-- what is opened: a node that is there, or a new one
 abbrev pub opened_at : Option ℕ → WalkEnd → Wish → ℕ → Bytes → Host → Ruling
 opened_at None place w ret m h = opened_new place w ret m h
 opened_at (Some k) place w ret m h = opened_there k w ret m h
 
+-- `path_open`
 abbrev pub path_open : ℕ → ℕ → ℕ → ℕ → Wish → ℕ → Bytes → Host → Ruling
 path_open fd dirflags path len w ret m h =
     open_descriptor h fd >>= λ d.

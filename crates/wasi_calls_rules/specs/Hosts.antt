@@ -14,6 +14,7 @@ pub data Target : Type 0 where
   Stream : ℕ → Target
   Node : ℕ → Target
 
+-- what an open descriptor has: its target, offset, flags and rights
 pub record Descriptor : Type 0 where
   pub target : Target
   pub offset : ℕ
@@ -47,6 +48,7 @@ pub record Host : Type 0 where
 
 -- ---- the beginning
 
+-- a stream of this number, with these rights
 abbrev pub stream : ℕ → ℕ → Descriptor
 stream n rights = record { target = Stream n; offset = 0; flags = 0; base = rights; inheriting = 0 }
 
@@ -90,6 +92,7 @@ IsThere fs (Node k) = IsSomething (node_of fs k)
     IsSomething None = ⊥
     IsSomething (Some x) = Unit {0}
 
+-- a descriptor's target is there, and its numbers are in range
 pub record IsDescriptor (fs : Files) (d : Descriptor) : Type 0 where
   pub there : IsThere fs d.target
   pub offset : d.offset < 2 ^ 63
@@ -118,6 +121,7 @@ pub record IsUnfinished (text : List ℕ) : Type 0 where
 abbrev pub IsRemoved : Files → ℕ → Type 0
 IsRemoved fs k = (n : FileNode) × (node_of fs k ≡ Some n) × (n.path ≡ None)
 
+-- a host that calls can leave: what holds before and after each of them
 pub record IsHost (h : Host) : Type 0 where
   pub files : IsFiles h.files
   -- all files are within their room

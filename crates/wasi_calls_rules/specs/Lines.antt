@@ -30,6 +30,7 @@ cut_byte stream c b =
       unfinished = b ∷ [];
     }
 
+-- lines cut off, byte by byte
 abbrev pub cut_all : ℕ → Cut → List ℕ → Cut
 cut_all stream c [] = c
 cut_all stream c (b ∷ bytes) = cut_all stream (cut_byte stream c b) bytes

@@ -38,6 +38,7 @@ input_taken n (answer.Request text) h = Ok (bytes_taken n (text ++ newline ∷ [
 input_taken n answer.End h = Ok (record { bytes = []; host = record h { input_ended = true } })
 input_taken n _ h = Err (Refuses Inval)
 
+-- there is a byte
 abbrev pub has_bytes : Bytes → Bool
 has_bytes [] = false
 has_bytes (b ∷ bytes) = true
@@ -69,6 +70,7 @@ target_read (Node k) fd d n given h =
       host = moved_to fd d (d.offset + length (file_read h k d.offset n)) h;
     })
 
+-- `fd_read`
 abbrev pub fd_read : ℕ → ℕ → ℕ → ℕ → Option Answer → Bytes → Host → Ruling
 fd_read fd iovs count ret given m h =
     open_descriptor h fd >>= λ d.
@@ -80,6 +82,7 @@ fd_read fd iovs count ret given m h =
     target_read d.target fd d (movable bs) given h >>= λ got.
     call_done (with_part (scattered m bs got.bytes) ret (u32_bytes (length got.bytes))) got.host
 
+-- `fd_pread`
 abbrev pub fd_pread : ℕ → ℕ → ℕ → ℕ → ℕ → Bytes → Host → Ruling
 fd_pread fd iovs count offset ret m h =
     open_descriptor h fd >>= λ d.
@@ -118,12 +121,14 @@ abbrev pub offset_after : ℕ → ℕ → Descriptor → Bytes → Host → Host
 offset_after fd offset d [] h = h
 offset_after fd offset d (b ∷ bytes) h = moved_to fd d (offset + length (b ∷ bytes)) h
 
+-- these bytes are written to a stream or a file
 abbrev pub target_written : Target → ℕ → Descriptor → Bytes → Host → Result Host Halt
 target_written (Stream s) fd d bytes h = Ok (stream_written s bytes h)
 target_written (Node k) fd d bytes h =
     file_written k (write_offset h k d) bytes h
     >>= λ after. Ok (offset_after fd (write_offset h k d) d bytes after)
 
+-- `fd_write`
 abbrev pub fd_write : ℕ → ℕ → ℕ → ℕ → Bytes → Host → Ruling
 fd_write fd iovs count ret m h =
     open_descriptor h fd >>= λ d.
@@ -136,6 +141,7 @@ fd_write fd iovs count ret m h =
     target_written d.target fd d bytes h >>= λ after.
     call_done (with_part m ret (u32_bytes (length bytes))) after
 
+-- `fd_pwrite`
 abbrev pub fd_pwrite : ℕ → ℕ → ℕ → ℕ → ℕ → Bytes → Host → Ruling
 fd_pwrite fd iovs count offset ret m h =
     open_descriptor h fd >>= λ d.

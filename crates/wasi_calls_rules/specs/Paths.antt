@@ -11,6 +11,7 @@ use Rattle.wasi_calls_rules.specs.Checks.{Halt, Refuses, ◌>>=◌, check_or}
 
 -- ---- form
 
+-- a byte put in front of the first part
 abbrev pub onto_first : ℕ → List Name → List Name
 onto_first b [] = (b ∷ []) ∷ []
 onto_first b (part ∷ parts) = (b ∷ part) ∷ parts
@@ -28,6 +29,7 @@ is_dropped name = is_same_name name [] || is_same_name name (dot ∷ [])
 abbrev pub is_back : Name → Bool
 is_back name = is_same_name name (dot ∷ dot ∷ [])
 
+-- these bytes begin with this one
 abbrev pub begins_with : List ℕ → ℕ → Bool
 begins_with [] b = false
 begins_with (c ∷ bytes) b = c == b
@@ -36,6 +38,7 @@ begins_with (c ∷ bytes) b = c == b
 abbrev pub names_of : List ℕ → List Name
 names_of bytes = filter (λ name. not (is_dropped name)) (parts_of bytes)
 
+-- the parts of a path, or why it has no form: the checks in their order
 abbrev pub formed : List ℕ → Result (List Name) Halt
 formed bytes =
     check_or (not (length bytes == 0)) Noent >>= λ _.
@@ -54,6 +57,7 @@ pub data WalkEnd : Type 0 where
   Self : ℕ → WalkEnd
   Leaf : ℕ → Name → WalkEnd
 
+-- a walk goes on in a directory that is there
 abbrev pub directory_entered : Files → Option ℕ → Result ℕ Halt
 directory_entered fs None = Err (Refuses Noent)
 directory_entered fs (Some k) = if is_directory fs k then Ok k else Err (Refuses Notdir)

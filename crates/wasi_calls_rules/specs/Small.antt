@@ -43,12 +43,14 @@ abbrev pub pointers_to : ℕ → List Bytes → Bytes
 pointers_to from [] = []
 pointers_to from (text ∷ texts) = u32_bytes from ++ pointers_to (from + length text + 1) texts
 
+-- `args_get` and `environ_get`: the texts, and where each begins
 abbrev pub texts_get : List Bytes → ℕ → ℕ → Bytes → Host → Ruling
 texts_get texts array buf m h =
     in_memory m array (4 * length texts) >>= λ _.
     in_memory m buf (length (with_zeros texts)) >>= λ _.
     call_done (with_part (with_part m array (pointers_to buf texts)) buf (with_zeros texts)) h
 
+-- `args_sizes_get` and `environ_sizes_get`: how many texts, of how many bytes
 abbrev pub texts_sizes_get : List Bytes → ℕ → ℕ → Bytes → Host → Ruling
 texts_sizes_get texts count size m h =
     in_memory m count 4 >>= λ _.
@@ -58,6 +60,7 @@ texts_sizes_get texts count size m h =
 
 -- ---- clocks
 
+-- `clock_res_get`
 abbrev pub clock_res_get : ℕ → ℕ → Bytes → Host → Ruling
 clock_res_get id ret m h =
     check_or (nat_le id 1) Inval >>= λ _.
@@ -72,9 +75,11 @@ time_put (answer.Monotonic n) ret m h =
 time_put (answer.Realtime n) ret m h = call_done (with_part m ret (u64_bytes n)) h
 time_put _ ret m h = Err (Refuses Inval)
 
+-- which time a clock asks for
 abbrev pub clock_kind : ℕ → Kind
 clock_kind id = if id == 0 then kind.Realtime else kind.Monotonic
 
+-- `clock_time_get`
 abbrev pub clock_time_get : ℕ → ℕ → Option Answer → Bytes → Host → Ruling
 clock_time_get id ret given m h =
     check_or (nat_le id 1) Inval >>= λ _.
@@ -84,14 +89,17 @@ clock_time_get id ret given m h =
 
 -- ---- descriptors
 
+-- this node, and no stream
 abbrev pub is_node : ℕ → Target → Bool
 is_node k (Stream s) = false
 is_node k (Node j) = j == k
 
+-- an open descriptor of this node
 abbrev pub names : ℕ → Option Descriptor → Bool
 names k None = false
 names k (Some d) = is_node k d.target
 
+-- node k has a path
 abbrev pub has_path : Files → ℕ → Bool
 has_path fs k = is_some_path (path_of fs k)
   where
@@ -105,6 +113,7 @@ swept (Stream s) ds fs = fs
 swept (Node k) ds fs = if has_path fs k then fs else if list_any (names k) ds then fs
     else forgotten k fs
 
+-- `fd_close`
 abbrev pub fd_close : ℕ → Bytes → Host → Ruling
 fd_close fd m h =
     open_descriptor h fd >>= λ d.
@@ -121,10 +130,12 @@ fd_syncs right fd m h =
     with_right right d >>= λ _.
     call_done m h
 
+-- the file type of a target
 abbrev pub file_type_of : Host → Target → ℕ
 file_type_of h (Stream s) = character_device
 file_type_of h (Node k) = if is_directory h.files k then directory_type else regular_file
 
+-- `fd_fdstat_get`
 abbrev pub fd_fdstat_get : ℕ → ℕ → Bytes → Host → Ruling
 fd_fdstat_get fd ret m h =
     open_descriptor h fd >>= λ d.
@@ -136,6 +147,7 @@ fd_fdstat_get fd ret m h =
 abbrev pub with_descriptor : ℕ → Descriptor → Host → Host
 with_descriptor fd d h = record h { descriptors = slice_set h.descriptors fd (Some d) }
 
+-- `fd_fdstat_set_flags`
 abbrev pub fd_fdstat_set_flags : ℕ → ℕ → Bytes → Host → Ruling
 fd_fdstat_set_flags fd flags m h =
     open_descriptor h fd >>= λ d.
@@ -147,12 +159,14 @@ fd_fdstat_set_flags fd flags m h =
 abbrev pub links_of : Files → ℕ → ℕ
 links_of fs k = if has_path fs k then 1 else 0
 
+-- the `filestat` of a target as bytes
 abbrev pub filestat_bytes_of : Host → Target → Bytes
 filestat_bytes_of h (Stream s) = filestat_bytes 0 character_device 1 0
 filestat_bytes_of h (Node k) =
     filestat_bytes k (file_type_of h (Node k)) (links_of h.files k)
     (length (bytes_of_node h.files k))
 
+-- `fd_filestat_get`
 abbrev pub fd_filestat_get : ℕ → ℕ → Bytes → Host → Ruling
 fd_filestat_get fd ret m h =
     open_descriptor h fd >>= λ d.
@@ -166,6 +180,7 @@ roomy h k size =
     check_or (nat_le size FILE_BYTES) Fbig >>= λ _.
     check_or (nat_le (used h.files + size) (h.room + length (bytes_of_node h.files k))) Nospc
 
+-- `fd_filestat_set_size`
 abbrev pub fd_filestat_set_size : ℕ → ℕ → Bytes → Host → Ruling
 fd_filestat_set_size fd size m h =
     open_descriptor h fd >>= λ d.
@@ -185,6 +200,7 @@ fd_prestat_get fd ret m h =
     check_or (fd == 3) Badf >>= λ _.
     call_done (with_part m ret (prestat_bytes 1)) h
 
+-- `fd_prestat_dir_name`
 abbrev pub fd_prestat_dir_name : ℕ → ℕ → ℕ → Bytes → Host → Ruling
 fd_prestat_dir_name fd path len m h =
     open_descriptor h fd >>= λ d.
@@ -203,6 +219,7 @@ abbrev pub file_offset : ℤ → Result ℕ Halt
 file_offset (pos n) = if nat_lt n (2 ^ 63) then Ok n else Err (Refuses Inval)
 file_offset (negsuc n) = Err (Refuses Inval)
 
+-- `fd_seek`
 abbrev pub fd_seek : ℕ → ℕ → ℕ → ℕ → Bytes → Host → Ruling
 fd_seek fd delta whence ret m h =
     open_descriptor h fd >>= λ d.
@@ -214,6 +231,7 @@ fd_seek fd delta whence ret m h =
     call_done (with_part m ret (u64_bytes offset))
     (with_descriptor fd (record d { offset = offset }) h)
 
+-- `fd_tell`
 abbrev pub fd_tell : ℕ → ℕ → Bytes → Host → Ruling
 fd_tell fd ret m h =
     open_descriptor h fd >>= λ d.
@@ -224,12 +242,15 @@ fd_tell fd ret m h =
 
 -- ---- the process
 
+-- `proc_exit`
 abbrev pub proc_exit : ℕ → Ruling
 proc_exit code = Err (Ends code)
 
+-- `sched_yield`
 abbrev pub sched_yield : Bytes → Host → Ruling
 sched_yield m h = call_done m h
 
+-- random bytes are written, and no other answer
 abbrev pub random_put : Answer → ℕ → Bytes → Host → Ruling
 random_put (answer.Random bytes) buf m h = call_done (with_part m buf bytes) h
 random_put _ buf m h = Err (Refuses Inval)

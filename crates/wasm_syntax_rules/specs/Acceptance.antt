@@ -7,6 +7,7 @@ use Rattle.wasm_syntax.specs.rules.Limits.{IsWithinLimits}
 use Rattle.wasm_syntax_rules.specs.Validity.{IsValid}
 use Rattle.wasm_syntax_rules.specs.Linking.{Offer, IsLinkable}
 
+-- these bytes are accepted as this module, with so many pages
 pub record IsAccepted (offer : Offer) (pages : ℕ) (bytes : List ℕ) (m : Module) : Type 0 where
   pub spelled : IsModule bytes m
   pub limits : IsWithinLimits bytes m

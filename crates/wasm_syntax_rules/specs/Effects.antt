@@ -53,18 +53,21 @@ loaded o bytes =
     then sign_extended (loaded_width o) (width_of (loaded_type o)) (number_of bytes)
     else number_of bytes
 
+-- what a load reads at a place, or the trap for a place outside memory
 abbrev pub load_at : LoadOperator → List ℕ → ℕ → Result ℕ Trap
 load_at o memory from =
     if nat_le (from + bytes_in (loaded_width o)) (length memory)
     then Ok (loaded o (part memory from (bytes_in (loaded_width o))))
     else Err trap.MemoryOutOfBounds
 
+-- goes on with the store after a write to memory, or traps
 abbrev pub store_at : StoreOperator → Store → ℕ → ℕ → (Store → Effect) → Effect
 store_at o s from n go =
     if nat_le (from + bytes_in (stored_width o)) (length s.memory)
     then go (record s { memory = with_part s.memory from (bytes_of (bytes_in (stored_width o)) n) })
     else Fails trap.MemoryOutOfBounds
 
+-- how many pages memory has
 abbrev pub pages_of : Store → ℕ
 pages_of s = length s.memory / page_size
 
@@ -77,10 +80,12 @@ grown program s n go =
 
 -- ---- all of them
 
+-- what `select` gives
 abbrev pub selected : ℕ → Value → Value → Value
 selected zero first second = second
 selected (suc n) first second = first
 
+-- what an instruction does to store, locals and operands
 abbrev pub effect : Program → Instruction → Store → List Value → List Value → Effect
 effect program instr.Unreachable s ls vs = Fails trap.Unreachable
 effect program instr.Nop s ls vs = Gives s ls vs

@@ -44,6 +44,7 @@ abbrev pub most_pages_of : List MemoryType → ℕ → ℕ
 most_pages_of [] pages = 0
 most_pages_of (t ∷ memories) pages = option_map_or (λ most. min most pages) t.limits.maximum pages
 
+-- the program of a module: its types, functions and pages
 pub record IsProgram (m : Module) (pages : ℕ) (program : Program) : Type 0 where
   pub types : program.types ≡ m.types
   pub functions : AreCallees m (imported_functions m.imports) m.functions program.functions
@@ -81,6 +82,7 @@ with_entries table functions from =
     then Some (take from table ++ (map Some functions ++ drop (from + length functions) table))
     else None
 
+-- memory with a data segment put in, where it lies inside
 abbrev pub with_segment : List ℕ → List ℕ → ℕ → Option (List ℕ)
 with_segment memory bytes from =
     if nat_le (from + length bytes) (length memory) then Some (with_part memory from bytes)
@@ -94,6 +96,7 @@ filled_table globals (e ∷ elements) table =
     option_and_then (λ table'. filled_table globals elements table')
     (option_and_then (λ from. with_entries table e.functions from) (offset_of globals e.offset))
 
+-- memory with all data segments put in, in order
 abbrev pub filled_memory : List Value → List Data → List ℕ → Option (List ℕ)
 filled_memory globals [] memory = Some memory
 filled_memory globals (d ∷ segments) memory =
@@ -105,10 +108,12 @@ abbrev pub empty_table : List TableType → List (Option ℕ)
 empty_table [] = []
 empty_table (t ∷ tables) = replicate t.limits.minimum None
 
+-- the zeros of the first memory
 abbrev pub empty_memory : List MemoryType → List ℕ
 empty_memory [] = []
 empty_memory (t ∷ memories) = replicate (t.limits.minimum * page_size) 0
 
+-- the store with which a module begins
 pub record IsInitialStore (m : Module) (store : Store) : Type 0 where
   pub globals : AreInitial m.globals store.globals
   pub table : filled_table store.globals m.elements (empty_table (tables_of m)) ≡ Some store.table

@@ -1,4 +1,5 @@
--- When a valid module can be linked to a host and begin.
+-- When a valid module can be linked to a host and begin (Core Specification 1.0, sections 4.5.2 and
+-- 4.5.4).
 use Rattle.std.specs.Prelude.{◌≡◌, ◌⊎◌, ℕ, ◌≤◌, List, [], ◌∷◌, Option, Some, None, slice_get, codes}
 use Rattle.std.specs.List.{AllByRecursion}
 use Rattle.wasm_syntax.specs.declared.types.FunctionType.{FunctionType}
@@ -24,6 +25,7 @@ IsItemOffered None types item = ⊥
 IsItemOffered (Some kind) types (import.Function x) = slice_get types x ≡ Some kind
 IsItemOffered (Some kind) types _ = ⊥
 
+-- the host offers what this import is of
 abbrev pub IsOffered : Offer → List FunctionType → Import → Type 0
 IsOffered offer types i = IsItemOffered (offer i.module_name i.name) types i.item
 

@@ -25,6 +25,7 @@ pub data LabelShape : Type 0 where
   ShapeOf : (takes : List ValueType) (target : Sequence) (below : List ValueType) (after : Sequence)
       (which : Part) → LabelShape
 
+-- what typing knows of a position (the product's)
 pub record Shape : Type 0 where
   pub labels : List LabelShape
   pub operands : List ValueType
@@ -32,6 +33,7 @@ pub record Shape : Type 0 where
 
 -- ---- the types behind an instruction
 
+-- the type of a value
 abbrev pub type_of : Value → ValueType
 type_of (value.I32 n) = I32
 type_of (value.I64 n) = I64
@@ -122,6 +124,7 @@ AreTypedShapes c (ts ∷ tss) (ShapeOf takes target below after which ∷ labels
 AreTypedShapes c [] (label ∷ labels) out = ⊥
 AreTypedShapes c (ts ∷ tss) [] out = ⊥
 
+-- a shape that is typed, with its labels
 pub record IsTypedShape (c : Context) (s : Shape) : Type 0 where
   pub branches : List (List ValueType)
   pub out : List ValueType

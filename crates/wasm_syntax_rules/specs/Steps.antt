@@ -54,6 +54,7 @@ abbrev pub held_below : List Label → ℕ
 held_below [] = 0
 held_below (LabelOf keeps target below after which ∷ labels) = length below + held_below labels
 
+-- how many locals, operands and labels' values the frames of a thread hold
 abbrev pub held_by : Thread → ℕ
 held_by [] = 0
 held_by (FrameOf f ls labels vs rest ∷ frames) =
@@ -63,6 +64,7 @@ held_by (FrameOf f ls labels vs rest ∷ frames) =
 abbrev pub is_exhausted : Thread → Bool
 is_exhausted thread = nat_lt 512 (length thread) || nat_lt 65536 (held_by thread)
 
+-- the value of a local before it is set
 abbrev pub zero_of : ValueType → Value
 zero_of t = value_of t 0
 
@@ -93,6 +95,7 @@ abbrev pub calls : Program → ℕ → Configuration → (List Value → Frame) 
 calls program f c caller vs frames =
     where_some (slice_get program.functions f) (λ callee. called f callee c caller vs frames)
 
+-- the type of a function
 abbrev pub kind_of : Callee → FunctionType
 kind_of (Host kind) = kind
 kind_of (Own kind declared body) = kind
@@ -115,9 +118,11 @@ after_effect (Gives store ls vs) c go = Goes (record c { store = store; thread =
 after_effect (Fails why) c go = Traps why
 after_effect Wrong c go = Stuck
 
+-- a thread goes on with this frame, where there is one
 abbrev pub goes_on : Configuration → Option Frame → Thread → Outcome
 goes_on c frame frames = where_some frame (λ frame. Goes (record c { thread = frame ∷ frames }))
 
+-- the rule of an instruction: jumps, calls, and all others by their effect
 abbrev pub execute : Program → Configuration → ℕ → List Value → List Label → Instruction
     → List Value → Sequence → Thread → Outcome
 execute program c f ls labels (instr.Br l) vs rest frames =
@@ -153,6 +158,7 @@ inside c f ls label labels body frames =
 abbrev pub block_label : Part → Option ValueType → List Value → Sequence → Label
 block_label which t below rest = LabelOf (length (results_of t)) rest below rest which
 
+-- the label of a `loop`: a branch to it begins the loop again
 abbrev pub loop_label : Option ValueType → Sequence → List Value → Sequence → Label
 loop_label t body below rest = LabelOf 0 (InLoop t body rest) below rest Main
 
@@ -174,6 +180,7 @@ rule_of program c (FrameOf f ls labels (value.I32 (suc n) ∷ vs) (InIfElse t fi
     ∷ frames) = inside c f ls (block_label Main t vs rest) labels first frames
 rule_of program c thread = Stuck
 
+-- the counted rule that applies to a configuration
 abbrev pub rule : Program → Configuration → Outcome
 rule program c = rule_of program c c.thread
 
@@ -191,6 +198,7 @@ abbrev pub begun : Option Callee → ℕ → Option Thread
 begun (Some (Own kind declared body)) f = Some (entered f kind declared body [] ∷ [])
 begun _ f = None
 
+-- what leads on without a counted rule: the host's next call begins, or an end is left
 abbrev pub left_by : Program → Thread → List ℕ → Store → Option Configuration
 left_by program [] [] store = None
 left_by program [] (f ∷ later) store =
@@ -206,6 +214,7 @@ left_by program (FrameOf f ls labels vs rest ∷ frames) later store =
       later = later;
     }) (left rest f ls labels vs frames)
 
+-- the rule that counts nothing, where one applies
 abbrev pub leave : Program → Configuration → Option Configuration
 leave program c = left_by program c.thread c.later c.store
 
@@ -224,6 +233,7 @@ pub record IsEnded (c : Configuration) : Type 0 where
 abbrev pub IsCounted : Program → Configuration → Configuration → Type 0
 IsCounted program c d = rule program c ≡ Goes d
 
+-- a rule that counts nothing leads from one configuration to the other
 abbrev pub IsUncounted : Program → Configuration → Configuration → Type 0
 IsUncounted program c d = leave program c ≡ Some d
 

@@ -20,6 +20,7 @@ use Rattle.wasm_syntax_rules.specs.Steps.{kind_of, IsSettled, IsEnded, Steps, ru
 
 -- ---- the program
 
+-- a function's body has its type
 abbrev pub IsTypedCallee : Context → Callee → Type 0
 IsTypedCallee c (Host kind) = Unit {0}
 IsTypedCallee c (Own kind declared body) =
@@ -43,9 +44,11 @@ pub record IsTypedMemory (program : Program) (memory : List ℕ) : Type 0 where
   pub within : pages ≤ program.most_pages
   pub bytes : AllByRecursion IsByte memory
 
+-- an entry of the table is empty or names a function
 abbrev pub IsTypedEntry : Program → Option ℕ → Type 0
 IsTypedEntry program entry = IfSome entry (IsIndex program.functions)
 
+-- memory, globals and table are of the program's types
 pub record IsTypedStore (c : Context) (program : Program) (store : Store) : Type 0 where
   pub memory : IsTypedMemory program store.memory
   pub globals : AreOf (map value_type_of c.globals) store.globals
@@ -93,6 +96,7 @@ IsEntry program f =
     (kind : FunctionType) × (declared : List ValueType) × (body : Sequence)
     × (slice_get program.functions f ≡ Some (Own kind declared body)) × (kind.parameters ≡ [])
 
+-- a configuration is well typed
 pub record IsTyped (c : Context) (program : Program) (configuration : Configuration) : Type 0 where
   pub store : IsTypedStore c program configuration.store
   pub thread : IsTypedThread c program [] configuration.thread

@@ -1,4 +1,5 @@
--- The types of values and of operators, and what the parts of a module have for types.
+-- The types of values and of operators, and what the parts of a module have for types (Core
+-- Specification 1.0, sections 2.5.1, 3.3.1 and 3.3.4, and appendix A.5).
 -- Operand types and operands are listed from the top of the stack down.
 use Rattle.std.specs.Prelude.{ℕ, ◌<◌, ◌^◌, Bool, true, false, ◌&&◌, List, [], ◌∷◌, Option, Some}
 use Rattle.std.specs.Prelude.{None, reverse}
@@ -25,6 +26,7 @@ use Rattle.wasm_syntax.specs.declared.module.Global.{Global}
 
 -- ---- values
 
+-- the width of a value type
 abbrev pub width_of : ValueType → Width
 width_of I32 = w32
 width_of I64 = w64
@@ -55,16 +57,19 @@ AreOf (t ∷ types) [] = ⊥
 
 -- ---- operators
 
+-- the type of a conversion's operand
 abbrev pub conversion_takes : Conversion → ValueType
 conversion_takes I32WrapI64 = I64
 conversion_takes I64ExtendI32S = I32
 conversion_takes I64ExtendI32U = I32
 
+-- the type of a conversion's result
 abbrev pub conversion_gives : Conversion → ValueType
 conversion_gives I32WrapI64 = I32
 conversion_gives I64ExtendI32S = I64
 conversion_gives I64ExtendI32U = I64
 
+-- the type that a load gives
 abbrev pub loaded_type : LoadOperator → ValueType
 loaded_type load.I32 = I32
 loaded_type load.I64 = I64
@@ -103,6 +108,7 @@ extends_sign load.I64Bits16S = true
 extends_sign load.I64Bits32S = true
 extends_sign _ = false
 
+-- the type that a store takes
 abbrev pub stored_type : StoreOperator → ValueType
 stored_type store.I32 = I32
 stored_type store.I64 = I64
@@ -136,6 +142,7 @@ bytes_in _ = 16
 abbrev pub takes_of : FunctionType → List ValueType
 takes_of f = reverse f.parameters
 
+-- the types of a function's results, from the top of the stack down
 abbrev pub gives_of : FunctionType → List ValueType
 gives_of f = reverse f.results
 
@@ -144,18 +151,21 @@ abbrev pub results_of : Option ValueType → List ValueType
 results_of None = []
 results_of (Some t) = t ∷ []
 
+-- two value types are the same
 abbrev pub is_same_type : ValueType → ValueType → Bool
 is_same_type I32 I32 = true
 is_same_type I64 I64 = true
 is_same_type I32 I64 = false
 is_same_type I64 I32 = false
 
+-- two lists of value types are the same
 abbrev pub are_same_types : List ValueType → List ValueType → Bool
 are_same_types [] [] = true
 are_same_types (t ∷ types) (u ∷ others) = is_same_type t u && are_same_types types others
 are_same_types [] (u ∷ others) = false
 are_same_types (t ∷ types) [] = false
 
+-- two function types are the same
 abbrev pub is_same_function_type : FunctionType → FunctionType → Bool
 is_same_function_type f g = are_same_types f.parameters g.parameters
     && are_same_types f.results g.results
@@ -167,36 +177,45 @@ abbrev pub with_function_index : ImportItem → List ℕ → List ℕ
 with_function_index (import.Function t) others = t ∷ others
 with_function_index _ others = others
 
+-- the type indices of imported functions
 abbrev pub imported_functions : List Import → List ℕ
 imported_functions [] = []
 imported_functions (i ∷ imports) = with_function_index i.item (imported_functions imports)
 
+-- a table's type in front of others
 abbrev pub with_table_type : ImportItem → List TableType → List TableType
 with_table_type (import.Table t) others = t ∷ others
 with_table_type _ others = others
 
+-- the types of imported tables
 abbrev pub imported_tables : List Import → List TableType
 imported_tables [] = []
 imported_tables (i ∷ imports) = with_table_type i.item (imported_tables imports)
 
+-- a memory's type in front of others
 abbrev pub with_memory_type : ImportItem → List MemoryType → List MemoryType
 with_memory_type (import.Memory t) others = t ∷ others
 with_memory_type _ others = others
 
+-- the types of imported memories
 abbrev pub imported_memories : List Import → List MemoryType
 imported_memories [] = []
 imported_memories (i ∷ imports) = with_memory_type i.item (imported_memories imports)
 
+-- a global's type in front of others
 abbrev pub with_global_type : ImportItem → List GlobalType → List GlobalType
 with_global_type (import.Global t) others = t ∷ others
 with_global_type _ others = others
 
+-- the types of imported globals
 abbrev pub imported_globals : List Import → List GlobalType
 imported_globals [] = []
 imported_globals (i ∷ imports) = with_global_type i.item (imported_globals imports)
 
+-- the type of a global
 abbrev pub global_type_of : Global → GlobalType
 global_type_of g = g.global_type
 
+-- the value type of a global's type
 abbrev pub value_type_of : GlobalType → ValueType
 value_type_of g = g.value_type

@@ -39,6 +39,7 @@ body_context c kind declared = record c {
 abbrev pub HasTable : Context → Type 0
 HasTable c = (t : TableType) × (slice_get c.tables 0 ≡ Some t)
 
+-- there is a memory
 abbrev pub HasMemory : Context → Type 0
 HasMemory c = (t : MemoryType) × (slice_get c.memories 0 ≡ Some t)
 

@@ -35,9 +35,11 @@ abbrev pub AreLimits : Limits → ℕ → Type 0
 AreLimits l range = (l.minimum ≤ range) × IfSome l.maximum (λ most. (l.minimum ≤ most)
     × (most ≤ range))
 
+-- one result at most
 abbrev pub IsFunctionTypeValid : FunctionType → Type 0
 IsFunctionTypeValid f = length f.results ≤ 1
 
+-- limits within range
 abbrev pub IsTableTypeValid : TableType → Type 0
 IsTableTypeValid t = AreLimits t.limits (2 ^ 32)
 
@@ -68,12 +70,15 @@ abbrev pub AreFunctionTypes : Module → List FunctionType → Type 0
 AreFunctionTypes m functions =
     AreTypesAt m.types (imported_functions m.imports ++ map function_type_of m.functions) functions
 
+-- all tables, imported ones first
 abbrev pub tables_of : Module → List TableType
 tables_of m = imported_tables m.imports ++ m.tables
 
+-- all memories, imported ones first
 abbrev pub memories_of : Module → List MemoryType
 memories_of m = imported_memories m.imports ++ m.memories
 
+-- all globals, imported ones first
 abbrev pub globals_of : Module → List GlobalType
 globals_of m = imported_globals m.imports ++ map global_type_of m.globals
 
@@ -98,6 +103,7 @@ IsFunctionValid m functions f =
     × HasType (body_context (module_context m functions) t f.code.locals) (gives_of t
     ∷ []) s [] (gives_of t)
 
+-- a global's first value is a constant expression of its type
 abbrev pub IsGlobalValid : Module → Global → Type 0
 IsGlobalValid m g = IsConstant (imported_globals m.imports) g.initial g.global_type.value_type
 
@@ -105,6 +111,7 @@ IsGlobalValid m g = IsConstant (imported_globals m.imports) g.initial g.global_t
 abbrev pub IsIndex : {X : Type 0} → List X → ℕ → Type 0
 IsIndex xs x = x < length xs
 
+-- what is exported is there
 abbrev pub IsExportItemValid : Module → List FunctionType → ExportItem → Type 0
 IsExportItemValid m functions (export.Function x) = IsIndex functions x
 IsExportItemValid m functions (export.Table x) = IsIndex (tables_of m) x
@@ -117,21 +124,25 @@ HaveDistinctNames [] = Unit {0}
 HaveDistinctNames (e ∷ exports) = AllByRecursion (λ (other : Export). e.name ≢ other.name) exports
     × HaveDistinctNames exports
 
+-- the start function is there, and is from nothing to nothing
 abbrev pub IsStartValid : List FunctionType → Option ℕ → Type 0
 IsStartValid functions None = Unit {0}
 IsStartValid functions (Some x) = (f : FunctionType) × (slice_get functions x ≡ Some f)
     × (f.parameters ≡ []) × (f.results ≡ [])
 
+-- an element segment's table, offset and functions are valid
 abbrev pub IsElementValid : Module → List FunctionType → Element → Type 0
 IsElementValid m functions e = IsIndex (tables_of m) e.table
     × IsConstant (globals_of m) e.offset I32 × AllByRecursion (IsIndex functions) e.functions
 
+-- a data segment's memory, offset and bytes are valid
 abbrev pub IsDataValid : Module → Data → Type 0
 IsDataValid m d = IsIndex (memories_of m) d.memory × IsConstant (globals_of m) d.offset I32
     × AllByRecursion IsByte d.bytes
 
 -- ---- modules (3.4.10)
 
+-- a module is valid
 pub record IsValid (m : Module) : Type 0 where
   pub functions : List FunctionType
   pub types : AllByRecursion IsFunctionTypeValid m.types

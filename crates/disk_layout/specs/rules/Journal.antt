@@ -20,6 +20,7 @@ use Rattle.disk_layout.specs.declared.journal_sectors.TheConstants.{PAYLOAD_SIZE
 abbrev pub Record : Type 0
 Record = DeclaredRecord
 
+-- the number of a record's kind
 abbrev pub kind_number : Answer → ℕ
 kind_number (answer.Request text) = REQUEST_KIND
 kind_number answer.End = END_KIND
@@ -27,6 +28,7 @@ kind_number (answer.Realtime n) = REALTIME_KIND
 kind_number (answer.Monotonic n) = MONOTONIC_KIND
 kind_number (answer.Random bytes) = RANDOM_KIND
 
+-- the bytes of a record's answer: a text, none, a time, or random bytes
 abbrev pub payload_of : Answer → List ℕ
 payload_of (answer.Request text) = text
 payload_of answer.End = []
@@ -42,6 +44,7 @@ record_bytes r =
 
 -- ---- reading records
 
+-- this answer where the test holds, else none
 abbrev pub answer_if : Bool → Answer → Option Answer
 answer_if true a = Some a
 answer_if false a = None
@@ -98,6 +101,7 @@ journal_sector g place payload =
     ++ (payload ++ (padding (PAYLOAD_SIZE - length payload)
     ++ stamp_bytes (record { generation = g; place = place })))
 
+-- how many bytes of a journal sector are used: its first two bytes
 abbrev pub used_length : List ℕ → ℕ
 used_length sector = number_of (part sector 0 2)
 

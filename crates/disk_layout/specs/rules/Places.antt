@@ -18,9 +18,11 @@ Geometry = DeclaredGeometry
 abbrev pub short_text_bytes : List ℕ → List ℕ
 short_text_bytes text = u16_bytes (length text) ++ text
 
+-- how many texts, and then each with its length
 abbrev pub texts_bytes : List (List ℕ) → List ℕ
 texts_bytes texts = u32_bytes (length texts) ++ flat_map short_text_bytes texts
 
+-- the configuration as bytes: three numbers, the arguments, the environment
 abbrev pub config_bytes : Settings → List ℕ
 config_bytes c =
     u32_bytes c.pages
@@ -29,6 +31,7 @@ config_bytes c =
 
 -- ---- the geometry
 
+-- how many sectors so many bytes take
 abbrev pub rounded_up : ℕ → ℕ
 rounded_up bytes = (bytes + (SECTOR_SIZE - 1)) / SECTOR_SIZE
 
@@ -50,8 +53,10 @@ head_place g = 1 + g % 2
 abbrev pub area_place : Geometry → ℕ → ℕ
 area_place geometry g = MODULE_PLACE + geometry.module_sectors + (g % 2) * geometry.area_sectors
 
+-- the first sector of the journal: behind configuration, module and both areas
 abbrev pub journal_place : Geometry → ℕ
 journal_place geometry = MODULE_PLACE + geometry.module_sectors + 2 * geometry.area_sectors
 
+-- all sectors of a worker: those up to the journal, and those of the journal
 abbrev pub total_sectors : Geometry → ℕ
 total_sectors geometry = journal_place geometry + geometry.journal_sectors

@@ -62,6 +62,7 @@ pub record IsMarked (sector : List ℕ) : Type 0 where
   pub first : take 8 sector ≡ SUPER_MARK
   pub last : part sector END_MARK_AT 8 ≡ SUPER_END_MARK
 
+-- sector 0 has both marks of a super
 abbrev pub HasMarks : Image → Type 0
 HasMarks image = IsMarked (sector_at image 0)
 
@@ -69,6 +70,7 @@ HasMarks image = IsMarked (sector_at image 0)
 abbrev pub super_layout : List ℕ → ℕ
 super_layout sector = number_of (part sector LAYOUT_AT 4)
 
+-- the super that these bytes have at the places of its fields
 abbrev pub super_of : List ℕ → Super
 super_of sector = record {
   geometry = record {
@@ -94,12 +96,14 @@ pub record HasWorker (config : Settings) (wasm : List ℕ) (image : Image) : Typ
 abbrev pub stamp_bytes : Stamp → List ℕ
 stamp_bytes s = u64_bytes s.generation ++ u64_bytes s.place
 
+-- the stamp that these bytes have at its place
 abbrev pub stamp_of : List ℕ → Stamp
 stamp_of sector = record {
   generation = number_of (part sector GENERATION_AT 8);
   place = number_of (part sector PLACE_AT 8);
 }
 
+-- the generation of a stamp that names this place, else 0
 abbrev pub shown_at : ℕ → Stamp → ℕ
 shown_at place s = if s.place == place then s.generation else 0
 
@@ -117,6 +121,7 @@ head_bytes h =
     ++ (padding 4 ++ (u64_bytes h.length_in_bytes ++ (h.digest ++ (padding 440
     ++ stamp_bytes (record { generation = h.generation; place = HEAD_STAMP_PLACE }))))))
 
+-- the head that these bytes have at the places of its fields
 abbrev pub head_of : List ℕ → Head
 head_of sector = record {
   version = number_of (part sector VERSION_AT 4);

@@ -19,5 +19,6 @@ abbrev pub refusal_by : Bool → FrontFault → SliceFault
 refusal_by true why = fault.Memory
 refusal_by false why = fault.Refused (refusal.Front why)
 
+-- out of memory is told as that, each other fault of a module as a refusal
 abbrev pub refusal_of : FrontFault → SliceFault
 refusal_of why = refusal_by (is_want why) why

@@ -17,6 +17,7 @@ use Rattle.ephemeral_worker.specs.rules.Values.{WorkerValue}
 
 -- ---- what the calls have led to
 
+-- what a source's word adds to the answers: one, or none
 abbrev pub handed_by : Result (Option Answer) SourceFault → List Kept
 handed_by (Ok (Some a)) = Given a ∷ []
 handed_by (Ok None) = []

@@ -6,6 +6,7 @@ use Rattle.wasi_abi.specs.rules.Configs.{Settings}
 use Rattle.machine.specs.rules.Offers.{offer}
 use Rattle.process.specs.rules.Values.{ProcessValue, HasStarted, waiting_in}
 
+-- a process, and whether a call of its worker has failed
 pub record WorkerValue : Type 0 where
   pub process : ProcessValue
   pub failed : Bool

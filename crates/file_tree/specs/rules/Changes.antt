@@ -37,6 +37,7 @@ pub record CanHang (fs : Files) (k d : ℕ) (name : Name) : Type 0 where
   pub no_path : is_some (path_of fs k) ≡ false
   pub free : IsFree fs d name
 
+-- the second path is the first one, or lies below it
 abbrev pub within_path : Option Path → Option Path → Bool
 within_path None d = false
 within_path (Some above) None = false

@@ -8,6 +8,7 @@ use Rattle.std.specs.List.{AllByRecursion}
 use Rattle.std.specs.Str.{IsUtf8}
 use Rattle.file_tree.specs.declared.limits.TheConstants.{NODES, FILE_BYTES, NAME_BYTES}
 
+-- the bytes of one part of a path
 abbrev pub Name : Type 0
 Name = List ℕ
 
@@ -15,6 +16,7 @@ Name = List ℕ
 abbrev pub Path : Type 0
 Path = List Name
 
+-- what a node holds: nothing of its own, or bytes
 pub data Content : Type 0 where
   Directory : Content
   File : (bytes : List ℕ) → Content
@@ -33,21 +35,25 @@ pub record Files : Type 0 where
 
 -- ---- names and paths
 
+-- two names have the same bytes
 abbrev pub is_same_name : Name → Name → Bool
 is_same_name [] [] = true
 is_same_name (a ∷ name) (b ∷ other) = (a == b) && is_same_name name other
 is_same_name [] (b ∷ other) = false
 is_same_name (a ∷ name) [] = false
 
+-- two paths have the same names
 abbrev pub is_same_path : Path → Path → Bool
 is_same_path [] [] = true
 is_same_path (a ∷ path) (b ∷ other) = is_same_name a b && is_same_path path other
 is_same_path [] (b ∷ other) = false
 is_same_path (a ∷ path) [] = false
 
+-- the byte `/`
 abbrev pub slash : ℕ
 slash = 47
 
+-- the byte `.`
 abbrev pub dot : ℕ
 dot = 46
 
@@ -74,6 +80,7 @@ node_of fs k = find (λ (n : FileNode). n.number == k) fs.nodes
 abbrev pub path_of : Files → ℕ → Option Path
 path_of fs k = option_and_then (λ (n : FileNode). n.path) (node_of fs k)
 
+-- the node has a path, which is this one
 abbrev pub is_at : Path → Option Path → Bool
 is_at p None = false
 is_at p (Some q) = is_same_path p q
@@ -88,21 +95,26 @@ child fs d name =
     option_and_then (λ p. option_map (λ (n : FileNode). n.number) (at fs (p ++ name ∷ [])))
     (path_of fs d)
 
+-- a directory's content
 abbrev pub is_directory_content : Content → Bool
 is_directory_content Directory = true
 is_directory_content (File bytes) = false
 
+-- there is a node, and it is a directory
 abbrev pub holds_directory : Option FileNode → Bool
 holds_directory None = false
 holds_directory (Some n) = is_directory_content n.content
 
+-- node k is there, and is a directory
 abbrev pub is_directory : Files → ℕ → Bool
 is_directory fs k = holds_directory (node_of fs k)
 
+-- the bytes of a file, none of a directory
 abbrev pub bytes_of_content : Content → List ℕ
 bytes_of_content Directory = []
 bytes_of_content (File bytes) = bytes
 
+-- the bytes of a file that is there, else none
 abbrev pub bytes_held : Option FileNode → List ℕ
 bytes_held None = []
 bytes_held (Some n) = bytes_of_content n.content
@@ -128,6 +140,7 @@ pub record Entry : Type 0 where
   pub name : Name
   pub number : ℕ
 
+-- the entry of a node in the directory of this path, where it lies right in it
 abbrev pub entry_of : Path → FileNode → Option Entry
 entry_of p n =
     option_map (λ name. record {
@@ -135,6 +148,7 @@ entry_of p n =
       number = n.number;
     }) (option_and_then (name_behind p) n.path)
 
+-- the entries of the directory of this path, in the order of the nodes
 abbrev pub entries_in : Path → List FileNode → List Entry
 entries_in p [] = []
 entries_in p (n ∷ nodes) = with_entry (entry_of p n) (entries_in p nodes)
@@ -151,15 +165,18 @@ is_before (a ∷ name) [] = false
 is_before (a ∷ name) (b ∷ other) = if nat_lt a b then true else if nat_lt b a then false
     else is_before name other
 
+-- an entry put before the first one with a greater name
 abbrev pub inserted : Entry → List Entry → List Entry
 inserted e [] = e ∷ []
 inserted e (f ∷ entries) = if is_before e.name f.name then e ∷ f ∷ entries
     else f ∷ inserted e entries
 
+-- entries in the order of their names
 abbrev pub sorted : List Entry → List Entry
 sorted [] = []
 sorted (e ∷ entries) = inserted e (sorted entries)
 
+-- the entries of a directory that has a path, in the order of their names
 abbrev pub entries_under : Files → Option Path → List Entry
 entries_under fs None = []
 entries_under fs (Some p) = sorted (entries_in p fs.nodes)
@@ -185,6 +202,7 @@ created p c fs = record {
 abbrev pub changed_at : ℕ → (FileNode → FileNode) → FileNode → FileNode
 changed_at k change n = if n.number == k then change n else n
 
+-- the files with a change of node k
 abbrev pub with_node : ℕ → (FileNode → FileNode) → Files → Files
 with_node k change fs = record { nodes = map (changed_at k change) fs.nodes; next = fs.next }
 
@@ -230,6 +248,7 @@ abbrev pub with_new_front : Path → Path → Option Path → Path
 with_new_front new p None = p
 with_new_front new p (Some rest) = new ++ rest
 
+-- a path at or below the old one, as the same below the new one; others stay
 abbrev pub path_moved : Path → Path → Path → Path
 path_moved old new p = with_new_front new p (path_behind old p)
 
@@ -246,6 +265,7 @@ renamed old new fs =
 
 -- ---- when a value is a file system
 
+-- numbers rise from this one on, and stay below the next one
 abbrev pub AreRising : ℕ → List FileNode → ℕ → Type 0
 AreRising least [] next = least ≤ next
 AreRising least (n ∷ nodes) next = (least ≤ n.number) × AreRising (n.number + 1) nodes next
@@ -255,6 +275,7 @@ abbrev pub IsPlaced : Files → Path → Type 0
 IsPlaced fs p = (p ≡ []) ⊎ ((d : ℕ) × (parent : Path) × (name : Name) × (p ≡ parent ++ name ∷ [])
     × IsNodeName name × (path_of fs d ≡ Some parent) × (is_directory fs d ≡ true))
 
+-- there is a path, and it is this one
 abbrev pub HasPath : Option Path → Path → Type 0
 HasPath None p = ⊥
 HasPath (Some q) p = q ≡ p
@@ -265,10 +286,12 @@ HaveDistinctPaths [] = Unit {0}
 HaveDistinctPaths (n ∷ nodes) = AllByRecursion (λ (other : FileNode). (p : Path) → HasPath n.path p
     → HasPath other.path p → ⊥) nodes × HaveDistinctPaths nodes
 
+-- a file is no longer than the limit, and holds bytes
 abbrev pub IsSmallContent : Content → Type 0
 IsSmallContent Directory = Unit {0}
 IsSmallContent (File bytes) = (length bytes ≤ FILE_BYTES) × AllByRecursion (λ b. b < 256) bytes
 
+-- a file system: what holds of all files that calls make
 pub record IsFiles (fs : Files) : Type 0 where
   -- numbers rise from 1 on, below the next one, and node 1 is the root, a directory
   pub rising : AreRising 1 fs.nodes fs.next

@@ -38,6 +38,7 @@ signed_quotient w a b =
     else if (a == 2 ^ hbits w) && (b == 2 ^ bits w - 1) then Err IntegerOverflow
     else Ok (cast_unsigned w (int_div (cast_signed w a) (cast_signed w b)))
 
+-- `rem_s`: the remainder with the sign of the dividend; a trap where the divisor is 0
 abbrev pub signed_remainder : Width → ℕ → ℕ → Result ℕ Trap
 signed_remainder w a b =
     if b == 0 then Err DivideByZero
@@ -47,6 +48,7 @@ signed_remainder w a b =
 abbrev pub rotated_left : Width → ℕ → ℕ → ℕ
 rotated_left w a k = (a * 2 ^ k) % 2 ^ bits w + a / 2 ^ (bits w - k)
 
+-- `rotr`: the bits moved down by k, the lowest k put on top
 abbrev pub rotated_right : Width → ℕ → ℕ → ℕ
 rotated_right w a k = a / 2 ^ k + (a * 2 ^ (bits w - k)) % 2 ^ bits w
 
@@ -75,6 +77,7 @@ abbrev pub truth : Bool → ℕ
 truth true = 1
 truth false = 0
 
+-- the comparisons
 abbrev pub compare_of : Width → Comparison → ℕ → ℕ → Bool
 compare_of w Eq a b = a == b
 compare_of w Ne a b = not (a == b)
@@ -91,6 +94,7 @@ compare_of w GeU a b = nat_le b a
 abbrev pub sign_extended : Width → Width → ℕ → ℕ
 sign_extended from to a = cast_unsigned to (cast_signed from a)
 
+-- the conversions
 abbrev pub convert_of : Conversion → ℕ → ℕ
 convert_of I32WrapI64 a = a % 2 ^ 32
 convert_of I64ExtendI32S a = sign_extended w32 w64 a
@@ -102,6 +106,7 @@ converted_from I32WrapI64 = w64
 converted_from I64ExtendI32S = w32
 converted_from I64ExtendI32U = w32
 
+-- the width that a conversion gives
 abbrev pub converted_to : Conversion → Width
 converted_to I32WrapI64 = w32
 converted_to I64ExtendI32S = w64

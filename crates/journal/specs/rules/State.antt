@@ -11,6 +11,7 @@ pub record JournalState : Type 0 where
   pub kept : List ℕ
   pub has_failed : Bool
 
+-- a state of these parts
 abbrev pub state : ℕ → ℕ → List ℕ → Bool → JournalState
 state generation used kept has_failed = record {
   generation = generation;

@@ -29,6 +29,7 @@ pub record RecordFits (r : Record) : Type 0 where
   pub payload : length (payload_of r.answer) ≤ LONGEST_PAYLOAD
   pub clock : ClockFits r.answer
 
+-- each of these records fits
 abbrev pub AllRecordsFit : List Record → Type 0
 AllRecordsFit records = AllByRecursion RecordFits records
 

@@ -51,11 +51,13 @@ FillsTable globals elements old new =
     (values : List Value) (filled : List (Option ℕ)) → AreInitial globals values
     → filled_table values elements old ≡ Some filled → new ≡ filled
 
+-- the data segments lie inside this memory, with the first values of these globals
 abbrev pub CanFillMemory : List Global → List Data → List ℕ → Type 0
 CanFillMemory globals segments memory =
     (values : List Value) × (filled : List ℕ) × AreInitial globals values
     × (filled_memory values segments memory ≡ Some filled)
 
+-- the new memory is the old one with the data segments put in
 abbrev pub FillsMemory : List Global → List Data → List ℕ → List ℕ → Type 0
 FillsMemory globals segments old new =
     (values : List Value) (filled : List ℕ) → AreInitial globals values

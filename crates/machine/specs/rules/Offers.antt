@@ -17,6 +17,7 @@ offered_call from name = if bytes_eq from module_name
 unfoldable pub offer : Offer
 offer from name = option_map call_type_of (offered_call from name)
 
+-- the call that an import names, if there is one
 abbrev pub imported_call : Import → Option Call
 imported_call i = offered_call i.module_name i.name
 

@@ -20,6 +20,7 @@ pub record MachineValue : Type 0 where
   pub state : MachineState
   pub limit : ℕ
 
+-- the memory of a machine, with its limit
 abbrev pub memory_of : MachineValue → LinearMemory
 memory_of v = record { bytes = v.state.memory; limit = v.limit }
 

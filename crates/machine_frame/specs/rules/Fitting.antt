@@ -69,6 +69,7 @@ FitFrames c program (place ∷ places) =
 
 -- ---- limits
 
+-- how many slots these frames have
 abbrev pub slots_held : List ShownFrame → ℕ
 slots_held [] = 0
 slots_held (place ∷ places) = length place.slots + slots_held places

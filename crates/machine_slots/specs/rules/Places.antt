@@ -105,6 +105,7 @@ ShowsCallers c program above (place ∷ places) (FrameOf f ls labels vs rest ∷
 ShowsCallers c program above [] (frame ∷ frames) = ⊥
 ShowsCallers c program above (place ∷ places) [] = ⊥
 
+-- these places show the frames of this thread, each in its function's body
 abbrev pub ShowsThread : Context → Program → List ShownFrame → Thread → Type 0
 ShowsThread c program [] [] = Unit {0}
 ShowsThread c program (place ∷ places) (FrameOf f ls labels vs rest ∷ frames) =

@@ -88,6 +88,7 @@ FailsFor old new guest p fuel fault.StepsSpent =
     × (come.process.ended ≡ None) × IsBeyond guest come.process None
 FailsFor old new guest p fuel fault.WrongAnswer = ⊥
 
+-- why a call ends: by a stop, or by a fault
 abbrev pub EndsFor : ProcessValue → ProcessValue → Guest → ProcessState → ℕ
     → Result Stop ProcessFault → Type 0
 EndsFor old new guest p fuel (Ok stop) = StopsFor old new guest p fuel stop
@@ -100,6 +101,7 @@ AdvancesProcess old fuel result new = (guest : Guest) (p : ProcessState) → Sho
 
 -- ---- the numbers that remain
 
+-- the fuel is spent
 abbrev pub is_spent : Result Stop ProcessFault → Bool
 is_spent (Ok stop.Spent) = true
 is_spent _ = false

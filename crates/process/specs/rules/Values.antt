@@ -21,6 +21,7 @@ abbrev pub ending_of : ProcessEnd → Ending
 ending_of (end.Exited code) = Exited code
 ending_of (end.Trapped why) = Trapped why
 
+-- a process as contracts see it: machine, host, counts, and how it ended
 pub record ProcessValue : Type 0 where
   pub machine : MachineValue
   pub host : HeldHost

@@ -24,6 +24,7 @@ pub record Ask : Type 0 where
   pub kind : Kind
   pub said : Result (Option Answer) SourceFault
 
+-- one call of a source leads from this value to that one
 abbrev pub Asked : {S : Type 0} → Giving S → S → Ask → S → Type 0
 Asked gives before ask after = gives before ask.kind ask.said after
 
@@ -44,6 +45,7 @@ pub record Begun : Type 0 where
   pub line : Line
   pub said : Result (Unit {0}) OutletFault
 
+-- one call of an outlet leads from this value to that one
 abbrev pub Released : {O : Type 0} → Taking O → O → Begun → O → Type 0
 Released takes before begun after = takes before begun.number begun.line begun.said after
 
@@ -69,6 +71,7 @@ last_refused first told line = all_taken first told
 
 -- ---- both, in one order
 
+-- one call of a source or of an outlet
 pub data Exchange : Type 0 where
   Asks : (ask : Ask) → Exchange
   Tells : (begun : Begun) → Exchange

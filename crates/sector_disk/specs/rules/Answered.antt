@@ -56,6 +56,7 @@ ExplainsSince sectors t (answer ∷ answers) left shown =
     ((t ≤ length answers + 1) × Explains sectors (answer ∷ answers) shown left)
     ⊎ ShowsOn answer.0 answer.1 (ExplainsSince sectors t answers left) shown
 
+-- 1 for a call of a file that failed, else 0
 abbrev pub is_fault : FileCall → ℕ
 is_fault (Tore k) = 1
 is_fault (Failed which) = 1
@@ -66,6 +67,7 @@ abbrev pub faults_of : AnsweredCalls → ℕ
 faults_of [] = 0
 faults_of (answer ∷ answers) = is_fault answer.0 + faults_of answers
 
+-- how many unsynced writes there are after this call
 abbrev pub count_on : FileCall → ℕ → ℕ
 count_on (Wrote k) n = n + 1
 count_on (Tore k) n = n + 1
@@ -77,6 +79,7 @@ abbrev pub unsynced_of : AnsweredCalls → ℕ
 unsynced_of [] = 0
 unsynced_of (answer ∷ answers) = count_on answer.0 (unsynced_of answers)
 
+-- the writes and syncs after this call, the newest first
 abbrev pub call_on : FileCall → List DiskCall → List DiskCall
 call_on (Wrote k) calls = WriteOf k ∷ calls
 call_on (Tore k) calls = WriteOf k ∷ calls
@@ -113,6 +116,7 @@ ReadLogged (Err Range) k bytes old new = new ≡ old
 ReadLogged (Err Io) k bytes old new = new ≡ after_failure (Failed OfRead) NO_BYTES old
 ReadLogged (Err other) k bytes old new = ⊥
 
+-- what a write adds to the log, by its answer; a file that is given up is asked for none
 abbrev pub WriteLogged : Result (Unit {0}) DiskFault → ℕ → List ℕ → AnsweredCalls → AnsweredCalls
     → Type 0
 WriteLogged (Ok x) k bytes old new = IsFalse (is_given_up old) × (new ≡ (Wrote k, bytes) ∷ old)
@@ -120,6 +124,7 @@ WriteLogged (Err Range) k bytes old new = new ≡ old
 WriteLogged (Err Io) k bytes old new = new ≡ after_failure (Tore k) bytes old
 WriteLogged (Err other) k bytes old new = ⊥
 
+-- what a sync adds to the log, by its answer
 abbrev pub SyncLogged : Result (Unit {0}) DiskFault → AnsweredCalls → AnsweredCalls → Type 0
 SyncLogged (Ok x) old new = IsFalse (is_given_up old) × (new ≡ (Synced, NO_BYTES) ∷ old)
 SyncLogged (Err Io) old new = new ≡ after_failure (Failed OfSync) NO_BYTES old

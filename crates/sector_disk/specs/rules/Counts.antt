@@ -12,6 +12,7 @@ HadCount t [] n = ⊥
 HadCount t (moment ∷ earlier) n = ((t ≤ length earlier) × (n ≡ length moment.1.items))
     ⊎ HadCount t earlier n
 
+-- there is no moment at t or later
 pub none_had : (t : ℕ) (moments : List (Vec (List ℕ) Global × Vec Write Global)) (n : ℕ)
     → length moments ≤ t → HadCount t moments n → ⊥
 none_had t [] n le had = had
@@ -19,6 +20,7 @@ none_had t (moment ∷ earlier) n le had =
     ⊎_elim (λ (here : (t ≤ length earlier) × (n ≡ length moment.1.items)). let e = here.0 in
     omega arith) (λ (h : HadCount t earlier n). none_had t earlier n (omega arith) h) had
 
+-- of this very moment there is one count alone
 pub count_only : (moments : List (Vec (List ℕ) Global × Vec Write Global)) (count n : ℕ)
     → (n ≡ count) ⊎ HadCount (length moments) moments n → n ≡ count
 count_only moments count n since =
@@ -30,6 +32,7 @@ AnsweredCount t [] n = (t ≤ 0) × (n ≡ 0)
 AnsweredCount t (answer ∷ answers) n =
     ((t ≤ length answers + 1) × (n ≡ unsynced_of (answer ∷ answers))) ⊎ AnsweredCount t answers n
 
+-- the same of a log of answers
 pub none_answered : (t : ℕ) (answers : AnsweredCalls) (n : ℕ) → length answers < t
     → AnsweredCount t answers n → ⊥
 none_answered t [] n lt since = let e = since.0 in omega arith
@@ -39,11 +42,13 @@ none_answered t (answer ∷ answers) n lt since =
     omega arith) (λ (h : AnsweredCount t answers n). none_answered t answers n (omega arith) h)
     since
 
+-- this moment has the count that the log says
 pub answered_now : (t : ℕ) (answers : AnsweredCalls) → t ≤ length answers
     → AnsweredCount t answers (unsynced_of answers)
 answered_now t [] le = (le, refl)
 answered_now t (answer ∷ answers) le = inl (let e : t ≤ length answers + 1 = omega arith in e, refl)
 
+-- and no other one
 pub answered_only : (answers : AnsweredCalls) (n : ℕ) → AnsweredCount (length answers) answers n
     → n ≡ unsynced_of answers
 answered_only [] n since = since.1

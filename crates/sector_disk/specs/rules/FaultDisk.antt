@@ -14,9 +14,11 @@ module _ {D : Type 0} where
   abbrev pub stop_of : FaultDisk D → Option Place
   stop_of f = f.stop
 
+  -- where it is to fail
   abbrev pub fail_of : FaultDisk D → Option Place
   fail_of f = f.fail
 
+  -- how many calls of each kind were begun
   abbrev pub call_counts_of : FaultDisk D → CallCounts
   call_counts_of f = record { reads = f.reads; writes = f.writes; syncs = f.syncs }
 

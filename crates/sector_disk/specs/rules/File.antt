@@ -59,5 +59,6 @@ module _ {F : Type 0} where
   pub count_fits : (d : FileDisk F) → d.count < 2 ^ 64
   count_fits d = let small = d.small in omega arith
 
+  -- a disk in a file, by its log
   abbrev pub file_medium : FileDisk F → Medium
   file_medium d = answered_medium d.count (count_fits d) (answers_of d)

@@ -3,6 +3,7 @@ use Rattle.std.specs.Prelude.{◌≡◌, ◌<◌, ◌≤◌, ◌++◌, ℕ, List
 use Rattle.std.specs.Prelude.{slice_set}
 use Rattle.sector_disk.specs.declared.sector.TheConstants.{SECTOR_SIZE}
 
+-- the bytes of a disk, sector by sector
 abbrev pub Image : Type 0
 Image = List (List ℕ)
 

@@ -22,6 +22,7 @@ pub record MemoryState : Type 0 where
   pub pending : List Write
   pub limit : ℕ
 
+-- the state of a disk in memory
 abbrev pub memory_state_of : MemDisk → MemoryState
 memory_state_of d = record { settled = d.settled.items; pending = d.pending.items; limit = d.limit }
 
@@ -38,10 +39,12 @@ abbrev pub write_answer : MemoryState → ℕ → Result (Unit {0}) DiskFault
 write_answer state k = if nat_le (length state.settled) k then Err Range
     else (if nat_le state.limit (length state.pending) then Err Io else Ok tt)
 
+-- the state after a write, which no sync has made durable
 abbrev pub after_write : MemoryState → ℕ → List ℕ → MemoryState
 after_write state k bytes =
     record state { pending = state.pending ++ (record { sector = k; bytes = bytes }) ∷ [] }
 
+-- the state in which this image is durable and no write is pending
 abbrev pub settled_by : MemoryState → Image → MemoryState
 settled_by state image = record { settled = image; pending = []; limit = state.limit }
 

@@ -29,6 +29,7 @@ abbrev pub HeadIn : ℕ → List ℕ → Option Head → Type 0
 HeadIn area sector None = IsComplete area sector → ⊥
 HeadIn area sector (Some h) = IsComplete area sector × (h ≡ head_of sector)
 
+-- the newest complete head of an image, or none
 abbrev pub FindsHead : Image → Option Head → Type 0
 FindsHead image None = HasNone image
 FindsHead image (Some h) = IsNewest image h.generation h

@@ -13,11 +13,13 @@ use Rattle.snapshot.specs.declared.snapshots.State.TheVariants as state
 use Rattle.snapshot.specs.declared.snapshots.Snapshots.{Snapshots}
 use Rattle.sector_disk.specs.declared.sector.TheConstants.{SECTOR_SIZE}
 
+-- a call has failed
 abbrev pub has_failed : State → Bool
 has_failed state.Failed = true
 has_failed state.Idle = false
 has_failed (state.Begun w) = false
 
+-- no image is begun, and no call has failed
 abbrev pub is_idle_state : State → Bool
 is_idle_state state.Failed = false
 is_idle_state state.Idle = true
@@ -39,34 +41,41 @@ pub record StaysFailed {T : Type 0} (result : Result T SnapshotFault) (old new :
 
 -- ---- the image that is begun
 
+-- the generation of the image that is begun, else 0
 abbrev pub generation_in : State → ℕ
 generation_in (state.Begun w) = w.generation
 generation_in state.Idle = 0
 generation_in state.Failed = 0
 
+-- its version, else 0
 abbrev pub version_in : State → ℕ
 version_in (state.Begun w) = w.version
 version_in state.Idle = 0
 version_in state.Failed = 0
 
+-- how many bytes of it were pushed, else 0
 abbrev pub length_in : State → ℕ
 length_in (state.Begun w) = written_length w
 length_in state.Idle = 0
 length_in state.Failed = 0
 
+-- how many sectors of it are full so far, else 0
 abbrev pub sectors_in : State → ℕ
 sectors_in (state.Begun w) = w.sectors
 sectors_in state.Idle = 0
 sectors_in state.Failed = 0
 
+-- whether it is written whole, or only what changes
 abbrev pub writing_in : State → Writing
 writing_in (state.Begun w) = w.writing
 writing_in state.Idle = Changes
 writing_in state.Failed = Changes
 
+-- the generation of the image that is begun, else 0
 abbrev pub generation_of : Snapshots → ℕ
 generation_of s = generation_in s.state
 
+-- its version, else 0
 abbrev pub version_of : Snapshots → ℕ
 version_of s = version_in s.state
 
@@ -93,6 +102,7 @@ pub record IsSameImage (old new : Snapshots) : Type 0 where
   pub version : version_of new ≡ version_of old
   pub writing : writing_of new ≡ writing_of old
 
+-- an image of this generation, version and way of writing was just begun
 abbrev pub begun_in : ℕ → ℕ → Writing → State → Type 0
 begun_in g version writing (state.Begun w) = Starts g version writing w
 begun_in g version writing state.Idle = ⊥
@@ -108,6 +118,7 @@ pub record IsBegun (g v : ℕ) (told : Writing) (s : Snapshots) : Type 0 where
   pub writing : writing_of s ≡ told
   pub starts : begun_in g v told s.state
 
+-- the bytes of the image that is begun are these so far
 abbrev pub IsGivenIn : Geometry → Medium → State → List ℕ → Type 0
 IsGivenIn geometry m (state.Begun w) bytes = IsGiven geometry m w bytes
 IsGivenIn geometry m state.Idle bytes = ⊥

@@ -52,6 +52,7 @@ pub record SavedShowsProcess (c : Context) (program : Program) (table : List (Op
 
 -- ---- fields
 
+-- the number of a trap
 abbrev pub trap_number : Trap → ℕ
 trap_number trap.Unreachable = 1
 trap_number trap.DivideByZero = 2
@@ -75,6 +76,7 @@ ending_code None = 0
 ending_code (Some (Exited code)) = code
 ending_code (Some (Trapped why)) = trap_number why
 
+-- 1 for true, 0 for false
 abbrev pub flag_of : Bool → ℕ
 flag_of true = 1
 flag_of false = 0
@@ -87,14 +89,17 @@ text_bytes text = u32_bytes (length text) ++ text
 abbrev pub items_bytes : {X : Type 0} → (X → List ℕ) → List X → List ℕ
 items_bytes bytes xs = u32_bytes (length xs) ++ flat_map bytes xs
 
+-- a frame as bytes: function, position and slots
 abbrev pub place_bytes : ShownFrame → List ℕ
 place_bytes f = u32_bytes f.function ++ (u32_bytes f.position ++ items_bytes u64_bytes f.slots)
 
+-- memory as bytes: its pages, and all of it
 abbrev pub memory_bytes : List ℕ → List ℕ
 memory_bytes memory = u32_bytes (length memory / page_size) ++ memory
 
 -- ---- files
 
+-- an entry of a directory as bytes: its name and its number
 abbrev pub entry_bytes : Entry → List ℕ
 entry_bytes e = u16_bytes (length e.name) ++ (e.name ++ u64_bytes e.number)
 
@@ -103,9 +108,11 @@ abbrev pub content_bytes : Files → ℕ → Content → List ℕ
 content_bytes fs k Directory = directory_type ∷ items_bytes entry_bytes (entries_of fs k)
 content_bytes fs k (File bytes) = regular_file ∷ (u64_bytes (length bytes) ++ bytes)
 
+-- a node as bytes: its number and its content
 abbrev pub node_bytes : Files → FileNode → List ℕ
 node_bytes fs n = u64_bytes n.number ++ content_bytes fs n.number n.content
 
+-- files as bytes: the next number, and each node
 abbrev pub files_bytes : Files → List ℕ
 files_bytes fs = u64_bytes fs.next ++ items_bytes (node_bytes fs) fs.nodes
 
@@ -122,11 +129,13 @@ pub record Numbered : Type 0 where
   pub number : ℕ
   pub descriptor : Descriptor
 
+-- the descriptors that are open, with their numbers, counted from this one
 abbrev pub open_from : ℕ → List (Option Descriptor) → List Numbered
 open_from n [] = []
 open_from n (None ∷ ds) = open_from (n + 1) ds
 open_from n (Some d ∷ ds) = record { number = n; descriptor = d } ∷ open_from (n + 1) ds
 
+-- an open descriptor as bytes
 abbrev pub descriptor_bytes : Files → Numbered → List ℕ
 descriptor_bytes fs d =
     u32_bytes d.number ++ (target_bytes fs d.descriptor.target ++ (u64_bytes d.descriptor.offset
@@ -135,20 +144,24 @@ descriptor_bytes fs d =
 
 -- ---- the image
 
+-- the first bytes of an image
 abbrev pub image_mark : List ℕ
 image_mark = codes "DWIMAGE1"
 
+-- steps, answers, requests, lines and the last monotonic time, of 8 bytes each
 abbrev pub counts_bytes : Saved → List ℕ
 counts_bytes s =
     u64_bytes s.steps
     ++ (u64_bytes s.answers
     ++ (u64_bytes s.requests ++ (u64_bytes s.lines ++ u64_bytes s.last_monotonic)))
 
+-- the phase, the exit code or trap, and whether the input has ended
 abbrev pub phase_bytes : Saved → List ℕ
 phase_bytes s =
     phase_of s.ended s.machine.later ∷ (u32_bytes (ending_code s.ended) ++ flag_of s.input_ended
     ∷ [])
 
+-- what is unread, and the unfinished lines of both output streams
 abbrev pub streams_bytes : Saved → List ℕ
 streams_bytes s = text_bytes s.unread ++ (text_bytes s.first ++ text_bytes s.second)
 
@@ -158,6 +171,7 @@ machine_bytes m =
     items_bytes u64_bytes m.globals ++ (items_bytes place_bytes (reverse m.frames)
     ++ memory_bytes m.memory)
 
+-- a process as bytes: all of its image
 abbrev pub image : Saved → List ℕ
 image s =
     image_mark ++ (counts_bytes s ++ (phase_bytes s ++ (streams_bytes s ++ (machine_bytes s.machine

@@ -9,6 +9,7 @@ use Rattle.state_image.specs.declared.reading.progress.ReadEnd.{ReadEnd}
 use Rattle.state_image.specs.declared.reading.progress.ReadStreams.{ReadStreams}
 use Rattle.state_image.specs.rules.Image.{Saved}
 
+-- what an image counts
 abbrev pub counts_of : Saved → ReadCounts
 counts_of s = record {
   steps = s.steps;
@@ -25,6 +26,7 @@ read_phase None (f ∷ later) = read.Starting
 read_phase (Some (Exited code)) later = read.Exited code
 read_phase (Some (Trapped why)) later = read.Trapped why
 
+-- its phase, and whether the input has ended
 abbrev pub read_end_of : Saved → ReadEnd
 read_end_of s = record { phase = read_phase s.ended s.machine.later; input_ended = s.input_ended }
 
@@ -34,6 +36,7 @@ pub record StreamTexts : Type 0 where
   pub first : List ℕ
   pub second : List ℕ
 
+-- its streams
 abbrev pub streams_of : Saved → StreamTexts
 streams_of s = record { unread = s.unread; first = s.first; second = s.second }
 

@@ -8,6 +8,7 @@ use Rattle.state_image.specs.declared.reading.descriptors.ReadDescriptor.{ReadDe
 use Rattle.state_image.specs.rules.Image.{Numbered}
 use Rattle.state_image.specs.rules.Ranges.{IsIn}
 
+-- a descriptor of any kind as bytes
 abbrev pub raw_bytes : ReadDescriptor → List ℕ
 raw_bytes d =
     u32_bytes d.number ++ ((d.kind ∷ u64_bytes d.node) ++ (u64_bytes d.offset ++ (u16_bytes d.flags

@@ -7,12 +7,15 @@ use Rattle.wasi_abi.specs.declared.answer.Kind.TheVariants as kind
 use Rattle.wasi_abi.specs.declared.answer.Answer.{Answer}
 use Rattle.wasi_abi.specs.declared.answer.Answer.TheVariants as answer
 
+-- the byte that ends a line
 abbrev pub newline : ℕ
 newline = 10
 
+-- another byte than that
 abbrev pub IsNoNewline : ℕ → Type 0
 IsNoNewline b = b ≢ newline
 
+-- each number is below 256
 abbrev pub AreBytes : List ℕ → Type 0
 AreBytes bytes = AllByRecursion IsByte bytes
 

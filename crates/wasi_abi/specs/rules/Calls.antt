@@ -6,6 +6,7 @@ use Rattle.wasm_syntax.specs.declared.types.FunctionType.{FunctionType}
 use Rattle.wasi_abi.specs.declared.call.Call.{Call}
 use Rattle.wasi_abi.specs.declared.call.Call.TheVariants as call
 
+-- the module name of the calls
 abbrev pub module_name : List ℕ
 module_name = codes "wasi_snapshot_preview1"
 
@@ -21,6 +22,7 @@ all_calls =
     call.PathCreateDirectory ∷ call.PathFilestatGet ∷ call.PathOpen ∷ call.PathRemoveDirectory ∷
     call.PathRename ∷ call.PathUnlinkFile ∷ call.ProcExit ∷ call.SchedYield ∷ call.RandomGet ∷ []
 
+-- the name of a call
 abbrev pub name_of : Call → List ℕ
 name_of call.ArgsGet = codes "args_get"
 name_of call.ArgsSizesGet = codes "args_sizes_get"
@@ -94,5 +96,6 @@ abbrev pub result_types : Call → List ValueType
 result_types call.ProcExit = []
 result_types _ = I32 ∷ []
 
+-- the type of a call
 abbrev pub call_type_of : Call → FunctionType
 call_type_of c = record { parameters = parameters_of c; results = result_types c }

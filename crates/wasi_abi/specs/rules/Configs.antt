@@ -11,6 +11,7 @@ pub record Settings : Type 0 where
   pub arguments : List (List ℕ)
   pub environment : List (List ℕ)
 
+-- a configuration of these parts
 abbrev pub settings : ℕ → ℕ → ℕ → List (List ℕ) → List (List ℕ) → Settings
 settings pages files journal arguments environment = record {
   pages = pages;
@@ -20,6 +21,7 @@ settings pages files journal arguments environment = record {
   environment = environment;
 }
 
+-- a text of at most 1,024 bytes (the product's limit)
 abbrev pub IsShortText : List ℕ → Type 0
 IsShortText text = length text ≤ 1024
 
@@ -33,6 +35,7 @@ pub record IsInRange (s : Settings) : Type 0 where
   pub few_entries : length s.environment ≤ 64
   pub short_entries : AllByRecursion IsShortText s.environment
 
+-- a byte that isn't 0
 abbrev pub IsNonzero : ℕ → Type 0
 IsNonzero b = b ≢ 0
 
@@ -54,10 +57,12 @@ IsNamed (b ∷ text) = (b ≢ 61) × HasEquals text
 abbrev pub IsEnvironmentEntry : List ℕ → Type 0
 IsEnvironmentEntry text = IsText text × IsNamed text
 
+-- arguments are texts, and the environment has names and values
 pub record HasTexts (s : Settings) : Type 0 where
   pub arguments : AllByRecursion IsText s.arguments
   pub environment : AllByRecursion IsEnvironmentEntry s.environment
 
+-- numbers and texts are within the product's limits
 pub record AreSettingsWithinLimits (s : Settings) : Type 0 where
   pub in_range : IsInRange s
   pub texts : HasTexts s

@@ -25,6 +25,7 @@ AreArguments (I64 ∷ types) (n ∷ numbers) = (n < 2 ^ 64) × AreArguments type
 AreArguments [] (n ∷ numbers) = ⊥
 AreArguments (t ∷ types) [] = ⊥
 
+-- what the code's answer to a call tells
 abbrev pub told_of : CallOutcome → Told
 told_of (outcome.Done e) = IsDone e
 told_of (outcome.Ask kind) = IsAsk kind

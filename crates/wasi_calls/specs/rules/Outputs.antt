@@ -13,6 +13,7 @@ pub record Output : Type 0 where
   pub waiting : List Line
   pub released : ℕ
 
+-- nothing was written yet
 abbrev pub no_output : Output
 no_output = record { first = []; second = []; waiting = []; released = 0 }
 
@@ -29,6 +30,7 @@ output_written stream bytes o =
 abbrev pub left_lines : Output → List Line
 left_lines o = rest_of 1 o.first ++ rest_of 2 o.second
 
+-- what was unfinished on both streams is lines that wait
 abbrev pub output_ended : Output → Output
 output_ended o = record o { waiting = o.waiting ++ left_lines o; first = []; second = [] }
 

@@ -30,6 +30,7 @@ use Rattle.wasm_syntax.specs.rules.Items.{IsBlockType}
 
 -- ---- opcodes (5.4.4, 5.4.5)
 
+-- the opcode of a load
 abbrev pub load_opcode : LoadOperator → ℕ
 load_opcode load.I32 = 0x28
 load_opcode load.I64 = 0x29
@@ -44,6 +45,7 @@ load_opcode load.I64Bits16U = 0x33
 load_opcode load.I64Bits32S = 0x34
 load_opcode load.I64Bits32U = 0x35
 
+-- the opcode of a store
 abbrev pub store_opcode : StoreOperator → ℕ
 store_opcode store.I32 = 0x36
 store_opcode store.I64 = 0x37
@@ -66,11 +68,13 @@ compare_place LeU = 7
 compare_place GeS = 8
 compare_place GeU = 9
 
+-- the place of a unary operator among the opcodes of its width
 abbrev pub unary_place : UnaryOperator → ℕ
 unary_place Clz = 0
 unary_place Ctz = 1
 unary_place Popcnt = 2
 
+-- the place of a binary operator among the opcodes of its width
 abbrev pub binary_place : BinaryOperator → ℕ
 binary_place Add = 0
 binary_place Sub = 1
@@ -88,22 +92,27 @@ binary_place ShrU = 12
 binary_place Rotl = 13
 binary_place Rotr = 14
 
+-- the opcode of `eqz`
 abbrev pub eqz_opcode : ValueType → ℕ
 eqz_opcode I32 = 0x45
 eqz_opcode I64 = 0x50
 
+-- the opcode of a comparison
 abbrev pub compare_opcode : ValueType → Comparison → ℕ
 compare_opcode I32 operator = 0x46 + compare_place operator
 compare_opcode I64 operator = 0x51 + compare_place operator
 
+-- the opcode of a unary operator
 abbrev pub unary_opcode : ValueType → UnaryOperator → ℕ
 unary_opcode I32 operator = 0x67 + unary_place operator
 unary_opcode I64 operator = 0x79 + unary_place operator
 
+-- the opcode of a binary operator
 abbrev pub binary_opcode : ValueType → BinaryOperator → ℕ
 binary_opcode I32 operator = 0x6a + binary_place operator
 binary_opcode I64 operator = 0x7c + binary_place operator
 
+-- the opcode of a conversion
 abbrev pub convert_opcode : Conversion → ℕ
 convert_opcode I32WrapI64 = 0xa7
 convert_opcode I64ExtendI32S = 0xac
@@ -111,6 +120,7 @@ convert_opcode I64ExtendI32U = 0xad
 
 -- ---- instructions (5.4.1 to 5.4.5)
 
+-- alignment and offset of an access
 abbrev pub IsMemoryArgument : List ℕ → MemoryArgument → List ℕ → Type 0
 IsMemoryArgument bytes m rest = (a : List ℕ) × IsU32 bytes m.align a × IsU32 a m.offset rest
 
@@ -118,6 +128,7 @@ IsMemoryArgument bytes m rest = (a : List ℕ) × IsU32 bytes m.align a × IsU32
 abbrev pub IsOpcode : ℕ → (List ℕ → Type 0) → List ℕ → Type 0
 IsOpcode opcode IsOperand bytes = (a : List ℕ) × IsThisByte opcode bytes a × IsOperand a
 
+-- a constant
 abbrev pub IsConstantOpcode : List ℕ → Value → List ℕ → Type 0
 IsConstantOpcode bytes (value.I32 n) rest = IsOpcode 0x41 (λ a. IsSigned 32 a n rest) bytes
 IsConstantOpcode bytes (value.I64 n) rest = IsOpcode 0x42 (λ a. IsSigned 64 a n rest) bytes

@@ -30,6 +30,7 @@ IsUnsigned bits (b ∷ bytes) n rest =
     ⊎ ((128 ≤ b) × (7 < bits) × (high : ℕ) × IsUnsigned (bits - 7) bytes high rest
     × (n ≡ high * 128 + (b - 128)))
 
+-- an unsigned integer of 32 bits
 abbrev pub IsU32 : List ℕ → ℕ → List ℕ → Type 0
 IsU32 bytes n rest = IsUnsigned 32 bytes n rest
 
@@ -79,6 +80,7 @@ IsSized IsContent bytes x rest = (part : List ℕ) × IsBytes bytes part rest ×
 
 -- ---- types (5.3)
 
+-- a value type
 abbrev pub IsValueType : List ℕ → ValueType → List ℕ → Type 0
 IsValueType bytes I32 rest = IsThisByte 0x7f bytes rest
 IsValueType bytes I64 rest = IsThisByte 0x7e bytes rest
@@ -88,29 +90,36 @@ abbrev pub IsBlockType : List ℕ → Option ValueType → List ℕ → Type 0
 IsBlockType bytes None rest = IsThisByte 0x40 bytes rest
 IsBlockType bytes (Some t) rest = IsValueType bytes t rest
 
+-- a function type
 abbrev pub IsFunctionType : List ℕ → FunctionType → List ℕ → Type 0
 IsFunctionType bytes t rest =
     (a : List ℕ) × (b : List ℕ) × IsThisByte 0x60 bytes a × IsVector IsValueType a t.parameters b
     × IsVector IsValueType b t.results rest
 
+-- a minimum, with a maximum or none
 abbrev pub IsRange : List ℕ → ℕ → Option ℕ → List ℕ → Type 0
 IsRange bytes least None rest = (a : List ℕ) × IsThisByte 0x00 bytes a × IsU32 a least rest
 IsRange bytes least (Some most) rest = (a : List ℕ) × (b : List ℕ) × IsThisByte 0x01 bytes a
     × IsU32 a least b × IsU32 b most rest
 
+-- limits
 abbrev pub IsLimits : List ℕ → Limits → List ℕ → Type 0
 IsLimits bytes l rest = IsRange bytes l.minimum l.maximum rest
 
+-- a table type
 abbrev pub IsTableType : List ℕ → TableType → List ℕ → Type 0
 IsTableType bytes t rest = (a : List ℕ) × IsThisByte 0x70 bytes a × IsLimits a t.limits rest
 
+-- a memory type
 abbrev pub IsMemoryType : List ℕ → MemoryType → List ℕ → Type 0
 IsMemoryType bytes t rest = IsLimits bytes t.limits rest
 
+-- whether a global is variable
 abbrev pub IsMutability : List ℕ → Mutability → List ℕ → Type 0
 IsMutability bytes Constant rest = IsThisByte 0x00 bytes rest
 IsMutability bytes Variable rest = IsThisByte 0x01 bytes rest
 
+-- a global type
 abbrev pub IsGlobalType : List ℕ → GlobalType → List ℕ → Type 0
 IsGlobalType bytes t rest = (a : List ℕ) × IsValueType bytes t.value_type a
     × IsMutability a t.mutability rest

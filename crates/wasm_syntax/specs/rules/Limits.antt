@@ -17,6 +17,7 @@ use Rattle.wasm_syntax.specs.declared.limits.TheConstants.{MODULE_BYTES, FUNCTIO
 use Rattle.wasm_syntax.specs.declared.limits.TheConstants.{PARAMETERS, LOCALS, TABLE_ENTRIES}
 use Rattle.wasm_syntax.specs.declared.limits.TheConstants.{GLOBALS}
 
+-- an import of a function
 abbrev pub is_function : Import → Bool
 is_function i = is_function_item i.item
   where
@@ -24,19 +25,24 @@ is_function i = is_function_item i.item
     is_function_item (import.Function t) = true
     is_function_item _ = false
 
+-- so many opcodes at most
 abbrev pub IsShortExpression : List Instruction → Type 0
 IsShortExpression expression = length expression ≤ INSTRUCTIONS
 
+-- so many parameters at most
 abbrev pub HasFewParameters : FunctionType → Type 0
 HasFewParameters t = length t.parameters ≤ PARAMETERS
 
+-- so many entries at most
 abbrev pub IsSmallTable : TableType → Type 0
 IsSmallTable t = t.limits.minimum ≤ TABLE_ENTRIES
 
+-- an imported table has so many entries at most
 abbrev pub IsSmallImport : ImportItem → Type 0
 IsSmallImport (import.Table t) = IsSmallTable t
 IsSmallImport _ = Unit {0}
 
+-- so many locals and opcodes at most
 abbrev pub IsSmallFunction : Function → Type 0
 IsSmallFunction f = (length f.code.locals ≤ LOCALS) × IsShortExpression f.code.body
 
@@ -45,6 +51,7 @@ pub record IsLimited (m : Module) : Type 0 where
   pub types : AllByRecursion HasFewParameters m.types
   pub bodies : AllByRecursion IsSmallFunction m.functions
 
+-- all of the product's limits on a module and its bytes
 pub record IsWithinLimits (bytes : List ℕ) (m : Module) : Type 0 where
   pub size : length bytes ≤ MODULE_BYTES
   pub types : AllByRecursion HasFewParameters m.types

@@ -20,6 +20,7 @@ use Rattle.wasm_syntax.specs.rules.Instructions.{IsOpcode, IsExpression}
 
 -- ---- what sections hold (5.5.4 to 5.5.14)
 
+-- what an import is of
 abbrev pub IsImportItem : List ℕ → ImportItem → List ℕ → Type 0
 IsImportItem bytes (import.Function function_type) rest =
     IsOpcode 0x00 (λ a. IsU32 a function_type rest) bytes
@@ -27,31 +28,38 @@ IsImportItem bytes (import.Table t) rest = IsOpcode 0x01 (λ a. IsTableType a t 
 IsImportItem bytes (import.Memory t) rest = IsOpcode 0x02 (λ a. IsMemoryType a t rest) bytes
 IsImportItem bytes (import.Global t) rest = IsOpcode 0x03 (λ a. IsGlobalType a t rest) bytes
 
+-- an import: two names and its item
 abbrev pub IsImport : List ℕ → Import → List ℕ → Type 0
 IsImport bytes i rest = (a : List ℕ) × (b : List ℕ) × IsName bytes i.module_name a
     × IsName a i.name b × IsImportItem b i.item rest
 
+-- a global with its first value
 abbrev pub IsGlobal : List ℕ → Global → List ℕ → Type 0
 IsGlobal bytes g rest = (a : List ℕ) × IsGlobalType bytes g.global_type a
     × IsExpression a g.initial rest
 
+-- what an export is of
 abbrev pub IsExportItem : List ℕ → ExportItem → List ℕ → Type 0
 IsExportItem bytes (export.Function index) rest = IsOpcode 0x00 (λ a. IsU32 a index rest) bytes
 IsExportItem bytes (export.Table index) rest = IsOpcode 0x01 (λ a. IsU32 a index rest) bytes
 IsExportItem bytes (export.Memory index) rest = IsOpcode 0x02 (λ a. IsU32 a index rest) bytes
 IsExportItem bytes (export.Global index) rest = IsOpcode 0x03 (λ a. IsU32 a index rest) bytes
 
+-- an export: its name and its item
 abbrev pub IsExport : List ℕ → Export → List ℕ → Type 0
 IsExport bytes e rest = (a : List ℕ) × IsName bytes e.name a × IsExportItem a e.item rest
 
+-- the start function
 abbrev pub IsStartFunction : List ℕ → Option ℕ → List ℕ → Type 0
 IsStartFunction bytes None rest = ⊥
 IsStartFunction bytes (Some function) rest = IsU32 bytes function rest
 
+-- an element segment
 abbrev pub IsElement : List ℕ → Element → List ℕ → Type 0
 IsElement bytes e rest = (a : List ℕ) × (b : List ℕ) × IsU32 bytes e.table a
     × IsExpression a e.offset b × IsVector IsU32 b e.functions rest
 
+-- a data segment
 abbrev pub IsData : List ℕ → Data → List ℕ → Type 0
 IsData bytes d rest = (a : List ℕ) × (b : List ℕ) × IsU32 bytes d.memory a
     × IsExpression a d.offset b × IsBytes b d.bytes rest
@@ -61,6 +69,7 @@ pub record LocalRun : Type 0 where
   pub count : ℕ
   pub value_type : ValueType
 
+-- so many locals of one type
 abbrev pub IsLocalRun : List ℕ → LocalRun → List ℕ → Type 0
 IsLocalRun bytes r rest = (a : List ℕ) × IsU32 bytes r.count a × IsValueType a r.value_type rest
 
@@ -82,6 +91,7 @@ pub record Section : Type 0 where
   pub id : ℕ
   pub body : List ℕ
 
+-- a section: its id and its bytes
 abbrev pub IsSection : List ℕ → Section → List ℕ → Type 0
 IsSection bytes s rest = IsOpcode s.id (λ a. IsBytes a s.body rest) bytes
 
@@ -117,9 +127,11 @@ IsField ss id IsContent absent x =
 abbrev pub preamble : List ℕ
 preamble = 0x00 ∷ 0x61 ∷ 0x73 ∷ 0x6d ∷ 0x01 ∷ 0x00 ∷ 0x00 ∷ 0x00 ∷ []
 
+-- the type index of a function
 abbrev pub function_type_of : Function → ℕ
 function_type_of f = f.function_type
 
+-- the code of a function
 abbrev pub code_of : Function → Code
 code_of f = f.code
 

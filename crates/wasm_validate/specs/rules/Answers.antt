@@ -25,6 +25,7 @@ DeniesOutright Index P = P → ⊥
 DeniesOutright Limits P = P → ⊥
 DeniesOutright DuplicateExport P = P → ⊥
 
+-- by Ok it holds, and by an error it doesn't
 abbrev pub Decides : {X : Type 0} → Result X ValidFault → Type 0 → Type 0
 Decides (Ok x) P = P
 Decides (Err e) P = DeniesOutright e P

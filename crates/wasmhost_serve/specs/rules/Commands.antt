@@ -89,6 +89,7 @@ pub data Meaning : Type 0 where
   show : Text → Meaning
   story : StoryMeaning → Meaning
 
+-- what an order to create says
 abbrev pub create_said : CreateOrder → CreateMeaning
 create_said order = record {
   disk = order.disk.now;
@@ -100,6 +101,7 @@ create_said order = record {
   arguments = texts_in order.arguments.items;
 }
 
+-- what an order to run says
 abbrev pub run_said : RunOrder → RunMeaning
 run_said order = record {
   disk = order.disk.now;
@@ -110,6 +112,7 @@ run_said order = record {
   rewrites = order.rewrites;
 }
 
+-- what an order to tell a story says
 abbrev pub story_said : StoryOrder → StoryMeaning
 story_said order = record {
   script = order.script.now;
@@ -119,6 +122,7 @@ story_said order = record {
   journal = order.journal;
 }
 
+-- what an order says
 abbrev pub meaning_of : Order → Meaning
 meaning_of (Check path) = check path.now
 meaning_of (Create order) = create (create_said order)
@@ -128,6 +132,7 @@ meaning_of (Story order) = story (story_said order)
 
 -- ---- what stands behind a command
 
+-- the number that a text spells in decimal digits
 abbrev pub spelled_number : Text → ℕ
 spelled_number text = digits_value 10 (without_leading_plus text)
 
@@ -143,12 +148,15 @@ number_or name other rows = option_map_or spelled_number (one_of name rows) othe
 abbrev pub flag_in : Text → List Row → Bool
 flag_in name rows = option_map_or (λ text. bytes_eq text (codes "true")) (one_of name rows) false
 
+-- the text of DISK
 abbrev pub disk_in : List Row → Option Text
 disk_in = first_of (codes "DISK")
 
+-- the text of MODULE
 abbrev pub module_in : List Row → Option Text
 module_in = first_of (codes "MODULE")
 
+-- the text of SCRIPT
 abbrev pub script_in : List Row → Option Text
 script_in = first_of (codes "SCRIPT")
 

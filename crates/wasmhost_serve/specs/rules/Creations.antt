@@ -56,6 +56,7 @@ IsUnaccepted pages bytes (unprepared.Module why) =
     (is_want why ≡ false) × IsTold pages bytes why × HasNoAcceptedModule pages bytes
 IsUnaccepted pages bytes unprepared.Memory = ⊤
 
+-- a configuration with the sectors of its worker, or why there is none
 abbrev pub prepared_with : Settings → Result ℕ Unprepared → Result Prepared Unprepared
 prepared_with config (Ok sectors) = Ok (record { config = config; sectors = sectors })
 prepared_with config (Err why) = Err why

@@ -3,6 +3,7 @@ use Rattle.std.specs.Prelude.{ℕ, ◌≤◌, ◌<◌, ◌^◌}
 use Rattle.wasmhost_serve.specs.declared.lines.request.Request.{Request}
 use Rattle.wasmhost_serve.specs.declared.lines.request.Request.TheVariants as request
 
+-- the number of a request
 abbrev pub request_number : Request → ℕ
 request_number (request.Text number text) = number
 request_number (request.End number) = number

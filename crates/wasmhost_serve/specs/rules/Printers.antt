@@ -9,6 +9,7 @@ pub record PrinterState : Type 0 where
   pub on_terminal : Bool
   pub failed : Bool
 
+-- a state of these parts
 abbrev pub printer_state : Option (List ℕ) → Bool → Bool → PrinterState
 printer_state contents on_terminal failed = record {
   contents = contents;

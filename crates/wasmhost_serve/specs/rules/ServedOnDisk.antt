@@ -37,6 +37,7 @@ pub record DiskJob : Type 0 where
   pub outside : Outside
   pub failed : Bool
 
+-- a job of these parts
 abbrev pub disk_job : ℕ → ℕ → Option (List ℕ) → Outside → Bool → DiskJob
 disk_job fuel every lines outside failed = record {
   fuel = fuel;

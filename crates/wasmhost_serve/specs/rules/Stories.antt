@@ -51,6 +51,7 @@ opening_line number Unopened = named_number (codes "life ") number ++ codes " no
 abbrev pub release_text : NumberedLine → List ℕ
 release_text line = printed line.number (record { stream = line.stream; text = line.text })
 
+-- the text of lines that were released, one after another
 abbrev pub releases_text : List NumberedLine → List ℕ
 releases_text [] = []
 releases_text (line ∷ lines) = release_text line ++ releases_text lines

@@ -9,6 +9,7 @@ use Rattle.worker.specs.declared.story.life.PlannedAct.{PlannedAct}
 use Rattle.worker.specs.declared.story.life.PlannedAct.TheVariants as planned
 use Rattle.worker.specs.declared.story.life.PlannedLife.{PlannedLife}
 
+-- an act, in the words of the restart theorem
 abbrev pub act_of : PlannedAct → Act
 act_of (planned.Slice fuel) = slice fuel
 act_of planned.Checkpoint = Checkpoint

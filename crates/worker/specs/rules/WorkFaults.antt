@@ -5,6 +5,7 @@ use Rattle.ephemeral_worker.specs.declared.fault.SliceFault.TheVariants as slice
 use Rattle.worker.specs.declared.fault.WorkFault.{WorkFault}
 use Rattle.worker.specs.declared.fault.WorkFault.TheVariants.{Work, Disk, Store}
 
+-- a fault of the store, as one of its worker
 abbrev pub fault_of_store : StoreFault → WorkFault
 fault_of_store (store.Disk fault) = Disk fault
 fault_of_store store.Memory = Work slice.Memory
