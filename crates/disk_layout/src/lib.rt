@@ -41,6 +41,25 @@
 //! use it, and `record_replay` its `Record`. `worker_rules` cites the definitions. It stands on
 //! `sector_disk` and `wasi_abi`. Reading back and `config_bytes_of` take memory. Whatever fails, a
 //! read leaves the disk unwritten.
+//!
+//! # Choices
+//!
+//! - Which of `K2` and `K3` a failing disk answers is no part of a disk's clauses. So those of a
+//!   write of contents or super say that its fault is one of the two, and not which.
+//! - Padding is written as zeros and not compared when it is read.
+//! - A torn head may show a lower generation than before, one that no commit made. What stays is
+//!   the latest that a head's sector shows.
+//! - `write_contents` takes configuration and module apart and builds each sector of a part of
+//!   each: no joined copy is made. It leaves the sync to its caller, so that one sync serves all
+//!   that a new disk is given. Its clause speaks of reads and of a cut together (`BothFollow`). So
+//!   a later sync, with other writes before it or not, makes durable what reads give.
+//! - The digest is compared before the configuration's bytes are looked at. So only bytes that some
+//!   writer put there under their own digest are parsed. What they spell is still checked against
+//!   its limits and against the super's sectors.
+//! - Whether the disk has all sectors is asked twice. As far as the module it is asked before that
+//!   is read. As far as the journal's end it is asked once the super's numbers are known to be the
+//!   configuration's. A super with a wrong number is `Damaged`, on a disk of any size that holds
+//!   the module.
 #![tactic(auto)]
 
 mod configuration;

@@ -29,6 +29,14 @@
 //! slices. It stands on `process`, `machine_loader` and `record_replay`. It takes no memory but
 //! what loading and the process take. After an error of `slice` the process has taken whole steps
 //! alone, and each slice answers `N5 Failed`.
+//!
+//! # Choices
+//!
+//! - A worker's exchanges with the outside are one list, in their order. Each question is what the
+//!   calls before it have led the process to want, so all lines that were emitted before it had
+//!   been released. Those before it were answered: no question is asked again in one slice.
+//! - Any error of a worker but a refused line is one of a next step that some fuel is left for. Out
+//!   of memory is one of a call of the host: no other step takes memory.
 #![tactic(auto)]
 
 mod fault;

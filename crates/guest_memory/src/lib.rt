@@ -32,6 +32,12 @@
 //! `machine_slots`, `machine`, `process` and `wasi_calls` use it, and most crates its definitions.
 //! It stands on no other crate of this repository. `new` alone takes memory, and `M1 Memory` is
 //! its only error. Growth takes none.
+//!
+//! # Choices
+//!
+//! - A part is lent for writing where `has` says that it is in memory. A `requires` is there in
+//!   place of an `Option`, since the toolchain proves no `Option` of a lent part.
+//! - Reserved room is in the invariant and not in the value, so equal memories are equal values.
 #![tactic(auto)]
 
 pub mod laws;

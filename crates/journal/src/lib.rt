@@ -34,6 +34,13 @@
 //! keeps none. `worker_store` uses it. It stands on `disk_layout` and `sector_disk`. `append` and
 //! `scan` take memory, `fresh` and `barrier` take none (`no_memory`). A failed barrier leaves its
 //! records in memory (`err`), and of the disk what `any_moment` says.
+//!
+//! # Choices
+//!
+//! - Any error, a refusal included, makes a journal or the snapshots failed: every later call
+//!   answers `Failed`.
+//! - `append` takes a record by reference, since the worker still needs the answer.
+//! - Faults of layout, journal and snapshot carry the disk's fault.
 #![tactic(auto)]
 
 mod decode;

@@ -51,6 +51,36 @@
 //! `Arguments`, and `FramePlace`, which lends a frame. `machine_loader`, `process` and
 //! `state_image` use it. `link` takes all memory that running needs, and translates bodies into
 //! forms; where it fails the module is gone. The other calls take none and have no errors.
+//!
+//! # Choices
+//!
+//! - A fault of `link` is pinned: it names the first thing that isn't there, in the order of the
+//!   faults.
+//! - Whether segments are inside is decided before any memory is taken, from sizes alone.
+//! - An instance has public fields, so that `hosting` can take it apart and keep each part.
+//! - The machine's invariant holds whatever its memory is: with each memory of the program's limit,
+//!   its state stands for a settled configuration. So the memory can be lent whole, and any memory
+//!   may be written back. What runs asks only that the memory's limit is the one that the machine
+//!   was linked with. Whole pages and bytes below 256 are known by types.
+//! - Contracts see a machine's module, the pages that its program may have, its table, its state
+//!   and its memory's limit. What `run` and `finish` ensure is said of the configurations that it
+//!   shows: no clause of theirs names a slot, a frame or a routine.
+//! - **A machine is asked what it waits for and whether it is over; nothing runs to learn it.**
+//!   Both answers are read off the innermost frame, and their contracts are exact both ways. So a
+//!   process settles a configuration once a call. A machine that was just made at a call, and never
+//!   ran, answers the same.
+//! - A contract is stated for every configuration that is shown, and asks that there is one. So
+//!   nothing has to be known of which it is.
+//! - The results of the last frame are dropped: a function that the host calls may give one, as far
+//!   as the definitions go.
+//! - Frames and words are cleared at a trap, so that a trapped machine shows what the rules leave:
+//!   the store and no thread.
+//! - How many words a waiting call takes is read from the types. At a `call` that is the function's
+//!   type. At a `call_indirect` it is the one that it names, which the called function has. So an
+//!   answer looks into no table, and a pause has nothing to keep.
+//! - Only a call asks the host for something, and what it asks for is no question of the bytes in
+//!   memory. So the host may write them while a call waits. A law says that the machine then shows
+//!   what is written, and waits at the same call.
 #![tactic(auto)]
 
 mod frames;

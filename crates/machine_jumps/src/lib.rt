@@ -27,6 +27,15 @@
 //! `machine_frame` reads them. It stands on `wasm_validate`, for what typing looks up and for the
 //! stack that a walk uses. `branch_table` takes memory, and want of it is its only error. Looking
 //! up a jump takes none.
+//!
+//! # Choices
+//!
+//! - The machine keeps the instructions as they were decoded, and beside them a branch table: for
+//!   each opcode the index of its first jump. A branch then costs one more load, and nothing is
+//!   stored twice.
+//! - The table is made apart from validation, in a walk of its own over a body that is known to be
+//!   typed. From the back it finds what closes each sequence, and then the jumps from the front. It
+//!   needs counts and no types, and validation refuses before any table is made.
 #![tactic(auto)]
 
 mod body;

@@ -27,6 +27,11 @@
 //! `ephemeral_worker` uses `read`, and `wasmhost_serve` uses `accept`. It stands on `wasm_decode`,
 //! `wasm_validate` and `machine`. Each step takes memory, and has its own fault for want of it.
 //! After an error nothing is left of the module.
+//!
+//! # Choices
+//!
+//! - Front end and start are apart (`machine_loader::read`, then `Process::start`): a recovery
+//!   makes its process of an image, and starts none.
 #![tactic(auto)]
 
 mod fault;

@@ -34,6 +34,17 @@
 //! `machine_frame` use it, and `state_image` cites its definitions. It stands on `int_ops` and
 //! `guest_memory`. `Slots::new` takes all memory. Want of it is the only error beside traps, which
 //! leave globals and memory as they were.
+//!
+//! # Choices
+//!
+//! - **What a machine shows is typed**: `Shows` includes well-typedness. So a slot's number is in
+//!   its type's range, and a waiting call fits the frame above it. Memory is whole pages, no fewer
+//!   than the module's minimum, within the limit.
+//! - Slots show a frame as operands, words below the label, locals turned, then the waiting frames.
+//!   One relation (`ShowsEffect`) serves all instructions; what the slots hold after a trap is left
+//!   open, globals and memory are as they were.
+//! - One match decides what an instruction is: `operate` does nothing for those that lead
+//!   elsewhere, and says so. Two matches, one in the other's default arm, stay two jump tables.
 #![tactic(auto)]
 
 mod effects;

@@ -36,6 +36,25 @@
 //! makes it again of its parts. It stands on `machine`, `wasi_calls` and `process_rules`. `start`
 //! takes all memory that the machine needs. Later only a step of the host's calls takes any. After
 //! an error the process is as it was after its last whole step.
+//!
+//! # Choices
+//!
+//! - What a process does is said of every process of the rules that it shows. Of the lines that
+//!   were released it keeps the number alone. So it shows one for each choice of their texts.
+//! - A stop is said by a run of steps after which nothing is owed, and by one step more. Steps are
+//!   determined, so that there is such a run says that there is no other.
+//! - Lines are numbered below 2^63 - 2, and those that an end would emit are counted among them: so
+//!   an end always has numbers (`HasLineNumbers`). `StepsSpent` is answered to the call whose lines
+//!   would go beyond, and to step 2^63. The lines that a call begins are counted before it is made.
+//!   Near step 2^63 `advance` may answer `StepsSpent` where it would answer `Spent` or `Asks` with
+//!   more numbers.
+//! - `give` has no `requires`: an answer that isn't wanted is a wrong answer. It asks
+//!   `wanted_answer` which one the waiting call wants, and then makes the call with it. Its proof
+//!   names no call. It takes from the rules that a call with an answer that fits wants no other
+//!   (`RowsAskOnce`). At the last step that can be counted `give` answers `StepsSpent` to every
+//!   answer.
+//! - A process that a machine's last rule, a trap or `proc_exit` ends has a machine without a
+//!   thread (`Machine::stop`). So what is kept of it is its memory and its globals.
 #![tactic(auto)]
 
 mod answering;

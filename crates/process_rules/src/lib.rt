@@ -38,6 +38,13 @@
 //! fuel, generations or sectors. `process`, `ephemeral_worker`, `wasmhost_serve`, `state_image` and
 //! `worker_rules` cite the definitions. They stand on those of `wasm_syntax_rules` and
 //! `wasi_calls_rules`. The crate takes no memory, and has no errors.
+//!
+//! # Choices
+//!
+//! - **Steps, answers and requests are in the process state.** The kept answers are a list of a
+//!   type of their own (`Kept`), which can take further kinds of entry.
+//! - **Demands are by covering**: on so many answers, or fewer, a line is emitted. No minimum is
+//!   ever computed.
 #![tactic(auto)]
 
 pub mod laws;

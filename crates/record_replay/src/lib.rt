@@ -40,6 +40,32 @@
 //! takes memory; where that is wanting, it keeps what it had. A replay takes some for a copy of
 //! each answer, and its process for calls of the host. After an error of a replay its process is
 //! dropped.
+//!
+//! # Choices
+//!
+//! - Where a process has come by its records is a relation of two processes (`Recorded`), which a
+//!   disk stands by and a replay meets. A replay says nothing of how it goes. It gives a process
+//!   that is right where the last record leads, so that none further was reached.
+//! - A replay lends its records, and `give` takes an answer, so it copies each one. Out of memory
+//!   is answered for that copy as well as for a call of the host. It has no `requires`: lines that
+//!   wait are released first.
+//! - A replay answers `Diverged` where a number is at its end, too: the step or its lines have
+//!   none.
+//! - Lines are released in one place, for a slice and for a replay (`release_waiting`). It is with
+//!   the outlets, above `process`.
+//! - A source, or an outlet, is known by one relation of four things. They are its value before a
+//!   call, the question or the line, what it says, and its value after. No value stores a history:
+//!   lists of calls are folded with the relation (`AnswersInOrder`, `Releases`). One list of both
+//!   in their order is two such facts (`Exchanges`), since neither knows of the other.
+//! - A release that was answered by a fault is in the list like any other: the line may have been
+//!   told.
+//! - A box's relation is that of what it holds. That it is so is also shown at concrete types, by
+//!   two proofs that cite names of the prover's own (`read_made`), in tests alone.
+//! - `AnswerList` hands out owned answers, so that handing one out takes no memory and can't fail.
+//! - `RefusingOutlet` hands the refused line on before it answers the fault: what a reader sees is
+//!   the worse case.
+//! - **A replay is above `process` and below `ephemeral_worker`.** It has no source, so it can't
+//!   ask for anything that isn't on record.
 #![tactic(auto)]
 
 mod answer_list;

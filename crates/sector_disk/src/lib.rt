@@ -51,6 +51,41 @@
 //! A `MemDisk` takes memory in `new` and `cut` alone. That a file behaves as a disk of the model is
 //! a premise: of one that doesn't, clauses say nothing. A file is locked as long as its `FileDisk`
 //! lives, so that no second host reads or writes it.
+//!
+//! # Choices
+//!
+//! - **What failed in an earlier life is written again.** Reads may then give bytes that the device
+//!   doesn't have, and a sync has nothing to do. `rewrite` writes each sector as it is read, so
+//!   that each is dirty, and syncs. It can be stopped at any moment. A torn sector keeps a prefix
+//!   of what reads give, which the model allows a disk at any time (`may_keep`). Whether there was
+//!   such a life only a person knows, so no code calls it by itself.
+//! - **One host at a time** has a file, by the lock of its handle (`flock`). It is taken before the
+//!   file is read, by `create` too, and the system frees it when the process ends. It keeps out
+//!   those that ask for it, and not an editor. A trait of this crate, `LockFile`, stands for it,
+//!   since the kit has the lock at its own `File` alone. So code over other files says how theirs
+//!   is taken. A ghost member (`is_locked`) is true only of a handle that was given the lock, as
+//!   far as code can know. So a body that opens without it isn't proved. `File` says nothing more
+//!   of its handles. Where a file system has no locks, its files aren't opened (`Other`).
+//! - **A disk has the length that its file said.** The kit's contracts say nothing of what a file
+//!   answers, so `SizeFile` stands for it as `LockFile` does for the lock. It hands on what the
+//!   system said as a whole, and `open` takes the length of that. So its impl for `File` counts
+//!   nothing. `create` makes a file as long by it (`is_resized_to`). That the file is then filled
+//!   and synced could be said so too, but not that it is in this order. So that is left to
+//!   `scripts/file-calls`.
+//! - **`OpenFault` is a type of its own**, apart from `DiskFault`. A disk that is open is never
+//!   busy, and a fault of a path is of no use to a journal. It carries a cause for a person, whose
+//!   words the program has. `K2 Io` stays the one word of all failures of the system.
+//! - **The file isn't sparse**: `create` sets its length, and writes zeros to each sector. Else a
+//!   device without room would say so at some later write, whose fault has no cause, and the disk
+//!   would be given up. The largest disk has some 150,000 sectors. Where the file system copies
+//!   what is written, or compresses zeros, a later write may find no room all the same.
+//! - **`sync` is `fdatasync`**, since the length stays. `create` syncs all of the file and then its
+//!   folder.
+//! - **The kit finishes what is cut short.** `write_all_at` and `read_exact_at` go on after a short
+//!   call. They, `sync_data` and `try_lock` call again after an interrupt. No clause says so: it is
+//!   read in the kit's code, and seen by `scripts/file-calls`.
+//! - A file of another length than whole sectors is opened as far as they go, and its last bytes
+//!   stay as they are. An empty one is a disk of no sectors.
 #![tactic(auto)]
 
 mod disk;

@@ -42,6 +42,16 @@
 //! Only this crate knows an image that is in the middle of being written. It is handed the disk at
 //! each call. `worker_store` uses it. It stands on `disk_layout`, `sector_disk` and `block_lanes`.
 //! Reading an image takes memory (`S4 Memory`), and writing one takes none.
+//!
+//! # Choices
+//!
+//! - A commit has a premise: the newest head is of the generation before, and no head's sector
+//!   shows a later one. It is in the step between two images and not in a `requires`. So runs of
+//!   calls compose.
+//! - `begin` is told whether all sectors of the image are written or those that differ. So the
+//!   first image of a disk is written in full without a read, and a commit writes what has changed.
+//! - `begin` and `commit` take the version of the image, and `newest` gives it, so that a wider
+//!   version needs no other calls.
 #![tactic(auto)]
 
 mod bytes;

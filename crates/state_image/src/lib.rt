@@ -91,6 +91,37 @@
 //! questions of `process`, `machine`, `wasi_calls` and `file_tree`, and nothing of it is changed.
 //! The image has no lines that wait: whoever writes one has released them. Only `write_image`,
 //! `ByteSink` and `restoring` take memory. Want of it is the only error of the first two.
+//!
+//! # Choices
+//!
+//! - **A well-typed image is within the limits on modules by clauses of its own**
+//!   (`IsWithinBounds`): functions, positions, slots in all, globals. Typing alone bounds none of
+//!   these, since a module of the rules may be of any size. So each field has room for what it
+//!   holds, and an area for the image.
+//! - **An image doesn't hold the table**, which nothing changes, nor the texts of emitted lines, of
+//!   which it has the number.
+//! - **A process is asked, and gives its parts.** The writer of images is above `process`, and
+//!   takes each field from a question of it. Frames and chunks of files are lent as they lie. So no
+//!   copy is made, and no layer below knows what an image is.
+//! - **A sink is known by one relation of a push.** `Pushes` says that all bytes were pushed, in
+//!   some pieces, or a prefix of them up to the first refusal. How they are cut is left open.
+//! - **A length goes out by its lowest bytes.** So writing has no premise. Of a well-typed process
+//!   each length is small enough to be whole.
+//! - **A file system is built anew by three changes**: a node without a path, a path for it, a
+//!   higher next number. Directories are filled from the root on, since a path needs that of its
+//!   directory.
+//! - **What fits is what shows.** `FitsProgram` says of frames and slots what a check can test. A
+//!   law says that this is so exactly where some configuration is shown.
+//! - **`restore_into` takes the machine that `link` gave.** A recovery links before it reads the
+//!   image, since a refused module is answered first. So nothing is linked twice. `restore` links
+//!   by itself.
+//! - **A module that can't be linked has no image.** `restore` then says `I1 NotAnImage`.
+//! - **An image names the position at which a frame of the machine is.** What the frame shows fixes
+//!   that position (`shapes_tell_positions`), also in the two parts of one `if`. So image and
+//!   process determine each other to the byte.
+//! - **An image has no limit on texts.** The limit is a field of the host, and an accepted image of
+//!   version 1 is that of a host with 4,096 (`IsConfigured`). A wider version would have it as a
+//!   field of its own. Its number is in the head beside the image.
 #![tactic(auto)]
 
 mod byte_sink;

@@ -44,6 +44,24 @@
 //! passed. That is for lines, for the bytes of files, for new nodes and their names, and for a
 //! request's line. Without it nothing changes. Bytes go straight from the guest's buffers into
 //! lines and files, and back: none are joined first.
+//!
+//! # Choices
+//!
+//! - **A call is written as its rule is: one line of code for one line of the rule.** Each helper
+//!   says which word of the rule it gives (`GivesValue`), so that most calls are proved with no
+//!   proof file.
+//! - **Checks take no memory and come first.** Out of memory is a kind of stop of its own beside
+//!   refusals (`CallStop`), so that a refused call can't be answered as one.
+//! - **A write to a file makes room first, and then puts pieces in place.** `Tree::resize` alone
+//!   can need memory. `Tree::write` stays within the size and can't fail. So the guest's buffers go
+//!   into the file one after the other, and none are joined.
+//! - **Buffers are read once, before anything is written**, into an inline array of as many as a
+//!   call may name. So a buffer may lie over the array of the buffers.
+//! - **A new name is copied before a rename changes anything.** The rename itself can't fail.
+//! - **A new node's number is the next one, which only rises.** No clause bounds it. Where 2^64 - 1
+//!   is reached, a call answers out of memory. A process ends its count of steps long before.
+//! - **Rights and flags are checked by the place of their one bit** (`bit_of`). The definitions
+//!   number bits, and the code has named sets: a check asks for a set of one bit.
 #![tactic(auto)]
 
 mod arguments;

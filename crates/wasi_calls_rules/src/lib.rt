@@ -42,6 +42,16 @@
 //! of all 31 calls; `process_rules`, `record_replay`, `state_image` and `worker_rules`
 //! cite the definitions. They stand on those of `file_tree`, `wasi_abi` and `guest_memory`. The
 //! crate takes no memory, and has no errors.
+//!
+//! # Choices
+//!
+//! - **A rule of a call is a do-block in the order of its checks.** One `>>=` carries refusals,
+//!   wishes for an outside answer and the end of the process (`Halt`). An answer that doesn't fit
+//!   is as none.
+//! - **A write is measured before it is made** (`size_after`), so the two refusals for room speak
+//!   of numbers.
+//! - **The limit on texts and random bytes is a field of the host**, and no number in a rule. So a
+//!   wider version can change it.
 #![tactic(auto)]
 
 pub mod laws;

@@ -23,6 +23,13 @@
 //! `wasm_syntax`. It takes memory in proportion to the bytes, whatever counts they declare. Want
 //! of it is `B4 Memory`; the other faults are `B1 Malformed`, `B2 Float` and `B3 Limit`. After a
 //! fault nothing is kept.
+//!
+//! # Choices
+//!
+//! - The sections are found first, and then read in the order of their ids. A fault inside a
+//!   section is answered before one between sections, and a missing code section after all others.
+//! - Which fault it is, and at which byte, is shown by tests. That there is none where the bytes
+//!   spell a module within the limits, and one where they don't, is proved.
 #![tactic(auto)]
 
 mod codes;

@@ -33,6 +33,33 @@
 //! slots or sectors. Validation, the machine, processes and workers cite them. They stand on
 //! `wasm_syntax`, and on definitions of `int_ops` and `guest_memory`. The crate takes no memory,
 //! and has no errors.
+//!
+//! # Choices
+//!
+//! - **Operands are listed from the top of the stack down**, types and values alike. The frame rule
+//!   is then an append.
+//! - **A function's body runs inside a label of its own**, as the standard has it, so a branch to
+//!   the outermost label is a return. Its shape after the last `end` is that of the results: a
+//!   branch out of the whole body has a place to go to.
+//! - **The thread is read from inside**: frames, each with its labels, values and remaining
+//!   instructions. The standard's evaluation contexts are what is around. No rule needs one.
+//! - **The host's calls to come are part of a configuration** (`later`): the start function, then
+//!   `_start`. Going on from one to the next is a rule that isn't counted, so a start function that
+//!   returns needs no case of its own.
+//! - **A host call names the thread that waits for it.** Its answer puts the results there, the
+//!   same for `call` and `call_indirect`, and counts as the one step of the call.
+//! - **Exactness of constant expressions**: a constant expression is one constant or one constant
+//!   global. The standard's rule by sequences allows no others, since each such instruction leaves
+//!   one value.
+//! - **What the host offers is a parameter** of linking (`Offer`), which the table of the 31 calls
+//!   fills. That it offers no function from nothing to nothing is a premise of `BeginsTyped`: so an
+//!   imported function is never the start function.
+//! - **Signed constants are kept as their two's complement** in types and definitions. The grammar
+//!   says of a negative z that z + 2^N is spelled.
+//! - **A label knows which part of its instruction it is around.** The two parts of one `if` may be
+//!   equal, and without that two positions would show one configuration. No rule reads it. So what
+//!   is in a frame fixes its position (`shapes_tell_positions`), and a configuration is shown by
+//!   one machine value (`run_alike`). No contract of the machine has to name positions for that.
 #![tactic(auto)]
 
 pub mod laws;

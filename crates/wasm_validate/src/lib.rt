@@ -40,6 +40,34 @@
 //! and `machine_jumps` the `Stack` of `body`. It stands on `wasm_syntax` and `wasm_syntax_rules`.
 //! Memory is taken in proportion to functions, globals, exports and the longest body. Want of it is
 //! `V5 Memory`. After any fault the module is gone.
+//!
+//! # Choices
+//!
+//! - **What is decoded keeps its limits by its type.** Translating a body asks that types have few
+//!   parameters and bodies few locals and opcodes. So `decode` answers a `LimitedModule`, and
+//!   `validate` takes one. `LimitedModule::of` tests any other module in one pass. No fault of
+//!   validation says that a module is too large: that stays the decoder's.
+//! - **Checking is a definition of its own.** `checked` goes over the opcodes from the front and
+//!   keeps what is known of the open sequences and their operands. One theorem says that it passes
+//!   exactly what is typed. The code is proved equal to it, step by step, so no proof about code
+//!   speaks of typing.
+//! - What is known of an operand is its type or nothing, and after a jump there are always more. So
+//!   nothing is guessed, and a body is checked in time linear in its opcodes.
+//! - Faults come in one order, each kind from the front. It is: types, imports, functions' types,
+//!   tables, memories, globals, exports, the start function, elements, data segments, bodies. For
+//!   that, types and imports have a pass of their own before the types of functions are looked up.
+//!   Its clause (`IsFirstTypeFault`) names the first fault of it. Of the others tests show the
+//!   order.
+//! - A second table or memory is a fault where it is. An imported one is found among the imports,
+//!   and one of the module's own after the types of functions.
+//! - The kind of a fault is one that the module has (`HasFault`). Indices and limits are read off
+//!   the module. A wrong type is harder: what isn't defined has no type. So `Typing` says that no
+//!   context with more in it would give the body a type, nor labels around it. Such a body has a
+//!   fault of typing whatever its indices name. It is proved by checking the body within further
+//!   open sequences.
+//! - Export names go through a set in order, n log n in their bytes. A hash with a fixed seed would
+//!   let a hostile module make it slow.
+//! - How many tables and memories there are saturates at the largest `usize`.
 #![tactic(auto)]
 
 mod bodies;

@@ -104,6 +104,102 @@
 //! (`status`). `wasmhost` calls it. It stands on `ephemeral_worker`, `worker` and `machine_loader`.
 //! Want of memory is status 5. A disk is lent to each call of a worker on it. Beside these only
 //! `open_disk` touches one, which is also the one place here that opens a file.
+//!
+//! # Choices
+//!
+//! - A source of request lines hands over what a line says; that it fits is proved of the line.
+//!   Times come from the clock that `--clock` fixes, or from the machine's, and random bytes from
+//!   the seed. Each call for random bytes begins with a word of its own, so the place counts words.
+//!   The source reads lines by `fill_buf` and `consume`, since `take` hides what its reader has
+//!   left. After a fault it refuses all, since the reader may be within a line.
+//! - The last words of a worker that is over are part of what status 0 says. Those of a run that
+//!   fails are printed by derived `Display`s, which no clause knows: its status is proved, and
+//!   tests show its words.
+//! - A run is a loop without a counter. Fuel is never 0 by its type. So a slice that has spent it
+//!   leaves fewer steps that can be counted.
+//! - **Request lines come from a trait of this project's own**, `LineReader`, with one method. Its
+//!   contract has three values of the reader. They are the bytes that are still to come, whether a
+//!   read has failed, and how many pieces it gives at most. `BufRead` of the standard library has
+//!   the first alone: of an error it says nothing. So code that answered a failed read where none
+//!   was would be proved. Now only the implementation can say that a read has failed, which is a
+//!   few lines.
+//! - **The third value is a measure.** Lines may go on for ever, and a loop has to end. A loop that
+//!   gave up after 2^64 lines would have to tell some fault that isn't true. Now the reader fails
+//!   after 2^64 - 1 pieces, and says so.
+//! - **`serve` takes a source, as it takes an outlet**, and lets it go on after the worker, so that
+//!   no state of it is a premise. Of a reader that is borrowed by a source inside, nothing could be
+//!   said at the end.
+//! - **One relation says which answers lines give** (`GivesAnswers`): of one call, of all calls of
+//!   a source, and of a run.
+//! - **Answers of all kinds are in one list, in their order**, and two readings of it are exact.
+//!   Its requests (`requests_in`) are those that the lines give. Its times and random bytes come
+//!   from the outside (`ComeFrom`), with the place in the seed's stream counted along the list. So
+//!   the second holds where the bytes of the lines aren't known, as of the standard input.
+//! - **A place in the stream is a number of 64 bits.** Words beyond the first 2^64 are refused, by
+//!   a fault of their own, since no count of steps keeps a wish from reaching them.
+//! - **The words of a run are cut at its first `--` before `clap` reads them.** By `clap` alone it
+//!   would be a positional that only `--` reaches, and for such a command `clap`'s contract doesn't
+//!   say what the words mean. A plain positional of several values would also take words without
+//!   `--`.
+//! - **The seed is a text to `clap`**, and is read by `read_seed`, whose contract says of which
+//!   texts. A wrong one is answered before any file is opened.
+//! - `check` is the front end and a line of text: the page limit is 256 there. A module file is
+//!   read up to one byte more than the longest module has, by which a longer one is known.
+//! - `check_bytes` answers 0 only where the bytes spell an accepted module and `accepted` was
+//!   written. It answers 3 only where they spell none, and its other statuses are 5 and 7. That 5
+//!   comes only for lack of memory no clause can say, since the host's room is in no contract.
+//!   Tests and refused allocations show it. Tests also show the text of refusals, which derived
+//!   `Display`s print.
+//! - **The worker's own lines go to whatever outlet `serve` is lent.** It says of each line whether
+//!   it was taken. So 7 for one of them is the fault of a life, `Q3 Outlet` or `N3 Outlet`. The
+//!   program lends a `LineOutlet`, which has a `Printer` of its own. Two clauses meet there:
+//!   `serve` answers 7 for what its outlet said, and a `LineOutlet` refuses only since a write has
+//!   failed.
+//! - **A line that can't be spelled for lack of memory is written part by part.** Else an outlet
+//!   would refuse it, and no write would have failed. The room for the longest line is taken at the
+//!   start, so that a run never comes to it.
+//! - **`Printer::write_all` has the loop over `write`.** The kit's own says nothing of what an
+//!   error has left, and this one that at most a prefix of the bytes was written.
+//! - **The error output is asked once whether it is a terminal**, by `main`. No clause says what a
+//!   terminal is.
+//! - **The last words are read off the calls of that life** (`outcome_after`), not said beside
+//!   them. A clause that had only said that the last slice didn't just spend its fuel was met by
+//!   `parked` for a worker that had exited.
+//! - **That no question was refused is said beside the life** (`AsksUnless`). The calls of a life
+//!   have their exchanges only where the answers of the disk fit an image. What a reader's failure
+//!   comes to is to be known of any disk.
+//! - **A reason names the question that was refused** (`IsRefusedAmong`). For some number of random
+//!   bytes there are always too few words left. So a reason that may be for any question says
+//!   nothing.
+//! - **What a failing call leaves is said by that call's own clause** (`HasBrokenOff`), and beside
+//!   the life, as are refused questions. By what a checkpoint fails is said among the life's calls.
+//!   A law says where no line can wait (`LeavesNoLine`). Of a generation at its end that is a
+//!   condition: `wasmhost_serve` can't name that fault of the store, and the line that it would
+//!   need in `crates.txt` brings a thousand paths too many.
+//! - **The law of a run is of one in which the power isn't cut.** Then no call of the disk is to be
+//!   counted. A run that is killed returns nothing, so no clause of it is ever read.
+//! - **While a worker is opened, a fault of the disk is printed as that, and one of the output as
+//!   one of a replay.** Later both are faults of a call: `N1 Disk` and `N3 Outlet`.
+//! - **What the store refuses has status 3.** It is never out of memory or a fault of the disk:
+//!   those are printed as such.
+//! - **What is printed has a first line of its own, and some faults a second one.** The first is
+//!   `failed` with code and name, or `refused request ..`, and scripts match it. The second is for
+//!   a person. `K2 Io` of a path prints the path and the cause, by a total function of the error's
+//!   kind (`open_cause`, `cause_words`). The words are those of the C library, so that they can be
+//!   looked up. `failed K5 Busy` is alone, and so does `K2 Io` of a disk that fails once it is
+//!   open: `DiskFault` has no cause.
+//! - **`C1 Range` prints its bounds.** `configure` looks for what is out of them before it asks
+//!   `Config::new`, which answers only that something is. That both have the same bounds is proved.
+//! - **A refused line's number is counted by the reader of lines**, and printed after the run. That
+//!   it is the number of that line no clause says: `scripts/disk-rows` has rows of it. What is
+//!   printed of requests that nobody took is a function of the bytes that were read ahead
+//!   (`SaysLeft`). Reading on could wait for ever, so nothing more is read.
+//! - **`--pages -1` prints a tip of `clap`, to write `-- -1`**, which is of no use here: it can't
+//!   be turned off in the kit's `clap` without losing what is proved of its words.
+//! - **A configuration and a module are looked at before the disk's file is made**, and once more
+//!   by the creation. That costs a second decoding, once in a worker's life.
+//! - **`show` counts records, and plays none.** So it shows a disk whose records don't fit, which
+//!   `run` refuses as `Q1 Diverged`.
 #![tactic(auto)]
 
 mod bounds;

@@ -83,6 +83,48 @@
 //! creation takes memory for the module, for a copy of the configuration and for its bytes; the
 //! process keeps the copy. A recovery takes memory for all that it reads. The other calls take none
 //! but what the process and the journal take.
+//!
+//! # Choices
+//!
+//! - **A worker on its disk is a crate of its own, `worker`.** It uses `ephemeral_worker`, which
+//!   keeps no disk, and whose slices say what a slice on a disk does. The program has workers on
+//!   disks alone.
+//! - **A recovery reads in the order in which its faults are answered.** Configuration and module
+//!   come first, then decoding, validation and linking. Then come the newest snapshot and its
+//!   process, and at last the records.
+//! - **A recovery's own faults are two**: bytes that are no image of this module, and records that
+//!   fit nothing. All others are those of the other calls (`RecoverFault::Worker`).
+//! - **What a cut leaves has bounds** (`IsBounded`). Its generation is at most as much as has
+//!   happened, and the disk has all its sectors. Each call keeps them. So a recovery is refused for
+//!   the number of a generation only where so much has happened, and never for too few sectors.
+//! - **The promise of a recovery is of a disk that obeys the model.** Of one whose answers fit no
+//!   image nothing can be known. So the clause asks for one image that a cut may leave in the end.
+//! - **Until a life has opened, a cut may leave any of the answers kept so far.** The opening then
+//!   keeps those of the prefix on which it opens, and no others.
+//! - **What a call exchanged with source and outlet doesn't hang on what was promised.** So any
+//!   source and any outlet may be in the theorem, which is told what they did afterwards.
+//! - **A creation keeps a copy of its configuration.** It is lent, since it is also written to the
+//!   disk.
+//! - **An answer is tested before it is kept.** One that doesn't fit is never a record, not even in
+//!   memory. So no record has to be taken back, and none is too long for the journal.
+//! - **A checkpoint is a barrier, and then a commit.** The barrier is not needed for what is
+//!   promised, as the image comes after all records. It keeps one rule for all that is saved.
+//! - **Lists of lives are a module of `worker`.** They name only what that crate names, so a crate
+//!   of their own would double the paths below all that uses both.
+//! - **A story's disk takes as many writes between two syncs as ever wait for one**
+//!   (`most_unsynced`), and not one more. The law of lives asks for that alone, so no life fails
+//!   for lack of such room. A worker that wrote more between two syncs would end in a fault of its
+//!   disk.
+//! - **A story prints how each life ended, and with how many calls.** Else a body that runs nothing
+//!   could plead any cause. One that pleads out of memory is left to tests.
+//! - **How often a disk was called is counted by a `FaultDisk` alone.** Its three counters are
+//!   there anyway. A function's bound is of any disk, so of one that counts too. Exact numbers
+//!   would bind each function to its order of calls once more. A bound is enough against a stop
+//!   that never came.
+//! - **A story is handed the module's bytes, and not a module.** A creation writes them to the
+//!   disk. A module that isn't accepted opens no life, and each life says why.
+//! - **Inside of a life no outlet refuses a line but for lack of memory.** That is memory of the
+//!   report, so there is then no report.
 #![tactic(auto)]
 
 mod checkpoints;

@@ -107,6 +107,11 @@
 //! A store knows where things lie and which records wait for a barrier. It is handed the disk at
 //! each call, and keeps none. `worker` uses it. `append`, `lay_out` and the readings take
 //! memory; `barrier`, `commit` and `reopen` take none.
+//!
+//! # Choices
+//!
+//! - **The laws of a worker's disk are a module of `worker_store`.** That crate and `worker` are
+//!   proved by them, and nothing else is. In a crate of their own they doubled the paths below.
 #![tactic(auto)]
 
 mod area_sink;
