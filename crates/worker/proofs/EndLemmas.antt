@@ -72,11 +72,11 @@ tells_end inputs calls (Err why) false (failed cause) has by =
 -- what is behind it is what the next life finds
 pub next_finds : (ends : End) (ended : LifeEnd) (left next : MemDisk) → TellsLifeEnd ends ended
     → IsFoundBehind ended left next → NextFinds memory_medium ends left next
-next_finds finished Finished left next told behind = behind
+next_finds finished Finished left next told behind = inl behind
 next_finds finished Stopped left next told behind = absurd told
 next_finds finished (Failed why) left next told behind = absurd told
 next_finds stopped Finished left next told behind = absurd told
-next_finds stopped Stopped left next told behind = behind
+next_finds stopped Stopped left next told behind = inl behind
 next_finds stopped (Failed why) left next told behind = absurd told
 next_finds (failed cause) Finished left next told behind = absurd told
 next_finds (failed cause) Stopped left next told behind = absurd told

@@ -1,5 +1,5 @@
 -- What the next life finds, and that lives go on.
-use Rattle.std.proofs.Common.{inl, ℕ, List, [], ◌∷◌, refl, sym, ap, subst}
+use Rattle.std.proofs.Common.{◌≡◌, ◌⊎◌, inl, inr, ℕ, List, [], ◌∷◌, refl, sym, ap, subst}
 use Rattle.wasm_syntax.specs.declared.module.Module.{Module}
 use Rattle.wasi_abi.specs.rules.Configs.{Settings}
 use Rattle.sector_disk.specs.rules.Image.{Image}
@@ -7,8 +7,8 @@ use Rattle.sector_disk.specs.rules.Medium.{Medium}
 use Rattle.worker_rules.specs.Lives.{Inputs, Life, Finished, Stopped, Failed}
 use Rattle.worker_rules.specs.Promises.{Promise, nothing_yet, promised_by, GoOn}
 use Rattle.worker_rules.specs.Holds.{KeepsPromise, KeepsBounds, IsBounded}
-use Rattle.worker_rules.specs.Between.{IsFoundAfterCut, AreLivedOn, more}
-use Rattle.worker_rules.specs.laws.Found.{FoundWasLeft, FoundIsAsLong, IsSettledAfterCut}
+use Rattle.worker_rules.specs.Between.{IsFoundAfterCut, IsCutOrKilled, AreLivedOn, more}
+use Rattle.worker_rules.specs.laws.Found.{FoundWasLeft, FoundIsAsLong, IsSettledAfterCut, IsAsItWas}
 use Rattle.worker_rules.specs.laws.Found.{FoundIsSettled, NoWorkerComes, NextLifeFindsIt}
 use Rattle.worker_rules.specs.laws.Found.{NextLifeIsWithin}
 use Rattle.worker_rules.specs.laws.Found.{LivesGoOn}
@@ -29,26 +29,56 @@ cut_is_settled left found cut = (
 )
 
 module _ {D : Type 0} (medium : D → Medium) where
-  pub found_was_left : FoundWasLeft medium
-  found_was_left Finished left found image cut leaves =
-      cut_was_left (medium left) (medium found) image cut leaves
-  found_was_left Stopped left found image cut leaves =
-      cut_was_left (medium left) (medium found) image cut leaves
-  found_was_left (Failed cause) left found image same leaves =
+  same_was_left : (left found : D) (image : Image) → found ≡ left
+      → (medium found).may_leave image → (medium left).may_leave image
+  same_was_left left found image same leaves =
       subst (λ (d : D). (medium d).may_leave image) same leaves
 
-  pub found_is_as_long : FoundIsAsLong medium
-  found_is_as_long Finished left found cut = cut.sectors
-  found_is_as_long Stopped left found cut = cut.sectors
-  found_is_as_long (Failed cause) left found same = ap (λ (d : D). (medium d).sectors) same
+  either_was_left : (left found : D) (image : Image) → IsCutOrKilled medium left found
+      → (medium found).may_leave image → (medium left).may_leave image
+  either_was_left left found image (inl cut) leaves =
+      cut_was_left (medium left) (medium found) image cut leaves
+  either_was_left left found image (inr same) leaves =
+      same_was_left left found image same leaves
 
-  pub found_is_settled : FoundIsSettled medium
-  found_is_settled Finished left found cut = cut_is_settled (medium left) (medium found) cut
-  found_is_settled Stopped left found cut = cut_is_settled (medium left) (medium found) cut
-  found_is_settled (Failed cause) left found same = (
+  pub found_was_left : FoundWasLeft medium
+  found_was_left Finished left found image finds leaves =
+      either_was_left left found image finds leaves
+  found_was_left Stopped left found image finds leaves =
+      either_was_left left found image finds leaves
+  found_was_left (Failed cause) left found image same leaves =
+      same_was_left left found image same leaves
+
+  same_is_as_long : (left found : D) → found ≡ left
+      → (medium found).sectors ≡ (medium left).sectors
+  same_is_as_long left found same = ap (λ (d : D). (medium d).sectors) same
+
+  either_is_as_long : (left found : D) → IsCutOrKilled medium left found
+      → (medium found).sectors ≡ (medium left).sectors
+  either_is_as_long left found (inl cut) = cut.sectors
+  either_is_as_long left found (inr same) = same_is_as_long left found same
+
+  pub found_is_as_long : FoundIsAsLong medium
+  found_is_as_long Finished left found finds = either_is_as_long left found finds
+  found_is_as_long Stopped left found finds = either_is_as_long left found finds
+  found_is_as_long (Failed cause) left found same = same_is_as_long left found same
+
+  same_is_as_it_was : (left found : D) → found ≡ left → IsAsItWas (medium left) (medium found)
+  same_is_as_it_was left found same = (
     ap (λ (d : D). (medium d).unsynced) same,
     (λ image shows. subst (λ (d : D). (medium d).shows image) (sym same) shows),
   )
+
+  either_is_settled : (left found : D) → IsCutOrKilled medium left found
+      → IsSettledAfterCut (medium left) (medium found) ⊎ IsAsItWas (medium left) (medium found)
+  either_is_settled left found (inl cut) =
+      inl (cut_is_settled (medium left) (medium found) cut)
+  either_is_settled left found (inr same) = inr (same_is_as_it_was left found same)
+
+  pub found_is_settled : FoundIsSettled medium
+  found_is_settled Finished left found finds = either_is_settled left found finds
+  found_is_settled Stopped left found finds = either_is_settled left found finds
+  found_is_settled (Failed cause) left found same = same_is_as_it_was left found same
 
   pub no_worker_comes : NoWorkerComes medium
   no_worker_comes ends left found blank finds image leaves =

@@ -1,5 +1,5 @@
 -- The disk that a life finds (this project's own).
-use Rattle.std.specs.Prelude.{◌≡◌, List, [], ◌∷◌}
+use Rattle.std.specs.Prelude.{◌≡◌, ◌⊎◌, List, [], ◌∷◌}
 use Rattle.wasm_syntax.specs.declared.module.Module.{Module}
 use Rattle.wasi_abi.specs.rules.Configs.{Settings}
 use Rattle.sector_disk.specs.rules.Image.{Image}
@@ -21,12 +21,16 @@ pub record IsFoundAfterCut (left found : Medium) : Type 0 where
   pub fresh : IsFresh image found
   pub sectors : found.sectors ≡ left.sectors
 
--- The disk that a life leaves, and the one that the next life finds. After a cut that is one of the
--- images that it may leave. After an error it is the same disk, with what was written and never
--- settled.
+-- The power was cut, and one of the images that this may leave is found. Or the program was killed
+-- while the power stayed on: then it is the same disk, with what was written and never settled.
+abbrev pub IsCutOrKilled : {D : Type 0} → (D → Medium) → D → D → Type 0
+IsCutOrKilled medium left found = IsFoundAfterCut (medium left) (medium found) ⊎ (found ≡ left)
+
+-- The disk that a life leaves, and the one that the next life finds. After an error it is the same
+-- disk.
 abbrev pub NextFinds : {D : Type 0} → (D → Medium) → End → D → D → Type 0
-NextFinds medium Finished left found = IsFoundAfterCut (medium left) (medium found)
-NextFinds medium Stopped left found = IsFoundAfterCut (medium left) (medium found)
+NextFinds medium Finished left found = IsCutOrKilled medium left found
+NextFinds medium Stopped left found = IsCutOrKilled medium left found
 NextFinds medium (Failed cause) left found = found ≡ left
 
 -- the first life finds a disk that holds no worker, whatever a cut leaves of it

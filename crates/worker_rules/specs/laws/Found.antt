@@ -1,5 +1,5 @@
 -- Laws of the disk that a life finds, and the restart theorem from what the calls of lives do.
-use Rattle.std.specs.Prelude.{◌≡◌, ℕ, List}
+use Rattle.std.specs.Prelude.{◌≡◌, ◌⊎◌, ℕ, List}
 use Rattle.wasm_syntax.specs.declared.module.Module.{Module}
 use Rattle.wasi_abi.specs.rules.Configs.{Settings}
 use Rattle.sector_disk.specs.rules.Image.{Image}
@@ -30,10 +30,10 @@ abbrev pub IsAsItWas : Medium → Medium → Type 0
 IsAsItWas left found =
     (found.unsynced ≡ left.unsynced) × ((image : Image) → left.shows image → found.shows image)
 
--- after a cut the disk is settled, and after an error it is as it was
+-- after a cut the disk is settled, and after a kill or an error it is as it was
 abbrev pub IsSettledAfter : End → Medium → Medium → Type 0
-IsSettledAfter Finished left found = IsSettledAfterCut left found
-IsSettledAfter Stopped left found = IsSettledAfterCut left found
+IsSettledAfter Finished left found = IsSettledAfterCut left found ⊎ IsAsItWas left found
+IsSettledAfter Stopped left found = IsSettledAfterCut left found ⊎ IsAsItWas left found
 IsSettledAfter (Failed cause) left found = IsAsItWas left found
 
 -- so it is with what the next life finds
@@ -46,7 +46,7 @@ abbrev pub NoWorkerComes : {D : Type 0} → (D → Medium) → Type 0
 NoWorkerComes {D} medium = (ends : End) (left found : D) → FindsNoWorker (medium left)
     → NextFinds medium ends left found → FindsNoWorker (medium found)
 
--- what a disk keeps of a promise it keeps for the next life, after a cut and after an error
+-- what a disk keeps of a promise it keeps for the next life, after a cut, a kill or an error
 abbrev pub NextLifeFindsIt : {D : Type 0} → (D → Medium) → Type 0
 NextLifeFindsIt {D} medium =
     (m : Module) (config : Settings) (promise : Promise) (ends : End) (left found : D)
