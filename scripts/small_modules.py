@@ -58,8 +58,8 @@ def called(place, kind):
 # Modules with what `check` says of them: the fault, and its place if it has one.
 REFUSED = [
     (b"", "B1 Malformed", 0),
-    # An instruction that came later.
-    (small(wasm.i32(0) + b"\xc0" + wasm.DROP), "B1 Malformed", 51),
+    # An instruction that came later: a null reference.
+    (small(b"\xd0\x70" + wasm.DROP), "B1 Malformed", 49),
     (small(bodies=[wasm.sized(b"\x01\x01\x7d" + wasm.END)]), "B2 Float", 50),
     (small(wasm.NOP * 4_096), "B3 Limit", None),
     (small(wasm.i32(1) + wasm.IF + bytes([wasm.I32]) + wasm.i32(1) + wasm.END + wasm.DROP),

@@ -75,7 +75,7 @@ static TOLD: [Told; 98] = [
     (BEFORE_CODE, "0a06010401017d0b", Some(Float(50))),
     (BEFORE_CODE, "0a09010700 43000000000b", Some(Float(49))),
     (BEFORE_CODE, "0a070105 00 027d0b0b", Some(Float(50))),
-    (BEFORE_CODE, "0a05010300c00b", Some(Malformed(49))),
+    (BEFORE_CODE, "0a05010300c50b", Some(Malformed(49))),
     // constants of more bits than their type has
     (
         BEFORE_CODE,
@@ -617,7 +617,7 @@ static KINDS: &[u8; 256] = b"\
     ffffffffffffffff\
     fffffffiffffiiff\
     ffffffffffffffff\
-    ----------------\
+    iiiii-----------\
     ----------------\
     ----------------\
     ----------------";

@@ -17,7 +17,9 @@ use Rattle.wasm_syntax.specs.declared.operator.Comparison.TheVariants.{Eq, Ne, L
 use Rattle.wasm_syntax.specs.declared.operator.Comparison.TheVariants.{LeS, LeU, GeS, GeU}
 use Rattle.wasm_syntax.specs.declared.operator.Conversion.{Conversion}
 use Rattle.wasm_syntax.specs.declared.operator.Conversion.TheVariants.{I32WrapI64, I64ExtendI32S}
-use Rattle.wasm_syntax.specs.declared.operator.Conversion.TheVariants.{I64ExtendI32U}
+use Rattle.wasm_syntax.specs.declared.operator.Conversion.TheVariants.{I64ExtendI32U, I32Extend8S}
+use Rattle.wasm_syntax.specs.declared.operator.Conversion.TheVariants.{I32Extend16S, I64Extend8S}
+use Rattle.wasm_syntax.specs.declared.operator.Conversion.TheVariants.{I64Extend16S, I64Extend32S}
 use Rattle.wasm_syntax.specs.declared.operator.LoadOperator.{LoadOperator}
 use Rattle.wasm_syntax.specs.declared.operator.LoadOperator.TheVariants as load
 use Rattle.wasm_syntax.specs.declared.operator.StoreOperator.{StoreOperator}
@@ -432,6 +434,11 @@ unfolding behind_opcode
 convert_complete I32WrapI64 bytes = refl
 convert_complete I64ExtendI32S bytes = refl
 convert_complete I64ExtendI32U bytes = refl
+convert_complete I32Extend8S bytes = refl
+convert_complete I32Extend16S bytes = refl
+convert_complete I64Extend8S bytes = refl
+convert_complete I64Extend16S bytes = refl
+convert_complete I64Extend32S bytes = refl
 
 instruction_complete : (bytes : List ℕ) (i : Instruction) (rest : List ℕ)
     → IsInstruction bytes i rest → instruction_at bytes ≡ Some (i, rest)

@@ -14,7 +14,9 @@ use Rattle.wasm_syntax.specs.declared.operator.Comparison.{Comparison}
 use Rattle.wasm_syntax.specs.declared.operator.Comparison.TheVariants.{Eq, Ne, LtS, LtU, GtS, GtU}
 use Rattle.wasm_syntax.specs.declared.operator.Comparison.TheVariants.{LeS, LeU, GeS, GeU}
 use Rattle.wasm_syntax.specs.declared.operator.Conversion.TheVariants.{I32WrapI64, I64ExtendI32S}
-use Rattle.wasm_syntax.specs.declared.operator.Conversion.TheVariants.{I64ExtendI32U}
+use Rattle.wasm_syntax.specs.declared.operator.Conversion.TheVariants.{I64ExtendI32U, I32Extend8S}
+use Rattle.wasm_syntax.specs.declared.operator.Conversion.TheVariants.{I32Extend16S, I64Extend8S}
+use Rattle.wasm_syntax.specs.declared.operator.Conversion.TheVariants.{I64Extend16S, I64Extend32S}
 use Rattle.wasm_syntax.specs.declared.operator.LoadOperator.{LoadOperator}
 use Rattle.wasm_syntax.specs.declared.operator.LoadOperator.TheVariants as load
 use Rattle.wasm_syntax.specs.declared.operator.StoreOperator.{StoreOperator}
@@ -89,6 +91,11 @@ operation_of b =
     else if b == 0xa7 then Some (instr.Convert I32WrapI64)
     else if b == 0xac then Some (instr.Convert I64ExtendI32S)
     else if b == 0xad then Some (instr.Convert I64ExtendI32U)
+    else if b == 0xc0 then Some (instr.Convert I32Extend8S)
+    else if b == 0xc1 then Some (instr.Convert I32Extend16S)
+    else if b == 0xc2 then Some (instr.Convert I64Extend8S)
+    else if b == 0xc3 then Some (instr.Convert I64Extend16S)
+    else if b == 0xc4 then Some (instr.Convert I64Extend32S)
     else None
 
 -- ---- instructions, by their opcode

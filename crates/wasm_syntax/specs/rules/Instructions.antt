@@ -16,7 +16,9 @@ use Rattle.wasm_syntax.specs.declared.operator.Comparison.TheVariants.{Eq, Ne, L
 use Rattle.wasm_syntax.specs.declared.operator.Comparison.TheVariants.{LeS, LeU, GeS, GeU}
 use Rattle.wasm_syntax.specs.declared.operator.Conversion.{Conversion}
 use Rattle.wasm_syntax.specs.declared.operator.Conversion.TheVariants.{I32WrapI64, I64ExtendI32S}
-use Rattle.wasm_syntax.specs.declared.operator.Conversion.TheVariants.{I64ExtendI32U}
+use Rattle.wasm_syntax.specs.declared.operator.Conversion.TheVariants.{I64ExtendI32U, I32Extend8S}
+use Rattle.wasm_syntax.specs.declared.operator.Conversion.TheVariants.{I32Extend16S, I64Extend8S}
+use Rattle.wasm_syntax.specs.declared.operator.Conversion.TheVariants.{I64Extend16S, I64Extend32S}
 use Rattle.wasm_syntax.specs.declared.operator.LoadOperator.{LoadOperator}
 use Rattle.wasm_syntax.specs.declared.operator.LoadOperator.TheVariants as load
 use Rattle.wasm_syntax.specs.declared.operator.StoreOperator.{StoreOperator}
@@ -108,6 +110,11 @@ abbrev pub convert_opcode : Conversion → ℕ
 convert_opcode I32WrapI64 = 0xa7
 convert_opcode I64ExtendI32S = 0xac
 convert_opcode I64ExtendI32U = 0xad
+convert_opcode I32Extend8S = 0xc0
+convert_opcode I32Extend16S = 0xc1
+convert_opcode I64Extend8S = 0xc2
+convert_opcode I64Extend16S = 0xc3
+convert_opcode I64Extend32S = 0xc4
 
 -- ---- instructions (5.4.1 to 5.4.5)
 

@@ -18,7 +18,9 @@ use Rattle.wasm_syntax.specs.declared.value.Trap.{Trap}
 use Rattle.wasm_syntax.specs.declared.value.Trap.TheVariants as trap
 use Rattle.wasm_syntax.specs.declared.operator.Conversion.{Conversion}
 use Rattle.wasm_syntax.specs.declared.operator.Conversion.TheVariants.{I32WrapI64, I64ExtendI32S}
-use Rattle.wasm_syntax.specs.declared.operator.Conversion.TheVariants.{I64ExtendI32U}
+use Rattle.wasm_syntax.specs.declared.operator.Conversion.TheVariants.{I64ExtendI32U, I32Extend8S}
+use Rattle.wasm_syntax.specs.declared.operator.Conversion.TheVariants.{I32Extend16S, I64Extend8S}
+use Rattle.wasm_syntax.specs.declared.operator.Conversion.TheVariants.{I64Extend16S, I64Extend32S}
 use Rattle.wasm_syntax.specs.declared.operator.LoadOperator.{LoadOperator}
 use Rattle.wasm_syntax.specs.declared.operator.LoadOperator.TheVariants as load
 use Rattle.wasm_syntax.specs.declared.operator.StoreOperator.{StoreOperator}
@@ -345,4 +347,9 @@ module _ (c : Context) (program : Program) (few : program.most_pages ≤ 2 ^ 16)
       converted I32WrapI64 a b = convert_below I32WrapI64 a b
       converted I64ExtendI32S a b = convert_below I64ExtendI32S a b
       converted I64ExtendI32U a b = convert_below I64ExtendI32U a b
+      converted I32Extend8S a b = convert_below I32Extend8S a b
+      converted I32Extend16S a b = convert_below I32Extend16S a b
+      converted I64Extend8S a b = convert_below I64Extend8S a b
+      converted I64Extend16S a b = convert_below I64Extend16S a b
+      converted I64Extend32S a b = convert_below I64Extend32S a b
   effect_has labels _ p q below s ls vs is r h l o = absurd is
