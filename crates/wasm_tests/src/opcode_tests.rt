@@ -347,6 +347,43 @@ static INSTRUCTIONS: Runs = (
             "00 4100 4101 4000 3a0000 4101 3f00 3a0000 4102 4101 4000 3a0000 0b",
             Outcome::Leaves(0xff_0201),
         ),
+        // the bytes from 1 up to 8, of which six go to another place, upward and downward
+        (
+            "memory.copy",
+            "00 4100 4281848ca0d0c0c18308 370000 4102 4100 4106 fc0a0000 0b",
+            Outcome::Leaves(0x605_0403_0201_0201),
+        ),
+        (
+            "memory.copy",
+            "00 4100 4281848ca0d0c0c18308 370000 4100 4102 4106 fc8a8080800000 00 0b",
+            Outcome::Leaves(0x807_0807_0605_0403),
+        ),
+        (
+            "memory.fill",
+            "00 4100 4281848ca0d0c0c18308 370000 4102 41ff03 4103 fc0b00 0b",
+            Outcome::Leaves(0x807_06ff_ffff_0201),
+        ),
+        // to and from the last byte, and nothing at the end
+        (
+            "memory.copy",
+            "00 4100 4107 3a0000 41ffff03 4100 4101 fc0a0000 4104 41ffff03 4101 fc0a0000 0b",
+            Outcome::Leaves(0x7_0000_0007),
+        ),
+        (
+            "memory.fill",
+            "00 41ffff03 4109 4101 fc0b00 4100 41ffff03 2d0000 1a 4101 41ffff03 2d0000 3a0000 0b",
+            Outcome::Leaves(0x900),
+        ),
+        (
+            "memory.copy",
+            "00 41808004 41808004 4100 fc0a0000 0b",
+            Outcome::Returns,
+        ),
+        (
+            "memory.fill",
+            "00 41808004 4101 4100 fc0b00 0b",
+            Outcome::Returns,
+        ),
         (
             "i32.const",
             "00 4100 41ffffffff07 360000 0b",
@@ -401,6 +438,47 @@ static INSTRUCTIONS: Runs = (
         (
             "i32.store",
             "00 41fdff03 4100 360000 0b",
+            Outcome::Traps(Trap::MemoryOutOfBounds),
+        ),
+        // nothing beyond the end, one byte too many, and sums that would wrap
+        (
+            "memory.copy",
+            "00 41818004 4100 4100 fc0a0000 0b",
+            Outcome::Traps(Trap::MemoryOutOfBounds),
+        ),
+        (
+            "memory.copy",
+            "00 4100 41818004 4100 fc0a0000 0b",
+            Outcome::Traps(Trap::MemoryOutOfBounds),
+        ),
+        (
+            "memory.copy",
+            "00 41ffff03 4100 4102 fc0a0000 0b",
+            Outcome::Traps(Trap::MemoryOutOfBounds),
+        ),
+        (
+            "memory.copy",
+            "00 417f 4100 4101 fc0a0000 0b",
+            Outcome::Traps(Trap::MemoryOutOfBounds),
+        ),
+        (
+            "memory.copy",
+            "00 4100 4101 417f fc0a0000 0b",
+            Outcome::Traps(Trap::MemoryOutOfBounds),
+        ),
+        (
+            "memory.fill",
+            "00 41818004 4101 4100 fc0b00 0b",
+            Outcome::Traps(Trap::MemoryOutOfBounds),
+        ),
+        (
+            "memory.fill",
+            "00 41ffff03 4101 4102 fc0b00 0b",
+            Outcome::Traps(Trap::MemoryOutOfBounds),
+        ),
+        (
+            "memory.fill",
+            "00 4101 4101 417f fc0b00 0b",
             Outcome::Traps(Trap::MemoryOutOfBounds),
         ),
         (

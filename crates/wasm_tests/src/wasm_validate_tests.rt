@@ -313,6 +313,13 @@ const WITH_MEMORY_AND_TABLE: &[Row] = &[
     ("00 4100 280200 1a 0b", None),
     ("00 4100 280300 1a 0b", LIMITS),
     ("00 3f00 1a 0b", None),
+    ("00 4100 4100 4100 fc0a0000 0b", None),
+    ("00 4100 4100 4100 fc0b00 0b", None),
+    ("00 4100 4100 fc0a0000 0b", TYPING),
+    ("00 4100 4100 4200 fc0a0000 0b", TYPING),
+    ("00 4100 4200 4100 fc0b00 0b", TYPING),
+    ("00 4200 4100 4100 fc0b00 0b", TYPING),
+    ("00 4100 4100 4100 fc0b00 1a 0b", TYPING),
     ("00 4100 110000 0b", None),
 ];
 
@@ -321,6 +328,9 @@ const WITHOUT_MEMORY_AND_TABLE: &[Row] = &[
     ("00 4100 280200 1a 0b", INDEX),
     ("00 4100 280300 1a 0b", INDEX),
     ("00 3f00 1a 0b", INDEX),
+    ("00 4100 4100 4100 fc0a0000 0b", INDEX),
+    ("00 4100 4100 4100 fc0b00 0b", INDEX),
+    ("00 fc0a0000 0b", INDEX),
     ("00 4100 110000 0b", INDEX),
 ];
 

@@ -1,4 +1,5 @@
--- The binary grammar of instructions and expressions (Core Specification 1.0, section 5.4).
+-- The binary grammar of instructions and expressions (Core Specification 1.0, section 5.4; sign
+-- extension, `memory.copy` and `memory.fill` are those of edition 2.0).
 use Rattle.std.specs.Prelude.{ℕ, ◌+◌, List}
 use Rattle.wasm_syntax.specs.declared.types.ValueType.{ValueType}
 use Rattle.wasm_syntax.specs.declared.types.ValueType.TheVariants.{I32, I64}
@@ -125,6 +126,10 @@ IsMemoryArgument bytes m rest = (a : List ℕ) × IsU32 bytes m.align a × IsU32
 abbrev pub IsOpcode : ℕ → (List ℕ → Type 0) → List ℕ → Type 0
 IsOpcode opcode IsOperand bytes = (a : List ℕ) × IsThisByte opcode bytes a × IsOperand a
 
+-- the same of an opcode that is a prefix and a number in 32 bits
+abbrev pub IsPrefixed : ℕ → (List ℕ → Type 0) → List ℕ → Type 0
+IsPrefixed n IsOperand bytes = IsOpcode 0xfc (λ a. (b : List ℕ) × IsU32 a n b × IsOperand b) bytes
+
 abbrev pub IsConstantOpcode : List ℕ → Value → List ℕ → Type 0
 IsConstantOpcode bytes (value.I32 n) rest = IsOpcode 0x41 (λ a. IsSigned 32 a n rest) bytes
 IsConstantOpcode bytes (value.I64 n) rest = IsOpcode 0x42 (λ a. IsSigned 64 a n rest) bytes
@@ -159,6 +164,9 @@ IsInstruction bytes (instr.Store operator m) rest =
     IsOpcode (store_opcode operator) (λ a. IsMemoryArgument a m rest) bytes
 IsInstruction bytes instr.MemorySize rest = IsOpcode 0x3f (λ a. IsThisByte 0x00 a rest) bytes
 IsInstruction bytes instr.MemoryGrow rest = IsOpcode 0x40 (λ a. IsThisByte 0x00 a rest) bytes
+IsInstruction bytes instr.MemoryCopy rest =
+    IsPrefixed 10 (λ a. (b : List ℕ) × IsThisByte 0x00 a b × IsThisByte 0x00 b rest) bytes
+IsInstruction bytes instr.MemoryFill rest = IsPrefixed 11 (λ a. IsThisByte 0x00 a rest) bytes
 IsInstruction bytes (instr.Const v) rest = IsConstantOpcode bytes v rest
 IsInstruction bytes (instr.Eqz t) rest = IsThisByte (eqz_opcode t) bytes rest
 IsInstruction bytes (instr.Compare t operator) rest =
