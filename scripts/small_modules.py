@@ -58,13 +58,19 @@ def called(place, kind):
 # Modules with what `check` says of them: the fault, and its place if it has one.
 REFUSED = [
     (b"", "B1 Malformed", 0),
-    # An instruction that came later.
-    (small(wasm.i32(0) + b"\xc0" + wasm.DROP), "B1 Malformed", 51),
+    # Instructions that came later: a null reference, and two that name a segment or a table.
+    (small(b"\xd0\x70" + wasm.DROP), "B1 Malformed", 49),
+    (small(wasm.i32(0) * 3 + b"\xfc\x08\x00\x00"), "B1 Malformed", 56),
+    (small(wasm.i32(0) * 3 + b"\xfc\x8c\x80\x00\x00\x00"), "B1 Malformed", 56),
+    # A count of data segments, which came later too.
+    (LEAST[:44] + b"\x0c\x01\x00" + LEAST[44:], "B1 Malformed", 44),
     (small(bodies=[wasm.sized(b"\x01\x01\x7d" + wasm.END)]), "B2 Float", 50),
     (small(wasm.NOP * 4_096), "B3 Limit", None),
     (small(wasm.i32(1) + wasm.IF + bytes([wasm.I32]) + wasm.i32(1) + wasm.END + wasm.DROP),
      "V1 Typing", None),
     (small(wasm.CALL + wasm.unsigned(1)), "V2 Index", None),
+    (small(wasm.i32(0) * 3 + wasm.MEMORY_COPY, memories=[], exports=[START]), "V2 Index", None),
+    (small(wasm.i32(0) * 3 + wasm.MEMORY_FILL, memories=[], exports=[START]), "V2 Index", None),
     (small(wasm.i32(0) + I32_LOAD + b"\x03\x00" + wasm.DROP), "V3 Limits", None),
     (small(exports=[START, MEMORY, MEMORY]), "V4 DuplicateExport", None),
     (small(exports=[MEMORY]), "L1 NoStart", None),
@@ -78,10 +84,20 @@ REFUSED = [
     (small(memories=pages(257)), "L6 TooManyPages", None),
 ]
 
+# Modules with instructions of edition 2.0 that exit with 0, and behind how many steps.
+EXITS = [
+    (small(wasm.i32(128) + b"\xc0" + wasm.DROP), 3),
+    (small(wasm.i32(0) * 3 + wasm.MEMORY_COPY), 4),
+    # The number behind the prefix in three bytes, and in five.
+    (small(wasm.i32(0) * 3 + b"\xfc\x8a\x80\x00\x00\x00"), 4),
+    (small(wasm.i32(0) * 3 + b"\xfc\x8b\x80\x80\x80\x00\x00"), 4),
+]
+
 # Modules at limits, which are accepted.
 ACCEPTED = [
     LEAST,
     small(wasm.NOP * 4_095),
+    *(module for module, _ in EXITS),
     small(memories=pages(256)),
     small(data=[behind(65_535) + wasm.sized(b"a")]),
     calls_from_table(b"", elements=[behind(0) + wasm.vector([wasm.unsigned(0)])]),

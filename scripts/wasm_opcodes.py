@@ -9,6 +9,9 @@ WITH_TWO = [0x11, *range(0x28, 0x3F)]
 NUMBERS = {**dict.fromkeys(WITH_ONE, 1), **dict.fromkeys(WITH_TWO, 2)}
 BRANCH_TABLE = wasm.BR_TABLE[0]
 
+# The prefix, and how many zero bytes follow the number behind it.
+PREFIX, ZEROS = wasm.MEMORY_COPY[0], {10: 2, 11: 1}
+
 
 class Reader:
     """Reads numbers of some bytes, from a place on."""
@@ -49,13 +52,19 @@ def functions(module):
         yield entry.data[: entry.place], entry.data[entry.place :]
 
 
+def numbers_behind(opcode, reader):
+    """How many numbers follow an opcode, once the one that says so is read."""
+    if opcode == BRANCH_TABLE:
+        return reader.number() + 1
+    return ZEROS[reader.number()] if opcode == PREFIX else NUMBERS.get(opcode, 0)
+
+
 def opcode_count(body):
     """How many opcodes a body has, `else` and `end` with them."""
     reader, count = Reader(body), 0
     while reader.place < len(body):
         opcode = reader.byte()
-        numbers = reader.number() + 1 if opcode == BRANCH_TABLE else NUMBERS.get(opcode, 0)
-        for _ in range(numbers):
+        for _ in range(numbers_behind(opcode, reader)):
             reader.number()
         count += 1
     return count

@@ -12,6 +12,9 @@
 //! - `part_mut` lends a range. When it comes back, no other byte has changed (`writes_back`).
 //! - `write` puts bytes where they are within memory (`there`, `written`), and else changes
 //!   nothing (`refused`).
+//! - `copy` puts the bytes of one range into another one as they were before, and `fill` one byte
+//!   to each place of a range. They do so where the ranges are within memory (`there`, `copied`,
+//!   `filled`), and else change nothing (`refused`).
 //! - `load_u8` to `load_u64` give the number at address and offset, which add without wrapping
 //!   (`there`, `number`). `store_u8` to `store_u64` put it there (`stored`), or change nothing
 //!   (`refused`).

@@ -1,7 +1,7 @@
 //! The memory itself, seen as a list of bytes with a limit.
 
 ghost use Rattle.std.specs.Prelude.{◌≡◌, ◌+◌, ◌*◌, ◌≤◌, ◌<◌, ◌^◌, ◌↔◌, ◌==◌, length, IfOk, IsTrue};
-ghost use Rattle.std.specs.Prelude.{IsOk, IsSome, IfSome, OnSome, IfNone};
+ghost use Rattle.std.specs.Prelude.{IsOk, IsSome, IfSome, OnSome, IfNone, replicate};
 ghost use Rattle.guest_memory.specs.rules.Bytes.{number_of, bytes_of, page_size, part};
 ghost use Rattle.guest_memory.specs.rules.Memories.{IsWithinLimit, grown_by, pages_in, with_bytes};
 ghost use Rattle.guest_memory.specs.rules.Memories.{zeroed};
@@ -153,6 +153,40 @@ impl Memory {
             return None;
         }
         self.range_mut(from, bytes.len()).copy_from_slice(bytes);
+        Some(())
+    }
+
+    /// Copies so many bytes from one place to another. The ranges may overlap: each byte is as it
+    /// was before. Changes nothing where either reaches beyond the end.
+    #[inline(never)]
+    pub fn copy(&mut self, to: u32, from: u32, len: u32) -> Option<()>
+        ensures there { IsSome result ↔ ((to + len ≤ length self.old.bytes)
+            × (from + len ≤ length self.old.bytes)) }
+        ensures copied { OnSome result (self.new
+            ≡ with_bytes to (part self.old.bytes from len) self.old) }
+        ensures refused { IfNone result (self.new ≡ self.old) }
+    {
+        let (to, from, len) = (to as usize, from as usize, len as usize);
+        if to + len > self.len() || from + len > self.len() {
+            return None;
+        }
+        self.bytes.copy_within(from..from + len, to);
+        Some(())
+    }
+
+    /// Puts a byte to so many places from one on, or changes nothing where they reach beyond the
+    /// end.
+    #[inline(never)]
+    pub fn fill(&mut self, to: u32, byte: u8, len: u32) -> Option<()>
+        ensures there { IsSome result ↔ (to + len ≤ length self.old.bytes) }
+        ensures filled { OnSome result (self.new ≡ with_bytes to (replicate len byte) self.old) }
+        ensures refused { IfNone result (self.new ≡ self.old) }
+    {
+        let (to, len) = (to as usize, len as usize);
+        if to + len > self.len() {
+            return None;
+        }
+        self.range_mut(to, len).fill(byte);
         Some(())
     }
 

@@ -24,7 +24,9 @@ use Rattle.wasm_syntax.specs.declared.operator.BinaryOperator.TheVariants.{Or, X
 use Rattle.wasm_syntax.specs.declared.operator.BinaryOperator.TheVariants.{Rotl, Rotr}
 use Rattle.wasm_syntax.specs.declared.operator.Conversion.{Conversion}
 use Rattle.wasm_syntax.specs.declared.operator.Conversion.TheVariants.{I32WrapI64, I64ExtendI32S}
-use Rattle.wasm_syntax.specs.declared.operator.Conversion.TheVariants.{I64ExtendI32U}
+use Rattle.wasm_syntax.specs.declared.operator.Conversion.TheVariants.{I64ExtendI32U, I32Extend8S}
+use Rattle.wasm_syntax.specs.declared.operator.Conversion.TheVariants.{I32Extend16S, I64Extend8S}
+use Rattle.wasm_syntax.specs.declared.operator.Conversion.TheVariants.{I64Extend16S, I64Extend32S}
 use Rattle.int_ops.specs.rules.Integers.{unary_of, binary_of, signed_quotient, truth, sign_extended}
 use Rattle.int_ops.specs.rules.Integers.{convert_of, converted_from, converted_to, rotated_left}
 use Rattle.int_ops.specs.rules.Integers.{rotated_right}
@@ -172,3 +174,8 @@ pub convert_below : (operator : Conversion) (a : ℕ) → a < 2 ^ bits (converte
 convert_below I32WrapI64 a h = mod-lt a (pow_pos 32)
 convert_below I64ExtendI32S a h = sign_extended_below w32 w64 a (omega arith)
 convert_below I64ExtendI32U a h = omega arith
+convert_below I32Extend8S a h = sign_extended_below w8 w32 (a % 2 ^ 8) (omega arith)
+convert_below I32Extend16S a h = sign_extended_below w16 w32 (a % 2 ^ 16) (omega arith)
+convert_below I64Extend8S a h = sign_extended_below w8 w64 (a % 2 ^ 8) (omega arith)
+convert_below I64Extend16S a h = sign_extended_below w16 w64 (a % 2 ^ 16) (omega arith)
+convert_below I64Extend32S a h = sign_extended_below w32 w64 (a % 2 ^ 32) (omega arith)

@@ -12,7 +12,7 @@
 //!   that of one value (`same_from_number`).
 //! - `results_fit`: what an operator, a test, a conversion or a sign extension gives is an integer
 //!   of its width (`unary`, `binary`, `truth`, `conversion`, `extension`).
-//! - `worked_examples`: the definitions give the standard's values on sixteen examples.
+//! - `worked_examples`: the definitions give the standard's values on twenty-one examples.
 //!
 //! # Definitions to read
 //!
@@ -28,7 +28,7 @@
 //! and `Trap::IntegerOverflow`.
 #![tactic(auto)]
 
-ghost use Rattle.std.specs.Prelude.{◌≡◌, ◌<◌, ◌^◌};
+ghost use Rattle.std.specs.Prelude.{◌≡◌, ◌<◌, ◌%◌, ◌^◌};
 ghost use mir.Val.{bits};
 ghost use Rattle.int_ops.specs.rules.Integers.{convert_of, converted_from};
 
@@ -41,7 +41,31 @@ pub use integer::{Integer, binary, compare, unary};
 pub use laws::{results_fit, worked_examples};
 use wasm_syntax::Conversion;
 
-/// Converts an integer to the other type, where an i32 is a number below 2 ^ 32 on either side.
+/// The lowest 8 bits.
+#[inline]
+fn low_8(a: u64) -> u8
+    ensures { result ≡ a % 2 ^ 8 }
+{
+    (a & 0xff) as u8
+}
+
+/// The lowest 16 bits.
+#[inline]
+fn low_16(a: u64) -> u16
+    ensures { result ≡ a % 2 ^ 16 }
+{
+    (a & 0xffff) as u16
+}
+
+/// The lowest 32 bits.
+#[inline]
+fn low_32(a: u64) -> u32
+    ensures { result ≡ a % 2 ^ 32 }
+{
+    (a & 0xffff_ffff) as u32
+}
+
+/// Converts an integer, where an i32 is a number below 2 ^ 32 on either side.
 #[inline]
 pub fn convert(operator: Conversion, a: u64) -> u64
     requires { a < 2 ^ bits (converted_from operator) }
@@ -51,5 +75,10 @@ pub fn convert(operator: Conversion, a: u64) -> u64
         Conversion::I32WrapI64 => a & 0xffff_ffff,
         Conversion::I64ExtendI32S => ((a as u32).cast_signed() as i64).cast_unsigned(),
         Conversion::I64ExtendI32U => a,
+        Conversion::I32Extend8S => (low_8(a).cast_signed() as i32).cast_unsigned() as u64,
+        Conversion::I32Extend16S => (low_16(a).cast_signed() as i32).cast_unsigned() as u64,
+        Conversion::I64Extend8S => (low_8(a).cast_signed() as i64).cast_unsigned(),
+        Conversion::I64Extend16S => (low_16(a).cast_signed() as i64).cast_unsigned(),
+        Conversion::I64Extend32S => (low_32(a).cast_signed() as i64).cast_unsigned(),
     }
 }

@@ -4,7 +4,7 @@ ghost use Rattle.std.specs.Prelude.{◌<◌, length};
 ghost use Rattle.machine_slots.specs.Outcomes.{HasEffect, IsReadyFor};
 
 use crate::integers::{apply_binary, apply_comparison, apply_conversion, apply_unary, eqz};
-use crate::linear_memory::{load, memory_grow, memory_size, store};
+use crate::linear_memory::{load, memory_copy, memory_fill, memory_grow, memory_size, store};
 use crate::outcome::{EffectOutcome, outcome_of};
 use crate::parametric::{constant, drop_top, select};
 use crate::slots::{SLOTS, Slots};
@@ -76,6 +76,8 @@ pub fn operate(
             memory_grow(slots, memory);
             EffectOutcome::Done
         }
+        Instruction::MemoryCopy => outcome_of(memory_copy(slots, memory)),
+        Instruction::MemoryFill => outcome_of(memory_fill(slots, memory)),
         Instruction::Const { value } => {
             constant(slots, *value);
             EffectOutcome::Done

@@ -12,8 +12,9 @@
 //! - Each kind of instruction has its own call. That does to the words on top what the definitions
 //!   say, or names the trap (`EffectOutcome`). They are `eqz`, `apply_unary`, `apply_binary`,
 //!   `apply_comparison`, `apply_conversion`, `constant`, `drop_top`, `select`, `local_get`,
-//!   `local_set`, `local_tee`, `global_get`, `global_set`, `load`, `store`, `memory_size` and
-//!   `memory_grow`.
+//!   `local_set`, `local_tee`, `global_get`, `global_set`, `load`, `store`, `memory_size`,
+//!   `memory_grow`, `memory_copy` and `memory_fill`. `copy_bytes` and `fill_bytes` do the last two
+//!   to memory alone.
 //! - `typed_frames_are_ready`: a typed frame that is shown has the operands of its instruction.
 //! - `words_are_slots`, `jumps_are_falls`: words and slots are the same list in either order, and
 //!   branches, returns and entries are moves of words.
@@ -26,7 +27,7 @@
 //! `specs/rules/Places.antt`: `ShownFrame`, `MachineState`, `slots_of`, and `Shows`, which says
 //! which configuration positions and slots show. Contracts also cite `HasEffect`
 //! (`specs/Outcomes.antt`), `IsReady`, `Operates` (`specs/Frames.antt`) and `HasOne`, `HasTwo`,
-//! `LeavesWord` (`specs/Words.antt`).
+//! `HasThreeNumbers`, `LeavesWord`, `LeavesMemory` (`specs/Words.antt`).
 //!
 //! # Who may touch what
 //!
@@ -61,7 +62,9 @@ mod words;
 pub use effects::operate;
 pub use integers::{apply_binary, apply_comparison, apply_conversion, apply_unary, eqz};
 pub use laws::{jumps_are_falls, shapes_tell_positions, typed_frames_are_ready, words_are_slots};
-pub use linear_memory::{load, memory_grow, memory_size, store};
+pub use linear_memory::{
+    copy_bytes, fill_bytes, load, memory_copy, memory_fill, memory_grow, memory_size, store,
+};
 pub use outcome::EffectOutcome;
 pub use parametric::{constant, drop_top, select};
 pub use slots::{SLOTS, Slots};

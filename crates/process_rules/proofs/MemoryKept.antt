@@ -2,7 +2,8 @@
 use Rattle.std.proofs.Common.{◌≡◌, ℕ, zero, suc, ◌+◌, ◌*◌, ◌^◌, ◌<◌, Bool, true, false, List, []}
 use Rattle.std.proofs.Common.{◌∷◌, ◌++◌, length, drop, Option, Some, None, Result, Ok, Err}
 use Rattle.std.proofs.Common.{refl, sym, ap, subst, ◌∙◌, arith}
-use Rattle.std.specs.Prelude.{if◌then◌else◌, nat_le, replicate, slice_get, unwrap_or, ◌-◌}
+use Rattle.std.specs.Prelude.{if◌then◌else◌, nat_le, replicate, slice_get, unwrap_or, ◌-◌, ◌%◌}
+use Rattle.std.specs.Prelude.{◌&&◌}
 use Rattle.std.specs.Option.{option_and_then, option_map}
 use Rattle.std.specs.List.{AllByRecursion}
 use Rattle.wasm_syntax.specs.declared.types.ValueType.{ValueType}
@@ -19,7 +20,7 @@ use Rattle.wasm_syntax.specs.declared.operator.StoreOperator.{StoreOperator}
 use Rattle.wasm_syntax.specs.declared.module.Module.{Module}
 use Rattle.wasm_syntax.specs.declared.module.Data.{Data}
 use Rattle.wasm_syntax.specs.rules.Sequence.{Sequence, Plain, InBlock, InLoop, InIf, InIfElse}
-use Rattle.guest_memory.specs.rules.Bytes.{IsByte, bytes_of, page_size, with_part}
+use Rattle.guest_memory.specs.rules.Bytes.{IsByte, bytes_of, page_size, part, with_part}
 use Rattle.guest_memory.proofs.Lists.{all_both, all_take, all_drop, all_replicate, bytes_are}
 use Rattle.wasm_syntax_rules.specs.Types.{loaded_type, stored_type, stored_width, bytes_in}
 use Rattle.wasm_syntax_rules.specs.Types.{gives_of, takes_of, conversion_takes}
@@ -30,6 +31,7 @@ use Rattle.wasm_syntax_rules.specs.Configuration.{Frame, FrameOf, Thread, Config
 use Rattle.wasm_syntax_rules.specs.Configuration.{Outcome, Goes, Traps, Asks}
 use Rattle.wasm_syntax_rules.specs.Effects.{Effect, Gives, Fails, Wrong, with_top, effect_of_some}
 use Rattle.wasm_syntax_rules.specs.Effects.{with_result, load_at, store_at, pages_of, grown, effect}
+use Rattle.wasm_syntax_rules.specs.Effects.{copied_at, filled_at, with_written}
 use Rattle.wasm_syntax_rules.specs.Instantiation.{offset_of, with_segment, filled_memory}
 use Rattle.wasm_syntax_rules.specs.Instantiation.{empty_memory, Begins}
 use Rattle.wasm_syntax_rules.specs.Steps.{where_some, topmost, branch, is_exhausted, entered}
@@ -96,6 +98,36 @@ store_bytes o s from n go h f =
           (bytes_are (bytes_in (stored_width o)) n))
       either false = tt
 
+bytes_copied : (s : Store) (to from n : ℕ) (go : Store → Effect) → AreBytes s.memory
+    → ((after : Store) → AreBytes after.memory → GivesBytes (go after))
+    → GivesBytes (with_written s (copied_at s.memory to from n) go)
+bytes_copied s to from n go h f =
+    either (nat_le (to + n) (length s.memory) && nat_le (from + n) (length s.memory)) where
+      either : (b : Bool) → GivesBytes (with_written s (if b
+          then Ok (with_part s.memory to (part s.memory from n))
+          else Err trap.MemoryOutOfBounds) go)
+      either true =
+          f (record s { memory = with_part s.memory to (part s.memory from n) })
+          (part_bytes s.memory (part s.memory from n) to h
+          (all_take IsByte n (drop from s.memory) (all_drop IsByte from s.memory h)))
+      either false = tt
+
+bytes_filled : (s : Store) (to number n : ℕ) (go : Store → Effect) → AreBytes s.memory
+    → ((after : Store) → AreBytes after.memory → GivesBytes (go after))
+    → GivesBytes (with_written s (filled_at s.memory to number n) go)
+bytes_filled s to number n go h f = either (nat_le (to + n) (length s.memory)) where
+  low : IsByte (number % 256)
+  low = let below : number % 256 < 256 = omega arith in below
+
+  either : (b : Bool) → GivesBytes (with_written s (if b
+      then Ok (with_part s.memory to (replicate n (number % 256)))
+      else Err trap.MemoryOutOfBounds) go)
+  either true =
+      f (record s { memory = with_part s.memory to (replicate n (number % 256)) })
+      (part_bytes s.memory (replicate n (number % 256)) to h
+      (all_replicate IsByte n (number % 256) low))
+  either false = tt
+
 grown_bytes : (program : Program) (s : Store) (n : ℕ) (go : Store → Value → Effect)
     → AreBytes s.memory
     → ((after : Store) (v : Value) → AreBytes after.memory → GivesBytes (go after v))
@@ -136,6 +168,12 @@ effect_bytes program instr.MemorySize s ls vs h = h
 effect_bytes program instr.MemoryGrow s ls vs h =
     top_bytes I32 vs _ (λ n vs.
     grown_bytes program s n (λ s v. Gives s ls (v ∷ vs)) h (λ after v k. k))
+effect_bytes program instr.MemoryCopy s ls vs h =
+    top_bytes I32 vs _ (λ n vs. top_bytes I32 vs _ (λ from vs. top_bytes I32 vs _ (λ to vs.
+    bytes_copied s to from n (λ s. Gives s ls vs) h (λ after k. k))))
+effect_bytes program instr.MemoryFill s ls vs h =
+    top_bytes I32 vs _ (λ n vs. top_bytes I32 vs _ (λ number vs. top_bytes I32 vs _ (λ to vs.
+    bytes_filled s to number n (λ s. Gives s ls vs) h (λ after k. k))))
 effect_bytes program (instr.Const v) s ls vs h = h
 effect_bytes program (instr.Eqz t) s ls vs h = top_bytes t vs _ (λ a vs. h)
 effect_bytes program (instr.Compare t o) s ls vs h =

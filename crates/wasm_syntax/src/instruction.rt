@@ -79,6 +79,10 @@ pub enum Instruction {
     },
     MemorySize,
     MemoryGrow,
+    /// So many bytes to a place from another one, which may overlap.
+    MemoryCopy,
+    /// The low byte of a value to so many places from one on.
+    MemoryFill,
     Const {
         value: Value,
     },

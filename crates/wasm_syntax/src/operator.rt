@@ -44,12 +44,18 @@ pub enum Comparison {
     GeU,
 }
 
-/// From an integer of one type to one of the other.
+/// From an integer of one type to one of the other, or from so many low bits of an integer, with
+/// their sign, to one of the same type.
 #[derive(Clone, Copy, Debug, PartialEq, Eq)]
 pub enum Conversion {
     I32WrapI64,
     I64ExtendI32S,
     I64ExtendI32U,
+    I32Extend8S,
+    I32Extend16S,
+    I64Extend8S,
+    I64Extend16S,
+    I64Extend32S,
 }
 
 /// The type of the loaded value, then, where they are fewer than the type's, the bits that are read

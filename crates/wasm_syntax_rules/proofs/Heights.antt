@@ -78,6 +78,8 @@ behind_few c types functions (instr.Load o m) ts = let d = drop_few 1 ts in omeg
 behind_few c types functions (instr.Store o m) ts = let d = drop_few 2 ts in omega arith
 behind_few c types functions instr.MemorySize ts = omega arith
 behind_few c types functions instr.MemoryGrow ts = omega arith
+behind_few c types functions instr.MemoryCopy ts = let d = drop_few 3 ts in omega arith
+behind_few c types functions instr.MemoryFill ts = let d = drop_few 3 ts in omega arith
 behind_few c types functions (instr.Const v) ts = omega arith
 behind_few c types functions (instr.Eqz t) ts = let d = drop_few 1 ts in omega arith
 behind_few c types functions (instr.Compare t o) ts = let d = drop_few 2 ts in omega arith

@@ -82,6 +82,8 @@ rule_behind c labels (instr.Load o m) p q below h = rw (h.2, h.3) refl
 rule_behind c labels (instr.Store o m) p q below h = rw (h.2, h.3) refl
 rule_behind c labels instr.MemorySize p q below h = rw (h.1, h.2) refl
 rule_behind c labels instr.MemoryGrow p q below h = rw (h.1, h.2) refl
+rule_behind c labels instr.MemoryCopy p q below h = rw (h.1, h.2) refl
+rule_behind c labels instr.MemoryFill p q below h = rw (h.1, h.2) refl
 rule_behind c labels (instr.Const v) p q below h =
     rw (h.2, h.3) (ap (λ t. t ∷ below) (value_type h.0 v h.1))
 rule_behind c labels (instr.Eqz t) p q below h = rw (h.0, h.1) refl

@@ -1,6 +1,7 @@
 -- What the instructions do that are no jumps and no calls (Core Specification 1.0, sections 4.4.1
 -- to 4.4.4).
-use Rattle.std.specs.Prelude.{ℕ, zero, suc, ◌+◌, ◌-◌, ◌*◌, ◌/◌, ◌^◌, nat_le, ◌==◌, List, ◌∷◌, ◌++◌}
+use Rattle.std.specs.Prelude.{ℕ, zero, suc, ◌+◌, ◌-◌, ◌*◌, ◌/◌, ◌%◌, ◌^◌, nat_le, ◌==◌, ◌&&◌}
+use Rattle.std.specs.Prelude.{List, ◌∷◌, ◌++◌}
 use Rattle.std.specs.Prelude.{length, replicate, Option, Some, None, Result, Ok, Err, slice_get}
 use Rattle.std.specs.Prelude.{slice_set, if◌then◌else◌}
 use Rattle.wasm_syntax.specs.declared.types.ValueType.{ValueType}
@@ -78,6 +79,25 @@ grown program s n go =
     then go (record s { memory = s.memory ++ replicate (n * page_size) 0 }) (value.I32 (pages_of s))
     else go s (value.I32 (2 ^ 32 - 1))
 
+-- so many bytes of the memory as it was, from one place on, put into it from another place on
+abbrev pub copied_at : List ℕ → ℕ → ℕ → ℕ → Result (List ℕ) Trap
+copied_at memory to from n =
+    if nat_le (to + n) (length memory) && nat_le (from + n) (length memory)
+    then Ok (with_part memory to (part memory from n))
+    else Err trap.MemoryOutOfBounds
+
+-- the low byte of a number, put into the memory so many times from a place on
+abbrev pub filled_at : List ℕ → ℕ → ℕ → ℕ → Result (List ℕ) Trap
+filled_at memory to number n =
+    if nat_le (to + n) (length memory)
+    then Ok (with_part memory to (replicate n (number % 256)))
+    else Err trap.MemoryOutOfBounds
+
+-- a store with this memory, or the trap
+abbrev pub with_written : Store → Result (List ℕ) Trap → (Store → Effect) → Effect
+with_written s (Ok memory) go = go (record s { memory = memory })
+with_written s (Err why) go = Fails why
+
 -- ---- all of them
 
 -- what `select` gives
@@ -111,6 +131,12 @@ effect program (instr.Store o m) s ls vs =
 effect program instr.MemorySize s ls vs = Gives s ls (value.I32 (pages_of s) ∷ vs)
 effect program instr.MemoryGrow s ls vs =
     with_top I32 vs (λ n vs. grown program s n (λ s v. Gives s ls (v ∷ vs)))
+effect program instr.MemoryCopy s ls vs =
+    with_top I32 vs (λ n vs. with_top I32 vs (λ from vs. with_top I32 vs (λ to vs.
+    with_written s (copied_at s.memory to from n) (λ s. Gives s ls vs))))
+effect program instr.MemoryFill s ls vs =
+    with_top I32 vs (λ n vs. with_top I32 vs (λ number vs. with_top I32 vs (λ to vs.
+    with_written s (filled_at s.memory to number n) (λ s. Gives s ls vs))))
 effect program (instr.Const v) s ls vs = Gives s ls (v ∷ vs)
 effect program (instr.Eqz t) s ls vs =
     with_top t vs (λ a vs. Gives s ls (value.I32 (truth (a == 0)) ∷ vs))

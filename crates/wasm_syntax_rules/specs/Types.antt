@@ -14,7 +14,9 @@ use Rattle.wasm_syntax.specs.declared.value.Value.{Value}
 use Rattle.wasm_syntax.specs.declared.value.Value.TheVariants as value
 use Rattle.wasm_syntax.specs.declared.operator.Conversion.{Conversion}
 use Rattle.wasm_syntax.specs.declared.operator.Conversion.TheVariants.{I32WrapI64, I64ExtendI32S}
-use Rattle.wasm_syntax.specs.declared.operator.Conversion.TheVariants.{I64ExtendI32U}
+use Rattle.wasm_syntax.specs.declared.operator.Conversion.TheVariants.{I64ExtendI32U, I32Extend8S}
+use Rattle.wasm_syntax.specs.declared.operator.Conversion.TheVariants.{I32Extend16S, I64Extend8S}
+use Rattle.wasm_syntax.specs.declared.operator.Conversion.TheVariants.{I64Extend16S, I64Extend32S}
 use Rattle.wasm_syntax.specs.declared.operator.LoadOperator.{LoadOperator}
 use Rattle.wasm_syntax.specs.declared.operator.LoadOperator.TheVariants as load
 use Rattle.wasm_syntax.specs.declared.operator.StoreOperator.{StoreOperator}
@@ -62,12 +64,22 @@ abbrev pub conversion_takes : Conversion → ValueType
 conversion_takes I32WrapI64 = I64
 conversion_takes I64ExtendI32S = I32
 conversion_takes I64ExtendI32U = I32
+conversion_takes I32Extend8S = I32
+conversion_takes I32Extend16S = I32
+conversion_takes I64Extend8S = I64
+conversion_takes I64Extend16S = I64
+conversion_takes I64Extend32S = I64
 
 -- the type of a conversion's result
 abbrev pub conversion_gives : Conversion → ValueType
 conversion_gives I32WrapI64 = I32
 conversion_gives I64ExtendI32S = I64
 conversion_gives I64ExtendI32U = I64
+conversion_gives I32Extend8S = I32
+conversion_gives I32Extend16S = I32
+conversion_gives I64Extend8S = I64
+conversion_gives I64Extend16S = I64
+conversion_gives I64Extend32S = I64
 
 -- the type that a load gives
 abbrev pub loaded_type : LoadOperator → ValueType

@@ -81,6 +81,8 @@ HasRule c labels (instr.Store o m) p q = HasMemory c × (2 ^ m.align ≤ bytes_i
     × (p ≡ stored_type o ∷ I32 ∷ []) × (q ≡ [])
 HasRule c labels instr.MemorySize p q = HasMemory c × (p ≡ []) × (q ≡ I32 ∷ [])
 HasRule c labels instr.MemoryGrow p q = HasMemory c × (p ≡ I32 ∷ []) × (q ≡ I32 ∷ [])
+HasRule c labels instr.MemoryCopy p q = HasMemory c × (p ≡ I32 ∷ I32 ∷ I32 ∷ []) × (q ≡ [])
+HasRule c labels instr.MemoryFill p q = HasMemory c × (p ≡ I32 ∷ I32 ∷ I32 ∷ []) × (q ≡ [])
 HasRule c labels (instr.Const v) p q = (t : ValueType) × IsOf t v × (p ≡ []) × (q ≡ t ∷ [])
 HasRule c labels (instr.Eqz t) p q = (p ≡ t ∷ []) × (q ≡ I32 ∷ [])
 HasRule c labels (instr.Compare t o) p q = (p ≡ t ∷ t ∷ []) × (q ≡ I32 ∷ [])

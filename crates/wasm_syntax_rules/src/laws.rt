@@ -7,6 +7,7 @@ ghost use Rattle.wasm_syntax_rules.specs.laws.Laws.{OneSequence, OneRun, Heights
 ghost use Rattle.wasm_syntax_rules.specs.laws.Examples.{TypingExamples, HelloRuns, StepExamples};
 ghost use Rattle.wasm_syntax_rules.specs.laws.LimitExamples.{StackExamples, BranchExamples};
 ghost use Rattle.wasm_syntax_rules.specs.laws.LimitExamples.{TableExamples, MemoryGrows};
+ghost use Rattle.wasm_syntax_rules.specs.laws.LimitExamples.{MoveExamples};
 ghost use Rattle.wasm_syntax_rules.specs.Typed.{NeverStuck, LeavesTyped, AnswersTyped, StepsTyped};
 ghost use Rattle.wasm_syntax_rules.specs.Typed.{ProgramsTyped, BeginsTyped};
 
@@ -34,12 +35,13 @@ pub fn worked_examples()
 {}
 
 /// The limits of the stack from both sides, branches that leave values behind, calls through the
-/// table, and memory that grows up to its limit.
+/// table, memory that grows up to its limit, and copies and fills up to its end.
 pub fn limits_on_examples()
     ensures stack { StackExamples }
     ensures branches { BranchExamples }
     ensures table { TableExamples }
     ensures memory { MemoryGrows }
+    ensures moves { MoveExamples }
 {}
 
 // Laws over all programs and configurations. The functions do nothing: what they ensure is the law.

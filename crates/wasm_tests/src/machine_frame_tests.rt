@@ -63,7 +63,7 @@ fn is_translated_so(alloc: Global, row: &Row) -> Result<bool, Refused> {
     Ok(is_so)
 }
 
-static BODIES: [Row; 9] = [
+static BODIES: [Row; 14] = [
     // nothing but the end
     ("00 0b", Some(1)),
     // a sum that goes into its local: once, and three times
@@ -86,6 +86,17 @@ static BODIES: [Row; 9] = [
     ),
     // a local is stored, and read back
     ("01017f 2000 2000 360200 2000 280200 2100 0b", Some(3)),
+    // a local's low byte with its sign
+    ("01017f 2000 c0 2100 0b", Some(2)),
+    // a copy, and a fill of constants, which have to be in slots
+    ("01037f 2000 2001 2002 fc0a0000 0b", Some(2)),
+    ("00 4101 4102 4103 fc0b00 0b", Some(5)),
+    // a loop behind either, where a frame may enter
+    (
+        "01037f 2000 2001 2002 fc0a0000 0340 2000 0d00 0b 0b",
+        Some(3),
+    ),
+    ("01037f 2000 2001 2002 fc0b00 0340 2000 0d00 0b 0b", Some(3)),
     // a call of itself
     ("00 1000 0b", Some(2)),
     // a branch that keeps a value from under which another one goes has no form

@@ -66,6 +66,27 @@ const NARROWED: Shape = (
                 0b",
 );
 
+/// From low bits of 32, of 0x0012_9881 and 0xffff_7f01, a half of the number each.
+const EXTENDED_32: Shape = (
+    "0061736d01000000 0109 02 600000 60017f017f 0303 02 01 00 0503 01 0001 \
+                0713 02 06'_start'0001 06'memory'0200 0a21 02 05 00 2000",
+    "0b 19 00 4100 4181b1ca00 1000 360000 4104 4181fe7d 1000 360000 0b",
+);
+
+/// From low bits of 64, of 0x0123_4567_8912_9881.
+const EXTENDED_64: Shape = (
+    "0061736d01000000 0109 02 600000 60017e017e 0303 02 01 00 0503 01 0001 \
+                0713 02 06'_start'0001 06'memory'0200 0a1b 02 05 00 2000",
+    "0b 13 00 4100 4281b1cac8f8acd19101 1000 370000 0b",
+);
+
+/// The same of 0xffff_ffff_7f34_7f01, whose low bits are those of positive numbers.
+const EXTENDED_64_UP: Shape = (
+    "0061736d01000000 0109 02 600000 60017e017e 0303 02 01 00 0503 01 0001 \
+                0713 02 06'_start'0001 06'memory'0200 0a17 02 05 00 2000",
+    "0b 0f 00 4100 4281fed1f977 1000 370000 0b",
+);
+
 /// From 32 bits to 64, of 0x8000_0001.
 const WIDENED: Shape = (
     "0061736d01000000 0109 02 600000 60017f017e 0303 02 01 00 0503 01 0001 \
@@ -108,7 +129,7 @@ const STORED_64: Shape = (
 /// Name, shape, opcode, and the number.
 type Operation = (&'static str, Shape, u8, u64);
 
-static OPERATIONS: [Operation; 80] = [
+static OPERATIONS: [Operation; 88] = [
     ("i32.load", LOADED_32, 0x28, 0x8483_8281),
     ("i64.load", LOADED_64, 0x29, 0x8887_8685_8483_8281),
     ("i32.load8_s", LOADED_32, 0x2c, 0xffff_ff81),
@@ -189,6 +210,14 @@ static OPERATIONS: [Operation; 80] = [
     ("i32.wrap_i64", NARROWED, 0xa7, 0x5566_7788),
     ("i64.extend_i32_s", WIDENED, 0xac, 0xffff_ffff_8000_0001),
     ("i64.extend_i32_u", WIDENED, 0xad, 0x8000_0001),
+    ("i32.extend8_s", EXTENDED_32, 0xc0, 0x1_ffff_ff81),
+    ("i32.extend16_s", EXTENDED_32, 0xc1, 0x7f01_ffff_9881),
+    ("i64.extend8_s", EXTENDED_64, 0xc2, 0xffff_ffff_ffff_ff81),
+    ("i64.extend16_s", EXTENDED_64, 0xc3, 0xffff_ffff_ffff_9881),
+    ("i64.extend32_s", EXTENDED_64, 0xc4, 0xffff_ffff_8912_9881),
+    ("i64.extend8_s", EXTENDED_64_UP, 0xc2, 1),
+    ("i64.extend16_s", EXTENDED_64_UP, 0xc3, 0x7f01),
+    ("i64.extend32_s", EXTENDED_64_UP, 0xc4, 0x7f34_7f01),
 ];
 
 fn with_opcode(alloc: Global, shape: &Shape, opcode: u8) -> Result<Vec<u8>, Refused> {
@@ -318,6 +347,43 @@ static INSTRUCTIONS: Runs = (
             "00 4100 4101 4000 3a0000 4101 3f00 3a0000 4102 4101 4000 3a0000 0b",
             Outcome::Leaves(0xff_0201),
         ),
+        // the bytes from 1 up to 8, of which six go to another place, upward and downward
+        (
+            "memory.copy",
+            "00 4100 4281848ca0d0c0c18308 370000 4102 4100 4106 fc0a0000 0b",
+            Outcome::Leaves(0x605_0403_0201_0201),
+        ),
+        (
+            "memory.copy",
+            "00 4100 4281848ca0d0c0c18308 370000 4100 4102 4106 fc8a8080800000 00 0b",
+            Outcome::Leaves(0x807_0807_0605_0403),
+        ),
+        (
+            "memory.fill",
+            "00 4100 4281848ca0d0c0c18308 370000 4102 41ff03 4103 fc0b00 0b",
+            Outcome::Leaves(0x807_06ff_ffff_0201),
+        ),
+        // to and from the last byte, and nothing at the end
+        (
+            "memory.copy",
+            "00 4100 4107 3a0000 41ffff03 4100 4101 fc0a0000 4104 41ffff03 4101 fc0a0000 0b",
+            Outcome::Leaves(0x7_0000_0007),
+        ),
+        (
+            "memory.fill",
+            "00 41ffff03 4109 4101 fc0b00 4100 41ffff03 2d0000 1a 4101 41ffff03 2d0000 3a0000 0b",
+            Outcome::Leaves(0x900),
+        ),
+        (
+            "memory.copy",
+            "00 41808004 41808004 4100 fc0a0000 0b",
+            Outcome::Returns,
+        ),
+        (
+            "memory.fill",
+            "00 41808004 4101 4100 fc0b00 0b",
+            Outcome::Returns,
+        ),
         (
             "i32.const",
             "00 4100 41ffffffff07 360000 0b",
@@ -372,6 +438,47 @@ static INSTRUCTIONS: Runs = (
         (
             "i32.store",
             "00 41fdff03 4100 360000 0b",
+            Outcome::Traps(Trap::MemoryOutOfBounds),
+        ),
+        // nothing beyond the end, one byte too many, and sums that would wrap
+        (
+            "memory.copy",
+            "00 41818004 4100 4100 fc0a0000 0b",
+            Outcome::Traps(Trap::MemoryOutOfBounds),
+        ),
+        (
+            "memory.copy",
+            "00 4100 41818004 4100 fc0a0000 0b",
+            Outcome::Traps(Trap::MemoryOutOfBounds),
+        ),
+        (
+            "memory.copy",
+            "00 41ffff03 4100 4102 fc0a0000 0b",
+            Outcome::Traps(Trap::MemoryOutOfBounds),
+        ),
+        (
+            "memory.copy",
+            "00 417f 4100 4101 fc0a0000 0b",
+            Outcome::Traps(Trap::MemoryOutOfBounds),
+        ),
+        (
+            "memory.copy",
+            "00 4100 4101 417f fc0a0000 0b",
+            Outcome::Traps(Trap::MemoryOutOfBounds),
+        ),
+        (
+            "memory.fill",
+            "00 41818004 4101 4100 fc0b00 0b",
+            Outcome::Traps(Trap::MemoryOutOfBounds),
+        ),
+        (
+            "memory.fill",
+            "00 41ffff03 4101 4102 fc0b00 0b",
+            Outcome::Traps(Trap::MemoryOutOfBounds),
+        ),
+        (
+            "memory.fill",
+            "00 4101 4101 417f fc0b00 0b",
             Outcome::Traps(Trap::MemoryOutOfBounds),
         ),
         (

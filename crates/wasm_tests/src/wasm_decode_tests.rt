@@ -34,7 +34,7 @@ const HELLO: &str = "0061736d01000000 01100360000060047f7f7f7f017f60017f00 \
 /// Two texts, and the fault of the bytes that they spell together.
 type Told = (&'static str, &'static str, Option<DecodeFault>);
 
-static TOLD: [Told; 98] = [
+static TOLD: [Told; 109] = [
     // whole modules
     ("", "", Some(Malformed(0))),
     ("", "0061736d02000000", Some(Malformed(4))),
@@ -75,7 +75,52 @@ static TOLD: [Told; 98] = [
     (BEFORE_CODE, "0a06010401017d0b", Some(Float(50))),
     (BEFORE_CODE, "0a09010700 43000000000b", Some(Float(49))),
     (BEFORE_CODE, "0a070105 00 027d0b0b", Some(Float(50))),
-    (BEFORE_CODE, "0a05010300c00b", Some(Malformed(49))),
+    (BEFORE_CODE, "0a05010300c50b", Some(Malformed(49))),
+    // behind the prefix: numbers in more bytes, unknown ones, six bytes, and other bytes than zeros
+    (BEFORE_CODE, "0a10010e00 410041004100 fc8a80000000 0b", None),
+    (
+        BEFORE_CODE,
+        "0a11010f00 410041004100 fc8b8080800000 0b",
+        None,
+    ),
+    (
+        BEFORE_CODE,
+        "0a0e010c00 410041004100 fc080000 0b",
+        Some(Malformed(56)),
+    ),
+    (
+        BEFORE_CODE,
+        "0a0d010b00 410041004100 fc0c00 0b",
+        Some(Malformed(56)),
+    ),
+    (
+        BEFORE_CODE,
+        "0a0e010c00 410041004100 fc8a0100 0b",
+        Some(Malformed(56)),
+    ),
+    (
+        BEFORE_CODE,
+        "0a13011100 410041004100 fc8a80808080000000 0b",
+        Some(Malformed(56)),
+    ),
+    (
+        BEFORE_CODE,
+        "0a0e010c00 410041004100 fc0a0100 0b",
+        Some(Malformed(57)),
+    ),
+    (
+        BEFORE_CODE,
+        "0a0e010c00 410041004100 fc0a0001 0b",
+        Some(Malformed(58)),
+    ),
+    (
+        BEFORE_CODE,
+        "0a0d010b00 410041004100 fc0b01 0b",
+        Some(Malformed(57)),
+    ),
+    (BEFORE_CODE, "0a0401 0200fc", Some(Malformed(50))),
+    // a count of data segments, which came later
+    (BEFORE_CODE, "0c0100 0a040102000b", Some(Malformed(44))),
     // constants of more bits than their type has
     (
         BEFORE_CODE,
@@ -602,8 +647,8 @@ fn modules_are_read(rt: HostRuntime) -> Result<(), Refused> {
     Ok(())
 }
 
-/// What each opcode is the first byte of, sixteen in a line: an instruction of integers (`i`), one
-/// of floats (`f`), or none.
+/// What each opcode is the first byte of, sixteen in a line: an instruction of integers or of
+/// memory (`i`), one of floats (`f`), or none.
 static KINDS: &[u8; 256] = b"\
     iiiiii-----iiiii\
     ii--------ii----\
@@ -617,10 +662,10 @@ static KINDS: &[u8; 256] = b"\
     ffffffffffffffff\
     fffffffiffffiiff\
     ffffffffffffffff\
+    iiiii-----------\
     ----------------\
     ----------------\
-    ----------------\
-    ----------------";
+    ------------i---";
 
 /// By the fault at place 51. Want of memory tells no kind.
 fn kind_by(fault: Option<DecodeFault>) -> Result<u8, Refused> {

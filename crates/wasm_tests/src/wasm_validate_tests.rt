@@ -253,6 +253,11 @@ fn is_body_told_so(alloc: Global, front: &str, rest: &str, row: &Row) -> Result<
 
 /// Operands have the types that are taken.
 const OPERANDS: &[Row] = &[
+    ("00 4100 c0 c1 1a 0b", None),
+    ("00 4200 c2 c3 c4 1a 0b", None),
+    ("00 4200 c1 1a 0b", TYPING),
+    ("00 4100 c2 1a 0b", TYPING),
+    ("00 4100 c4 a7 1a 0b", TYPING),
     // an operand of another type, none, and one left over
     ("00 4100 4200 6a 1a 0b", TYPING),
     ("00 4100 6a 1a 0b", TYPING),
@@ -308,6 +313,13 @@ const WITH_MEMORY_AND_TABLE: &[Row] = &[
     ("00 4100 280200 1a 0b", None),
     ("00 4100 280300 1a 0b", LIMITS),
     ("00 3f00 1a 0b", None),
+    ("00 4100 4100 4100 fc0a0000 0b", None),
+    ("00 4100 4100 4100 fc0b00 0b", None),
+    ("00 4100 4100 fc0a0000 0b", TYPING),
+    ("00 4100 4100 4200 fc0a0000 0b", TYPING),
+    ("00 4100 4200 4100 fc0b00 0b", TYPING),
+    ("00 4200 4100 4100 fc0b00 0b", TYPING),
+    ("00 4100 4100 4100 fc0b00 1a 0b", TYPING),
     ("00 4100 110000 0b", None),
 ];
 
@@ -316,6 +328,9 @@ const WITHOUT_MEMORY_AND_TABLE: &[Row] = &[
     ("00 4100 280200 1a 0b", INDEX),
     ("00 4100 280300 1a 0b", INDEX),
     ("00 3f00 1a 0b", INDEX),
+    ("00 4100 4100 4100 fc0a0000 0b", INDEX),
+    ("00 4100 4100 4100 fc0b00 0b", INDEX),
+    ("00 fc0a0000 0b", INDEX),
     ("00 4100 110000 0b", INDEX),
 ];
 

@@ -12,7 +12,9 @@ use Rattle.wasm_syntax.specs.declared.operator.BinaryOperator.TheVariants.{ShrS,
 use Rattle.wasm_syntax.specs.declared.operator.Comparison.TheVariants.{LtS, LtU}
 use Rattle.wasm_syntax.specs.declared.operator.Conversion.{Conversion}
 use Rattle.wasm_syntax.specs.declared.operator.Conversion.TheVariants.{I32WrapI64, I64ExtendI32S}
-use Rattle.wasm_syntax.specs.declared.operator.Conversion.TheVariants.{I64ExtendI32U}
+use Rattle.wasm_syntax.specs.declared.operator.Conversion.TheVariants.{I64ExtendI32U, I32Extend8S}
+use Rattle.wasm_syntax.specs.declared.operator.Conversion.TheVariants.{I32Extend16S, I64Extend8S}
+use Rattle.wasm_syntax.specs.declared.operator.Conversion.TheVariants.{I64Extend16S, I64Extend32S}
 use Rattle.int_ops.specs.rules.Integers.{unary_of, binary_of, compare_of, truth, sign_extended}
 use Rattle.int_ops.specs.rules.Integers.{convert_of, converted_from, converted_to}
 
@@ -59,3 +61,8 @@ pub record IntegerExamples : Type 0 where
   pub wrap : convert_of I32WrapI64 (2 ^ 32 + 5) ≡ 5
   pub extend_s : convert_of I64ExtendI32S 0x80000000 ≡ 0xffffffff80000000
   pub extend_u : convert_of I64ExtendI32U 0x80000000 ≡ 0x80000000
+  pub extend_8_keeps_the_sign : convert_of I32Extend8S 0x180 ≡ minus w32 128
+  pub extend_8_without_one : convert_of I64Extend8S 0xff7f ≡ 127
+  pub extend_16 : convert_of I32Extend16S 0x18000 ≡ minus w32 32768
+  pub extend_16_to_64 : convert_of I64Extend16S 0x8000 ≡ minus w64 32768
+  pub extend_32 : convert_of I64Extend32S 0x180000000 ≡ minus w64 0x80000000

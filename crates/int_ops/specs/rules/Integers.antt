@@ -6,7 +6,7 @@ use Rattle.std.specs.Prelude.{ℕ, ◌+◌, ◌-◌, ◌*◌, ◌/◌, ◌%◌, 
 use Rattle.std.specs.Prelude.{nat_lt, nat_le, if◌then◌else◌, Result, Ok, Err, pos, bit_and, bit_or}
 use Rattle.std.specs.Prelude.{bit_xor, int_div, int_rem, int_lt, int_le, count_ones}
 use mir.Val.{bits, hbits}
-use Rattle.std.specs.Int.{Width, w32, w64, cast_signed, cast_unsigned, int_div_euclid}
+use Rattle.std.specs.Int.{Width, w8, w16, w32, w64, cast_signed, cast_unsigned, int_div_euclid}
 use Rattle.std.specs.Int.{leading_zeros, trailing_zeros}
 use Rattle.wasm_syntax.specs.declared.value.Trap.{Trap}
 use Rattle.wasm_syntax.specs.declared.value.Trap.TheVariants.{DivideByZero, IntegerOverflow}
@@ -22,7 +22,9 @@ use Rattle.wasm_syntax.specs.declared.operator.Comparison.TheVariants.{Eq, Ne, L
 use Rattle.wasm_syntax.specs.declared.operator.Comparison.TheVariants.{LeS, LeU, GeS, GeU}
 use Rattle.wasm_syntax.specs.declared.operator.Conversion.{Conversion}
 use Rattle.wasm_syntax.specs.declared.operator.Conversion.TheVariants.{I32WrapI64, I64ExtendI32S}
-use Rattle.wasm_syntax.specs.declared.operator.Conversion.TheVariants.{I64ExtendI32U}
+use Rattle.wasm_syntax.specs.declared.operator.Conversion.TheVariants.{I64ExtendI32U, I32Extend8S}
+use Rattle.wasm_syntax.specs.declared.operator.Conversion.TheVariants.{I32Extend16S, I64Extend8S}
+use Rattle.wasm_syntax.specs.declared.operator.Conversion.TheVariants.{I64Extend16S, I64Extend32S}
 
 -- how many bits above the highest 1, below the lowest 1, or that are 1. Without any 1 the first two
 -- count all bits
@@ -94,20 +96,35 @@ compare_of w GeU a b = nat_le b a
 abbrev pub sign_extended : Width → Width → ℕ → ℕ
 sign_extended from to a = cast_unsigned to (cast_signed from a)
 
--- the conversions
+-- The conversions. The last five extend the low bits of a number, read with their sign.
 abbrev pub convert_of : Conversion → ℕ → ℕ
 convert_of I32WrapI64 a = a % 2 ^ 32
 convert_of I64ExtendI32S a = sign_extended w32 w64 a
 convert_of I64ExtendI32U a = a
+convert_of I32Extend8S a = sign_extended w8 w32 (a % 2 ^ 8)
+convert_of I32Extend16S a = sign_extended w16 w32 (a % 2 ^ 16)
+convert_of I64Extend8S a = sign_extended w8 w64 (a % 2 ^ 8)
+convert_of I64Extend16S a = sign_extended w16 w64 (a % 2 ^ 16)
+convert_of I64Extend32S a = sign_extended w32 w64 (a % 2 ^ 32)
 
 -- the widths that a conversion leads from and to
 abbrev pub converted_from : Conversion → Width
 converted_from I32WrapI64 = w64
 converted_from I64ExtendI32S = w32
 converted_from I64ExtendI32U = w32
+converted_from I32Extend8S = w32
+converted_from I32Extend16S = w32
+converted_from I64Extend8S = w64
+converted_from I64Extend16S = w64
+converted_from I64Extend32S = w64
 
 -- the width that a conversion gives
 abbrev pub converted_to : Conversion → Width
 converted_to I32WrapI64 = w32
 converted_to I64ExtendI32S = w64
 converted_to I64ExtendI32U = w64
+converted_to I32Extend8S = w32
+converted_to I32Extend16S = w32
+converted_to I64Extend8S = w64
+converted_to I64Extend16S = w64
+converted_to I64Extend32S = w64

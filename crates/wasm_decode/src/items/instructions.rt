@@ -5,6 +5,7 @@ ghost use Rattle.wasm_syntax.specs.laws.ReadingItems.{block_type_at};
 ghost use Rattle.wasm_syntax.specs.laws.ReadingInstructions.{control_at, variable_at, memory_at};
 ghost use Rattle.wasm_syntax.specs.laws.ReadingInstructions.{memory_argument_at, numeric_at};
 ghost use Rattle.wasm_syntax.specs.laws.ReadingInstructions.{instruction_at, behind_opcode};
+ghost use Rattle.wasm_syntax.specs.laws.ReadingInstructions.{prefixed_at, higher_at};
 ghost use Rattle.wasm_decode.specs.Items.Answers.{GivesItem, TakesItem};
 
 use crate::items::decoder::Decoder;
@@ -147,7 +148,7 @@ fn memory(decoder: &mut Decoder, opcode: u8, start: usize) -> Result<Instruction
     Ok(Instruction::Store { operator, argument })
 }
 
-/// Constants, tests, comparisons, operators and conversions: opcodes from 0x41 on.
+/// Constants, tests, comparisons, operators and conversions: opcodes from 0x41 on, but the prefix.
 fn numeric(decoder: &mut Decoder, opcode: u8, start: usize) -> Result<Instruction, ReadRefusal>
     ensures { TakesItem result decoder.new (numeric_at opcode decoder.old) }
 {
@@ -172,6 +173,37 @@ fn numeric(decoder: &mut Decoder, opcode: u8, start: usize) -> Result<Instructio
     }
 }
 
+/// Copies and fills of memory: the number behind the prefix 0xfc, and then zero bytes.
+#[tactic(auto, unfolding(wasm_syntax::specs::laws::ReadingInstructions::prefixed_at))]
+fn prefixed(decoder: &mut Decoder) -> Result<Instruction, ReadRefusal>
+    ensures { TakesItem result decoder.new (prefixed_at decoder.old) }
+{
+    let start = decoder.at();
+    match decoder.u32()? {
+        10 => {
+            decoder.expect_byte(0x00)?;
+            decoder.expect_byte(0x00)?;
+            Ok(Instruction::MemoryCopy)
+        }
+        11 => {
+            decoder.expect_byte(0x00)?;
+            Ok(Instruction::MemoryFill)
+        }
+        _ => Err(ReadRefusal::Malformed(start)),
+    }
+}
+
+/// Opcodes from 0x41 on.
+#[tactic(auto, unfolding(wasm_syntax::specs::laws::ReadingInstructions::higher_at))]
+fn higher(decoder: &mut Decoder, opcode: u8, start: usize) -> Result<Instruction, ReadRefusal>
+    ensures { TakesItem result decoder.new (higher_at opcode decoder.old) }
+{
+    if opcode == 0xfc {
+        return prefixed(decoder);
+    }
+    numeric(decoder, opcode, start)
+}
+
 /// What stands behind an opcode that was read at `start`.
 #[tactic(auto, unfolding(wasm_syntax::specs::laws::ReadingInstructions::behind_opcode))]
 fn finish_instruction(
@@ -191,7 +223,7 @@ fn finish_instruction(
     if opcode < 0x41 {
         return Ok(memory(decoder, opcode, start)?);
     }
-    Ok(numeric(decoder, opcode, start)?)
+    Ok(higher(decoder, opcode, start)?)
 }
 
 impl Item for Instruction {

@@ -161,6 +161,21 @@ pub fn operation(opcode: u8) -> Option<Instruction>
         0xad => Some(Instruction::Convert {
             operator: Conversion::I64ExtendI32U,
         }),
+        0xc0 => Some(Instruction::Convert {
+            operator: Conversion::I32Extend8S,
+        }),
+        0xc1 => Some(Instruction::Convert {
+            operator: Conversion::I32Extend16S,
+        }),
+        0xc2 => Some(Instruction::Convert {
+            operator: Conversion::I64Extend8S,
+        }),
+        0xc3 => Some(Instruction::Convert {
+            operator: Conversion::I64Extend16S,
+        }),
+        0xc4 => Some(Instruction::Convert {
+            operator: Conversion::I64Extend32S,
+        }),
         _ => None,
     }
 }

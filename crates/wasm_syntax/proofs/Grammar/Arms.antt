@@ -2,6 +2,7 @@
 use Rattle.std.proofs.Common.{◌≡◌, ℕ, zero, suc, ltb, eqb, List, [], ◌∷◌, map, Option, Some, refl}
 use Rattle.std.proofs.Common.{sym, ap, subst}
 use Rattle.std.specs.Prelude.{slice_get}
+use Rattle.std.proofs.lemmas.Bool.{eqb-true}
 use Rattle.wasm_syntax.specs.declared.types.ValueType.{ValueType}
 use Rattle.wasm_syntax.specs.declared.types.ValueType.TheVariants.{I32, I64}
 use Rattle.wasm_syntax.specs.declared.value.Value.TheVariants as value
@@ -17,7 +18,9 @@ use Rattle.wasm_syntax.specs.declared.operator.Comparison.TheVariants.{Eq, Ne, L
 use Rattle.wasm_syntax.specs.declared.operator.Comparison.TheVariants.{LeS, LeU, GeS, GeU}
 use Rattle.wasm_syntax.specs.declared.operator.Conversion.{Conversion}
 use Rattle.wasm_syntax.specs.declared.operator.Conversion.TheVariants.{I32WrapI64, I64ExtendI32S}
-use Rattle.wasm_syntax.specs.declared.operator.Conversion.TheVariants.{I64ExtendI32U}
+use Rattle.wasm_syntax.specs.declared.operator.Conversion.TheVariants.{I64ExtendI32U, I32Extend8S}
+use Rattle.wasm_syntax.specs.declared.operator.Conversion.TheVariants.{I32Extend16S, I64Extend8S}
+use Rattle.wasm_syntax.specs.declared.operator.Conversion.TheVariants.{I64Extend16S, I64Extend32S}
 use Rattle.wasm_syntax.specs.declared.operator.LoadOperator.{LoadOperator}
 use Rattle.wasm_syntax.specs.declared.operator.LoadOperator.TheVariants as load
 use Rattle.wasm_syntax.specs.declared.operator.StoreOperator.{StoreOperator}
@@ -36,7 +39,8 @@ use Rattle.wasm_syntax.specs.laws.ReadingInstructions.{comparisons, unary_operat
 use Rattle.wasm_syntax.specs.laws.ReadingInstructions.{binary_operators, load_of, store_operator_of}
 use Rattle.wasm_syntax.specs.laws.ReadingInstructions.{comparison_of, operation_of, control_at}
 use Rattle.wasm_syntax.specs.laws.ReadingInstructions.{variable_at, memory_argument_at, memory_at}
-use Rattle.wasm_syntax.specs.laws.ReadingInstructions.{numeric_at, behind_opcode, instruction_at}
+use Rattle.wasm_syntax.specs.laws.ReadingInstructions.{copy_at, prefixed_at, numeric_at}
+use Rattle.wasm_syntax.specs.laws.ReadingInstructions.{higher_at, behind_opcode, instruction_at}
 use Rattle.wasm_syntax.proofs.Grammar.Exact.{Reads, bind_some, pass_some, pick, found, some_is}
 use Rattle.wasm_syntax.proofs.Grammar.Exact.{carry}
 use Rattle.wasm_syntax.proofs.Grammar.Integers.{Reads-u32_at, Reads-signed_at, byte_sound}
@@ -260,6 +264,48 @@ memory_sound b bytes i rest e =
       is,
     )))))
 
+copy_sound : (bytes behind : List ℕ) (i : Instruction) (rest : List ℕ) → IsU32 bytes 10 behind
+    → copy_at behind ≡ Some (i, rest) → IsInstruction (0xfc ∷ bytes) i rest
+copy_sound bytes behind i rest is e =
+    let to = bind_some (exactly_at 0x00 behind) _ _ e in
+    let from = bind_some (exactly_at 0x00 to.0.1) _ _ to.2 in
+    carry (IsInstruction (0xfc ∷ bytes)) instr.MemoryCopy i from.0.1 rest from.2 (
+      bytes,
+      refl,
+      (
+        behind,
+        is,
+        (
+          to.0.1,
+          byte_sound 0x00 behind to.0.0 to.0.1 to.1,
+          byte_sound 0x00 to.0.1 from.0.0 from.0.1 from.1,
+        ),
+      ),
+    )
+
+fill_sound : (bytes behind : List ℕ) (i : Instruction) (rest : List ℕ) → IsU32 bytes 11 behind
+    → read_as (λ (mark : Unit {0}). instr.MemoryFill) (exactly_at 0x00) behind ≡ Some (i, rest)
+    → IsInstruction (0xfc ∷ bytes) i rest
+fill_sound bytes behind i rest is e =
+    let mark = bind_some (exactly_at 0x00 behind) _ _ e in
+    carry (IsInstruction (0xfc ∷ bytes)) instr.MemoryFill i mark.0.1 rest mark.2 (
+      bytes,
+      refl,
+      (behind, is, byte_sound 0x00 behind mark.0.0 mark.0.1 mark.1),
+    )
+
+prefixed_sound : (bytes : List ℕ) (i : Instruction) (rest : List ℕ)
+    → prefixed_at bytes ≡ Some (i, rest) → IsInstruction (0xfc ∷ bytes) i rest
+unfolding prefixed_at
+prefixed_sound bytes i rest e =
+    let n = bind_some (leb_u32_at bytes) _ _ e in
+    let number = Reads-u32_at.sound bytes n.0.0 n.0.1 n.1 in
+    pick (eqb n.0.0 10) _ _ _ n.2 (λ t h. copy_sound bytes n.0.1 i rest
+    (subst (λ (k : ℕ). IsU32 bytes k n.0.1) (eqb-true n.0.0 10 t) number) h) (λ f e.
+    let k = pass_some (eqb n.0.0 11) _ _ e in
+    fill_sound bytes n.0.1 i rest
+    (subst (λ (k : ℕ). IsU32 bytes k n.0.1) (eqb-true n.0.0 11 k.0) number) k.1)
+
 by_numeric_opcode : (b : ℕ) (i : Instruction) (bytes : List ℕ) → numeric_opcode i ≡ Some b
     → IsInstruction (b ∷ bytes) i bytes
 by_numeric_opcode b (instr.Eqz t) bytes e =
@@ -297,20 +343,22 @@ numeric_sound b bytes i rest e =
 
 instruction_sound : (bytes : List ℕ) (i : Instruction) (rest : List ℕ)
     → instruction_at bytes ≡ Some (i, rest) → IsInstruction bytes i rest
-unfolding instruction_at behind_opcode
+unfolding instruction_at behind_opcode higher_at
 instruction_sound [] i rest e = absurd cc
 instruction_sound (b ∷ bytes) i rest e =
     pick (ltb b 0x1a) _ _ _ e (λ t h. control_sound b bytes i rest h) (λ f e.
     pick (ltb b 0x28) _ _ _ e (λ t h. variable_sound b bytes i rest h) (λ f e.
     pick (ltb b 0x41) _ _ _ e (λ t h. memory_sound b bytes i rest h) (λ f e.
-    numeric_sound b bytes i rest e)))
+    pick (eqb b 0xfc) _ _ _ e (λ t h. subst (λ (bs : List ℕ). IsInstruction bs i rest)
+    (sym (front_is b 0xfc bytes t)) (prefixed_sound bytes i rest h)) (λ f e.
+    numeric_sound b bytes i rest e))))
 
 -- ---- what is spelled is read
 
 load_complete : (operator : LoadOperator) (m : MemoryArgument) (bytes rest : List ℕ)
     → memory_argument_at bytes ≡ Some (m, rest)
     → behind_opcode (load_opcode operator) bytes ≡ Some (instr.Load operator m, rest)
-unfolding behind_opcode
+unfolding behind_opcode higher_at
 load_complete load.I32 m bytes rest e = rw e refl
 load_complete load.I64 m bytes rest e = rw e refl
 load_complete load.I32Bits8S m bytes rest e = rw e refl
@@ -327,7 +375,7 @@ load_complete load.I64Bits32U m bytes rest e = rw e refl
 store_complete : (operator : StoreOperator) (m : MemoryArgument) (bytes rest : List ℕ)
     → memory_argument_at bytes ≡ Some (m, rest)
     → behind_opcode (store_opcode operator) bytes ≡ Some (instr.Store operator m, rest)
-unfolding behind_opcode
+unfolding behind_opcode higher_at
 store_complete store.I32 m bytes rest e = rw e refl
 store_complete store.I64 m bytes rest e = rw e refl
 store_complete store.I32Bits8 m bytes rest e = rw e refl
@@ -386,7 +434,7 @@ agree_at f g (y ∷ xs) (suc k) x h e = (let later : map f xs ≡ map g xs = cc 
 
 compare_complete : (t : ValueType) (operator : Comparison) (bytes : List ℕ)
     → behind_opcode (compare_opcode t operator) bytes ≡ Some (instr.Compare t operator, bytes)
-unfolding behind_opcode
+unfolding behind_opcode higher_at
 compare_complete I32 operator bytes =
     agree_at (λ (x : Comparison). behind_opcode (compare_opcode I32 x) bytes) (λ (x : Comparison).
     found (instr.Compare I32 x) bytes) comparisons (compare_place operator) operator refl
@@ -398,7 +446,7 @@ compare_complete I64 operator bytes =
 
 unary_complete : (t : ValueType) (operator : UnaryOperator) (bytes : List ℕ)
     → behind_opcode (unary_opcode t operator) bytes ≡ Some (instr.Unary t operator, bytes)
-unfolding behind_opcode
+unfolding behind_opcode higher_at
 unary_complete I32 operator bytes =
     agree_at (λ (x : UnaryOperator). behind_opcode (unary_opcode I32 x) bytes)
     (λ (x : UnaryOperator). found (instr.Unary I32 x) bytes) unary_operators
@@ -410,7 +458,7 @@ unary_complete I64 operator bytes =
 
 binary_complete : (t : ValueType) (operator : BinaryOperator) (bytes : List ℕ)
     → behind_opcode (binary_opcode t operator) bytes ≡ Some (instr.Binary t operator, bytes)
-unfolding behind_opcode
+unfolding behind_opcode higher_at
 binary_complete I32 operator bytes =
     agree_at (λ (x : BinaryOperator). behind_opcode (binary_opcode I32 x) bytes)
     (λ (x : BinaryOperator). found (instr.Binary I32 x) bytes) binary_operators
@@ -422,20 +470,25 @@ binary_complete I64 operator bytes =
 
 eqz_complete : (t : ValueType) (bytes : List ℕ)
     → behind_opcode (eqz_opcode t) bytes ≡ Some (instr.Eqz t, bytes)
-unfolding behind_opcode
+unfolding behind_opcode higher_at
 eqz_complete I32 bytes = refl
 eqz_complete I64 bytes = refl
 
 convert_complete : (operator : Conversion) (bytes : List ℕ)
     → behind_opcode (convert_opcode operator) bytes ≡ Some (instr.Convert operator, bytes)
-unfolding behind_opcode
+unfolding behind_opcode higher_at
 convert_complete I32WrapI64 bytes = refl
 convert_complete I64ExtendI32S bytes = refl
 convert_complete I64ExtendI32U bytes = refl
+convert_complete I32Extend8S bytes = refl
+convert_complete I32Extend16S bytes = refl
+convert_complete I64Extend8S bytes = refl
+convert_complete I64Extend16S bytes = refl
+convert_complete I64Extend32S bytes = refl
 
 instruction_complete : (bytes : List ℕ) (i : Instruction) (rest : List ℕ)
     → IsInstruction bytes i rest → instruction_at bytes ≡ Some (i, rest)
-unfolding instruction_at behind_opcode
+unfolding instruction_at behind_opcode higher_at prefixed_at
 instruction_complete bytes instr.Unreachable rest h = rw h refl
 instruction_complete bytes instr.Nop rest h = rw h refl
 instruction_complete bytes (instr.Block t) rest h =
@@ -479,6 +532,19 @@ instruction_complete bytes (instr.Store operator m) rest h =
     rw h.1 (store_complete operator m h.0 rest (Reads-memory_argument_at.complete h.0 m rest h.2))
 instruction_complete bytes instr.MemorySize rest h = rw (h.1, byte_complete 0x00 h.0 rest h.2) refl
 instruction_complete bytes instr.MemoryGrow rest h = rw (h.1, byte_complete 0x00 h.0 rest h.2) refl
+instruction_complete bytes instr.MemoryCopy rest h =
+    rw (
+      h.1,
+      Reads-u32_at.complete h.0 10 h.2.0 h.2.1,
+      byte_complete 0x00 h.2.0 h.2.2.0 h.2.2.1,
+      byte_complete 0x00 h.2.2.0 rest h.2.2.2,
+    ) refl
+instruction_complete bytes instr.MemoryFill rest h =
+    rw (
+      h.1,
+      Reads-u32_at.complete h.0 11 h.2.0 h.2.1,
+      byte_complete 0x00 h.2.0 rest h.2.2,
+    ) refl
 instruction_complete bytes (instr.Const (value.I32 n)) rest h =
     rw (h.1, (Reads-signed_at 32).complete h.0 n rest h.2) refl
 instruction_complete bytes (instr.Const (value.I64 n)) rest h =

@@ -6,7 +6,9 @@ use Rattle.std.specs.Prelude.{option_map, slice_get}
 use Rattle.std.proofs.lemmas.Bool.{eqb-true, leb-true}
 use Rattle.wasm_syntax.specs.declared.types.ValueType.TheVariants.{I32, I64}
 use Rattle.wasm_syntax.specs.declared.operator.Conversion.TheVariants.{I32WrapI64, I64ExtendI32S}
-use Rattle.wasm_syntax.specs.declared.operator.Conversion.TheVariants.{I64ExtendI32U}
+use Rattle.wasm_syntax.specs.declared.operator.Conversion.TheVariants.{I64ExtendI32U, I32Extend8S}
+use Rattle.wasm_syntax.specs.declared.operator.Conversion.TheVariants.{I32Extend16S, I64Extend8S}
+use Rattle.wasm_syntax.specs.declared.operator.Conversion.TheVariants.{I64Extend16S, I64Extend32S}
 use Rattle.wasm_syntax.specs.declared.operator.LoadOperator.{LoadOperator}
 use Rattle.wasm_syntax.specs.declared.operator.LoadOperator.TheVariants as load
 use Rattle.wasm_syntax.specs.declared.operator.StoreOperator.{StoreOperator}
@@ -167,5 +169,15 @@ operation_sound b i e =
     (eqb-true b 0xa7 t)) (λ f e.
     pick (eqb b 0xac) _ _ _ e (λ t h. has_opcode b (instr.Convert I64ExtendI32S) i 0xac h refl
     (eqb-true b 0xac t)) (λ f e.
-    let k = pass_some (eqb b 0xad) _ _ e in
-    has_opcode b (instr.Convert I64ExtendI32U) i 0xad k.1 refl (eqb-true b 0xad k.0)))))))
+    pick (eqb b 0xad) _ _ _ e (λ t h. has_opcode b (instr.Convert I64ExtendI32U) i 0xad h refl
+    (eqb-true b 0xad t)) (λ f e.
+    pick (eqb b 0xc0) _ _ _ e (λ t h. has_opcode b (instr.Convert I32Extend8S) i 0xc0 h refl
+    (eqb-true b 0xc0 t)) (λ f e.
+    pick (eqb b 0xc1) _ _ _ e (λ t h. has_opcode b (instr.Convert I32Extend16S) i 0xc1 h refl
+    (eqb-true b 0xc1 t)) (λ f e.
+    pick (eqb b 0xc2) _ _ _ e (λ t h. has_opcode b (instr.Convert I64Extend8S) i 0xc2 h refl
+    (eqb-true b 0xc2 t)) (λ f e.
+    pick (eqb b 0xc3) _ _ _ e (λ t h. has_opcode b (instr.Convert I64Extend16S) i 0xc3 h refl
+    (eqb-true b 0xc3 t)) (λ f e.
+    let k = pass_some (eqb b 0xc4) _ _ e in
+    has_opcode b (instr.Convert I64Extend32S) i 0xc4 k.1 refl (eqb-true b 0xc4 k.0))))))))))))

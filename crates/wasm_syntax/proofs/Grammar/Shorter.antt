@@ -113,6 +113,19 @@ instruction_shorter bytes instr.MemorySize rest h =
     behind_byte _ bytes h.0 rest h.1 (byte_shorter 0x00 h.0 rest h.2)
 instruction_shorter bytes instr.MemoryGrow rest h =
     behind_byte _ bytes h.0 rest h.1 (byte_shorter 0x00 h.0 rest h.2)
+instruction_shorter bytes instr.MemoryCopy rest h =
+    let lt : length rest < length h.0 =
+    omega (
+      arith,
+      u32_shorter h.0 10 h.2.0 h.2.1,
+      byte_shorter 0x00 h.2.0 h.2.2.0 h.2.2.1,
+      byte_shorter 0x00 h.2.2.0 rest h.2.2.2,
+    ) in
+    behind_byte _ bytes h.0 rest h.1 lt
+instruction_shorter bytes instr.MemoryFill rest h =
+    let lt : length rest < length h.0 =
+    omega (arith, u32_shorter h.0 11 h.2.0 h.2.1, byte_shorter 0x00 h.2.0 rest h.2.2) in
+    behind_byte _ bytes h.0 rest h.1 lt
 instruction_shorter bytes (instr.Const (value.I32 n)) rest h =
     behind_byte _ bytes h.0 rest h.1 (signed_shorter 32 h.0 n rest h.2)
 instruction_shorter bytes (instr.Const (value.I64 n)) rest h =

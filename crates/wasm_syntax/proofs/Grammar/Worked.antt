@@ -14,6 +14,8 @@ use Rattle.wasm_syntax.specs.laws.Examples.{constant_codes, constant_body, posit
 use Rattle.wasm_syntax.specs.laws.Examples.{if_else_codes, if_else_body, lone_else_codes}
 use Rattle.wasm_syntax.specs.laws.Examples.{block_else_codes, second_else_codes, open_codes}
 use Rattle.wasm_syntax.specs.laws.Examples.{early_end_codes, hello_bytes, hello, echo_bytes, echo}
+use Rattle.wasm_syntax.specs.laws.Examples.{extension_codes, copy_codes, fill_codes, init_codes}
+use Rattle.wasm_syntax.specs.laws.Examples.{extension_body, behind_zeros}
 use Rattle.wasm_syntax.specs.laws.Laws.{SpellNothing, SpellingsOfIdle, SpellingsOfSections}
 use Rattle.wasm_syntax.specs.laws.Laws.{SpellingsOfBodies}
 use Rattle.wasm_syntax.proofs.Grammar.Computing.{reading}
@@ -68,6 +70,13 @@ bodies_spelled = record {
   second_else = unread (idle_with_codes second_else_codes) refl;
   open_body = unread (idle_with_codes open_codes) refl;
   early_end = unread (idle_with_codes early_end_codes) refl;
+  extension =
+      module_sound (idle_with_codes extension_codes) (idle_with_code [] extension_body) refl;
+  copy = module_sound (idle_with_codes copy_codes) (idle_with_code [] (behind_zeros
+      instr.MemoryCopy)) refl;
+  fill = module_sound (idle_with_codes fill_codes) (idle_with_code [] (behind_zeros
+      instr.MemoryFill)) refl;
+  init = unread (idle_with_codes init_codes) refl;
 }
 
 pub hello_spelled : IsModule hello_bytes hello

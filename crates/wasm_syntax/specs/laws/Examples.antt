@@ -3,6 +3,7 @@ use Rattle.std.specs.Prelude.{ℕ, ◌-◌, ◌^◌, List, [], ◌∷◌, ◌++�
 use Rattle.wasm_syntax.specs.declared.types.ValueType.{ValueType}
 use Rattle.wasm_syntax.specs.declared.types.ValueType.TheVariants.{I32, I64}
 use Rattle.wasm_syntax.specs.declared.value.Value.TheVariants as value
+use Rattle.wasm_syntax.specs.declared.operator.Conversion.TheVariants.{I32Extend8S}
 use Rattle.wasm_syntax.specs.declared.operator.LoadOperator.TheVariants as load
 use Rattle.wasm_syntax.specs.declared.operator.StoreOperator.TheVariants as store
 use Rattle.wasm_syntax.specs.declared.types.FunctionType.{FunctionType}
@@ -201,6 +202,25 @@ open_codes = 0x0a ∷ 0x07 ∷ 0x01 ∷ 0x05 ∷ 0x00 ∷ 0x02 ∷ 0x40 ∷ 0x01
 abbrev pub early_end_codes : List ℕ
 early_end_codes = 0x0a ∷ 0x05 ∷ 0x01 ∷ 0x03 ∷ 0x00 ∷ 0x0b ∷ 0x0b ∷ []
 
+-- `i32.const 128 i32.extend8_s drop end`
+abbrev pub extension_codes : List ℕ
+extension_codes = 0x0a ∷ 0x09 ∷ 0x01 ∷ 0x07 ∷ 0x00 ∷ 0x41 ∷ 0x80 ∷ 0x01 ∷ 0xc0 ∷ 0x1a ∷ 0x0b ∷ []
+
+-- `i32.const 0` three times, then `memory.copy end`, with a long spelling of its number 10
+abbrev pub copy_codes : List ℕ
+copy_codes = 0x0a ∷ 0x10 ∷ 0x01 ∷ 0x0e ∷ 0x00 ∷ 0x41 ∷ 0x00 ∷ 0x41 ∷ 0x00 ∷ 0x41 ∷ 0x00 ∷ 0xfc
+    ∷ 0x8a ∷ 0x80 ∷ 0x00 ∷ 0x00 ∷ 0x00 ∷ 0x0b ∷ []
+
+-- the same with `memory.fill`
+abbrev pub fill_codes : List ℕ
+fill_codes = 0x0a ∷ 0x0d ∷ 0x01 ∷ 0x0b ∷ 0x00 ∷ 0x41 ∷ 0x00 ∷ 0x41 ∷ 0x00 ∷ 0x41 ∷ 0x00 ∷ 0xfc
+    ∷ 0x0b ∷ 0x00 ∷ 0x0b ∷ []
+
+-- the same with the number 8, which is that of no instruction here
+abbrev pub init_codes : List ℕ
+init_codes = 0x0a ∷ 0x0e ∷ 0x01 ∷ 0x0c ∷ 0x00 ∷ 0x41 ∷ 0x00 ∷ 0x41 ∷ 0x00 ∷ 0x41 ∷ 0x00 ∷ 0xfc
+    ∷ 0x08 ∷ 0x00 ∷ 0x00 ∷ 0x0b ∷ []
+
 abbrev pub three_locals : List ValueType
 three_locals = I32 ∷ I32 ∷ I64 ∷ []
 
@@ -211,6 +231,13 @@ constant_body = i32_const (2 ^ 31) ∷ instr.Drop ∷ instr.Const (value.I64 (2 
 abbrev pub if_else_body : List Instruction
 if_else_body = i32_const 1 ∷ instr.If None ∷ instr.Nop ∷ instr.Else ∷ instr.Nop ∷ instr.End
     ∷ instr.End ∷ []
+
+abbrev pub extension_body : List Instruction
+extension_body = i32_const 128 ∷ instr.Convert I32Extend8S ∷ instr.Drop ∷ instr.End ∷ []
+
+-- an instruction behind three zeros
+abbrev pub behind_zeros : Instruction → List Instruction
+behind_zeros i = i32_const 0 ∷ i32_const 0 ∷ i32_const 0 ∷ i ∷ instr.End ∷ []
 
 -- ---- a module that writes `hi` and a newline and exits with 7, in 168 bytes
 

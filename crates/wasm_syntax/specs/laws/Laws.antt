@@ -14,6 +14,8 @@ use Rattle.wasm_syntax.specs.laws.Examples.{constant_codes, constant_body, posit
 use Rattle.wasm_syntax.specs.laws.Examples.{if_else_codes, if_else_body, lone_else_codes}
 use Rattle.wasm_syntax.specs.laws.Examples.{block_else_codes, second_else_codes, open_codes}
 use Rattle.wasm_syntax.specs.laws.Examples.{early_end_codes, hello_bytes, hello, echo_bytes, echo}
+use Rattle.wasm_syntax.specs.laws.Examples.{extension_codes, copy_codes, fill_codes, init_codes}
+use Rattle.wasm_syntax.specs.laws.Examples.{extension_body, behind_zeros}
 
 abbrev pub BytesSpellAtMostOneModule : Type 0
 BytesSpellAtMostOneModule = (bytes : List ℕ) (m : Module) (n : Module) → IsModule bytes m
@@ -59,6 +61,12 @@ pub record SpellingsOfBodies : Type 0 where
   pub second_else : SpellNothing (idle_with_codes second_else_codes)
   pub open_body : SpellNothing (idle_with_codes open_codes)
   pub early_end : SpellNothing (idle_with_codes early_end_codes)
+  pub extension : IsModule (idle_with_codes extension_codes) (idle_with_code [] extension_body)
+  pub copy : IsModule (idle_with_codes copy_codes) (idle_with_code [] (behind_zeros
+      instr.MemoryCopy))
+  pub fill : IsModule (idle_with_codes fill_codes) (idle_with_code [] (behind_zeros
+      instr.MemoryFill))
+  pub init : SpellNothing (idle_with_codes init_codes)
 
 -- Of the fronts of a module's bytes, the header alone and the header with the types are modules
 -- too, and no others.

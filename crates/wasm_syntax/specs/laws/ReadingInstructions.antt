@@ -14,7 +14,9 @@ use Rattle.wasm_syntax.specs.declared.operator.Comparison.{Comparison}
 use Rattle.wasm_syntax.specs.declared.operator.Comparison.TheVariants.{Eq, Ne, LtS, LtU, GtS, GtU}
 use Rattle.wasm_syntax.specs.declared.operator.Comparison.TheVariants.{LeS, LeU, GeS, GeU}
 use Rattle.wasm_syntax.specs.declared.operator.Conversion.TheVariants.{I32WrapI64, I64ExtendI32S}
-use Rattle.wasm_syntax.specs.declared.operator.Conversion.TheVariants.{I64ExtendI32U}
+use Rattle.wasm_syntax.specs.declared.operator.Conversion.TheVariants.{I64ExtendI32U, I32Extend8S}
+use Rattle.wasm_syntax.specs.declared.operator.Conversion.TheVariants.{I32Extend16S, I64Extend8S}
+use Rattle.wasm_syntax.specs.declared.operator.Conversion.TheVariants.{I64Extend16S, I64Extend32S}
 use Rattle.wasm_syntax.specs.declared.operator.LoadOperator.{LoadOperator}
 use Rattle.wasm_syntax.specs.declared.operator.LoadOperator.TheVariants as load
 use Rattle.wasm_syntax.specs.declared.operator.StoreOperator.{StoreOperator}
@@ -89,6 +91,11 @@ operation_of b =
     else if b == 0xa7 then Some (instr.Convert I32WrapI64)
     else if b == 0xac then Some (instr.Convert I64ExtendI32S)
     else if b == 0xad then Some (instr.Convert I64ExtendI32U)
+    else if b == 0xc0 then Some (instr.Convert I32Extend8S)
+    else if b == 0xc1 then Some (instr.Convert I32Extend16S)
+    else if b == 0xc2 then Some (instr.Convert I64Extend8S)
+    else if b == 0xc3 then Some (instr.Convert I64Extend16S)
+    else if b == 0xc4 then Some (instr.Convert I64Extend32S)
     else None
 
 -- ---- instructions, by their opcode
@@ -145,7 +152,7 @@ memory_at b rest =
     else (store_operator_of b
     >>= λ operator. read_as (instr.Store operator) memory_argument_at rest)
 
--- constants, tests, comparisons, operators and conversions: opcodes from 0x41 on
+-- constants, tests, comparisons, operators and conversions: opcodes from 0x41 on, but the prefix
 abbrev pub numeric_at : ℕ → List ℕ → Option (Instruction × List ℕ)
 numeric_at b rest =
     if b == 0x41 then read_as (λ (n : ℕ). instr.Const (value.I32 n)) (signed_at 32) rest
@@ -153,13 +160,32 @@ numeric_at b rest =
     else if nat_lt b 0x67 then (comparison_of b >>= λ i. Some (i, rest))
     else (operation_of b >>= λ i. Some (i, rest))
 
+-- two zero bytes, the indices of the memories that are copied to and from
+abbrev pub copy_at : List ℕ → Option (Instruction × List ℕ)
+copy_at rest = exactly_at 0x00 rest
+    >>= λ to. read_as (λ (mark : Unit {0}). instr.MemoryCopy) (exactly_at 0x00) to.1
+
+-- the number behind the prefix 0xfc, and its instruction
+abbrev pub prefixed_by : ℕ → List ℕ → Option (Instruction × List ℕ)
+prefixed_by n rest =
+    if n == 10 then copy_at rest
+    else if n == 11 then read_as (λ (mark : Unit {0}). instr.MemoryFill) (exactly_at 0x00) rest
+    else None
+
+unfoldable pub prefixed_at : List ℕ → Option (Instruction × List ℕ)
+prefixed_at rest = leb_u32_at rest >>= λ n. prefixed_by n.0 n.1
+
+-- opcodes from 0x41 on
+unfoldable pub higher_at : ℕ → List ℕ → Option (Instruction × List ℕ)
+higher_at b rest = if b == 0xfc then prefixed_at rest else numeric_at b rest
+
 -- what stands behind an opcode. The opcodes of floats stand for nothing
 unfoldable pub behind_opcode : ℕ → List ℕ → Option (Instruction × List ℕ)
 behind_opcode b rest =
     if nat_lt b 0x1a then control_at b rest
     else if nat_lt b 0x28 then variable_at b rest
     else if nat_lt b 0x41 then memory_at b rest
-    else numeric_at b rest
+    else higher_at b rest
 
 unfoldable pub instruction_at : List ℕ → Option (Instruction × List ℕ)
 instruction_at bytes = byte_at bytes >>= λ b. behind_opcode b.0 b.1

@@ -1,4 +1,5 @@
--- The binary grammar of instructions and expressions (Core Specification 1.0, section 5.4).
+-- The binary grammar of instructions and expressions (Core Specification 1.0, section 5.4; sign
+-- extension, `memory.copy` and `memory.fill` are those of edition 2.0).
 use Rattle.std.specs.Prelude.{ℕ, ◌+◌, List}
 use Rattle.wasm_syntax.specs.declared.types.ValueType.{ValueType}
 use Rattle.wasm_syntax.specs.declared.types.ValueType.TheVariants.{I32, I64}
@@ -16,7 +17,9 @@ use Rattle.wasm_syntax.specs.declared.operator.Comparison.TheVariants.{Eq, Ne, L
 use Rattle.wasm_syntax.specs.declared.operator.Comparison.TheVariants.{LeS, LeU, GeS, GeU}
 use Rattle.wasm_syntax.specs.declared.operator.Conversion.{Conversion}
 use Rattle.wasm_syntax.specs.declared.operator.Conversion.TheVariants.{I32WrapI64, I64ExtendI32S}
-use Rattle.wasm_syntax.specs.declared.operator.Conversion.TheVariants.{I64ExtendI32U}
+use Rattle.wasm_syntax.specs.declared.operator.Conversion.TheVariants.{I64ExtendI32U, I32Extend8S}
+use Rattle.wasm_syntax.specs.declared.operator.Conversion.TheVariants.{I32Extend16S, I64Extend8S}
+use Rattle.wasm_syntax.specs.declared.operator.Conversion.TheVariants.{I64Extend16S, I64Extend32S}
 use Rattle.wasm_syntax.specs.declared.operator.LoadOperator.{LoadOperator}
 use Rattle.wasm_syntax.specs.declared.operator.LoadOperator.TheVariants as load
 use Rattle.wasm_syntax.specs.declared.operator.StoreOperator.{StoreOperator}
@@ -117,6 +120,11 @@ abbrev pub convert_opcode : Conversion → ℕ
 convert_opcode I32WrapI64 = 0xa7
 convert_opcode I64ExtendI32S = 0xac
 convert_opcode I64ExtendI32U = 0xad
+convert_opcode I32Extend8S = 0xc0
+convert_opcode I32Extend16S = 0xc1
+convert_opcode I64Extend8S = 0xc2
+convert_opcode I64Extend16S = 0xc3
+convert_opcode I64Extend32S = 0xc4
 
 -- ---- instructions (5.4.1 to 5.4.5)
 
@@ -127,6 +135,10 @@ IsMemoryArgument bytes m rest = (a : List ℕ) × IsU32 bytes m.align a × IsU32
 -- an opcode, and what IsOperand says of the bytes behind it
 abbrev pub IsOpcode : ℕ → (List ℕ → Type 0) → List ℕ → Type 0
 IsOpcode opcode IsOperand bytes = (a : List ℕ) × IsThisByte opcode bytes a × IsOperand a
+
+-- the same of an opcode that is a prefix and a number in 32 bits
+abbrev pub IsPrefixed : ℕ → (List ℕ → Type 0) → List ℕ → Type 0
+IsPrefixed n IsOperand bytes = IsOpcode 0xfc (λ a. (b : List ℕ) × IsU32 a n b × IsOperand b) bytes
 
 -- a constant
 abbrev pub IsConstantOpcode : List ℕ → Value → List ℕ → Type 0
@@ -163,6 +175,9 @@ IsInstruction bytes (instr.Store operator m) rest =
     IsOpcode (store_opcode operator) (λ a. IsMemoryArgument a m rest) bytes
 IsInstruction bytes instr.MemorySize rest = IsOpcode 0x3f (λ a. IsThisByte 0x00 a rest) bytes
 IsInstruction bytes instr.MemoryGrow rest = IsOpcode 0x40 (λ a. IsThisByte 0x00 a rest) bytes
+IsInstruction bytes instr.MemoryCopy rest =
+    IsPrefixed 10 (λ a. (b : List ℕ) × IsThisByte 0x00 a b × IsThisByte 0x00 b rest) bytes
+IsInstruction bytes instr.MemoryFill rest = IsPrefixed 11 (λ a. IsThisByte 0x00 a rest) bytes
 IsInstruction bytes (instr.Const v) rest = IsConstantOpcode bytes v rest
 IsInstruction bytes (instr.Eqz t) rest = IsThisByte (eqz_opcode t) bytes rest
 IsInstruction bytes (instr.Compare t operator) rest =

@@ -2,11 +2,12 @@
 use Rattle.std.proofs.Common.{◌≡◌, ℕ, zero, suc, ◌+◌, ◌*◌, ◌^◌, ◌<◌, ◌≤◌, Bool, true, false}
 use Rattle.std.proofs.Common.{if◌then◌else◌, List, [], ◌∷◌, ◌++◌, length, Option, Some, None}
 use Rattle.std.proofs.Common.{Result, Ok, Err, refl, ap, ◌∙◌, arith, ◌==◌}
-use Rattle.std.specs.Prelude.{slice_get, slice_set, map, nat_le, replicate, ◌-◌}
+use Rattle.std.specs.Prelude.{slice_get, slice_set, map, nat_le, replicate, ◌-◌, ◌%◌, ◌&&◌}
 use Rattle.std.specs.Int.{w8, w16, w32, w64}
 use mir.Val.{bits}
 use Rattle.std.specs.List.{AllByRecursion}
 use Rattle.std.proofs.lemmas.Bool.Decides.{nat_tests}
+use Rattle.std.proofs.lemmas.List.{length-replicate}
 use Rattle.std.proofs.lemmas.Option.{slice_get-map}
 use Rattle.std.specs.Option.{option_map}
 use Rattle.wasm_syntax.specs.declared.types.ValueType.{ValueType}
@@ -18,7 +19,9 @@ use Rattle.wasm_syntax.specs.declared.value.Trap.{Trap}
 use Rattle.wasm_syntax.specs.declared.value.Trap.TheVariants as trap
 use Rattle.wasm_syntax.specs.declared.operator.Conversion.{Conversion}
 use Rattle.wasm_syntax.specs.declared.operator.Conversion.TheVariants.{I32WrapI64, I64ExtendI32S}
-use Rattle.wasm_syntax.specs.declared.operator.Conversion.TheVariants.{I64ExtendI32U}
+use Rattle.wasm_syntax.specs.declared.operator.Conversion.TheVariants.{I64ExtendI32U, I32Extend8S}
+use Rattle.wasm_syntax.specs.declared.operator.Conversion.TheVariants.{I32Extend16S, I64Extend8S}
+use Rattle.wasm_syntax.specs.declared.operator.Conversion.TheVariants.{I64Extend16S, I64Extend32S}
 use Rattle.wasm_syntax.specs.declared.operator.LoadOperator.{LoadOperator}
 use Rattle.wasm_syntax.specs.declared.operator.LoadOperator.TheVariants as load
 use Rattle.wasm_syntax.specs.declared.operator.StoreOperator.{StoreOperator}
@@ -36,12 +39,13 @@ use Rattle.wasm_syntax_rules.specs.Typing.{Context, HasRule}
 use Rattle.wasm_syntax_rules.specs.Configuration.{Program, Store}
 use Rattle.wasm_syntax_rules.specs.Effects.{Effect, Gives, Fails, Wrong, with_top, effect_of_some}
 use Rattle.wasm_syntax_rules.specs.Effects.{with_result, loaded, load_at, store_at, pages_of, grown}
-use Rattle.wasm_syntax_rules.specs.Effects.{selected, effect, IsEffect}
+use Rattle.wasm_syntax_rules.specs.Effects.{copied_at, filled_at, with_written, selected, effect}
+use Rattle.wasm_syntax_rules.specs.Effects.{IsEffect}
 use Rattle.wasm_syntax_rules.specs.Typed.{IsTypedMemory, IsTypedStore}
 use Rattle.wasm_syntax_rules.proofs.Soundness.Values.{value_of_is, value_at, value_set}
 use Rattle.wasm_syntax_rules.proofs.Soundness.MemoryBytes.{memory_with_part, memory_grown}
 use Rattle.guest_memory.proofs.Ranges.{length-part}
-use Rattle.guest_memory.proofs.Lists.{bytes_are, number_below, all_take, all_drop}
+use Rattle.guest_memory.proofs.Lists.{bytes_are, number_below, all_take, all_drop, all_replicate}
 
 module _ (c : Context) (program : Program) (few : program.most_pages ≤ 2 ^ 16) where
   -- an effect that is a trap, or that leaves values of these types
@@ -140,6 +144,71 @@ module _ (c : Context) (program : Program) (few : program.most_pages ≤ 2 ^ 16)
             globals = h.globals;
             table = h.table;
           })
+
+  -- bytes in the place of as many
+  written_has : (after : List ValueType) (s : Store) (to : ℕ) (bytes : List ℕ) (go : Store
+      → Effect) → IsTypedStore c program s → AllByRecursion IsByte bytes
+      → to + length bytes ≤ length s.memory
+      → ((s' : Store) → IsTypedStore c program s' → EffectHas after (go s'))
+      → EffectHas after (go (record s { memory = with_part s.memory to bytes }))
+  written_has after s to bytes go h are inside k =
+      k (record s { memory = with_part s.memory to bytes }) (record {
+        memory = memory_with_part program s.memory to bytes h.memory are inside;
+        globals = h.globals;
+        table = h.table;
+      })
+
+  copy_has : (after : List ValueType) (s : Store) (to from n : ℕ) (go : Store → Effect)
+      → IsTypedStore c program s → ((s' : Store) → IsTypedStore c program s'
+      → EffectHas after (go s'))
+      → EffectHas after (with_written s (copied_at s.memory to from n) go)
+  copy_has after s to from n go h k =
+      inside (nat_le (to + n) (length s.memory)) (nat_le (from + n) (length s.memory)) refl refl
+    where
+      inside : (a b : Bool) → nat_le (to + n) (length s.memory) ≡ a
+          → nat_le (from + n) (length s.memory) ≡ b
+          → EffectHas after (with_written s (if a && b
+          then Ok (with_part s.memory to (part s.memory from n))
+          else Err trap.MemoryOutOfBounds) go)
+      inside false b t u = tt
+      inside true false t u = tt
+      inside true true t u =
+          let there : to + n ≤ length s.memory = grind (arith, nat_tests) in
+          let here : from + n ≤ length s.memory = grind (arith, nat_tests) in
+          let len = length-part s.memory from n here in
+          written_has after s to (part s.memory from n) go h
+          (all_take IsByte _ _ (all_drop IsByte from s.memory h.memory.bytes))
+          (rw len there) k
+
+  fill_has : (after : List ValueType) (s : Store) (to number n : ℕ) (go : Store → Effect)
+      → IsTypedStore c program s → ((s' : Store) → IsTypedStore c program s'
+      → EffectHas after (go s'))
+      → EffectHas after (with_written s (filled_at s.memory to number n) go)
+  fill_has after s to number n go h k = inside (nat_le (to + n) (length s.memory)) refl
+    where
+      inside : (b : Bool) → nat_le (to + n) (length s.memory) ≡ b
+          → EffectHas after (with_written s (if b
+          then Ok (with_part s.memory to (replicate n (number % 256)))
+          else Err trap.MemoryOutOfBounds) go)
+      inside false t = tt
+      inside true t =
+          let there : to + n ≤ length s.memory = grind (arith, nat_tests) in
+          let low : number % 256 < 256 = omega arith in
+          written_has after s to (replicate n (number % 256)) go h
+          (all_replicate IsByte n (number % 256) low) (rw length-replicate there) k
+
+  -- three numbers of i32, the topmost first, and what is made of them
+  three_have : (below after : List ValueType) (vs : List Value) (go : ℕ → ℕ → ℕ → List Value
+      → Effect) → AreOf (I32 ∷ I32 ∷ I32 ∷ below) vs
+      → ((a b n : ℕ) (rest : List Value) → AreOf below rest → EffectHas after (go n b a rest))
+      → EffectHas after (with_top I32 vs (λ n vs. with_top I32 vs (λ b vs. with_top I32 vs (λ a vs.
+      go n b a vs))))
+  three_have below after vs go o k =
+      top_has I32 (I32 ∷ I32 ∷ below) after vs (λ n vs. with_top I32 vs (λ b vs.
+      with_top I32 vs (λ a vs. go n b a vs))) o (λ n rest x o'.
+      top_has I32 (I32 ∷ below) after rest (λ b vs. with_top I32 vs (λ a vs. go n b a vs)) o'
+      (λ b others y o''. top_has I32 below after others (λ a vs. go n b a vs) o'' (λ a last z l.
+      k a b n last l)))
 
   -- the number of pages is exact
   pages_are : (s : Store) (h : IsTypedMemory program s.memory) → pages_of s ≡ h.pages
@@ -311,6 +380,16 @@ module _ (c : Context) (program : Program) (few : program.most_pages ≤ 2 ^ 16)
         l,
         (is', k),
       ))))
+  effect_has labels instr.MemoryCopy p q below s ls vs is r h l o =
+      rw r.2 (three_have below below vs (λ n from to vs.
+      with_written s (copied_at s.memory to from n) (λ s. Gives s ls vs)) (rw r.1 at o)
+      (λ to from n rest k.
+      copy_has below s to from n (λ s. Gives s ls rest) h (λ s' h'. (h', l, k))))
+  effect_has labels instr.MemoryFill p q below s ls vs is r h l o =
+      rw r.2 (three_have below below vs (λ n number to vs.
+      with_written s (filled_at s.memory to number n) (λ s. Gives s ls vs)) (rw r.1 at o)
+      (λ to number n rest k.
+      fill_has below s to number n (λ s. Gives s ls rest) h (λ s' h'. (h', l, k))))
   effect_has labels (instr.Const v) p q below s ls vs is r h l o = rw r.3 (h, l, (r.1, rw r.2 at o))
   effect_has labels (instr.Eqz t) p q below s ls vs is r h l o =
       rw r.1 (top_has t below (I32 ∷ below) vs (λ a vs. Gives s ls (value.I32 (truth (a == 0))
@@ -345,4 +424,9 @@ module _ (c : Context) (program : Program) (few : program.most_pages ≤ 2 ^ 16)
       converted I32WrapI64 a b = convert_below I32WrapI64 a b
       converted I64ExtendI32S a b = convert_below I64ExtendI32S a b
       converted I64ExtendI32U a b = convert_below I64ExtendI32U a b
+      converted I32Extend8S a b = convert_below I32Extend8S a b
+      converted I32Extend16S a b = convert_below I32Extend16S a b
+      converted I64Extend8S a b = convert_below I64Extend8S a b
+      converted I64Extend16S a b = convert_below I64Extend16S a b
+      converted I64Extend32S a b = convert_below I64Extend32S a b
   effect_has labels _ p q below s ls vs is r h l o = absurd is

@@ -325,6 +325,10 @@ module _ (base : Context) (program : Program) (typed : IsTypedProgram base progr
       effect_sound branches labels instr.MemorySize vs rest p q below out tt o h r t
   execute_sound branches labels instr.MemoryGrow vs rest p q below out o h r t =
       effect_sound branches labels instr.MemoryGrow vs rest p q below out tt o h r t
+  execute_sound branches labels instr.MemoryCopy vs rest p q below out o h r t =
+      effect_sound branches labels instr.MemoryCopy vs rest p q below out tt o h r t
+  execute_sound branches labels instr.MemoryFill vs rest p q below out o h r t =
+      effect_sound branches labels instr.MemoryFill vs rest p q below out tt o h r t
   execute_sound branches labels (instr.Const v) vs rest p q below out o h r t =
       effect_sound branches labels (instr.Const v) vs rest p q below out tt o h r t
   execute_sound branches labels (instr.Eqz b) vs rest p q below out o h r t =

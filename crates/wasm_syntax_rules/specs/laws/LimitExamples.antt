@@ -1,5 +1,5 @@
 -- Worked examples: calls at the limits of the stack, branches that leave values behind, calls
--- through the table, and memory that grows up to its limit.
+-- through the table, memory that grows up to its limit, and copies and fills up to its end.
 use Rattle.std.specs.Prelude.{◌≡◌, ℕ, ◌^◌, ◌-◌, List, [], ◌∷◌, ◌++◌, length, replicate, Some, None}
 use Rattle.wasm_syntax.specs.declared.types.ValueType.TheVariants.{I32, I64}
 use Rattle.wasm_syntax.specs.declared.value.Value.{Value}
@@ -149,3 +149,32 @@ pub record GrowthExamples (page : List ℕ) : Type 0 where
 -- whatever the page holds
 abbrev pub MemoryGrows : Type 0
 MemoryGrows = (page : List ℕ) → length page ≡ 65536 → GrowthExamples page
+
+-- ---- copies and fills
+
+-- eight bytes, from 1 up to 8
+abbrev pub eight_bytes : List ℕ
+eight_bytes = 1 ∷ 2 ∷ 3 ∷ 4 ∷ 5 ∷ 6 ∷ 7 ∷ 8 ∷ []
+
+-- what an instruction leads to that takes a destination, a source or a value, and a length
+abbrev pub of_three : Instruction → ℕ → ℕ → ℕ → Outcome
+of_three i to second n =
+    rule two_pages (executing (of_bytes eight_bytes) i (v n ∷ v second ∷ v to ∷ []))
+
+abbrev pub leaves_bytes : List ℕ → Outcome
+leaves_bytes bytes = goes_with (of_bytes bytes) []
+
+pub record MoveExamples : Type 0 where
+  -- a copy gives the bytes that the source had before, upward and downward
+  pub upward : of_three instr.MemoryCopy 2 0 6
+      ≡ leaves_bytes (1 ∷ 2 ∷ 1 ∷ 2 ∷ 3 ∷ 4 ∷ 5 ∷ 6 ∷ [])
+  pub downward : of_three instr.MemoryCopy 0 2 6
+      ≡ leaves_bytes (3 ∷ 4 ∷ 5 ∷ 6 ∷ 7 ∷ 8 ∷ 7 ∷ 8 ∷ [])
+  pub none_at_the_end : of_three instr.MemoryCopy 8 8 0 ≡ leaves_bytes eight_bytes
+  pub none_to_beyond_it : of_three instr.MemoryCopy 9 0 0 ≡ Traps trap.MemoryOutOfBounds
+  pub none_from_beyond_it : of_three instr.MemoryCopy 0 9 0 ≡ Traps trap.MemoryOutOfBounds
+  pub sum_does_not_wrap : of_three instr.MemoryCopy 4 0 (2 ^ 32 - 1) ≡ Traps trap.MemoryOutOfBounds
+  -- a fill puts the low byte of its value
+  pub low_byte : of_three instr.MemoryFill 6 0x1ff 2
+      ≡ leaves_bytes (1 ∷ 2 ∷ 3 ∷ 4 ∷ 5 ∷ 6 ∷ 255 ∷ 255 ∷ [])
+  pub filled_beyond : of_three instr.MemoryFill 6 1 3 ≡ Traps trap.MemoryOutOfBounds

@@ -173,6 +173,10 @@ module _ (c : Context) (labels : List (List ValueType)) (p q : List ValueType) w
       (there (slice_get c.memories 0) o.0, o.1.0, o.1.1)
   rule_of_arrow instr.MemoryGrow h = let o = only_of (has_memory c) _ p q h in
       (there (slice_get c.memories 0) o.0, o.1.0, o.1.1)
+  rule_of_arrow instr.MemoryCopy h = let o = only_of (has_memory c) _ p q h in
+      (there (slice_get c.memories 0) o.0, o.1.0, o.1.1)
+  rule_of_arrow instr.MemoryFill h = let o = only_of (has_memory c) _ p q h in
+      (there (slice_get c.memories 0) o.0, o.1.0, o.1.1)
   rule_of_arrow (instr.Const v) h = let o = only_of (is_number v) _ p q h in
       (type_of v, number_of_type v o.0, o.1.0, o.1.1)
   rule_of_arrow (instr.Eqz t) h = h
@@ -231,6 +235,10 @@ module _ (c : Context) (labels : List (List ValueType)) (p q : List ValueType) w
   arrow_of_rule instr.MemorySize h =
       to_only (has_memory c) _ p q (is_there (slice_get c.memories 0) h.0.0 h.0.1) (h.1, h.2)
   arrow_of_rule instr.MemoryGrow h =
+      to_only (has_memory c) _ p q (is_there (slice_get c.memories 0) h.0.0 h.0.1) (h.1, h.2)
+  arrow_of_rule instr.MemoryCopy h =
+      to_only (has_memory c) _ p q (is_there (slice_get c.memories 0) h.0.0 h.0.1) (h.1, h.2)
+  arrow_of_rule instr.MemoryFill h =
       to_only (has_memory c) _ p q (is_there (slice_get c.memories 0) h.0.0 h.0.1) (h.1, h.2)
   arrow_of_rule (instr.Const v) h =
       let n = type_of_number h.0 v h.1 in

@@ -190,6 +190,8 @@ module _ (c : Context) (labels : List (List ValueType)) (p q below : List ValueT
   rule_leads (instr.Store o m) h = rw (h.2, h.3) (fixed_leads _ _ _ _ _ refl)
   rule_leads instr.MemorySize h = rw (h.1, h.2) (fixed_leads _ _ _ _ _ refl)
   rule_leads instr.MemoryGrow h = rw (h.1, h.2) (fixed_leads _ _ _ _ _ refl)
+  rule_leads instr.MemoryCopy h = rw (h.1, h.2) (fixed_leads _ _ _ _ _ refl)
+  rule_leads instr.MemoryFill h = rw (h.1, h.2) (fixed_leads _ _ _ _ _ refl)
   rule_leads (instr.Const v) h =
       rw (h.2, h.3)
       (fixed_leads _ _ _ _ _ (ap (λ t. Some (t ∷ below)) (value_type h.0 v h.1)))

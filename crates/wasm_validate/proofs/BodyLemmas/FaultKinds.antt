@@ -174,6 +174,10 @@ index_fault c labels instr.MemorySize e h =
     none_within c.memories 0 (nothing (slice_get c.memories 0) (unless_index (has_memory c) e)) h
 index_fault c labels instr.MemoryGrow e h =
     none_within c.memories 0 (nothing (slice_get c.memories 0) (unless_index (has_memory c) e)) h
+index_fault c labels instr.MemoryCopy e h =
+    none_within c.memories 0 (nothing (slice_get c.memories 0) (unless_index (has_memory c) e)) h
+index_fault c labels instr.MemoryFill e h =
+    none_within c.memories 0 (nothing (slice_get c.memories 0) (unless_index (has_memory c) e)) h
 index_fault c labels i e h = cc
 
 opcode_index : (c : Context) (i : Instruction) (levels : List Level)
@@ -240,6 +244,8 @@ limit_fault c labels (instr.Store o a) e h =
     (access_limits (has_memory c) (nat_le (2 ^ a.align) (bytes_in (stored_width o))) e) h
 limit_fault c labels instr.MemorySize e h = unless_limits (has_memory c) e
 limit_fault c labels instr.MemoryGrow e h = unless_limits (has_memory c) e
+limit_fault c labels instr.MemoryCopy e h = unless_limits (has_memory c) e
+limit_fault c labels instr.MemoryFill e h = unless_limits (has_memory c) e
 limit_fault c labels i e h = cc
 
 opcode_limits : (c : Context) (i : Instruction) (levels : List Level)

@@ -49,6 +49,8 @@ rule_defined c labels (instr.Load o a) p q h = slice_get_within c.memories 0 h.0
 rule_defined c labels (instr.Store o a) p q h = slice_get_within c.memories 0 h.0.0 h.0.1
 rule_defined c labels instr.MemorySize p q h = slice_get_within c.memories 0 h.0.0 h.0.1
 rule_defined c labels instr.MemoryGrow p q h = slice_get_within c.memories 0 h.0.0 h.0.1
+rule_defined c labels instr.MemoryCopy p q h = slice_get_within c.memories 0 h.0.0 h.0.1
+rule_defined c labels instr.MemoryFill p q h = slice_get_within c.memories 0 h.0.0 h.0.1
 rule_defined c labels i p q h = tt
 
 plain_behind : (i : Instruction) (n : ℕ) → IsPlain i → labels_behind i n ≡ n

@@ -185,6 +185,8 @@ module _ (c more : Context) (labels around : List (List ValueType)) where
   arrow_kept (instr.Store o a) e = access_kept a.align (bytes_in (stored_width o)) _ e
   arrow_kept instr.MemorySize e = memory_kept _ e
   arrow_kept instr.MemoryGrow e = memory_kept _ e
+  arrow_kept instr.MemoryCopy e = memory_kept _ e
+  arrow_kept instr.MemoryFill e = memory_kept _ e
   arrow_kept i e = refl
 
 -- ---- an instruction that is performed has no fault of another kind
@@ -266,6 +268,8 @@ module _ (c : Context) (labels : List (List ValueType)) (l l' : Level) where
       (performed_only (has_memory c && nat_le (2 ^ a.align) (bytes_in (stored_width o))) _ l l' e)
   performed instr.MemorySize e = unless_true (has_memory c) (performed_only (has_memory c) _ l l' e)
   performed instr.MemoryGrow e = unless_true (has_memory c) (performed_only (has_memory c) _ l l' e)
+  performed instr.MemoryCopy e = unless_true (has_memory c) (performed_only (has_memory c) _ l l' e)
+  performed instr.MemoryFill e = unless_true (has_memory c) (performed_only (has_memory c) _ l l' e)
   performed i e = refl
 
 -- ---- a step where there is more

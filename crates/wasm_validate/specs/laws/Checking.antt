@@ -142,6 +142,8 @@ arrow_of c labels (instr.Store o m) =
     ∷ I32 ∷ []) [])
 arrow_of c labels instr.MemorySize = only (has_memory c) (Fixed [] (I32 ∷ []))
 arrow_of c labels instr.MemoryGrow = only (has_memory c) (Fixed (I32 ∷ []) (I32 ∷ []))
+arrow_of c labels instr.MemoryCopy = only (has_memory c) (Fixed (I32 ∷ I32 ∷ I32 ∷ []) [])
+arrow_of c labels instr.MemoryFill = only (has_memory c) (Fixed (I32 ∷ I32 ∷ I32 ∷ []) [])
 arrow_of c labels (instr.Const v) = only (is_number v) (Fixed [] (type_of v ∷ []))
 arrow_of c labels (instr.Eqz t) = Fixed (t ∷ []) (I32 ∷ [])
 arrow_of c labels (instr.Compare t o) = Fixed (t ∷ t ∷ []) (I32 ∷ [])

@@ -50,6 +50,8 @@ fault_of c labels (instr.Store o a) =
     (fault_unless (nat_le (2 ^ a.align) (bytes_in (stored_width o))) Limits Typing)
 fault_of c labels instr.MemorySize = fault_unless (has_memory c) Index Typing
 fault_of c labels instr.MemoryGrow = fault_unless (has_memory c) Index Typing
+fault_of c labels instr.MemoryCopy = fault_unless (has_memory c) Index Typing
+fault_of c labels instr.MemoryFill = fault_unless (has_memory c) Index Typing
 fault_of c labels i = Typing
 
 -- what is told of any opcode that can't follow. Where nothing is open it is `Typing`

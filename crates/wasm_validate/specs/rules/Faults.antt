@@ -45,6 +45,8 @@ HasDefinedIndices c n (instr.Load o a) = IsIndex c.memories 0
 HasDefinedIndices c n (instr.Store o a) = IsIndex c.memories 0
 HasDefinedIndices c n instr.MemorySize = IsIndex c.memories 0
 HasDefinedIndices c n instr.MemoryGrow = IsIndex c.memories 0
+HasDefinedIndices c n instr.MemoryCopy = IsIndex c.memories 0
+HasDefinedIndices c n instr.MemoryFill = IsIndex c.memories 0
 HasDefinedIndices c n i = Unit {0}
 
 -- how many labels are open behind an instruction

@@ -207,6 +207,26 @@ impl Levels {
         self.apply(&[ValueType::I32], &[ValueType::I32])
     }
 
+    pub fn memory_copy(&mut self, scope: &Scope) -> Result<(), ValidFault>
+        ensures { (c : Typing) → IsScopeOf c scope.now
+            → Performs c instr.MemoryCopy result self.old self.new }
+    {
+        if !scope.context.has_memory() {
+            return Err(ValidFault::Index);
+        }
+        self.apply(&[ValueType::I32, ValueType::I32, ValueType::I32], &[])
+    }
+
+    pub fn memory_fill(&mut self, scope: &Scope) -> Result<(), ValidFault>
+        ensures { (c : Typing) → IsScopeOf c scope.now
+            → Performs c instr.MemoryFill result self.old self.new }
+    {
+        if !scope.context.has_memory() {
+            return Err(ValidFault::Index);
+        }
+        self.apply(&[ValueType::I32, ValueType::I32, ValueType::I32], &[])
+    }
+
     pub fn constant(&mut self, value: Value) -> Result<(), ValidFault>
         ensures { (c : Typing) → Performs c (instr.Const value) result self.old self.new }
     {

@@ -73,5 +73,9 @@ pub fn converted_types(operator: Conversion) -> (ValueType, ValueType)
     match operator {
         Conversion::I32WrapI64 => (ValueType::I64, ValueType::I32),
         Conversion::I64ExtendI32S | Conversion::I64ExtendI32U => (ValueType::I32, ValueType::I64),
+        Conversion::I32Extend8S | Conversion::I32Extend16S => (ValueType::I32, ValueType::I32),
+        Conversion::I64Extend8S | Conversion::I64Extend16S | Conversion::I64Extend32S => {
+            (ValueType::I64, ValueType::I64)
+        }
     }
 }

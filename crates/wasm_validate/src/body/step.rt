@@ -33,6 +33,8 @@ impl Levels {
             Instruction::Store { operator, argument } => self.store(scope, *operator, *argument),
             Instruction::MemorySize => self.memory_size(scope),
             Instruction::MemoryGrow => self.memory_grow(scope),
+            Instruction::MemoryCopy => self.memory_copy(scope),
+            Instruction::MemoryFill => self.memory_fill(scope),
             Instruction::Const { value } => self.constant(*value),
             Instruction::Eqz { value_type } => self.apply(&[*value_type], &[I32]),
             Instruction::Compare { value_type, .. } => {

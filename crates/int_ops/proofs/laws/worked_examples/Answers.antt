@@ -47,4 +47,9 @@ returns c = record {
   wrap = refl;
   extend_s = refl;
   extend_u = refl;
+  extend_8_keeps_the_sign = refl;
+  extend_8_without_one = refl;
+  extend_16 = refl;
+  extend_16_to_64 = refl;
+  extend_32 = refl;
 }

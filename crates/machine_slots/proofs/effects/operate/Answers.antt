@@ -1,6 +1,7 @@
 use Rattle.machine_slots.proofs.Families.{load_shown, store_shown, binary_shown, select_shown}
 use Rattle.machine_slots.proofs.Families.{local_get_shown, local_set_shown, local_tee_shown}
 use Rattle.machine_slots.proofs.Families.{global_get_shown, global_set_shown, memory_grow_shown}
+use Rattle.machine_slots.proofs.Families.{copy_shown, fill_shown}
 use Rattle.machine_slots.proofs.Outcomes.{comes}
 use Rattle.machine_slots.proofs.effects.operate.Goals as goal
 
@@ -80,6 +81,26 @@ returns-in-GlobalSet c =
           global_set_shown program store below callers _ _ _ _ _ ls vs _ _ r
           c.global_set.ensures.slots c.global_set.ensures.globals,
     )
+
+pub returns-in-MemoryCopy : goal.returns-in-MemoryCopy
+returns-in-MemoryCopy c =
+    rw (
+      c.outcome_of-in-MemoryCopy.ensures,
+      c.in-MemoryCopy.is,
+    ) (comes _ _ _ _ _ c.memory_copy.result _ _ _ tt
+    (λ program store ls vs below callers r.
+    copy_shown program store below callers _ _ _ _ ls vs _ _ _ r c.memory_copy.ensures.slots
+    c.memory_copy.ensures.memory))
+
+pub returns-in-MemoryFill : goal.returns-in-MemoryFill
+returns-in-MemoryFill c =
+    rw (
+      c.outcome_of-in-MemoryFill.ensures,
+      c.in-MemoryFill.is,
+    ) (comes _ _ _ _ _ c.memory_fill.result _ _ _ tt
+    (λ program store ls vs below callers r.
+    fill_shown program store below callers _ _ _ _ ls vs _ _ _ r c.memory_fill.ensures.slots
+    c.memory_fill.ensures.memory))
 
 pub returns-in-MemoryGrow : goal.returns-in-MemoryGrow
 returns-in-MemoryGrow c =

@@ -42,6 +42,8 @@ returns-in_default c = λ c' scope kind.
     told c' (instr.Store o a) e kind = absurd kind
     told c' instr.MemorySize e kind = absurd kind
     told c' instr.MemoryGrow e kind = absurd kind
+    told c' instr.MemoryCopy e kind = absurd kind
+    told c' instr.MemoryFill e kind = absurd kind
     told c' _ e kind = refl
 
     refused : (c' : Context) (i : Instruction) → c.args.instruction.now ≡ i → IsTransfer i
