@@ -5,10 +5,10 @@ the module and the image are accepted: those two rows of the table are left to t
 """
 import hashlib
 import struct
-from dataclasses import dataclass
+from dataclasses import dataclass, field
 
 from disk_form import (
-    AREA, AREA_PER_UNIT, END, MONOTONIC, PAYLOAD, RANDOM, REALTIME, SECTOR, sectors)
+    AREA, AREA_PER_UNIT, END, MONOTONIC, PAYLOAD, RANDOM, REALTIME, SECTOR, dumped_disks, sectors)
 
 # The ranges of a configuration's numbers, and the most texts of a list and bytes of a text.
 RANGES = [range(1, 257), range(1, 65), range(64, 65_537)]
@@ -16,6 +16,10 @@ TEXTS, TEXT = 64, 1_024
 
 # The longest payload of a record, and the bytes before it.
 PAYLOAD_OF_RECORD, BEFORE_PAYLOAD = 4_096, 11
+
+
+# What `show` prints.
+SHOWN = b"generation %d steps %d answers %d lines %d records %d\n"
 
 
 class Refused(Exception):
@@ -41,7 +45,7 @@ class Judged:
     generation: int = 0
     steps: int = 0
     lines: int = 0
-    records: int = 0
+    records: list = field(default_factory=list)
     shown: bytes = b""
 
 
@@ -106,16 +110,17 @@ def scanned(journal, generation):
 
 
 def records(data):
-    """How many records some bytes have, up to the first that is none."""
-    place, count = 0, 0
+    """The records of some bytes up to the first that is none: step, kind and payload of each."""
+    place, found = 0, []
     while place + BEFORE_PAYLOAD <= len(data):
-        kind, _, length = struct.unpack_from("<BQH", data, place)
+        kind, step, length = struct.unpack_from("<BQH", data, place)
         lengths = {END: [0], REALTIME: [8], MONOTONIC: [8]}.get(kind, range(PAYLOAD_OF_RECORD + 1))
-        place += BEFORE_PAYLOAD + length
-        if not 1 <= kind <= RANDOM or length not in lengths or place > len(data):
+        payload = data[place + BEFORE_PAYLOAD :][:length]
+        if not 1 <= kind <= RANDOM or length not in lengths or len(payload) < length:
             break
-        count += 1
-    return count
+        place += BEFORE_PAYLOAD + length
+        found.append((step, kind, payload))
+    return found
 
 
 def judge(disk, found):
@@ -158,6 +163,11 @@ def judged(disk):
         return found
     if len(found.image) >= 40:
         found.steps, answers, _, found.lines = struct.unpack_from("<4Q", found.image, 8)
-        row = found.generation, found.steps, answers, found.lines, found.records
-        found.shown = b"generation %d steps %d answers %d lines %d records %d\n" % row
+        row = found.generation, found.steps, answers, found.lines, len(found.records)
+        found.shown = SHOWN % row
     return found
+
+
+# The two disks that docs/FORMATS.md has in hex.
+for _disk, _counts in zip(dumped_disks(), [(1, 0, 0, 0, 0), (3, 27, 1, 1, 0)], strict=True):
+    assert judged(_disk).shown == SHOWN % _counts, "a disk of docs/FORMATS.md is read wrongly"

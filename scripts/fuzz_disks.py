@@ -6,7 +6,7 @@ import struct
 import disk_form as form
 import disk_reader
 from disk_form import SECTOR, Form, padded, record, sectors
-from fuzz_modules import EDGES, Module, mangled
+from fuzz_modules import EDGES, mangled
 
 # Fields of a super and of a head: where they begin, and how many bytes they have.
 SUPER = [(0, 8), *((at, 4) for at in range(8, 32, 4)), (32, 32), (504, 8)]
@@ -94,7 +94,8 @@ class Worker:
         found = disk_reader.judged(disk)
         assert found.fault is None, f"{name}: {found.fault}"
         self.contents, self.generation, self.steps = found.contents, found.generation, found.steps
-        self.image, self.places = found.image, ImagePlaces(found.image)
+        self.records, self.image = found.records, found.image
+        self.places = ImagePlaces(found.image)
         # The digests of images that are accepted.
         self.images = {self.digest(area) for area in (0, 1) if disk_reader.head(disk, area)}
 
@@ -269,15 +270,19 @@ class DiskMutator:
                 written(rng, disk, at + begin, length)
 
     def records(self, rng, worker, disk):
-        """Writes a journal of records, most of which the guest asks for."""
-        data, step = b"", worker.steps
-        for _ in range(rng.choice([1, 2, 3, 60])):
-            kind = rng.choice([1, 1, 1, 1, 2, 3, 4, 5, 0, 6])
-            text = b"" if kind == 2 else rng.randbytes(8) if kind in (3, 4) else rng.choice(
-                [b"", b"a", b"list", rng.randbytes(5), b"x" * 600, b"y" * 4_096, b"z" * 4_097])
-            step = rng.choice([step, step, step, step, rng.choice(EDGES)])
-            step = (step + rng.choice([6, 22, 22, 0, 1])) % (1 << 64)
-            data += record(step, kind, text)
+        """Writes a journal of other records: those of the worker with a change or with more after
+        them, or new ones, at steps in which a guest may ask."""
+        found, step = list(worker.records), worker.steps
+        if found and rng.random() < 0.5:
+            place = rng.randrange(len(found))
+            step, kind, payload = found[place]
+            found[place] = rng.choice([
+                (step, kind, rng.randbytes(len(payload))), some_record(rng, step),
+                (step + rng.choice([-1, 1]), kind, payload), (rng.choice(EDGES), kind, payload)])
+        for _ in range(rng.choice([0, 1, 3, 60])):
+            step += rng.choice([6, 22, 22, 22, 0, 1])
+            found.append(some_record(rng, step))
+        data = b"".join(record(step % (1 << 64), kind, payload) for step, kind, payload in found)
         cut = rng.choice([form.PAYLOAD, form.PAYLOAD, 100])
         for place, at in enumerate(range(0, min(len(data), 64 * cut), cut), 1):
             worker.form.keep(disk, worker.generation, place, data[at : at + cut])
@@ -289,6 +294,14 @@ class DiskMutator:
         end = max(rng.choice(ends) + rng.choice([0, 0, -1, 1, SECTOR]), 0)
         del disk[end:]
         disk.extend(bytes(min(end, len(worker.disk) + SECTOR) - len(disk)))
+
+
+def some_record(rng, step):
+    """A record of a step: of a request mostly."""
+    kind = rng.choice([1, 1, 1, 1, 2, 3, 4, 5, 0, 6])
+    texts = [b"", b"a", b"list", rng.randbytes(5), b"x" * 600, b"y" * 4_096, b"z" * 4_097]
+    payload = b"" if kind == 2 else rng.randbytes(8) if kind in (3, 4) else rng.choice(texts)
+    return step, kind, payload
 
 
 def with_contents(worker, disk, configuration, module):

@@ -200,7 +200,7 @@ class Mutator:
         self.modules, self.weights = modules, [it.weight for it in modules]
         self.coded = [it for module in modules for it in module.sections if it.places.codes]
         # Those that mostly keep a module's form come more often.
-        self.acts = [self.bytes, self.order, self.size, *[self.section] * 3, *[self.code] * 4]
+        self.acts = [self.bytes, self.order, self.size, *[self.section] * 4, *[self.code] * 6]
 
     def number(self, rng, section):
         """A section with another number, or another form of one."""
@@ -342,7 +342,7 @@ class Mutator:
         """Some module, and its bytes after a change or several."""
         module, = rng.choices(self.modules, self.weights)
         data = rng.choice(self.acts)(rng, module)
-        if rng.random() < 0.1:
+        if rng.random() < 0.05:
             data = mangled(rng, data, rng.choice(self.modules).data)
         return module, data
 

@@ -7,8 +7,8 @@ from disk_form import read
 ROW = re.compile(r"^\| (`.*`) \| (\d) \|", re.MULTILINE)
 FAULT = re.compile(r"`([A-Z]\d \w+)`")
 
-# Letters of the faults of a module, and of those of what lies on a disk.
-OF_MODULES, OF_DISKS = b"BVL", b"YSI"
+# The letters of the faults of a module.
+OF_MODULES = b"BVL"
 
 
 def named_faults():
