@@ -95,7 +95,6 @@ PASTS = [
     Past("notebook.wasm", (NOTES,), 3), Past("notebook.wasm", (NOTES + NO_REQUEST,), 3),
     Past("total-c.wasm", (request_lines([b"5", b"7"]) + NO_REQUEST,), 2),
     Past("draw.wasm", (NO_ROOM,), 2, (b"red", b"blue")),
-    Past("sort.wasm", (), 1, (b"3",)),
 ]
 
 

@@ -11,7 +11,7 @@ import time
 from dataclasses import dataclass
 
 # How long a command may take, and how often the clock is looked at, in seconds.
-LIMIT, TICK = 60.0, 0.1
+LIMIT, TICK = 60.0, 0.05
 
 # Where the input of a command comes from that is given none.
 NOTHING = "/dev/null"
