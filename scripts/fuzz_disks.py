@@ -86,7 +86,7 @@ class ImagePlaces(disk_reader.Reader):
 
 
 class Worker:
-    """A worker on a disk, and the file of the requests that it is given."""
+    """A worker on a disk, and files of requests that it may be given, with what they hold."""
 
     def __init__(self, name, module, disk_form, disk, given):
         self.name, self.module, self.form = name, module, disk_form

@@ -121,12 +121,13 @@ def built(program, folder, past, module):
 
 
 def workers(program, folder, of_name):
-    """The workers whose disks are changed, each with the files of its requests."""
-    given = []
-    for number, texts in enumerate([REQUESTS, [*REQUESTS, None]]):
-        given.append(os.path.join(folder, f"requests {number}"))
-        with open(given[-1], "wb") as file:
-            file.write(request_lines(texts))
+    """The workers whose disks are changed, each with files of requests."""
+    given = {}
+    for name, texts in [("requests", REQUESTS), ("all requests", [*REQUESTS, None])]:
+        given[os.path.join(folder, name)] = request_lines(texts)
+    for path, lines in given.items():
+        with open(path, "wb") as file:
+            file.write(lines)
     for past in PASTS:
         module = of_name[past.name]
         form, data = built(program, folder, past, module.data)
