@@ -24,4 +24,5 @@ mod GoingLemmas
 mod RunLemmas
 pub mod StopLemmas
 mod FoundDiskLemmas
+pub mod WantLemmas
 mod AnswerLemmas

@@ -26,8 +26,11 @@
 //! - `read_survey`: nothing is written. The disk is synced, and what it then shows decides the
 //!   result (`Surveys`). Where it stands for a worker, its generation and the numbers of the saved
 //!   process are told, and how many records lie behind it; or an error that says nothing of them.
+//! - A recovery's error is that of the layer that has found it, under its own name
+//!   (`RecoverFault`). Want of memory may end a recovery anywhere, and then it says only what the
+//!   layers before have found (`shown`).
 //! - `carries` speaks of a disk whose answers fit an image in the end: of another one nothing is
-//!   known. Want of memory may end a recovery anywhere.
+//!   known.
 //! - `Worker::slice` runs as `ephemeral_worker: EphemeralWorker::slice` does (`done`). Whatever was
 //!   promised of the worker that is open on its disk is kept (`carries`). For its exchanges, and
 //!   its end by Ok or by any error, are events that keep it. A cut at any moment leaves what holds
@@ -71,7 +74,8 @@
 //! `SlicesOnDiskInVain`, `IsDiskCause`, `HasSliceCause` (`DurableFailures.antt`); `SliceCalls`
 //! (`SliceCalls.antt`); `CheckpointCalls`, `CheckpointFails`, `HasCheckpointCause`
 //! (`Checkpoints.antt`); `CountsInSlice`, `CountsInRecovery` (`Unsynced.antt`); `fault_of_store`
-//! (`WorkFaults.antt`); `fault_of_restore`, `fault_of_replay` (`RecoverFaults.antt`);
+//! (`WorkFaults.antt`); `fault_of_read`, `wants_memory`, `LayerWantsMemory`, `IsOfItsLayer`
+//! (`RecoverFaults.antt`);
 //! `most_calls`, `CallsForEvents` (`CallCounts.antt`); `inputs_of` (`Planned.antt`), `TellsLives`
 //! (`StoryDisks.antt`). They speak in the words of `worker_rules` and `worker_store`.
 //!
