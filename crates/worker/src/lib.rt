@@ -41,9 +41,11 @@
 //! - By Ok and by any error, a slice asks the disk for barriers and saves alone. The generation is
 //!   one more by each save that has succeeded, and by nothing else (`calls`). How much was replayed
 //!   stays (`replayed`), and the disk has room for the next call (`room`).
-//! - `Worker::checkpoint` keeps it too (`carries`), and after its Ok no later life comes
-//!   behind it (`saved`). Its calls of the disk are told (`calls`), and each error has its cause
-//!   (`cause`). After an error the generation is as it was (`unsaved`).
+//! - `Worker::checkpoint` is a barrier, the release of each line that waits, and a commit. No line
+//!   waits between two calls, so it releases none (`quiet`). It keeps what was promised too
+//!   (`carries`), and after its Ok no later life comes behind it (`saved`). Its calls of the disk
+//!   are told (`calls`), and each error has its cause (`cause`). After an error the generation is
+//!   as it was (`unsaved`).
 //! - Whatever stands on the disk, a slice, a checkpoint and a recovery answer a fault of the disk
 //!   only for its cause, and `Failed` only of a worker that had failed before (`on_any_disk`).
 //! - At no moment of a slice, a checkpoint or a recovery are there more unsynced writes than before
