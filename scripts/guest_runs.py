@@ -11,8 +11,9 @@ HERE = os.path.dirname(os.path.abspath(__file__))
 PROGRAM = os.path.join(HERE, "..", "crates", "wasmhost", "out", "wasmhost")
 EXAMPLES = os.path.join(HERE, "..", "examples")
 
-# How a run ends that has no memory: its exit status, and its last words.
-NO_MEMORY, WANT_OF_MEMORY = 5, re.compile(rb"failed [A-Z][0-9] Memory\n")
+# How a run ends that has no memory: its exit status, and its last words. They name the layer of the
+# recovery that wants memory, or a call of the worker (N4).
+NO_MEMORY, WANT_OF_MEMORY = 5, re.compile(rb"failed ([A-Z][0-9]) Memory\n")
 
 # How long one run may take.
 SECONDS = 60
@@ -73,9 +74,15 @@ def ended(words, given=b"", seconds=SECONDS, **environment):
     return ran.returncode, ran.stdout, ran.stderr
 
 
+def wanting(found):
+    """The name under which a command has ended in its own want of memory, or none."""
+    words = WANT_OF_MEMORY.fullmatch(found[2]) if found[0] == NO_MEMORY else None
+    return words and words[1]
+
+
 def wants_memory(found):
     """Whether a command has ended in its own want of memory."""
-    return found[0] == NO_MEMORY and WANT_OF_MEMORY.fullmatch(found[2]) is not None
+    return wanting(found) is not None
 
 
 def whole_run(program, disk, module, creating=(), running=(), given=b"", seconds=SECONDS):
@@ -99,7 +106,7 @@ class Run:
     def __init__(self, name, program, folder, module, requests, right, outside=None):
         self.name, self.program, self.right = name, program, right
         self.disk, self.words = os.path.join(folder, f"{name}.disk"), life_words(outside)
-        self.given = request_lines(requests)
+        self.given, self.wants = request_lines(requests), {}
         self.made = ended([program, "create", self.disk, module, *creation_words(outside)])
 
     def ran(self, disk, **environment):
@@ -147,6 +154,8 @@ class Run:
     def fault_on(self, disk, library, number, goes_on):
         """What is wrong where an allocation is refused on a disk, or none."""
         found = self.ran(disk, LD_PRELOAD=library, REFUSED_ALLOCATION=str(number))
+        if wants_memory(found):
+            self.wants[number] = wanting(found)
         status, output, words = found
         is_part = self.right[1].startswith(output) and output[-1:] in (b"", b"\n")
         if found != self.right and not (wants_memory(found) and is_part):
@@ -164,6 +173,11 @@ class Run:
         """Whether two outputs together are the right lines, of which the second may repeat some."""
         ends = [0, *(place + 1 for place, byte in enumerate(output) if byte == ord("\n"))]
         return any(output[:end] + more == self.right[1] for end in ends)
+
+
+def in_order(wants):
+    """The names of those that wanted memory, by the numbers of the refused allocations."""
+    return list(dict.fromkeys(wants[number] for number in sorted(wants)))
 
 
 def built_library(folder):

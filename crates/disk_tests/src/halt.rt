@@ -1,11 +1,12 @@
 //! Why a test of lives has nothing to compare: one name for each want of memory.
 
 use disk_layout::LayoutFault;
+use record_replay::ReplayFault;
 use sector_disk::DiskFault;
 use std::alloc::{AllocError, AllocFailed};
 use wasi_abi::ConfigFault;
 use worker::story::StoryFault;
-use worker::{RecoverFault, SliceFault, StoreFault, WorkFault};
+use worker::{RecoverFault, SliceFault, WorkFault};
 
 /// Want of memory, wherever it is found, or what else a step refuses.
 #[derive(Clone, Copy, Debug, PartialEq, Eq)]
@@ -20,9 +21,7 @@ pub(crate) enum Halt {
 }
 
 /// No worker was ever made on the disk.
-pub(crate) const NO_WORKER: Halt = Halt::Work(WorkFault::Store(StoreFault::Layout(
-    LayoutFault::NotAWorker,
-)));
+pub(crate) const NO_WORKER: Halt = Halt::Recovery(RecoverFault::Layout(LayoutFault::NotAWorker));
 
 impl From<AllocError> for Halt {
     fn from(_error: AllocError) -> Halt {
@@ -51,7 +50,7 @@ impl From<DiskFault> for Halt {
     }
 }
 
-/// The outlet of the lives fails for want of memory alone.
+/// The outlet of the lives fails for want of memory alone, here and in a replay.
 impl From<WorkFault> for Halt {
     fn from(fault: WorkFault) -> Halt {
         match fault {
@@ -65,7 +64,14 @@ impl From<RecoverFault> for Halt {
     fn from(fault: RecoverFault) -> Halt {
         match fault {
             RecoverFault::Worker(fault) => Halt::from(fault),
-            RecoverFault::NotAnImage | RecoverFault::Diverged => Halt::Recovery(fault),
+            RecoverFault::Replay(ReplayFault::Outlet) => Halt::Memory,
+            _ => {
+                if fault.is_want_of_memory() {
+                    Halt::Memory
+                } else {
+                    Halt::Recovery(fault)
+                }
+            }
         }
     }
 }

@@ -204,12 +204,26 @@ fn status_in(
     Ok(status)
 }
 
+/// What is said where memory is wanted: by a call, by a story, and by each layer of a recovery.
+static WANTS: [&[u8]; 10] = [
+    b"failed N4 Memory\n\0",
+    b"failed G1 Memory\n\0",
+    b"failed Y5 Memory\n\0",
+    b"failed B4 Memory\n\0",
+    b"failed V5 Memory\n\0",
+    b"failed L7 Memory\n\0",
+    b"failed S4 Memory\n\0",
+    b"failed I2 Memory\n\0",
+    b"failed J4 Memory\n\0",
+    b"failed Q2 Memory\n\0",
+];
+
 /// What a command has come to that isn't done, by its status and its words.
 pub(crate) fn refused_by(status: u8, words: &[u8]) -> Refused {
-    let is_named = words.starts_with(b"failed N4 Memory\n\0")
-        || words.starts_with(b"failed G1 Memory\n\0");
-    if status == 5 && is_named {
-        return Refused::Memory;
+    for want in &WANTS {
+        if status == 5 && words.starts_with(want) {
+            return Refused::Memory;
+        }
     }
     Refused::Otherwise
 }

@@ -82,18 +82,23 @@ fn run<D: Disk>(
     let mut source = AnswerList::new(answers);
     let mut told = LineList::new(alloc);
     match worker.slice(disk, course.fuel, &mut source, &mut told) {
-        Ok(_now) => save(worker, disk, course.is_saved),
+        Ok(_now) => save(worker, disk, &mut told, course.is_saved),
         Err(fault) => Err(Fail::from(fault)),
     }
 }
 
-fn save<D: Disk>(worker: &mut Worker, disk: &mut D, is_saved: bool) -> Result<(), Fail>
+fn save<D: Disk>(
+    worker: &mut Worker,
+    disk: &mut D,
+    told: &mut LineList,
+    is_saved: bool,
+) -> Result<(), Fail>
     requires { total_sectors worker.old.store.geometry ≤ (D.medium disk.old).sectors }
 {
     if !is_saved {
         return Ok(());
     }
-    match worker.checkpoint(disk) {
+    match worker.checkpoint(disk, told) {
         Ok(()) => Ok(()),
         Err(fault) => Err(Fail::from(fault)),
     }

@@ -1,12 +1,13 @@
 -- From what a run on a disk does to the cause of its exit status.
 use Rattle.std.proofs.Common.{◌≡◌, ◌⊎◌, inl, inr, ℕ, ◌+◌, ◌<◌, Bool, true, List, [], ◌∷◌}
 use Rattle.std.proofs.Common.{length, Some, Ok, Err, refl, sym, ap, ◌∙◌, subst, arith}
-use Rattle.std.specs.Prelude.{Option, Result}
+use Rattle.std.specs.Prelude.{Option, Result, false, if◌then◌else◌}
 use Rattle.std.specs.List.{AllByRecursion}
 use Rattle.wasi_abi.specs.declared.answer.Kind.{Kind}
 use Rattle.wasi_abi.specs.declared.answer.Kind.TheVariants as kinds
 use Rattle.sector_disk.specs.rules.Medium.{Medium}
 use Rattle.sector_disk.specs.declared.fault.DiskFault.TheVariants as disk
+use Rattle.record_replay.specs.declared.fault.ReplayFault.TheVariants as replay
 use Rattle.record_replay.specs.rules.Calls.{Taking, Ask, AnswersInOrder}
 use Rattle.ephemeral_worker.specs.declared.fault.SliceFault.TheVariants as slice
 use Rattle.ephemeral_worker.specs.rules.Slices.{handed}
@@ -16,6 +17,7 @@ use Rattle.worker.specs.declared.recover_fault.RecoverFault.{RecoverFault}
 use Rattle.worker.specs.declared.recover_fault.RecoverFault.TheVariants as recover
 use Rattle.worker.specs.rules.LifeWords.{Act}
 use Rattle.worker.specs.rules.Outlets.{IsOutletFault}
+use Rattle.worker.specs.rules.RecoverFaults.{wants_memory}
 use Rattle.wasmhost_serve.specs.declared.lines.fault.LineFault.{LineFault}
 use Rattle.wasmhost_serve.specs.declared.lines.fault.LineFault.TheVariants as line
 use Rattle.wasmhost_serve.specs.declared.on_disk.fault.OnDiskFault.{OnDiskFault}
@@ -272,13 +274,25 @@ module _ {D O : Type 0} (medium : D → Medium) (takes : Taking O) where
         known = inr (omega arith, omega arith);
       }
 
+      -- what stands on the disk is refused, or a layer wants memory
+      refused_or : (why : RecoverFault) → (want : Bool) → wants_memory why ≡ want
+          → (wants_memory why ≡ true → Fails IsWanting IsOfMemory)
+          → (wants_memory why ≡ false → Fails IsStuck IsAtItsEnd) → IsSteady
+          → Says (if want then 5 else 3)
+      refused_or why true is wants refuses steady = five (inl (wants is))
+      refused_or why false is wants refuses steady = three (refuses is) steady
+
       -- a fault of the recovery
       by_opening : (why : RecoverFault)
           → ((IsOfOpening : RecoverFault → Type 0) (IsOfCall : WorkFault → Type 0)
           → IsOfOpening why → Fails IsOfOpening IsOfCall) → IsSteady
           → Says (status_on_disk (told_of_opening why))
-      by_opening recover.NotAnImage f steady = three (f IsStuck IsAtItsEnd tt) steady
-      by_opening recover.Diverged f steady = three (f IsStuck IsAtItsEnd tt) steady
+      by_opening (recover.Replay replay.Diverged) f steady =
+          three (f IsStuck IsAtItsEnd tt) steady
+      by_opening (recover.Replay replay.Memory) f steady =
+          five (inl (f IsWanting IsOfMemory refl))
+      by_opening (recover.Replay replay.Outlet) f steady =
+          seven (inl (f IsOutletFault IsOfOutlet tt))
       by_opening (recover.Worker (work.Store why)) f steady =
           three (f IsStuck IsAtItsEnd tt) steady
       by_opening (recover.Worker (work.Disk disk.Memory)) f steady =
@@ -294,11 +308,26 @@ module _ {D O : Type 0} (medium : D → Medium) (takes : Taking O) where
       by_opening (recover.Worker (work.Work slice.Failed)) f steady =
           four (inl (f IsFailing IsUnanswering tt))
       by_opening (recover.Worker (work.Work slice.Memory)) f steady =
-          five (inl (f IsWanting IsOfMemory tt))
+          five (inl (f IsWanting IsOfMemory refl))
       by_opening (recover.Worker (work.Work slice.Outlet)) f steady =
           seven (inl (f IsOutletFault IsOfOutlet tt))
       by_opening (recover.Worker (work.Work (slice.Refused why))) f steady =
           three (f IsStuck IsAtItsEnd tt) steady
+      by_opening (recover.Layout why) f steady =
+          refused_or (recover.Layout why) (wants_memory (recover.Layout why)) refl
+          (λ is. f IsWanting IsOfMemory is) (λ is. f IsStuck IsAtItsEnd is) steady
+      by_opening (recover.Front why) f steady =
+          refused_or (recover.Front why) (wants_memory (recover.Front why)) refl
+          (λ is. f IsWanting IsOfMemory is) (λ is. f IsStuck IsAtItsEnd is) steady
+      by_opening (recover.Snapshot why) f steady =
+          refused_or (recover.Snapshot why) (wants_memory (recover.Snapshot why)) refl
+          (λ is. f IsWanting IsOfMemory is) (λ is. f IsStuck IsAtItsEnd is) steady
+      by_opening (recover.Image why) f steady =
+          refused_or (recover.Image why) (wants_memory (recover.Image why)) refl
+          (λ is. f IsWanting IsOfMemory is) (λ is. f IsStuck IsAtItsEnd is) steady
+      by_opening (recover.Journal why) f steady =
+          refused_or (recover.Journal why) (wants_memory (recover.Journal why)) refl
+          (λ is. f IsWanting IsOfMemory is) (λ is. f IsStuck IsAtItsEnd is) steady
 
       -- one of a call
       by_calling : (why : WorkFault)

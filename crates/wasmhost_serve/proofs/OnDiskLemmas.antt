@@ -2,11 +2,12 @@
 use Rattle.std.proofs.Common.{◌≡◌, ◌≢◌, inl, inr, ℕ, Bool, List, Option, None}
 use Rattle.std.proofs.Common.{Ok, Err}
 use Rattle.std.proofs.Common.{refl, sym, ap, ◌∙◌, subst, ◌≤◌, lit≤}
-use Rattle.std.specs.Prelude.{Result, IfOk}
+use Rattle.std.specs.Prelude.{Result, IfOk, true, false, if◌then◌else◌}
 use Rattle.std.proofs.lemmas.Result.{IfErr-weaker}
 use Rattle.sector_disk.specs.declared.fault.DiskFault.{DiskFault}
 use Rattle.sector_disk.specs.declared.fault.DiskFault.TheVariants as disk
 use Rattle.sector_disk.specs.rules.Medium.{Medium}
+use Rattle.record_replay.specs.declared.fault.ReplayFault.TheVariants as replay
 use Rattle.record_replay.specs.rules.Calls.{Taking, AnswersInOrder}
 use Rattle.ephemeral_worker.specs.declared.fault.SliceFault.TheVariants as slice
 use Rattle.ephemeral_worker.specs.declared.now.Now.{Now}
@@ -17,6 +18,7 @@ use Rattle.worker.specs.declared.recover_fault.RecoverFault.{RecoverFault}
 use Rattle.worker.specs.declared.recover_fault.RecoverFault.TheVariants as recover
 use Rattle.worker.specs.rules.DurableValues.{DurableValue}
 use Rattle.worker.specs.rules.Outlets.{HeedsOutlet, IsOutletFault, SaysOutletFault}
+use Rattle.worker.specs.rules.RecoverFaults.{wants_memory}
 use Rattle.worker.specs.rules.Recoveries.{IsNoWorker, Recovers, RecoveryCarries}
 use Rattle.worker.proofs.OutletLemmas.{heeds_on, each_taken}
 use Rattle.worker.specs.laws.OneLife.{recovered, opened, unopened}
@@ -31,6 +33,7 @@ use Rattle.wasmhost_serve.specs.Livings.{BreaksOffAt}
 use Rattle.wasmhost_serve.specs.rules.BrokenLives.{BreaksOffFrom, steps_among}
 use Rattle.wasmhost_serve.specs.rules.DiskStatuses.{IsToldOnDisk, told_of_opening, status_on_disk}
 use Rattle.wasmhost_serve.specs.rules.DiskStatuses.{status_of_disk, status_of_call}
+use Rattle.wasmhost_serve.specs.rules.DiskStatuses.{status_of_recovery}
 use Rattle.wasmhost_serve.specs.rules.Statuses.{status_of_line}
 use Rattle.wasmhost_serve.specs.rules.LastWords.{ended_by, last_words}
 use Rattle.worker.specs.laws.Outcomes.{outcome_after}
@@ -247,12 +250,24 @@ few_of_line line.Memory = lit≤ tt
 few_of_line (line.Number given wanted) = lit≤ tt
 few_of_line line.Form = lit≤ tt
 
-few_on_disk : (told : OnDiskFault) → status_on_disk told ≤ 7
+few_by_want : (want : Bool) → (if want then 5 else 3) ≤ 7
+few_by_want true = lit≤ tt
+few_by_want false = lit≤ tt
+
+few_of_recovery : (fault : RecoverFault) → status_of_recovery fault ≤ 7
+few_of_recovery (recover.Worker fault) = few_of_call fault
+few_of_recovery (recover.Replay replay.Diverged) = lit≤ tt
+few_of_recovery (recover.Replay replay.Memory) = lit≤ tt
+few_of_recovery (recover.Replay replay.Outlet) = lit≤ tt
+few_of_recovery (recover.Layout why) = few_by_want (wants_memory (recover.Layout why))
+few_of_recovery (recover.Front why) = few_by_want (wants_memory (recover.Front why))
+few_of_recovery (recover.Snapshot why) = few_by_want (wants_memory (recover.Snapshot why))
+few_of_recovery (recover.Image why) = few_by_want (wants_memory (recover.Image why))
+few_of_recovery (recover.Journal why) = few_by_want (wants_memory (recover.Journal why))
+
+pub few_on_disk : (told : OnDiskFault) → status_on_disk told ≤ 7
 few_on_disk (is_told.Disk fault) = few_of_disk fault
-few_on_disk is_told.Replay = lit≤ tt
-few_on_disk (is_told.Recovery (recover.Worker fault)) = few_of_call fault
-few_on_disk (is_told.Recovery recover.NotAnImage) = lit≤ tt
-few_on_disk (is_told.Recovery recover.Diverged) = lit≤ tt
+few_on_disk (is_told.Recovery fault) = few_of_recovery fault
 few_on_disk (is_told.Call fault) = few_of_call fault
 few_on_disk (is_told.Line fault) = few_of_line fault
 

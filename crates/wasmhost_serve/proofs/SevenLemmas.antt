@@ -1,11 +1,12 @@
 -- When the status of a run is 7.
 use Rattle.std.proofs.Common.{◌≡◌, ◌≢◌, ◌⊎◌, inl, inr, ℕ, Bool, true, false, List, [], ◌∷◌, Some}
 use Rattle.std.proofs.Common.{Ok, Err, refl, sym, ap, ◌∙◌, subst, arith}
-use Rattle.std.specs.Prelude.{Option, Result}
+use Rattle.std.specs.Prelude.{Option, Result, if◌then◌else◌}
 use Rattle.std.specs.List.{AllByRecursion}
 use Rattle.sector_disk.specs.declared.fault.DiskFault.TheVariants as disk
 use Rattle.sector_disk.specs.rules.Medium.{Medium}
 use Rattle.record_replay.specs.declared.fault.OutletFault.{OutletFault}
+use Rattle.record_replay.specs.declared.fault.ReplayFault.TheVariants as replay
 use Rattle.record_replay.specs.rules.Calls.{Taking, Begun, Releases}
 use Rattle.ephemeral_worker.specs.declared.fault.SliceFault.TheVariants as slice
 use Rattle.worker.specs.declared.fault.WorkFault.{WorkFault}
@@ -13,6 +14,7 @@ use Rattle.worker.specs.declared.fault.WorkFault.TheVariants as work
 use Rattle.worker.specs.declared.recover_fault.RecoverFault.{RecoverFault}
 use Rattle.worker.specs.declared.recover_fault.RecoverFault.TheVariants as recover
 use Rattle.worker.specs.rules.Outlets.{WasTaken, TakesEach, HeedsOutlet, IsOutletFault}
+use Rattle.worker.specs.rules.RecoverFaults.{wants_memory}
 use Rattle.wasmhost_serve.specs.declared.lines.fault.LineFault.{LineFault}
 use Rattle.wasmhost_serve.specs.declared.lines.fault.LineFault.TheVariants as line
 use Rattle.wasmhost_serve.specs.declared.on_disk.fault.OnDiskFault.{OnDiskFault}
@@ -44,11 +46,27 @@ seven_of_call (work.Work (slice.Refused why)) = inr ((λ told. told), λ e. omeg
 seven_of_call (work.Disk why) = inr ((λ told. told), λ e. omega (arith, e))
 seven_of_call (work.Store why) = inr ((λ told. told), λ e. omega (arith, e))
 
+-- want of memory and a refusal aren't
+not_by_want : (want : Bool) → ◌≢◌ {A = ℕ} (if want then 5 else 3) 7
+not_by_want true = λ e. omega (arith, e)
+not_by_want false = λ e. omega (arith, e)
+
 -- so is a recovery's
 seven_of_opening : (why : RecoverFault)
     → IsSeven (IsOutletFault why) (status_on_disk (told_of_opening why))
-seven_of_opening recover.NotAnImage = inr ((λ told. told), λ e. omega (arith, e))
-seven_of_opening recover.Diverged = inr ((λ told. told), λ e. omega (arith, e))
+seven_of_opening (recover.Replay replay.Diverged) = inr ((λ told. told), λ e. omega (arith, e))
+seven_of_opening (recover.Replay replay.Memory) = inr ((λ told. told), λ e. omega (arith, e))
+seven_of_opening (recover.Replay replay.Outlet) = inl (tt, refl)
+seven_of_opening (recover.Layout why) =
+    inr ((λ told. told), not_by_want (wants_memory (recover.Layout why)))
+seven_of_opening (recover.Front why) =
+    inr ((λ told. told), not_by_want (wants_memory (recover.Front why)))
+seven_of_opening (recover.Snapshot why) =
+    inr ((λ told. told), not_by_want (wants_memory (recover.Snapshot why)))
+seven_of_opening (recover.Image why) =
+    inr ((λ told. told), not_by_want (wants_memory (recover.Image why)))
+seven_of_opening (recover.Journal why) =
+    inr ((λ told. told), not_by_want (wants_memory (recover.Journal why)))
 seven_of_opening (recover.Worker (work.Disk disk.Memory)) =
     inr ((λ told. told), λ e. omega (arith, e))
 seven_of_opening (recover.Worker (work.Disk disk.Range)) =

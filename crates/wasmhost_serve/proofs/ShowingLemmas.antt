@@ -2,40 +2,39 @@
 use Rattle.std.proofs.Common.{◌≡◌, ◌⊎◌, inl, inr, ℕ, ◌<◌, ◌≤◌, refl, sym, ap}
 use Rattle.std.proofs.Common.{◌∙◌}
 use Rattle.std.proofs.Common.{subst, arith}
-use Rattle.std.specs.Prelude.{Result, Ok, Err}
+use Rattle.std.specs.Prelude.{Result, Ok, Err, if◌then◌else◌}
 use Rattle.sector_disk.specs.declared.fault.DiskFault.{DiskFault}
 use Rattle.sector_disk.specs.declared.fault.DiskFault.TheVariants as disk
 use Rattle.sector_disk.specs.rules.Image.{Image}
 use Rattle.sector_disk.specs.rules.Medium.{Medium}
-use Rattle.ephemeral_worker.specs.declared.fault.SliceFault.TheVariants as slice
 use Rattle.worker.specs.declared.fault.WorkFault.TheVariants as work
 use Rattle.worker.specs.declared.recover_fault.RecoverFault.{RecoverFault}
 use Rattle.worker.specs.declared.recover_fault.RecoverFault.TheVariants as recover
 use Rattle.worker.specs.declared.surveyed.Survey.{Survey}
+use Rattle.worker.specs.rules.RecoverFaults.{LayerWantsMemory, wants_memory}
 use Rattle.worker.specs.rules.Recoveries.{SaysNothing}
+use Rattle.worker.proofs.WantLemmas.{wanted_early}
 use Rattle.worker.specs.rules.Surveys.{Surveys, EachSurvey, TellsSurvey, survey_of}
 use Rattle.wasmhost_serve.specs.declared.on_disk.fault.OnDiskFault.{OnDiskFault}
 use Rattle.wasmhost_serve.specs.rules.DiskStatuses.{told_of_opening, status_on_disk}
 use Rattle.wasmhost_serve.specs.rules.Printers.{PrinterState, IsSaid}
 use Rattle.wasmhost_serve.specs.rules.Showings.{SaysSurvey, SaysResult, ShowsSurvey, ShowsDisk}
 use Rattle.wasmhost_serve.specs.rules.Showings.{survey_line}
+use Rattle.wasmhost_serve.proofs.OnDiskLemmas.{few_on_disk}
 use Rattle.wasmhost_serve.proofs.PrinterLemmas.{few_said, text_is_said}
 
 -- ---- statuses
+
+-- a layer that wants memory is told by 5
+status_of_want : (why : RecoverFault) → LayerWantsMemory why
+    → ◌≡◌ {A = ℕ} (if wants_memory why then 5 else 3) 5
+status_of_want why wants = rw (wanted_early why wants) refl
 
 -- what says nothing of the disk is told by 4, where the disk has failed, or by 5
 status_of_nothing : (old new : Medium) (why : RecoverFault) → SaysNothing why
     → ((fault : DiskFault) → why ≡ recover.Worker (work.Disk fault) → old.faults < new.faults)
     → ((status_on_disk (told_of_opening why) ≡ 4) × (old.faults < new.faults))
     ⊎ (status_on_disk (told_of_opening why) ≡ 5)
-status_of_nothing old new recover.NotAnImage says failed = absurd says
-status_of_nothing old new recover.Diverged says failed = absurd says
-status_of_nothing old new (recover.Worker (work.Work slice.Memory)) says failed = inr refl
-status_of_nothing old new (recover.Worker (work.Work slice.Source)) says failed = absurd says
-status_of_nothing old new (recover.Worker (work.Work slice.Outlet)) says failed = absurd says
-status_of_nothing old new (recover.Worker (work.Work slice.Failed)) says failed = absurd says
-status_of_nothing old new (recover.Worker (work.Work (slice.Refused why))) says failed =
-    absurd says
 status_of_nothing old new (recover.Worker (work.Disk disk.Memory)) says failed = inr refl
 status_of_nothing old new (recover.Worker (work.Disk disk.Range)) says failed =
     inl (refl, failed disk.Range refl)
@@ -43,22 +42,19 @@ status_of_nothing old new (recover.Worker (work.Disk disk.Io)) says failed =
     inl (refl, failed disk.Io refl)
 status_of_nothing old new (recover.Worker (work.Disk disk.Cut)) says failed =
     inl (refl, failed disk.Cut refl)
-status_of_nothing old new (recover.Worker (work.Store fault)) says failed = absurd says
-
--- no status is above 7
-opening_known : (why : RecoverFault) → status_on_disk (told_of_opening why) ≤ 7
-opening_known recover.NotAnImage = omega arith
-opening_known recover.Diverged = omega arith
-opening_known (recover.Worker (work.Work slice.Source)) = omega arith
-opening_known (recover.Worker (work.Work slice.Outlet)) = omega arith
-opening_known (recover.Worker (work.Work slice.Memory)) = omega arith
-opening_known (recover.Worker (work.Work slice.Failed)) = omega arith
-opening_known (recover.Worker (work.Work (slice.Refused why))) = omega arith
-opening_known (recover.Worker (work.Disk disk.Memory)) = omega arith
-opening_known (recover.Worker (work.Disk disk.Range)) = omega arith
-opening_known (recover.Worker (work.Disk disk.Io)) = omega arith
-opening_known (recover.Worker (work.Disk disk.Cut)) = omega arith
-opening_known (recover.Worker (work.Store fault)) = omega arith
+status_of_nothing old new (recover.Worker (work.Work why)) says failed = absurd says
+status_of_nothing old new (recover.Worker (work.Store why)) says failed = absurd says
+status_of_nothing old new (recover.Replay why) says failed = absurd says
+status_of_nothing old new (recover.Layout why) says failed =
+    inr (status_of_want (recover.Layout why) says)
+status_of_nothing old new (recover.Front why) says failed =
+    inr (status_of_want (recover.Front why) says)
+status_of_nothing old new (recover.Snapshot why) says failed =
+    inr (status_of_want (recover.Snapshot why) says)
+status_of_nothing old new (recover.Image why) says failed =
+    inr (status_of_want (recover.Image why) says)
+status_of_nothing old new (recover.Journal why) says failed =
+    inr (status_of_want (recover.Journal why) says)
 
 says_known : (result : Result Survey RecoverFault) (out out' err err' : PrinterState) (status : ℕ)
     → SaysResult result out out' err err' status → status ≤ 7
@@ -66,7 +62,8 @@ says_known (Ok survey) out out' err err' status says =
     few_said 0 out status out' (omega arith)
     (text_is_said 0 out status out' (survey_line survey) says.0)
 says_known (Err why) out out' err err' status says =
-    few_said (status_on_disk (told_of_opening why)) err status err' (opening_known why) says.0
+    few_said (status_on_disk (told_of_opening why)) err status err'
+    (few_on_disk (told_of_opening why)) says.0
 
 -- ---- what is shown of a worker
 

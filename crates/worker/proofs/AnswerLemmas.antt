@@ -14,7 +14,6 @@ use Rattle.disk_layout.specs.declared.head.TheConstants.{IMAGE_VERSION}
 use Rattle.disk_layout.specs.rules.Sectors.{HoldsImage}
 use Rattle.disk_layout.specs.rules.Stored.{OnlyReads}
 use Rattle.record_replay.specs.declared.fault.ReplayFault.{ReplayFault}
-use Rattle.record_replay.specs.declared.fault.ReplayFault.TheVariants as replay
 use Rattle.record_replay.specs.rules.Calls.{Taking}
 use Rattle.record_replay.specs.rules.Replays.{StopsReplay, TellsFrom}
 use Rattle.worker_store.specs.declared.fault.StoreFault.{StoreFault}
@@ -26,9 +25,8 @@ use Rattle.worker.specs.declared.recover_fault.RecoverFault.{RecoverFault}
 use Rattle.worker.specs.declared.recover_fault.RecoverFault.TheVariants as recover
 use Rattle.worker.specs.rules.WorkFaults.{fault_of_store}
 use Rattle.worker.specs.rules.DurableValues.{DurableValue}
-use Rattle.worker.specs.rules.RecoverFaults.{fault_of_replay}
 use Rattle.worker.specs.rules.Recoveries.{IsSettledBy}
-use Rattle.worker.specs.rules.ShownDisks.{HoldsWorker, RevivesHeld, StopsHeld, EndsHeld}
+use Rattle.worker.specs.rules.ShownDisks.{HoldsWorker, RevivesHeld, EndsHeld}
 use Rattle.worker.specs.rules.ShownDisks.{FailsHeld, AnswersDisk, RecoversAsShown}
 use Rattle.worker.specs.rules.ShownDisks.{LeavesRefused, SurveysDisk, IsOfSaving}
 use Rattle.worker.specs.rules.ShownDisks.{IsRefusal}
@@ -109,24 +107,17 @@ module _ (sectors : ℕ) (disk : Image) (found : Found) (at : IsFoundIn sectors 
         }
 
     -- it has stopped on the way
-    stops_held : (fault : ReplayFault) → StopsHeld takes held_in fault outlet outlet'
-        → FailsHeld takes held_in (fault_of_replay fault) outlet outlet'
-    stops_held replay.Diverged stops = stops
-    stops_held replay.Memory stops = stops
-    stops_held replay.Outlet stops = stops
-
     pub fails_on_way : {D : Type 0} (mid new : D) (why : RecoverFault)
         → StopsInVain takes found why mid new outlet outlet'
         → FailsHeld takes held_in why outlet outlet'
     fails_on_way mid new why stops =
         let come = stops.stops held_in.well_typed.guest held_in.well_typed.process shows_saved in
         let first = come.0 in
-        subst (λ (e : RecoverFault). FailsHeld takes held_in e outlet outlet') (sym stops.is)
-        (stops_held stops.fault (
+        subst (λ (e : RecoverFault). FailsHeld takes held_in e outlet outlet') (sym stops.is) (
           first,
           subst (λ n. StopsReplay takes n held_in.well_typed.guest first.reached first.rest
               first.process stops.fault outlet outlet') released come.1,
-        ))
+        )
 
     -- the next generation couldn't be written
     unsaved : (v : ProcessValue) (mid new : Medium) → EndsHeld takes held_in v outlet outlet'
@@ -160,23 +151,14 @@ module _ (sectors : ℕ) (disk : Image) (found : Found) (at : IsFoundIn sectors 
 -- ---- what is left as it is
 
 -- a replay that stops has written nothing, and is no refusal of what stands on the disk
-no_refusal : (fault : ReplayFault) → IsRefusal (fault_of_replay fault) → ⊥
-no_refusal replay.Diverged is = is
-no_refusal replay.Memory is = is
-no_refusal replay.Outlet is = is
+no_refusal : (fault : ReplayFault) → IsRefusal (recover.Replay fault) → ⊥
+no_refusal fault is = is
 
 -- nor is a generation that can't be written
 no_refusal_of : (geometry : Geometry) (g : ℕ) (v : ProcessValue) (mid new : Medium)
     (fault : StoreFault) → ReopeningFails geometry g v mid new fault
     → IsRefusal (recover.Worker (fault_of_store fault)) → ⊥
-no_refusal_of geometry g v mid new store.TooBig fails is = is
-no_refusal_of geometry g v mid new (store.Disk fault) fails is = is
-no_refusal_of geometry g v mid new store.Full fails is = absurd fails
-no_refusal_of geometry g v mid new store.TooLong fails is = absurd fails
-no_refusal_of geometry g v mid new store.Damaged fails is = absurd fails
-no_refusal_of geometry g v mid new (store.Layout why) fails is = absurd fails
-no_refusal_of geometry g v mid new store.Memory fails is = absurd fails
-no_refusal_of geometry g v mid new store.Failed fails is = absurd fails
+no_refusal_of geometry g v mid new fault fails is = is
 
 of_saving : (geometry : Geometry) (g : ℕ) (v : ProcessValue) (mid new : Medium)
     (fault : StoreFault) → ReopeningFails geometry g v mid new fault

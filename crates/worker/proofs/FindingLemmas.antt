@@ -1,32 +1,40 @@
 -- What is found on a disk, step by step.
-use Rattle.std.proofs.Common.{◌≡◌, ℕ, List, refl, sym, subst}
-use Rattle.std.specs.Prelude.{Result, Ok, Err, Vec}
+use Rattle.std.proofs.Common.{◌≡◌, ℕ, ◌≤◌, List, refl, sym, subst, arith}
+use Rattle.std.specs.Prelude.{Result, Ok, Err, IfErr, Vec}
 use Rattle.std.specs.declared.alloc.Global.{Global}
 use Rattle.wasm_syntax.specs.declared.module.Module.{Module}
 use Rattle.wasi_abi.specs.rules.Configs.{Settings}
 use Rattle.process_rules.specs.Processes.{ProcessState}
 use Rattle.process.specs.rules.Values.{ProcessValue, IsProcess}
 use Rattle.sector_disk.specs.rules.Image.{Image}
+use Rattle.sector_disk.specs.rules.Medium.{Medium}
 use Rattle.disk_layout.specs.declared.fault.LayoutFault.TheVariants as layout
 use Rattle.disk_layout.specs.declared.geometry.Geometry.{Geometry}
 use Rattle.disk_layout.specs.declared.reading.contents.Contents.{Contents}
 use Rattle.disk_layout.specs.rules.Journal.{Record}
+use Rattle.disk_layout.specs.rules.Stored.{OnlyReads}
 use Rattle.worker_rules.specs.Stands.{IsNumbered}
 use Rattle.worker_rules.proofs.NumbersKept.{records_keep_numbers}
 use Rattle.worker_store.specs.laws.Savepoints.{Savepoint, places, StandsAtPoint}
-use Rattle.worker_store.specs.declared.fault.StoreFault.{StoreFault}
-use Rattle.worker_store.specs.declared.fault.StoreFault.TheVariants as store
+use Rattle.worker_store.specs.declared.read_fault.ReadFault.{ReadFault}
+use Rattle.worker_store.specs.declared.read_fault.ReadFault.TheVariants as read
+use Rattle.worker_store.specs.rules.ReadFaults.{HasReadCause}
 use Rattle.worker_store.specs.rules.Readings.{GivesOr, DeniesWorker, DeniesWorkerOr, TellsMarks}
 use Rattle.worker.specs.declared.found.Found.{Found}
 use Rattle.worker.specs.declared.recover_fault.RecoverFault.{RecoverFault}
-use Rattle.worker.specs.declared.recover_fault.RecoverFault.TheVariants.{Worker}
-use Rattle.worker.specs.rules.WorkFaults.{fault_of_store}
+use Rattle.worker.specs.declared.fault.WorkFault.TheVariants as work
+use Rattle.worker.specs.declared.recover_fault.RecoverFault.TheVariants as recover
+use Rattle.machine_loader.specs.declared.fault.FrontFault.{FrontFault}
+use Rattle.state_image.specs.declared.restoring.fault.RestoreFault.{RestoreFault}
+use Rattle.snapshot.specs.declared.fault.SnapshotFault.TheVariants as snapshot
+use Rattle.journal.specs.declared.fault.JournalFault.TheVariants as journal
+use Rattle.worker.specs.rules.RecoverFaults.{fault_of_read}
 use Rattle.worker.specs.rules.Recoveries.{SaysNothing, SaysNoWorker, SaysNoWorkerOr}
 use Rattle.worker.specs.rules.Recoveries.{MarksDecide}
-use Rattle.worker.specs.Findings.{IsFoundAt, IsRestoredAt}
+use Rattle.worker.specs.Findings.{IsFoundAt, IsRestoredAt, HasSearchCause}
 
--- errors of a store, and of a recovery
-abbrev pub unread : (T : Type 0) → StoreFault → Result T StoreFault
+-- errors of what is read, and of a recovery
+abbrev pub unread : (T : Type 0) → ReadFault → Result T ReadFault
 unread T fault = Err fault
 
 abbrev pub unfound : (T : Type 0) → RecoverFault → Result T RecoverFault
@@ -35,56 +43,74 @@ unfound T fault = Err fault
 -- ---- what an error says
 
 module _ (T U : Type 0) where
-  pub says_denied : (fault : StoreFault) → SaysNoWorker (unfound U (Worker (fault_of_store fault)))
+  pub says_denied : (fault : ReadFault) → SaysNoWorker (unfound U (fault_of_read fault))
       → DeniesWorker (unread T fault)
-  says_denied store.Full says = absurd says
-  says_denied store.TooLong says = absurd says
-  says_denied store.TooBig says = absurd says
-  says_denied store.Damaged says = absurd says
-  says_denied (store.Layout layout.NotAWorker) says = tt
-  says_denied (store.Layout layout.Version) says = absurd says
-  says_denied (store.Layout layout.TooSmall) says = absurd says
-  says_denied (store.Layout layout.Damaged) says = absurd says
-  says_denied (store.Layout layout.Memory) says = absurd says
-  says_denied (store.Layout (layout.Disk fault)) says = absurd says
-  says_denied (store.Disk fault) says = absurd says
-  says_denied store.Memory says = absurd says
-  says_denied store.Failed says = absurd says
+  says_denied (read.Layout layout.NotAWorker) says = tt
+  says_denied other says = absurd says
 
-  pub denied_says : (fault : StoreFault) → DeniesWorkerOr (unread T fault)
-      → SaysNoWorkerOr (unfound U (Worker (fault_of_store fault)))
-  denied_says store.Full says = absurd says
-  denied_says store.TooLong says = absurd says
-  denied_says store.TooBig says = absurd says
-  denied_says store.Damaged says = absurd says
-  denied_says (store.Layout layout.NotAWorker) says = tt
-  denied_says (store.Layout layout.Version) says = absurd says
-  denied_says (store.Layout layout.TooSmall) says = absurd says
-  denied_says (store.Layout layout.Damaged) says = absurd says
-  denied_says (store.Layout layout.Memory) says = absurd says
-  denied_says (store.Layout (layout.Disk fault)) says = absurd says
-  denied_says (store.Disk fault) says = tt
-  denied_says store.Memory says = tt
-  denied_says store.Failed says = absurd says
+  pub denied_says : (fault : ReadFault) → DeniesWorkerOr (unread T fault)
+      → SaysNoWorkerOr (unfound U (fault_of_read fault))
+  denied_says (read.Layout layout.NotAWorker) says = tt
+  denied_says (read.Layout layout.Memory) says = tt
+  denied_says (read.Disk fault) says = tt
+  denied_says other says = absurd says
 
 -- ---- what was read
 
 -- what isn't read, where a savepoint stands, says nothing of it
-pub unread_says : (T : Type 0) (P : T → Type 0) (fault : StoreFault) → GivesOr P (unread T fault)
-    → SaysNothing (Worker (fault_of_store fault))
-unread_says T P store.Full gives = absurd gives
-unread_says T P store.TooLong gives = absurd gives
-unread_says T P store.TooBig gives = absurd gives
-unread_says T P store.Damaged gives = absurd gives
-unread_says T P (store.Layout fault) gives = absurd gives
-unread_says T P (store.Disk fault) gives = tt
-unread_says T P store.Memory gives = tt
-unread_says T P store.Failed gives = absurd gives
+pub unread_says : (T : Type 0) (P : T → Type 0) (fault : ReadFault) → GivesOr P (unread T fault)
+    → SaysNothing (fault_of_read fault)
+unread_says T P (read.Disk fault) gives = tt
+unread_says T P (read.Layout layout.Memory) gives = tt
+unread_says T P (read.Snapshot snapshot.Memory) gives = tt
+unread_says T P (read.Journal journal.Memory) gives = tt
+unread_says T P other gives = absurd gives
 
 -- no matter by which name
-pub unread_as : (T : Type 0) (P : T → Type 0) (fault : StoreFault) (e : RecoverFault)
-    → e ≡ Worker (fault_of_store fault) → GivesOr P (unread T fault) → SaysNothing e
+pub unread_as : (T : Type 0) (P : T → Type 0) (fault : ReadFault) (e : RecoverFault)
+    → e ≡ fault_of_read fault → GivesOr P (unread T fault) → SaysNothing e
 unread_as T P fault e is gives = subst SaysNothing (sym is) (unread_says T P fault gives)
+
+-- ---- when an error comes
+
+read_cause : (old new : Medium) (fault : ReadFault) → HasReadCause old new fault
+    → HasSearchCause old new (fault_of_read fault)
+read_cause old new (read.Disk fault) cause = cause
+read_cause old new (read.Layout fault) cause = cause
+read_cause old new (read.Snapshot fault) cause = cause
+read_cause old new (read.Journal fault) cause = cause
+
+-- it isn't read
+pub unread_cause : (old new : Medium) (fault : ReadFault) (e : RecoverFault)
+    → e ≡ fault_of_read fault → HasReadCause old new fault → HasSearchCause old new e
+unread_cause old new fault e is cause =
+    subst (λ (f : RecoverFault). HasSearchCause old new f) (sym is) (read_cause old new fault cause)
+
+-- the module isn't accepted, or the image is that of no process
+pub unaccepted_cause : (old new : Medium) (fault : FrontFault) (e : RecoverFault)
+    → e ≡ recover.Front fault → HasSearchCause old new e
+unaccepted_cause old new fault e is =
+    subst (λ (f : RecoverFault). HasSearchCause old new f) (sym is) tt
+
+pub unmade_cause : (old new : Medium) (fault : RestoreFault) (e : RecoverFault)
+    → e ≡ recover.Image fault → HasSearchCause old new e
+unmade_cause old new fault e is =
+    subst (λ (f : RecoverFault). HasSearchCause old new f) (sym is) tt
+
+-- other things were read before
+cause_later : (old mid new : Medium) → old.faults ≤ mid.faults → (why : RecoverFault)
+    → HasSearchCause mid new why → HasSearchCause old new why
+cause_later old mid new earlier (recover.Worker (work.Disk fault)) cause =
+    omega (arith, earlier, cause)
+cause_later old mid new earlier other cause = cause
+
+pub later_so : (old mid new : Medium) → OnlyReads old mid → (result : Result Found RecoverFault)
+    → IfErr result (HasSearchCause mid new) → IfErr result (HasSearchCause old new)
+later_so old mid new reads (Ok found) cause = tt
+later_so old mid new reads (Err why) cause =
+    let passes = reads.leaves.passes in
+    let earlier : old.faults ≤ mid.faults = passes.faults in
+    cause_later old mid new earlier why cause
 
 -- all that was read
 module _ {m : Module} {settings : Settings} (point : Savepoint m settings) (geometry : Geometry)
@@ -127,8 +153,8 @@ marks_there disk contents r tells own =
     record { only = λ says. absurd (own says); always = λ blank. absurd (tells.always blank) }
 
 -- they weren't
-pub marks_unread : (disk : Image) (fault : StoreFault) (e : RecoverFault)
-    → e ≡ Worker (fault_of_store fault) → TellsMarks disk (Err fault)
+pub marks_unread : (disk : Image) (fault : ReadFault) (e : RecoverFault)
+    → e ≡ fault_of_read fault → TellsMarks disk (Err fault)
     → MarksDecide disk (unfound Found e)
 marks_unread disk fault e is tells =
     subst (λ (f : RecoverFault). MarksDecide disk (unfound Found f)) (sym is)

@@ -1,5 +1,5 @@
 -- What is found on any disk, step by step.
-use Rattle.std.proofs.Common.{◌≡◌, ◌≢◌, inl, inr, ℕ, List, Bool, true, false, refl, sym, subst}
+use Rattle.std.proofs.Common.{◌≡◌, ◌≢◌, inl, inr, ℕ, List, refl, sym, subst}
 use Rattle.std.specs.Prelude.{Ok, Err, Vec}
 use Rattle.std.specs.declared.alloc.Global.{Global}
 use Rattle.wasm_syntax.specs.declared.module.Module.{Module}
@@ -9,13 +9,13 @@ use Rattle.machine.specs.rules.Offers.{offer}
 use Rattle.machine.specs.rules.Values.{MachineValue}
 use Rattle.machine_loader.specs.declared.fault.FrontFault.{FrontFault}
 use Rattle.machine_loader.specs.rules.Acceptance.{Accepts, FrontDenies, HasNoAcceptedModule}
-use Rattle.machine_loader.specs.rules.Acceptance.{IsTold, is_want}
-use Rattle.machine_loader.proofs.Wants.{no_want}
+use Rattle.machine_loader.specs.rules.Acceptance.{IsTold}
 use Rattle.process.specs.rules.Values.{ProcessValue}
 use Rattle.state_image.specs.declared.restoring.fault.RestoreFault.{RestoreFault}
 use Rattle.state_image.specs.declared.restoring.fault.RestoreFault.TheVariants as restore
 use Rattle.state_image.specs.rules.Image.{Saved, image}
 use Rattle.state_image.specs.rules.Restored.{IsRestored}
+use Rattle.state_image.specs.rules.Saving.{saved_of}
 use Rattle.state_image.specs.rules.WellTyped.{IsWellTyped}
 use Rattle.sector_disk.specs.rules.Image.{Image}
 use Rattle.disk_layout.specs.declared.fault.LayoutFault.TheVariants as layout
@@ -26,15 +26,14 @@ use Rattle.disk_layout.specs.declared.record.TheConstants.{LONGEST_PAYLOAD}
 use Rattle.disk_layout.specs.rules.Held.{GivesContents}
 use Rattle.disk_layout.specs.rules.Journal.{Record, scan}
 use Rattle.disk_layout.specs.rules.Sectors.{HoldsImage}
-use Rattle.ephemeral_worker.specs.rules.Refusals.{refusal_by, refusal_of}
-use Rattle.worker_store.specs.declared.fault.StoreFault.{StoreFault}
-use Rattle.worker_store.specs.declared.fault.StoreFault.TheVariants as store
+use Rattle.journal.specs.declared.fault.JournalFault.TheVariants as journal
+use Rattle.snapshot.specs.declared.fault.SnapshotFault.TheVariants as snapshot
+use Rattle.worker_store.specs.declared.read_fault.ReadFault.{ReadFault}
+use Rattle.worker_store.specs.declared.read_fault.ReadFault.TheVariants as read
 use Rattle.worker_store.specs.rules.AnyDisk.{TellsContents, TellsNewest, TellsRecords}
-use Rattle.worker.specs.declared.fault.WorkFault.TheVariants.{Work}
 use Rattle.worker.specs.declared.recover_fault.RecoverFault.{RecoverFault}
-use Rattle.worker.specs.declared.recover_fault.RecoverFault.TheVariants.{Worker}
-use Rattle.worker.specs.rules.WorkFaults.{fault_of_store}
-use Rattle.worker.specs.rules.RecoverFaults.{fault_of_restore}
+use Rattle.worker.specs.declared.recover_fault.RecoverFault.TheVariants as recover
+use Rattle.worker.specs.rules.RecoverFaults.{fault_of_read}
 use Rattle.worker.specs.rules.ShownDisks.{HoldsModule, ShowsFault}
 use Rattle.worker.specs.FoundDisks.{IsMachineIn, IsRestoredIn, IsFoundIn}
 use Rattle.worker.proofs.RestoringLemmas.{unrestored}
@@ -42,57 +41,43 @@ use Rattle.worker.proofs.RestoringLemmas.{unrestored}
 -- ---- configuration and module
 
 module _ (sectors : ℕ) (disk : Image) where
-  unread : (fault : StoreFault) → TellsContents sectors disk (Err fault)
-      → ShowsFault sectors disk (Worker (fault_of_store fault))
-  unread store.Full tells = absurd tells
-  unread store.TooLong tells = absurd tells
-  unread store.TooBig tells = absurd tells
-  unread store.Damaged tells = absurd tells
-  unread (store.Layout layout.NotAWorker) tells = tells
-  unread (store.Layout layout.Version) tells = inl tells
-  unread (store.Layout layout.TooSmall) tells = tells
-  unread (store.Layout layout.Damaged) tells = tells
-  unread (store.Layout layout.Memory) tells = tells
-  unread (store.Layout (layout.Disk fault)) tells = tells
-  unread (store.Disk fault) tells = tt
-  unread store.Memory tells = tt
-  unread store.Failed tells = absurd tells
+  unread : (fault : ReadFault) → TellsContents sectors disk (Err fault)
+      → ShowsFault sectors disk (fault_of_read fault)
+  unread (read.Layout layout.NotAWorker) tells = tells
+  unread (read.Layout layout.Version) tells = inl tells
+  unread (read.Layout layout.TooSmall) tells = tells
+  unread (read.Layout layout.Damaged) tells = tells
+  unread (read.Layout layout.Memory) tells = tells
+  unread (read.Layout (layout.Disk fault)) tells = absurd tells
+  unread (read.Disk fault) tells = tt
+  unread (read.Snapshot fault) tells = absurd tells
+  unread (read.Journal fault) tells = absurd tells
 
   -- they weren't read
-  pub contents_unread : (fault : StoreFault) (e : RecoverFault)
-      → e ≡ Worker (fault_of_store fault) → TellsContents sectors disk (Err fault)
-      → ShowsFault sectors disk e
+  pub contents_unread : (fault : ReadFault) (e : RecoverFault) → e ≡ fault_of_read fault
+      → TellsContents sectors disk (Err fault) → ShowsFault sectors disk e
   contents_unread fault e is tells =
       subst (λ (f : RecoverFault). ShowsFault sectors disk f) (sym is) (unread fault tells)
 
 -- they were
 module _ (sectors : ℕ) (disk : Image) (contents : Contents)
     (whole : GivesContents sectors disk (Ok contents)) (pages : ℕ) (wasm : List ℕ) where
-  refused_by : (fault : FrontFault) → IsTold contents.config.pages contents.wasm fault
-      → FrontDenies fault (HasNoAcceptedModule contents.config.pages contents.wasm)
-      → (want : Bool) → is_want fault ≡ want
-      → ShowsFault sectors disk (Worker (Work (refusal_by want fault)))
-  refused_by fault told denies true is = tt
-  refused_by fault told denies false is = record {
-    contents = contents;
-    whole = whole;
-    told = told;
-    none = no_want fault (HasNoAcceptedModule contents.config.pages contents.wasm) is denies;
-  }
-
   -- the module isn't accepted
   pub module_refused : pages ≡ contents.config.pages → wasm ≡ contents.wasm
-      → (fault : FrontFault) (e : RecoverFault) → e ≡ Worker (Work (refusal_of fault))
+      → (fault : FrontFault) (e : RecoverFault) → e ≡ recover.Front fault
       → IsTold pages wasm fault → FrontDenies fault (HasNoAcceptedModule pages wasm)
       → ShowsFault sectors disk e
   module_refused same_pages same_wasm fault e is told denies =
       subst (λ (f : RecoverFault). ShowsFault sectors disk f) (sym is)
-      (refused_by fault
-      (subst (λ n. IsTold n contents.wasm fault) same_pages
-      (subst (λ (w : List ℕ). IsTold pages w fault) same_wasm told))
-      (subst (λ n. FrontDenies fault (HasNoAcceptedModule n contents.wasm)) same_pages
-      (subst (λ (w : List ℕ). FrontDenies fault (HasNoAcceptedModule pages w)) same_wasm denies))
-      (is_want fault) refl)
+      (record {
+        contents = contents;
+        whole = whole;
+        told = subst (λ n. IsTold n contents.wasm fault) same_pages
+            (subst (λ (w : List ℕ). IsTold pages w fault) same_wasm told);
+        none = subst (λ n. FrontDenies fault (HasNoAcceptedModule n contents.wasm)) same_pages
+            (subst (λ (w : List ℕ). FrontDenies fault (HasNoAcceptedModule pages w)) same_wasm
+            denies);
+      })
 
   -- it is
   module _ (same_pages : pages ≡ contents.config.pages) (same_wasm : wasm ≡ contents.wasm)
@@ -118,26 +103,17 @@ module _ (sectors : ℕ) (disk : Image) (contents : Contents)
 
 module _ (sectors : ℕ) (disk : Image) (holds : HoldsModule sectors disk) (geometry : Geometry)
     (placed : geometry ≡ holds.contents.geometry) where
-  no_newest : (fault : StoreFault)
+  no_newest : (fault : ReadFault)
       → TellsNewest holds.contents.geometry disk (Err fault)
-      → ShowsFault sectors disk (Worker (fault_of_store fault))
-  no_newest store.Full tells = absurd tells
-  no_newest store.TooLong tells = absurd tells
-  no_newest store.TooBig tells = absurd tells
-  no_newest store.Damaged tells = record { holds = holds; none = tells }
-  no_newest (store.Layout layout.NotAWorker) tells = absurd tells
-  no_newest (store.Layout layout.Version) tells = inr (holds, tells)
-  no_newest (store.Layout layout.TooSmall) tells = absurd tells
-  no_newest (store.Layout layout.Damaged) tells = absurd tells
-  no_newest (store.Layout layout.Memory) tells = absurd tells
-  no_newest (store.Layout (layout.Disk fault)) tells = absurd tells
-  no_newest (store.Disk fault) tells = tt
-  no_newest store.Memory tells = tt
-  no_newest store.Failed tells = absurd tells
+      → ShowsFault sectors disk (fault_of_read fault)
+  no_newest (read.Layout layout.Version) tells = inr (holds, tells)
+  no_newest (read.Snapshot snapshot.Damaged) tells = record { holds = holds; none = tells }
+  no_newest (read.Snapshot snapshot.Memory) tells = (holds, tells)
+  no_newest (read.Disk fault) tells = tt
+  no_newest other tells = absurd tells
 
-  pub newest_unread : (fault : StoreFault) (e : RecoverFault)
-      → e ≡ Worker (fault_of_store fault) → TellsNewest geometry disk (Err fault)
-      → ShowsFault sectors disk e
+  pub newest_unread : (fault : ReadFault) (e : RecoverFault) → e ≡ fault_of_read fault
+      → TellsNewest geometry disk (Err fault) → ShowsFault sectors disk e
   newest_unread fault e is tells =
       subst (λ (f : RecoverFault). ShowsFault sectors disk f) (sym is)
       (no_newest fault
@@ -168,7 +144,7 @@ module _ (sectors : ℕ) (disk : Image) (holds : HoldsModule sectors disk) (geom
   no_process : (fault : RestoreFault)
       → (unrestored fault ≡ Err restore.NotAnImage → (s : Saved)
       → IsWellTyped holds.module_is holds.contents.config s → bytes ≢ image s)
-      → ShowsFault sectors disk (fault_of_restore fault)
+      → ShowsFault sectors disk (recover.Image fault)
   no_process restore.NotAnImage other =
       record {
         holds = holds;
@@ -177,9 +153,10 @@ module _ (sectors : ℕ) (disk : Image) (holds : HoldsModule sectors disk) (geom
         newest = named;
         other = other refl;
       }
-  no_process restore.Memory other = tt
+  no_process restore.Memory other =
+      record { holds = holds; generation = generation; bytes = bytes; newest = named }
 
-  pub process_unmade : (fault : RestoreFault) (e : RecoverFault) → e ≡ fault_of_restore fault
+  pub process_unmade : (fault : RestoreFault) (e : RecoverFault) → e ≡ recover.Image fault
       → (unrestored fault ≡ Err restore.NotAnImage → (s : Saved)
       → IsWellTyped machine.guest config s → read ≢ image s)
       → ShowsFault sectors disk e
@@ -197,20 +174,23 @@ module _ (sectors : ℕ) (disk : Image) (holds : HoldsModule sectors disk) (geom
 module _ (sectors : ℕ) (disk : Image) (holds : HoldsModule sectors disk) (geometry : Geometry)
     (generation : ℕ) (process : ProcessValue)
     (restored : IsRestoredIn holds geometry generation process) where
-  no_records : (fault : StoreFault) → TellsRecords geometry generation disk (Err fault)
-      → ShowsFault sectors disk (Worker (fault_of_store fault))
-  no_records store.Full tells = absurd tells
-  no_records store.TooLong tells = absurd tells
-  no_records store.TooBig tells = absurd tells
-  no_records store.Damaged tells = absurd tells
-  no_records (store.Layout fault) tells = absurd tells
-  no_records (store.Disk fault) tells = tt
-  no_records store.Memory tells = tt
-  no_records store.Failed tells = absurd tells
+  no_records : (fault : ReadFault) → TellsRecords geometry generation disk (Err fault)
+      → ShowsFault sectors disk (fault_of_read fault)
+  no_records (read.Journal journal.Memory) tells =
+      let again = restored.restored in
+      record {
+        holds = holds;
+        generation = generation;
+        saved = saved_of process;
+        well_typed = again.well_typed;
+        newest = subst (λ (b : List ℕ). HoldsImage holds.contents.geometry disk generation
+            IMAGE_VERSION b) again.is restored.newest;
+      }
+  no_records (read.Disk fault) tells = tt
+  no_records other tells = absurd tells
 
-  pub records_unread : (fault : StoreFault) (e : RecoverFault)
-      → e ≡ Worker (fault_of_store fault) → TellsRecords geometry generation disk (Err fault)
-      → ShowsFault sectors disk e
+  pub records_unread : (fault : ReadFault) (e : RecoverFault) → e ≡ fault_of_read fault
+      → TellsRecords geometry generation disk (Err fault) → ShowsFault sectors disk e
   records_unread fault e is tells =
       subst (λ (f : RecoverFault). ShowsFault sectors disk f) (sym is) (no_records fault tells)
 

@@ -24,4 +24,6 @@ mod GoingLemmas
 mod RunLemmas
 pub mod StopLemmas
 mod FoundDiskLemmas
+mod ReleaseLemmas
+pub mod WantLemmas
 mod AnswerLemmas

@@ -15,9 +15,7 @@ use Rattle.record_replay.specs.rules.Replays.{Replays, ReplaysInVain}
 use Rattle.record_replay.proofs.Following.{leads_join, leads_before}
 use Rattle.worker_store.specs.declared.fault.StoreFault.{StoreFault}
 use Rattle.worker_store.specs.declared.fault.StoreFault.TheVariants as store
-use Rattle.ephemeral_worker.specs.declared.fault.SliceFault.TheVariants as slice
-use Rattle.worker.specs.declared.fault.WorkFault.{WorkFault}
-use Rattle.worker.specs.declared.fault.WorkFault.TheVariants.{Work, Disk, Store}
+use Rattle.worker.specs.declared.fault.WorkFault.TheVariants.{Work, Disk}
 use Rattle.worker.specs.declared.found.Found.{Found}
 use Rattle.worker.specs.declared.recover_fault.RecoverFault.{RecoverFault}
 use Rattle.worker.specs.declared.recover_fault.RecoverFault.TheVariants as recover
@@ -25,7 +23,7 @@ use Rattle.worker.specs.rules.WorkFaults.{fault_of_store}
 use Rattle.worker.specs.rules.DurableValues.{DurableValue}
 use Rattle.worker.specs.rules.Outlets.{WasTaken, TakesEach, RefusesLast, HeedsOutlet}
 use Rattle.worker.specs.rules.Outlets.{IsOutletFault, SaysOutletFault}
-use Rattle.worker.specs.rules.RecoverFaults.{fault_of_replay}
+use Rattle.worker.specs.Findings.{HasSearchCause}
 use Rattle.worker.specs.Revivals.{RevivesFound}
 
 taken_both : (front rest : List Begun) → AllByRecursion WasTaken front
@@ -105,18 +103,11 @@ pub disk_is_other : (fault : DiskFault) (why : RecoverFault) → why ≡ recover
 disk_is_other fault why is told =
     subst IsOutletFault is told
 
-pub found_is_other : (why : RecoverFault)
-    → (◌≡◌ {A = Result Found RecoverFault} (Err why) (Err (recover.Worker (Work slice.Outlet))) → ⊥)
+pub found_is_other : (old new : Medium) (why : RecoverFault) → HasSearchCause old new why
     → IsOutletFault why → ⊥
-found_is_other recover.NotAnImage none told = told
-found_is_other recover.Diverged none told = told
-found_is_other (recover.Worker (Work slice.Source)) none told = told
-found_is_other (recover.Worker (Work slice.Outlet)) none told = none refl
-found_is_other (recover.Worker (Work slice.Memory)) none told = told
-found_is_other (recover.Worker (Work slice.Failed)) none told = told
-found_is_other (recover.Worker (Work (slice.Refused why))) none told = told
-found_is_other (recover.Worker (Disk why)) none told = told
-found_is_other (recover.Worker (Store why)) none told = told
+found_is_other old new (recover.Worker (Work why)) cause told = cause
+found_is_other old new (recover.Replay why) cause told = cause
+found_is_other old new other cause told = told
 
 store_is_other : (why : StoreFault)
     → IsOutletFault (recover.Worker (fault_of_store why)) → ⊥
@@ -133,7 +124,7 @@ module _ {D O : Type 0} (medium : D → Medium) (takes : Taking O) (found : Foun
     (is : IsProcess found.process) (mid new : D) (o p : O) where
   replay_heeds : (why : ReplayFault)
       → ReplaysInVain takes found.process found.records.items why o p
-      → HeedsOutlet takes (IsOutletFault (fault_of_replay why)) o p
+      → HeedsOutlet takes (IsOutletFault (recover.Replay why)) o p
   replay_heeds replay.Diverged vain =
       let h = vain is.guest is.process is.shows in
       inl (

@@ -28,11 +28,8 @@ use Rattle.state_image.specs.rules.Restored.{IsRestored}
 use Rattle.state_image.specs.rules.WellTyped.{IsWellTyped}
 use Rattle.worker_rules.specs.Stands.{IsNumbered}
 use Rattle.worker_store.specs.laws.Savepoints.{Savepoint}
-use Rattle.ephemeral_worker.specs.rules.Refusals.{refusal_by, refusal_of}
-use Rattle.worker.specs.declared.fault.WorkFault.TheVariants.{Work}
 use Rattle.worker.specs.declared.recover_fault.RecoverFault.{RecoverFault}
-use Rattle.worker.specs.declared.recover_fault.RecoverFault.TheVariants.{Worker}
-use Rattle.worker.specs.rules.RecoverFaults.{fault_of_restore}
+use Rattle.worker.specs.declared.recover_fault.RecoverFault.TheVariants as recover
 use Rattle.worker.specs.rules.Recoveries.{SaysNothing}
 use Rattle.worker.specs.Findings.{IsLinkedAt, IsRestoredAt}
 use Rattle.worker.proofs.TextLemmas.{texts_of}
@@ -114,15 +111,15 @@ module _ {m : Module} {settings : Settings} (point : Savepoint m settings) (page
   -- a refused module is that of no savepoint
   refused_by : (fault : FrontFault) → FrontDenies fault (HasNoAcceptedModule pages wasm)
       → pages ≡ settings.pages → (want : Bool) → is_want fault ≡ want
-      → SaysNothing (Worker (Work (refusal_by want fault)))
-  refused_by fault denies same_pages true is = tt
+      → SaysNothing (recover.Front fault)
+  refused_by fault denies same_pages true is = is
   refused_by fault denies same_pages false is =
       absurd (subst (λ n. HasNoAcceptedModule n point.wasm) same_pages
       (subst (λ (w : List ℕ). HasNoAcceptedModule pages w) same_wasm
       (no_want fault (HasNoAcceptedModule pages wasm) is denies)) m point.accepted)
 
   pub unaccepted : (fault : FrontFault) (e : RecoverFault) → pages ≡ settings.pages
-      → e ≡ Worker (Work (refusal_of fault)) → FrontDenies fault (HasNoAcceptedModule pages wasm)
+      → e ≡ recover.Front fault → FrontDenies fault (HasNoAcceptedModule pages wasm)
       → SaysNothing e
   unaccepted fault e same_pages is denies =
       subst SaysNothing (sym is) (refused_by fault denies same_pages (is_want fault) refl)
@@ -161,12 +158,12 @@ module _ {m : Module} {settings : Settings} (point : Savepoint m settings)
   failed_at : ReachedIsWellTyped → (fault : RestoreFault)
       → (unrestored fault ≡ Err restore.NotAnImage → (s : Saved)
       → IsWellTyped machine.guest config s → bytes ≢ image s)
-      → SaysNothing (fault_of_restore fault)
+      → SaysNothing (recover.Image fault)
   failed_at law restore.NotAnImage refused = absurd (refused_at law (refused refl))
   failed_at law restore.Memory refused = tt
 
   pub unrestored_at : ReachedIsWellTyped → (fault : RestoreFault) (e : RecoverFault)
-      → e ≡ fault_of_restore fault
+      → e ≡ recover.Image fault
       → (unrestored fault ≡ Err restore.NotAnImage → (s : Saved)
       → IsWellTyped machine.guest config s → bytes ≢ image s)
       → SaysNothing e

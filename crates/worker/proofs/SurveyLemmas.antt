@@ -24,6 +24,7 @@ use Rattle.worker.specs.declared.surveyed.Survey.{Survey}
 use Rattle.worker.specs.rules.Recoveries.{MarksDecide}
 use Rattle.worker.specs.rules.Surveys.{Surveys, survey_of}
 use Rattle.worker.specs.Findings.{FindsWorker, FindsOne, IsFoundAt, numbers_of_found}
+use Rattle.worker.specs.Findings.{HasSearchCause}
 use Rattle.worker.specs.FoundDisks.{FindsIn}
 use Rattle.worker.proofs.AnswerLemmas.{found_there, surveyed}
 use Rattle.worker.proofs.RecoveryLemmas.Results.{settled_by, sync_faulted}
@@ -80,16 +81,14 @@ module _ {T : Type 0} (old sync new : Medium) (done : T)
   -- no worker was found
   pub unfound_surveys : (why : RecoverFault) (one : FindsOne sync.sectors new (Err why))
       → ((image : Image) → new.shows image → MarksDecide {T = Found} image (Err why))
-      → ((fault : DiskFault)
-      → ◌≡◌ {A = Result Found RecoverFault} (Err why) (Err (recover.Worker (Disk fault)))
-      → sync.faults < new.faults)
+      → HasSearchCause sync new why
       → ((image : Image) → new.shows image → FindsIn sync.sectors image (Err why))
       → Surveys (Err why) old new
   unfound_surveys why one marks cause shown = inr (
     settled_by old sync new done syncs reads few,
     λ fault is. (let same : why ≡ recover.Worker (Disk fault) = cc in
         since old.faults sync.faults new.faults earlier
-        (cause fault (ap (λ e. Err e) same))),
+        (subst (λ (e : RecoverFault). HasSearchCause sync new e) same cause)),
     λ image shows. (let decide = marks image shows in record {
       marks = record { only = decide.only; always = decide.always };
       tells = λ m config kept n stands room.

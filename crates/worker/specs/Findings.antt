@@ -1,5 +1,5 @@
 -- What is found on a disk, before anything is told or written.
-use Rattle.std.specs.Prelude.{◌≡◌, ℕ, ◌≤◌, List, [], length, Result, Ok, Err}
+use Rattle.std.specs.Prelude.{◌≡◌, ℕ, ◌<◌, ◌≤◌, List, [], length, Result, Ok, Err}
 use Rattle.wasm_syntax.specs.declared.module.Module.{Module}
 use Rattle.wasi_abi.specs.rules.Configs.{Settings}
 use Rattle.wasi_calls_rules.specs.laws.Laws.{IsOfBytes}
@@ -18,8 +18,11 @@ use Rattle.state_image.specs.rules.Image.{image}
 use Rattle.state_image.specs.rules.Saving.{saved_of}
 use Rattle.worker_store.specs.laws.Savepoints.{Savepoint, places, StandsAtPoint}
 use Rattle.worker.specs.declared.found.Found.{Found}
+use Rattle.worker.specs.declared.fault.WorkFault.TheVariants.{Disk}
 use Rattle.worker.specs.declared.recover_fault.RecoverFault.{RecoverFault}
+use Rattle.worker.specs.declared.recover_fault.RecoverFault.TheVariants.{Worker, Replay}
 use Rattle.worker.specs.declared.surveyed.Survey.{Survey}
+use Rattle.worker.specs.rules.RecoverFaults.{IsOfItsLayer}
 use Rattle.worker.specs.rules.Recoveries.{SaysNothing}
 
 -- the process of this savepoint, of these bytes of a module, and these records
@@ -63,6 +66,15 @@ FindsWorker sectors wasm disk result =
 abbrev pub FindsOne : ℕ → Medium → Result Found RecoverFault → Type 0
 FindsOne sectors disk result = (wasm : List ℕ)
     × ((image : Image) → disk.shows image → FindsWorker sectors wasm image result)
+
+-- When an error comes of a search, whatever stands on the disk. A fault of the disk comes only
+-- where the disk has failed since. Nothing is replayed or saved, and each other error is what its
+-- layer says itself.
+abbrev pub HasSearchCause : Medium → Medium → RecoverFault → Type 0
+HasSearchCause old new (Worker (Disk fault)) = old.faults < new.faults
+HasSearchCause old new (Worker other) = ⊥
+HasSearchCause old new (Replay fault) = ⊥
+HasSearchCause old new other = IsOfItsLayer other
 
 -- ---- in steps
 

@@ -14,10 +14,9 @@ use Rattle.worker_store.specs.rules.Calls.{CommitCalls}
 use Rattle.worker_store.specs.rules.Stores.{begun_store}
 use Rattle.worker.specs.declared.found.Found.{Found}
 use Rattle.worker.specs.declared.recover_fault.RecoverFault.{RecoverFault}
-use Rattle.worker.specs.declared.recover_fault.RecoverFault.TheVariants.{Worker}
+use Rattle.worker.specs.declared.recover_fault.RecoverFault.TheVariants.{Worker, Replay}
 use Rattle.worker.specs.rules.WorkFaults.{fault_of_store}
 use Rattle.worker.specs.rules.DurableValues.{DurableValue}
-use Rattle.worker.specs.rules.RecoverFaults.{fault_of_replay}
 
 -- ---- the next generation
 
@@ -83,7 +82,7 @@ pub record IsReplayed {O : Type 0} (takes : Taking O) (found : Found) (v : Proce
 pub record StopsInVain {D O : Type 0} (takes : Taking O) (found : Found) (why : RecoverFault)
     (mid new : D) (outlet outlet' : O) : Type 0 where
   pub fault : ReplayFault
-  pub is : why ≡ fault_of_replay fault
+  pub is : why ≡ Replay fault
   pub stops : ReplaysInVain takes found.process found.records.items fault outlet outlet'
   pub same : new ≡ mid
 

@@ -2,8 +2,9 @@
 
 use crate::durable::Worker;
 use crate::fault::WorkFault;
-use crate::saving::{is_process, save};
+use crate::saving::{is_process, save_telling};
 use ephemeral_worker::SliceFault;
+use record_replay::Outlet;
 use sector_disk::Disk;
 use worker_store::laws::images_fit_areas;
 
@@ -17,9 +18,14 @@ impl Worker {
     ghost use Rattle.worker.specs.rules.Checkpoints.{HasCheckpointCause, IsSavedIn};
     ghost use Rattle.worker.specs.rules.Unsynced.{CountsInSlice};
 
-    /// Puts all answers on the disk, and then the process, as a snapshot of the next generation.
-    /// What the guest does next is the same with it or without.
-    pub fn checkpoint<D: Disk>(&mut self, disk: &mut D) -> Result<(), WorkFault>
+    /// Puts all answers on the disk, releases each line that waits, in order, and then saves the
+    /// process, as a snapshot of the next generation. What the guest does next is the same with it
+    /// or without.
+    pub fn checkpoint<D: Disk, O: Outlet>(
+        &mut self,
+        disk: &mut D,
+        outlet: &mut O,
+    ) -> Result<(), WorkFault>
         requires { total_sectors self.old.store.geometry ≤ (D.medium disk.old).sectors }
 
         // Whatever was promised is kept, by Ok or by any error; once it has answered Ok, also
@@ -32,6 +38,9 @@ impl Worker {
         ensures unsaved { OnErr result
             (self.new.store.journal.generation ≡ self.old.store.journal.generation) }
         ensures process { self.new.process ≡ self.old.process }
+
+        // No line waits between two calls, so none is released.
+        ensures quiet { outlet.new ≡ outlet.old }
         ensures replayed { self.new.replayed ≡ self.old.replayed }
         ensures fails { OnErr result (self.new.has_failed ≡ true) }
 
@@ -62,7 +71,13 @@ impl Worker {
         images_fit_areas();
         is_process(&self.running.process);
         let running = &mut self.running;
-        let saved = save(running.alloc, disk, &mut running.store, &running.process);
+        let saved = save_telling(
+            running.alloc,
+            disk,
+            &mut running.store,
+            &mut running.process,
+            outlet,
+        );
         if let Err(fault) = saved {
             self.has_failed = true;
             return Err(WorkFault::from(fault));

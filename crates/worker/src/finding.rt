@@ -1,20 +1,16 @@
 //! What stands on a worker's disk, read before anything is told or written.
 
-ghost use Rattle.std.specs.Prelude.{◌≡◌, ◌*◌, ◌<◌, ◌≤◌, IfOk};
+ghost use Rattle.std.specs.Prelude.{◌*◌, ◌≤◌, IfErr, IfOk};
 ghost use Rattle.std.specs.List.{AllByRecursion};
 ghost use Rattle.wasi_abi.specs.rules.Answers.{AreBytes};
 ghost use Rattle.machine.specs.rules.Runs.{HasBegun};
-ghost use Rattle.sector_disk.specs.declared.fault.DiskFault.{DiskFault as TheDiskFault};
 ghost use Rattle.sector_disk.specs.rules.Image.{Image};
 ghost use Rattle.sector_disk.specs.rules.Medium.{CallsUpTo};
 ghost use Rattle.disk_layout.specs.rules.Places.{total_sectors};
 ghost use Rattle.disk_layout.specs.rules.Stored.{OnlyReads};
-ghost use Rattle.ephemeral_worker.specs.declared.fault.SliceFault.TheVariants as slice;
-ghost use Rattle.worker.specs.declared.fault.WorkFault.TheVariants as work;
-ghost use Rattle.worker.specs.declared.recover_fault.RecoverFault.TheVariants.{Worker};
 ghost use Rattle.worker.specs.rules.Recoveries.{MarksDecide, SaysNoWorker};
 ghost use Rattle.worker.specs.Findings.{FindsOne, FindsBehind, FindsLinked};
-ghost use Rattle.worker.specs.Findings.{FindsSnapshot, FindsRecords};
+ghost use Rattle.worker.specs.Findings.{FindsSnapshot, FindsRecords, HasSearchCause};
 ghost use Rattle.worker.specs.FoundDisks.{FindsIn, FindsBehindIn, FindsLinkedIn};
 ghost use Rattle.worker.specs.FoundDisks.{FindsSnapshotIn, FindsRecordsIn};
 
@@ -41,16 +37,13 @@ use worker_store::{read_newest, read_records, read_worker};
 /// come the newest head and its image, whether that is the image of a process, and the records.
 pub(crate) fn find<D: Disk>(alloc: Global, disk: &mut D) -> Result<Found, RecoverFault>
     ensures reads { OnlyReads (D.medium disk.old) (D.medium disk.new) }
-    ensures untold { result ≡ Err (Worker (work.Work slice.Outlet)) → ⊥ }
     ensures finds { FindsOne (D.medium disk.old).sectors (D.medium disk.new) result }
     ensures shows { (image : Image) → (D.medium disk.new).shows image
         → FindsIn (D.medium disk.old).sectors image result }
     ensures marks { (image : Image) → (D.medium disk.new).shows image → MarksDecide image result }
     ensures room { IfOk result (λ found.
         total_sectors found.geometry ≤ (D.medium disk.new).sectors) }
-    ensures cause { (fault : TheDiskFault) → result ≡ Err (Worker (work.Disk fault))
-        → (D.medium disk.old).faults < (D.medium disk.new).faults }
-    ensures unfailed { result ≡ Err (Worker (work.Work slice.Failed)) → ⊥ }
+    ensures cause { IfErr result (HasSearchCause (D.medium disk.old) (D.medium disk.new)) }
     ensures asks { CallsUpTo (2 * (D.medium disk.old).sectors) (D.medium disk.old)
         (D.medium disk.new) }
 {
@@ -68,7 +61,6 @@ fn find_linked<D: Disk>(
 ) -> Result<Found, RecoverFault>
     requires { total_sectors contents.geometry ≤ (D.medium disk.old).sectors }
     ensures reads { OnlyReads (D.medium disk.old) (D.medium disk.new) }
-    ensures untold { result ≡ Err (Worker (work.Work slice.Outlet)) → ⊥ }
     ensures finds { (image : Image) → (D.medium disk.new).shows image
         → FindsBehind contents image result }
     ensures shows { (image : Image) → (D.medium disk.new).shows image
@@ -76,9 +68,7 @@ fn find_linked<D: Disk>(
     ensures room { IfOk result (λ found.
         total_sectors found.geometry ≤ (D.medium disk.new).sectors) }
     ensures own { SaysNoWorker result → ⊥ }
-    ensures cause { (fault : TheDiskFault) → result ≡ Err (Worker (work.Disk fault))
-        → (D.medium disk.old).faults < (D.medium disk.new).faults }
-    ensures unfailed { result ≡ Err (Worker (work.Work slice.Failed)) → ⊥ }
+    ensures cause { IfErr result (HasSearchCause (D.medium disk.old) (D.medium disk.new)) }
     ensures asks { CallsUpTo (D.medium disk.old).sectors (D.medium disk.old) (D.medium disk.new) }
 {
     let Contents {
@@ -103,7 +93,6 @@ fn find_saved<D: Disk>(
     requires room { total_sectors geometry.now ≤ (D.medium disk.old).sectors }
     requires begun { HasBegun config.pages machine.guest machine }
     ensures reads { OnlyReads (D.medium disk.old) (D.medium disk.new) }
-    ensures untold { result ≡ Err (Worker (work.Work slice.Outlet)) → ⊥ }
     ensures finds { (image : Image) → (D.medium disk.new).shows image
         → FindsLinked geometry.now config machine image result }
     ensures shows { (image : Image) → (D.medium disk.new).shows image
@@ -111,9 +100,7 @@ fn find_saved<D: Disk>(
     ensures room { IfOk result (λ found.
         total_sectors found.geometry ≤ (D.medium disk.new).sectors) }
     ensures own { SaysNoWorker result → ⊥ }
-    ensures cause { (fault : TheDiskFault) → result ≡ Err (Worker (work.Disk fault))
-        → (D.medium disk.old).faults < (D.medium disk.new).faults }
-    ensures unfailed { result ≡ Err (Worker (work.Work slice.Failed)) → ⊥ }
+    ensures cause { IfErr result (HasSearchCause (D.medium disk.old) (D.medium disk.new)) }
     ensures asks { CallsUpTo (D.medium disk.old).sectors (D.medium disk.old) (D.medium disk.new) }
 {
     match read_newest(alloc, disk, geometry) {
@@ -134,7 +121,6 @@ fn find_process<D: Disk>(
     requires room { total_sectors geometry.now ≤ (D.medium disk.old).sectors }
     requires begun { HasBegun config.pages machine.guest machine }
     ensures reads { OnlyReads (D.medium disk.old) (D.medium disk.new) }
-    ensures untold { result ≡ Err (Worker (work.Work slice.Outlet)) → ⊥ }
     ensures finds { (image : Image) → (D.medium disk.new).shows image
         → FindsSnapshot geometry.now config machine snapshot image result }
     ensures shows { (image : Image) → (D.medium disk.new).shows image
@@ -142,9 +128,7 @@ fn find_process<D: Disk>(
     ensures room { IfOk result (λ found.
         total_sectors found.geometry ≤ (D.medium disk.new).sectors) }
     ensures own { SaysNoWorker result → ⊥ }
-    ensures cause { (fault : TheDiskFault) → result ≡ Err (Worker (work.Disk fault))
-        → (D.medium disk.old).faults < (D.medium disk.new).faults }
-    ensures unfailed { result ≡ Err (Worker (work.Work slice.Failed)) → ⊥ }
+    ensures cause { IfErr result (HasSearchCause (D.medium disk.old) (D.medium disk.new)) }
     ensures asks { CallsUpTo geometry.now.journal_sectors (D.medium disk.old) (D.medium disk.new) }
 {
     restored_processes_are_the_saved();
@@ -167,7 +151,6 @@ fn find_records<D: Disk>(
 ) -> Result<Found, RecoverFault>
     requires { total_sectors geometry.now ≤ (D.medium disk.old).sectors }
     ensures reads { OnlyReads (D.medium disk.old) (D.medium disk.new) }
-    ensures untold { result ≡ Err (Worker (work.Work slice.Outlet)) → ⊥ }
     ensures finds { (image : Image) → (D.medium disk.new).shows image
         → FindsRecords geometry.now generation process image result }
     ensures shows { (image : Image) → (D.medium disk.new).shows image
@@ -175,9 +158,7 @@ fn find_records<D: Disk>(
     ensures room { IfOk result (λ found.
         total_sectors found.geometry ≤ (D.medium disk.new).sectors) }
     ensures own { SaysNoWorker result → ⊥ }
-    ensures cause { (fault : TheDiskFault) → result ≡ Err (Worker (work.Disk fault))
-        → (D.medium disk.old).faults < (D.medium disk.new).faults }
-    ensures unfailed { result ≡ Err (Worker (work.Work slice.Failed)) → ⊥ }
+    ensures cause { IfErr result (HasSearchCause (D.medium disk.old) (D.medium disk.new)) }
     ensures asks { CallsUpTo geometry.now.journal_sectors (D.medium disk.old) (D.medium disk.new) }
 {
     is_process(&process);

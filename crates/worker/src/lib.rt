@@ -26,8 +26,11 @@
 //! - `read_survey`: nothing is written. The disk is synced, and what it then shows decides the
 //!   result (`Surveys`). Where it stands for a worker, its generation and the numbers of the saved
 //!   process are told, and how many records lie behind it; or an error that says nothing of them.
+//! - A recovery's error is that of the layer that has found it, under its own name
+//!   (`RecoverFault`). Want of memory may end a recovery anywhere, and then it says only what the
+//!   layers before have found (`shown`).
 //! - `carries` speaks of a disk whose answers fit an image in the end: of another one nothing is
-//!   known. Want of memory may end a recovery anywhere.
+//!   known.
 //! - `Worker::slice` runs as `ephemeral_worker: EphemeralWorker::slice` does (`done`). Whatever was
 //!   promised of the worker that is open on its disk is kept (`carries`). For its exchanges, and
 //!   its end by Ok or by any error, are events that keep it. A cut at any moment leaves what holds
@@ -38,9 +41,11 @@
 //! - By Ok and by any error, a slice asks the disk for barriers and saves alone. The generation is
 //!   one more by each save that has succeeded, and by nothing else (`calls`). How much was replayed
 //!   stays (`replayed`), and the disk has room for the next call (`room`).
-//! - `Worker::checkpoint` keeps it too (`carries`), and after its Ok no later life comes
-//!   behind it (`saved`). Its calls of the disk are told (`calls`), and each error has its cause
-//!   (`cause`). After an error the generation is as it was (`unsaved`).
+//! - `Worker::checkpoint` is a barrier, the release of each line that waits, and a commit. No line
+//!   waits between two calls, so it releases none (`quiet`). It keeps what was promised too
+//!   (`carries`), and after its Ok no later life comes behind it (`saved`). Its calls of the disk
+//!   are told (`calls`), and each error has its cause (`cause`). After an error the generation is
+//!   as it was (`unsaved`).
 //! - Whatever stands on the disk, a slice, a checkpoint and a recovery answer a fault of the disk
 //!   only for its cause, and `Failed` only of a worker that had failed before (`on_any_disk`).
 //! - At no moment of a slice, a checkpoint or a recovery are there more unsynced writes than before
@@ -71,7 +76,8 @@
 //! `SlicesOnDiskInVain`, `IsDiskCause`, `HasSliceCause` (`DurableFailures.antt`); `SliceCalls`
 //! (`SliceCalls.antt`); `CheckpointCalls`, `CheckpointFails`, `HasCheckpointCause`
 //! (`Checkpoints.antt`); `CountsInSlice`, `CountsInRecovery` (`Unsynced.antt`); `fault_of_store`
-//! (`WorkFaults.antt`); `fault_of_restore`, `fault_of_replay` (`RecoverFaults.antt`);
+//! (`WorkFaults.antt`); `fault_of_read`, `wants_memory`, `LayerWantsMemory`, `IsOfItsLayer`
+//! (`RecoverFaults.antt`);
 //! `most_calls`, `CallsForEvents` (`CallCounts.antt`); `inputs_of` (`Planned.antt`), `TellsLives`
 //! (`StoryDisks.antt`). They speak in the words of `worker_rules` and `worker_store`.
 //!

@@ -1,36 +1,71 @@
 //! Why a recovery fails.
 
 ghost use Rattle.std.specs.Prelude.{◌≡◌};
-ghost use Rattle.ephemeral_worker.specs.rules.Refusals.{refusal_of};
 ghost use Rattle.worker.specs.declared.fault.WorkFault.TheVariants as work;
-ghost use Rattle.worker.specs.declared.recover_fault.RecoverFault.TheVariants.{Worker};
+ghost use Rattle.worker.specs.declared.recover_fault.RecoverFault.TheVariants as recover;
 ghost use Rattle.worker.specs.rules.WorkFaults.{fault_of_store};
-ghost use Rattle.worker.specs.rules.RecoverFaults.{fault_of_restore, fault_of_replay};
+ghost use Rattle.worker.specs.rules.RecoverFaults.{fault_of_read, wants_memory};
 
 use crate::fault::WorkFault;
+use disk_layout::LayoutFault;
 use ephemeral_worker::SliceFault;
+use journal::JournalFault;
 use machine_loader::FrontFault;
 use record_replay::ReplayFault;
 use sector_disk::DiskFault;
+use snapshot::SnapshotFault;
 use state_image::restoring::RestoreFault;
 use thiserror::Error;
-use worker_store::StoreFault;
+use worker_store::{ReadFault, StoreFault};
 
-/// What any call of a worker on its disk may say, or what only a recovery finds.
+/// The fault of the layer that has found it, under its own name. So it says which of them wants
+/// memory.
 #[derive(Clone, Copy, Debug, PartialEq, Eq, Error)]
 pub enum RecoverFault {
+    /// What any call of a worker on its disk may say. Of a recovery it is a fault of the disk, or
+    /// the next generation is too big.
     #[error("{0}")]
     Worker(WorkFault),
-    /// The bytes of the newest snapshot are the image of no process of this module.
-    #[error("I1 NotAnImage")]
-    NotAnImage,
-    /// A record fits nothing that the process asks for at its step.
-    #[error("Q1 Diverged")]
-    Diverged,
+    /// The super, the configuration and the module's bytes, or the version of the newest head.
+    #[error("{0}")]
+    Layout(LayoutFault),
+    /// The module is decoded, validated and linked.
+    #[error("{0}")]
+    Front(FrontFault),
+    /// The newest head, and the image that it names.
+    #[error("{0}")]
+    Snapshot(SnapshotFault),
+    /// The process is made of its image again.
+    #[error("{0}")]
+    Image(RestoreFault),
+    /// The records behind it.
+    #[error("{0}")]
+    Journal(JournalFault),
+    /// The process takes its records, and its lines are released once more.
+    #[error("{0}")]
+    Replay(ReplayFault),
+}
+
+impl RecoverFault {
+    /// Whether a layer wanted memory, which says nothing of the disk.
+    pub fn is_want_of_memory(&self) -> bool
+        ensures { result ≡ wants_memory self.now }
+    {
+        match self {
+            RecoverFault::Front(fault) => fault.is_want_of_memory(),
+            RecoverFault::Worker(WorkFault::Work(SliceFault::Memory))
+            | RecoverFault::Layout(LayoutFault::Memory)
+            | RecoverFault::Snapshot(SnapshotFault::Memory)
+            | RecoverFault::Image(RestoreFault::Memory)
+            | RecoverFault::Journal(JournalFault::Memory)
+            | RecoverFault::Replay(ReplayFault::Memory) => true,
+            _ => false,
+        }
+    }
 }
 
 impl From<DiskFault> for RecoverFault {
-    ghost from_gives = { λ fault e. e ≡ Worker (work.Disk fault) };
+    ghost from_gives = { λ fault e. e ≡ recover.Worker (work.Disk fault) };
 
     fn from(fault: DiskFault) -> RecoverFault {
         RecoverFault::Worker(WorkFault::Disk(fault))
@@ -38,40 +73,46 @@ impl From<DiskFault> for RecoverFault {
 }
 
 impl From<StoreFault> for RecoverFault {
-    ghost from_gives = { λ fault e. e ≡ Worker (fault_of_store fault) };
+    ghost from_gives = { λ fault e. e ≡ recover.Worker (fault_of_store fault) };
 
     fn from(fault: StoreFault) -> RecoverFault {
         RecoverFault::Worker(WorkFault::from(fault))
     }
 }
 
+impl From<ReadFault> for RecoverFault {
+    ghost from_gives = { λ fault e. e ≡ fault_of_read fault };
+
+    fn from(fault: ReadFault) -> RecoverFault {
+        match fault {
+            ReadFault::Disk(fault) => RecoverFault::Worker(WorkFault::Disk(fault)),
+            ReadFault::Layout(fault) => RecoverFault::Layout(fault),
+            ReadFault::Snapshot(fault) => RecoverFault::Snapshot(fault),
+            ReadFault::Journal(fault) => RecoverFault::Journal(fault),
+        }
+    }
+}
+
 impl From<FrontFault> for RecoverFault {
-    ghost from_gives = { λ fault e. e ≡ Worker (work.Work (refusal_of fault)) };
+    ghost from_gives = { λ fault e. e ≡ recover.Front fault };
 
     fn from(fault: FrontFault) -> RecoverFault {
-        RecoverFault::Worker(WorkFault::Work(SliceFault::from(fault)))
+        RecoverFault::Front(fault)
     }
 }
 
 impl From<RestoreFault> for RecoverFault {
-    ghost from_gives = { λ fault e. e ≡ fault_of_restore fault };
+    ghost from_gives = { λ fault e. e ≡ recover.Image fault };
 
     fn from(fault: RestoreFault) -> RecoverFault {
-        match fault {
-            RestoreFault::NotAnImage => RecoverFault::NotAnImage,
-            RestoreFault::Memory => RecoverFault::Worker(WorkFault::Work(SliceFault::Memory)),
-        }
+        RecoverFault::Image(fault)
     }
 }
 
 impl From<ReplayFault> for RecoverFault {
-    ghost from_gives = { λ fault e. e ≡ fault_of_replay fault };
+    ghost from_gives = { λ fault e. e ≡ recover.Replay fault };
 
     fn from(fault: ReplayFault) -> RecoverFault {
-        match fault {
-            ReplayFault::Diverged => RecoverFault::Diverged,
-            ReplayFault::Memory => RecoverFault::Worker(WorkFault::Work(SliceFault::Memory)),
-            ReplayFault::Outlet => RecoverFault::Worker(WorkFault::Work(SliceFault::Outlet)),
-        }
+        RecoverFault::Replay(fault)
     }
 }

@@ -9,5 +9,6 @@ pub mod StoreLemmas
 mod CreationLemmas
 mod FirstLemmas
 mod ReadLemmas
+mod ReadCauseLemmas
 mod AppendLemmas
 mod NewestLemmas

@@ -19,14 +19,14 @@ use Rattle.snapshot.specs.rules.Heads.{FindsHead, HasNone}
 use Rattle.state_image.specs.rules.Image.{image}
 use Rattle.snapshot.specs.rules.Newest.{NamesBytes, ReadsImage}
 use Rattle.snapshot.proofs.ReadLemmas.{named_holds}
-use Rattle.worker_store.specs.declared.fault.StoreFault.{StoreFault}
-use Rattle.worker_store.specs.declared.fault.StoreFault.TheVariants as store
+use Rattle.worker_store.specs.declared.read_fault.ReadFault.{ReadFault}
+use Rattle.worker_store.specs.declared.read_fault.ReadFault.TheVariants as read
 use Rattle.worker_store.specs.laws.Readings.{FindsSaved}
 use Rattle.worker_store.specs.laws.Savepoints.{Savepoint, places, StandsAtPoint}
 use Rattle.worker_store.specs.rules.Readings.{ReadsNewest}
 use Rattle.worker_store.proofs.LawLemmas.Reading.{finds_newest_point, finds_the_point}
 use Rattle.worker_store.proofs.LawLemmas.Reading.{reads_undamaged}
-use Rattle.worker_store.specs.rules.Faults.{fault_of_snapshot}
+use Rattle.worker_store.specs.rules.ReadFaults.{read_of_snapshot}
 use Rattle.worker_store.specs.rules.AnyDisk.{TellsNewest, HasOtherVersion}
 use Rattle.worker_store.specs.rules.AnyDisk.{LacksItsImage}
 
@@ -50,19 +50,19 @@ module _ (geometry : Geometry) (disk : Image) (found : Option Head) (head : Head
 
     unread_image : (fault : SnapshotFault) → (fault ≡ snapshot.Failed → ⊥)
         → ReadsImage geometry disk head (Err fault)
-        → TellsNewest geometry disk (Err (fault_of_snapshot fault))
+        → TellsNewest geometry disk (Err (read_of_snapshot fault))
     unread_image snapshot.TooBig works reads = absurd reads
     unread_image snapshot.Damaged works reads =
         inr (record { head = head; newest = newest; known = known; lacks = reads })
     unread_image (snapshot.Disk fault) works reads = tt
-    unread_image snapshot.Memory works reads = tt
+    unread_image snapshot.Memory works reads = record { head = head; newest = newest; known = known }
     unread_image snapshot.Failed works reads = works refl
 
-    pub image_wrong : (fault : SnapshotFault) (e : StoreFault) → e ≡ fault_of_snapshot fault
+    pub image_wrong : (fault : SnapshotFault) (e : ReadFault) → e ≡ read_of_snapshot fault
         → (fault ≡ snapshot.Failed → ⊥) → ReadsImage geometry disk head (Err fault)
         → TellsNewest geometry disk (Err e)
     image_wrong fault e same works reads =
-        subst (λ (f : StoreFault). TellsNewest geometry disk (Err f)) (sym same)
+        subst (λ (f : ReadFault). TellsNewest geometry disk (Err f)) (sym same)
         (unread_image fault works reads)
 
 -- ---- where a savepoint stands
@@ -102,26 +102,19 @@ module _ (geometry : Geometry) (disk : Image) (m : Module) (config : Settings)
   not_damaged (inr lacks) = not_lacking lacks
 
 -- what is told there is what was saved
-pub reads_newest : (geometry : Geometry) (disk : Image) (result : Result Snapshot StoreFault)
+pub reads_newest : (geometry : Geometry) (disk : Image) (result : Result Snapshot ReadFault)
     → TellsNewest geometry disk result → ReadsNewest geometry disk result
 reads_newest geometry disk (Ok s) tells =
     λ m config point records last at placed.
     its_snapshot geometry disk m config point records last at placed s tells
-reads_newest geometry disk (Err (store.Layout layout.Version)) tells =
+reads_newest geometry disk (Err (read.Layout layout.Version)) tells =
     λ m config point records last at placed.
     not_another geometry disk m config point records last at placed tells
-reads_newest geometry disk (Err store.Damaged) tells =
+reads_newest geometry disk (Err (read.Snapshot snapshot.Damaged)) tells =
     λ m config point records last at placed.
     not_damaged geometry disk m config point records last at placed tells
-reads_newest geometry disk (Err store.Memory) tells = λ m config point records last at placed. tt
-reads_newest geometry disk (Err (store.Disk fault)) tells =
+reads_newest geometry disk (Err (read.Snapshot snapshot.Memory)) tells =
     λ m config point records last at placed. tt
-reads_newest geometry disk (Err store.Full) tells = absurd tells
-reads_newest geometry disk (Err store.TooLong) tells = absurd tells
-reads_newest geometry disk (Err store.TooBig) tells = absurd tells
-reads_newest geometry disk (Err store.Failed) tells = absurd tells
-reads_newest geometry disk (Err (store.Layout layout.NotAWorker)) tells = absurd tells
-reads_newest geometry disk (Err (store.Layout layout.TooSmall)) tells = absurd tells
-reads_newest geometry disk (Err (store.Layout layout.Damaged)) tells = absurd tells
-reads_newest geometry disk (Err (store.Layout layout.Memory)) tells = absurd tells
-reads_newest geometry disk (Err (store.Layout (layout.Disk fault))) tells = absurd tells
+reads_newest geometry disk (Err (read.Disk fault)) tells =
+    λ m config point records last at placed. tt
+reads_newest geometry disk (Err other) tells = absurd tells

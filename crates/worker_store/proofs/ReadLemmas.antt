@@ -18,8 +18,8 @@ use Rattle.snapshot.specs.declared.snapshots.Snapshots.{Snapshots}
 use Rattle.snapshot.specs.rules.Snapshots.{has_failed, is_failed, is_idle, is_idle_state}
 use Rattle.worker_store.specs.laws.Savepoints.{Savepoint, places, StandsAtPoint}
 use Rattle.worker_store.proofs.LawLemmas.Reading.{reads_the_module}
-use Rattle.worker_store.specs.declared.fault.StoreFault.{StoreFault}
-use Rattle.worker_store.specs.rules.Faults.{fault_of_layout}
+use Rattle.worker_store.specs.declared.read_fault.ReadFault.{ReadFault}
+use Rattle.worker_store.specs.rules.ReadFaults.{read_of_layout}
 use Rattle.worker_store.specs.rules.Readings.{ReadsContents}
 use Rattle.worker_store.proofs.FillLemmas.{ok_no_err}
 
@@ -40,8 +40,8 @@ module _ (sectors : ℕ) (disk : Image) (m : Module) (config : Settings)
       subst P same refl
 
 -- where it fails that says nothing of the disk
-pub contents_failed : (sectors : ℕ) (disk : Image) (fault : LayoutFault) (e : StoreFault)
-    → e ≡ fault_of_layout fault → GivesContents sectors disk (Err fault)
+pub contents_failed : (sectors : ℕ) (disk : Image) (fault : LayoutFault) (e : ReadFault)
+    → e ≡ read_of_layout fault → GivesContents sectors disk (Err fault)
     → ReadsContents sectors disk (Err e)
 contents_failed sectors disk layout.NotAWorker e same gives =
     λ m config point records last at room.
@@ -61,10 +61,10 @@ contents_failed sectors disk layout.Damaged e same gives =
     absurd (ok_no_err _ layout.Damaged (sym (reads_the_module m config point records last disk
     sectors (Err layout.Damaged) at room tt gives)))
 contents_failed sectors disk layout.Memory e same gives =
-    subst (λ (f : StoreFault). ReadsContents sectors disk (Err f)) (sym same)
+    subst (λ (f : ReadFault). ReadsContents sectors disk (Err f)) (sym same)
     (λ m config point records last at room. tt)
 contents_failed sectors disk (layout.Disk fault) e same gives =
-    subst (λ (f : StoreFault). ReadsContents sectors disk (Err f)) (sym same)
+    subst (λ (f : ReadFault). ReadsContents sectors disk (Err f)) (sym same)
     (λ m config point records last at room. tt)
 
 -- ---- the snapshot

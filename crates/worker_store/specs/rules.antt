@@ -1,4 +1,5 @@
 pub mod Faults
+pub mod ReadFaults
 pub mod Stores
 pub mod Calls
 pub mod Creations

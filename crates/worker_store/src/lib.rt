@@ -24,7 +24,8 @@
 //!   what it stands by (`gives`, `finds`, `scans`). Of any other one they give what stands there,
 //!   or tell what is wrong with it, the version of the newest head before its image (`tells`). They
 //!   only read (`reads`). That there is no worker is said by `read_worker` alone, only where a mark
-//!   of one is missing, and always there (`marks`, `own`).
+//!   of one is missing, and always there (`marks`, `own`). An error is that of the layer that has
+//!   found it, or of the disk, which has failed then (`cause`).
 //! - `WorkerStore::reopen` commits the next generation on whatever stands for the worker. A cut at
 //!   any moment leaves what stands for the same answers, or the new snapshot (`any_moment`,
 //!   `durable`).
@@ -93,7 +94,8 @@
 //!
 //! In `specs/rules/`: `IsStoreOf`, `begun_store`, `with_record`, `with_stored` (`Stores.antt`);
 //! what each call leaves, and when each error comes (`Calls.antt`, `Creations.antt`,
-//! `Readings.antt`, `AnyDisk.antt`); faults of the crates below (`Faults.antt`). Words that they
+//! `Readings.antt`, `AnyDisk.antt`); faults of the crates below (`Faults.antt`,
+//! `ReadFaults.antt`). Words that they
 //! take from `specs/laws/`: `Savepoint`, `StandsAtPoint` (`Savepoints.antt`), `StandsAtFront`
 //! (`Barriers.antt`), `BeginsAtPoint` and `StandsBefore` (`Commits.antt`).
 //!
@@ -121,6 +123,7 @@ pub mod events;
 mod fault;
 mod filling;
 pub mod laws;
+mod read_fault;
 mod reading;
 mod saving;
 mod store;
@@ -129,5 +132,6 @@ mod zeros;
 
 pub use creation::lay_out;
 pub use fault::StoreFault;
+pub use read_fault::ReadFault;
 pub use reading::{read_newest, read_records, read_worker};
 pub use store::WorkerStore;

@@ -1,7 +1,6 @@
 // What stands on a worker's disk, read back.
 
-ghost use Rattle.std.specs.Prelude.{◌≡◌, ◌+◌, ◌<◌, ◌≤◌, IfOk};
-ghost use Rattle.sector_disk.specs.declared.fault.DiskFault.{DiskFault};
+ghost use Rattle.std.specs.Prelude.{◌+◌, ◌≤◌, IfErr, IfOk};
 ghost use Rattle.sector_disk.specs.rules.Image.{Image};
 ghost use Rattle.sector_disk.specs.rules.Medium.{CallsUpTo};
 ghost use Rattle.disk_layout.specs.rules.Places.{total_sectors};
@@ -9,17 +8,18 @@ ghost use Rattle.disk_layout.specs.rules.Stored.{OnlyReads};
 ghost use Rattle.worker_store.specs.rules.AnyDisk.{TellsContents, TellsNewest, TellsRecords};
 ghost use Rattle.worker_store.specs.rules.Readings.{ReadsContents, ReadsNewest, ReadsRecords};
 ghost use Rattle.worker_store.specs.rules.Readings.{DeniesWorker, TellsMarks};
+ghost use Rattle.worker_store.specs.rules.ReadFaults.{HasReadCause};
 
-use crate::fault::StoreFault;
+use crate::read_fault::ReadFault;
 use disk_layout::{Contents, Geometry, IMAGE_VERSION, LayoutFault, Record, read_contents};
 use journal::Journal;
 use sector_disk::Disk;
-use snapshot::{Snapshot, Snapshots};
+use snapshot::{Snapshot, SnapshotFault, Snapshots};
 use std::alloc::Global;
 
 /// The configuration and the module of the worker on a disk, and where its things lie. A disk
 /// without one is a `Layout` fault.
-pub fn read_worker<D: Disk>(alloc: Global, disk: &mut D) -> Result<Contents, StoreFault>
+pub fn read_worker<D: Disk>(alloc: Global, disk: &mut D) -> Result<Contents, ReadFault>
     ensures reads { OnlyReads (D.medium disk.old) (D.medium disk.new) }
     ensures gives { (image : Image) → (D.medium disk.new).shows image
         → ReadsContents (D.medium disk.old).sectors image result }
@@ -27,14 +27,12 @@ pub fn read_worker<D: Disk>(alloc: Global, disk: &mut D) -> Result<Contents, Sto
     ensures tells { (image : Image) → (D.medium disk.new).shows image
         → TellsContents (D.medium disk.old).sectors image result }
     ensures room { IfOk result (λ c. total_sectors c.geometry ≤ (D.medium disk.old).sectors) }
-    ensures cause { (fault : DiskFault) → result ≡ Err (StoreFault.Disk fault)
-        → (D.medium disk.old).faults < (D.medium disk.new).faults }
-    ensures unfailed { result ≡ Err StoreFault.Failed → ⊥ }
+    ensures cause { IfErr result (HasReadCause (D.medium disk.old) (D.medium disk.new)) }
     ensures asks { CallsUpTo (D.medium disk.old).sectors (D.medium disk.old) (D.medium disk.new) }
 {
     match read_contents(alloc, disk) {
         Ok(contents) => Ok(contents),
-        Err(fault) => Err(StoreFault::from(fault)),
+        Err(fault) => Err(ReadFault::from(fault)),
     }
 }
 
@@ -46,7 +44,7 @@ pub fn read_newest<D: Disk>(
     alloc: Global,
     disk: &mut D,
     geometry: &Geometry,
-) -> Result<Snapshot, StoreFault>
+) -> Result<Snapshot, ReadFault>
     requires { total_sectors geometry.now ≤ (D.medium disk.old).sectors }
     ensures reads { OnlyReads (D.medium disk.old) (D.medium disk.new) }
     ensures tells { (image : Image) → (D.medium disk.new).shows image
@@ -54,22 +52,20 @@ pub fn read_newest<D: Disk>(
     ensures finds { (image : Image) → (D.medium disk.new).shows image
         → ReadsNewest geometry.now image result }
     ensures own { DeniesWorker result → ⊥ }
-    ensures cause { (fault : DiskFault) → result ≡ Err (StoreFault.Disk fault)
-        → (D.medium disk.old).faults < (D.medium disk.new).faults }
-    ensures unfailed { result ≡ Err StoreFault.Failed → ⊥ }
+    ensures cause { IfErr result (HasReadCause (D.medium disk.old) (D.medium disk.new)) }
     ensures asks { CallsUpTo (geometry.now.area_sectors + 2) (D.medium disk.old)
         (D.medium disk.new) }
 {
     let mut snapshots = Snapshots::new();
     let found = match snapshots.newest_head(disk) {
         Ok(found) => found,
-        Err(fault) => return Err(StoreFault::from(fault)),
+        Err(fault) => return Err(ReadFault::from(fault)),
     };
     let Some(head) = found else {
-        return Err(StoreFault::Damaged);
+        return Err(ReadFault::Snapshot(SnapshotFault::Damaged));
     };
     if head.version != IMAGE_VERSION {
-        return Err(StoreFault::Layout(LayoutFault::Version));
+        return Err(ReadFault::Layout(LayoutFault::Version));
     }
     match snapshots.image_of(alloc, disk, geometry, &head) {
         Ok(image) => Ok(Snapshot {
@@ -77,7 +73,7 @@ pub fn read_newest<D: Disk>(
             generation: head.generation,
             image,
         }),
-        Err(fault) => Err(StoreFault::from(fault)),
+        Err(fault) => Err(ReadFault::from(fault)),
     }
 }
 
@@ -87,7 +83,7 @@ pub fn read_records<D: Disk>(
     disk: &mut D,
     geometry: &Geometry,
     generation: u64,
-) -> Result<Vec<Record>, StoreFault>
+) -> Result<Vec<Record>, ReadFault>
     requires { total_sectors geometry.now ≤ (D.medium disk.old).sectors }
     ensures reads { OnlyReads (D.medium disk.old) (D.medium disk.new) }
     ensures scans { (image : Image) → (D.medium disk.new).shows image
@@ -95,13 +91,11 @@ pub fn read_records<D: Disk>(
     ensures tells { (image : Image) → (D.medium disk.new).shows image
         → TellsRecords geometry.now generation image result }
     ensures own { DeniesWorker result → ⊥ }
-    ensures cause { (fault : DiskFault) → result ≡ Err (StoreFault.Disk fault)
-        → (D.medium disk.old).faults < (D.medium disk.new).faults }
-    ensures unfailed { result ≡ Err StoreFault.Failed → ⊥ }
+    ensures cause { IfErr result (HasReadCause (D.medium disk.old) (D.medium disk.new)) }
     ensures asks { CallsUpTo geometry.now.journal_sectors (D.medium disk.old) (D.medium disk.new) }
 {
     match Journal::scan(alloc, disk, geometry, generation) {
         Ok(records) => Ok(records),
-        Err(fault) => Err(StoreFault::from(fault)),
+        Err(fault) => Err(ReadFault::from(fault)),
     }
 }

@@ -6,17 +6,17 @@ use crate::stories::lives::{AGAIN, CREATED, FIRST, Plan, TELLS, Told, are_told_s
 use sector_disk::DiskFault;
 use std::alloc::Global;
 use worker::story::{LifeEnd, LifeReport, Report};
-use worker::{RecoverFault, SliceFault, WorkFault};
+use worker::{RecoverFault, WorkFault};
 
-/// What is told of lives that want memory, for themselves or for their disk.
-static STARVED: [LifeEnd; 2] = [
-    LifeEnd::Failed(RecoverFault::Worker(WorkFault::Work(SliceFault::Memory))),
-    LifeEnd::Failed(RecoverFault::Worker(WorkFault::Disk(DiskFault::Memory))),
-];
+/// What is told of a life whose disk wants memory.
+const DISK_STARVED: RecoverFault = RecoverFault::Worker(WorkFault::Disk(DiskFault::Memory));
 
-/// Whether a life ended by want of memory.
+/// Whether a life ended by want of memory, of its disk or of some layer.
 fn has_starved(life: &LifeReport) -> bool {
-    life.ended == STARVED[0] || life.ended == STARVED[1]
+    match life.ended {
+        LifeEnd::Failed(why) => why == DISK_STARVED || why.is_want_of_memory(),
+        LifeEnd::Finished | LifeEnd::Stopped => false,
+    }
 }
 
 /// A worker tells a line, and tells it again in its second life.

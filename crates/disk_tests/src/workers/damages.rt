@@ -4,7 +4,10 @@ use crate::guests::{ECHO, SECTORS, blank};
 use crate::halt::{Halt, NO_WORKER};
 use crate::workers::working::{Stand, create, open};
 use disk_layout::LayoutFault;
+use record_replay::ReplayFault;
 use sector_disk::{Disk, DiskFault, MemDisk};
+use snapshot::SnapshotFault;
+use state_image::restoring::RestoreFault;
 use std::alloc::Global;
 use worker::{RecoverFault, StoreFault, WorkFault};
 
@@ -31,17 +34,20 @@ const FRESH: Stand = Stand {
     replayed: 0,
 };
 
-const VERSION: Halt = Halt::Work(WorkFault::Store(StoreFault::Layout(LayoutFault::Version)));
+const VERSION: Halt = Halt::Recovery(RecoverFault::Layout(LayoutFault::Version));
 
-const TOO_SMALL: Halt = Halt::Work(WorkFault::Store(StoreFault::Layout(LayoutFault::TooSmall)));
+const TOO_SMALL: Halt = Halt::Recovery(RecoverFault::Layout(LayoutFault::TooSmall));
 
-const FIELDS: Halt = Halt::Work(WorkFault::Store(StoreFault::Layout(LayoutFault::Damaged)));
+const FIELDS: Halt = Halt::Recovery(RecoverFault::Layout(LayoutFault::Damaged));
 
-const SNAPSHOT: Halt = Halt::Work(WorkFault::Store(StoreFault::Damaged));
+const SNAPSHOT: Halt = Halt::Recovery(RecoverFault::Snapshot(SnapshotFault::Damaged));
 
-const NO_IMAGE: Halt = Halt::Recovery(RecoverFault::NotAnImage);
+const NO_IMAGE: Halt = Halt::Recovery(RecoverFault::Image(RestoreFault::NotAnImage));
 
-const DIVERGED: Halt = Halt::Recovery(RecoverFault::Diverged);
+const DIVERGED: Halt = Halt::Recovery(RecoverFault::Replay(ReplayFault::Diverged));
+
+/// A creation on a disk with too few sectors.
+const TOO_FEW: Halt = Halt::Work(WorkFault::Store(StoreFault::Layout(LayoutFault::TooSmall)));
 
 /// The lengths and digests of the image of `ECHO` at its start, of all but its last byte, and of
 /// it with a zero behind it.
@@ -350,7 +356,7 @@ fn is_refused(alloc: Global, disk: &mut MemDisk) -> Result<bool, Halt> {
             Ok(false)
         }
         Err(Halt::Memory) => Err(Halt::Memory),
-        Err(halt) => Ok(halt == TOO_SMALL && disk.unsynced_count() == 0),
+        Err(halt) => Ok(halt == TOO_FEW && disk.unsynced_count() == 0),
     }
 }
 

@@ -46,8 +46,8 @@ fn say_three<D: Disk>(alloc: Global, worker: &mut Worker, disk: &mut D) -> [Opti
     let mut source = AnswerList::new(Vec::new(alloc));
     let mut told = LineList::new(alloc);
     [
-        worker.checkpoint(disk).err(),
-        worker.checkpoint(disk).err(),
+        worker.checkpoint(disk, &mut told).err(),
+        worker.checkpoint(disk, &mut told).err(),
         worker.slice(disk, 1, &mut source, &mut told).err(),
     ]
 }

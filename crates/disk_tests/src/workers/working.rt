@@ -79,14 +79,19 @@ pub(crate) fn create_with<D: Disk>(
 }
 
 /// Saves the process, where that is wanted.
-fn save<D: Disk>(worker: &mut Worker, disk: &mut D, is_saved: bool) -> Result<(), Halt>
+fn save<D: Disk>(
+    worker: &mut Worker,
+    disk: &mut D,
+    told: &mut LineList,
+    is_saved: bool,
+) -> Result<(), Halt>
     requires { total_sectors worker.old.store.geometry ≤ (D.medium disk.old).sectors }
     ensures { total_sectors worker.new.store.geometry ≤ (D.medium disk.new).sectors }
 {
     if !is_saved {
         return Ok(());
     }
-    match worker.checkpoint(disk) {
+    match worker.checkpoint(disk, told) {
         Ok(()) => Ok(()),
         Err(fault) => Err(Halt::from(fault)),
     }
@@ -104,7 +109,7 @@ fn run<D: Disk>(
     ensures { OnOk result (total_sectors worker.new.store.geometry ≤ (D.medium disk.new).sectors) }
 {
     match worker.slice(disk, work.fuel, source, told) {
-        Ok(_now) => save(worker, disk, work.is_saved),
+        Ok(_now) => save(worker, disk, told, work.is_saved),
         Err(fault) => Err(Halt::from(fault)),
     }
 }

@@ -1,12 +1,13 @@
 -- What each exit status of a run on a disk comes from (this project's own).
-use Rattle.std.specs.Prelude.{◌≡◌, ◌≢◌, ◌⊎◌, ℕ, ◌+◌, ◌≤◌, ◌^◌, ⊤, Bool, true, List, [], ◌∷◌}
-use Rattle.std.specs.Prelude.{◌++◌, length, Option, Some, None, Result, Ok, Err}
+use Rattle.std.specs.Prelude.{◌≡◌, ◌≢◌, ◌⊎◌, ℕ, ◌+◌, ◌≤◌, ◌^◌, ⊤, Bool, true, false, List, []}
+use Rattle.std.specs.Prelude.{◌∷◌, ◌++◌, length, Option, Some, None, Result, Ok, Err}
 use Rattle.wasi_abi.specs.declared.answer.Kind.{Kind}
 use Rattle.wasi_abi.specs.declared.answer.Kind.TheVariants as kinds
 use Rattle.sector_disk.specs.rules.Medium.{Medium}
 use Rattle.sector_disk.specs.declared.fault.DiskFault.TheVariants as disk
 use Rattle.process_rules.specs.Processes.{ProcessState, Guest}
 use Rattle.process.specs.rules.Values.{ShowsProcess}
+use Rattle.record_replay.specs.declared.fault.ReplayFault.TheVariants as replay
 use Rattle.record_replay.specs.declared.fault.SourceFault.{SourceFault}
 use Rattle.record_replay.specs.rules.Calls.{Taking, Ask, AnswersInOrder}
 use Rattle.ephemeral_worker.specs.declared.fault.SliceFault.TheVariants as slice
@@ -19,6 +20,7 @@ use Rattle.worker.specs.declared.recover_fault.RecoverFault.{RecoverFault}
 use Rattle.worker.specs.declared.recover_fault.RecoverFault.TheVariants as recover
 use Rattle.worker.specs.rules.LifeWords.{Act}
 use Rattle.worker.specs.rules.Outlets.{IsOutletFault}
+use Rattle.worker.specs.rules.RecoverFaults.{wants_memory}
 use Rattle.wasmhost_serve.specs.declared.lines.fault.LineFault.{LineFault}
 use Rattle.wasmhost_serve.specs.declared.lines.fault.LineFault.TheVariants as line
 use Rattle.wasmhost_serve.specs.Lines.Answers.{Standing, IsRefusedFor}
@@ -115,20 +117,20 @@ IsUnanswering other = ⊥
 
 -- no worker that can go on, or one that is at its end
 abbrev pub IsStuck : RecoverFault → Type 0
-IsStuck recover.NotAnImage = ⊤
-IsStuck recover.Diverged = ⊤
 IsStuck (recover.Worker why) = IsAtItsEnd why
+IsStuck (recover.Replay replay.Diverged) = ⊤
+IsStuck (recover.Replay other) = ⊥
+IsStuck other = wants_memory other ≡ false
 
 -- a disk or a source that fails
 abbrev pub IsFailing : RecoverFault → Type 0
 IsFailing (recover.Worker why) = IsUnanswering why
 IsFailing other = ⊥
 
--- memory that was refused
+-- memory that was refused to some layer
 abbrev pub IsWanting : RecoverFault → Type 0
-IsWanting (recover.Worker (work.Work slice.Memory)) = ⊤
 IsWanting (recover.Worker (work.Disk disk.Memory)) = ⊤
-IsWanting other = ⊥
+IsWanting other = wants_memory other ≡ true
 
 -- ---- what each exit status says
 

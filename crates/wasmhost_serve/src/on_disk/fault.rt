@@ -3,13 +3,14 @@
 ghost use Rattle.std.specs.Prelude.{◌≡◌};
 ghost use Rattle.wasmhost_serve.specs.rules.DiskStatuses.{told_of_opening, told_of_call};
 ghost use Rattle.wasmhost_serve.specs.rules.DiskStatuses.{status_of_disk, status_of_call};
+ghost use Rattle.wasmhost_serve.specs.rules.DiskStatuses.{status_of_recovery};
 ghost use Rattle.wasmhost_serve.specs.rules.DiskStatuses.{status_on_disk};
 ghost use Rattle.wasmhost_serve.specs.rules.Printers.{IsSaid};
 
 use crate::lines::LineFault;
 use crate::printer::Printer;
 use crate::status::{NO_MEMORY, REFUSED, UNREAD, UNWRITTEN, status_of_line, status_of_work};
-use ephemeral_worker::SliceFault;
+use record_replay::ReplayFault;
 use sector_disk::DiskFault;
 use std::io::Write;
 use thiserror::Error;
@@ -21,10 +22,7 @@ pub(crate) enum OnDiskFault {
     /// The disk failed before the worker was open.
     #[error("failed {0}")]
     Disk(DiskFault),
-    /// A line that is told once more couldn't be printed.
-    #[error("failed Q3 Outlet")]
-    Replay,
-    /// Another fault of a recovery.
+    /// Another fault of a recovery, under the name of the layer that has found it.
     #[error("failed {0}")]
     Recovery(RecoverFault),
     /// What a call of the worker says.
@@ -41,7 +39,6 @@ impl From<RecoverFault> for OnDiskFault {
     fn from(fault: RecoverFault) -> Self {
         match fault {
             RecoverFault::Worker(WorkFault::Disk(fault)) => OnDiskFault::Disk(fault),
-            RecoverFault::Worker(WorkFault::Work(SliceFault::Outlet)) => OnDiskFault::Replay,
             other => OnDiskFault::Recovery(other),
         }
     }
@@ -76,6 +73,25 @@ fn status_of_call(fault: WorkFault) -> u8
     }
 }
 
+/// The exit status of a recovery that fails, but for a fault of the disk.
+fn status_of_recovery(fault: RecoverFault) -> u8
+    ensures { result ≡ status_of_recovery fault }
+{
+    match fault {
+        RecoverFault::Worker(fault) => status_of_call(fault),
+        RecoverFault::Replay(ReplayFault::Diverged) => REFUSED,
+        RecoverFault::Replay(ReplayFault::Memory) => NO_MEMORY,
+        RecoverFault::Replay(ReplayFault::Outlet) => UNWRITTEN,
+        other => {
+            if other.is_want_of_memory() {
+                NO_MEMORY
+            } else {
+                REFUSED
+            }
+        }
+    }
+}
+
 impl OnDiskFault {
     /// The exit status.
     pub(crate) fn status(self) -> u8
@@ -83,11 +99,8 @@ impl OnDiskFault {
     {
         match self {
             OnDiskFault::Disk(fault) => status_of_disk(fault),
-            OnDiskFault::Replay => UNWRITTEN,
-            OnDiskFault::Recovery(RecoverFault::NotAnImage | RecoverFault::Diverged) => REFUSED,
-            OnDiskFault::Recovery(RecoverFault::Worker(fault)) | OnDiskFault::Call(fault) => {
-                status_of_call(fault)
-            }
+            OnDiskFault::Recovery(fault) => status_of_recovery(fault),
+            OnDiskFault::Call(fault) => status_of_call(fault),
             OnDiskFault::Line(fault) => status_of_line(fault),
         }
     }

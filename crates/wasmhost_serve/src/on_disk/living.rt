@@ -40,14 +40,20 @@ fn is_spent(now: Now) -> bool
     }
 }
 
-/// Saves a worker behind a slice that has answered this.
-fn rest_on<D: Disk>(worker: &mut Worker, disk: &mut D, now: Now) -> Result<Now, WorkFault>
+/// Saves a worker behind a slice that has answered this. No line waits, and none is released.
+fn rest_on<D: Disk, O: Outlet>(
+    worker: &mut Worker,
+    disk: &mut D,
+    now: Now,
+    outlet: &mut O,
+) -> Result<Now, WorkFault>
     requires { total_sectors worker.old.store.geometry ≤ (D.medium disk.old).sectors }
     ensures rested { IsRested now result worker.old worker.new (D.medium disk.old)
         (D.medium disk.new) }
     ensures room { total_sectors worker.new.store.geometry ≤ (D.medium disk.new).sectors }
+    ensures quiet { outlet.new ≡ outlet.old }
 {
-    match worker.checkpoint(disk) {
+    match worker.checkpoint(disk, outlet) {
         Ok(()) => Ok(now),
         Err(fault) => Err(fault),
     }
@@ -85,7 +91,7 @@ fn round<D: Disk, S: Source, O: Outlet>(
             Err(fault) => return Err(fault),
         };
         if taken == every || !is_spent(now) {
-            return rest_on(worker, disk, now);
+            return rest_on(worker, disk, now, outlet);
         }
     }
 }

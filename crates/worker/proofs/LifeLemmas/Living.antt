@@ -35,6 +35,7 @@ use Rattle.worker_store.specs.laws.Carried.{PromisesNoMore}
 use Rattle.worker_store.proofs.LawLemmas.Carrying.{less_is_held}
 use Rattle.worker_store.proofs.LawLemmas.Pieces.{parts_are_foretold}
 use Rattle.worker_store.specs.declared.fault.StoreFault.TheVariants as store
+use Rattle.record_replay.specs.declared.fault.ReplayFault.TheVariants as replay
 use Rattle.ephemeral_worker.specs.declared.fault.SliceFault.TheVariants as slice
 use Rattle.ephemeral_worker.specs.declared.fault.Refusal.TheVariants as refusal
 use Rattle.worker.specs.declared.fault.WorkFault.TheVariants.{Work, Disk, Store}
@@ -123,7 +124,13 @@ module _ (bytes : List ℕ) (config : Settings) (inputs : Inputs) (exchanges : L
   fault_of (recover.Worker (Store store.TooBig)) cause is disk =
       other_fault inputs.fails calls cause (λ e. absurd (cc))
   fault_of (recover.Worker (Store other)) cause is disk = absurd is
-  fault_of other cause is disk = absurd is
+  fault_of (recover.Replay replay.Diverged) cause is disk = absurd is.0
+  fault_of (recover.Replay replay.Memory) cause is disk =
+      other_fault inputs.fails calls cause (λ e. absurd (cc))
+  fault_of (recover.Replay replay.Outlet) cause is disk =
+      other_fault inputs.fails calls cause (λ e. absurd (cc))
+  fault_of other cause is disk =
+      let of_memory = is.1 in other_fault inputs.fails calls cause (λ e. absurd (cc))
 
 -- ---- what a disk keeps
 

@@ -14,7 +14,7 @@ use Rattle.state_image.specs.rules.Saving.{saved_of}
 use Rattle.sector_disk.specs.rules.Image.{Image}
 use Rattle.sector_disk.specs.rules.Medium.{Medium}
 use Rattle.sector_disk.specs.rules.Medium.{CallsUpTo}
-use Rattle.disk_layout.specs.declared.fault.LayoutFault.TheVariants.{NotAWorker, TooSmall}
+use Rattle.disk_layout.specs.declared.fault.LayoutFault.TheVariants as layout
 use Rattle.disk_layout.specs.rules.Places.{Geometry, geometry_of, total_sectors}
 use Rattle.disk_layout.specs.rules.Unsynced.{most_unsynced}
 use Rattle.record_replay.specs.rules.Calls.{Taking, Begun, Exchange, Tells, Releases}
@@ -28,12 +28,13 @@ use Rattle.worker_rules.specs.Holds.{IsNothingYet, KeepsPromise, KeepsBounds}
 use Rattle.worker_store.specs.laws.Pieces.{IsForetold}
 use Rattle.worker_store.proofs.LawLemmas.Pieces.{parts_are_foretold}
 use Rattle.worker_store.specs.declared.fault.StoreFault.TheVariants as store
+use Rattle.record_replay.specs.declared.fault.ReplayFault.TheVariants as replay
 use Rattle.ephemeral_worker.specs.declared.fault.SliceFault.TheVariants as slice
 use Rattle.ephemeral_worker.specs.declared.fault.Refusal.TheVariants as refusal
 use Rattle.worker.specs.declared.fault.WorkFault.{WorkFault}
 use Rattle.worker.specs.declared.fault.WorkFault.TheVariants.{Work, Disk, Store}
 use Rattle.worker.specs.declared.recover_fault.RecoverFault.{RecoverFault}
-use Rattle.worker.specs.declared.recover_fault.RecoverFault.TheVariants.{Worker}
+use Rattle.worker.specs.declared.recover_fault.RecoverFault.TheVariants.{Worker, Layout, Replay}
 use Rattle.worker.specs.rules.CallCounts.{most_calls, most_creating, most_recovering}
 use Rattle.worker.specs.rules.CallCounts.{CallsForEvents}
 use Rattle.worker.specs.rules.DurableValues.{DurableValue}
@@ -62,8 +63,8 @@ finds_none : (m : Module) (config : Settings) (promise : Promise) (inputs : Inpu
     (told : List Begun) (result : Result DurableValue RecoverFault) (old new : Medium)
     → SaysNoWorker result → ReopensOrNot m config promise inputs told result old new
     → FindsNone promise told old new
-finds_none m config promise inputs told (Err (Worker (Store (store.Layout NotAWorker)))) old new
-    says reopens = reopens
+finds_none m config promise inputs told (Err (Layout layout.NotAWorker)) old new says reopens =
+    reopens
 finds_none m config promise inputs told (Ok w) old new says reopens = absurd says
 finds_none m config promise inputs told (Err other) old new says reopens = absurd says
 
@@ -73,8 +74,8 @@ in_vain : (m : Module) (config : Settings) (promise : Promise) (inputs : Inputs)
     → (SaysNoWorker {T = DurableValue} (Err why) → ⊥)
     → EndsInVain m config promise inputs told why old new
     → ReopensInVain m config promise inputs told why old new
-in_vain m config promise inputs told (Worker (Store (store.Layout NotAWorker))) old new says
-    reopens = absurd (says tt)
+in_vain m config promise inputs told (Layout layout.NotAWorker) old new says reopens =
+    absurd (says tt)
 in_vain m config promise inputs told other old new says reopens = reopens
 
 module _ (m : Module) (config : Settings) (so_far : Promise) (inputs : Inputs) where
@@ -176,14 +177,14 @@ module _ (m : Module) (config : Settings) (so_far : Promise) (inputs : Inputs) w
   why_in_vain : (events : ℕ) (phase : Phase) (why : RecoverFault) (old new : Medium)
       → so_far.events ≤ events → MayNotReopen config so_far phase why old new
       → HasNotOpened events phase why old new
-  why_in_vain events phase (Worker (Work slice.Memory)) old new grow may = record {
+  why_in_vain events phase (Replay replay.Memory) old new grow may = record {
     cause = OfMemory;
     is = refl;
     failed = subst (λ (z : Phase). HasFailed events z OfMemory) (sym may) tt;
     cut = subst IsCutIn (sym may) tt;
     disk = tt;
   }
-  why_in_vain events phase (Worker (Work slice.Outlet)) old new grow may = record {
+  why_in_vain events phase (Replay replay.Outlet) old new grow may = record {
     cause = OfOutlet;
     is = refl;
     failed = subst (λ (z : Phase). HasFailed events z OfOutlet) (sym may) tt;
@@ -207,7 +208,16 @@ module _ (m : Module) (config : Settings) (so_far : Promise) (inputs : Inputs) w
         cut = subst IsCutIn (sym may.0) tt;
         disk = tt;
       }
-  why_in_vain events phase other old new grow may = absurd may
+  why_in_vain events phase (Worker (Work why)) old new grow may = absurd may.1
+  why_in_vain events phase (Worker (Store why)) old new grow may = absurd may.1
+  why_in_vain events phase (Replay replay.Diverged) old new grow may = absurd may.1
+  why_in_vain events phase other old new grow may = record {
+    cause = OfMemory;
+    is = (may.1, refl);
+    failed = subst (λ (z : Phase). HasFailed events z OfMemory) (sym may.0) tt;
+    cut = subst IsCutIn (sym may.0) tt;
+    disk = tt;
+  }
 
   reopened_in_vain : (told : List Begun) (why : RecoverFault) (old new : Medium)
       → ReopensInVain m config so_far inputs told why old new
@@ -296,7 +306,7 @@ module _ (m : Module) (config : Settings) (so_far : Promise) (inputs : Inputs) w
       disk = tt;
     }
     why_not_created (Work other) after is = absurd is
-    why_not_created (Store (store.Layout TooSmall)) after is =
+    why_not_created (Store (store.Layout layout.TooSmall)) after is =
         let same = later.sectors in absurd (omega (arith, is, sectors, same))
     why_not_created (Store other) after is = absurd is
     why_not_created (Disk fault) after (inl full) = record {

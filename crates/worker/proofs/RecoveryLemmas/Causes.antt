@@ -1,25 +1,22 @@
 -- Why a recovery fails, whatever stands on the disk.
-use Rattle.std.proofs.Common.{◌≡◌, ℕ, ◌+◌, ◌<◌, ◌≤◌, refl, sym, subst, inl, inr, arith}
+use Rattle.std.proofs.Common.{◌≡◌, ℕ, ◌+◌, ◌<◌, ◌≤◌, sym, subst, inl, inr, arith}
 use Rattle.std.specs.Prelude.{Result, Ok, Err, IfErr}
 use Rattle.process.specs.rules.Values.{ProcessValue}
 use Rattle.sector_disk.specs.declared.fault.DiskFault.{DiskFault}
 use Rattle.sector_disk.specs.rules.Medium.{Medium}
 use Rattle.disk_layout.specs.rules.Places.{total_sectors}
-use Rattle.record_replay.specs.declared.fault.ReplayFault.{ReplayFault}
-use Rattle.record_replay.specs.declared.fault.ReplayFault.TheVariants as replay
 use Rattle.record_replay.specs.rules.Calls.{Taking}
 use Rattle.worker_store.specs.declared.fault.StoreFault.{StoreFault}
 use Rattle.worker_store.specs.declared.fault.StoreFault.TheVariants as store
 use Rattle.worker_store.specs.rules.Calls.{ReopeningFails}
-use Rattle.ephemeral_worker.specs.declared.fault.SliceFault.TheVariants as slice
 use Rattle.worker.specs.declared.fault.WorkFault.TheVariants.{Work, Disk, Store}
 use Rattle.worker.specs.declared.found.Found.{Found}
 use Rattle.worker.specs.declared.recover_fault.RecoverFault.{RecoverFault}
 use Rattle.worker.specs.declared.recover_fault.RecoverFault.TheVariants as recover
 use Rattle.worker.specs.rules.WorkFaults.{fault_of_store}
 use Rattle.worker.specs.rules.DurableValues.{DurableValue}
-use Rattle.worker.specs.rules.RecoverFaults.{fault_of_replay}
 use Rattle.worker.specs.rules.Recoveries.{HasRecoveryCause, IsSettledBy}
+use Rattle.worker.specs.Findings.{HasSearchCause}
 use Rattle.worker.specs.Revivals.{RevivesFound}
 
 -- the disk couldn't be settled
@@ -29,34 +26,15 @@ pub unsettled_cause : (old new : Medium) (fault : DiskFault) (why : RecoverFault
 unsettled_cause old new fault why is failed =
     subst (λ (e : RecoverFault). HasRecoveryCause old new e) (sym is) (inl failed)
 
--- what a search has answered
-abbrev pub found_none : RecoverFault → Result Found RecoverFault
-found_none why = Err why
-
 -- no worker was found
 module _ (old sync mid : Medium) (earlier : old.faults ≤ sync.faults) where
-  pub unfound_cause : (why : RecoverFault)
-      → ((fault : DiskFault) → found_none why ≡ found_none (recover.Worker (Disk fault))
-      → sync.faults < mid.faults)
-      → (found_none why ≡ found_none (recover.Worker (Work slice.Failed)) → ⊥)
+  pub unfound_cause : (why : RecoverFault) → HasSearchCause sync mid why
       → HasRecoveryCause old mid why
-  unfound_cause recover.NotAnImage cause unfailed = tt
-  unfound_cause recover.Diverged cause unfailed = tt
-  unfound_cause (recover.Worker (Work slice.Source)) cause unfailed = tt
-  unfound_cause (recover.Worker (Work slice.Outlet)) cause unfailed = tt
-  unfound_cause (recover.Worker (Work slice.Memory)) cause unfailed = tt
-  unfound_cause (recover.Worker (Work slice.Failed)) cause unfailed = unfailed refl
-  unfound_cause (recover.Worker (Work (slice.Refused why))) cause unfailed = tt
-  unfound_cause (recover.Worker (Disk fault)) cause unfailed =
-      let failed = cause fault refl in inl (omega (arith, earlier, failed))
-  unfound_cause (recover.Worker (Store fault)) cause unfailed = tt
-
--- the records have led to no process
-replay_cause : (old new : Medium) (fault : ReplayFault)
-    → HasRecoveryCause old new (fault_of_replay fault)
-replay_cause old new replay.Diverged = tt
-replay_cause old new replay.Memory = tt
-replay_cause old new replay.Outlet = tt
+  unfound_cause (recover.Worker (Disk fault)) cause = inl (omega (arith, earlier, cause))
+  unfound_cause (recover.Worker (Work why)) cause = absurd cause
+  unfound_cause (recover.Worker (Store why)) cause = absurd cause
+  unfound_cause (recover.Replay why) cause = absurd cause
+  unfound_cause other cause = cause
 
 -- the next generation couldn't be written
 module _ (old mid new : Medium) (settled : IsSettledBy old mid) (found : Found)
@@ -101,7 +79,7 @@ module _ {D O : Type 0} (medium : D → Medium) (takes : Taking O) (old mid new 
   revival_cause (Ok w) revives = tt
   revival_cause (Err why) (inl stops) =
       subst (λ (e : RecoverFault). HasRecoveryCause (medium old) (medium new) e) (sym stops.is)
-      (replay_cause (medium old) (medium new) stops.fault)
+      tt
   revival_cause (Err why) (inr for) =
       let none = for.none in
       subst (λ (e : RecoverFault). HasRecoveryCause (medium old) (medium new) e) (sym none.is)

@@ -39,15 +39,12 @@ use Rattle.worker_store.specs.declared.fault.StoreFault.{StoreFault}
 use Rattle.worker_store.specs.declared.fault.StoreFault.TheVariants as store
 use Rattle.worker_store.specs.laws.Laws.{ImagesFitAreas}
 use Rattle.worker_store.specs.rules.Calls.{ReopeningFails}
-use Rattle.ephemeral_worker.specs.declared.fault.SliceFault.TheVariants as slice
-use Rattle.worker.specs.declared.fault.WorkFault.TheVariants.{Work, Disk, Store}
 use Rattle.worker.specs.declared.found.Found.{Found}
 use Rattle.worker.specs.declared.recover_fault.RecoverFault.{RecoverFault}
 use Rattle.worker.specs.declared.recover_fault.RecoverFault.TheVariants as recover
 use Rattle.worker.specs.rules.CallCounts.{most_recovering}
 use Rattle.worker.specs.rules.DurableCalls.{TakesTooFew}
 use Rattle.worker.specs.rules.WorkFaults.{fault_of_store}
-use Rattle.worker.specs.rules.RecoverFaults.{fault_of_replay}
 use Rattle.worker.specs.rules.Recoveries.{IsNoWorker, IsSettledBy, MayNotReopen}
 use Rattle.worker.specs.rules.Recoveries.{ReopensInVain, EndsInVain}
 use Rattle.worker.specs.Revivals.{IsReplayed, StopsInVain, OpensNone}
@@ -95,32 +92,9 @@ pub ends_in_vain : (m : Module) (config : Settings) (promise : Promise) (inputs 
     (told : List Begun) (old new : Medium) (why : RecoverFault) → (IsNoWorker why → ⊥)
     → ReopensInVain m config promise inputs told why old new
     → EndsInVain m config promise inputs told why old new
-ends_in_vain m config promise inputs told old new recover.NotAnImage denies r = r
-ends_in_vain m config promise inputs told old new recover.Diverged denies r = r
-ends_in_vain m config promise inputs told old new (recover.Worker (Work fault)) denies r = r
-ends_in_vain m config promise inputs told old new (recover.Worker (Disk fault)) denies r = r
-ends_in_vain m config promise inputs told old new (recover.Worker (Store store.Full)) denies r = r
-ends_in_vain m config promise inputs told old new
-    (recover.Worker (Store store.TooLong)) denies r = r
-ends_in_vain m config promise inputs told old new (recover.Worker (Store store.TooBig)) denies r = r
-ends_in_vain m config promise inputs told old new
-    (recover.Worker (Store store.Damaged)) denies r = r
-ends_in_vain m config promise inputs told old new
-    (recover.Worker (Store (store.Disk f))) denies r = r
-ends_in_vain m config promise inputs told old new (recover.Worker (Store store.Memory)) denies r = r
-ends_in_vain m config promise inputs told old new (recover.Worker (Store store.Failed)) denies r = r
-ends_in_vain m config promise inputs told old new
-    (recover.Worker (Store (store.Layout layout.NotAWorker))) denies r = absurd (denies tt)
-ends_in_vain m config promise inputs told old new
-    (recover.Worker (Store (store.Layout layout.Version))) denies r = r
-ends_in_vain m config promise inputs told old new
-    (recover.Worker (Store (store.Layout layout.TooSmall))) denies r = r
-ends_in_vain m config promise inputs told old new
-    (recover.Worker (Store (store.Layout layout.Damaged))) denies r = r
-ends_in_vain m config promise inputs told old new
-    (recover.Worker (Store (store.Layout layout.Memory))) denies r = r
-ends_in_vain m config promise inputs told old new
-    (recover.Worker (Store (store.Layout (layout.Disk f)))) denies r = r
+ends_in_vain m config promise inputs told old new (recover.Layout layout.NotAWorker) denies r =
+    absurd (denies tt)
+ends_in_vain m config promise inputs told old new other denies r = r
 
 -- ---- nothing was told
 
@@ -238,7 +212,7 @@ module _ {D O : Type 0} (medium : D → Medium) (takes : Taking O) (m : Module)
       stop_fails : (fault : ReplayFault)
           → StopsReplay takes found.process.host.released there.point.reached.guest come.reached
           come.rest come.process fault outlet outlet'
-          → FailsSo takes m config promise (fault_of_replay fault) (medium old) (medium mid) outlet
+          → FailsSo takes m config promise (recover.Replay fault) (medium old) (medium mid) outlet
           outlet'
       stop_fails replay.Diverged stops =
           let held = there.held in
@@ -259,7 +233,7 @@ module _ {D O : Type 0} (medium : D → Medium) (takes : Taking O) (m : Module)
                 lines (lives inputs) (omega arith) refl foretold in
                 let now = told.1 in
                 told_in_vain inputs (all_taken (suc first) lines)
-                (recover.Worker (Work slice.Memory)) (length come.process.host.lines) lines_few
+                (recover.Replay replay.Memory) (length come.process.host.lines) lines_few
                 told.0 now.shut,
           )
       stop_fails replay.Outlet stops =
@@ -275,7 +249,7 @@ module _ {D O : Type 0} (medium : D → Medium) (takes : Taking O) (m : Module)
                 (at_first inputs) (count_at there.point come.front) first (suc first) come.process
                 r.told r.others r.line (lives inputs) (omega arith) r.are foretold in
                 told_in_vain inputs (last_refused (suc first) r.told r.line)
-                (recover.Worker (Work slice.Outlet)) (length come.process.host.lines) lines_few
+                (recover.Replay replay.Outlet) (length come.process.host.lines) lines_few
                 told.0 told.1,
           )
 

@@ -35,10 +35,9 @@ use Rattle.worker_store.specs.rules.Stores.{IsStoreOf, begun_store}
 use Rattle.worker.specs.declared.fault.WorkFault.TheVariants.{Store}
 use Rattle.worker.specs.declared.found.Found.{Found}
 use Rattle.worker.specs.declared.recover_fault.RecoverFault.{RecoverFault}
-use Rattle.worker.specs.declared.recover_fault.RecoverFault.TheVariants.{Worker}
+use Rattle.worker.specs.declared.recover_fault.RecoverFault.TheVariants.{Worker, Replay}
 use Rattle.worker.specs.rules.WorkFaults.{fault_of_store}
 use Rattle.worker.specs.rules.DurableValues.{DurableValue}
-use Rattle.worker.specs.rules.RecoverFaults.{fault_of_replay}
 use Rattle.worker.specs.Revivals.{WritesNext, OpensStore, OpensNone, OpensAgain}
 use Rattle.worker.specs.Revivals.{IsReplayed, RevivesFound}
 use Rattle.worker.proofs.RecoveryLemmas.There.{IsThere, within_at}
@@ -234,7 +233,7 @@ module _ {D O : Type 0} (medium : D → Medium) (takes : Taking O) (found : Foun
 
   -- it stopped
   pub stops_found : (records : List Record) (fault : ReplayFault) (why : RecoverFault)
-      → records ≡ found.records.items → why ≡ fault_of_replay fault
+      → records ≡ found.records.items → why ≡ Replay fault
       → ReplaysInVain takes found.process records fault outlet outlet'
       → RevivesFound medium takes found (Err why) mid mid outlet outlet'
   stops_found records fault why same is stops = inl (record {

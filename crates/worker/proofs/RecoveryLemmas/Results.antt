@@ -1,5 +1,5 @@
 -- What a recovery answers, by what its disk shows and by what was promised.
-use Rattle.std.proofs.Common.{◌≡◌, inl, inr, ⊎_elim, ℕ, suc, ◌+◌, ◌<◌, ◌≤◌, List, []}
+use Rattle.std.proofs.Common.{◌≡◌, ◌⊎◌, inl, inr, ⊎_elim, ℕ, suc, ◌+◌, ◌<◌, ◌≤◌, List, []}
 use Rattle.std.proofs.Common.{◌*◌}
 use Rattle.std.proofs.Common.{◌++◌, length, drop, take, refl, sym, ap, ◌∙◌, subst, arith, false}
 use Rattle.std.specs.Prelude.{Result, Ok, Err}
@@ -44,20 +44,18 @@ use Rattle.worker_store.specs.declared.fault.StoreFault.{StoreFault}
 use Rattle.worker_store.specs.declared.fault.StoreFault.TheVariants as store
 use Rattle.worker_store.specs.rules.Calls.{ReopeningFails}
 use Rattle.worker_store.specs.laws.Laws.{ImagesFitAreas}
-use Rattle.ephemeral_worker.specs.declared.fault.SliceFault.TheVariants as slice
 use Rattle.worker.specs.declared.fault.WorkFault.TheVariants.{Work, Disk, Store}
 use Rattle.worker.specs.declared.found.Found.{Found}
 use Rattle.worker.specs.declared.recover_fault.RecoverFault.{RecoverFault}
 use Rattle.worker.specs.declared.recover_fault.RecoverFault.TheVariants as recover
 use Rattle.worker.specs.rules.WorkFaults.{fault_of_store}
-use Rattle.worker.specs.rules.RecoverFaults.{fault_of_replay}
 use Rattle.worker.specs.rules.DurableValues.{DurableValue}
 use Rattle.worker.specs.rules.Recoveries.{IsNoWorker, IsNoWorkerOr, SaysNothing}
 use Rattle.worker.specs.rules.Recoveries.{MarksDecide, IsSettledBy}
 use Rattle.worker.specs.rules.Recoveries.{Recovers, RecoveryCarries, MayNotReopen}
 use Rattle.worker.specs.rules.Recoveries.{ReopensInVain, FindsNone, EndsInVain}
 use Rattle.worker.specs.rules.Recoveries.{Revives, RevivesInVain, TellsSome, OpeningCalls}
-use Rattle.worker.specs.Findings.{FindsWorker, FindsOne, IsFoundAt}
+use Rattle.worker.specs.Findings.{FindsWorker, FindsOne, IsFoundAt, HasSearchCause}
 use Rattle.worker.specs.Revivals.{RevivesFound, IsReplayed, StopsInVain, OpensNone}
 use Rattle.worker.specs.Revivals.{OpensStore, ReplaysForNothing}
 use Rattle.worker.proofs.RecoveryLemmas.Undiverged.{undiverged, tells_some, refuses_on}
@@ -148,65 +146,41 @@ module _ {D O : Type 0} (medium : D → Medium) (takes : Taking O) (old new : D)
 
 -- ---- no worker was found
 
-says_or : (why : RecoverFault) → SaysNothing why → IsNoWorkerOr why
-says_or recover.NotAnImage says = absurd says
-says_or recover.Diverged says = absurd says
-says_or (recover.Worker (Work slice.Source)) says = absurd says
-says_or (recover.Worker (Work slice.Outlet)) says = absurd says
-says_or (recover.Worker (Work slice.Memory)) says = tt
-says_or (recover.Worker (Work slice.Failed)) says = absurd says
-says_or (recover.Worker (Work (slice.Refused why))) says = absurd says
-says_or (recover.Worker (Disk fault)) says = tt
-says_or (recover.Worker (Store fault)) says = absurd says
+-- what an error keeps that says nothing of what stands there
+finds_nothing : (m : Module) (config : Settings) (promise : Promise) (inputs : Inputs)
+    (old mid : Medium) (why : RecoverFault) → SaysNothing why
+    → ((fault : DiskFault) → why ≡ recover.Worker (Disk fault) → old.faults < mid.faults)
+    → (MayNotReopen config promise Shut why old mid
+    → ReopensInVain m config promise inputs [] why old mid)
+    → EndsInVain m config promise inputs [] why old mid
+finds_nothing m config promise inputs old mid (recover.Worker (Disk fault)) says cause vain =
+    vain (refl, inr (cause fault refl))
+finds_nothing m config promise inputs old mid (recover.Worker (Work why)) says cause vain =
+    absurd says
+finds_nothing m config promise inputs old mid (recover.Worker (Store why)) says cause vain =
+    absurd says
+finds_nothing m config promise inputs old mid (recover.Replay why) says cause vain = absurd says
+finds_nothing m config promise inputs old mid (recover.Layout layout.NotAWorker) says cause vain =
+    absurd says
+finds_nothing m config promise inputs old mid other says cause vain = vain (refl, says)
 
--- what such an error keeps
+-- what one keeps where a mark is missing
 finds_vain : (m : Module) (config : Settings) (promise : Promise) (inputs : Inputs)
-    (old mid : Medium) (why : RecoverFault) → IsNoWorkerOr why
+    (old mid : Medium) (why : RecoverFault) → IsNoWorkerOr why ⊎ SaysNothing why
     → ((fault : DiskFault) → why ≡ recover.Worker (Disk fault) → old.faults < mid.faults)
     → (IsNoWorker why → FindsNone promise [] old mid)
     → (MayNotReopen config promise Shut why old mid
     → ReopensInVain m config promise inputs [] why old mid)
     → EndsInVain m config promise inputs [] why old mid
-finds_vain m config promise inputs old mid recover.NotAnImage or cause none vain = absurd or
-finds_vain m config promise inputs old mid recover.Diverged or cause none vain = absurd or
-finds_vain m config promise inputs old mid (recover.Worker (Work slice.Source)) or cause none vain =
-    absurd or
-finds_vain m config promise inputs old mid (recover.Worker (Work slice.Outlet)) or cause none vain =
-    absurd or
-finds_vain m config promise inputs old mid (recover.Worker (Work slice.Memory)) or cause none vain =
-    vain refl
-finds_vain m config promise inputs old mid (recover.Worker (Work slice.Failed)) or cause none vain =
-    absurd or
-finds_vain m config promise inputs old mid (recover.Worker (Work (slice.Refused why))) or cause none
-    vain = absurd or
-finds_vain m config promise inputs old mid (recover.Worker (Disk fault)) or cause none vain =
+finds_vain m config promise inputs old mid why (inr says) cause none vain =
+    finds_nothing m config promise inputs old mid why says cause vain
+finds_vain m config promise inputs old mid (recover.Layout layout.NotAWorker) (inl or) cause none
+    vain = none tt
+finds_vain m config promise inputs old mid (recover.Layout layout.Memory) (inl or) cause none
+    vain = vain (refl, tt)
+finds_vain m config promise inputs old mid (recover.Worker (Disk fault)) (inl or) cause none vain =
     vain (refl, inr (cause fault refl))
-finds_vain m config promise inputs old mid (recover.Worker (Store store.Full)) or cause none vain =
-    absurd or
-finds_vain m config promise inputs old mid (recover.Worker (Store store.TooLong)) or cause none
-    vain = absurd or
-finds_vain m config promise inputs old mid (recover.Worker (Store store.TooBig)) or cause none
-    vain = absurd or
-finds_vain m config promise inputs old mid (recover.Worker (Store store.Damaged)) or cause none
-    vain = absurd or
-finds_vain m config promise inputs old mid (recover.Worker (Store (store.Disk fault))) or cause
-    none vain = absurd or
-finds_vain m config promise inputs old mid (recover.Worker (Store store.Memory)) or cause none
-    vain = absurd or
-finds_vain m config promise inputs old mid (recover.Worker (Store store.Failed)) or cause none
-    vain = absurd or
-finds_vain m config promise inputs old mid
-    (recover.Worker (Store (store.Layout layout.NotAWorker))) or cause none vain = none tt
-finds_vain m config promise inputs old mid
-    (recover.Worker (Store (store.Layout layout.Version))) or cause none vain = absurd or
-finds_vain m config promise inputs old mid
-    (recover.Worker (Store (store.Layout layout.TooSmall))) or cause none vain = absurd or
-finds_vain m config promise inputs old mid
-    (recover.Worker (Store (store.Layout layout.Damaged))) or cause none vain = absurd or
-finds_vain m config promise inputs old mid
-    (recover.Worker (Store (store.Layout layout.Memory))) or cause none vain = absurd or
-finds_vain m config promise inputs old mid
-    (recover.Worker (Store (store.Layout (layout.Disk fault)))) or cause none vain = absurd or
+finds_vain m config promise inputs old mid other (inl or) cause none vain = absurd or
 
 tells_none : {O : Type 0} (takes : Taking O) (released : ℕ) (p : ProcessState) (outlet : O)
     → TellsSome takes released p outlet outlet
@@ -217,17 +191,12 @@ tells_none takes released p outlet =
 nothing_revived : {O : Type 0} (takes : Taking O) {disk : Image} {m : Module} {config : Settings}
     {kept : List Kept} {n : ℕ} (stands : StandsFor disk m config kept n) (outlet : O)
     (why : RecoverFault) → SaysNothing why → RevivesInVain takes stands why outlet outlet
-nothing_revived takes stands outlet recover.NotAnImage says = absurd says
-nothing_revived takes stands outlet recover.Diverged says = absurd says
-nothing_revived takes stands outlet (recover.Worker (Work slice.Source)) says = absurd says
-nothing_revived takes stands outlet (recover.Worker (Work slice.Outlet)) says = absurd says
-nothing_revived takes stands outlet (recover.Worker (Work slice.Memory)) says =
-    tells_none takes stands.saved.lines stands.last outlet
-nothing_revived takes stands outlet (recover.Worker (Work slice.Failed)) says = absurd says
-nothing_revived takes stands outlet (recover.Worker (Work (slice.Refused why))) says = absurd says
 nothing_revived takes stands outlet (recover.Worker (Disk fault)) says =
     tells_none takes stands.saved.lines stands.last outlet
-nothing_revived takes stands outlet (recover.Worker (Store fault)) says = absurd says
+nothing_revived takes stands outlet (recover.Worker (Work why)) says = absurd says
+nothing_revived takes stands outlet (recover.Worker (Store why)) says = absurd says
+nothing_revived takes stands outlet (recover.Replay why) says = absurd says
+nothing_revived takes stands outlet other says = (says, refl)
 
 module _ {D O : Type 0} (medium : D → Medium) (takes : Taking O) (old mid : D) (outlet : O)
     (settled : IsSettledBy (medium old) (medium mid)) (why : RecoverFault) (wasm : List ℕ)
@@ -267,16 +236,15 @@ module _ {D O : Type 0} (medium : D → Medium) (takes : Taking O) (old mid : D)
       before : (image : Image) → (medium mid).may_leave image → (medium old).may_leave image
       before image left = stays_left (medium old) (medium mid) settled.stays image left
 
-      or : IsNoWorkerOr why
+      or : IsNoWorkerOr why ⊎ SaysNothing why
       or = ⊎_elim
           (λ (unopened : IsUnopened promise left).
-          let decide = marks left (shown_of left is_left) in decide.always unopened.1)
+          let decide = marks left (shown_of left is_left) in inl (decide.always unopened.1))
           (λ (holds : HoldsPromise m config promise promise left).
           let stands = holds.stands in
           let within = bounds left (before left is_left) m config
           (take holds.held promise.kept) holds.steps holds.stands in
-          says_or why
-          (finds left (shown_of left is_left) m config (point_of stands) stands.records
+          inr (finds left (shown_of left is_left) m config (point_of stands) stands.records
           stands.last
           (stands_at_its_point left m config (take holds.held promise.kept) holds.steps stands)
           within.1))
@@ -300,27 +268,14 @@ module _ {D O : Type 0} (medium : D → Medium) (takes : Taking O) (old mid : D)
 
 -- no error behind the reads says that there is none
 module _ {D O : Type 0} (takes : Taking O) (found : Found) (mid new : D) (outlet outlet' : O) where
-  stops_some : (fault : ReplayFault) → IsNoWorker (fault_of_replay fault) → ⊥
-  stops_some replay.Diverged denies = denies
-  stops_some replay.Memory denies = denies
-  stops_some replay.Outlet denies = denies
-
   pub stopped_some : (why : RecoverFault) → StopsInVain takes found why mid new outlet outlet'
       → IsNoWorker why → ⊥
-  stopped_some why stops denies =
-      stops_some stops.fault (subst (λ (e : RecoverFault). IsNoWorker e) stops.is denies)
+  stopped_some why stops denies = subst (λ (e : RecoverFault). IsNoWorker e) stops.is denies
 
 writes_some : (geometry : Geometry) (g : ℕ) (v : ProcessValue) (mid new : Medium)
     (fault : StoreFault) → ReopeningFails geometry g v mid new fault
     → IsNoWorker (recover.Worker (fault_of_store fault)) → ⊥
-writes_some geometry g v mid new store.TooBig fails denies = denies
-writes_some geometry g v mid new (store.Disk fault) fails denies = denies
-writes_some geometry g v mid new store.Full fails denies = absurd fails
-writes_some geometry g v mid new store.TooLong fails denies = absurd fails
-writes_some geometry g v mid new store.Damaged fails denies = absurd fails
-writes_some geometry g v mid new (store.Layout why) fails denies = absurd fails
-writes_some geometry g v mid new store.Memory fails denies = absurd fails
-writes_some geometry g v mid new store.Failed fails denies = absurd fails
+writes_some geometry g v mid new fault fails denies = denies
 
 pub unwritten_some : (geometry : Geometry) (generation : ℕ) (v : ProcessValue)
     (why : RecoverFault) (mid new : Medium) → OpensNone geometry generation v why mid new
@@ -385,7 +340,7 @@ module _ {O : Type 0} (takes : Taking O) (found : Found) (wasm : List ℕ) (disk
       → (come : ReplaysUpTo stands.reached.guest stands.process found.records.items)
       → StopsReplay takes found.process.host.released stands.reached.guest come.reached come.rest
       come.process fault outlet outlet'
-      → RevivesInVain takes stands (fault_of_replay fault) outlet outlet'
+      → RevivesInVain takes stands (recover.Replay fault) outlet outlet'
   stop_revives replay.Diverged come stops =
       absurd (undiverged stands.reached.guest stands.process stands.last found.records.items
       recorded_found come stands.numbers stops.1)
@@ -580,14 +535,12 @@ module _ {D O T : Type 0} (medium : D → Medium) (takes : Taking O) (old sync m
     not_found_recovers = unfound_recovers medium takes old mid outlet settled why one.0
         (finds_of (Err why) one) marks
 
-    pub not_found_carries : ((fault : DiskFault)
-        → ◌≡◌ {A = Result Found RecoverFault} (Err why) (Err (recover.Worker (Disk fault)))
-        → (medium sync).faults < (medium mid).faults)
+    pub not_found_carries : HasSearchCause (medium sync) (medium mid) why
         → RecoveryCarries takes (Err why) (medium old) (medium mid) outlet outlet
     not_found_carries cause = unfound_carries medium takes old mid outlet settled why one.0
         (finds_of (Err why) one) marks
         (λ fault is. since (medium old).faults (medium sync).faults (medium mid).faults earlier
-        (cause fault (ap (λ e. Err e) is)))
+        (subst (λ (e : RecoverFault). HasSearchCause (medium sync) (medium mid) e) is cause))
       where
         earlier : (medium old).faults ≤ (medium sync).faults
         earlier = (let passes = syncs.passes in passes.faults)

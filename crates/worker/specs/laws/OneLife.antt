@@ -11,9 +11,11 @@ use Rattle.sector_disk.specs.rules.Image.{Image}
 use Rattle.sector_disk.specs.rules.Medium.{Medium}
 use Rattle.disk_layout.specs.rules.Places.{geometry_of, total_sectors}
 use Rattle.disk_layout.specs.rules.Unsynced.{most_unsynced}
+use Rattle.record_replay.specs.declared.fault.ReplayFault.TheVariants as replay
 use Rattle.record_replay.specs.rules.Calls.{Giving, Taking, Exchange, Asks, Tells, Exchanges}
 use Rattle.worker_rules.specs.Lives.{Act, Slice, Checkpoint, SourceSaid, Inputs, Release, Cause}
-use Rattle.worker_rules.specs.Lives.{OfDisk, Event, Told, Asked, Opened, Ended, told_in}
+use Rattle.worker_rules.specs.Lives.{OfDisk, OfMemory, OfOutlet}
+use Rattle.worker_rules.specs.Lives.{Event, Told, Asked, Opened, Ended, told_in}
 use Rattle.worker_rules.specs.Lives.{Beginning, Creates, End, Finished, Stopped, Failed, Life}
 use Rattle.worker_rules.specs.Lives.Beginning.{Recovers as recovers}
 use Rattle.worker_rules.specs.Courses.{HasDiskFault, HasStopped, HasNotStopped}
@@ -31,6 +33,7 @@ use Rattle.worker.specs.rules.DurableValues.{DurableValue}
 use Rattle.worker.specs.rules.DurableCalls.{ComesOf, SliceCarries, CheckpointCarries}
 use Rattle.worker.specs.rules.Checkpoints.{CheckpointFails}
 use Rattle.worker.specs.rules.DurableCreations.{CreationKeeps, IsNotCreatedOn}
+use Rattle.worker.specs.rules.RecoverFaults.{LayerWantsMemory}
 use Rattle.worker.specs.rules.Recoveries.{SaysNoWorker, Recovers, RecoveryCarries}
 
 -- ---- the calls of a life
@@ -169,7 +172,9 @@ released_in (Asks ask ∷ exchanges) = released_in exchanges
 -- what an error of an opening or of a call is in a life
 abbrev pub IsCauseOf : RecoverFault → Cause → Type 0
 IsCauseOf (recover.Worker why) cause = ComesOf why cause
-IsCauseOf other cause = ⊥
+IsCauseOf (recover.Replay replay.Memory) cause = cause ≡ OfMemory
+IsCauseOf (recover.Replay replay.Outlet) cause = cause ≡ OfOutlet
+IsCauseOf other cause = LayerWantsMemory other × (cause ≡ OfMemory)
 
 -- All was done, or the stop came, or an error ended it.
 abbrev pub EndsBy : Inputs → ℕ → Result (List Act) RecoverFault → End → Type 0

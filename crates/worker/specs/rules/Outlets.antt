@@ -2,11 +2,12 @@
 use Rattle.std.specs.Prelude.{◌≡◌, ◌⊎◌, List, Result, Ok, Err}
 use Rattle.std.specs.List.{AllByRecursion}
 use Rattle.record_replay.specs.declared.fault.OutletFault.{OutletFault}
+use Rattle.record_replay.specs.declared.fault.ReplayFault.TheVariants as replay
 use Rattle.record_replay.specs.rules.Calls.{Taking, Begun, Released, Releases}
 use Rattle.ephemeral_worker.specs.declared.fault.SliceFault.TheVariants as slice
 use Rattle.worker.specs.declared.fault.WorkFault.TheVariants.{Work}
 use Rattle.worker.specs.declared.recover_fault.RecoverFault.{RecoverFault}
-use Rattle.worker.specs.declared.recover_fault.RecoverFault.TheVariants.{Worker}
+use Rattle.worker.specs.declared.recover_fault.RecoverFault.TheVariants.{Worker, Replay}
 
 -- a line that it took
 abbrev pub WasTaken : Begun → Type 0
@@ -32,9 +33,10 @@ abbrev pub HeedsOutlet : {O : Type 0} → Taking O → Type 0 → O → O → Ty
 HeedsOutlet takes IsTold outlet outlet' = (TakesEach takes outlet outlet' × (IsTold → ⊥))
     ⊎ (RefusesLast takes outlet outlet' × IsTold)
 
--- an error that says that the outlet has failed
+-- an error that says that the outlet has failed, of a call or of a replay
 abbrev pub IsOutletFault : RecoverFault → Type 0
 IsOutletFault (Worker (Work slice.Outlet)) = Unit {0}
+IsOutletFault (Replay replay.Outlet) = Unit {0}
 IsOutletFault other = ⊥
 
 -- a result that says so

@@ -16,12 +16,13 @@ use Rattle.sector_disk.specs.declared.fault.DiskFault.{DiskFault}
 use Rattle.sector_disk.specs.rules.Image.{Image}
 use Rattle.sector_disk.specs.rules.Medium.{Medium, IsAllSynced, Stays, BeginsCalls, LeavesOnly}
 use Rattle.sector_disk.specs.rules.Medium.{CallsUpTo, CountsUpTo}
-use Rattle.disk_layout.specs.declared.fault.LayoutFault.TheVariants.{NotAWorker}
+use Rattle.disk_layout.specs.declared.fault.LayoutFault.TheVariants as layout
 use Rattle.disk_layout.specs.declared.geometry.Geometry.{Geometry}
 use Rattle.disk_layout.specs.rules.Places.{geometry_of, area_place, rounded_up, total_sectors}
 use Rattle.disk_layout.specs.rules.Stored.{OnlyReads}
 use Rattle.snapshot.specs.declared.writing.Writing.TheVariants.{Changes}
 use Rattle.snapshot.specs.rules.Calls.{AreStores, with_head}
+use Rattle.record_replay.specs.declared.fault.ReplayFault.TheVariants as replay
 use Rattle.record_replay.specs.rules.Calls.{Taking, Begun, Tells, Releases, all_taken}
 use Rattle.record_replay.specs.rules.Replays.{TellsFrom, RefusesFrom}
 use Rattle.worker_rules.specs.Stands.{StandsFor, IsBlank}
@@ -33,41 +34,40 @@ use Rattle.worker_rules.specs.Holds.{KeepsBounds, StaysWithin}
 use Rattle.worker_rules.specs.Exchanges.{AreEvents}
 use Rattle.worker_store.specs.laws.Pieces.{IsForetold}
 use Rattle.worker_store.specs.declared.fault.StoreFault.TheVariants as store
-use Rattle.ephemeral_worker.specs.declared.fault.SliceFault.TheVariants as slice
-use Rattle.worker.specs.declared.fault.WorkFault.TheVariants.{Work, Disk, Store}
+use Rattle.worker.specs.declared.fault.WorkFault.TheVariants.{Disk, Store}
 use Rattle.worker.specs.declared.recover_fault.RecoverFault.{RecoverFault}
-use Rattle.worker.specs.declared.recover_fault.RecoverFault.TheVariants.{Worker}
+use Rattle.worker.specs.declared.recover_fault.RecoverFault.TheVariants.{Worker, Layout, Replay}
 use Rattle.worker.specs.rules.CallCounts.{most_recovering}
 use Rattle.worker.specs.rules.DurableCalls.{TakesTooFew}
 use Rattle.worker.specs.rules.DurableValues.{DurableValue}
 use Rattle.worker.specs.rules.OpenWorkers.{IsOpenOn}
+use Rattle.worker.specs.rules.RecoverFaults.{LayerWantsMemory, IsOfItsLayer}
 
 -- ---- what stands on the disk decides
 
 -- that there is no worker
 abbrev pub IsNoWorker : RecoverFault → Type 0
-IsNoWorker (Worker (Store (store.Layout NotAWorker))) = Unit {0}
+IsNoWorker (Layout layout.NotAWorker) = Unit {0}
 IsNoWorker other = ⊥
 
--- that, or an error that says nothing of what stands on the disk
+-- that, or the layout wants memory, or the disk fails
 abbrev pub IsNoWorkerOr : RecoverFault → Type 0
-IsNoWorkerOr (Worker (Store (store.Layout NotAWorker))) = Unit {0}
-IsNoWorkerOr (Worker (Work slice.Memory)) = Unit {0}
+IsNoWorkerOr (Layout layout.NotAWorker) = Unit {0}
+IsNoWorkerOr (Layout layout.Memory) = Unit {0}
 IsNoWorkerOr (Worker (Disk fault)) = Unit {0}
 IsNoWorkerOr other = ⊥
 
--- an error that says nothing of what stands on the disk
+-- an error that says nothing of what stands on the disk: a layer wants memory, or the disk fails
 abbrev pub SaysNothing : RecoverFault → Type 0
-SaysNothing (Worker (Work slice.Memory)) = Unit {0}
 SaysNothing (Worker (Disk fault)) = Unit {0}
-SaysNothing other = ⊥
+SaysNothing other = LayerWantsMemory other
 
 -- a result says that there is no worker
 abbrev pub SaysNoWorker : {T : Type 0} → Result T RecoverFault → Type 0
 SaysNoWorker (Ok found) = ⊥
 SaysNoWorker (Err why) = IsNoWorker why
 
--- that, or an error that says nothing of what stands on the disk
+-- that, or the layout wants memory, or the disk fails
 abbrev pub SaysNoWorkerOr : {T : Type 0} → Result T RecoverFault → Type 0
 SaysNoWorkerOr (Ok found) = ⊥
 SaysNoWorkerOr (Err why) = IsNoWorkerOr why
@@ -97,20 +97,21 @@ pub record TellsSome {O : Type 0} (takes : Taking O) (released : ℕ) (p : Proce
   pub releases : Releases takes outlet (all_taken (suc released) told) outlet'
 
 -- An error of it comes for want of memory, or from the outlet or the disk. Or the number of the
--- next generation is at its end.
+-- next generation is at its end. Memory is wanted by the replay, some lines told, or by a layer
+-- before it, and nothing is told.
 abbrev pub RevivesInVain : {O : Type 0} {disk : Image} {m : Module} {config : Settings}
     {kept : List Kept} {n : ℕ} → Taking O → StandsFor disk m config kept n → RecoverFault → O → O
     → Type 0
-RevivesInVain takes stands (Worker (Work slice.Memory)) outlet outlet' =
+RevivesInVain takes stands (Replay replay.Memory) outlet outlet' =
     TellsSome takes stands.saved.lines stands.last outlet outlet'
-RevivesInVain takes stands (Worker (Work slice.Outlet)) outlet outlet' =
+RevivesInVain takes stands (Replay replay.Outlet) outlet outlet' =
     RefusesFrom takes stands.saved.lines stands.last outlet outlet'
 RevivesInVain takes stands (Worker (Disk fault)) outlet outlet' =
     TellsSome takes stands.saved.lines stands.last outlet outlet'
 RevivesInVain takes stands (Worker (Store store.TooBig)) outlet outlet' =
     (NUMBERS_END ≤ stands.generation + 1)
     × TellsFrom takes stands.saved.lines stands.last outlet outlet'
-RevivesInVain takes stands other outlet outlet' = ⊥
+RevivesInVain takes stands other outlet outlet' = LayerWantsMemory other × (outlet' ≡ outlet)
 
 -- What a recovery of it answers. Each line behind those of the saved process was told, once and in
 -- order, or the first of them, where it fails.
@@ -198,23 +199,23 @@ pub record Reopens (m : Module) (config : Settings) (promise : Promise) (inputs 
 -- memory was refused, or the outlet took a line no more. Or so much has happened that the number of
 -- a generation may be at its end. No other error comes.
 abbrev pub MayNotReopen : Settings → Promise → Phase → RecoverFault → Medium → Medium → Type 0
-MayNotReopen config promise phase (Worker (Work slice.Memory)) old new = phase ≡ Shut
-MayNotReopen config promise phase (Worker (Work slice.Outlet)) old new = phase ≡ Unheard
+MayNotReopen config promise phase (Replay replay.Memory) old new = phase ≡ Shut
+MayNotReopen config promise phase (Replay replay.Outlet) old new = phase ≡ Unheard
 MayNotReopen config promise phase (Worker (Disk fault)) old new =
     (phase ≡ Shut) × (TakesTooFew config old ⊎ (old.faults < new.faults))
 MayNotReopen config promise phase (Worker (Store store.TooBig)) old new =
     (phase ≡ Shut) × (NUMBERS_END ≤ promise.events + 1)
-MayNotReopen config promise phase other old new = ⊥
+MayNotReopen config promise phase other old new = (phase ≡ Shut) × LayerWantsMemory other
 
--- When an error comes, whatever stands on the disk. A fault of the disk comes only where the disk
--- has failed since. Or it surely takes fewer writes between two syncs than an area has sectors of
--- some worker for which it has room, or none. No worker says that it has failed before.
+-- When an error comes, whatever stands on the disk. A fault of the disk is told as that, and comes
+-- only where the disk has failed since. Or it surely takes fewer writes between two syncs than an
+-- area has sectors of some worker for which it has room, or none. No layer says that a call of it
+-- has failed before.
 abbrev pub HasRecoveryCause : Medium → Medium → RecoverFault → Type 0
 HasRecoveryCause old new (Worker (Disk fault)) = (old.faults < new.faults)
     ⊎ ((places : Geometry) × (total_sectors places ≤ old.sectors)
     × ((old.room < places.area_sectors) ⊎ (old.room ≡ 0)))
-HasRecoveryCause old new (Worker (Work slice.Failed)) = ⊥
-HasRecoveryCause old new other = Unit {0}
+HasRecoveryCause old new other = IsOfItsLayer other
 
 -- The lines that were told keep what was promised, and so does the disk.
 pub record ReopensInVain (m : Module) (config : Settings) (promise : Promise) (inputs : Inputs)
@@ -238,7 +239,7 @@ pub record FindsNone (promise : Promise) (told : List Begun) (old new : Medium) 
 -- by the error that there is no worker, and by any other
 abbrev pub EndsInVain : Module → Settings → Promise → Inputs → List Begun → RecoverFault → Medium
     → Medium → Type 0
-EndsInVain m config promise inputs told (Worker (Store (store.Layout NotAWorker))) old new =
+EndsInVain m config promise inputs told (Layout layout.NotAWorker) old new =
     FindsNone promise told old new
 EndsInVain m config promise inputs told why old new =
     ReopensInVain m config promise inputs told why old new

@@ -7,7 +7,7 @@ use Rattle.wasi_abi.specs.declared.numbers.TheConstants.{NUMBERS_END}
 use Rattle.process_rules.specs.Processes.{ProcessState}
 use Rattle.machine.specs.rules.Offers.{offer}
 use Rattle.machine_loader.specs.declared.fault.FrontFault.{FrontFault}
-use Rattle.machine_loader.specs.rules.Acceptance.{IsTold, HasNoAcceptedModule}
+use Rattle.machine_loader.specs.rules.Acceptance.{IsTold, FrontDenies, HasNoAcceptedModule}
 use Rattle.process.specs.rules.Values.{ProcessValue, ShowsProcess}
 use Rattle.state_image.specs.rules.Image.{Saved, image}
 use Rattle.state_image.specs.rules.Saving.{saved_of}
@@ -25,16 +25,16 @@ use Rattle.disk_layout.specs.rules.Journal.{Record, scan}
 use Rattle.disk_layout.specs.rules.Sectors.{HoldsImage}
 use Rattle.disk_layout.specs.rules.Stored.{OnlyReads}
 use Rattle.record_replay.specs.declared.fault.ReplayFault.{ReplayFault}
-use Rattle.record_replay.specs.declared.fault.ReplayFault.TheVariants as replay
 use Rattle.record_replay.specs.rules.Calls.{Taking}
 use Rattle.record_replay.specs.rules.Records.{Recorded}
 use Rattle.record_replay.specs.rules.Replays.{ReplaysUpTo, StopsReplay, TellsFrom}
-use Rattle.ephemeral_worker.specs.declared.fault.Refusal.TheVariants as refusal
-use Rattle.ephemeral_worker.specs.declared.fault.SliceFault.TheVariants as slice
+use Rattle.state_image.specs.declared.restoring.fault.RestoreFault.TheVariants as restore
 use Rattle.worker_store.specs.declared.fault.StoreFault.TheVariants as store
-use Rattle.worker_store.specs.rules.AnyDisk.{HasOtherVersion, LacksItsImage}
+use Rattle.worker_store.specs.rules.AnyDisk.{HasOtherVersion, HasKnownVersion, LacksItsImage}
+use Rattle.journal.specs.declared.fault.JournalFault.TheVariants as journal
+use Rattle.snapshot.specs.declared.fault.SnapshotFault.TheVariants as snapshot
 use Rattle.snapshot.specs.rules.Heads.{HasNone}
-use Rattle.worker.specs.declared.fault.WorkFault.TheVariants.{Work, Disk, Store}
+use Rattle.worker.specs.declared.fault.WorkFault.TheVariants.{Disk, Store}
 use Rattle.worker.specs.declared.recover_fault.RecoverFault.{RecoverFault}
 use Rattle.worker.specs.declared.recover_fault.RecoverFault.TheVariants as recover
 use Rattle.worker.specs.declared.surveyed.Survey.{Survey}
@@ -63,12 +63,14 @@ pub record HoldsWorker (sectors : ℕ) (disk : Image) : Type 0 where
 
 -- ---- what is wrong with it
 
--- configuration and module are there, whole, and this is what the module isn't accepted for
+-- Configuration and module are there, whole, and this is what the module isn't accepted for. Want
+-- of memory says only what the steps before found: of B4 nothing, of V5 that a module is spelled,
+-- and of L7 that it is valid.
 pub record HoldsRefused (sectors : ℕ) (disk : Image) (fault : FrontFault) : Type 0 where
   pub contents : Contents
   pub whole : GivesContents sectors disk (Ok contents)
   pub told : IsTold contents.config.pages contents.wasm fault
-  pub none : HasNoAcceptedModule contents.config.pages contents.wasm
+  pub none : FrontDenies fault (HasNoAcceptedModule contents.config.pages contents.wasm)
 
 -- no head is complete, or the newest one names an image that its area doesn't hold
 pub record HoldsNoImage (sectors : ℕ) (disk : Image) : Type 0 where
@@ -83,23 +85,46 @@ pub record HoldsNoProcess (sectors : ℕ) (disk : Image) : Type 0 where
   pub newest : HoldsImage holds.contents.geometry disk generation IMAGE_VERSION bytes
   pub other : (s : Saved) → IsWellTyped holds.module_is holds.contents.config s → bytes ≢ image s
 
+-- ---- where memory is wanted, what was found before
+
+-- the image that the newest head names is there, whole
+pub record HoldsNamedImage (sectors : ℕ) (disk : Image) : Type 0 where
+  pub holds : HoldsModule sectors disk
+  pub generation : ℕ
+  pub bytes : List ℕ
+  pub newest : HoldsImage holds.contents.geometry disk generation IMAGE_VERSION bytes
+
+-- it is that of a well-typed process of the module
+pub record HoldsProcess (sectors : ℕ) (disk : Image) : Type 0 where
+  pub holds : HoldsModule sectors disk
+  pub generation : ℕ
+  pub saved : Saved
+  pub well_typed : IsWellTyped holds.module_is holds.contents.config saved
+  pub newest : HoldsImage holds.contents.geometry disk generation IMAGE_VERSION (image saved)
+
+-- ---- what a fault shows
+
 -- A mark, the layout, a length or a digest is wrong, or the disk is too small; or the newest head
--- is of a version that isn't known.
+-- is of a version that isn't known. Want of memory shows nothing here. A fault of the disk is told
+-- as that.
 abbrev pub ShowsLayoutFault : ℕ → Image → LayoutFault → Type 0
 ShowsLayoutFault sectors disk layout.Version = GivesContents sectors disk (Err layout.Version)
     ⊎ (HoldsModule sectors disk × HasOtherVersion disk)
+ShowsLayoutFault sectors disk (layout.Disk fault) = ⊥
 ShowsLayoutFault sectors disk fault = GivesContents sectors disk (Err fault)
 
--- What the disk shows, where this fault is found before anything is told. Want of memory and a
--- fault of the disk show nothing.
+-- What the disk shows, where this fault is found before anything is told. It is looked at in one
+-- order, and memory may be wanted at each step: so want of memory shows what the steps before have
+-- found, and a fault of the disk shows nothing.
 abbrev pub ShowsFault : ℕ → Image → RecoverFault → Type 0
-ShowsFault sectors disk (recover.Worker (Store (store.Layout fault))) =
-    ShowsLayoutFault sectors disk fault
-ShowsFault sectors disk (recover.Worker (Work (slice.Refused (refusal.Front fault)))) =
-    HoldsRefused sectors disk fault
-ShowsFault sectors disk (recover.Worker (Store store.Damaged)) = HoldsNoImage sectors disk
-ShowsFault sectors disk recover.NotAnImage = HoldsNoProcess sectors disk
-ShowsFault sectors disk (recover.Worker (Work slice.Memory)) = Unit {0}
+ShowsFault sectors disk (recover.Layout fault) = ShowsLayoutFault sectors disk fault
+ShowsFault sectors disk (recover.Front fault) = HoldsRefused sectors disk fault
+ShowsFault sectors disk (recover.Snapshot snapshot.Damaged) = HoldsNoImage sectors disk
+ShowsFault sectors disk (recover.Snapshot snapshot.Memory) =
+    HoldsModule sectors disk × HasKnownVersion disk
+ShowsFault sectors disk (recover.Image restore.NotAnImage) = HoldsNoProcess sectors disk
+ShowsFault sectors disk (recover.Image restore.Memory) = HoldsNamedImage sectors disk
+ShowsFault sectors disk (recover.Journal journal.Memory) = HoldsProcess sectors disk
 ShowsFault sectors disk (recover.Worker (Disk fault)) = Unit {0}
 ShowsFault sectors disk other = ⊥
 
@@ -143,12 +168,8 @@ IsTooBig held v = (NUMBERS_END ≤ held.generation + 1)
 -- A record can't be replayed; or the worker has come to its last process, and can't be saved.
 abbrev pub FailsHeld : {O : Type 0} {sectors : ℕ} {disk : Image} → Taking O
     → HoldsWorker sectors disk → RecoverFault → O → O → Type 0
-FailsHeld takes held recover.Diverged outlet outlet' =
-    StopsHeld takes held replay.Diverged outlet outlet'
-FailsHeld takes held (recover.Worker (Work slice.Memory)) outlet outlet' =
-    StopsHeld takes held replay.Memory outlet outlet'
-FailsHeld takes held (recover.Worker (Work slice.Outlet)) outlet outlet' =
-    StopsHeld takes held replay.Outlet outlet outlet'
+FailsHeld takes held (recover.Replay fault) outlet outlet' =
+    StopsHeld takes held fault outlet outlet'
 FailsHeld takes held (recover.Worker (Store store.TooBig)) outlet outlet' =
     (v : ProcessValue) × EndsHeld takes held v outlet outlet' × IsTooBig held v
 FailsHeld takes held (recover.Worker (Disk fault)) outlet outlet' =
@@ -167,13 +188,11 @@ AnswersDisk takes sectors disk (Err why) outlet outlet' =
     (ShowsFault sectors disk why × (outlet' ≡ outlet))
     ⊎ ((held : HoldsWorker sectors disk) × FailsHeld takes held why outlet outlet')
 
--- what stands on the disk is refused, before anything is told
+-- what stands on the disk is refused, or memory is wanted, before anything is told
 abbrev pub IsRefusal : RecoverFault → Type 0
-IsRefusal (recover.Worker (Store (store.Layout fault))) = Unit {0}
-IsRefusal (recover.Worker (Work (slice.Refused why))) = Unit {0}
-IsRefusal (recover.Worker (Store store.Damaged)) = Unit {0}
-IsRefusal recover.NotAnImage = Unit {0}
-IsRefusal other = ⊥
+IsRefusal (recover.Worker why) = ⊥
+IsRefusal (recover.Replay why) = ⊥
+IsRefusal other = Unit {0}
 
 -- the next generation can't be written
 abbrev pub IsOfSaving : RecoverFault → Type 0

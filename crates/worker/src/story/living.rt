@@ -149,7 +149,7 @@ fn do_one<D: Disk, S: Source, O: Outlet>(
             Ok(_now) => Ok(()),
             Err(fault) => Err(fault),
         },
-        PlannedAct::Checkpoint => match worker.checkpoint(disk) {
+        PlannedAct::Checkpoint => match worker.checkpoint(disk, outlet) {
             Ok(()) => Ok(()),
             Err(fault) => Err(fault),
         },

@@ -5,13 +5,12 @@ ghost use Rattle.disk_layout.specs.rules.Places.{total_sectors};
 ghost use Rattle.worker.specs.rules.Recoveries.{IsNoWorker};
 ghost use Rattle.worker.specs.LifeCalls.{LeavesSome, Opens};
 
-use crate::{RecoverFault, WorkFault, Worker};
+use crate::{RecoverFault, Worker};
 use disk_layout::LayoutFault;
 use record_replay::Outlet;
 use sector_disk::Disk;
 use std::alloc::Global;
 use wasi_abi::Config;
-use worker_store::StoreFault;
 
 /// A worker that is open, and whether it was created.
 pub(crate) struct OpenedWorker {
@@ -56,13 +55,7 @@ pub(crate) fn open_worker<D: Disk, O: Outlet>(
 fn is_no_worker(fault: RecoverFault) -> bool
     ensures { IsTrue result ↔ IsNoWorker fault }
 {
-    let RecoverFault::Worker(fault) = fault else {
-        return false;
-    };
-    let WorkFault::Store(fault) = fault else {
-        return false;
-    };
-    let StoreFault::Layout(fault) = fault else {
+    let RecoverFault::Layout(fault) = fault else {
         return false;
     };
     match fault {

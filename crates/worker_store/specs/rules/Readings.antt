@@ -10,23 +10,31 @@ use Rattle.sector_disk.specs.rules.Image.{Image}
 use Rattle.disk_layout.specs.declared.geometry.Geometry.{Geometry}
 use Rattle.disk_layout.specs.declared.reading.contents.Contents.{Contents}
 use Rattle.disk_layout.specs.rules.Journal.{Record}
-use Rattle.disk_layout.specs.declared.fault.LayoutFault.TheVariants.{NotAWorker}
+use Rattle.disk_layout.specs.declared.fault.LayoutFault.TheVariants as layout
 use Rattle.disk_layout.specs.rules.Places.{total_sectors}
+use Rattle.journal.specs.declared.fault.JournalFault.TheVariants as journal
+use Rattle.snapshot.specs.declared.fault.SnapshotFault.TheVariants as snapshot
 use Rattle.snapshot.specs.declared.newest.Snapshot.{Snapshot}
 use Rattle.worker_rules.specs.Stands.{IsBlank}
 use Rattle.worker_store.specs.laws.Savepoints.{Savepoint, places, StandsAtPoint}
-use Rattle.worker_store.specs.declared.fault.StoreFault.{StoreFault}
-use Rattle.worker_store.specs.declared.fault.StoreFault.TheVariants.{Layout, Memory, Disk}
+use Rattle.worker_store.specs.declared.read_fault.ReadFault.{ReadFault}
+use Rattle.worker_store.specs.declared.read_fault.ReadFault.TheVariants as read
 
--- an answer that has P, or an error that says nothing of what stands on the disk
-abbrev pub GivesOr : {T : Type 0} → (T → Type 0) → Result T StoreFault → Type 0
+-- an error that says nothing of what stands on the disk: a layer wants memory, or the disk fails
+abbrev pub ReadsNothing : ReadFault → Type 0
+ReadsNothing (read.Disk fault) = Unit {0}
+ReadsNothing (read.Layout layout.Memory) = Unit {0}
+ReadsNothing (read.Snapshot snapshot.Memory) = Unit {0}
+ReadsNothing (read.Journal journal.Memory) = Unit {0}
+ReadsNothing other = ⊥
+
+-- an answer that has P, or such an error
+abbrev pub GivesOr : {T : Type 0} → (T → Type 0) → Result T ReadFault → Type 0
 GivesOr P (Ok found) = P found
-GivesOr P (Err Memory) = Unit {0}
-GivesOr P (Err (Disk fault)) = Unit {0}
-GivesOr P (Err other) = ⊥
+GivesOr P (Err why) = ReadsNothing why
 
 -- configuration and module
-abbrev pub ReadsContents : ℕ → Image → Result Contents StoreFault → Type 0
+abbrev pub ReadsContents : ℕ → Image → Result Contents ReadFault → Type 0
 ReadsContents sectors disk result =
     (m : Module) (config : Settings) (point : Savepoint m config) (records : List Record)
     (last : ProcessState) → StandsAtPoint point records last disk
@@ -35,24 +43,24 @@ ReadsContents sectors disk result =
     ≡ record { geometry = places point; config = config; wasm = point.wasm }) result
 
 -- that there is no worker
-abbrev pub DeniesWorker : {T : Type 0} → Result T StoreFault → Type 0
-DeniesWorker (Err (Layout NotAWorker)) = Unit {0}
+abbrev pub DeniesWorker : {T : Type 0} → Result T ReadFault → Type 0
+DeniesWorker (Err (read.Layout layout.NotAWorker)) = Unit {0}
 DeniesWorker other = ⊥
 
--- that, or an error that says nothing of what stands on the disk
-abbrev pub DeniesWorkerOr : {T : Type 0} → Result T StoreFault → Type 0
-DeniesWorkerOr (Err (Layout NotAWorker)) = Unit {0}
-DeniesWorkerOr (Err Memory) = Unit {0}
-DeniesWorkerOr (Err (Disk fault)) = Unit {0}
+-- that, or the layout wants memory, or the disk fails
+abbrev pub DeniesWorkerOr : {T : Type 0} → Result T ReadFault → Type 0
+DeniesWorkerOr (Err (read.Layout layout.NotAWorker)) = Unit {0}
+DeniesWorkerOr (Err (read.Layout layout.Memory)) = Unit {0}
+DeniesWorkerOr (Err (read.Disk fault)) = Unit {0}
 DeniesWorkerOr other = ⊥
 
 -- A worker is denied only where a mark of one is missing, and always there.
-pub record TellsMarks (disk : Image) (result : Result Contents StoreFault) : Type 0 where
+pub record TellsMarks (disk : Image) (result : Result Contents ReadFault) : Type 0 where
   pub only : DeniesWorker result → IsBlank disk
   pub always : IsBlank disk → DeniesWorkerOr result
 
 -- the snapshot
-abbrev pub ReadsNewest : Geometry → Image → Result Snapshot StoreFault → Type 0
+abbrev pub ReadsNewest : Geometry → Image → Result Snapshot ReadFault → Type 0
 ReadsNewest geometry disk result =
     (m : Module) (config : Settings) (point : Savepoint m config) (records : List Record)
     (last : ProcessState) → StandsAtPoint point records last disk → geometry ≡ places point
@@ -60,7 +68,7 @@ ReadsNewest geometry disk result =
     × (found.image.items ≡ image point.saved)) result
 
 -- the records
-abbrev pub ReadsRecords : Geometry → ℕ → Image → Result (Vec Record Global) StoreFault → Type 0
+abbrev pub ReadsRecords : Geometry → ℕ → Image → Result (Vec Record Global) ReadFault → Type 0
 ReadsRecords geometry generation disk result =
     (m : Module) (config : Settings) (point : Savepoint m config) (records : List Record)
     (last : ProcessState) → StandsAtPoint point records last disk → geometry ≡ places point

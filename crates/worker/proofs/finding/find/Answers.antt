@@ -5,6 +5,7 @@ use Rattle.disk_layout.specs.declared.reading.contents.Contents.{Contents}
 use Rattle.worker_store.specs.laws.Savepoints.{places}
 use Rattle.worker.proofs.FindingLemmas.{unread_as, marks_there, marks_unread}
 use Rattle.worker.proofs.FoundDiskLemmas.{contents_unread}
+use Rattle.worker.proofs.FindingLemmas.{unread_cause, later_so}
 use Rattle.worker.proofs.finding.find.Goals as goal
 
 pub returns-in-Ok-clause-reads : goal.returns-in-Ok-clause-reads
@@ -60,3 +61,14 @@ returns-in-Err-clause-shows g c = λ image shown.
     let was = g.D.Disk.medium c.args.disk.now in
     contents_unread was.sectors image c.in-Err.fault c.from.result c.from.ensures
     (c.in-Err.ensures.tells image shown)
+
+pub returns-in-Ok-clause-cause : goal.returns-in-Ok-clause-cause
+returns-in-Ok-clause-cause g c =
+    later_so (g.D.Disk.medium c.args.disk.now) (g.D.Disk.medium c.read_worker.new.disk)
+    (g.D.Disk.medium c.find_linked.new.disk) c.in-Ok.ensures.reads c.find_linked.result
+    c.find_linked.ensures.cause
+
+pub returns-in-Err-clause-cause : goal.returns-in-Err-clause-cause
+returns-in-Err-clause-cause g c =
+    unread_cause (g.D.Disk.medium c.args.disk.now) (g.D.Disk.medium c.read_worker.new.disk)
+    c.in-Err.fault c.from.result c.from.ensures c.in-Err.ensures.cause

@@ -4,6 +4,7 @@ use Rattle.wasi_abi.specs.rules.Answers.{AreBytes}
 use Rattle.worker.proofs.FindingLemmas.{saved_numbers}
 use Rattle.worker.proofs.RestoringLemmas.{restored_at, unrestored_at}
 use Rattle.worker.proofs.FoundDiskLemmas.{restored_in, process_unmade}
+use Rattle.worker.proofs.FindingLemmas.{unmade_cause}
 use Rattle.worker.proofs.finding.find_process.Goals as goal
 
 pub returns-in-Ok-clause-finds : goal.returns-in-Ok-clause-finds
@@ -46,3 +47,8 @@ returns-clause-shows g c = λ image shown sectors holds is_machine newest.
     snapshot.generation snapshot.image.items newest c.as_slice-3.result.now
     c.as_slice-3.ensures.value c.in-Err.fault c.from.result c.from.ensures
     c.in-Err.ensures.refused
+
+pub returns-clause-cause : goal.returns-clause-cause
+returns-clause-cause g c =
+    unmade_cause (g.D.Disk.medium c.args.disk.now) (g.D.Disk.medium c.args.disk.now)
+    c.in-Err.fault c.from.result c.from.ensures

@@ -4,6 +4,7 @@ use Rattle.std.specs.declared.alloc.Global.{Global}
 use Rattle.disk_layout.specs.rules.Journal.{Record}
 use Rattle.worker.proofs.FindingLemmas.{found_at, unread_as}
 use Rattle.worker.proofs.FoundDiskLemmas.{all_found, records_unread}
+use Rattle.worker.proofs.FindingLemmas.{unread_cause}
 use Rattle.worker.proofs.finding.find_records.Goals as goal
 
 pub returns-in-Ok-clause-finds : goal.returns-in-Ok-clause-finds
@@ -30,3 +31,8 @@ pub returns-in-Err-clause-shows : goal.returns-in-Err-clause-shows
 returns-in-Err-clause-shows g c = λ image shown sectors holds restored.
     records_unread sectors image holds c.args.geometry.now c.args.generation c.args.process
     restored c.in-Err.fault c.from.result c.from.ensures (c.in-Err.ensures.tells image shown)
+
+pub returns-in-Err-clause-cause : goal.returns-in-Err-clause-cause
+returns-in-Err-clause-cause g c =
+    unread_cause (g.D.Disk.medium c.args.disk.now) (g.D.Disk.medium c.read_records.new.disk)
+    c.in-Err.fault c.from.result c.from.ensures c.in-Err.ensures.cause

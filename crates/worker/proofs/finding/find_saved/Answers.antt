@@ -5,6 +5,7 @@ use Rattle.snapshot.specs.declared.newest.Snapshot.{Snapshot}
 use Rattle.state_image.specs.rules.Image.{image as image_of}
 use Rattle.worker.proofs.FindingLemmas.{unread_as}
 use Rattle.worker.proofs.FoundDiskLemmas.{newest_unread}
+use Rattle.worker.proofs.FindingLemmas.{unread_cause, later_so}
 use Rattle.worker.proofs.finding.find_saved.Goals as goal
 
 pub returns-in-Ok-clause-reads : goal.returns-in-Ok-clause-reads
@@ -40,3 +41,14 @@ pub returns-in-Err-clause-shows : goal.returns-in-Err-clause-shows
 returns-in-Err-clause-shows g c = λ image shown sectors holds is_machine.
     newest_unread sectors image holds c.args.geometry.now is_machine.placed c.in-Err.fault
     c.from.result c.from.ensures (c.in-Err.ensures.tells image shown)
+
+pub returns-in-Ok-clause-cause : goal.returns-in-Ok-clause-cause
+returns-in-Ok-clause-cause g c =
+    later_so (g.D.Disk.medium c.args.disk.now) (g.D.Disk.medium c.read_newest.new.disk)
+    (g.D.Disk.medium c.find_process.new.disk) c.in-Ok.ensures.reads c.find_process.result
+    c.find_process.ensures.cause
+
+pub returns-in-Err-clause-cause : goal.returns-in-Err-clause-cause
+returns-in-Err-clause-cause g c =
+    unread_cause (g.D.Disk.medium c.args.disk.now) (g.D.Disk.medium c.read_newest.new.disk)
+    c.in-Err.fault c.from.result c.from.ensures c.in-Err.ensures.cause

@@ -10,7 +10,9 @@ use Rattle.snapshot.specs.rules.Snapshots.{is_failed}
 use Rattle.worker_store.proofs.NewestLemmas.{names_it, image_wrong, other_version}
 use Rattle.worker_store.proofs.NewestLemmas.{reads_newest}
 use Rattle.disk_layout.specs.declared.fault.LayoutFault.TheVariants.{Version}
-use Rattle.worker_store.specs.declared.fault.StoreFault.TheVariants.{Damaged, Layout}
+use Rattle.snapshot.specs.declared.fault.SnapshotFault.TheVariants.{Damaged}
+use Rattle.worker_store.specs.declared.read_fault.ReadFault.TheVariants as read
+use Rattle.worker_store.proofs.ReadCauseLemmas.{head_cause, snapshot_later}
 use Rattle.worker_store.proofs.ReadLemmas.{idle_works}
 use Rattle.worker_store.proofs.reading.read_newest.Goals as goal
 
@@ -62,13 +64,13 @@ returns-in-Err-clause-finds g c image shown =
 
 pub returns-in_default-clause-finds : goal.returns-in_default-clause-finds
 returns-in_default-clause-finds g c image shown =
-    reads_newest c.args.geometry.now image (Err Damaged)
+    reads_newest c.args.geometry.now image (Err (read.Snapshot Damaged))
     (returns-in_default-clause-tells g c image shown)
 
 pub returns-then-head-ne-IMAGE_VERSION-clause-finds :
     goal.returns-then-head-ne-IMAGE_VERSION-clause-finds
 returns-then-head-ne-IMAGE_VERSION-clause-finds g c image shown =
-    reads_newest c.args.geometry.now image (Err (Layout Version))
+    reads_newest c.args.geometry.now image (Err (read.Layout Version))
     (returns-then-head-ne-IMAGE_VERSION-clause-tells g c image shown)
 
 pub returns-in-Ok-image_of-clause-finds : goal.returns-in-Ok-image_of-clause-finds
@@ -84,3 +86,23 @@ pub returns-in-Err-image_of-clause-finds : goal.returns-in-Err-image_of-clause-f
 returns-in-Err-image_of-clause-finds g c image shown =
     reads_newest c.args.geometry.now image (Err c.from-in-Err-image_of.result)
     (returns-in-Err-image_of-clause-tells g c image shown)
+
+-- ---- when an error comes
+
+pub returns-in-Err-clause-cause : goal.returns-in-Err-clause-cause
+returns-in-Err-clause-cause g c =
+    head_cause (Option Head) (g.D.Disk.medium c.args.disk.now)
+    (g.D.Disk.medium c.newest_head.new.disk) c.in-Err.fault c.from.result c.from.ensures
+    c.new-snapshots.result c.new-snapshots.ensures.idle (c.in-Err.ensures.cause (search rules))
+
+pub returns-in-Err-image_of-clause-cause : goal.returns-in-Err-image_of-clause-cause
+returns-in-Err-image_of-clause-cause g c =
+    snapshot_later (Vec ℕ Global) (g.D.Disk.medium c.args.disk.now)
+    (g.D.Disk.medium c.image_of.new.disk) (g.D.Disk.medium c.newest_head.new.disk)
+    c.in-Ok.ensures.reads c.in-Err-image_of.fault c.from-in-Err-image_of.result
+    c.from-in-Err-image_of.ensures
+    (λ same. idle_works c.new-snapshots.result c.new-snapshots.ensures.idle
+    (subst (λ (s : Snapshots). IsTrue (is_failed s)) c.in-Ok.ensures.same
+    (c.in-Err-image_of.ensures.fails.refused.0 (ap (λ (f : SnapshotFault).
+    (let r : Result (Vec ℕ Global) SnapshotFault = Err f in r)) same))))
+    c.in-Err-image_of.ensures.cause

@@ -1,4 +1,6 @@
 use Rattle.worker_store.proofs.ReadLemmas.{contents_ok, contents_failed}
+use Rattle.disk_layout.specs.declared.reading.contents.Contents.{Contents}
+use Rattle.worker_store.proofs.ReadCauseLemmas.{layout_cause}
 use Rattle.worker_store.proofs.reading.read_worker.Goals as goal
 
 pub returns-in-Ok-clause-gives : goal.returns-in-Ok-clause-gives
@@ -12,3 +14,8 @@ returns-in-Err-clause-gives g c disk shown =
     let was = g.D.Disk.medium c.args.disk.now in
     contents_failed was.sectors disk c.in-Err.fault c.from.result c.from.ensures
     (c.in-Err.ensures.gives disk shown)
+
+pub returns-in-Err-clause-cause : goal.returns-in-Err-clause-cause
+returns-in-Err-clause-cause g c =
+    layout_cause Contents (g.D.Disk.medium c.args.disk.now) (g.D.Disk.medium c.read_contents.new.disk)
+    c.in-Err.fault c.from.result c.from.ensures c.in-Err.ensures.cause

@@ -34,7 +34,7 @@ returns-in-Err-clause-failed g c =
 
 pub returns-then-taken-every-clause-done : goal.returns-then-taken-every-clause-done
 returns-then-taken-every-clause-done g c =
-    within_rests g.D.Disk.medium g.S.Source.gives g.O.Outlet.takes _ _ _ _ _ c.loop-now.invariant
+    rw c.rest_on.ensures.quiet (within_rests g.D.Disk.medium g.S.Source.gives g.O.Outlet.takes _ _ _ _ _ c.loop-now.invariant
     c.get.result c.get.ensures.value _ _ _ _ _ c.get-every.ensures.value c.in-Ok.now
     c.in-Ok.ensures.carries c.in-Ok.ensures.done c.rest_on.result _ _ c.rest_on.ensures.rested
     (slice_hears g.S.Source.gives g.O.Outlet.takes c.get.result _ _ _ _ _ _ c.in-Ok.now
@@ -45,17 +45,17 @@ returns-then-taken-every-clause-done g c =
       | then-taken-every-via-then-taken-every w ↦ w.if-taken-every.true
       | then-taken-every-via-else-taken-every+then-not-is_spent w ↦
           let told = w.is_spent.ensures.1 spent in let other = w.if-not-is_spent.true in absurd (cc)
-    ])
+    ]))
 
 pub returns-then-taken-every-clause-failed : goal.returns-then-taken-every-clause-failed
 returns-then-taken-every-clause-failed g c =
-    within_broken g.D.Disk.medium g.S.Source.gives g.O.Outlet.takes _ _ _ _ _ c.loop-now.invariant
+    rw c.rest_on.ensures.quiet (within_broken g.D.Disk.medium g.S.Source.gives g.O.Outlet.takes _ _ _ _ _ c.loop-now.invariant
     c.get.result c.get.ensures.value _ _ _ _ _ c.get-every.ensures.value c.in-Ok.now
     c.in-Ok.ensures.carries c.in-Ok.ensures.done c.rest_on.result _ _ c.rest_on.ensures.rested
     (slice_hears g.S.Source.gives g.O.Outlet.takes c.get.result _ _ _ _ _ _ c.in-Ok.now
     c.is_process.ensures c.in-Ok.ensures.done)
     (slice_takes g.S.Source.gives g.O.Outlet.takes c.get.result _ _ _ _ _ _ c.in-Ok.now
-    c.is_process.ensures c.in-Ok.ensures.done)
+    c.is_process.ensures c.in-Ok.ensures.done))
 
 pub loop-now-preserved : goal.loop-now-preserved
 loop-now-preserved g c =

@@ -11,8 +11,9 @@ use Rattle.worker.specs.rules.Unsynced.{CountsInSlice}
 use Rattle.worker.proofs.TurnCounts.{counts_none}
 use Rattle.worker.proofs.durable.Worker.checkpoint.Goals as goal
 
-pub save-saved-requires : goal.save-saved-requires
-save-saved-requires g c =
+pub save_telling-saved-requires-clause-sectors :
+    goal.save_telling-saved-requires-clause-sectors
+save_telling-saved-requires-clause-sectors g c =
     room_for g.D.Disk.medium c.self.inside.running c.self.inside.replayed
     c.self.inside.has_failed c.args.self.now c.self.view_is c.args.disk.now c.args.disk.now
     c.requires
@@ -39,7 +40,7 @@ pub returns-in-Err-clause-carries : goal.returns-in-Err-clause-carries
 returns-in-Err-clause-carries g c =
     fault_keeps g.D.Disk.medium c.self.inside.running c.self.inside.replayed
     c.self.inside.has_failed c.args.self.now c.self.view_is c.args.disk.now
-    c.save-saved.new.disk c.images_fit_areas.ensures c.is_process.ensures c.save-saved.new.store
+    c.save_telling-saved.new.disk c.images_fit_areas.ensures c.is_process.ensures c.save_telling-saved.new.store
     c.in-Err.ensures.any_moment c.in-Err.ensures.asks c.in-Err.fault c.from.result c.from.ensures
     c.in-Err.ensures.cause
 
@@ -47,14 +48,14 @@ pub returns-in-Err-clause-calls : goal.returns-in-Err-clause-calls
 returns-in-Err-clause-calls g c =
     calls_err g.D.Disk.medium c.self.inside.running c.self.inside.replayed
     c.self.inside.has_failed c.args.self.now c.self.view_is c.args.disk.now
-    c.save-saved.new.disk c.in-Err.fault c.from.result
+    c.save_telling-saved.new.disk c.in-Err.fault c.from.result
     c.in-Err.ensures.calls
 
 pub returns-in-Err-clause-cause : goal.returns-in-Err-clause-cause
 returns-in-Err-clause-cause g c =
     fault_cause g.D.Disk.medium c.self.inside.running c.self.inside.replayed
     c.self.inside.has_failed c.args.self.now c.self.view_is c.args.disk.now
-    c.save-saved.new.disk c.images_fit_areas.ensures c.is_process.ensures c.save-saved.new.store
+    c.save_telling-saved.new.disk c.images_fit_areas.ensures c.is_process.ensures c.save_telling-saved.new.store
     c.in-Err.ensures.any_moment c.in-Err.ensures.asks c.in-Err.fault c.from.result c.from.ensures
     c.in-Err.ensures.cause
 
@@ -62,14 +63,14 @@ pub returns-in-Err-clause-room : goal.returns-in-Err-clause-room
 returns-in-Err-clause-room g c =
     room_after g.D.Disk.medium c.self.inside.running c.self.inside.replayed
     c.self.inside.has_failed c.args.self.now c.self.view_is c.args.disk.now
-    c.save-saved.new.disk c.save-saved.new.store c.in-Err.ensures.stays c.in-Err.ensures.passes
+    c.save_telling-saved.new.disk c.save_telling-saved.new.store c.in-Err.ensures.stays c.in-Err.ensures.passes
     c.requires
 
 pub returns-clause-carries : goal.returns-clause-carries
 returns-clause-carries g c =
     done_keeps g.D.Disk.medium c.self.inside.running c.self.inside.replayed
     c.self.inside.has_failed c.args.self.now c.self.view_is c.args.disk.now
-    c.save-saved.new.disk c.images_fit_areas.ensures c.is_process.ensures c.save-saved.new.store
+    c.save_telling-saved.new.disk c.images_fit_areas.ensures c.is_process.ensures c.save_telling-saved.new.store
     c.in_default.ensures.any_moment c.in_default.ensures.asks c.if-self.false
     c.in_default.ensures.durable
 
@@ -77,19 +78,19 @@ pub returns-clause-saved : goal.returns-clause-saved
 returns-clause-saved g c =
     saved_in g.D.Disk.medium c.self.inside.running c.self.inside.replayed
     c.self.inside.has_failed c.args.self.now c.self.view_is c.args.disk.now
-    c.save-saved.new.disk c.save-saved.new.store c.in_default.ensures.numbered
+    c.save_telling-saved.new.disk c.save_telling-saved.new.store c.in_default.ensures.numbered
 
 pub returns-clause-calls : goal.returns-clause-calls
 returns-clause-calls g c =
     calls_ok g.D.Disk.medium c.self.inside.running c.self.inside.replayed
     c.self.inside.has_failed c.args.self.now c.self.view_is c.args.disk.now
-    c.save-saved.new.disk tt c.in_default.ensures.calls
+    c.save_telling-saved.new.disk tt c.in_default.ensures.calls
 
 pub returns-clause-room : goal.returns-clause-room
 returns-clause-room g c =
     room_after g.D.Disk.medium c.self.inside.running c.self.inside.replayed
     c.self.inside.has_failed c.args.self.now c.self.view_is c.args.disk.now
-    c.save-saved.new.disk c.save-saved.new.store c.in_default.ensures.stays
+    c.save_telling-saved.new.disk c.save_telling-saved.new.store c.in_default.ensures.stays
     c.in_default.ensures.passes c.requires
 
 pub returns-then-self-clause-counts : goal.returns-then-self-clause-counts
@@ -100,10 +101,10 @@ pub returns-in-Err-clause-counts : goal.returns-in-Err-clause-counts
 returns-in-Err-clause-counts g c =
     let runs = c.in-Err.ensures.runs in
     subst (λ (w : DurableValue). CountsInSlice w.store.geometry (g.D.Disk.medium c.args.disk.now)
-    (g.D.Disk.medium c.save-saved.new.disk)) c.self.view_is runs.counts
+    (g.D.Disk.medium c.save_telling-saved.new.disk)) c.self.view_is runs.counts
 
 pub returns-clause-counts : goal.returns-clause-counts
 returns-clause-counts g c =
     let runs = c.in_default.ensures.runs in
     subst (λ (w : DurableValue). CountsInSlice w.store.geometry (g.D.Disk.medium c.args.disk.now)
-    (g.D.Disk.medium c.save-saved.new.disk)) c.self.view_is runs.counts
+    (g.D.Disk.medium c.save_telling-saved.new.disk)) c.self.view_is runs.counts

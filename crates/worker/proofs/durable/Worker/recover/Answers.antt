@@ -64,7 +64,6 @@ returns-in-Err-find-clause-on_any_disk g c =
     let passes = c.in_default.ensures.passes in
     unfound_cause (g.D.Disk.medium c.args.disk.now) (g.D.Disk.medium c.sync.new.self)
     (g.D.Disk.medium c.find.new.disk) passes.faults c.in-Err-find.fault found.cause
-    found.unfailed
 
 pub returns-in-Ok-clause-on_any_disk : goal.returns-in-Ok-clause-on_any_disk
 returns-in-Ok-clause-on_any_disk g c =
@@ -107,7 +106,8 @@ pub returns-in-Err-find-clause-heeds : goal.returns-in-Err-find-clause-heeds
 returns-in-Err-find-clause-heeds g c =
     inl (
       none_told g.O.Outlet.takes c.args.outlet.now,
-      found_is_other c.in-Err-find.fault c.in-Err-find.ensures.untold,
+      found_is_other (g.D.Disk.medium c.sync.new.self) (g.D.Disk.medium c.find.new.disk)
+          c.in-Err-find.fault c.in-Err-find.ensures.cause,
     )
 
 pub returns-in-Ok-clause-heeds : goal.returns-in-Ok-clause-heeds

@@ -11,10 +11,12 @@ returns-in-Err-clause-does g c = rw c.in-Slice.is (slice_fails g.D.Disk.medium g
     g.O.Outlet.takes _ _ _ _ _ c.in-Err.fault _ _ _ _ c.in-Err.ensures.carries)
 
 pub returns-in-Ok-checkpoint-clause-does : goal.returns-in-Ok-checkpoint-clause-does
-returns-in-Ok-checkpoint-clause-does g c = rw c.in-Checkpoint.is (saving_is_done g.D.Disk.medium
+returns-in-Ok-checkpoint-clause-does g c =
+    rw (c.in-Checkpoint.is, c.in-Ok-checkpoint.ensures.quiet) (saving_is_done g.D.Disk.medium
     g.S.Source.gives g.O.Outlet.takes _ _ _ _ _ _ c.in-Ok-checkpoint.ensures.carries)
 
 pub returns-in-Err-checkpoint-clause-does : goal.returns-in-Err-checkpoint-clause-does
-returns-in-Err-checkpoint-clause-does g c = rw c.in-Checkpoint.is (saving_fails g.D.Disk.medium
+returns-in-Err-checkpoint-clause-does g c =
+    rw (c.in-Checkpoint.is, c.in-Err-checkpoint.ensures.quiet) (saving_fails g.D.Disk.medium
     g.S.Source.gives g.O.Outlet.takes _ _ _ _ _ _ _ c.in-Err-checkpoint.ensures.carries
     c.in-Err-checkpoint.ensures.cause)
