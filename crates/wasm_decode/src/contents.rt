@@ -6,7 +6,7 @@ ghost use Rattle.wasm_decode.specs.Contents.{contents_read};
 ghost use Rattle.wasm_decode.specs.Sections.{held};
 
 use crate::fields::{functions_of, imports_of, row_of, short_row_of, start_of};
-use crate::items::{ReadError, ReadRefusal, Span};
+use crate::items::{ModuleLimit, ReadError, ReadRefusal, Span};
 use std::alloc::Global;
 use wasm_syntax::Module;
 use wasm_syntax::limits::GLOBALS;
@@ -50,10 +50,22 @@ pub fn contents(
 {
     let types = row_of(alloc, bodies, id::TYPES)?;
     let imports = imports_of(alloc, bodies, id::IMPORTS)?;
-    let function_types = short_row_of(alloc, bodies, id::FUNCTION_TYPES, imports.functions_left)?;
+    let function_types = short_row_of(
+        alloc,
+        bodies,
+        id::FUNCTION_TYPES,
+        imports.functions_left,
+        ModuleLimit::Functions,
+    )?;
     let tables = row_of(alloc, bodies, id::TABLES)?;
     let memories = row_of(alloc, bodies, id::MEMORIES)?;
-    let globals = short_row_of(alloc, bodies, id::GLOBAL_VARIABLES, GLOBALS)?;
+    let globals = short_row_of(
+        alloc,
+        bodies,
+        id::GLOBAL_VARIABLES,
+        GLOBALS,
+        ModuleLimit::Globals,
+    )?;
     let exports = row_of(alloc, bodies, id::EXPORTS)?;
     let start = start_of(bodies, id::START)?;
     let elements = row_of(alloc, bodies, id::ELEMENTS)?;

@@ -1,9 +1,9 @@
 //! Why bytes are not decoded.
 
 ghost use Rattle.std.specs.Prelude.{◌≡◌, Some, None};
-ghost use Rattle.wasm_decode.specs.rules.Faults.{decode_fault, place_of};
+ghost use Rattle.wasm_decode.specs.rules.Faults.{decode_fault, passed_of, place_of};
 
-use crate::items::{ReadError, ReadRefusal};
+use crate::items::{PassedLimit, ReadError, ReadRefusal};
 use thiserror::Error;
 
 /// Why bytes are no module, or want of memory. Bytes are counted from 0, and read from the front:
@@ -16,20 +16,31 @@ pub enum DecodeFault {
     /// A type or an instruction of floats stands there.
     #[error("B2 Float")]
     Float(usize),
+    /// A limit of modules is passed.
     #[error("B3 Limit")]
-    Limit,
+    Limit(PassedLimit),
     #[error("B4 Memory")]
     Memory,
 }
 
 impl DecodeFault {
-    /// The offset of the item at fault.
+    /// The offset of the item at fault. `passed_limit` has that of a limit.
     pub fn place(&self) -> Option<usize>
         ensures { result ≡ place_of self.now }
     {
         match self {
             DecodeFault::Malformed(at) | DecodeFault::Float(at) => Some(*at),
-            DecodeFault::Limit | DecodeFault::Memory => None,
+            DecodeFault::Limit(_) | DecodeFault::Memory => None,
+        }
+    }
+
+    /// The limit that is passed, and where.
+    pub fn passed_limit(&self) -> Option<PassedLimit>
+        ensures { result ≡ passed_of self.now }
+    {
+        match self {
+            DecodeFault::Limit(passed) => Some(*passed),
+            DecodeFault::Malformed(_) | DecodeFault::Float(_) | DecodeFault::Memory => None,
         }
     }
 }
@@ -41,7 +52,7 @@ impl From<ReadError> for DecodeFault {
         match error {
             ReadError::Refused(ReadRefusal::Malformed(at)) => DecodeFault::Malformed(at),
             ReadError::Refused(ReadRefusal::Float(at)) => DecodeFault::Float(at),
-            ReadError::Refused(ReadRefusal::Limit) => DecodeFault::Limit,
+            ReadError::Refused(ReadRefusal::Limit(passed)) => DecodeFault::Limit(passed),
             ReadError::Memory => DecodeFault::Memory,
         }
     }

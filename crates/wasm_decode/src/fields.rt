@@ -10,7 +10,9 @@ ghost use Rattle.wasm_decode.specs.Sections.{held};
 
 use crate::codes::functions;
 use crate::imported::{Imports, read_imports};
-use crate::items::{Decoder, Item, ReadError, ReadRefusal, Span, vector, vector_up_to};
+use crate::items::{
+    Decoder, Item, ModuleLimit, ReadError, ReadRefusal, Span, vector, vector_up_to,
+};
 use std::alloc::Global;
 use wasm_syntax::limits::FUNCTIONS;
 use wasm_syntax::{Function, Row};
@@ -43,12 +45,13 @@ pub fn row_of<T: Item>(
     Ok(items)
 }
 
-/// A vector of at most so many items.
+/// A vector of at most so many items, which is this limit.
 pub fn short_row_of<T: Item>(
     alloc: Global,
     bodies: &[Option<Span>],
     id: usize,
     most: usize,
+    limit: ModuleLimit,
 ) -> Result<Row<T>, ReadError>
     requires { id < length bodies.now }
     ensures { GivesAll result (field_at (vector_up_to_at T.at most) [] (held bodies.now id)) }
@@ -56,7 +59,7 @@ pub fn short_row_of<T: Item>(
     let Some(mut decoder) = open_section(bodies, id) else {
         return Ok(Row::new(alloc));
     };
-    let items = vector_up_to(alloc, &mut decoder, most)?;
+    let items = vector_up_to(alloc, &mut decoder, most, limit)?;
     decoder.expect_end()?;
     Ok(items)
 }

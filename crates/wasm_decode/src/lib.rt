@@ -6,15 +6,18 @@
 //! - `decode`: the module is spelled by all of the bytes, and is within the limits (`found`). A
 //!   fault other than want of memory comes only where the bytes spell no such module (`only`).
 //! - `DecodeFault::place` is the offset that a fault names, where it names one (`place_of`).
+//!   `DecodeFault::passed_limit` is the limit that `B3 Limit` is about, with its offset
+//!   (`passed_of`).
 //!
-//! No clause says which fault it is, nor which offset. Since bytes spell at most one module
-//! (`wasm_syntax::laws`), the module that is found is the only one.
+//! No clause says which fault it is, nor which limit or offset. Since bytes spell at most one
+//! module (`wasm_syntax::laws`), the module that is found is the only one.
 //!
 //! # Definitions to read
 //!
-//! `specs/rules/Faults.antt`: `place_of`, `decode_fault`. What a module's bytes are is defined in
-//! `wasm_syntax`: `IsModule` (`specs/rules/Modules.antt`), `IsWithinLimits` and `HasNoModule`
-//! (`specs/rules/Limits.antt`). All other files of `specs/` are about the steps of reading.
+//! `specs/rules/Faults.antt`: `place_of`, `passed_of`, `decode_fault`. What a module's bytes are is
+//! defined in `wasm_syntax`: `IsModule` (`specs/rules/Modules.antt`), `IsWithinLimits` and
+//! `HasNoModule` (`specs/rules/Limits.antt`). All other files of `specs/` are about the steps of
+//! reading.
 //!
 //! # Who may touch what
 //!
@@ -42,4 +45,5 @@ mod sections;
 mod whole;
 
 pub use fault::DecodeFault;
+pub use items::{ModuleLimit, PassedLimit};
 pub use whole::decode;

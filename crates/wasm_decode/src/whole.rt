@@ -11,7 +11,7 @@ ghost use Rattle.wasm_decode.specs.declared.fault.DecodeFault.TheVariants.{Memor
 
 use crate::contents::contents;
 use crate::fault::DecodeFault;
-use crate::items::{Decoder, ReadError, ReadRefusal};
+use crate::items::{Decoder, ModuleLimit, ReadError, ReadRefusal};
 use crate::sections::split;
 use std::alloc::Global;
 use wasm_syntax::limits::MODULE_BYTES;
@@ -38,7 +38,8 @@ fn module(alloc: Global, bytes: &[u8]) -> Result<Module, ReadError>
     ensures { GivesAll result (module_within_at bytes.now) }
 {
     if bytes.len() > MODULE_BYTES {
-        return Err(ReadError::Refused(ReadRefusal::Limit));
+        let refusal = ReadRefusal::past(ModuleLimit::Bytes, MODULE_BYTES);
+        return Err(ReadError::Refused(refusal));
     }
     let mut decoder = Decoder::new(bytes);
     header(&mut decoder)?;

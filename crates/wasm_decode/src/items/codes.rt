@@ -9,6 +9,7 @@ ghost use Rattle.wasm_syntax.specs.laws.ReadingWithin.{code_within_at};
 use crate::items::decoder::Decoder;
 use crate::items::expressions::expression;
 use crate::items::fault::{ReadError, ReadRefusal};
+use crate::items::limit::ModuleLimit;
 use crate::items::types::value_type;
 use crate::items::vectors::take_sized;
 use std::alloc::{AllocFailed, Global};
@@ -37,9 +38,11 @@ fn run(decoder: &mut Decoder, locals: Row<ValueType>) -> Result<Row<ValueType>, 
     ensures gives { GivesItem result decoder.new (run_onto_at locals decoder.old) }
     ensures few { IfOk result (λ all. length all ≤ LOCALS) }
 {
+    let start = decoder.at();
     let count = decoder.u32()?;
     if count as usize > LOCALS - locals.len() {
-        return Err(ReadError::Refused(ReadRefusal::Limit));
+        let refusal = ReadRefusal::past(ModuleLimit::Locals, start);
+        return Err(ReadError::Refused(refusal));
     }
     let value_type = value_type(decoder)?;
     let mut locals = locals;

@@ -11,6 +11,7 @@ use crate::items::decoder::Decoder;
 use crate::items::expressions::expression;
 use crate::items::fault::{ReadError, ReadRefusal};
 use crate::items::item::Item;
+use crate::items::limit::ModuleLimit;
 use crate::items::types::{global_type, memory_type, table_type};
 use crate::items::vectors::{bytes, name, vector};
 use std::alloc::Global;
@@ -27,7 +28,9 @@ fn import_item(decoder: &mut Decoder, functions: usize) -> Result<ImportItem, Re
 {
     let start = decoder.at();
     match decoder.byte() {
-        Some(0x00) if functions >= FUNCTIONS => Err(ReadRefusal::Limit),
+        Some(0x00) if functions >= FUNCTIONS => {
+            Err(ReadRefusal::past(ModuleLimit::Functions, start))
+        }
         Some(0x00) => Ok(ImportItem::Function(decoder.u32()?)),
         Some(0x01) => Ok(ImportItem::Table(table_type(decoder)?)),
         Some(0x02) => Ok(ImportItem::Memory(memory_type(decoder)?)),

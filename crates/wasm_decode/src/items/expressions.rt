@@ -9,6 +9,7 @@ ghost use Rattle.wasm_decode.specs.Items.Steps.{Nests};
 use crate::items::decoder::Decoder;
 use crate::items::fault::{ReadError, ReadRefusal};
 use crate::items::item::Item;
+use crate::items::limit::ModuleLimit;
 use crate::items::step::BodyStep;
 use std::alloc::{AllocFailed, Global};
 use wasm_syntax::limits::INSTRUCTIONS;
@@ -44,7 +45,7 @@ fn past_last(decoder: &Decoder) -> ReadRefusal {
     if decoder.is_empty() {
         ReadRefusal::Malformed(decoder.at())
     } else {
-        ReadRefusal::Limit
+        ReadRefusal::past(ModuleLimit::Instructions, decoder.at())
     }
 }
 

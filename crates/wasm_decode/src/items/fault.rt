@@ -3,6 +3,7 @@
 ghost use Rattle.std.specs.Prelude.{◌≡◌};
 ghost use Rattle.wasm_decode.specs.declared.items.fault.ReadError.TheVariants.{Refused, Memory};
 
+use crate::items::limit::{ModuleLimit, PassedLimit};
 use std::alloc::{AllocError, AllocFailed};
 
 /// What is wrong with the bytes: the first fault from the front. Offsets are in bytes, from the
@@ -13,8 +14,15 @@ pub enum ReadRefusal {
     Malformed(usize),
     /// A float type or instruction stands at this offset.
     Float(usize),
-    /// A limit is exceeded.
-    Limit,
+    /// A limit is passed.
+    Limit(PassedLimit),
+}
+
+impl ReadRefusal {
+    /// That this limit is passed at this offset.
+    pub fn past(limit: ModuleLimit, at: usize) -> ReadRefusal {
+        ReadRefusal::Limit(PassedLimit { limit, at })
+    }
 }
 
 /// Why nothing was read.

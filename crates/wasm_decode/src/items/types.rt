@@ -11,6 +11,7 @@ ghost use Rattle.wasm_syntax.specs.laws.ReadingWithin.{table_type_within_at};
 use crate::items::decoder::Decoder;
 use crate::items::fault::{ReadError, ReadRefusal};
 use crate::items::item::Item;
+use crate::items::limit::ModuleLimit;
 use crate::items::vectors::{vector, vector_up_to};
 use std::alloc::Global;
 use wasm_syntax::limits::{PARAMETERS, TABLE_ENTRIES};
@@ -43,7 +44,7 @@ impl Item for FunctionType {
     #[tactic(auto, unfolding(wasm_syntax::specs::laws::ReadingWithin::function_type_within_at))]
     fn read(alloc: Global, decoder: &mut Decoder) -> Result<FunctionType, ReadError> {
         decoder.expect_byte(0x60)?;
-        let parameters = vector_up_to(alloc, decoder, PARAMETERS)?;
+        let parameters = vector_up_to(alloc, decoder, PARAMETERS, ModuleLimit::Parameters)?;
         let results = vector(alloc, decoder)?;
         Ok(FunctionType {
             parameters,
@@ -64,11 +65,12 @@ fn limits(decoder: &mut Decoder, most: Option<u32>) -> Result<Limits, ReadRefusa
         Some(0x01) => true,
         _ => return Err(ReadRefusal::Malformed(start)),
     };
+    let minimum_at = decoder.at();
     let minimum = decoder.u32()?;
     if let Some(most) = most
         && minimum > most
     {
-        return Err(ReadRefusal::Limit);
+        return Err(ReadRefusal::past(ModuleLimit::TableEntries, minimum_at));
     }
     let maximum = if has_maximum {
         Some(decoder.u32()?)

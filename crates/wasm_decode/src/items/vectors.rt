@@ -9,6 +9,7 @@ ghost use Rattle.wasm_syntax.specs.laws.ReadingItems.{name_at, bytes_at};
 use crate::items::decoder::Decoder;
 use crate::items::fault::{ReadError, ReadRefusal};
 use crate::items::item::Item;
+use crate::items::limit::ModuleLimit;
 use std::alloc::Global;
 use wasm_syntax::Row;
 
@@ -33,18 +34,20 @@ pub fn vector<T: Item>(alloc: Global, decoder: &mut Decoder) -> Result<Row<T>, R
     items(alloc, decoder, count)
 }
 
-/// The same of at most so many items: a greater count is over the limit, and its items aren't read.
+/// The same of at most so many items: a greater count passes this limit, and its items aren't read.
 #[tactic(auto, unfolding(wasm_syntax::specs::laws::ReadingItems::vector_up_to_at))]
 pub fn vector_up_to<T: Item>(
     alloc: Global,
     decoder: &mut Decoder,
     most: usize,
+    limit: ModuleLimit,
 ) -> Result<Row<T>, ReadError>
     ensures { GivesItem result decoder.new (vector_up_to_at T.at most decoder.old) }
 {
+    let start = decoder.at();
     let count = decoder.u32()?;
     if count as usize > most {
-        return Err(ReadError::Refused(ReadRefusal::Limit));
+        return Err(ReadError::Refused(ReadRefusal::past(limit, start)));
     }
     items(alloc, decoder, count)
 }
