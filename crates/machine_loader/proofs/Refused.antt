@@ -32,7 +32,7 @@ module _ (bytes : List ℕ) where
   not_spelled decode.Memory h = tt
   not_spelled (decode.Malformed at) h = λ m a. h (λ e. absurd (cc)) m a.spelled a.limits
   not_spelled (decode.Float at) h = λ m a. h (λ e. absurd (cc)) m a.spelled a.limits
-  not_spelled decode.Limit h = λ m a. h (λ e. absurd (cc)) m a.spelled a.limits
+  not_spelled (decode.Limit passed) h = λ m a. h (λ e. absurd (cc)) m a.spelled a.limits
 
   pub not_valid : (m : Module) → IsModule bytes m → (e : ValidFault) → DeniesValid e (IsValid m)
       → FrontDenies (Valid e) (HasNoValidModule bytes)
@@ -57,7 +57,7 @@ module _ (pages : ℕ) (bytes : List ℕ) where
   denied (Decode decode.Memory) h = tt
   denied (Decode (decode.Malformed at)) h = none_accepted h
   denied (Decode (decode.Float at)) h = none_accepted h
-  denied (Decode decode.Limit) h = none_accepted h
+  denied (Decode (decode.Limit passed)) h = none_accepted h
   denied (Valid valid.Memory) h = tt
   denied (Valid valid.Typing) h = none_accepted h
   denied (Valid valid.Index) h = none_accepted h

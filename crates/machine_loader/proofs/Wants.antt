@@ -11,7 +11,7 @@ pub no_want : (e : FrontFault) (P : Type 0) → is_want e ≡ false → FrontDen
 no_want (Decode decode.Memory) P w h = absurd (cc)
 no_want (Decode (decode.Malformed at)) P w h = h
 no_want (Decode (decode.Float at)) P w h = h
-no_want (Decode decode.Limit) P w h = h
+no_want (Decode (decode.Limit passed)) P w h = h
 no_want (Valid valid.Memory) P w h = absurd (cc)
 no_want (Valid valid.Typing) P w h = h
 no_want (Valid valid.Index) P w h = h

@@ -1,12 +1,12 @@
 //! Why a module is not accepted.
 
 ghost use Rattle.std.specs.Prelude.{◌≡◌};
-ghost use Rattle.machine_loader.specs.rules.Acceptance.{is_want, place_in};
+ghost use Rattle.machine_loader.specs.rules.Acceptance.{is_want, passed_in, place_in};
 ghost use Rattle.machine_loader.specs.declared.fault.FrontFault.TheVariants as front;
 
 use machine::LinkFault;
 use thiserror::Error;
-use wasm_decode::DecodeFault;
+use wasm_decode::{DecodeFault, PassedLimit};
 use wasm_validate::ValidFault;
 
 /// The fault of the first of the three steps that refuses the module. It is printed as that step's
@@ -28,6 +28,16 @@ impl FrontFault {
     {
         match self {
             FrontFault::Decode(fault) => fault.place(),
+            FrontFault::Valid(_) | FrontFault::Link(_) => None,
+        }
+    }
+
+    /// The limit of modules that the bytes pass, and where, for the one fault that says so.
+    pub fn passed_limit(&self) -> Option<PassedLimit>
+        ensures { result ≡ passed_in self.now }
+    {
+        match self {
+            FrontFault::Decode(fault) => fault.passed_limit(),
             FrontFault::Valid(_) | FrontFault::Link(_) => None,
         }
     }

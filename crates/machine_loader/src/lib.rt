@@ -10,7 +10,7 @@
 //! - Either refusal is that of the first step that refuses, and says what that step found
 //!   (`told`). But for want of memory no such module is spelled by the bytes (`only`).
 //! - `FrontFault::place` is where in the bytes the fault is, for those faults of the decoder that
-//!   say it.
+//!   say it. `FrontFault::passed_limit` is the limit that `B3 Limit` is about, with its place.
 //! - `FrontFault::is_want_of_memory` tells the three wants of memory from all other faults.
 //!
 //! A fault is printed as that of its step.
@@ -18,8 +18,9 @@
 //! # Definitions to read
 //!
 //! In `specs/rules/Acceptance.antt`: `Accepts`, `IsRead`, `HasNoAcceptedModule`,
-//! `HasNoValidModule`, `IsTold`, `IsToldOfReading`, `FrontDenies`, `is_want`, `place_in`. They
-//! lead to `IsAccepted` of `wasm_syntax_rules`, and to `HasBegun` and `IsRefused` of `machine`.
+//! `HasNoValidModule`, `IsTold`, `IsToldOfReading`, `FrontDenies`, `is_want`, `place_in`,
+//! `passed_in`. They lead to `IsAccepted` of `wasm_syntax_rules`, and to `HasBegun` and `IsRefused`
+//! of `machine`.
 //!
 //! # Who may touch what
 //!

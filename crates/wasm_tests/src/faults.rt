@@ -4,7 +4,7 @@ use guest_memory::MemoryFault;
 use machine::LinkFault;
 use std::alloc::{AllocError, Global};
 use std::fmt::Display;
-use wasm_decode::DecodeFault;
+use wasm_decode::{DecodeFault, ModuleLimit, PassedLimit};
 use wasm_validate::ValidFault;
 
 /// A fault of one step, and of one of the decoder's its place.
@@ -22,7 +22,16 @@ static FAULTS: [(Fault, &str); 17] = [
         "B1 Malformed",
     ),
     (Fault::Decode(DecodeFault::Float(50), Some(50)), "B2 Float"),
-    (Fault::Decode(DecodeFault::Limit, None), "B3 Limit"),
+    (
+        Fault::Decode(
+            DecodeFault::Limit(PassedLimit {
+                limit: ModuleLimit::Globals,
+                at: 10,
+            }),
+            None,
+        ),
+        "B3 Limit",
+    ),
     (Fault::Decode(DecodeFault::Memory, None), "B4 Memory"),
     (Fault::Valid(ValidFault::Typing), "V1 Typing"),
     (Fault::Valid(ValidFault::Index), "V2 Index"),

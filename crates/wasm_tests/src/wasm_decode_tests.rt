@@ -1,9 +1,13 @@
 //! Which bytes are modules, where the first fault of others is told, and limits at their edges.
 
 use crate::spelled::{Refused, append, spell};
+use crate::wasm_decode_tests::Wanted::{Accepted, Past};
 use std::alloc::Global;
-use wasm_decode::DecodeFault::{self, Float, Limit, Malformed};
-use wasm_decode::decode;
+use wasm_decode::DecodeFault::{self, Float, Malformed};
+use wasm_decode::ModuleLimit::{
+    self, Bytes, Functions, Globals, Instructions, Locals, Parameters, TableEntries,
+};
+use wasm_decode::{PassedLimit, decode};
 use wasm_syntax::{Instruction, Module, Value};
 
 const HEADER: &str = "0061736d01000000";
@@ -274,10 +278,17 @@ static TOLD: [Told; 109] = [
     (BEFORE_CODE, "0a06 01 04 00 4001 0b", Some(Malformed(50))),
 ];
 
-const LIMIT: Option<DecodeFault> = Some(Limit);
+/// What is told of a long module.
+#[derive(Debug)]
+enum Wanted {
+    Accepted,
+    Malformed(usize),
+    /// A limit that is passed, and where.
+    Past(ModuleLimit, usize),
+}
 
 /// Two texts, a third one and how often it stands behind them, a fourth one, a fifth one that
-/// stands as often behind it, and the fault of all.
+/// stands as often behind it, and what is told of all.
 type Long = (
     &'static str,
     &'static str,
@@ -285,15 +296,23 @@ type Long = (
     usize,
     &'static str,
     &'static str,
-    Option<DecodeFault>,
+    Wanted,
 );
 
 static LONG: [Long; 28] = [
     // parameters of a type
-    (HEADER, "018502 01 60 8002", "7f", 256, "00", "", None),
-    (HEADER, "0104 01 60 8102", "", 0, "", "", LIMIT),
+    (HEADER, "018502 01 60 8002", "7f", 256, "00", "", Accepted),
+    (
+        HEADER,
+        "0104 01 60 8102",
+        "",
+        0,
+        "",
+        "",
+        Past(Parameters, 12),
+    ),
     // imported functions: the one too many at its kind
-    (HEADER, "02828001 8020", "0000 0000", 4096, "", "", None),
+    (HEADER, "02828001 8020", "0000 0000", 4096, "", "", Accepted),
     (
         HEADER,
         "02858001 8120",
@@ -301,7 +320,7 @@ static LONG: [Long; 28] = [
         4096,
         "0000 00",
         "",
-        LIMIT,
+        Past(Functions, 16400),
     ),
     (
         HEADER,
@@ -310,7 +329,7 @@ static LONG: [Long; 28] = [
         4096,
         "0000 020000",
         "",
-        None,
+        Accepted,
     ),
     (
         HEADER,
@@ -319,7 +338,7 @@ static LONG: [Long; 28] = [
         4096,
         "0000 04",
         "",
-        Some(Malformed(16400)),
+        Wanted::Malformed(16400),
     ),
     // own ones beside imported ones
     (
@@ -329,22 +348,54 @@ static LONG: [Long; 28] = [
         4096,
         "030101",
         "",
-        LIMIT,
+        Past(Functions, 16400),
     ),
     // functions, before the indices of their types
-    (HEADER, "0302 8120", "", 0, "", "", LIMIT),
-    (HEADER, "0302 8020", "", 0, "", "", Some(Malformed(12))),
+    (HEADER, "0302 8120", "", 0, "", "", Past(Functions, 10)),
+    (HEADER, "0302 8020", "", 0, "", "", Wanted::Malformed(12)),
     // the least size of a table, before its greatest
-    (HEADER, "0405 01 70 00 8020", "", 0, "", "", None),
-    (HEADER, "0405 01 70 00 8120", "", 0, "", "", LIMIT),
-    (HEADER, "0405 01 70 01 8120", "", 0, "", "", LIMIT),
-    (HEADER, "0208 01 0000 01 70 00 8120", "", 0, "", "", LIMIT),
+    (HEADER, "0405 01 70 00 8020", "", 0, "", "", Accepted),
+    (
+        HEADER,
+        "0405 01 70 00 8120",
+        "",
+        0,
+        "",
+        "",
+        Past(TableEntries, 13),
+    ),
+    (
+        HEADER,
+        "0405 01 70 01 8120",
+        "",
+        0,
+        "",
+        "",
+        Past(TableEntries, 13),
+    ),
+    (
+        HEADER,
+        "0208 01 0000 01 70 00 8120",
+        "",
+        0,
+        "",
+        "",
+        Past(TableEntries, 16),
+    ),
     // globals
-    (HEADER, "068228 8008", "7f00 41000b", 1024, "", "", None),
-    (HEADER, "0602 8108", "", 0, "", "", LIMIT),
+    (HEADER, "068228 8008", "7f00 41000b", 1024, "", "", Accepted),
+    (HEADER, "0602 8108", "", 0, "", "", Past(Globals, 10)),
     // instructions of an initialiser
-    (HEADER, "068320 01 7f00", "01", 4095, "0b", "", None),
-    (HEADER, "068420 01 7f00", "01", 4096, "0b", "", LIMIT),
+    (HEADER, "068320 01 7f00", "01", 4095, "0b", "", Accepted),
+    (
+        HEADER,
+        "068420 01 7f00",
+        "01",
+        4096,
+        "0b",
+        "",
+        Past(Instructions, 4110),
+    ),
     // a count decides nothing before its items are read
     (
         HEADER,
@@ -353,7 +404,7 @@ static LONG: [Long; 28] = [
         0,
         "",
         "",
-        Some(Malformed(15)),
+        Wanted::Malformed(15),
     ),
     // locals: a run too long is told before its type
     (
@@ -363,9 +414,17 @@ static LONG: [Long; 28] = [
         0,
         "",
         "",
-        None,
+        Accepted,
     ),
-    (ONE_FUNCTION, "0a05 01 03 01 8102", "", 0, "", "", LIMIT),
+    (
+        ONE_FUNCTION,
+        "0a05 01 03 01 8102",
+        "",
+        0,
+        "",
+        "",
+        Past(Locals, 23),
+    ),
     (
         ONE_FUNCTION,
         "0a0a 01 08 02 8001 7f 8001 7e 0b",
@@ -373,7 +432,7 @@ static LONG: [Long; 28] = [
         0,
         "",
         "",
-        None,
+        Accepted,
     ),
     (
         ONE_FUNCTION,
@@ -382,7 +441,7 @@ static LONG: [Long; 28] = [
         0,
         "",
         "",
-        LIMIT,
+        Past(Locals, 26),
     ),
     (
         ONE_FUNCTION,
@@ -391,7 +450,7 @@ static LONG: [Long; 28] = [
         0,
         "",
         "",
-        LIMIT,
+        Past(Locals, 23),
     ),
     // instructions: the one too many, whatever it is
     (
@@ -401,7 +460,7 @@ static LONG: [Long; 28] = [
         4095,
         "0b",
         "",
-        None,
+        Accepted,
     ),
     (
         ONE_FUNCTION,
@@ -410,7 +469,7 @@ static LONG: [Long; 28] = [
         4096,
         "0b",
         "",
-        LIMIT,
+        Past(Instructions, 4121),
     ),
     (
         ONE_FUNCTION,
@@ -419,7 +478,7 @@ static LONG: [Long; 28] = [
         4096,
         "ff",
         "",
-        LIMIT,
+        Past(Instructions, 4121),
     ),
     (
         ONE_FUNCTION,
@@ -428,7 +487,7 @@ static LONG: [Long; 28] = [
         4096,
         "",
         "",
-        Some(Malformed(4121)),
+        Wanted::Malformed(4121),
     ),
     // as many functions as allowed
     (
@@ -438,7 +497,7 @@ static LONG: [Long; 28] = [
         4096,
         "0a8260 8020",
         "02000b",
-        None,
+        Accepted,
     ),
 ];
 
@@ -466,9 +525,20 @@ fn spell_long(alloc: Global, row: &Long) -> Result<Vec<u8>, Refused> {
     Ok(bytes)
 }
 
+fn fault_wanted(wanted: &Wanted) -> Option<DecodeFault> {
+    match wanted {
+        Accepted => None,
+        Wanted::Malformed(at) => Some(Malformed(*at)),
+        Past(limit, at) => Some(DecodeFault::Limit(PassedLimit {
+            limit: *limit,
+            at: *at,
+        })),
+    }
+}
+
 fn is_long_told_so(alloc: Global, row: &Long) -> Result<bool, Refused> {
     let bytes = spell_long(alloc, row)?;
-    Ok(fault_of(alloc, bytes.as_slice()) == row.6)
+    Ok(fault_of(alloc, bytes.as_slice()) == fault_wanted(&row.6))
 }
 
 /// The small module, of 50 bytes.
@@ -629,9 +699,17 @@ fn is_read_so(alloc: Global, row: &(&str, &str, Read)) -> Result<bool, Refused> 
 
 /// A custom section fills a module, whose size is 2 ^ 21 bytes then.
 static SIZES: [Long; 3] = [
-    (HEADER, "00f4ff7f", "00", 2_097_140, "", "", None),
-    (HEADER, "00f5ff7f", "00", 2_097_141, "", "", LIMIT),
-    ("", "", "00", 2_097_153, "", "", LIMIT),
+    (HEADER, "00f4ff7f", "00", 2_097_140, "", "", Accepted),
+    (
+        HEADER,
+        "00f5ff7f",
+        "00",
+        2_097_141,
+        "",
+        "",
+        Past(Bytes, 2_097_152),
+    ),
+    ("", "", "00", 2_097_153, "", "", Past(Bytes, 2_097_152)),
 ];
 
 /// `scripts/refused-allocations` refuses each allocation in turn, and then this ends in want of

@@ -2,7 +2,8 @@
 use Rattle.std.specs.Prelude.{◌≢◌, ℕ, List, Bool, true, false, Option, None}
 use Rattle.wasm_syntax.specs.declared.module.Module.{Module}
 use Rattle.wasm_decode.specs.declared.fault.DecodeFault.TheVariants as decode
-use Rattle.wasm_decode.specs.rules.Faults.{place_of}
+use Rattle.wasm_decode.specs.declared.items.limit.PassedLimit.{PassedLimit}
+use Rattle.wasm_decode.specs.rules.Faults.{passed_of, place_of}
 use Rattle.wasm_validate.specs.declared.parts.fault.ValidFault.{ValidFault}
 use Rattle.wasm_validate.specs.declared.parts.fault.ValidFault.TheVariants as valid
 use Rattle.machine.specs.declared.instance.fault.LinkFault.TheVariants as link
@@ -84,3 +85,9 @@ abbrev pub place_in : FrontFault → Option ℕ
 place_in (Decode fault) = place_of fault
 place_in (Valid fault) = None
 place_in (Link fault) = None
+
+-- the limit of modules that the bytes pass, and where, for the one fault that says so
+abbrev pub passed_in : FrontFault → Option PassedLimit
+passed_in (Decode fault) = passed_of fault
+passed_in (Valid fault) = None
+passed_in (Link fault) = None
