@@ -5,8 +5,8 @@ import struct
 import wasm_bytes as wasm
 
 # The sections of a module, in order.
-SECTIONS = {"types": 1, "imports": 2, "functions": 3, "tables": 4, "memories": 5, "exports": 7,
-            "elements": 9, "bodies": 10, "data": 11}
+SECTIONS = {"types": 1, "imports": 2, "functions": 3, "tables": 4, "memories": 5, "globals": 6,
+            "exports": 7, "elements": 9, "bodies": 10, "data": 11}
 
 NOTHING, TAKES_ONE = wasm.function_type([], []), wasm.function_type([wasm.I32], [])
 START, MEMORY = wasm.exported(b"_start", 0, 0), wasm.exported(b"memory", 2, 0)
@@ -65,7 +65,6 @@ REFUSED = [
     # A count of data segments, which came later too.
     (LEAST[:44] + b"\x0c\x01\x00" + LEAST[44:], "B1 Malformed", 44),
     (small(bodies=[wasm.sized(b"\x01\x01\x7d" + wasm.END)]), "B2 Float", 50),
-    (small(wasm.NOP * 4_096), "B3 Limit", None),
     (small(wasm.i32(1) + wasm.IF + bytes([wasm.I32]) + wasm.i32(1) + wasm.END + wasm.DROP),
      "V1 Typing", None),
     (small(wasm.CALL + wasm.unsigned(1)), "V2 Index", None),
@@ -93,11 +92,55 @@ EXITS = [
     (small(wasm.i32(0) * 3 + b"\xfc\x8b\x80\x80\x80\x00\x00"), 4),
 ]
 
+A_GLOBAL = bytes([wasm.I32]) + b"\x00" + wasm.i32(0) + wasm.END
+
+
+def table(entries):
+    """A table that begins with so many entries."""
+    return [b"\x70\x00" + wasm.unsigned(entries)]
+
+
+def locals_of(count):
+    """A body that declares so many locals in one run, and does nothing."""
+    return wasm.sized(b"\x01" + wasm.unsigned(count) + bytes([wasm.I32]) + wasm.END)
+
+
+# Modules that pass a limit by one (`B3 Limit`), with what there are too many of, and where that is
+# seen: at the count that is too great. Imported functions and instructions aren't counted before
+# they are read. There it is the kind of the import, or the opcode, that is one too many. Places are
+# counted along the module: LEAST has a header of 8 bytes, and sections of 6, 4, 5, 21 and 6.
+PAST = [
+    # The section's id, a size of two bytes, the count, the entry's size of two bytes, no locals,
+    # and 4,096 instructions. The `end` is the one too many.
+    (small(wasm.NOP * 4_096),
+     "4096 instructions in one expression", 44 + 1 + 2 + 1 + 2 + 1 + 4_096),
+    # The id, a size of two bytes, the count, the first type in three bytes, and `60`.
+    (small(types=[NOTHING, wasm.function_type([wasm.I32] * 257, [])]),
+     "256 parameters in one type", 8 + 1 + 2 + 1 + 3 + 1),
+    # The id and a size of two bytes.
+    (small(functions=[wasm.unsigned(0)] * 4_097), "4096 functions", 14 + 1 + 2),
+    # The id, a size of three bytes, the count in two, 4,096 imports of 34 bytes, and two names of
+    # 23 and 9 bytes.
+    (small(imports=[wasm.imported_function(b"fd_close", 0)] * 4_097),
+     "4096 functions", 14 + 1 + 3 + 2 + 4_096 * 34 + 23 + 9),
+    # The id, the size, the count, the entry's size, and how many runs of locals there are.
+    (small(bodies=[locals_of(257)]), "256 locals in one function", 44 + 1 + 1 + 1 + 1 + 1),
+    # The id, the size, the count, and two bytes: the type, and that there is no maximum.
+    (small(tables=table(4_097)), "4096 entries in a new table", 18 + 1 + 1 + 1 + 2),
+    # The id and a size of two bytes.
+    (small(globals=[A_GLOBAL] * 1_025), "1024 globals", 23 + 1 + 2),
+]
+
 # Modules at limits, which are accepted.
 ACCEPTED = [
     LEAST,
     small(wasm.NOP * 4_095),
     *(module for module, _ in EXITS),
+    small(types=[NOTHING, wasm.function_type([wasm.I32] * 256, [])]),
+    small(functions=[wasm.unsigned(0)] * 4_096, bodies=[wasm.function_body([], b"")] * 4_096),
+    small(bodies=[locals_of(256)]),
+    small(tables=table(4_096)),
+    small(globals=[A_GLOBAL] * 1_024),
     small(memories=pages(256)),
     small(data=[behind(65_535) + wasm.sized(b"a")]),
     calls_from_table(b"", elements=[behind(0) + wasm.vector([wasm.unsigned(0)])]),

@@ -6,7 +6,7 @@ use std::process::Abort;
 use std::test::Fail;
 use wasmhost_serve::{Printer, check_bytes};
 
-const HEADER: &str = "0061736d01000000";
+pub const HEADER: &str = "0061736d01000000";
 
 const TYPES: &str = "010401600000";
 
@@ -177,7 +177,11 @@ fn bodies(rt: HostRuntime) -> Result<(), Fail> {
 static FAULTS: [Row; 6] = [
     (&["0061736d02000000"], 3, "refused B1 Malformed at 4\n"),
     (&[HEADER, "01050160017d00"], 3, "refused B2 Float at 13\n"),
-    (&[HEADER, "010401608102"], 3, "refused B3 Limit\n"),
+    (
+        &[HEADER, "010401608102"],
+        3,
+        "refused B3 Limit\nmore than 256 parameters in one type, at byte 12\n",
+    ),
     (&[BEFORE_CODE, "0a0601040010050b"], 3, "refused V2 Index\n"),
     (
         &[BEFORE_EXPORTS, TWO_STARTS, EMPTY_BODY],

@@ -1,7 +1,7 @@
 //! Creations: what is found before a disk is made, and what is told and printed of one that is.
 
 use crate::asking::ECHO;
-use crate::check::{BEFORE_CODE, HELLO, bytes_of};
+use crate::check::{BEFORE_CODE, HEADER, HELLO, bytes_of};
 use crate::lines::Flushed;
 use sector_disk::MemDisk;
 use std::alloc::Global;
@@ -50,13 +50,18 @@ const PAGES: &str = "failed C1 Range\n--pages is from 1 to 256\n";
 /// A creation that is refused, an entry of its environment, and what says why.
 type Refused = (Asked, &'static str, &'static str);
 
-static REFUSED: [Refused; 8] = [
+static REFUSED: [Refused; 9] = [
     ((&[], [1, 1, 64]), "a=b", "failed B1 Malformed\n"),
     ((&[BEFORE_CODE], [1, 1, 64]), "a=b", "failed B1 Malformed\n"),
     (
         (&["0061736d01000000"], [1, 1, 64]),
         "a=b",
         "failed L1 NoStart\n",
+    ),
+    (
+        (&[HEADER, "010401608102"], [1, 1, 64]),
+        "a=b",
+        "failed B3 Limit\nmore than 256 parameters in one type, at byte 12\n",
     ),
     ((&ECHO, [0, 1, 64]), "a=b", PAGES),
     (

@@ -1,6 +1,7 @@
 pub mod Told
 pub mod SeedLemmas
 pub mod ShowingLemmas
+pub mod LimitLemmas
 pub mod LineLemmas
 pub mod HearingLemmas
 pub mod BreakLemmas

@@ -22,6 +22,7 @@ pub mod LastWords
 pub mod Later
 pub mod Leavings
 pub mod MadeFiles
+pub mod ModuleLimits
 pub mod ServedOnDisk
 pub mod Showings
 pub mod Statuses

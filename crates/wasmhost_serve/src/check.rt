@@ -1,11 +1,16 @@
 //! `wasmhost check`.
 
-ghost use Rattle.std.specs.Prelude.{◌≡◌, ◌⊎◌, true, IsOk, OnErr, OnOk, codes};
+ghost use Rattle.std.specs.Prelude.{◌≡◌, ◌⊎◌, true, IsOk, Err, OnErr, OnOk, Some, codes};
 ghost use Rattle.std.specs.Io.KnownBytes.{Appends};
+ghost use Rattle.machine_loader.specs.declared.fault.FrontFault.{FrontFault};
 ghost use Rattle.machine_loader.specs.rules.Acceptance.{HasAcceptedModule, HasNoAcceptedModule};
-ghost use Rattle.wasmhost_serve.specs.rules.Printers.{HeedsWrites};
+ghost use Rattle.machine_loader.specs.rules.Acceptance.{passed_in};
+ghost use Rattle.wasm_decode.specs.declared.items.limit.PassedLimit.{PassedLimit};
+ghost use Rattle.wasmhost_serve.specs.rules.ModuleLimits.{limit_text};
+ghost use Rattle.wasmhost_serve.specs.rules.Printers.{HeedsWrites, IsPrinted};
 ghost use Rattle.wasmhost_serve.specs.rules.Statuses.{IsRight, status_by};
 
+use crate::module_limits::print_limit;
 use crate::printer::Printer;
 use crate::status::{NO_MEMORY, REFUSED, UNWRITTEN};
 use machine_loader::{FrontFault, accept};
@@ -25,23 +30,39 @@ fn verdict_on(alloc: Global, wasm: &[u8]) -> Result<(), FrontFault>
     }
 }
 
-/// Prints a verdict: `accepted`, or `refused` with the fault's code and name, and its place if it
-/// has one.
+/// Prints that a module is refused: the fault's code and name, and its place if it has one. A limit
+/// that is passed stands on a line of its own.
+fn print_refusal<W: Write + Drop>(fault: FrontFault, out: &mut Printer<W>) -> io::Result<()>
+    ensures limit { (passed : PassedLimit) → passed_in fault ≡ Some passed
+        → OnOk result (IsPrinted out.old out.new (limit_text (codes "refused") passed)) }
+    ensures steady { OnOk result (out.new.failed ≡ out.old.failed) }
+    ensures failed { OnErr result (out.new.failed ≡ true) }
+{
+    if let Some(passed) = fault.passed_limit() {
+        return print_limit(out, "refused", passed);
+    }
+    match fault.place() {
+        Some(at) => writeln!(out, "refused {fault} at {at}"),
+        None => writeln!(out, "refused {fault}"),
+    }
+}
+
+/// Prints a verdict: `accepted`, or why not.
 fn print_verdict<W: Write + Drop>(
     verdict: Result<(), FrontFault>,
     out: &mut Printer<W>,
 ) -> io::Result<()>
     ensures accepted { IsOk verdict
         → OnOk result (Appends out.old.contents out.new.contents (codes "accepted\n")) }
+    ensures limit { (fault : FrontFault) (passed : PassedLimit) → verdict ≡ Err fault
+        → passed_in fault ≡ Some passed
+        → OnOk result (IsPrinted out.old out.new (limit_text (codes "refused") passed)) }
     ensures steady { OnOk result (out.new.failed ≡ out.old.failed) }
     ensures failed { OnErr result (out.new.failed ≡ true) }
 {
     match verdict {
         Ok(()) => writeln!(out, "accepted"),
-        Err(fault) => match fault.place() {
-            Some(at) => writeln!(out, "refused {fault} at {at}"),
-            None => writeln!(out, "refused {fault}"),
-        },
+        Err(fault) => print_refusal(fault, out),
     }
 }
 

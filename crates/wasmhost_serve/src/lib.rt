@@ -16,7 +16,8 @@
 //! - `create_on`: status 0 says that the worker of these bytes and this configuration is created on
 //!   the disk, at its start. `created N sectors` was printed then. What the other statuses say is
 //!   said too, and what a cut at any moment leaves (`creates`). `report_unprepared` answers the
-//!   status of what it tells, or 7, and tells the bounds of what is out of them (`range`).
+//!   status of what it tells, or 7. It tells the bounds of what is out of them (`range`), and the
+//!   limit that a module passes, with its place (`limit`).
 //! - `create_file` is `create_on` of a disk whose file it makes. Where the status isn't 0 that file
 //!   is removed again, and no other one is (`CreatesFile`).
 //! - `serve`: what each status of a run of the worker on a disk says (`serves`), with whatever
@@ -84,7 +85,8 @@
 //! (`MadeFiles.antt`);
 //! `wasmhost`, `version_words` (`CommandLine.antt`);
 //! `meaning_in`, `IsReading`, `IsStatusOf` (`Commands.antt`);
-//! `IsOutOfBounds`, `range_words` (`Bounds.antt`); `SaysOfInput` (`Leavings.antt`);
+//! `IsOutOfBounds`, `range_words` (`Bounds.antt`); `limit_text` (`ModuleLimits.antt`);
+//! `SaysOfInput` (`Leavings.antt`);
 //! `ShowsDisk`, `ShowsSurvey`, `survey_line` (`Showings.antt`); `open_words`, `IsOpenedFor`,
 //! `ShowsFile` (`Openings.antt`);
 //! `ServesOnDisk`, `LivesOnDisk`, `HasOutcome`, `HasBrokenOff`, `stands_behind`
@@ -208,6 +210,7 @@ mod configuring;
 pub mod laws;
 mod lines;
 mod module_bytes;
+mod module_limits;
 mod on_disk;
 mod preparing;
 mod printer;

@@ -1,19 +1,23 @@
 //! What a creation needs, looked at before its disk is made.
 
-ghost use Rattle.std.specs.Prelude.{◌≡◌, ◌<◌, ◌≤◌, ◌^◌, IfErr, IfOk, OnOk, length};
+ghost use Rattle.std.specs.Prelude.{◌≡◌, ◌<◌, ◌≤◌, ◌^◌, IfErr, IfOk, OnOk, Some, codes, length};
 ghost use Rattle.wasi_abi.specs.rules.Configs.{AreSettingsWithinLimits};
-ghost use Rattle.machine_loader.specs.rules.Acceptance.{HasAcceptedModule};
+ghost use Rattle.machine_loader.specs.rules.Acceptance.{HasAcceptedModule, passed_in};
+ghost use Rattle.wasm_decode.specs.declared.items.limit.PassedLimit.{PassedLimit};
 ghost use Rattle.wasmhost_serve.specs.rules.Texts.{texts_in};
 ghost use Rattle.wasmhost_serve.specs.rules.Creations.{IsMeasured, IsPreparedAs, IsUnaccepted};
 ghost use Rattle.wasmhost_serve.specs.rules.Creations.{IsUnprepared, config_as, prepared_with};
-ghost use Rattle.wasmhost_serve.specs.rules.Creations.{disk_sectors, status_unprepared};
+ghost use Rattle.wasmhost_serve.specs.rules.Creations.{disk_sectors, passed_by};
+ghost use Rattle.wasmhost_serve.specs.rules.Creations.{status_unprepared};
 ghost use Rattle.wasmhost_serve.specs.rules.Bounds.{range_words};
-ghost use Rattle.wasmhost_serve.specs.rules.Printers.{IsSaid};
+ghost use Rattle.wasmhost_serve.specs.rules.ModuleLimits.{limit_text};
+ghost use Rattle.wasmhost_serve.specs.rules.Printers.{IsSaid, SaysText};
 ghost use Rattle.wasmhost_serve.specs.rules.Reports.{SaysLine};
 ghost use Rattle.wasmhost_serve.specs.declared.bounds.Bound.{Bound};
 
 use crate::bounds::{Bound, words_of_range};
 use crate::configuring::{Sizes, Unconfigured, configure};
+use crate::module_limits::print_limit;
 use crate::printer::Printer;
 use crate::status::{NO_MEMORY, REFUSED, UNWRITTEN};
 use crate::telling::say_line;
@@ -23,6 +27,7 @@ use std::alloc::Global;
 use std::io::Write;
 use thiserror::Error;
 use wasi_abi::Config;
+use wasm_decode::PassedLimit;
 
 /// What a worker is created with.
 #[derive(Debug, Drop)]
@@ -141,16 +146,44 @@ fn say_fault<E: Write + Drop>(err: &mut Printer<E>, fault: Unprepared) -> u8
     }
 }
 
-/// Prints why no worker is created. What is out of its bounds is told on a second line. Answers the
+/// Prints that a module passes a limit, and answers the exit status, or 7 where a write has failed.
+fn say_limit<E: Write + Drop>(err: &mut Printer<E>, passed: PassedLimit) -> u8
+    ensures said { SaysText (limit_text (codes "failed") passed) 3 err.old result err.new }
+    ensures known { result ≤ 7 }
+{
+    match print_limit(err, "failed", passed) {
+        Ok(()) => REFUSED,
+        Err(_) => UNWRITTEN,
+    }
+}
+
+/// Prints why a module isn't accepted. A limit that it passes is told on a second line. Answers the
 /// exit status, or 7 where a write has failed.
+fn say_refusal<E: Write + Drop>(err: &mut Printer<E>, why: FrontFault) -> u8
+    ensures limit { (passed : PassedLimit) → passed_in why ≡ Some passed
+        → SaysText (limit_text (codes "failed") passed) 3 err.old result err.new }
+    ensures status { IsSaid 3 err.old result err.new }
+    ensures known { result ≤ 7 }
+{
+    match why.passed_limit() {
+        Some(passed) => say_limit(err, passed),
+        None => say_fault(err, Unprepared::Module(why)),
+    }
+}
+
+/// Prints why no worker is created. What is out of its bounds, and a limit that the module passes,
+/// is told on a second line. Answers the exit status, or 7 where a write has failed.
 pub fn report_unprepared<E: Write + Drop>(err: &mut Printer<E>, fault: Unprepared) -> u8
     ensures range { (bound : Bound) → fault ≡ Unprepared.Range bound
         → SaysLine (range_words bound) 3 err.old result err.new }
+    ensures limit { (passed : PassedLimit) → passed_by fault ≡ Some passed
+        → SaysText (limit_text (codes "failed") passed) 3 err.old result err.new }
     ensures status { IsSaid (status_unprepared fault) err.old result err.new }
     ensures known { result ≤ 7 }
 {
     match fault {
         Unprepared::Range(bound) => say_line(err, REFUSED, words_of_range(bound)),
+        Unprepared::Module(why) => say_refusal(err, why),
         other => say_fault(err, other),
     }
 }

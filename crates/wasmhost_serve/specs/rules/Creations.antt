@@ -1,12 +1,13 @@
 -- A worker that is created on a disk by a command (this project's own).
 use Rattle.std.specs.Prelude.{◌≡◌, ◌⊎◌, ⊤, ℕ, ◌<◌, false, List, ◌∷◌, ◌++◌, Option, codes}
-use Rattle.std.specs.Prelude.{Result, Ok, Err}
+use Rattle.std.specs.Prelude.{None, Result, Ok, Err}
 use Rattle.std.specs.Fmt.{decimal}
 use Rattle.std.specs.Io.KnownBytes.{Appends}
 use Rattle.wasi_abi.specs.rules.Configs.{Settings, settings, AreSettingsWithinLimits, HasTexts}
 use Rattle.wasi_abi.specs.rules.Configs.{IsInRange}
 use Rattle.machine_loader.specs.rules.Acceptance.{HasAcceptedModule, HasNoAcceptedModule, IsTold}
-use Rattle.machine_loader.specs.rules.Acceptance.{is_want}
+use Rattle.machine_loader.specs.rules.Acceptance.{is_want, passed_in}
+use Rattle.wasm_decode.specs.declared.items.limit.PassedLimit.{PassedLimit}
 use Rattle.sector_disk.specs.rules.Medium.{Medium, spare}
 use Rattle.disk_layout.specs.rules.Places.{total_sectors}
 use Rattle.disk_layout.specs.rules.Unsynced.{most_unsynced}
@@ -75,6 +76,13 @@ IsUnprepared config bytes unprepared.Text = IsMistexted config
 IsUnprepared config bytes (unprepared.Module why) =
     AreSettingsWithinLimits config × IsUnaccepted config.pages bytes (unprepared.Module why)
 IsUnprepared config bytes unprepared.Memory = ⊤
+
+-- the limit that the module passes, and where, if it is that
+abbrev pub passed_by : Unprepared → Option PassedLimit
+passed_by (unprepared.Module why) = passed_in why
+passed_by (unprepared.Range bound) = None
+passed_by unprepared.Text = None
+passed_by unprepared.Memory = None
 
 -- the exit status, where that is printed
 abbrev pub status_unprepared : Unprepared → ℕ
