@@ -246,7 +246,7 @@ where
         Ok(Order::Run(order)) => run(rt, alloc, &order, out, err),
         Ok(Order::Show { path }) => show_file(alloc, rt, path, &mut Printer::new(out, false), err),
         Ok(Order::Story(order)) => story(rt, alloc, &order, out, err),
-        Err(fault) => report_words(&fault, &mut Printer::new(out, false), err),
+        Err(fault) => report_words(alloc, &fault, &mut Printer::new(out, false), err),
     }
 }
 

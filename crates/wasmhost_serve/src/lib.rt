@@ -63,8 +63,8 @@
 //!   module has. `say_line`, `report`: the line was written and the status is the one given, or a
 //!   write has failed and it is 7 (`SaysLine`). `report_open` does so of a disk's file, and
 //!   `report_unread` of a file that is read: by the path, and the cause that the error's kind is
-//!   (`open_words`, `SaysUnread`). `report_words`: help leaves the error output
-//!   as it was, and a mistake the output.
+//!   (`open_words`, `SaysUnread`). `report_words`: help leaves the error output as it was, and a
+//!   mistake the output. A tip of `clap` to write a number below 0 behind `--` is left out.
 //! - `read_words`: an order is exactly what the words mean. A fault is one that the rules of the
 //!   command line list for them, or want of memory (`IsReading`).
 //! - `read_script`: the lives that a script of a story spells (`IsScript`). A fault names the first

@@ -1,5 +1,5 @@
 -- What the program says beside the lines of a worker (this project's own).
-use Rattle.std.specs.Prelude.{ℕ, List, [], ◌∷◌, ◌++◌, codes}
+use Rattle.std.specs.Prelude.{◌≡◌, ℕ, List, [], ◌∷◌, ◌++◌, codes}
 use Rattle.wasi_abi.specs.rules.Answers.{newline}
 use Rattle.wasmhost_serve.specs.declared.telling.Obstacle.{Obstacle}
 use Rattle.wasmhost_serve.specs.declared.telling.Obstacle.TheVariants as obstacle
@@ -24,3 +24,8 @@ words_told obstacle.Memory = codes "failed N4 Memory"
 words_told obstacle.Unread = codes "failed K2 Io"
 words_told obstacle.NoText = codes "error: an argument is no text"
 words_told obstacle.NoSeed = codes "error: a seed is 64 hexadecimal digits"
+
+-- The text is these two with a tip between them: to write behind `--` what begins with a hyphen.
+abbrev pub StandsAroundTip : List ℕ → List ℕ → List ℕ → Type 0
+StandsAroundTip text before behind = (tip : List ℕ) × (text
+    ≡ before ++ (codes "\n\n  tip: to pass '-" ++ (tip ++ (codes "\n\n" ++ behind))))
