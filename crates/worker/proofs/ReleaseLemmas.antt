@@ -1,7 +1,7 @@
 -- Lines that wait are released, where none waits.
 use Rattle.std.proofs.Common.{◌≡◌, ℕ, ◌+◌, List, [], ◌∷◌, ◌++◌, length, refl, sym, ◌∙◌, subst}
 use Rattle.std.proofs.Common.{arith}
-use Rattle.std.proofs.Common.{false}
+use Rattle.std.proofs.Common.{Bool, false}
 use Rattle.std.specs.Prelude.{Result, Ok, Err, OnOk, OnErr, drop, is_ok}
 use Rattle.wasi_calls_rules.specs.Hosts.{Line}
 use Rattle.wasi_calls.specs.rules.Held.{HeldHost, held_released}
@@ -9,6 +9,8 @@ use Rattle.process.specs.rules.Values.{ProcessValue, waiting_in}
 use Rattle.record_replay.specs.declared.fault.OutletFault.{OutletFault}
 use Rattle.record_replay.specs.rules.Calls.{Taking, Releases, all_taken}
 use Rattle.record_replay.specs.rules.Waiting.{ReleasesAll, ReleasesSome, first_waiting}
+use Rattle.worker_store.specs.declared.store.WorkerStore.{WorkerStore}
+use Rattle.worker.specs.rules.DurableValues.{DurableValue}
 
 no_line : (front : List Line) (line : Line) (rest : List Line) → [] ≡ front ++ (line ∷ rest) → ⊥
 no_line [] line rest e = absurd (cc)
@@ -60,3 +62,16 @@ module _ {O : Type 0} (takes : Taking O) (old new : ProcessValue) (o p : O)
       subst (λ (l : List Line). Releases takes o (all_taken (first_waiting old) l) p) none
       all.told
   same_outlet (Err fault) all some = absurd (not_refused some)
+
+-- what holds of a worker holds of it behind a release of nothing
+pub process_back : (P : DurableValue → Type 0) (process process' : ProcessValue)
+    (store : WorkerStore) (replayed : ℕ) (failed : Bool) → process' ≡ process
+    → P (record { process = process; store = store; replayed = replayed; has_failed = failed })
+    → P (record { process = process'; store = store; replayed = replayed; has_failed = failed })
+process_back P process process' store replayed failed same holds =
+    subst (λ (v : ProcessValue). P (record {
+      process = v;
+      store = store;
+      replayed = replayed;
+      has_failed = failed;
+    })) (sym same) holds

@@ -6,7 +6,7 @@ pub prove-unreachable-requires : goal.prove-unreachable-requires
 prove-unreachable-requires g c =
     all_taken_here g.O.Outlet.takes c.args.process.now c.release_waiting-said.new.process
     c.args.outlet.now c.release_waiting-said.new.outlet c.requires c.release_waiting-said.result
-    c.release_waiting-said.ensures.some (sym c.is_ok.ensures.value ∙ c.if-prove.true)
+    c.release_waiting-said.ensures.some (sym c.is_ok-is_taken.ensures.value ∙ c.if-prove.true)
 
 pub returns-clause-same : goal.returns-clause-same
 returns-clause-same g c =

@@ -1,7 +1,9 @@
-use Rattle.std.proofs.Common.{◌+◌, sym, ap, ◌∙◌}
+use Rattle.std.proofs.Common.{◌+◌, sym, ap, ◌∙◌, subst}
 use Rattle.std.proofs.lemmas.Result.{on_err_weaker, on_ok_weaker}
 use Rattle.sector_disk.proofs.Moments.{goes_on}
 use Rattle.journal.specs.rules.State.{JournalState}
+use Rattle.process.specs.rules.Values.{ProcessValue}
+use Rattle.worker.specs.rules.Savings.{SaveCalls}
 use Rattle.worker.proofs.SavingLemmas.{barrier_saves, commit_saves, commit_saved}
 use Rattle.worker.proofs.SavingLemmas.{barrier_calls_begun, commit_calls_behind}
 use Rattle.worker.proofs.SavingLemmas.{barrier_fails}
@@ -15,7 +17,7 @@ pub commit-requires : goal.commit-requires
 commit-requires g c =
     still_room c.args.store.now c.barrier.new.self (g.D.Disk.medium c.args.disk.now)
     (g.D.Disk.medium c.barrier.new.disk) c.in_default.ensures.stays c.in_default.ensures.passes
-    c.requires
+    c.requires.sectors
 
 pub returns-in-Err-clause-any_moment : goal.returns-in-Err-clause-any_moment
 returns-in-Err-clause-any_moment g c =
@@ -55,10 +57,11 @@ returns-clause-numbered g c =
 pub returns-clause-calls : goal.returns-clause-calls
 returns-clause-calls g c =
     let made = c.in_default.ensures.calls in
-    rw (sym c.release_none.ensures.same) (
-    commit_calls_behind c.args.store.now c.barrier.new.self c.release_none.new.process
-    c.commit.result
-    (g.D.Disk.medium c.args.disk.now) (g.D.Disk.medium c.barrier.new.disk)
+    subst (λ (v : ProcessValue). SaveCalls c.args.store.now v c.commit.result
+    (g.D.Disk.medium c.args.disk.now) (g.D.Disk.medium c.commit.new.disk))
+    c.release_none.ensures.same
+    (commit_calls_behind c.args.store.now c.barrier.new.self c.release_none.new.process
+    c.commit.result (g.D.Disk.medium c.args.disk.now) (g.D.Disk.medium c.barrier.new.disk)
     (g.D.Disk.medium c.commit.new.disk) c.in_default.ensures.stays made.all
     c.commit.ensures.calls)
 

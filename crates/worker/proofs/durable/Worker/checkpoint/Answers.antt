@@ -1,4 +1,4 @@
-use Rattle.std.proofs.Common.{sym, ◌∙◌, ap, subst}
+use Rattle.std.proofs.Common.{sym, ◌∙◌, ap, subst, true, Ok, Err}
 use Rattle.worker.specs.declared.fault.WorkFault.TheVariants.{Work}
 use Rattle.ephemeral_worker.specs.declared.fault.SliceFault.TheVariants as slice
 use Rattle.worker.specs.rules.DurableValues.{DurableValue}
@@ -7,7 +7,10 @@ use Rattle.worker.proofs.CheckpointLemmas.{room_after, saved_in}
 use Rattle.worker.proofs.CheckpointLemmas.{calls_err, calls_ok, failed_carries}
 use Rattle.worker.proofs.CheckpointLemmas.{failed_fails}
 use Rattle.worker.proofs.CheckpointLemmas.{failed_calls}
+use Rattle.worker.specs.rules.Checkpoints.{IsSavedIn}
+use Rattle.worker.specs.rules.DurableCalls.{CheckpointCarries}
 use Rattle.worker.specs.rules.Unsynced.{CountsInSlice}
+use Rattle.worker.proofs.ReleaseLemmas.{process_back}
 use Rattle.worker.proofs.TurnCounts.{counts_none}
 use Rattle.worker.proofs.durable.Worker.checkpoint.Goals as goal
 
@@ -38,11 +41,18 @@ returns-then-self-clause-cause g c =
 
 pub returns-in-Err-clause-carries : goal.returns-in-Err-clause-carries
 returns-in-Err-clause-carries g c =
-    fault_keeps g.D.Disk.medium c.self.inside.running c.self.inside.replayed
+    process_back
+    (λ (w : DurableValue). CheckpointCarries c.args.self.now (Err c.from.result) w
+    (g.D.Disk.medium c.args.disk.now)
+    (g.D.Disk.medium c.save_telling-saved.new.disk))
+    c.self.inside.running.process c.save_telling-saved.new.process
+    c.save_telling-saved.new.store c.self.inside.replayed true c.in-Err.ensures.same
+    (fault_keeps g.D.Disk.medium c.self.inside.running c.self.inside.replayed
     c.self.inside.has_failed c.args.self.now c.self.view_is c.args.disk.now
-    c.save_telling-saved.new.disk c.images_fit_areas.ensures c.is_process.ensures c.save_telling-saved.new.store
+    c.save_telling-saved.new.disk c.images_fit_areas.ensures c.is_process.ensures
+    c.save_telling-saved.new.store
     c.in-Err.ensures.any_moment c.in-Err.ensures.asks c.in-Err.fault c.from.result c.from.ensures
-    c.in-Err.ensures.cause
+    c.in-Err.ensures.cause)
 
 pub returns-in-Err-clause-calls : goal.returns-in-Err-clause-calls
 returns-in-Err-clause-calls g c =
@@ -55,7 +65,8 @@ pub returns-in-Err-clause-cause : goal.returns-in-Err-clause-cause
 returns-in-Err-clause-cause g c =
     fault_cause g.D.Disk.medium c.self.inside.running c.self.inside.replayed
     c.self.inside.has_failed c.args.self.now c.self.view_is c.args.disk.now
-    c.save_telling-saved.new.disk c.images_fit_areas.ensures c.is_process.ensures c.save_telling-saved.new.store
+    c.save_telling-saved.new.disk c.images_fit_areas.ensures c.is_process.ensures
+    c.save_telling-saved.new.store
     c.in-Err.ensures.any_moment c.in-Err.ensures.asks c.in-Err.fault c.from.result c.from.ensures
     c.in-Err.ensures.cause
 
@@ -68,17 +79,28 @@ returns-in-Err-clause-room g c =
 
 pub returns-clause-carries : goal.returns-clause-carries
 returns-clause-carries g c =
-    done_keeps g.D.Disk.medium c.self.inside.running c.self.inside.replayed
+    process_back
+    (λ (w : DurableValue). CheckpointCarries c.args.self.now (Ok tt) w
+    (g.D.Disk.medium c.args.disk.now)
+    (g.D.Disk.medium c.save_telling-saved.new.disk))
+    c.self.inside.running.process c.save_telling-saved.new.process
+    c.save_telling-saved.new.store c.self.inside.replayed c.self.inside.has_failed c.in_default.ensures.same
+    (done_keeps g.D.Disk.medium c.self.inside.running c.self.inside.replayed
     c.self.inside.has_failed c.args.self.now c.self.view_is c.args.disk.now
-    c.save_telling-saved.new.disk c.images_fit_areas.ensures c.is_process.ensures c.save_telling-saved.new.store
+    c.save_telling-saved.new.disk c.images_fit_areas.ensures c.is_process.ensures
+    c.save_telling-saved.new.store
     c.in_default.ensures.any_moment c.in_default.ensures.asks c.if-self.false
-    c.in_default.ensures.durable
+    c.in_default.ensures.durable)
 
 pub returns-clause-saved : goal.returns-clause-saved
 returns-clause-saved g c =
-    saved_in g.D.Disk.medium c.self.inside.running c.self.inside.replayed
+    process_back
+    (λ (w : DurableValue). IsSavedIn c.args.self.now w)
+    c.self.inside.running.process c.save_telling-saved.new.process
+    c.save_telling-saved.new.store c.self.inside.replayed c.self.inside.has_failed c.in_default.ensures.same
+    (saved_in g.D.Disk.medium c.self.inside.running c.self.inside.replayed
     c.self.inside.has_failed c.args.self.now c.self.view_is c.args.disk.now
-    c.save_telling-saved.new.disk c.save_telling-saved.new.store c.in_default.ensures.numbered
+    c.save_telling-saved.new.disk c.save_telling-saved.new.store c.in_default.ensures.numbered)
 
 pub returns-clause-calls : goal.returns-clause-calls
 returns-clause-calls g c =
