@@ -1,4 +1,4 @@
-"""Scripts of `wasmhost story`, each with what is printed of it, for `program-rows`.
+"""Scripts of `wasmhost story` and `wasmhost sweep`, each with what is printed of it, for `program-rows`.
 
 All of it was worked out by hand from docs/COMMANDS.md and docs/FORMATS.md. Images are those of
 `disk_form.py`.
@@ -21,6 +21,7 @@ class Story:
     status: int = 0
     out: str = ""
     err: str = ""
+    command: str = "story"
 
 
 def recovered(life, generation, counts, image):
@@ -178,4 +179,40 @@ FAULTS = [
     refused("", "B1 Malformed", "/dev/null"),
 ]
 
-STORIES = LIVES + CUTS + ANSWERS + TROUBLES + SIZES + FAULTS
+
+def swept(script, calls, lines, module="echo.wasm", words=("--fronts", "0,512"), fronts=2):
+    """A sweep of so many calls, all of which agree."""
+    name = "line" if lines == 1 else "lines"
+    out = f"swept {calls * fronts:,} cuts: {lines} {name}, each told with one text\n"
+    return Story(script, module, tuple(words), out=out, command="sweep")
+
+
+def unswept(script, err, module="echo.wasm", words=(), status=2):
+    """A sweep that isn't begun."""
+    return Story(script, module, tuple(words), status, "", f"{err}\n", "sweep")
+
+
+# A creation makes 206 calls, a line a write and a sync, and the first checkpoint 134 calls.
+TWO = "life\nrequest hello\nrequest again\nslice 42\ncheckpoint\n"
+SWEPT = [
+    swept("life\n", 206, 0, words=(), fronts=5),
+    swept(HELLO, 206 + 2, 1, words=("--fronts", "505"), fronts=1),
+    swept(TWO, 206 + 2 + 2 + 134, 2),
+    # The first of two lives, whose second request the second one has.
+    swept(HELLO + "life\nrequest again\nslice 42\n", 206 + 2, 2,
+          words=("--life", "1", "--fronts", "505"), fronts=1),
+    # Times and random bytes that were not kept are handed out again.
+    swept(f"life\nrealtime {TIMES[0]}\nmonotonic {TIMES[1]}\nrandom 4a6b6c6d4e\nslice 99\n",
+          206 + 2, 1, "asks.wasm", ("--fronts", "0"), 1),
+    *(unswept(f"{HELLO}{line}\n", "failed script line 4", "missing.wasm")
+      for line in ["stop 1 0", "fail 1 0", "refuse 1", "tears 1", "hello"]),
+    unswept("", "error: the script has no such life", "missing.wasm"),
+    unswept(HELLO, "error: the script has no such life", words=("--life", "2")),
+    *(unswept("life\nstop 1 0\n", "error: fronts are numbers from 0 to 512", "missing.wasm",
+              ("--fronts", fronts)) for fronts in ["", "513", "0,", "0 1", "a"]),
+    unswept(HELLO, "failed K2 Io\nmissing.wasm: no such file or directory", "missing.wasm",
+            status=4),
+    unswept(HELLO, "failed B1 Malformed", "/dev/null", status=3),
+]
+
+STORIES = LIVES + CUTS + ANSWERS + TROUBLES + SIZES + FAULTS + SWEPT

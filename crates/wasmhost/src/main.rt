@@ -12,7 +12,8 @@
 //! - It reads the command line, and opens the files that it names.
 //! - `check` and `create` hand over a module's bytes. `create` has the disk's file made by
 //!   `create_file`, once the module and its configuration are accepted.
-//! - `story` hands over all bytes of a script, and a module's bytes. It reads them in this order.
+//! - `story` and `sweep` hand over all bytes of a script, and a module's bytes. They read them in
+//!   this order.
 //! - `run` and `show` open the disk's file by `open_disk` and `show_file`. One host holds it at a
 //!   time. `run` also hands over the lines of the standard input, the machine's clock, and what the
 //!   words say of seed and clock. Behind it `report_input` says what is left of the lines.
@@ -46,9 +47,10 @@ use std::rt::{Env, Files};
 use std::time::Clock;
 use wasmhost_serve::{
     BufferedLines, CreateOrder, LineOutlet, NewDisk, Obstacle, Order, Outside, Pace, Printer,
-    RequestSource, RunOrder, Sizes, StoryOrder, check_bytes, create_file, open_disk, prepare,
-    read_module, read_script, read_seed, read_words, report, report_input, report_script,
-    report_unprepared, report_unread, report_words, serve, show_file, tell,
+    RequestSource, RunOrder, Sizes, StoryOrder, SweepChoice, SweepOrder, check_bytes, create_file,
+    fronts_of, open_disk, prepare, read_module, read_script, read_seed, read_sweep, read_words,
+    report, report_input, report_script, report_sweep_script, report_unprepared, report_unread,
+    report_words, serve, show_file, tell, tell_sweep,
 };
 
 /// It is read to keep a number from other files. It has no bytes, and takes none from a reader.
@@ -223,6 +225,57 @@ fn story<R: Files, W: Write + Drop, E: Write + Drop>(
     tell(alloc, script.as_slice(), wasm.as_slice(), sizes, out, err)
 }
 
+/// Tells that the module of a sweep can't be read, but first what is wrong with the script.
+fn report_unswept<E: Write + Drop>(
+    alloc: Global,
+    script: &[u8],
+    order: &SweepOrder<'_>,
+    error: io::Error,
+    err: &mut Printer<E>,
+) -> u8
+    ensures { result ≤ 7 }
+{
+    match read_sweep(alloc, script, order.life) {
+        Ok(_) => report_unread(err, order.module, error),
+        Err(fault) => report_sweep_script(err, fault),
+    }
+}
+
+/// Cuts the power at each call of the disk in one of the lives that a script says.
+fn sweep<R: Files, W: Write + Drop, E: Write + Drop>(
+    rt: &R,
+    alloc: Global,
+    order: &SweepOrder<'_>,
+    out: &mut W,
+    err: &mut Printer<E>,
+) -> u8
+    ensures { result ≤ 7 }
+{
+    let fronts = match fronts_of(alloc, order.fronts) {
+        Ok(fronts) => fronts,
+        Err(obstacle) => return report(err, obstacle),
+    };
+    let script = match read_whole_file(rt, alloc, order.script) {
+        Ok(script) => script,
+        Err(error) => return report_unread(err, order.script, error),
+    };
+    let wasm = match read_file(rt, alloc, order.module) {
+        Ok(wasm) => wasm,
+        Err(error) => return report_unswept(alloc, script.as_slice(), order, error, err),
+    };
+    let choice = SweepChoice {
+        sizes: Sizes {
+            pages: order.pages,
+            files: order.files,
+            journal: order.journal,
+        },
+        fronts: fronts.as_slice(),
+        life: order.life,
+    };
+    let out = &mut Printer::new(out, false);
+    tell_sweep(alloc, script.as_slice(), wasm.as_slice(), choice, out, err)
+}
+
 /// Runs the command line, and answers the exit status.
 fn status_of<R, W: Write + Drop, E: Write + Drop>(rt: &R, out: &mut W, err: &mut Printer<E>) -> u8
 where
@@ -246,6 +299,7 @@ where
         Ok(Order::Run(order)) => run(rt, alloc, &order, out, err),
         Ok(Order::Show { path }) => show_file(alloc, rt, path, &mut Printer::new(out, false), err),
         Ok(Order::Story(order)) => story(rt, alloc, &order, out, err),
+        Ok(Order::Sweep(order)) => sweep(rt, alloc, &order, out, err),
         Err(fault) => report_words(alloc, &fault, &mut Printer::new(out, false), err),
     }
 }

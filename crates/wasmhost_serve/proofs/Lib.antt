@@ -16,6 +16,7 @@ pub mod CreationLemmas
 pub mod AnsweredLemmas
 pub mod ScriptLemmas
 pub mod StoryLemmas
+pub mod SweepLemmas
 pub mod TellingLemmas
 pub mod RefusalLemmas
 pub mod CauseLemmas

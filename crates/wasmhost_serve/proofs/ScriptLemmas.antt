@@ -5,3 +5,4 @@ pub mod Drafts
 pub mod Lives
 pub mod Full
 pub mod Reading
+pub mod Calm

@@ -1,3 +1,4 @@
 pub mod Examples
 pub mod Words
 pub mod Drafts
+pub mod CutRuns

@@ -30,3 +30,5 @@ pub mod Texts
 pub mod Pieces
 pub mod Scripts
 pub mod Stories
+pub mod SweepTexts
+pub mod Sweeps

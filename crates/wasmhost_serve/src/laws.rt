@@ -11,6 +11,7 @@ ghost use Rattle.wasmhost_serve.specs.rules.ServedOnDisk.{handing};
 ghost use Rattle.wasmhost_serve.specs.laws.Examples.{CreateOrderExamples, HelpExamples};
 ghost use Rattle.wasmhost_serve.specs.laws.Examples.{OptionMistakes, PathExamples, PathMistakes};
 ghost use Rattle.wasmhost_serve.specs.laws.Examples.{RunOrderExamples, StoryOrderExamples};
+ghost use Rattle.wasmhost_serve.specs.laws.Examples.{SweepOrderExamples};
 ghost use Rattle.wasmhost_serve.specs.laws.Words.{FaultlessWordsMean};
 
 use record_replay::Outlet;
@@ -65,6 +66,7 @@ pub fn worked_examples()
     ensures creations { CreateOrderExamples }
     ensures runs { RunOrderExamples }
     ensures stories { StoryOrderExamples }
+    ensures sweeps { SweepOrderExamples }
     ensures wrong_paths { PathMistakes }
     ensures wrong_options { OptionMistakes }
     ensures help { HelpExamples }

@@ -72,8 +72,16 @@
 //! - `tell`: status 0 says that a whole story was printed. It is of lives that go on as one that
 //!   was never stopped, with what the script put into each. What the other statuses say is said too
 //!   (`TellsStory`). `report_script` tells a fault of a script.
+//! - `tell_sweep`: status 0 says that the lives of a script, which nothing befalls, were run without
+//!   a cut, and then with the power cut at each call of one of them, for each front (`cuts_to`).
+//!   Each cut's lives are told as those of a story are (`TellsLives`). Its last life was opened, and
+//!   handed out all answers that were not kept (`cut_at`). Over all its lives each number has one
+//!   text, none is missing, and the first are those without a cut (`IsCutRun`). The printed line
+//!   says how many cuts and lines these are (`IsSweepDone`). 7 comes just where a write has failed.
+//!   Of the other statuses nothing more is said. `read_sweep`: the lives that the script spells, and
+//!   which one is swept (`AreSweptLives`). `fronts_of`: the fronts that a text spells.
 //! - `laws::faultless_words_mean`, `laws::worked_examples`: words without a fault mean an order,
-//!   with numbers in their ranges; seventy-one command lines. What `--version` is told of the
+//!   with numbers in their ranges; seventy-eight command lines. What `--version` is told of the
 //!   program is `version_words` (`HasVersion`).
 //!
 //! # Definitions to read
@@ -96,7 +104,8 @@
 //! `status_on_disk`, `told_of_opening`, `IsToldOnDisk` (`DiskStatuses.antt`);
 //! `PrinterState`, `IsSaid`, `SaysText`, `HeedsBoth`, `TellsPerson` (`Printers.antt`);
 //! `said_by`, `AreLivesOf`, `IsScript` (`Scripts.antt`); `lines_of` (`Pieces.antt`); `story_text`,
-//! `TellsStory` (`Stories.antt`). Beside these:
+//! `TellsStory` (`Stories.antt`); `cut_at`, `cuts_to`, `AreTextsOf`, `IsSwept` (`Sweeps.antt`),
+//! `TellsSweep` (`SweepTexts.antt`). Beside these:
 //! `all_printed`, `SevenIsAFailedWrite` (`specs/rules/Printed.antt`), and `PrintsOneLine`
 //! (`specs/rules/Prints.antt`).
 //!
@@ -217,6 +226,7 @@ mod printer;
 mod seed;
 pub mod status;
 mod stories;
+mod sweeping;
 mod telling;
 mod words;
 
@@ -236,6 +246,10 @@ pub use preparing::{Prepared, Unprepared, prepare, report_unprepared};
 pub use printer::Printer;
 pub use seed::{read_seed, seeded};
 pub use stories::{ScriptFault, ScriptLine, read_script, report_script, tell};
+pub use sweeping::{
+    SweepChoice, SweepScriptFault, SweptLives, fronts_of, read_sweep, report_sweep_script,
+    tell_sweep,
+};
 pub use telling::{Obstacle, report, report_words, say_line};
-pub use words::{CreateOrder, Order, RunOrder, StoryOrder, WordsFault, read_words};
+pub use words::{CreateOrder, Order, RunOrder, StoryOrder, SweepOrder, WordsFault, read_words};
 pub use worker::Worker;

@@ -6,6 +6,9 @@ ghost use Rattle.wasmhost_serve.specs.rules.Statuses.{status_of_line, status_of_
 use crate::lines::LineFault;
 use ephemeral_worker::SliceFault;
 
+/// A cut of a sweep that differs from the run without one.
+pub const DIFFERENT: u8 = 1;
+
 /// A command line that isn't understood.
 pub const USAGE: u8 = 2;
 

@@ -30,6 +30,10 @@ pub enum Obstacle {
     NoText,
     /// A text spells no seed.
     NoSeed,
+    /// A text spells no fronts.
+    NoFronts,
+    /// A script has no life of a number.
+    NoLife,
 }
 
 /// Prints a line. Answers the status, or 7 where a write has failed.
@@ -52,6 +56,8 @@ pub fn report<E: Write + Drop>(err: &mut Printer<E>, obstacle: Obstacle) -> u8
         Obstacle::Unread => say_line(err, UNREAD, "failed K2 Io"),
         Obstacle::NoText => say_line(err, USAGE, "error: an argument is no text"),
         Obstacle::NoSeed => say_line(err, USAGE, "error: a seed is 64 hexadecimal digits"),
+        Obstacle::NoFronts => say_line(err, USAGE, "error: fronts are numbers from 0 to 512"),
+        Obstacle::NoLife => say_line(err, USAGE, "error: the script has no such life"),
     }
 }
 

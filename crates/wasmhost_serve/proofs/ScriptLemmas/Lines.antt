@@ -7,7 +7,7 @@ use Rattle.std.specs.Prelude.{Option, unwrap_or, if◌then◌else◌, option_map
 use Rattle.std.specs.Prelude.{option_copied}
 use denote.Ref.{Bor}
 use Rattle.wasmhost_serve.specs.rules.Pieces.{split_once, lines_of, onto_first_piece, pieces_of}
-use Rattle.wasmhost_serve.specs.rules.Scripts.{each_front, fronts_in, front_spelled}
+use Rattle.wasmhost_serve.specs.rules.Scripts.{each_front, fronts_between, front_spelled}
 
 -- the rest behind what was cut
 abbrev pub rest_of : Option (List ℕ) → List ℕ
@@ -143,41 +143,41 @@ cut_piece s (x ∷ xs) = pieces_is s x xs
     ∙ piece_more s (x == s) x xs (split_once s xs) (cut_piece s xs)
     ∙ ap (piece_first s) (sym (split_is s x xs))
 
-abbrev front_and : List ℕ → Option (List ℕ) → Option (List ℕ)
-front_and word after =
+abbrev front_and : ℕ → List ℕ → Option (List ℕ) → Option (List ℕ)
+front_and s word after =
     option_and_then (λ front. option_map (λ fronts. front ∷ fronts) (each_front
-    (pieces_behind 32 after)))
+    (pieces_behind s after)))
     (front_spelled word)
 
 abbrev fronts_onto : List ℕ → Option (List ℕ) → Option (List ℕ)
 fronts_onto fronts rest = option_map (λ more. fronts ++ more) rest
 
-module _ (fronts rest word : List ℕ) (after total : Option (List ℕ))
-    (inv : fronts_onto fronts (fronts_in rest) ≡ total) (w : word ≡ (split_once 32 rest).0)
-    (a : after ≡ (split_once 32 rest).1) where
-  cut : fronts_in rest ≡ front_and word after
-  cut = ap each_front (cut_piece 32 rest) ∙ ap (λ x. front_and x (split_once 32 rest).1) (sym w)
-      ∙ ap (front_and word) (sym a)
+module _ (s : ℕ) (fronts rest word : List ℕ) (after total : Option (List ℕ))
+    (inv : fronts_onto fronts (fronts_between s rest) ≡ total) (w : word ≡ (split_once s rest).0)
+    (a : after ≡ (split_once s rest).1) where
+  cut : fronts_between s rest ≡ front_and s word after
+  cut = ap each_front (cut_piece s rest) ∙ ap (λ x. front_and s x (split_once s rest).1) (sym w)
+      ∙ ap (front_and s word) (sym a)
 
   pub no_front : front_spelled word ≡ None → None ≡ total
   no_front none = sym (ap (fronts_onto fronts) (cut
       ∙ ap (option_and_then (λ front. option_map (λ more. front ∷ more)
-      (each_front (pieces_behind 32 after)))) none)) ∙ inv
+      (each_front (pieces_behind s after)))) none)) ∙ inv
 
   pub last_front : (f : ℕ) → front_spelled word ≡ Some f → after ≡ None
       → Some (fronts ++ f ∷ []) ≡ total
   last_front f is none = sym (ap (fronts_onto fronts) (cut
       ∙ ap (option_and_then (λ front. option_map (λ more. front ∷ more)
-      (each_front (pieces_behind 32 after)))) is
-      ∙ ap (λ o. option_map (λ more. f ∷ more) (each_front (pieces_behind 32 o))) none)) ∙ inv
+      (each_front (pieces_behind s after)))) is
+      ∙ ap (λ o. option_map (λ more. f ∷ more) (each_front (pieces_behind s o))) none)) ∙ inv
 
   pub next_front : (f : ℕ) (next : List ℕ) → front_spelled word ≡ Some f → after ≡ Some next
-      → fronts_onto (fronts ++ f ∷ []) (fronts_in next) ≡ total
-  next_front f next is some = onto (fronts_in next)
+      → fronts_onto (fronts ++ f ∷ []) (fronts_between s next) ≡ total
+  next_front f next is some = onto (fronts_between s next)
       ∙ sym (ap (fronts_onto fronts) (cut
       ∙ ap (option_and_then (λ front. option_map (λ more. front ∷ more)
-      (each_front (pieces_behind 32 after)))) is
-      ∙ ap (λ o. option_map (λ more. f ∷ more) (each_front (pieces_behind 32 o))) some)) ∙ inv
+      (each_front (pieces_behind s after)))) is
+      ∙ ap (λ o. option_map (λ more. f ∷ more) (each_front (pieces_behind s o))) some)) ∙ inv
     where
       onto : (o : Option (List ℕ)) → fronts_onto (fronts ++ f ∷ []) o
           ≡ fronts_onto fronts (option_map (λ more. f ∷ more) o)

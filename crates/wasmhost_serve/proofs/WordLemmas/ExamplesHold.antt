@@ -3,7 +3,7 @@ use Rattle.std.proofs.Common.{refl}
 use Rattle.clap.proofs.OnLiterals.{clap_on_literals}
 use Rattle.wasmhost_serve.specs.laws.Examples.{CreateOrderExamples, HelpExamples, OptionMistakes}
 use Rattle.wasmhost_serve.specs.laws.Examples.{PathExamples, PathMistakes, RunOrderExamples}
-use Rattle.wasmhost_serve.specs.laws.Examples.{StoryOrderExamples}
+use Rattle.wasmhost_serve.specs.laws.Examples.{StoryOrderExamples, SweepOrderExamples}
 
 pub path_examples : PathExamples
 unfolding clap_on_literals
@@ -51,6 +51,14 @@ story_examples = record {
   paths_like_options = (refl, refl, refl);
 }
 
+pub sweep_examples : SweepOrderExamples
+unfolding clap_on_literals
+sweep_examples = record {
+  sweeps = (refl, refl, refl);
+  fronts = (refl, refl, refl);
+  life = (refl, refl, refl);
+}
+
 pub path_mistakes : PathMistakes
 unfolding clap_on_literals
 path_mistakes = record {
@@ -69,6 +77,7 @@ path_mistakes = record {
   story_of_no_module = refl;
   story_of_two_modules = refl;
   story_with_arguments = refl;
+  sweep_of_no_module = refl;
 }
 
 pub option_mistakes : OptionMistakes
@@ -96,6 +105,9 @@ option_mistakes = record {
   too_long_a_journal = refl;
   files_twice = refl;
   fuel_of_a_story = refl;
+  life_of_zero = refl;
+  fronts_twice = refl;
+  life_of_a_story = refl;
   entry_of_a_story = refl;
 }
 

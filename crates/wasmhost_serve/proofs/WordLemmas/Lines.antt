@@ -1,4 +1,4 @@
--- Words for which no fault is listed name one of the five commands, with what it needs.
+-- Words for which no fault is listed name one of the six commands, with what it needs.
 use Rattle.std.proofs.Common.{◌≡◌, ◌<◌, ◌≤◌, ◌^◌, ℕ, Bool, ◌||◌, not, cond, true, false, arith}
 use Rattle.std.proofs.Common.{refl, sym, subst, List, [], ◌∷◌, Option, Some, None}
 use Rattle.std.proofs.Common.{codes, true≢false, inl, inr}
@@ -27,6 +27,7 @@ use Rattle.wasmhost_serve.specs.rules.Commands.{create, create_in, disk_in}
 use Rattle.wasmhost_serve.specs.rules.Commands.{guest_words, meaning_below, module_in, number_or}
 use Rattle.wasmhost_serve.specs.rules.Commands.{own_words, run, run_in, script_in, show}
 use Rattle.wasmhost_serve.specs.rules.Commands.{spelled_number, story, story_in, TakesOptions}
+use Rattle.wasmhost_serve.specs.rules.Commands.{sweep, sweep_in}
 use Rattle.wasmhost_serve.specs.laws.Words.{FaultlessWordsMean, NumbersFit}
 use Rattle.wasmhost_serve.proofs.WordLemmas.Walks.{Keeps, found_each, no_first}
 use Rattle.wasmhost_serve.proofs.WordLemmas.Walks.{no_second, settled_good, some_kind, walk_good}
@@ -34,7 +35,7 @@ use Rattle.wasmhost_serve.proofs.WordLemmas.Stops.{NoHelp, walk_on}
 use Rattle.wasmhost_serve.proofs.WordLemmas.Rows.{IsGood, added_good, options_are_taken}
 use Rattle.wasmhost_serve.proofs.WordLemmas.Rows.{path_is_there}
 use Rattle.wasmhost_serve.proofs.WordLemmas.Uses.{keeps_env, keeps_help, keeps_number, keeps_path}
-use Rattle.wasmhost_serve.proofs.WordLemmas.Uses.{keeps_rewrite, keeps_seed}
+use Rattle.wasmhost_serve.proofs.WordLemmas.Uses.{keeps_fronts, keeps_rewrite, keeps_seed}
 
 -- ---- one level
 
@@ -210,9 +211,33 @@ module _ (name : Text) (words : List Text) (no_help : bytes_eq name (codes "help
               ),
             )
                 (unused, (unused, (unused, (unused, (unused, (unused, tt))))))
-                (λ rows good e. inr (inr (inr (inr (two_paths (codes "story")
-                (codes "SCRIPT") (codes "MODULE") rows good e))))) e,
-            (λ here e. absurd (is_help (or_false (bytes_eq (codes "help") name) here)), tt),
+                (λ rows good e. inr (inr (inr (inr (inl (two_paths (codes "story")
+                (codes "SCRIPT") (codes "MODULE") rows good e)))))) e,
+            (
+              λ here e. below_taken _ words (
+                keeps_path 1 (codes "SCRIPT") (λ v. tt),
+                (
+                  keeps_path 2 (codes "MODULE") (λ v. tt),
+                  (
+                    keeps_number 3 (codes "pages") 0 (λ v is. is),
+                    (
+                      keeps_number 3 (codes "files") 0 (λ v is. is),
+                      (
+                        keeps_number 3 (codes "journal") 0 (λ v is. is),
+                        (
+                          keeps_fronts 3,
+                          (keeps_number 3 (codes "life") 1 (λ v is. is), (keeps_help, tt)),
+                        ),
+                      ),
+                    ),
+                  ),
+                ),
+              )
+                  (unused, (unused, (unused, (unused, (unused, (unused, (unused, (unused, tt))))))))
+                  (λ rows good e. inr (inr (inr (inr (inr (two_paths (codes "sweep")
+                  (codes "SCRIPT") (codes "MODULE") rows good e)))))) e,
+              (λ here e. absurd (is_help (or_false (bytes_eq (codes "help") name) here)), tt),
+            ),
           ),
         ),
       ),
@@ -303,6 +328,15 @@ story_has_numbers rows script path taken =
     number_fits 0 64 (codes "journal") rows taken.journal (omega arith) (omega arith) in
     (pages.1, files.1, journal.1)
 
+sweep_has_numbers : (rows : List Row) (script path : Text) → TakesOptions rows
+    → NumbersFit (sweep (sweep_in rows script path))
+sweep_has_numbers rows script path taken =
+    let pages = number_fits 0 1 (codes "pages") rows taken.pages (omega arith) (omega arith) in
+    let files = number_fits 0 1 (codes "files") rows taken.files (omega arith) (omega arith) in
+    let journal =
+    number_fits 0 64 (codes "journal") rows taken.journal (omega arith) (omega arith) in
+    (pages.1, files.1, journal.1)
+
 path_means : (means : Text → Meaning) (path : Option Text) → is_some path ≡ true
     → ((text : Text) → NumbersFit (means text)) → IsSomeAnd (option_map means path) NumbersFit
 path_means means None e has = absurd (true≢false (sym e))
@@ -330,9 +364,14 @@ taken_means arguments name rows taken = elim taken.0 [
       | inr last ↦ elim last [
         | inl p ↦ subst (λ (t : Text). IsSomeAnd (meaning_below arguments (t, rows)) NumbersFit)
             (sym p.0) (path_means show (disk_in rows) p.1 (λ path. tt))
-        | inr p ↦ subst (λ (t : Text). IsSomeAnd (meaning_below arguments (t, rows)) NumbersFit)
-            (sym p.0) (paths_mean (λ d path. story (story_in rows d path)) (script_in rows)
-            (module_in rows) p.1 p.2 (λ d path. story_has_numbers rows d path taken.1))
+        | inr scripts ↦ elim scripts [
+          | inl p ↦ subst (λ (t : Text). IsSomeAnd (meaning_below arguments (t, rows)) NumbersFit)
+              (sym p.0) (paths_mean (λ d path. story (story_in rows d path)) (script_in rows)
+              (module_in rows) p.1 p.2 (λ d path. story_has_numbers rows d path taken.1))
+          | inr p ↦ subst (λ (t : Text). IsSomeAnd (meaning_below arguments (t, rows)) NumbersFit)
+              (sym p.0) (paths_mean (λ d path. sweep (sweep_in rows d path)) (script_in rows)
+              (module_in rows) p.1 p.2 (λ d path. sweep_has_numbers rows d path taken.1))
+        ]
       ]
     ]
   ]

@@ -19,7 +19,8 @@ use Rattle.wasmhost_serve.proofs.WordLemmas.Walks.{each_append, found_each}
 
 -- the options whose least number is 1, and those whose least is 0
 abbrev pub counts_from_one : Text → Bool
-counts_from_one id = bytes_eq id (codes "fuel") || bytes_eq id (codes "every")
+counts_from_one id = bytes_eq id (codes "fuel") || (bytes_eq id (codes "every")
+    || bytes_eq id (codes "life"))
 
 abbrev pub counts_from_zero : Text → Bool
 counts_from_zero id = bytes_eq id (codes "pages") || (bytes_eq id (codes "files")
@@ -127,5 +128,6 @@ options_are_taken rows good = record {
   fuel = first_passes (codes "fuel") rows good;
   every = first_passes (codes "every") rows good;
   clock = first_passes (codes "clock") rows good;
+  life = first_passes (codes "life") rows good;
   rewrite = first_passes (codes "rewrite") rows good;
 }

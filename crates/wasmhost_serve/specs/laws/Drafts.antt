@@ -3,6 +3,7 @@ use Rattle.std.specs.Prelude.{◌≡◌, ℕ, ◌≤◌, ◌-◌, ◌==◌, Bool
 use Rattle.std.specs.Prelude.{length, take, if◌then◌else◌}
 use Rattle.std.specs.Prelude.{Option, Some, None, is_none, option_map, option_and_then}
 use Rattle.std.specs.Prelude.{IsSome}
+use Rattle.std.specs.List.{All}
 use Rattle.worker.specs.declared.story.life.PlannedLife.{PlannedLife}
 use Rattle.wasmhost_serve.specs.declared.stories.draft.Draft.{Draft}
 use Rattle.wasmhost_serve.specs.declared.stories.line.ScriptLine.{ScriptLine}
@@ -10,6 +11,7 @@ use Rattle.wasmhost_serve.specs.declared.stories.line.ScriptLine.TheVariants as 
 use Rattle.wasmhost_serve.specs.declared.stories.fault.ScriptFault.{ScriptFault}
 use Rattle.wasmhost_serve.specs.declared.stories.fault.ScriptFault.TheVariants as fault
 use Rattle.wasmhost_serve.specs.rules.Scripts.{said_by}
+use Rattle.wasmhost_serve.specs.rules.Sweeps.{IsCalm}
 
 -- a life into which nothing is put
 abbrev pub empty_life : PlannedLife
@@ -33,6 +35,11 @@ lives_so_far draft = if draft.is_begun then draft.lives ++ draft.life ∷ [] els
 -- no life is begun behind those so far
 abbrev pub ended : Draft → Draft
 ended draft = record { lives = lives_so_far draft; life = empty_life; is_begun = false }
+
+-- nothing befalls the lives so far
+pub record IsCalmDraft (draft : Draft) : Type 0 where
+  pub lives : All IsCalm draft.lives
+  pub life : IsCalm draft.life
 
 -- a life with one line more, if that may stand there
 abbrev pub put_in : ScriptLine → PlannedLife → Option PlannedLife

@@ -7,6 +7,7 @@ use Rattle.wasmhost_serve.specs.rules.CommandLine.{wasmhost}
 use Rattle.wasmhost_serve.specs.rules.Commands.{CreateMeaning, Meaning, RunMeaning, check, create}
 use Rattle.wasmhost_serve.specs.rules.Commands.{StoryMeaning, faults_in_words, meaning_in}
 use Rattle.wasmhost_serve.specs.rules.Commands.{own_words, run, show, story}
+use Rattle.wasmhost_serve.specs.rules.Commands.{SweepMeaning, sweep}
 
 -- the program's name, and words behind it
 abbrev pub line : List Text → List Text
@@ -56,6 +57,21 @@ plain_story = record {
   pages = 1;
   files = 1;
   journal = 64;
+}
+
+abbrev pub sweep_line : List Text → List Text
+sweep_line options = line (codes "sweep" ∷ codes "a.story" ∷ codes "a.wasm" ∷ options)
+
+-- a sweep of which nothing else is said
+abbrev pub plain_sweep : SweepMeaning
+plain_sweep = record {
+  script = codes "a.story";
+  «module» = codes "a.wasm";
+  pages = 1;
+  files = 1;
+  journal = 64;
+  fronts = None;
+  life = None;
 }
 
 -- no fault is listed for the words, and they mean this
@@ -120,6 +136,13 @@ pub record StoryOrderExamples : Type 0 where
   pub paths_like_options : Means (line (codes "story" ∷ codes "--" ∷ codes "--pages" ∷ codes "--"
       ∷ [])) (story (record plain_story { script = codes "--pages"; «module» = codes "--" }))
 
+pub record SweepOrderExamples : Type 0 where
+  pub sweeps : Means (sweep_line []) (sweep plain_sweep)
+  pub fronts : Means (sweep_line (codes "--fronts" ∷ codes "0,512" ∷ []))
+      (sweep (record plain_sweep { fronts = Some (codes "0,512") }))
+  pub life : Means (sweep_line (codes "--life=2" ∷ codes "--pages" ∷ codes "3" ∷ []))
+      (sweep (record plain_sweep { pages = 3; life = Some 2 }))
+
 -- the kinds of fault that are listed for the words
 abbrev pub WordsFail : List Text → Kinds → Type 0
 WordsFail words kinds = faults_in_words words ≡ kinds
@@ -151,6 +174,8 @@ pub record PathMistakes : Type 0 where
       (kind.UnknownArgument ∷ [])
   pub story_with_arguments : WordsFail (story_line (codes "--" ∷ codes "b" ∷ []))
       (kind.UnknownArgument ∷ [])
+  pub sweep_of_no_module : WordsFail (line (codes "sweep" ∷ codes "a.story" ∷ []))
+      (kind.MissingRequiredArgument ∷ [])
 
 -- an option without its value, with another one, twice, or of another command
 pub record OptionMistakes : Type 0 where
@@ -198,6 +223,12 @@ pub record OptionMistakes : Type 0 where
   pub files_twice : WordsFail (story_line (codes "--files=1" ∷ codes "--files=2" ∷ []))
       (kind.ArgumentConflict ∷ [])
   pub fuel_of_a_story : WordsFail (story_line (codes "--fuel" ∷ codes "7" ∷ []))
+      (kind.UnknownArgument ∷ [])
+  pub life_of_zero : WordsFail (sweep_line (codes "--life" ∷ codes "0" ∷ []))
+      (kind.ValueValidation ∷ [])
+  pub fronts_twice : WordsFail (sweep_line (codes "--fronts=0" ∷ codes "--fronts=1" ∷ []))
+      (kind.ArgumentConflict ∷ [])
+  pub life_of_a_story : WordsFail (story_line (codes "--life" ∷ codes "1" ∷ []))
       (kind.UnknownArgument ∷ [])
   pub entry_of_a_story : WordsFail (story_line (codes "--env" ∷ codes "a=b" ∷ []))
       (kind.UnknownArgument ∷ [])

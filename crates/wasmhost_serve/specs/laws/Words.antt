@@ -3,10 +3,11 @@ use Rattle.std.specs.Prelude.{◌≡◌, ◌<◌, ◌≤◌, ◌^◌, ⊤, List,
 use Rattle.std.specs.Option.{IsSomeAnd}
 use Rattle.clap.specs.Words.{Text}
 use Rattle.wasmhost_serve.specs.rules.Commands.{Meaning, check, create, run, show, story}
+use Rattle.wasmhost_serve.specs.rules.Commands.{sweep}
 use Rattle.wasmhost_serve.specs.rules.Commands.{faults_in_words, meaning_in}
 
 -- The steps of a slice, and the slices between two checkpoints, are numbers from 1 to 2^64 - 1. The
--- sizes of a creation and of a story are below 2^64.
+-- sizes of a creation, of a story and of a sweep are below 2^64.
 abbrev pub NumbersFit : Meaning → Type 0
 NumbersFit (check path) = ⊤
 NumbersFit (create said) = (said.pages < 2 ^ 64) × (said.files < 2 ^ 64) × (said.journal < 2 ^ 64)
@@ -14,6 +15,7 @@ NumbersFit (run said) = (1 ≤ said.fuel) × (said.fuel < 2 ^ 64)
     × (1 ≤ said.every) × (said.every < 2 ^ 64)
 NumbersFit (show path) = ⊤
 NumbersFit (story said) = (said.pages < 2 ^ 64) × (said.files < 2 ^ 64) × (said.journal < 2 ^ 64)
+NumbersFit (sweep said) = (said.pages < 2 ^ 64) × (said.files < 2 ^ 64) × (said.journal < 2 ^ 64)
 
 -- words for which no fault is listed mean an order, with numbers of these ranges
 abbrev pub FaultlessWordsMean : Type 0

@@ -27,6 +27,13 @@ number_rule name least = record (new_rule name) {
 abbrev pub seed_rule : Rule
 seed_rule = record (new_rule (codes "seed")) { long = Some (codes "seed"); value_names = 1 }
 
+-- the option `--fronts`, with any text
+abbrev pub fronts_rule : Rule
+fronts_rule = record (new_rule (codes "fronts")) {
+  long = Some (codes "fronts");
+  value_names = 1;
+}
+
 -- the option `--env`, which may be repeated
 abbrev pub env_rule : Rule
 env_rule = record (new_rule (codes "env")) {
@@ -82,15 +89,25 @@ run_app = with_rule seeded_run_app rewrite_rule
 abbrev pub show_app : App
 show_app = disk_app (codes "show")
 
--- `story SCRIPT MODULE`
-abbrev pub bare_story_app : App
-bare_story_app = with_rule (with_rule (new_app (codes "story")) (path_rule (codes "SCRIPT")))
+-- a command with the arguments SCRIPT and MODULE
+abbrev pub bare_script_app : Text → App
+bare_script_app name = with_rule (with_rule (new_app name) (path_rule (codes "SCRIPT")))
     (path_rule (codes "MODULE"))
 
 -- the same, with `--pages`, `--files` and `--journal` where they are wanted
+abbrev pub script_app : Text → App
+script_app name = with_rule (with_rule (with_rule (bare_script_app name)
+    (number_rule (codes "pages") 0)) (number_rule (codes "files") 0))
+    (number_rule (codes "journal") 0)
+
+-- `story SCRIPT MODULE`
 abbrev pub story_app : App
-story_app = with_rule (with_rule (with_rule bare_story_app (number_rule (codes "pages") 0))
-    (number_rule (codes "files") 0)) (number_rule (codes "journal") 0)
+story_app = script_app (codes "story")
+
+-- `sweep SCRIPT MODULE`, with `--fronts` and `--life` where they are wanted
+abbrev pub sweep_app : App
+sweep_app = with_rule (with_rule (script_app (codes "sweep")) fronts_rule)
+    (number_rule (codes "life") 1)
 
 -- What `--version` says of the program: its version, that of the disks which it makes, and the kit
 -- that has proved it.
@@ -110,9 +127,9 @@ half_app = with_subcommand (with_subcommand bare_app check_app.top) create_app.t
 abbrev pub disks_app : App
 disks_app = with_subcommand (with_subcommand half_app run_app.top) show_app.top
 
--- the same, with the command for stories
+-- the same, with the commands for scripts
 abbrev pub wasmhost : App
-wasmhost = with_subcommand disks_app story_app.top
+wasmhost = with_subcommand (with_subcommand disks_app story_app.top) sweep_app.top
 
 -- ---- what the code makes of them
 

@@ -16,8 +16,10 @@ use Rattle.wasmhost_serve.specs.rules.Texts.{texts_in}
 use Rattle.wasmhost_serve.specs.declared.words.CreateOrder.{CreateOrder}
 use Rattle.wasmhost_serve.specs.declared.words.RunOrder.{RunOrder}
 use Rattle.wasmhost_serve.specs.declared.words.StoryOrder.{StoryOrder}
+use Rattle.wasmhost_serve.specs.declared.words.SweepOrder.{SweepOrder}
 use Rattle.wasmhost_serve.specs.declared.words.Order.{Order}
 use Rattle.wasmhost_serve.specs.declared.words.Order.TheVariants.{Check, Create, Run, Show, Story}
+use Rattle.wasmhost_serve.specs.declared.words.Order.TheVariants.{Sweep}
 use Rattle.wasmhost_serve.specs.declared.words.WordsFault.{WordsFault}
 use Rattle.wasmhost_serve.specs.declared.words.WordsFault.TheVariants as fault
 
@@ -81,6 +83,17 @@ pub record StoryMeaning : Type 0 where
   pub files : ℕ
   pub journal : ℕ
 
+-- What a sweep says: the paths of the script and of the module, its sizes, the fronts as a text, and
+-- the number of the swept life.
+pub record SweepMeaning : Type 0 where
+  pub script : Text
+  pub «module» : Text
+  pub pages : ℕ
+  pub files : ℕ
+  pub journal : ℕ
+  pub fronts : Option Text
+  pub life : Option ℕ
+
 -- what an order says
 pub data Meaning : Type 0 where
   check : Text → Meaning
@@ -88,6 +101,7 @@ pub data Meaning : Type 0 where
   run : RunMeaning → Meaning
   show : Text → Meaning
   story : StoryMeaning → Meaning
+  sweep : SweepMeaning → Meaning
 
 -- what an order to create says
 abbrev pub create_said : CreateOrder → CreateMeaning
@@ -122,6 +136,18 @@ story_said order = record {
   journal = order.journal;
 }
 
+-- what an order to sweep says
+abbrev pub sweep_said : SweepOrder → SweepMeaning
+sweep_said order = record {
+  script = order.script.now;
+  «module» = order.module.now;
+  pages = order.pages;
+  files = order.files;
+  journal = order.journal;
+  fronts = option_map (λ text. text.now) order.fronts;
+  life = order.life;
+}
+
 -- what an order says
 abbrev pub meaning_of : Order → Meaning
 meaning_of (Check path) = check path.now
@@ -129,6 +155,7 @@ meaning_of (Create order) = create (create_said order)
 meaning_of (Run order) = run (run_said order)
 meaning_of (Show path) = show path.now
 meaning_of (Story order) = story (story_said order)
+meaning_of (Sweep order) = sweep (sweep_said order)
 
 -- ---- what stands behind a command
 
@@ -201,6 +228,18 @@ story_in rows script wasm = record {
   journal = number_or (codes "journal") 64 rows;
 }
 
+-- what a sweep means with these paths and the rows of what stands behind its word
+abbrev pub sweep_in : List Row → Text → Text → SweepMeaning
+sweep_in rows script wasm = record {
+  script = script;
+  «module» = wasm;
+  pages = number_or (codes "pages") 1 rows;
+  files = number_or (codes "files") 1 rows;
+  journal = number_or (codes "journal") 64 rows;
+  fronts = first_of (codes "fronts") rows;
+  life = number_given (codes "life") rows;
+}
+
 -- a creation, where both paths are there
 abbrev pub creation_below : List Text → List Row → Option Meaning
 creation_below arguments rows = option_and_then (λ disk. option_map (λ wasm.
@@ -211,6 +250,11 @@ abbrev pub story_below : List Row → Option Meaning
 story_below rows = option_and_then (λ script. option_map (λ wasm.
     story (story_in rows script wasm)) (module_in rows)) (script_in rows)
 
+-- a sweep, where both paths are there
+abbrev pub sweep_below : List Row → Option Meaning
+sweep_below rows = option_and_then (λ script. option_map (λ wasm.
+    sweep (sweep_in rows script wasm)) (module_in rows)) (script_in rows)
+
 -- what each command means, with the rows of what stands behind it, and the words behind `--`
 abbrev pub meaning_below : List Text → Text × List Row → Option Meaning
 meaning_below arguments met =
@@ -220,6 +264,7 @@ meaning_below arguments met =
     then option_map (λ disk. run (run_in met.1 disk)) (disk_in met.1)
     else if bytes_eq met.0 (codes "show") then option_map show (disk_in met.1)
     else if bytes_eq met.0 (codes "story") then story_below met.1
+    else if bytes_eq met.0 (codes "sweep") then sweep_below met.1
     else None
 
 -- what the words of a command line mean
@@ -272,15 +317,17 @@ pub record TakesOptions (rows : List Row) : Type 0 where
   pub fuel : TakesNumber 1 (codes "fuel") rows
   pub every : TakesNumber 1 (codes "every") rows
   pub clock : TakesNumber 0 (codes "clock") rows
+  pub life : TakesNumber 1 (codes "life") rows
   pub rewrite : TakesFlag (codes "rewrite") rows
 
--- one of the five commands, with the paths that it needs
+-- one of the six commands, with the paths that it needs
 abbrev pub HasPaths : Text → List Row → Type 0
 HasPaths name rows = ((name ≡ codes "check") × IsSome (module_in rows))
     ⊎ ((name ≡ codes "create") × IsSome (disk_in rows) × IsSome (module_in rows))
     ⊎ ((name ≡ codes "run") × IsSome (disk_in rows))
     ⊎ ((name ≡ codes "show") × IsSome (disk_in rows))
     ⊎ ((name ≡ codes "story") × IsSome (script_in rows) × IsSome (module_in rows))
+    ⊎ ((name ≡ codes "sweep") × IsSome (script_in rows) × IsSome (module_in rows))
 
 -- such a command, with options whose texts it takes
 abbrev pub IsTaken : Text × List Row → Type 0

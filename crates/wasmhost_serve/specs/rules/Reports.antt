@@ -17,6 +17,8 @@ status_told obstacle.Memory = 5
 status_told obstacle.Unread = 4
 status_told obstacle.NoText = 2
 status_told obstacle.NoSeed = 2
+status_told obstacle.NoFronts = 2
+status_told obstacle.NoLife = 2
 
 -- the line that says why
 abbrev pub words_told : Obstacle → List ℕ
@@ -24,6 +26,8 @@ words_told obstacle.Memory = codes "failed N4 Memory"
 words_told obstacle.Unread = codes "failed K2 Io"
 words_told obstacle.NoText = codes "error: an argument is no text"
 words_told obstacle.NoSeed = codes "error: a seed is 64 hexadecimal digits"
+words_told obstacle.NoFronts = codes "error: fronts are numbers from 0 to 512"
+words_told obstacle.NoLife = codes "error: the script has no such life"
 
 -- The text is these two with a tip between them: to write behind `--` what begins with a hyphen.
 abbrev pub StandsAroundTip : List ℕ → List ℕ → List ℕ → Type 0

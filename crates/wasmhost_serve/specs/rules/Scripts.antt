@@ -72,9 +72,13 @@ each_front (piece ∷ pieces) =
     option_and_then (λ front. option_map (λ fronts. front ∷ fronts) (each_front pieces))
     (front_spelled piece)
 
+-- fronts with one of these bytes between each two
+abbrev pub fronts_between : ℕ → List ℕ → Option (List ℕ)
+fronts_between separator text = each_front (pieces_of separator text)
+
 -- fronts with one space between each two
 abbrev pub fronts_in : List ℕ → Option (List ℕ)
-fronts_in text = each_front (pieces_of 32 text)
+fronts_in text = fronts_between 32 text
 
 -- the bytes that hexadecimal digits of either case spell
 abbrev pub hex_bytes : List ℕ → Option (List ℕ)

@@ -1,5 +1,6 @@
 //! Stories of a worker: scripts of lives, and what is printed of them.
 
+mod calm;
 mod draft;
 mod fault;
 mod line;
@@ -11,8 +12,11 @@ mod spelling;
 mod telling;
 mod words;
 
+pub(crate) use calm::read_calm_script;
 pub use fault::ScriptFault;
 pub use line::ScriptLine;
 pub(crate) use script::cut_line;
 pub use script::read_script;
+pub(crate) use telling::say_text;
 pub use telling::{report_script, tell};
+pub(crate) use words::read_fronts;

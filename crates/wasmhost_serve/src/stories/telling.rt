@@ -37,7 +37,7 @@ fn print_text<W: Write + Drop>(out: &mut Printer<W>, text: &[u8]) -> io::Result<
 }
 
 /// Writes a text whole. Answers the exit status.
-fn say_text<W: Write + Drop>(out: &mut Printer<W>, text: &[u8]) -> u8
+pub(crate) fn say_text<W: Write + Drop>(out: &mut Printer<W>, text: &[u8]) -> u8
     ensures said { SaysText text.now 0 out.old result out.new }
     ensures known { result ≤ 7 }
 {

@@ -2,7 +2,7 @@
 
 ghost use Rattle.std.specs.Prelude.{◌≡◌, IfOk, option_and_then};
 ghost use Rattle.wasmhost_serve.specs.rules.Scripts.{said_by, said_alone, said_with};
-ghost use Rattle.wasmhost_serve.specs.rules.Scripts.{said_with_number, hex_bytes, fronts_in};
+ghost use Rattle.wasmhost_serve.specs.rules.Scripts.{said_with_number, hex_bytes, fronts_between};
 ghost use Rattle.wasmhost_serve.specs.rules.Scripts.{number_spelled};
 
 use crate::stories::line::ScriptLine;
@@ -25,14 +25,18 @@ fn read_bytes(alloc: Global, digits: &[u8]) -> Result<Option<Row<u8>>, AllocErro
     }
 }
 
-/// Fronts with one space between each two.
-fn read_fronts(alloc: Global, text: &[u8]) -> Result<Option<Row<u16>>, AllocError>
-    ensures { IfOk result (λ read. read ≡ fronts_in text.now) }
+/// Fronts with one of these bytes between each two.
+pub(crate) fn read_fronts(
+    alloc: Global,
+    text: &[u8],
+    separator: u8,
+) -> Result<Option<Row<u16>>, AllocError>
+    ensures { IfOk result (λ read. read ≡ fronts_between separator text.now) }
 {
     let mut fronts = Row::new(alloc);
     let mut rest = text;
     loop {
-        let (digits, behind) = split_once(rest, b' ');
+        let (digits, behind) = split_once(rest, separator);
         let Some(front) = read_front(digits) else {
             return Ok(None);
         };
@@ -111,7 +115,7 @@ fn read_with(alloc: Global, word: &[u8], rest: &[u8]) -> Result<Option<ScriptLin
         }));
     }
     if word == b"tears".as_slice() {
-        let read = read_fronts(alloc, rest)?;
+        let read = read_fronts(alloc, rest, b' ')?;
         return Ok(read.map(|fronts| ScriptLine::Tears { fronts }));
     }
     if word == b"stop".as_slice() {

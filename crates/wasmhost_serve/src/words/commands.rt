@@ -2,13 +2,14 @@
 
 ghost use Rattle.std.specs.Prelude.{IfOk, codes};
 ghost use Rattle.wasmhost_serve.specs.rules.CommandLine.{IsArgument, IsCommand, bare_app};
-ghost use Rattle.wasmhost_serve.specs.rules.CommandLine.{bare_create_app, bare_story_app};
+ghost use Rattle.wasmhost_serve.specs.rules.CommandLine.{bare_create_app, bare_script_app};
 ghost use Rattle.wasmhost_serve.specs.rules.CommandLine.{check_app, create_app, disk_app};
-ghost use Rattle.wasmhost_serve.specs.rules.CommandLine.{disks_app, env_rule, half_app};
+ghost use Rattle.wasmhost_serve.specs.rules.CommandLine.{disks_app, env_rule, fronts_rule, half_app};
 ghost use Rattle.wasmhost_serve.specs.rules.CommandLine.{number_rule, paced_run_app, path_rule};
 ghost use Rattle.wasmhost_serve.specs.rules.CommandLine.{rewrite_rule, run_app, seed_rule};
-ghost use Rattle.wasmhost_serve.specs.rules.CommandLine.{seeded_run_app, show_app};
-ghost use Rattle.wasmhost_serve.specs.rules.CommandLine.{sized_create_app, story_app, wasmhost};
+ghost use Rattle.wasmhost_serve.specs.rules.CommandLine.{script_app, seeded_run_app, show_app};
+ghost use Rattle.wasmhost_serve.specs.rules.CommandLine.{sized_create_app, story_app, sweep_app};
+ghost use Rattle.wasmhost_serve.specs.rules.CommandLine.{wasmhost};
 ghost use Rattle.wasmhost_serve.specs.rules.CommandLine.{HasVersion, version_words};
 
 use clap::{Arg, ArgAction, Command, value_parser};
@@ -78,6 +79,16 @@ fn seed_option<'a>(alloc: Global) -> Arg<'a>
         .long("seed")
         .help("Seed of random bytes, 64 hexadecimal digits; default zeros")
         .value_name("HEX")
+}
+
+/// The option `--fronts`.
+fn fronts_option<'a>(alloc: Global) -> Arg<'a>
+    ensures { IsArgument fronts_rule result }
+{
+    Arg::new(alloc, "fronts")
+        .long("fronts")
+        .help("Bytes that a cut leaves of a write, default 0,1,256,511,512")
+        .value_name("N,N,..")
 }
 
 /// The option `--env`, which may be repeated.
@@ -179,27 +190,52 @@ fn show_command<'a>(alloc: Global) -> Result<Command<'a>, AllocError>
     disk_command(alloc, "show", about, WORKER_DISK)
 }
 
-/// The command `story`, with its paths.
-fn bare_story_command<'a>(alloc: Global) -> Result<Command<'a>, AllocError>
-    ensures { IfOk result (IsCommand bare_story_app) }
+/// A command with the paths of a script and of a module.
+fn bare_script_command<'a>(
+    alloc: Global,
+    name: &'a str,
+    about: &'a str,
+) -> Result<Command<'a>, AllocError>
+    ensures { IfOk result (IsCommand (bare_script_app name.entry.now)) }
 {
-    Command::new(alloc, "story")
-        .about("Tell the lives of a worker on a disk in memory, as a script says")
+    Command::new(alloc, name)
+        .about(about)
         .arg(path_argument(alloc, "SCRIPT", "File of the script"))?
         .arg(path_argument(alloc, "MODULE", MODULE))
 }
 
 /// The same with the options `--pages`, `--files` and `--journal`.
-fn story_command<'a>(alloc: Global) -> Result<Command<'a>, AllocError>
-    ensures { IfOk result (IsCommand story_app) }
+fn script_command<'a>(
+    alloc: Global,
+    name: &'a str,
+    about: &'a str,
+) -> Result<Command<'a>, AllocError>
+    ensures { IfOk result (IsCommand (script_app name.entry.now)) }
 {
     let pages = "Pages of 65536 bytes of its memory, default 1";
     let files = "Units of 65536 bytes of its files, default 1";
     let journal = "Sectors of its journal, default 64";
-    bare_story_command(alloc)?
+    bare_script_command(alloc, name, about)?
         .arg(number_option(alloc, "pages", pages))?
         .arg(number_option(alloc, "files", files))?
         .arg(number_option(alloc, "journal", journal))
+}
+
+fn story_command<'a>(alloc: Global) -> Result<Command<'a>, AllocError>
+    ensures { IfOk result (IsCommand story_app) }
+{
+    let about = "Tell the lives of a worker on a disk in memory, as a script says";
+    script_command(alloc, "story", about)
+}
+
+fn sweep_command<'a>(alloc: Global) -> Result<Command<'a>, AllocError>
+    ensures { IfOk result (IsCommand sweep_app) }
+{
+    let about = "Cut the power at each call of the disk in a script's life, and compare the lines";
+    let life = "Number of the life that is cut, default the last one";
+    script_command(alloc, "sweep", about)?
+        .arg(fronts_option(alloc))?
+        .arg(positive_option(alloc, "life", life))
 }
 
 /// The program, without its commands.
@@ -235,5 +271,7 @@ fn disks_command<'a>(alloc: Global) -> Result<Command<'a>, AllocError>
 pub(crate) fn command<'a>(alloc: Global) -> Result<Command<'a>, AllocError>
     ensures { IfOk result (IsCommand wasmhost) }
 {
-    disks_command(alloc)?.subcommand(story_command(alloc)?)
+    disks_command(alloc)?
+        .subcommand(story_command(alloc)?)?
+        .subcommand(sweep_command(alloc)?)
 }

@@ -9,8 +9,9 @@ ghost use Rattle.wasmhost_serve.specs.rules.Commands.{TakesOptions, create_in, c
 ghost use Rattle.wasmhost_serve.specs.rules.Commands.{environment_in, flag_in, meaning_below};
 ghost use Rattle.wasmhost_serve.specs.rules.Commands.{meaning_of, number_given, number_or, run_in};
 ghost use Rattle.wasmhost_serve.specs.rules.Commands.{run_said, story_in, story_said};
+ghost use Rattle.wasmhost_serve.specs.rules.Commands.{sweep_in, sweep_said};
 
-use super::{CreateOrder, Order, RunOrder, StoryOrder};
+use super::{CreateOrder, Order, RunOrder, StoryOrder, SweepOrder};
 use crate::configuring::{FILES, JOURNAL, PAGES};
 use clap::ArgMatches;
 use std::alloc::{AllocError, Global};
@@ -22,7 +23,7 @@ const FUEL: u64 = 100_000;
 /// The slices between two checkpoints, where no number is given.
 const EVERY: u64 = 100;
 
-/// Pages of 65,536 bytes that the guest of a story may have, where no number is given.
+/// Pages of 65,536 bytes that the guest of a story or a sweep may have, where no number is given.
 const STORY_PAGES: u64 = 1;
 
 /// Units of 65,536 bytes of its files, where no number is given.
@@ -45,6 +46,14 @@ fn path_of<'a>(matches: &ArgMatches<'a>, name: &str) -> &'a str
 /// The number that an option gives, if it is there.
 fn number_of(matches: &ArgMatches<'_>, name: &str) -> Option<u64>
     requires { TakesNumber 0 name.now (rows_of (found_of matches.now)) }
+    ensures { result ≡ number_given name.now (rows_of (found_of matches.now)) }
+{
+    matches.get_one::<u64>(name)
+}
+
+/// The number from 1 on that an option gives, if it is there.
+fn positive_of(matches: &ArgMatches<'_>, name: &str) -> Option<u64>
+    requires { TakesNumber 1 name.now (rows_of (found_of matches.now)) }
     ensures { result ≡ number_given name.now (rows_of (found_of matches.now)) }
 {
     matches.get_one::<u64>(name)
@@ -86,6 +95,14 @@ fn seed_text_of<'a>(matches: &ArgMatches<'a>) -> Option<&'a str>
         ≡ first_of (codes "seed") (rows_of (found_of matches.now)) }
 {
     matches.get_str("seed")
+}
+
+/// What `--fronts` says, if it is there.
+fn fronts_text_of<'a>(matches: &ArgMatches<'a>) -> Option<&'a str>
+    ensures { option_map (λ text. text.now) result
+        ≡ first_of (codes "fronts") (rows_of (found_of matches.now)) }
+{
+    matches.get_str("fronts")
 }
 
 /// What `--env` says each time, in order.
@@ -152,6 +169,23 @@ fn story_of<'a>(matches: &ArgMatches<'a>, script: &'a str, module: &'a str) -> S
     }
 }
 
+/// The order of a sweep.
+fn sweep_of<'a>(matches: &ArgMatches<'a>, script: &'a str, module: &'a str) -> SweepOrder<'a>
+    requires { TakesOptions (rows_of (found_of matches.now)) }
+    ensures { sweep_said result
+        ≡ sweep_in (rows_of (found_of matches.now)) script.now «module».now }
+{
+    SweepOrder {
+        script,
+        module,
+        pages: number_or_else(matches, "pages", STORY_PAGES),
+        files: number_or_else(matches, "files", STORY_FILES),
+        journal: number_or_else(matches, "journal", STORY_JOURNAL),
+        fronts: fronts_text_of(matches),
+        life: positive_of(matches, "life"),
+    }
+}
+
 /// The order of a command, from what was read in front of `--`, and with the words behind it.
 pub(crate) fn order_of<'a>(
     alloc: Global,
@@ -176,10 +210,15 @@ pub(crate) fn order_of<'a>(
         "show" => Ok(Order::Show {
             path: path_of(matches, "DISK"),
         }),
-        _ => {
+        "story" => {
             let script = path_of(matches, "SCRIPT");
             let wasm = path_of(matches, "MODULE");
             Ok(Order::Story(story_of(matches, script, wasm)))
         }
+        _ => Ok(Order::Sweep(sweep_of(
+            matches,
+            path_of(matches, "SCRIPT"),
+            path_of(matches, "MODULE"),
+        ))),
     }
 }

@@ -70,6 +70,25 @@ pub struct StoryOrder<'a> {
     pub journal: u64,
 }
 
+/// What the words say of a sweep.
+#[derive(Debug, Drop)]
+pub struct SweepOrder<'a> {
+    /// The file of the script.
+    pub script: &'a str,
+    /// The file of the module.
+    pub module: &'a str,
+    /// Pages of 65,536 bytes that the guest's memory may have.
+    pub pages: u64,
+    /// Units of 65,536 bytes that all files may have.
+    pub files: u64,
+    /// Sectors of the journal.
+    pub journal: u64,
+    /// What `--fronts` says, numbers or not.
+    pub fronts: Option<&'a str>,
+    /// The number of the swept life, from 1 on. It is the last one where there is none.
+    pub life: Option<u64>,
+}
+
 /// A command with its options, borrowed from the words.
 #[derive(Debug, Drop)]
 pub enum Order<'a> {
@@ -83,6 +102,8 @@ pub enum Order<'a> {
     Show { path: &'a str },
     /// Tells the lives of a worker on a disk in memory, as a script says.
     Story(StoryOrder<'a>),
+    /// Tells lives with the power cut at each call of the disk in one of them, and compares them.
+    Sweep(SweepOrder<'a>),
 }
 
 /// Why the words give no order.

@@ -1,7 +1,7 @@
 use Rattle.wasmhost_serve.proofs.WordLemmas.ExamplesHold.{create_examples, help_examples}
 use Rattle.wasmhost_serve.proofs.WordLemmas.ExamplesHold.{option_mistakes, path_examples}
 use Rattle.wasmhost_serve.proofs.WordLemmas.ExamplesHold.{path_mistakes, run_examples}
-use Rattle.wasmhost_serve.proofs.WordLemmas.ExamplesHold.{story_examples}
+use Rattle.wasmhost_serve.proofs.WordLemmas.ExamplesHold.{story_examples, sweep_examples}
 use Rattle.wasmhost_serve.proofs.laws.worked_examples.Goals as goal
 
 pub returns-clause-paths : goal.returns-clause-paths
@@ -15,6 +15,9 @@ returns-clause-runs c = run_examples
 
 pub returns-clause-stories : goal.returns-clause-stories
 returns-clause-stories c = story_examples
+
+pub returns-clause-sweeps : goal.returns-clause-sweeps
+returns-clause-sweeps c = sweep_examples
 
 pub returns-clause-wrong_paths : goal.returns-clause-wrong_paths
 returns-clause-wrong_paths c = path_mistakes

@@ -1,0 +1,5 @@
+pub mod Lists
+pub mod Texts
+pub mod CutLists
+pub mod Digits
+pub mod Statuses

@@ -1,0 +1,18 @@
+//! `wasmhost sweep`: the lives of a script, with the power cut at each call of one of them.
+
+mod calling;
+mod choosing;
+mod copying;
+mod cutting;
+mod fault;
+mod planning;
+mod reading;
+mod running;
+mod spelling;
+mod starving;
+mod telling;
+mod texts;
+
+pub use choosing::fronts_of;
+pub use reading::{SweepScriptFault, SweptLives, read_sweep, report_sweep_script};
+pub use telling::{SweepChoice, tell_sweep};
