@@ -1,4 +1,4 @@
-// Why a worker isn't read from its disk.
+//! Why a worker isn't read from its disk.
 
 ghost use Rattle.std.specs.Prelude.{◌≡◌};
 ghost use Rattle.worker_store.specs.rules.ReadFaults.{read_of_layout, read_of_snapshot};

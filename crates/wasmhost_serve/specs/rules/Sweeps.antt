@@ -60,6 +60,7 @@ kept_between (Some report) (Some next) answers =
     take (answers_before next - answers_before report) answers
 kept_between _ _ answers = answers
 
+-- the same of the first of these lives
 abbrev pub kept_in : List LifeReport → List Answer → List Answer
 kept_in told answers = kept_between (slice_get told 0) (slice_get told 1) answers
 
@@ -72,6 +73,7 @@ answers_of (life ∷ lives) told = kept_in told life.answers ++ answers_of lives
 abbrev pub answers_at_first : List LifeReport → ℕ
 answers_at_first told = option_map_or answers_before (slice_get told 0) 0
 
+-- what a life is told to do
 abbrev pub acts_of : PlannedLife → List PlannedAct
 acts_of life = life.acts
 
@@ -115,6 +117,7 @@ cut_at before swept told place taken =
 abbrev pub default_fronts : List ℕ
 default_fronts = codes "0,1,256,511,512"
 
+-- a cut at this call, which leaves so many bytes of a write
 abbrev pub place_of : ℕ → ℕ → Place
 place_of call front = record { call = call; front = front }
 

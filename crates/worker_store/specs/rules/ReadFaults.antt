@@ -40,6 +40,7 @@ IsOwnOfSnapshot (snapshot.Disk fault) = ⊥
 IsOwnOfSnapshot snapshot.Failed = ⊥
 IsOwnOfSnapshot other = Unit {0}
 
+-- it is no fault of the disk, and no call has failed before
 abbrev pub IsOwnOfJournal : JournalFault → Type 0
 IsOwnOfJournal (journal.Disk fault) = ⊥
 IsOwnOfJournal journal.Failed = ⊥
