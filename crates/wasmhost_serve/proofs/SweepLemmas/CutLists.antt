@@ -8,14 +8,14 @@ use Rattle.std.specs.Result.{is_err}
 use Rattle.std.proofs.lemmas.List.{length-map, map_more}
 use Rattle.std.proofs.lemmas.List.Elements.{All-append, All-nil, All-push}
 use Rattle.sector_disk.specs.declared.place.Place.{Place}
-use Rattle.wasmhost_serve.specs.rules.Sweeps.{cuts_to, place_of}
+use Rattle.wasmhost_serve.specs.rules.Sweeps.{cuts_to, cut_place}
 
 pub no_cuts : (fronts : List ℕ) → cuts_to 0 fronts ≡ []
 unfolding cuts_to
 no_cuts fronts = refl
 
 cuts_more : (calls : ℕ) (fronts : List ℕ)
-    → cuts_to (calls + 1) fronts ≡ cuts_to calls fronts ++ map (place_of (calls + 1)) fronts
+    → cuts_to (calls + 1) fronts ≡ cuts_to calls fronts ++ map (cut_place (calls + 1)) fronts
 unfolding cuts_to
 cuts_more calls fronts = rw add-one refl
 
@@ -28,23 +28,23 @@ none_swept P fronts =
 -- one more of a call
 pub one_cut_more : (P : Place → Type 0) (call : ℕ) (fronts : List ℕ) (i front : ℕ)
     → i < length fronts → front ≡ get_or fronts i 0
-    → All P (map (place_of call) (take i fronts)) → P (place_of call front)
-    → All P (map (place_of call) (take (i + 1) fronts))
+    → All P (map (cut_place call) (take i fronts)) → P (cut_place call front)
+    → All P (map (cut_place call) (take (i + 1) fronts))
 one_cut_more P call fronts i front within is so_far one =
-    let whole : map (place_of call) (take (i + 1) fronts)
-    ≡ map (place_of call) (take i fronts) ++ place_of call front ∷ []
-    = map_more (place_of call) fronts i 0 within
-    ∙ ap (λ (f : ℕ). map (place_of call) (take i fronts) ++ place_of call f ∷ []) (sym is) in
+    let whole : map (cut_place call) (take (i + 1) fronts)
+    ≡ map (cut_place call) (take i fronts) ++ cut_place call front ∷ []
+    = map_more (cut_place call) fronts i 0 within
+    ∙ ap (λ (f : ℕ). map (cut_place call) (take i fronts) ++ cut_place call f ∷ []) (sym is) in
     subst (All P) (sym whole)
-    (All-push P (map (place_of call) (take i fronts)) (place_of call front) so_far one)
+    (All-push P (map (cut_place call) (take i fronts)) (cut_place call front) so_far one)
 
 -- those of one call more
 pub one_call_more : (P : Place → Type 0) (calls : ℕ) (fronts : List ℕ) (cuts now : ℕ)
     → All P (cuts_to calls fronts) → cuts ≡ length (cuts_to calls fronts)
-    → All P (map (place_of (calls + 1)) fronts) → now ≡ cuts + length fronts
+    → All P (map (cut_place (calls + 1)) fronts) → now ≡ cuts + length fronts
     → All P (cuts_to (calls + 1) fronts) × (now ≡ length (cuts_to (calls + 1) fronts))
 one_call_more P calls fronts cuts now so_far counted these more =
-    let place = place_of (calls + 1) in
+    let place = cut_place (calls + 1) in
     let whole = cuts_more calls fronts in (
       subst (All P) (sym whole)
           (All-append P (cuts_to calls fronts) (map place fronts) so_far these),

@@ -6,7 +6,7 @@ use Rattle.std.proofs.lemmas.List.{append-nil, drop_all, drop_more, flat_map_mor
 use Rattle.wasi_abi.specs.declared.answer.Answer.{Answer}
 use Rattle.worker.specs.declared.story.life.PlannedLife.{PlannedLife}
 use Rattle.worker.specs.declared.story.report.LifeReport.{LifeReport}
-use Rattle.wasmhost_serve.specs.rules.Sweeps.{answers_of, kept_in}
+use Rattle.wasmhost_serve.specs.rules.Sweeps.{answers_not_lost, kept_in}
 
 -- one item more
 pub taken_more : {X : Type 0} (xs : List X) (i : ℕ) (x : X) → i < length xs → x ≡ get_or xs i x
@@ -29,20 +29,20 @@ flat_more f xs i x within is =
 -- the answers of one life more
 pub more_answers : (list : List Answer) (lives : List PlannedLife) (i : ℕ) (life : PlannedLife)
     (later : List LifeReport) (all : List Answer) → i < length lives → life ≡ get_or lives i life
-    → list ++ answers_of (drop i lives) later ≡ all
-    → (list ++ kept_in later life.answers) ++ answers_of (drop (i + 1) lives) (drop 1 later) ≡ all
+    → list ++ answers_not_lost (drop i lives) later ≡ all
+    → (list ++ kept_in later life.answers) ++ answers_not_lost (drop (i + 1) lives) (drop 1 later) ≡ all
 more_answers list lives i life later all within is so_far =
     let whole : drop i lives ≡ life ∷ drop (i + 1) lives =
     drop_more lives i life within
     ∙ ap (λ (x : PlannedLife). x ∷ drop (i + 1) lives) (sym is) in
-    append_assoc list (kept_in later life.answers) (answers_of (drop (i + 1) lives) (drop 1 later))
-    ∙ ap (λ (ls : List PlannedLife). list ++ answers_of ls later) (sym whole) ∙ so_far
+    append_assoc list (kept_in later life.answers) (answers_not_lost (drop (i + 1) lives) (drop 1 later))
+    ∙ ap (λ (ls : List PlannedLife). list ++ answers_not_lost ls later) (sym whole) ∙ so_far
 
 -- and of all lives
 pub all_answers : (list : List Answer) (lives : List PlannedLife) (i : ℕ)
     (later : List LifeReport) (all : List Answer) → length lives ≤ i
-    → list ++ answers_of (drop i lives) later ≡ all → list ≡ all
+    → list ++ answers_not_lost (drop i lives) later ≡ all → list ≡ all
 all_answers list lives i later all past so_far =
     sym (append-nil list)
-    ∙ ap (λ (ls : List PlannedLife). list ++ answers_of ls later) (sym (drop_all i lives past))
+    ∙ ap (λ (ls : List PlannedLife). list ++ answers_not_lost ls later) (sym (drop_all i lives past))
     ∙ so_far

@@ -26,9 +26,10 @@ get_front [] ys k x e = absurd (none-some x e)
 get_front (y ∷ xs) ys zero x e = e
 get_front (y ∷ xs) ys (suc k) x e = get_front xs ys k x e
 
-get_end : {X : Type 0} (xs : List X) (x : X) → slice_get (xs ++ x ∷ []) (length xs) ≡ Some x
-get_end [] x = refl
-get_end (y ∷ xs) x = get_end xs x
+get_at_end : {X : Type 0} (xs : List X) (x : X) (ys : List X)
+    → slice_get (xs ++ x ∷ ys) (length xs) ≡ Some x
+get_at_end [] x ys = refl
+get_at_end (y ∷ xs) x ys = get_at_end xs x ys
 
 get_push_cases : {X : Type 0} (xs : List X) (x : X) (i : ℕ) (y : X)
     → slice_get (xs ++ x ∷ []) i ≡ Some y
@@ -66,7 +67,7 @@ next_text texts lines line is are =
           (All-weaker (λ (x : NumberedLine). slice_get texts (x.number - 1) ≡ Some x)
           (λ (x : NumberedLine). slice_get more (x.number - 1) ≡ Some x)
           (λ x at. get_front texts (line ∷ []) (x.number - 1) x at) lines are.one_text)
-          (ap (slice_get more) place ∙ get_end texts line);
+          (ap (slice_get more) place ∙ get_at_end texts line []);
       none_missing =
           All-push (Contains (lines ++ line ∷ [])) texts line
           (All-weaker (Contains lines) (Contains (lines ++ line ∷ []))

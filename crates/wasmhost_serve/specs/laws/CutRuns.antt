@@ -12,7 +12,7 @@ use Rattle.wasmhost_serve.specs.rules.Sweeps.{AreTextsOf, IsCutRun, answers_at_l
 use Rattle.wasmhost_serve.specs.rules.Sweeps.{lines_told}
 
 -- the last life was opened, with so many answers, and the first texts of all lines are these
-pub record Agrees (texts : List NumberedLine) (taken : ℕ) (reports : List LifeReport)
+pub record AgreesWith (texts : List NumberedLine) (taken : ℕ) (reports : List LifeReport)
     : Type 0 where
   pub opened : answers_at_last reports ≡ Some taken
   pub more : List NumberedLine

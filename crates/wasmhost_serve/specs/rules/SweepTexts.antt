@@ -25,14 +25,14 @@ grouped [] = []
 grouped (digit ∷ digits) = (digit ∷ comma_before (length digits)) ++ grouped digits
 
 -- so many things of this name: one, or several
-abbrev pub counted : ℕ → List ℕ → List ℕ
-counted number name =
+abbrev pub quantity : ℕ → List ℕ → List ℕ
+quantity number name =
     grouped (decimal number) ++ codes " " ++ name ++ (if number == 1 then [] else codes "s")
 
 -- how many cuts agree, and how many lines were told
 abbrev pub swept_line : ℕ → ℕ → List ℕ
-swept_line cuts lines = codes "swept " ++ counted cuts (codes "cut") ++ codes ": "
-    ++ counted lines (codes "line") ++ codes ", each told with one text\n"
+swept_line cuts lines = codes "swept " ++ quantity cuts (codes "cut") ++ codes ": "
+    ++ quantity lines (codes "line") ++ codes ", each told with one text\n"
 
 -- ---- the exit status
 

@@ -44,14 +44,14 @@ AreSweptLives texts number lives place =
 -- ---- the lives of a cut
 
 -- how many answers a worker has taken when a life has opened it, if it is opened
-abbrev pub answers_at : Opening → Option ℕ
-answers_at (Created image) = Some 0
-answers_at (Recovered generation steps answers lines image) = Some answers
-answers_at Unopened = None
+abbrev pub answers_when_opened : Opening → Option ℕ
+answers_when_opened (Created image) = Some 0
+answers_when_opened (Recovered generation steps answers lines image) = Some answers
+answers_when_opened Unopened = None
 
 -- the same, or 0
 abbrev pub answers_before : LifeReport → ℕ
-answers_before report = unwrap_or (answers_at report.opened) 0
+answers_before report = unwrap_or (answers_when_opened report.opened) 0
 
 -- What a life has taken of its answers and kept, as the next one's opening says. Of the last one
 -- all of them are wanted.
@@ -65,9 +65,9 @@ abbrev pub kept_in : List LifeReport → List Answer → List Answer
 kept_in told answers = kept_between (slice_get told 0) (slice_get told 1) answers
 
 -- the answers of these lives, of which this was told
-abbrev pub answers_of : List PlannedLife → List LifeReport → List Answer
-answers_of [] told = []
-answers_of (life ∷ lives) told = kept_in told life.answers ++ answers_of lives (drop 1 told)
+abbrev pub answers_not_lost : List PlannedLife → List LifeReport → List Answer
+answers_not_lost [] told = []
+answers_not_lost (life ∷ lives) told = kept_in told life.answers ++ answers_not_lost lives (drop 1 told)
 
 -- how many answers the worker had taken before the first of these lives
 abbrev pub answers_at_first : List LifeReport → ℕ
@@ -81,7 +81,7 @@ acts_of life = life.acts
 -- left, and told to do again all that these lives were told to do.
 abbrev pub life_after : List PlannedLife → List LifeReport → ℕ → PlannedLife
 life_after lives told taken = record {
-  answers = drop (taken - answers_at_first told) (answers_of lives told);
+  answers = drop (taken - answers_at_first told) (answers_not_lost lives told);
   acts = flat_map acts_of lives;
   stop = None;
   fail = None;
@@ -118,13 +118,13 @@ abbrev pub default_fronts : List ℕ
 default_fronts = codes "0,1,256,511,512"
 
 -- a cut at this call, which leaves so many bytes of a write
-abbrev pub place_of : ℕ → ℕ → Place
-place_of call front = record { call = call; front = front }
+abbrev pub cut_place : ℕ → ℕ → Place
+cut_place call front = record { call = call; front = front }
 
 -- at each call from 1 to this one, with each of these fronts
 unfoldable pub cuts_to : ℕ → List ℕ → List Place
 cuts_to zero fronts = []
-cuts_to (suc calls) fronts = cuts_to calls fronts ++ map (place_of (suc calls)) fronts
+cuts_to (suc calls) fronts = cuts_to calls fronts ++ map (cut_place (suc calls)) fronts
 
 -- ---- what is compared
 
@@ -142,7 +142,7 @@ pub record AreTextsOf (texts lines : List NumberedLine) : Type 0 where
 
 -- how many answers the worker has taken when the last of these lives has opened it
 abbrev pub answers_at_last : List LifeReport → Option ℕ
-answers_at_last reports = option_and_then (λ (report : LifeReport). answers_at report.opened)
+answers_at_last reports = option_and_then (λ (report : LifeReport). answers_when_opened report.opened)
     (slice_get reports (length reports - 1))
 
 -- ---- a sweep

@@ -2,7 +2,7 @@
 
 ghost use Rattle.std.specs.Prelude.{◌≡◌, ◌+◌, IfOk, IfSome, OnErr, OnOk, length, map, true};
 ghost use Rattle.std.specs.List.{All};
-ghost use Rattle.wasmhost_serve.specs.rules.Sweeps.{cuts_to, place_of};
+ghost use Rattle.wasmhost_serve.specs.rules.Sweeps.{cuts_to, cut_place};
 ghost use Rattle.wasmhost_serve.specs.laws.CutRuns.{HeedsProgress, IsSweptAt};
 
 use crate::printer::Printer;
@@ -46,7 +46,7 @@ fn sweep_call(
     call: u64,
     so_far: Progress,
 ) -> Result<Progress, SweepFault>
-    ensures { IfOk result (λ now. All (IsSweptAt sweep.now) (map (place_of call) fronts.now)
+    ensures { IfOk result (λ now. All (IsSweptAt sweep.now) (map (cut_place call) fronts.now)
         × (now.cuts ≡ so_far.cuts + length fronts.now)) }
 {
     let mut now = so_far;

@@ -2,10 +2,10 @@
 
 ghost use Rattle.std.specs.Prelude.{◌≡◌, IfOk, OnOk, true};
 ghost use Rattle.wasmhost_serve.specs.rules.Sweeps.{answers_at_last};
-ghost use Rattle.wasmhost_serve.specs.laws.CutRuns.{Agrees, HasRunCut, IsSweptAt};
+ghost use Rattle.wasmhost_serve.specs.laws.CutRuns.{AgreesWith, HasRunCut, IsSweptAt};
 
 use crate::sweeping::fault::SweepFault;
-use crate::sweeping::planning::{answers_at, plan_cut};
+use crate::sweeping::planning::{answers_when_opened, plan_cut};
 use crate::sweeping::starving::are_starved;
 use crate::sweeping::texts::{begin_with, texts_of};
 use record_replay::NumberedLine;
@@ -62,7 +62,7 @@ fn answers_at_last(reports: &[LifeReport]) -> Option<u64>
     ensures { result ≡ answers_at_last reports.now }
 {
     match reports.last() {
-        Some(report) => answers_at(&report.opened),
+        Some(report) => answers_when_opened(&report.opened),
         None => None,
     }
 }
@@ -74,7 +74,7 @@ fn agrees(
     taken: u64,
     reports: &[LifeReport],
 ) -> Result<bool, SweepFault>
-    ensures { IfOk result (λ is. is ≡ true → Agrees texts.now taken reports.now) }
+    ensures { IfOk result (λ is. is ≡ true → AgreesWith texts.now taken reports.now) }
 {
     match answers_at_last(reports) {
         Some(count) if count == taken => {}

@@ -2,8 +2,8 @@
 
 ghost use Rattle.std.specs.Prelude.{◌≡◌, ◌++◌, ◌-◌, IfOk, OnOk, drop, take};
 ghost use Rattle.std.specs.List.{flat_map};
-ghost use Rattle.wasmhost_serve.specs.rules.Sweeps.{acts_of, answers_at, answers_at_first};
-ghost use Rattle.wasmhost_serve.specs.rules.Sweeps.{answers_before, answers_of, cut_at};
+ghost use Rattle.wasmhost_serve.specs.rules.Sweeps.{acts_of, answers_when_opened, answers_at_first};
+ghost use Rattle.wasmhost_serve.specs.rules.Sweeps.{answers_before, answers_not_lost, cut_at};
 ghost use Rattle.wasmhost_serve.specs.rules.Sweeps.{first_stopped, kept_in, life_after, stopped_at};
 
 use crate::sweeping::copying::copy_answer;
@@ -14,8 +14,8 @@ use wasm_syntax::Row;
 use worker::story::{LifeReport, Opening, PlannedAct, PlannedLife};
 
 /// How many answers a worker has taken when a life has opened it, if it is opened.
-pub(super) fn answers_at(opened: &Opening) -> Option<u64>
-    ensures { result ≡ answers_at opened.now }
+pub(super) fn answers_when_opened(opened: &Opening) -> Option<u64>
+    ensures { result ≡ answers_when_opened opened.now }
 {
     match opened {
         Opening::Created { .. } => Some(0),
@@ -28,7 +28,7 @@ pub(super) fn answers_at(opened: &Opening) -> Option<u64>
 fn answers_before(report: &LifeReport) -> u64
     ensures { result ≡ answers_before report.now }
 {
-    answers_at(&report.opened).unwrap_or(0)
+    answers_when_opened(&report.opened).unwrap_or(0)
 }
 
 /// How many answers the worker had taken before the first of these lives.
@@ -82,12 +82,12 @@ fn push_answers(alloc: Global, list: &mut Row<Answer>, answers: &[Answer]) -> Re
 }
 
 /// The answers of these lives, of which this was told.
-fn answers_of(
+fn answers_not_lost(
     alloc: Global,
     lives: &[PlannedLife],
     told: &[LifeReport],
 ) -> Result<Row<Answer>, AllocError>
-    ensures { IfOk result (λ answers. answers ≡ answers_of lives.now told.now) }
+    ensures { IfOk result (λ answers. answers ≡ answers_not_lost lives.now told.now) }
 {
     let mut list = Row::new(alloc);
     let mut later = told;
@@ -106,9 +106,9 @@ fn answers_left(
     taken: u64,
 ) -> Result<Row<Answer>, AllocError>
     ensures { IfOk result (λ answers. answers
-        ≡ drop (taken - answers_at_first told.now) (answers_of lives.now told.now)) }
+        ≡ drop (taken - answers_at_first told.now) (answers_not_lost lives.now told.now)) }
 {
-    let mut answers = answers_of(alloc, lives, told)?.into_vec();
+    let mut answers = answers_not_lost(alloc, lives, told)?.into_vec();
     let kept = taken.saturating_sub(answers_at_first(told));
     let count = (kept as usize).min(answers.len());
     Ok(Row::from_vec(answers.split_off(count)?))

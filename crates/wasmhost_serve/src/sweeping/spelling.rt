@@ -2,7 +2,7 @@
 
 ghost use Rattle.std.specs.Prelude.{◌≡◌, OnOk};
 ghost use Rattle.std.specs.Io.KnownBytes.{Appends};
-ghost use Rattle.wasmhost_serve.specs.rules.SweepTexts.{comma_before, counted, grouped};
+ghost use Rattle.wasmhost_serve.specs.rules.SweepTexts.{comma_before, quantity, grouped};
 ghost use Rattle.wasmhost_serve.specs.rules.SweepTexts.{swept_line};
 
 use itoa::Buffer;
@@ -37,7 +37,7 @@ fn spell_grouped<W: Write>(out: &mut W, digits: &[u8]) -> io::Result<()>
 /// Spells how many things there are of this name.
 fn spell_count<W: Write>(out: &mut W, number: u64, name: &str) -> io::Result<()>
     ensures { OnOk result (Appends (W.contents out.old) (W.contents out.new)
-        (counted number name.now)) }
+        (quantity number name.now)) }
 {
     spell_grouped(out, Buffer::new().format(number).as_bytes())?;
     out.write_all(b" ")?;
