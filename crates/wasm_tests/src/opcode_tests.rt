@@ -371,7 +371,7 @@ static INSTRUCTIONS: Runs = (
         ),
         (
             "memory.fill",
-            "00 41ffff03 4109 4101 fc0b00 4100 41ffff03 2d0000 1a 4101 41ffff03 2d0000 3a0000 0b",
+            "00 41ffff03 4109 4101 fc0b00 4101 41ffff03 2d0000 3a0000 0b",
             Outcome::Leaves(0x900),
         ),
         (
