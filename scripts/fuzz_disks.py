@@ -86,13 +86,14 @@ class ImagePlaces(disk_reader.Reader):
 
 
 class Worker:
-    """A worker on a disk, and files of requests that it may be given, with what they hold."""
+    """A worker on a disk, files of requests that it may be given, with what they hold, and how a
+    run with each of them ends."""
 
-    def __init__(self, name, module, disk_form, disk, given):
-        self.name, self.module, self.form = name, module, disk_form
-        self.disk, self.given = disk, given
+    def __init__(self, module, disk_form, disk, given, ends):
+        self.module, self.form = module, disk_form
+        self.disk, self.given, self.ends = disk, given, ends
         found = disk_reader.judged(disk)
-        assert found.fault is None, f"{name}: {found.fault}"
+        assert found.fault is None, f"{module.name}: {found.fault}"
         self.contents, self.generation, self.steps = found.contents, found.generation, found.steps
         self.records, self.image = found.records, found.image
         self.places = ImagePlaces(found.image)
@@ -109,6 +110,13 @@ class Worker:
         accepted."""
         is_known = hashlib.sha256(found.image).digest() in self.images
         return found.contents == self.contents and is_known
+
+
+    def right_end(self, found, given):
+        """How a run has to end on a disk on which everything that is read is as it was, or none."""
+        was = self.contents, self.generation, self.image, self.records
+        is_same = (found.contents, found.generation, found.image, found.records) == was
+        return self.ends[given] if is_same else None
 
 
 class DiskMutator:

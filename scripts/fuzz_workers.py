@@ -120,7 +120,15 @@ def built(program, folder, past, module):
     return Form(module, past.pages, 1, 64, past.words), data
 
 
-def workers(program, folder, of_name):
+def right_ends(words, data, given):
+    """How a run of a disk as it was ends, by the file of its requests. The words name the disk."""
+    for path, lines in given.items():
+        with open(words[2], "wb") as file:
+            file.write(data)
+        yield path, ended(words, lines)
+
+
+def workers(program, folder, of_name, pace):
     """The workers whose disks are changed, each with files of requests."""
     given = {}
     for name, texts in [("requests", REQUESTS), ("all requests", [*REQUESTS, None])]:
@@ -131,4 +139,5 @@ def workers(program, folder, of_name):
     for past in PASTS:
         module = of_name[past.name]
         form, data = built(program, folder, past, module.data)
-        yield Worker(past.name, module, form, data, given)
+        words = [program, "run", os.path.join(folder, "again"), *pace]
+        yield Worker(module, form, data, given, dict(right_ends(words, data, given)))
