@@ -10,6 +10,8 @@
 #[cfg(test)]
 mod abi;
 #[cfg(test)]
+mod call_stories;
+#[cfg(test)]
 mod calls;
 #[cfg(test)]
 mod image_stop;
