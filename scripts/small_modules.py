@@ -58,6 +58,8 @@ def called(place, kind):
 # Modules with what `check` says of them: the fault, and its place if it has one.
 REFUSED = [
     (b"", "B1 Malformed", 0),
+    # More types than the bytes of their section.
+    (b"\0asm\x01\0\0\0" + bytes.fromhex("0105ffffffff0f"), "B1 Malformed", 15),
     # Instructions that came later: a null reference, and two that name a segment or a table.
     (small(b"\xd0\x70" + wasm.DROP), "B1 Malformed", 49),
     (small(wasm.i32(0) * 3 + b"\xfc\x08\x00\x00"), "B1 Malformed", 56),
@@ -196,3 +198,31 @@ def memory_of_asks(text=None):
         memory[WRITTEN : WRITTEN + 4] = struct.pack("<I", len(text) + 1)
         memory[TIMES:NEWLINE] = text
     return bytes(memory)
+
+
+# Where `flood` has the number of bytes that its first call wrote, with a newline behind it, and
+# where the bytes of that call begin. Both calls name theirs by an iovec, at 0 and behind that.
+TOLD, FLOOD = 16, 64
+
+
+def flood_memory(count):
+    """The two pages of memory with which `flood` begins."""
+    first = struct.pack("<5I", FLOOD, count, TOLD, 5, 0) + b"\n"
+    memory = first + bytes(32 - len(first)) + struct.pack("<II", 40, 8) + bytes(24)
+    return memory + b"\n" * count + bytes(2 * 65_536 - FLOOD - count)
+
+
+def flood(count):
+    """A module that writes so many newlines by one call, in its step 5. Then it writes what that
+    call told it, four bytes and a newline, in step 11, and asks for a request behind step 16."""
+    def call(number, *arguments):
+        return b"".join(map(wasm.i32, arguments)) + wasm.CALL + wasm.unsigned(number) + wasm.DROP
+
+    code = call(0, 1, 0, 1, TOLD) + call(0, 1, 8, 1, 24) + call(1, 0, 32, 1, 28)
+    names = [b"fd_write", b"fd_read"]
+    return small(
+        types=[NOTHING, wasm.function_type([wasm.I32] * 4, [wasm.I32])],
+        imports=[wasm.imported_function(name, 1) for name in names], memories=pages(2),
+        exports=[wasm.exported(b"_start", 0, 2), MEMORY],
+        bodies=[wasm.function_body([], code)],
+        data=[behind(0) + wasm.sized(flood_memory(count)[: FLOOD + count])])

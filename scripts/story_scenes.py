@@ -8,7 +8,7 @@ from dataclasses import dataclass
 
 import disk_form as form
 from disk_form import echo_image, echo_image_behind
-from small_modules import memory_of_asks
+from small_modules import flood_memory, memory_of_asks
 
 
 @dataclass
@@ -160,6 +160,28 @@ SIZES = [
           ("--journal", "63", "64 to 65536"), ("--journal", "65537", "64 to 65536")]),
 ]
 
+# One call writes 65,536 bytes at most, and each of them may be a line. So many come from one step,
+# and all of them are told before the next one. A line that is refused ends the life, and the next
+# one begins again at line 1.
+MOST = 65_536
+FLOODED = [f"{number} o \n" for number in range(1, MOST + 1)]
+FLOOD = form.image((0,) * 5, (form.RUNNING, 0, 0), [(2, 0, ())], flood_memory(MOST + 1))
+AGAIN = recovered(2, 2, (0, 0, 0), FLOOD)
+
+
+def floods(script, out):
+    """A story of the guest that has one newline too many for one call."""
+    return Story(script, "flood.wasm", ("--pages", "2"), out=CREATED + out)
+
+
+FLOODS = [
+    floods("life\nslice 4\nlife\n", AGAIN),
+    floods("life\nslice 5\nlife\n", "".join(FLOODED) + AGAIN),
+    floods("life\nslice 11\nrefuse 40000\nlife\nslice 11\n",
+           "".join(FLOODED[:40_000]) + "life 1 ended N3 Outlet\n" + AGAIN + "".join(FLOODED)
+           + f"{MOST + 1} o \0\0\1\0\n"),
+]
+
 # Each form of a faulty line is in `program_tests`. Here it is the order of faults that counts.
 FAULTS = [
     refused("life\nslice 20\nhello\n", "script line 3", status=2),
@@ -215,4 +237,4 @@ SWEPT = [
     unswept(HELLO, "failed B1 Malformed", "/dev/null", status=3),
 ]
 
-STORIES = LIVES + CUTS + ANSWERS + TROUBLES + SIZES + FAULTS + SWEPT
+STORIES = LIVES + CUTS + ANSWERS + TROUBLES + SIZES + FLOODS + FAULTS + SWEPT

@@ -276,7 +276,8 @@ fn what_is_kept_takes_memory(rt: HostRuntime) -> Result<(), AllocError> {
     Ok(())
 }
 
-fn texts(alloc: Global, count: usize, bytes: &[u8]) -> Result<Row<Row<u8>>, AllocError> {
+/// So many texts of these bytes.
+pub(crate) fn texts(alloc: Global, count: usize, bytes: &[u8]) -> Result<Row<Row<u8>>, AllocError> {
     let mut texts = Row::new(alloc);
     for _ in 0..count {
         texts.push(text(alloc, bytes)?)?;

@@ -1,7 +1,7 @@
 //! What tests alone can show of the host's side. They are of numbers, layouts and configurations of
-//! WASI, of calls on memory and streams, and of answers from outside. They are of the tree of
-//! files, of sources and outlets, and of processes step after step. Images are written, changed,
-//! and made processes again.
+//! WASI, of each call on memory, streams and files, and of answers from outside. They are of the
+//! tree of files, of sources and outlets, and of processes step after step. Images are written,
+//! changed, and made processes again.
 //!
 //! Each test is a table of rows whose expected values come from outside. Those that take memory
 //! return their error, so that `scripts/refused-allocations` can refuse each allocation in turn.
@@ -9,6 +9,8 @@
 
 #[cfg(test)]
 mod abi;
+#[cfg(test)]
+mod call_stories;
 #[cfg(test)]
 mod calls;
 #[cfg(test)]

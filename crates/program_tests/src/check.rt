@@ -1,5 +1,6 @@
 //! Modules as bytes, and what `wasmhost check` says of them.
 
+use crate::asking::ECHO;
 use hex::decode;
 use std::alloc::Global;
 use std::process::Abort;
@@ -293,13 +294,29 @@ fn status_of(alloc: Global, bytes: &[u8]) -> u8 {
     check_bytes(alloc, bytes, &mut Printer::new(Vec::new(alloc), false))
 }
 
-/// Each front of a module that is accepted is refused.
+/// The length of `ECHO`, and the place behind its code section, where a module may end as well.
+const ECHO_LENGTH: usize = 193;
+
+const CODE_END: usize = 173;
+
+/// Whether a front of `ECHO` is accepted where it should be, and else refused.
+fn is_front_told_so(alloc: Global, bytes: &[u8], end: usize) -> bool {
+    let is_whole = end == CODE_END || end == ECHO_LENGTH;
+    match bytes.get(..end) {
+        Some(front) => status_of(alloc, front) == if is_whole { 0 } else { 3 },
+        None => false,
+    }
+}
+
 #[test]
 fn fronts(rt: HostRuntime) -> Result<(), Fail> {
-    let bytes = bytes_of(rt.alloc(), &[BEFORE_CODE, EMPTY_BODY])?;
-    assert!(rt; bytes.len() == 50);
-    for end in 0..bytes.len() {
-        assert!(rt; status_of(rt.alloc(), &bytes[..end]) == 3, "{end}");
+    let bytes = bytes_of(rt.alloc(), &ECHO)?;
+    assert!(rt; bytes.len() == ECHO_LENGTH);
+    for end in 0..=ECHO_LENGTH {
+        assert!(rt;
+            is_front_told_so(rt.alloc(), bytes.as_slice(), end),
+            "{end}"
+        );
     }
     Ok(())
 }

@@ -1,7 +1,8 @@
 //! The kind of each fault of linking, two faults at once, what a machine begins with.
 
-use crate::runs::{Outcome, Runs, runs_so};
-use crate::spelled::{Refused, spell_each};
+use crate::runs::{Outcome, Runs, comes_to, runs_so};
+use crate::spelled::{Refused, spell, spell_each};
+use crate::wasm_decode_tests::ECHO;
 use guest_memory::Memory;
 use machine::{LinkFault, Machine};
 use machine_loader::{FrontFault, accept};
@@ -330,6 +331,41 @@ static TOLD: Runs = (
     ],
 );
 
+/// Whether a module is accepted whose memory has one page.
+fn is_accepted(alloc: Global, bytes: &[u8]) -> bool {
+    match accept(alloc, bytes, 1) {
+        Ok(machine) => {
+            drop(machine);
+            true
+        }
+        Err(_) => false,
+    }
+}
+
+/// How long `ECHO` is, and how long up to the end of its code section.
+const ECHO_LENGTH: usize = 193;
+
+const CODE_END: usize = 173;
+
+/// The first front of `ECHO` that is accepted and should not be, or the other way round.
+fn first_miss(alloc: Global, echo: &[u8]) -> Option<usize> {
+    for len in 0..=ECHO_LENGTH {
+        let is_whole = len == CODE_END || len == ECHO_LENGTH;
+        let Some(front) = echo.get(..len) else {
+            return Some(len);
+        };
+        if is_accepted(alloc, front) != is_whole {
+            return Some(len);
+        }
+    }
+    None
+}
+
+fn first_miss_of_echo(alloc: Global) -> Result<Option<usize>, Refused> {
+    let echo = spell(alloc, ECHO, "")?;
+    Ok(first_miss(alloc, echo.as_slice()))
+}
+
 #[test]
 fn modules_are_linked_and_tell_what_they_come_to(rt: HostRuntime) {
     for row in &LINKED {
@@ -340,6 +376,8 @@ fn modules_are_linked_and_tell_what_they_come_to(rt: HostRuntime) {
         let told = runs_so(rt.alloc(), &TOLD, run);
         assert!(rt; told == Ok(true), "{} {told:?}", run.0);
     }
+    let miss = first_miss_of_echo(rt.alloc());
+    assert!(rt; miss == Ok(None), "{miss:?}");
 }
 
 /// The first function of two: it gives its parameter where that isn't zero, and else its declared
@@ -422,11 +460,19 @@ static RUNS: [Runs; 2] = [
     ),
 ];
 
+/// Whether `ECHO` is accepted, and asks for a request first.
+fn asks_first(alloc: Global) -> Result<bool, Refused> {
+    let echo = spell(alloc, ECHO, "")?;
+    let outcome = Outcome::Asks(Call::FdRead, &[0, 0, 1, 16]);
+    Ok(comes_to(alloc, echo.as_slice(), &outcome)?)
+}
+
 /// `scripts/refused-allocations` refuses each allocation in turn, and then this ends in want of
 /// memory.
 #[test]
 fn machines_begin_and_call(rt: HostRuntime) -> Result<(), Refused> {
     assert!(rt; is_linked(rt.alloc())?);
+    assert!(rt; asks_first(rt.alloc())?);
     for runs in &RUNS {
         for run in runs.3 {
             assert!(rt; runs_so(rt.alloc(), runs, run)?, "{}", run.0);

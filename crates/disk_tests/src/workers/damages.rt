@@ -5,7 +5,7 @@ use crate::halt::{Halt, NO_WORKER};
 use crate::workers::working::{Stand, create, open};
 use disk_layout::LayoutFault;
 use record_replay::ReplayFault;
-use sector_disk::{Disk, DiskFault, MemDisk};
+use sector_disk::{Disk, DiskFault, FaultDisk, MemDisk};
 use snapshot::SnapshotFault;
 use state_image::restoring::RestoreFault;
 use std::alloc::Global;
@@ -42,6 +42,8 @@ const FIELDS: Halt = Halt::Recovery(RecoverFault::Layout(LayoutFault::Damaged));
 
 const SNAPSHOT: Halt = Halt::Recovery(RecoverFault::Snapshot(SnapshotFault::Damaged));
 
+const TOO_BIG: Halt = Halt::Work(WorkFault::Store(StoreFault::TooBig));
+
 const NO_IMAGE: Halt = Halt::Recovery(RecoverFault::Image(RestoreFault::NotAnImage));
 
 const DIVERGED: Halt = Halt::Recovery(RecoverFault::Replay(ReplayFault::Diverged));
@@ -74,8 +76,20 @@ const TIME: &[u8] = &[
     19, 0, 3, 6, 0, 0, 0, 0, 0, 0, 0, 8, 0, 1, 0, 0, 0, 0, 0, 0, 0,
 ];
 
+/// The same of a kind that there isn't, with a text.
+const UNKNOWN: &[u8] = &[
+    16, 0, 6, 6, 0, 0, 0, 0, 0, 0, 0, 5, 0, b'h', b'e', b'l', b'l', b'o',
+];
+
 /// Generation 1 and place 1.
 const STAMP: &[u8] = &[1, 0, 0, 0, 0, 0, 0, 0, 1, 0, 0, 0, 0, 0, 0, 0];
+
+/// The length of an image of 1,179,923 bytes. An area has 1,179,648.
+const TOO_LONG: Piece = Piece {
+    sector: HEAD_1,
+    place: 18,
+    bytes: &[18],
+};
 
 /// Where things lie on the disk of a worker of `ECHO`.
 const SUPER: u64 = 0;
@@ -88,7 +102,7 @@ const AREA_1: u64 = 2_308;
 
 const JOURNAL: u64 = 4_612;
 
-static DAMAGES: [Damage; 23] = [
+static DAMAGES: [Damage; 25] = [
     Damage {
         name: "nothing",
         pieces: &[],
@@ -229,12 +243,17 @@ static DAMAGES: [Damage; 23] = [
     },
     Damage {
         name: "a length beyond the area",
+        pieces: &[TOO_LONG],
+        opens: Err(SNAPSHOT),
+    },
+    Damage {
+        name: "the last generation",
         pieces: &[Piece {
             sector: HEAD_1,
-            place: 18,
-            bytes: &[18],
+            place: 496,
+            bytes: &[255, 255, 255, 255, 255, 255, 255, 127],
         }],
-        opens: Err(SNAPSHOT),
+        opens: Err(TOO_BIG),
     },
     Damage {
         name: "another digest of the image",
@@ -298,6 +317,22 @@ static DAMAGES: [Damage; 23] = [
         opens: Err(DIVERGED),
     },
     Damage {
+        name: "a record of no kind",
+        pieces: &[
+            Piece {
+                sector: JOURNAL,
+                place: 0,
+                bytes: UNKNOWN,
+            },
+            Piece {
+                sector: JOURNAL,
+                place: 496,
+                bytes: STAMP,
+            },
+        ],
+        opens: Ok(FRESH),
+    },
+    Damage {
         name: "the same without its stamp",
         pieces: &[Piece {
             sector: JOURNAL,
@@ -348,6 +383,15 @@ fn is_told_so(alloc: Global, damage: &Damage) -> Result<bool, Halt> {
     Ok(says(alloc, &mut disk)? == damage.opens)
 }
 
+/// Whether a recovery reads the super, the contents and both heads, and nothing else, where the
+/// newest image is longer than its area.
+fn reads_no_image(alloc: Global) -> Result<bool, Halt> {
+    let mut disk = created_disk(alloc)?;
+    put_each(&mut disk, &[TOO_LONG])?;
+    let mut counting = FaultDisk::new(disk, None, None);
+    Ok(open(alloc, &mut counting) == Err(SNAPSHOT) && counting.calls() == (4, 0, 1))
+}
+
 /// Whether a creation is refused for want of sectors, and writes nothing.
 fn is_refused(alloc: Global, disk: &mut MemDisk) -> Result<bool, Halt> {
     match create(alloc, disk, ECHO) {
@@ -392,6 +436,7 @@ fn other_disks_are_refused(rt: HostRuntime) -> Result<(), Halt> {
     for damage in &DAMAGES {
         assert!(rt; is_told_so(rt.alloc(), damage)?, "{}", damage.name);
     }
+    assert!(rt; reads_no_image(rt.alloc())?, "an image that isn't read");
     assert!(rt; is_too_small(rt.alloc())?, "a small disk");
     assert!(rt; has_none(rt.alloc())?, "a blank disk");
     Ok(())

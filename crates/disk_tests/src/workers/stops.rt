@@ -6,7 +6,9 @@ ghost use Rattle.sector_disk.specs.rules.Memory.{memory_medium};
 
 use crate::guests::{ECHO, HELLO, SECTORS, blank};
 use crate::halt::{Halt, NO_WORKER};
-use crate::workers::working::{Stand, Work, are_all_told, create, open, was_stopped, work_on};
+use crate::workers::working::{
+    Stand, Work, are_all_told, create, open, stand_of, was_stopped, work_on,
+};
 use record_replay::{AnswerList, LineList};
 use sector_disk::{Disk, DiskFault, FaultDisk, MemDisk, Place};
 use std::alloc::Global;
@@ -120,26 +122,101 @@ fn is_found(alloc: Global) -> Result<bool, Halt> {
     }
 }
 
-/// A guest, all requests to it, and the texts of all its lines.
+/// A guest, all requests to it, how many steps a life takes and whether it is saved then. Then the
+/// texts of all its lines, and what three lives open with, one behind another.
 struct Task {
     guest: &'static [u8],
     requests: &'static [&'static [u8]],
+    fuel: u64,
+    is_saved: bool,
     texts: &'static [&'static [u8]],
+    opens: [Stand; 3],
 }
+
+const CREATED: Stand = Stand {
+    generation: 1,
+    steps: 0,
+    answers: 0,
+    lines: 0,
+    replayed: 0,
+};
 
 const ECHOES: Task = Task {
     guest: ECHO,
     requests: &[b"hello", b"world"],
+    fuel: 100,
+    is_saved: true,
     texts: &[b"hello", b"world"],
+    opens: [
+        CREATED,
+        Stand {
+            generation: 3,
+            steps: 49,
+            answers: 2,
+            lines: 2,
+            replayed: 0,
+        },
+        Stand {
+            generation: 5,
+            steps: 49,
+            answers: 2,
+            lines: 2,
+            replayed: 0,
+        },
+    ],
 };
 
-static TASKS: [Task; 2] = [
+static TASKS: [Task; 3] = [
     Task {
         guest: HELLO,
         requests: &[],
+        fuel: 100,
+        is_saved: true,
         texts: &[b"hi"],
+        opens: [
+            CREATED,
+            Stand {
+                generation: 3,
+                steps: 8,
+                answers: 0,
+                lines: 1,
+                replayed: 0,
+            },
+            Stand {
+                generation: 5,
+                steps: 8,
+                answers: 0,
+                lines: 1,
+                replayed: 0,
+            },
+        ],
     },
     ECHOES,
+    // up to the second line, and a cut: the second life tells both lines again
+    Task {
+        guest: ECHO,
+        requests: &[b"hello", b"world"],
+        fuel: 42,
+        is_saved: false,
+        texts: &[b"hello", b"world"],
+        opens: [
+            CREATED,
+            Stand {
+                generation: 2,
+                steps: 28,
+                answers: 2,
+                lines: 1,
+                replayed: 28,
+            },
+            Stand {
+                generation: 3,
+                steps: 28,
+                answers: 2,
+                lines: 1,
+                replayed: 0,
+            },
+        ],
+    },
 ];
 
 /// The worker that the disk stands for, or a new one where there is none.
@@ -173,7 +250,7 @@ fn create_where<D: Disk>(
     }
 }
 
-/// Hands over the requests that are left, and saves the process.
+/// Hands over the requests that are left, and saves the process where the task says so.
 fn finish<D: Disk>(
     alloc: Global,
     worker: &mut Worker,
@@ -189,27 +266,35 @@ fn finish<D: Disk>(
     };
     let work = Work {
         requests,
-        fuel: 100,
-        is_saved: true,
+        fuel: task.fuel,
+        is_saved: task.is_saved,
     };
     work_on(alloc, worker, disk, &work, told)
 }
 
-/// A life that does all that is left to do.
+/// A life that does all that is left to do, and what it opens with.
 fn live<D: Disk>(
     alloc: Global,
     disk: &mut D,
     task: &Task,
     told: &mut LineList,
-) -> Result<(), Halt> {
+) -> Result<Stand, Halt> {
     match open_or_create(alloc, disk, task.guest, told) {
         Ok(mut worker) => {
+            let opens = stand_of(&worker);
             let worked = finish(alloc, &mut worker, disk, task, told);
             drop(worker);
-            worked
+            worked?;
+            Ok(opens)
         }
         Err(halt) => Err(halt),
     }
+}
+
+/// How a life has ended.
+fn end_of(life: Result<Stand, Halt>) -> Result<(), Halt> {
+    let _opens = life?;
+    Ok(())
 }
 
 /// The disk that a life leaves which is stopped there, whether it was, and how many calls of its
@@ -222,7 +307,7 @@ fn life_on(
     told: &mut LineList,
 ) -> (MemDisk, Result<bool, Halt>, u64) {
     let mut stopping = FaultDisk::new(disk, stop, None);
-    let stopped = was_stopped(live(alloc, &mut stopping, task, told));
+    let stopped = was_stopped(end_of(live(alloc, &mut stopping, task, told)));
     let count = count_of(&stopping);
     (stopping.into_inner(), stopped, count)
 }
@@ -283,34 +368,89 @@ fn lives_go_on_after_any_stop(rt: HostRuntime) -> Result<(), Halt> {
     Ok(())
 }
 
-/// What three lives say, of which one ends for want of memory where an allocation is refused.
-fn three_lives(
+/// What was asked for again, since memory for it was refused the first time; or that none was.
+type Again = Result<(), Halt>;
+
+/// A disk of zeros.
+fn blank_again(alloc: Global) -> Result<(MemDisk, Again), Halt> {
+    match blank(alloc, SECTORS) {
+        Ok(disk) => Ok((disk, Ok(()))),
+        Err(halt) => {
+            let disk = blank(alloc, SECTORS)?;
+            Ok((disk, Err(halt)))
+        }
+    }
+}
+
+/// What a cut leaves of a disk.
+fn cut_again(alloc: Global, disk: &MemDisk) -> Result<(MemDisk, Again), Halt> {
+    match disk.cut(alloc, &[]) {
+        Ok(left) => Ok((left, Ok(()))),
+        Err(fault) => {
+            let left = disk.cut(alloc, &[])?;
+            Ok((left, Err(Halt::from(fault))))
+        }
+    }
+}
+
+/// What a life says, and what a cut leaves behind it.
+fn cut_life(
     alloc: Global,
-    disk: &mut MemDisk,
+    mut disk: MemDisk,
     task: &Task,
     told: &mut LineList,
-) -> [Result<(), Halt>; 3] {
-    [
-        live(alloc, disk, task, told),
-        live(alloc, disk, task, told),
-        live(alloc, disk, task, told),
-    ]
+) -> Result<(MemDisk, Result<Stand, Halt>), Halt> {
+    let opens = live(alloc, &mut disk, task, told);
+    let (left, again) = cut_again(alloc, &disk)?;
+    match again {
+        Ok(()) => Ok((left, opens)),
+        Err(halt) => Ok((left, Err(halt))),
+    }
+}
+
+/// What three lives say, of which one ends for want of memory where an allocation is refused, or
+/// the cut behind it is made again.
+fn three_lives(
+    alloc: Global,
+    disk: MemDisk,
+    task: &Task,
+    told: &mut LineList,
+) -> Result<[Result<Stand, Halt>; 3], Halt> {
+    let (disk, first) = cut_life(alloc, disk, task, told)?;
+    let (disk, second) = cut_life(alloc, disk, task, told)?;
+    let (_disk, third) = cut_life(alloc, disk, task, told)?;
+    Ok([first, second, third])
 }
 
 /// What the first of them says that ended so.
-fn said_by(lives: [Result<(), Halt>; 3]) -> Result<(), Halt> {
-    for life in &lives {
-        (*life)?;
+fn said_by(lives: &[Result<Stand, Halt>; 3]) -> Result<(), Halt> {
+    for life in lives {
+        let _opens = (*life)?;
     }
     Ok(())
 }
 
-/// Whether three lives tell all lines, and what they say.
+/// Whether no life was in want of memory, and they opened as the task says.
+fn open_so(lives: &[Result<Stand, Halt>; 3], task: &Task) -> bool {
+    for (life, wanted) in lives.iter().zip(&task.opens) {
+        if *life != Ok(*wanted) {
+            return false;
+        }
+    }
+    true
+}
+
+/// Whether three lives tell all lines, and what was in want of memory. Where nothing was, they open
+/// as the task says.
 fn are_told_in_three(alloc: Global, task: &Task) -> Result<(bool, Result<(), Halt>), Halt> {
-    let mut disk = blank(alloc, SECTORS)?;
+    let (disk, made) = blank_again(alloc)?;
     let mut told = LineList::new(alloc);
-    let lives = three_lives(alloc, &mut disk, task, &mut told);
-    Ok((are_all_told(&told, task.texts), said_by(lives)))
+    let lives = three_lives(alloc, disk, task, &mut told)?;
+    let said = made.and(said_by(&lives));
+    Ok((
+        are_all_told(&told, task.texts) && (said.is_err() || open_so(&lives, task)),
+        said,
+    ))
 }
 
 /// For the refusal of each allocation: the last life with memory gives all lines.

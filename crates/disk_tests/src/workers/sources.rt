@@ -1,0 +1,202 @@
+//! Sources that fail, and answers to what nobody has asked.
+
+ghost use Rattle.std.specs.Prelude.{◌≤◌, ⊤};
+ghost use Rattle.disk_layout.specs.rules.Places.{total_sectors};
+ghost use Rattle.sector_disk.specs.rules.Memory.{memory_medium};
+
+use crate::guests::{ECHO, SECTORS, THREE, blank, request};
+use crate::halt::Halt;
+use crate::workers::working::{Stand, create, stand_of};
+use record_replay::{AnswerList, LineList, Source, SourceFault};
+use sector_disk::{Disk, FaultDisk, MemDisk};
+use std::alloc::Global;
+use wasi_abi::{Answer, Kind};
+use wasm_syntax::Row;
+use worker::{SliceFault, WorkFault, Worker};
+
+/// Hands out the answers of a list, and then fails.
+#[derive(Drop)]
+struct FailingSource(AnswerList);
+
+impl Source for FailingSource {
+    ghost gives = { λ _ _ _ _. ⊤ };
+
+    fn answer(&mut self, kind: Kind) -> Result<Option<Answer>, SourceFault> {
+        match self.0.answer(kind) {
+            Ok(Some(answer)) => Ok(Some(answer)),
+            _ => Err(SourceFault),
+        }
+    }
+}
+
+/// What a source hands over in the end.
+enum Last {
+    Fault,
+    Realtime,
+    Monotonic,
+    Random,
+    Text(&'static [u8]),
+}
+
+/// A guest that asks for requests, those that it is given, and what it is given then. It has taken
+/// so many steps.
+struct Asked {
+    name: &'static str,
+    guest: &'static [u8],
+    requests: &'static [&'static [u8]],
+    last: Last,
+    steps: u64,
+}
+
+static ASKED: [Asked; 7] = [
+    Asked {
+        name: "a fault",
+        guest: ECHO,
+        requests: &[],
+        last: Last::Fault,
+        steps: 5,
+    },
+    Asked {
+        name: "a time",
+        guest: ECHO,
+        requests: &[],
+        last: Last::Realtime,
+        steps: 5,
+    },
+    Asked {
+        name: "a time that never falls",
+        guest: ECHO,
+        requests: &[],
+        last: Last::Monotonic,
+        steps: 5,
+    },
+    Asked {
+        name: "random bytes",
+        guest: ECHO,
+        requests: &[],
+        last: Last::Random,
+        steps: 5,
+    },
+    Asked {
+        name: "two lines",
+        guest: ECHO,
+        requests: &[],
+        last: Last::Text(b"two\nlines"),
+        steps: 5,
+    },
+    Asked {
+        name: "a longer text than there may be",
+        guest: ECHO,
+        requests: &[],
+        last: Last::Text(&[97; 4_097]),
+        steps: 5,
+    },
+    // a record is kept by then, which is on no disk yet
+    Asked {
+        name: "a fault behind a request",
+        guest: THREE,
+        requests: &[b"hello"],
+        last: Last::Fault,
+        steps: 10,
+    },
+];
+
+fn random(alloc: Global) -> Result<Answer, Halt> {
+    let bytes = Row::from_vec(Vec::from_slice(alloc, b"hello")?);
+    Ok(Answer::Random { bytes })
+}
+
+/// The last answer, if there is one.
+fn last_answer(alloc: Global, last: &Last) -> Result<Option<Answer>, Halt> {
+    match last {
+        Last::Fault => Ok(None),
+        Last::Realtime => Ok(Some(Answer::Realtime { nanoseconds: 1 })),
+        Last::Monotonic => Ok(Some(Answer::Monotonic { nanoseconds: 1 })),
+        Last::Random => {
+            let answer = random(alloc)?;
+            Ok(Some(answer))
+        }
+        Last::Text(text) => {
+            let answer = request(alloc, text)?;
+            Ok(Some(answer))
+        }
+    }
+}
+
+fn source_of(alloc: Global, asked: &Asked) -> Result<FailingSource, Halt> {
+    let mut answers = Vec::new(alloc);
+    for text in asked.requests {
+        answers.push(request(alloc, *text)?)?;
+    }
+    if let Some(answer) = last_answer(alloc, &asked.last)? {
+        answers.push(answer)?;
+    }
+    Ok(FailingSource(AnswerList::new(answers)))
+}
+
+const FAILED: Option<WorkFault> = Some(WorkFault::Work(SliceFault::Failed));
+
+/// What a slice says, and then each call.
+static SAID: [Option<WorkFault>; 4] = [
+    Some(WorkFault::Work(SliceFault::Source)),
+    FAILED,
+    FAILED,
+    FAILED,
+];
+
+/// What four calls say, one after another.
+fn say_four<D: Disk>(
+    worker: &mut Worker,
+    disk: &mut D,
+    source: &mut FailingSource,
+    told: &mut LineList,
+) -> [Option<WorkFault>; 4]
+    requires { total_sectors worker.old.store.geometry ≤ (D.medium disk.old).sectors }
+{
+    [
+        worker.slice(disk, 100, source, told).err(),
+        worker.slice(disk, 100, source, told).err(),
+        worker.checkpoint(disk).err(),
+        worker.slice(disk, 0, source, told).err(),
+    ]
+}
+
+/// Whether a slice fails by its source, each call behind it fails too, and the disk isn't called.
+fn fails_so(alloc: Global, worker: &mut Worker, disk: MemDisk, asked: &Asked) -> Result<bool, Halt>
+    requires { total_sectors worker.old.store.geometry ≤ (memory_medium disk).sectors }
+{
+    let mut source = source_of(alloc, asked)?;
+    let mut told = LineList::new(alloc);
+    let mut counting = FaultDisk::new(disk, None, None);
+    let said = say_four(worker, &mut counting, &mut source, &mut told);
+    Ok(said == SAID && told.lines().is_empty() && counting.calls() == (0, 0, 0))
+}
+
+/// Whether the worker stands where it has asked.
+fn has_asked(worker: &Worker, asked: &Asked) -> bool {
+    let wanted = Stand {
+        generation: 1,
+        steps: asked.steps,
+        answers: asked.requests.len() as u64,
+        lines: 0,
+        replayed: 0,
+    };
+    stand_of(worker) == wanted
+}
+
+fn is_failed_so(alloc: Global, asked: &Asked) -> Result<bool, Halt> {
+    let mut disk = blank(alloc, SECTORS)?;
+    let mut worker = create(alloc, &mut disk, asked.guest)?;
+    let fails = fails_so(alloc, &mut worker, disk, asked);
+    let has_asked = has_asked(&worker, asked);
+    drop(worker);
+    Ok(fails? && has_asked)
+}
+
+#[test]
+fn faults_of_sources_leave_the_disk(rt: HostRuntime) -> Result<(), Halt> {
+    for asked in &ASKED {
+        assert!(rt; is_failed_so(rt.alloc(), asked)?, "{}", asked.name);
+    }
+    Ok(())
+}
