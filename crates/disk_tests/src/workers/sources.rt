@@ -156,7 +156,7 @@ fn say_four<D: Disk>(
     [
         worker.slice(disk, 100, source, told).err(),
         worker.slice(disk, 100, source, told).err(),
-        worker.checkpoint(disk).err(),
+        worker.checkpoint(disk, told).err(),
         worker.slice(disk, 0, source, told).err(),
     ]
 }
