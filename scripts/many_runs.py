@@ -138,8 +138,10 @@ class Runs:
             yield found
 
     def all(self, tries):
-        """Makes all tries: each is a function of a place. Yields what they found, as it comes."""
-        before = signal.signal(signal.SIGALRM, self.tick)
+        """Makes all tries: each is a function of a place. Yields what they found, as it comes. A
+        signal that ends this process comes as a `KeyboardInterrupt`."""
+        handlers = {signal.SIGALRM: self.tick, signal.SIGTERM: signal.default_int_handler}
+        before = {it: signal.signal(it, handler) for it, handler in handlers.items()}
         signal.setitimer(signal.ITIMER_REAL, TICK, TICK)
         try:
             for place in self.places:
@@ -151,7 +153,16 @@ class Runs:
                     yield from self.begin(place, tries)
         finally:
             signal.setitimer(signal.ITIMER_REAL, 0)
-            signal.signal(signal.SIGALRM, before)
+            for it, handler in before.items():
+                signal.signal(it, handler)
+            self.give_up()
+
+    def give_up(self):
+        """Ends the commands that are left."""
+        for pid in self.by_pid:
+            os.kill(pid, signal.SIGKILL)
+            os.waitpid(pid, 0)
+        self.by_pid = {}
 
 
 def processor_seconds():
