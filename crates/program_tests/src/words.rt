@@ -71,7 +71,8 @@ fn tells_orders_mistakes_and_help_apart(rt: HostRuntime) -> Result<(), Fail> {
 fn is_check_of(order: &Order<'_>, wanted: &str) -> bool {
     match order {
         Order::Check { path } => *path == wanted,
-        Order::Create(_) | Order::Run(_) | Order::Show { .. } | Order::Story(_) => false,
+        Order::Create(_) | Order::Run(_) | Order::Show { .. } | Order::Story(_) | Order::Sweep(_) =>
+            false,
     }
 }
 
@@ -87,7 +88,11 @@ fn reads_check(rt: HostRuntime) -> Result<(), Fail> {
 fn is_show_of(order: &Order<'_>, wanted: &str) -> bool {
     match order {
         Order::Show { path } => *path == wanted,
-        Order::Check { .. } | Order::Create(_) | Order::Run(_) | Order::Story(_) => false,
+        Order::Check { .. }
+        | Order::Create(_)
+        | Order::Run(_)
+        | Order::Story(_)
+        | Order::Sweep(_) => false,
     }
 }
 
@@ -163,7 +168,11 @@ fn is_created_so(alloc: Global, row: &CreateRow) -> Result<bool, WordsFault> {
     let order = read_words(alloc, row.0)?;
     let is_so = match &order {
         Order::Create(order) => is_creation(order, row),
-        Order::Check { .. } | Order::Run(_) | Order::Show { .. } | Order::Story(_) => false,
+        Order::Check { .. }
+        | Order::Run(_)
+        | Order::Show { .. }
+        | Order::Story(_)
+        | Order::Sweep(_) => false,
     };
     drop(order);
     Ok(is_so)
@@ -238,7 +247,11 @@ fn is_run_so(alloc: Global, row: &RunRow) -> Result<bool, WordsFault> {
     let order = read_words(alloc, row.0)?;
     let is_so = match &order {
         Order::Run(order) => is_run(order, row),
-        Order::Check { .. } | Order::Create(_) | Order::Show { .. } | Order::Story(_) => false,
+        Order::Check { .. }
+        | Order::Create(_)
+        | Order::Show { .. }
+        | Order::Story(_)
+        | Order::Sweep(_) => false,
     };
     drop(order);
     Ok(is_so)
@@ -303,7 +316,11 @@ fn is_told_so(alloc: Global, row: &StoryRow) -> Result<bool, WordsFault> {
     let order = read_words(alloc, row.0)?;
     let is_so = match &order {
         Order::Story(order) => is_story(order, row),
-        Order::Check { .. } | Order::Create(_) | Order::Run(_) | Order::Show { .. } => false,
+        Order::Check { .. }
+        | Order::Create(_)
+        | Order::Run(_)
+        | Order::Show { .. }
+        | Order::Sweep(_) => false,
     };
     drop(order);
     Ok(is_so)
