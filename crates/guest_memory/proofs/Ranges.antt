@@ -1,7 +1,8 @@
 -- Ranges of a memory that are written.
-use Rattle.std.proofs.Common.{◌≡◌, ℕ, ◌+◌, ◌≤◌, List, ◌++◌, length, take, drop, arith}
+use Rattle.std.proofs.Common.{◌≡◌, ℕ, ◌+◌, ◌≤◌, List, ◌++◌, length, take, drop, arith, sym, ap}
+use Rattle.std.proofs.Common.{◌∙◌, replicate, append_assoc}
 use Rattle.std.proofs.Common.{length-append, length-take, length-drop}
-use Rattle.std.proofs.lemmas.List.{take_all}
+use Rattle.std.proofs.lemmas.List.{take_all, take_at, length-replicate, replicate-append-replicate}
 use Rattle.guest_memory.specs.rules.Bytes.{part, with_part}
 use Rattle.guest_memory.specs.rules.Memories.{LinearMemory, with_bytes, with_lent}
 
@@ -34,3 +35,14 @@ with_lent-with_bytes from bytes m h =
     let same : take (length m.bytes) (with_part m.bytes from bytes) ≡ with_part m.bytes from bytes =
     take_all (length m.bytes) (with_part m.bytes from bytes) (omega arith) in
     λ i. record { bytes = same i; limit = m.limit }
+
+-- a list that begins with so many of one number, once more of them stand behind
+pub filled_on : (xs ys post : List ℕ) (done part b : ℕ) → take done xs ≡ replicate done b
+    → ys ≡ replicate part b
+    → take (done + part) (take done xs ++ (ys ++ post)) ≡ replicate (done + part) b
+filled_on xs ys post done part b h k =
+    ap (λ z. take (done + part) (z ++ (ys ++ post))) h
+    ∙ ap (λ z. take (done + part) (replicate done b ++ (z ++ post))) k
+    ∙ ap (take (done + part)) (sym (append_assoc (replicate done b) (replicate part b) post)
+    ∙ ap (λ z. z ++ post) (replicate-append-replicate done part b))
+    ∙ take_at (replicate (done + part) b) post (done + part) (length-replicate (done + part) b)

@@ -12,6 +12,22 @@ use std::alloc::Global;
 use std::marker::Model;
 use thiserror::Error;
 
+/// How many bytes a fill writes at once. The C library writes some thousands by `rep stosb`, of
+/// which each byte is counted as an instruction.
+const FILLED_AT_ONCE: usize = 1_024;
+
+/// Writes a byte to each place.
+fn fill_in_parts(bytes: &mut [u8], byte: u8)
+    ensures { bytes.new ≡ replicate (length bytes.old) byte }
+{
+    let mut done = 0;
+    while done < bytes.len() {
+        let part = (bytes.len() - done).min(FILLED_AT_ONCE);
+        bytes[done..done + part].fill(byte);
+        done += part;
+    }
+}
+
 /// Why a memory can't be made.
 #[derive(Clone, Copy, Debug, PartialEq, Eq, Error)]
 pub enum MemoryFault {
@@ -186,7 +202,7 @@ impl Memory {
         if to + len > self.len() {
             return None;
         }
-        self.range_mut(to, len).fill(byte);
+        fill_in_parts(self.range_mut(to, len), byte);
         Some(())
     }
 
