@@ -98,11 +98,11 @@
 //! - **A recovery reads in the order in which its faults are answered.** Configuration and module
 //!   come first, then decoding, validation and linking. Then come the newest snapshot and its
 //!   process, and at last the records.
-//! - **A recovery's fault is that of the layer that has found it** (`RecoverFault`), so it says which
-//!   one wants memory. `RecoverFault::Worker` is left for what any call says: here a fault of the
-//!   disk, or a next generation that is too big.
-//! - **A checkpoint is handed the outlet**: a barrier, the release of each line that waits, a commit.
-//!   No line waits between two calls, so it releases none.
+//! - **A recovery's fault is that of the layer that has found it** (`RecoverFault`). So it says
+//!   which one wants memory. `RecoverFault::Worker` is left for what any call says: here a fault of
+//!   the disk, or a next generation that is too big.
+//! - **A checkpoint is handed the outlet**: a barrier, the release of each line that waits, and a
+//!   commit. No line waits between two calls, so it releases none.
 //! - **What a cut leaves has bounds** (`IsBounded`). Its generation is at most as much as has
 //!   happened, and the disk has all its sectors. Each call keeps them. So a recovery is refused for
 //!   the number of a generation only where so much has happened, and never for too few sectors.
