@@ -30,12 +30,14 @@ flat_more f xs i x within is =
 pub more_answers : (list : List Answer) (lives : List PlannedLife) (i : ℕ) (life : PlannedLife)
     (later : List LifeReport) (all : List Answer) → i < length lives → life ≡ get_or lives i life
     → list ++ answers_not_lost (drop i lives) later ≡ all
-    → (list ++ kept_in later life.answers) ++ answers_not_lost (drop (i + 1) lives) (drop 1 later) ≡ all
+    → (list ++ kept_in later life.answers) ++ answers_not_lost (drop (i + 1) lives) (drop 1 later)
+    ≡ all
 more_answers list lives i life later all within is so_far =
     let whole : drop i lives ≡ life ∷ drop (i + 1) lives =
     drop_more lives i life within
     ∙ ap (λ (x : PlannedLife). x ∷ drop (i + 1) lives) (sym is) in
-    append_assoc list (kept_in later life.answers) (answers_not_lost (drop (i + 1) lives) (drop 1 later))
+    append_assoc list (kept_in later life.answers)
+    (answers_not_lost (drop (i + 1) lives) (drop 1 later))
     ∙ ap (λ (ls : List PlannedLife). list ++ answers_not_lost ls later) (sym whole) ∙ so_far
 
 -- and of all lives

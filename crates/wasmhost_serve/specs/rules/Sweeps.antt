@@ -67,7 +67,8 @@ kept_in told answers = kept_between (slice_get told 0) (slice_get told 1) answer
 -- the answers of these lives, of which this was told
 abbrev pub answers_not_lost : List PlannedLife → List LifeReport → List Answer
 answers_not_lost [] told = []
-answers_not_lost (life ∷ lives) told = kept_in told life.answers ++ answers_not_lost lives (drop 1 told)
+answers_not_lost (life ∷ lives) told =
+    kept_in told life.answers ++ answers_not_lost lives (drop 1 told)
 
 -- how many answers the worker had taken before the first of these lives
 abbrev pub answers_at_first : List LifeReport → ℕ
@@ -142,7 +143,8 @@ pub record AreTextsOf (texts lines : List NumberedLine) : Type 0 where
 
 -- how many answers the worker has taken when the last of these lives has opened it
 abbrev pub answers_at_last : List LifeReport → Option ℕ
-answers_at_last reports = option_and_then (λ (report : LifeReport). answers_when_opened report.opened)
+answers_at_last reports =
+    option_and_then (λ (report : LifeReport). answers_when_opened report.opened)
     (slice_get reports (length reports - 1))
 
 -- ---- a sweep
