@@ -38,7 +38,7 @@
 //!
 //! The marks, and the places of fields in supers, heads and stamps, are known here alone, each as
 //! one constant, as `IMAGE_VERSION` and `LONGEST_PAYLOAD`. `journal`, `snapshot` and `worker_store`
-//! use it, and `record_replay` its `Record`. `worker_rules` cites the definitions. It stands on
+//! use it, and `record_replay` its `Record`. `restart_theorem` cites the definitions. It stands on
 //! `sector_disk` and `wasi_abi`. Reading back and `config_bytes_of` take memory. Whatever fails, a
 //! read leaves the disk unwritten.
 //!

@@ -25,7 +25,7 @@
 //! # Who may touch what
 //!
 //! Only this crate decides when lines are released and answers asked for, of a worker without a
-//! disk. `wasmhost_serve` runs one, and `worker` uses its faults and its definitions of
+//! disk. `wasmhost_commands` runs one, and `worker` uses its faults and its definitions of
 //! slices. It stands on `process`, `machine_loader` and `record_replay`. It takes no memory but
 //! what loading and the process take. After an error of `slice` the process has taken whole steps
 //! alone, and each slice answers `N5 Failed`.

@@ -1,8 +1,8 @@
 -- What going on without fuel does: it settles.
 use Rattle.std.proofs.Common.{◌≡◌, ℕ, List, subst, arith}
 use Rattle.wasm_syntax.specs.declared.types.FunctionType.{FunctionType}
-use Rattle.wasm_syntax_rules.specs.Configuration.{Program, Configuration}
-use Rattle.wasm_syntax_rules.specs.Steps.{IsSettled, Settles}
+use Rattle.wasm_semantics.specs.Configuration.{Program, Configuration}
+use Rattle.wasm_semantics.specs.Steps.{IsSettled, Settles}
 use Rattle.machine_frame.specs.rules.Walks.{Walks}
 use Rattle.machine_frame.proofs.Standing.Walking.{walks_settle}
 use Rattle.machine.specs.declared.turns.code.Executable.{Executable}

@@ -2,13 +2,13 @@
 use Rattle.std.proofs.Common.{◌≡◌, ℕ, ◌≤◌, ◌^◌, List, sym, ◌∙◌, subst}
 use Rattle.wasm_syntax.specs.declared.types.FunctionType.{FunctionType}
 use Rattle.wasm_syntax.specs.declared.module.Module.{Module}
-use Rattle.wasm_syntax_rules.specs.Validity.{AreFunctionTypes}
-use Rattle.wasm_syntax_rules.specs.Configuration.{Program, Store, Configuration}
-use Rattle.wasm_syntax_rules.specs.Instantiation.{IsProgram, calls_of, Begins}
-use Rattle.wasm_syntax_rules.specs.Steps.{Settles}
-use Rattle.wasm_syntax_rules.specs.Typed.{IsTypedMemory}
-use Rattle.wasm_syntax_rules.proofs.OneRun.{settles_once}
-use Rattle.wasm_syntax_rules.proofs.OneStore.{store_once}
+use Rattle.wasm_semantics.specs.Validity.{AreFunctionTypes}
+use Rattle.wasm_semantics.specs.Configuration.{Program, Store, Configuration}
+use Rattle.wasm_semantics.specs.Instantiation.{IsProgram, calls_of, Begins}
+use Rattle.wasm_semantics.specs.Steps.{Settles}
+use Rattle.wasm_semantics.specs.Typed.{IsTypedMemory}
+use Rattle.wasm_semantics.proofs.OneRun.{settles_once}
+use Rattle.wasm_semantics.proofs.OneStore.{store_once}
 use Rattle.machine.specs.declared.turns.state.State.{State}
 use Rattle.machine.specs.declared.turns.pause.Paused.{Paused}
 use Rattle.machine.specs.Turns.Codes.{IsStanding}

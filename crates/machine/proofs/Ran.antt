@@ -5,8 +5,8 @@ use Rattle.wasm_syntax.specs.declared.types.FunctionType.{FunctionType}
 use Rattle.guest_memory.specs.rules.Bytes.{IsByte}
 use Rattle.guest_memory.specs.rules.Memories.{IsWithinLimit}
 use Rattle.wasi_abi.specs.declared.call.Call.{Call}
-use Rattle.wasm_syntax_rules.specs.Configuration.{Program, Configuration}
-use Rattle.wasm_syntax_rules.specs.Steps.{stopped, IsSettled}
+use Rattle.wasm_semantics.specs.Configuration.{Program, Configuration}
+use Rattle.wasm_semantics.specs.Steps.{stopped, IsSettled}
 use Rattle.machine_frame.proofs.Standing.Walking.{walks_are_steps}
 use Rattle.machine.specs.declared.turns.code.Executable.{Executable}
 use Rattle.machine.specs.declared.turns.state.State.{State}

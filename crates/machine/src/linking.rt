@@ -1,7 +1,7 @@
 //! From a module to a machine.
 
 ghost use Rattle.std.specs.Prelude.{◌≤◌, IfOk, IfErr};
-ghost use Rattle.wasm_syntax_rules.specs.Linking.{IsLinkable};
+ghost use Rattle.wasm_semantics.specs.Linking.{IsLinkable};
 ghost use Rattle.machine.specs.rules.Offers.{offer};
 ghost use Rattle.machine.specs.rules.Refusals.{IsRefused, LinkDenies};
 ghost use Rattle.machine.specs.rules.Runs.{HasBegun};

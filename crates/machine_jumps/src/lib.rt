@@ -19,7 +19,7 @@
 //! In `specs/`: `Table`, `entry`, `AreJumpsOf`, `IsTable` (`Tables.antt`); `JumpsTo`, `IsJump`,
 //! `IsExit` (`Jumps.antt`); `IsTableOf`, `GivesOnes` (`Contexts.antt`). `Moves.antt` states the
 //! laws. Nobody has to believe `Making.antt`: that its table is right is proved. Positions and
-//! shapes are those of `wasm_syntax_rules` (`body_shape`).
+//! shapes are those of `wasm_semantics` (`body_shape`).
 //!
 //! # Who may touch what
 //!

@@ -19,13 +19,13 @@
 //!
 //! In `specs/rules/Acceptance.antt`: `Accepts`, `IsRead`, `HasNoAcceptedModule`,
 //! `HasNoValidModule`, `IsTold`, `IsToldOfReading`, `FrontDenies`, `is_want`, `place_in`,
-//! `passed_in`. They lead to `IsAccepted` of `wasm_syntax_rules`, and to `HasBegun` and `IsRefused`
+//! `passed_in`. They lead to `IsAccepted` of `wasm_semantics`, and to `HasBegun` and `IsRefused`
 //! of `machine`.
 //!
 //! # Who may touch what
 //!
 //! The crate holds nothing of its own. It is the one place where the three steps are joined.
-//! `ephemeral_worker` uses `read`, and `wasmhost_serve` uses `accept`. It stands on `wasm_decode`,
+//! `ephemeral_worker` uses `read`, and `wasmhost_commands` uses `accept`. It stands on `wasm_decode`,
 //! `wasm_validate` and `machine`. Each step takes memory, and has its own fault for want of it.
 //! After an error nothing is left of the module.
 //!

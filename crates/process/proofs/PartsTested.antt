@@ -5,7 +5,7 @@ use Rattle.std.proofs.lemmas.Bool.{both_ways}
 use mathlib.Core.Bool.{not}
 use Rattle.std.specs.Option.{option_map}
 use Rattle.std.proofs.lemmas.List.{length-replicate}
-use Rattle.wasm_syntax_rules.specs.Steps.{IsEnded}
+use Rattle.wasm_semantics.specs.Steps.{IsEnded}
 use Rattle.wasi_calls_rules.specs.Hosts.{Line}
 use Rattle.wasi_calls.specs.rules.Held.{HeldHost, ShowsHost, behind_lines}
 use Rattle.machine.specs.rules.Values.{MachineValue}

@@ -1,7 +1,7 @@
 //! A call of the guest.
 
 ghost use Rattle.std.specs.Prelude.{true, false, ◌≡◌, ◌↔◌, option_copied, IsTrue};
-ghost use Rattle.wasm_syntax_rules.specs.Configuration.{Program, Configuration};
+ghost use Rattle.wasm_semantics.specs.Configuration.{Program, Configuration};
 ghost use Rattle.wasi_abi.specs.rules.Calls.{parameters_of};
 ghost use Rattle.wasi_calls_rules.specs.Rows.{IsSync};
 ghost use Rattle.wasi_calls_rules.specs.Hosts.{Host as TheHost};

@@ -1,8 +1,8 @@
 //! A process, and what is known of it.
 
 ghost use Rattle.std.specs.Prelude.{◌≡◌, ◌+◌, ◌<◌, ◌≤◌, ◌^◌, IfOk, IfErr, length, option_map};
-ghost use Rattle.wasm_syntax_rules.specs.Validity.{IsValid};
-ghost use Rattle.wasm_syntax_rules.specs.Linking.{IsLinkable};
+ghost use Rattle.wasm_semantics.specs.Validity.{IsValid};
+ghost use Rattle.wasm_semantics.specs.Linking.{IsLinkable};
 ghost use Rattle.machine.specs.rules.Offers.{offer};
 ghost use Rattle.machine.specs.rules.Refusals.{IsRefused, LinkDenies};
 

@@ -7,12 +7,12 @@ use Rattle.wasm_syntax.specs.declared.instruction.Instruction.{Instruction}
 use Rattle.wasm_syntax.specs.declared.instruction.Instruction.TheVariants as instr
 use Rattle.wasm_syntax.specs.rules.Sequence.{Sequence, Stop, Plain}
 use Rattle.wasm_syntax.specs.laws.Examples.{echo, no_type, transfer_type}
-use Rattle.wasm_syntax_rules.specs.Configuration.{Host, Own, LabelOf, FrameOf, Thread}
-use Rattle.wasm_syntax_rules.specs.Configuration.{Configuration, Goes, Main}
-use Rattle.wasm_syntax_rules.specs.laws.Examples.{v}
-use Rattle.wasm_syntax_rules.specs.Instantiation.{filled_memory, empty_memory}
-use Rattle.wasm_syntax_rules.specs.Steps.{rule, loop_label, IsSettled, here, on}
-use Rattle.wasm_syntax_rules.specs.Validity.{memories_of}
+use Rattle.wasm_semantics.specs.Configuration.{Host, Own, LabelOf, FrameOf, Thread}
+use Rattle.wasm_semantics.specs.Configuration.{Configuration, Goes, Main}
+use Rattle.wasm_semantics.specs.laws.Examples.{v}
+use Rattle.wasm_semantics.specs.Instantiation.{filled_memory, empty_memory}
+use Rattle.wasm_semantics.specs.Steps.{rule, loop_label, IsSettled, here, on}
+use Rattle.wasm_semantics.specs.Validity.{memories_of}
 use Rattle.wasi_abi.specs.declared.answer.Kind.TheVariants as kind
 use Rattle.wasi_abi.specs.declared.answer.Answer.{Answer}
 use Rattle.wasi_abi.specs.declared.answer.Answer.TheVariants as answer

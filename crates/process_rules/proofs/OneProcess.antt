@@ -1,6 +1,6 @@
 -- The same answers lead to the same process in the same number of steps.
 use Rattle.std.proofs.Common.{◌≡◌, Option, Some, None, refl, sym, ap, ◌∙◌, subst}
-use Rattle.wasm_syntax_rules.proofs.OneRun.{settles_once}
+use Rattle.wasm_semantics.proofs.OneRun.{settles_once}
 use Rattle.wasi_abi.specs.declared.answer.Answer.{Answer}
 use Rattle.process_rules.specs.Processes.{ProcessState, Guest, closed}
 use Rattle.process_rules.specs.Runs.{Next, On, Over, Wants, Nowhere, next_of, stepped, LeadsTo}

@@ -4,9 +4,9 @@ use Rattle.std.specs.Prelude.{◌≡◌, ℕ, ◌+◌, ◌≤◌, List, length, 
 use Rattle.std.specs.Prelude.{reverse, map}
 use Rattle.wasm_syntax.specs.declared.value.Value.{Value}
 use Rattle.wasm_syntax.specs.declared.module.Module.{Module}
-use Rattle.wasm_syntax_rules.specs.Types.{number_in}
-use Rattle.wasm_syntax_rules.specs.Configuration.{Thread, Asks}
-use Rattle.wasm_syntax_rules.specs.Steps.{rule}
+use Rattle.wasm_semantics.specs.Types.{number_in}
+use Rattle.wasm_semantics.specs.Configuration.{Thread, Asks}
+use Rattle.wasm_semantics.specs.Steps.{rule}
 use Rattle.wasi_abi.specs.declared.call.Call.{Call}
 use Rattle.wasi_abi.specs.rules.Configs.{Settings}
 use Rattle.wasi_calls_rules.specs.Hosts.{Line}

@@ -35,8 +35,8 @@
 //! # Who may touch what
 //!
 //! There is no code here but the empty functions of `laws`. Nothing here knows positions, slots,
-//! fuel, generations or sectors. `process`, `ephemeral_worker`, `wasmhost_serve`, `state_image` and
-//! `worker_rules` cite the definitions. They stand on those of `wasm_syntax_rules` and
+//! fuel, generations or sectors. `process`, `ephemeral_worker`, `wasmhost_commands`, `state_image` and
+//! `restart_theorem` cite the definitions. They stand on those of `wasm_semantics` and
 //! `wasi_calls_rules`. The crate takes no memory, and has no errors.
 //!
 //! # Choices

@@ -5,7 +5,7 @@ use hex::decode;
 use std::alloc::Global;
 use std::process::Abort;
 use std::test::Fail;
-use wasmhost_serve::{Printer, check_bytes};
+use wasmhost_commands::{Printer, check_bytes};
 
 pub const HEADER: &str = "0061736d01000000";
 

@@ -6,7 +6,7 @@ use crate::lines::Flushed;
 use sector_disk::MemDisk;
 use std::alloc::Global;
 use std::test::Fail;
-use wasmhost_serve::{Prepared, Printer, Sizes, create_on, prepare, report_unprepared};
+use wasmhost_commands::{Prepared, Printer, Sizes, create_on, prepare, report_unprepared};
 
 /// Texts of a module, and pages, units of files and sectors of the journal of its worker.
 type Asked = (&'static [&'static str], [u64; 3]);

@@ -6,7 +6,7 @@ use std::io::{self, BufRead, ErrorKind, Read, Write};
 use std::test::Fail;
 use std::time::{Clock, Duration};
 use wasi_abi::{Answer, Kind};
-use wasmhost_serve::{
+use wasmhost_commands::{
     BufferedLines, LineFault, LineOutlet, Outside, Request, RequestSource, read_request, seeded,
 };
 

@@ -15,7 +15,7 @@ use std::alloc::Global;
 use std::io::Write;
 use std::num::NonZeroU64;
 use std::test::Fail;
-use wasmhost_serve::{
+use wasmhost_commands::{
     BufferedLines, LineOutlet, Pace, Prepared, Printer, RequestSource, Sizes, Unprepared,
     create_on, prepare, serve,
 };

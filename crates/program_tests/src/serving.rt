@@ -9,7 +9,7 @@ use std::alloc::Global;
 use std::io::Write;
 use std::num::NonZeroU64;
 use std::test::Fail;
-use wasmhost_serve::{BufferedLines, LineOutlet, Pace, Printer, RequestSource, serve};
+use wasmhost_commands::{BufferedLines, LineOutlet, Pace, Printer, RequestSource, serve};
 
 /// Steps of a slice, and slices between two checkpoints.
 const FUEL: u64 = 100;

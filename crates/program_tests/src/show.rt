@@ -10,7 +10,7 @@ use record_replay::{AnswerList, LineList};
 use sector_disk::{Disk, FaultDisk, MemDisk, Place};
 use std::alloc::Global;
 use std::test::Fail;
-use wasmhost_serve::{Printer, Worker, survey};
+use wasmhost_commands::{Printer, Worker, survey};
 
 /// Sectors of the disk of a short module, and how many writes it has room for between two syncs.
 pub(crate) const SECTORS: u64 = 4_676;

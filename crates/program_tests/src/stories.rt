@@ -5,7 +5,7 @@ use crate::check::bytes_of;
 use crate::run::{HELLO_BYTES, Refused, refused_by};
 use std::alloc::Global;
 use std::test::Fail;
-use wasmhost_serve::{Printer, ScriptFault, Sizes, read_script, tell};
+use wasmhost_commands::{Printer, ScriptFault, Sizes, read_script, tell};
 
 /// Texts of a module, and pages, units of files and sectors of the journal of its worker.
 type Asked = (&'static [&'static str], [u64; 3]);

@@ -2,7 +2,7 @@
 
 use std::alloc::Global;
 use std::test::Fail;
-use wasmhost_serve::{CreateOrder, Order, RunOrder, StoryOrder, WordsFault, read_words};
+use wasmhost_commands::{CreateOrder, Order, RunOrder, StoryOrder, WordsFault, read_words};
 
 /// Words, and the status of what is read: 0 for an order.
 type StatusRow = (&'static [&'static str], u8);

@@ -14,10 +14,10 @@ use borrow.Author.Count.{below_more}
 use Rattle.wasm_syntax.specs.declared.limits.TheConstants.{GLOBALS}
 use Rattle.wasm_syntax.specs.declared.module.Module.{Module}
 use Rattle.wasm_syntax.specs.declared.module.ExportItem.TheVariants as export
-use Rattle.wasm_syntax_rules.specs.Validity.{IsValid}
-use Rattle.wasm_syntax_rules.specs.Linking.{HasEntry}
-use Rattle.wasm_syntax_rules.specs.Typed.{IsTypedMemory}
-use Rattle.wasm_syntax_rules.proofs.Soundness.Beginning.{programs_typed}
+use Rattle.wasm_semantics.specs.Validity.{IsValid}
+use Rattle.wasm_semantics.specs.Linking.{HasEntry}
+use Rattle.wasm_semantics.specs.Typed.{IsTypedMemory}
+use Rattle.wasm_semantics.proofs.Soundness.Beginning.{programs_typed}
 use Rattle.machine_slots.specs.declared.slots.TheConstants.{SLOTS}
 use Rattle.machine_slots.specs.rules.Places.{ShownFrame, MachineState}
 use Rattle.machine_frame.specs.rules.Fitting.{slots_held}

@@ -5,7 +5,7 @@ use Rattle.std.specs.Prelude.{codes}
 use Rattle.std.proofs.lemmas.List.{append_cancel_left}
 use Rattle.wasm_syntax.specs.declared.module.Module.{Module}
 use Rattle.wasm_syntax.specs.declared.module.ExportItem.TheVariants as export
-use Rattle.wasm_syntax_rules.specs.Validity.{module_context}
+use Rattle.wasm_semantics.specs.Validity.{module_context}
 use Rattle.wasi_abi.specs.rules.Configs.{Settings}
 use Rattle.file_tree.specs.rules.Files.{Files, IsFiles}
 use Rattle.wasi_calls_rules.specs.Hosts.{Host, Descriptor}

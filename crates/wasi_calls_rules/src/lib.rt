@@ -39,7 +39,7 @@
 //! # Who may touch what
 //!
 //! There is no code here but limits and the empty functions of `laws`. `wasi_calls` has the code
-//! of all 31 calls; `process_rules`, `record_replay`, `state_image` and `worker_rules`
+//! of all 31 calls; `process_rules`, `record_replay`, `state_image` and `restart_theorem`
 //! cite the definitions. They stand on those of `file_tree`, `wasi_abi` and `guest_memory`. The
 //! crate takes no memory, and has no errors.
 //!

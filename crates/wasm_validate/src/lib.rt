@@ -26,10 +26,10 @@
 //!
 //! # Definitions to read
 //!
-//! `IsValid` of `wasm_syntax_rules` (`specs/Validity.antt`) is all that `validate` speaks of, with
+//! `IsValid` of `wasm_semantics` (`specs/Validity.antt`) is all that `validate` speaks of, with
 //! `Denies` (`specs/rules/Answers.antt`) and `HasFault` (`specs/rules/Faults.antt`): what a module
 //! lacks where a fault is told. `operand_types` speaks of `types_at`
-//! (`specs/rules/Operands.antt`), over `body_shape` of `wasm_syntax_rules`. Other crates use
+//! (`specs/rules/Operands.antt`), over `body_shape` of `wasm_semantics`. Other crates use
 //! `IsContextOf` (`specs/Parts/Contexts.antt`) and `HasBody` (`specs/Body/Bodies.antt`).
 //! `specs/laws/Checking.antt` is a second form of typing. Nobody has to believe it.
 //!
@@ -37,7 +37,7 @@
 //!
 //! Only this crate makes a `ValidModule`. `machine_loader` calls `validate`. `machine`, `process`
 //! and `state_image` use the type. `machine`, `machine_jumps` and `machine_frame` use the context,
-//! and `machine_jumps` the `Stack` of `body`. It stands on `wasm_syntax` and `wasm_syntax_rules`.
+//! and `machine_jumps` the `Stack` of `body`. It stands on `wasm_syntax` and `wasm_semantics`.
 //! Memory is taken in proportion to functions, globals, exports and the longest body. Want of it is
 //! `V5 Memory`. After any fault the module is gone.
 //!

@@ -1,4 +1,4 @@
-//! The program `wasmhost`: its words, files and streams around the commands of `wasmhost_serve`
+//! The program `wasmhost`: its words, files and streams around the commands of `wasmhost_commands`
 //! (this project's own).
 //!
 //! # Promises
@@ -6,7 +6,7 @@
 //! - Each function that answers an exit status answers 7 at most. No clause says more of the
 //!   program.
 //!
-//! What the commands promise of bytes, disks, readers and writers is said in `wasmhost_serve`. This
+//! What the commands promise of bytes, disks, readers and writers is said in `wasmhost_commands`. This
 //! crate brings these to them:
 //!
 //! - It reads the command line, and opens the files that it names.
@@ -31,7 +31,7 @@
 //! # Who may touch what
 //!
 //! Of the crates here only this one has the runtime's handle: the words of the command line,
-//! files, standard streams, the clock and the allocator. All else is lent to `wasmhost_serve`. A
+//! files, standard streams, the clock and the allocator. All else is lent to `wasmhost_commands`. A
 //! disk in a file is `sector_disk`'s. It takes memory for the words, the file, the reader's buffer
 //! and a line.
 #![tactic(auto)]
@@ -45,7 +45,7 @@ use std::io::{self, BufReader, ErrorKind, Input, IsTerminal, Read, Write};
 use std::process::ExitCode;
 use std::rt::{Env, Files};
 use std::time::Clock;
-use wasmhost_serve::{
+use wasmhost_commands::{
     BufferedLines, CreateOrder, LineOutlet, NewDisk, Obstacle, Order, Outside, Pace, Printer,
     RequestSource, RunOrder, Sizes, StoryOrder, SweepChoice, SweepOrder, check_bytes, create_file,
     fronts_of, open_disk, prepare, read_module, read_script, read_seed, read_sweep, read_words,

@@ -24,12 +24,12 @@ use Rattle.disk_layout.specs.rules.Journal.{Record}
 use Rattle.journal.specs.rules.Steps.{barrier_calls}
 use Rattle.snapshot.specs.rules.Calls.{with_head}
 use Rattle.snapshot.proofs.StoreCalls.{some_none}
-use Rattle.worker_rules.specs.Lives.{Act, Checkpoint, Reply, Done, Fails, Cause, OfDisk}
-use Rattle.worker_rules.specs.Lives.{OfBounds, Ended}
-use Rattle.worker_rules.specs.Courses.{Stage, Open, MayFail}
-use Rattle.worker_rules.specs.Promises.{Promise, after}
-use Rattle.worker_rules.specs.Holds.{StaysWithin}
-use Rattle.worker_rules.specs.Exchanges.{none as no_exchange}
+use Rattle.restart_theorem.specs.Lives.{Act, Checkpoint, Reply, Done, Fails, Cause, OfDisk}
+use Rattle.restart_theorem.specs.Lives.{OfBounds, Ended}
+use Rattle.restart_theorem.specs.Courses.{Stage, Open, MayFail}
+use Rattle.restart_theorem.specs.Promises.{Promise, after}
+use Rattle.restart_theorem.specs.Holds.{StaysWithin}
+use Rattle.restart_theorem.specs.Exchanges.{none as no_exchange}
 use Rattle.worker_store.specs.laws.Savepoints.{Savepoint}
 use Rattle.worker_store.specs.laws.CallEnds.{IsSavedAs, HasBound}
 use Rattle.worker_store.specs.laws.Carried.{IsCarried}

@@ -8,7 +8,7 @@ use Rattle.std.specs.Prelude.{true, Result, Ok, Err, IfOk, IfErr}
 use Rattle.wasm_syntax.specs.declared.module.Module.{Module}
 use Rattle.wasm_syntax.proofs.Grammar.Exact.{some_is}
 use Rattle.wasm_syntax.proofs.Grammar.Whole.{module_complete}
-use Rattle.wasm_syntax_rules.specs.Acceptance.{IsAccepted}
+use Rattle.wasm_semantics.specs.Acceptance.{IsAccepted}
 use Rattle.wasi_abi.specs.rules.Configs.{Settings, AreSettingsWithinLimits}
 use Rattle.wasi_calls_rules.specs.laws.Laws.{IsOfBytes}
 use Rattle.machine.specs.rules.Offers.{offer}
@@ -30,13 +30,13 @@ use Rattle.disk_layout.specs.declared.fault.LayoutFault.TheVariants as layout
 use Rattle.disk_layout.specs.declared.geometry.Geometry.{Geometry}
 use Rattle.disk_layout.specs.rules.Places.{geometry_of, total_sectors}
 use Rattle.disk_layout.specs.rules.Sectors.{HasWorker}
-use Rattle.worker_rules.specs.Stands.{IsBlank}
-use Rattle.worker_rules.specs.Between.{FindsNoWorker}
-use Rattle.worker_rules.specs.Lives.{Inputs, Opened}
-use Rattle.worker_rules.specs.Courses.{at_first}
-use Rattle.worker_rules.specs.Promises.{Promise, after}
-use Rattle.worker_rules.specs.Holds.{IsNothingYet, ImageHolds, IsBounded, StaysWithin}
-use Rattle.worker_rules.proofs.Disks.{blank_is_within, stands_within}
+use Rattle.restart_theorem.specs.Stands.{IsBlank}
+use Rattle.restart_theorem.specs.Between.{FindsNoWorker}
+use Rattle.restart_theorem.specs.Lives.{Inputs, Opened}
+use Rattle.restart_theorem.specs.Courses.{at_first}
+use Rattle.restart_theorem.specs.Promises.{Promise, after}
+use Rattle.restart_theorem.specs.Holds.{IsNothingYet, ImageHolds, IsBounded, StaysWithin}
+use Rattle.restart_theorem.proofs.Disks.{blank_is_within, stands_within}
 use Rattle.worker_store.specs.laws.Savepoints.{Savepoint, places}
 use Rattle.worker_store.specs.laws.Commits.{BeginsAtPoint}
 use Rattle.worker_store.specs.laws.Carried.{IsHeldAt}

@@ -14,10 +14,10 @@ use Rattle.sector_disk.specs.rules.Medium.{Medium, IsAllSynced}
 use Rattle.sector_disk.specs.rules.Memory.{memory_medium, memory_stays, MemoryState}
 use Rattle.sector_disk.specs.rules.Memory.{memory_state_of, after_cut}
 use Rattle.sector_disk.specs.rules.Trouble.{place_numbers, has_begun, call_number}
-use Rattle.worker_rules.specs.Lives.{Act, Cause, OfDisk, End, Inputs}
-use Rattle.worker_rules.specs.Lives.End.{Finished as finished, Stopped as stopped, Failed as failed}
-use Rattle.worker_rules.specs.Courses.{HasDiskFault, HasStopped, HasNotStopped}
-use Rattle.worker_rules.specs.Between.{NextFinds, IsFoundAfterCut}
+use Rattle.restart_theorem.specs.Lives.{Act, Cause, OfDisk, End, Inputs}
+use Rattle.restart_theorem.specs.Lives.End.{Finished as finished, Stopped as stopped, Failed as failed}
+use Rattle.restart_theorem.specs.Courses.{HasDiskFault, HasStopped, HasNotStopped}
+use Rattle.restart_theorem.specs.Between.{NextFinds, IsFoundAfterCut}
 use Rattle.worker.specs.declared.recover_fault.RecoverFault.{RecoverFault}
 use Rattle.worker.specs.laws.OneLife.{EndsBy, IsCauseOf, IsLater, left_undone}
 use Rattle.worker.specs.declared.story.report.LifeEnd.{LifeEnd}

@@ -13,8 +13,8 @@ use Rattle.disk_layout.specs.declared.geometry.Geometry.{Geometry}
 use Rattle.disk_layout.specs.declared.reading.contents.Contents.{Contents}
 use Rattle.disk_layout.specs.rules.Journal.{Record}
 use Rattle.disk_layout.specs.rules.Stored.{OnlyReads}
-use Rattle.worker_rules.specs.Stands.{IsNumbered}
-use Rattle.worker_rules.proofs.NumbersKept.{records_keep_numbers}
+use Rattle.restart_theorem.specs.Stands.{IsNumbered}
+use Rattle.restart_theorem.proofs.NumbersKept.{records_keep_numbers}
 use Rattle.worker_store.specs.laws.Savepoints.{Savepoint, places, StandsAtPoint}
 use Rattle.worker_store.specs.declared.read_fault.ReadFault.{ReadFault}
 use Rattle.worker_store.specs.declared.read_fault.ReadFault.TheVariants as read

@@ -7,7 +7,7 @@ use Rattle.std.specs.Prelude.{Result, Ok, Err, Option, None, map, replicate, IfO
 use Rattle.std.proofs.lemmas.List.{length-replicate, take_all, take_more}
 use Rattle.std.proofs.Math.Nat.{le_refl}
 use Rattle.wasm_syntax.specs.declared.module.Module.{Module}
-use Rattle.wasm_syntax_rules.specs.Acceptance.{IsAccepted}
+use Rattle.wasm_semantics.specs.Acceptance.{IsAccepted}
 use Rattle.wasi_abi.specs.declared.answer.Answer.{Answer}
 use Rattle.wasi_abi.specs.rules.Configs.{Settings}
 use Rattle.machine.specs.rules.Offers.{offer}
@@ -25,14 +25,14 @@ use Rattle.disk_layout.specs.rules.Unsynced.{most_unsynced}
 use Rattle.disk_layout.specs.rules.Sectors.{IsMarked}
 use Rattle.record_replay.specs.declared.line_list.NumberedLine.{NumberedLine}
 use Rattle.record_replay.specs.rules.Calls.{Exchange, Exchanges}
-use Rattle.worker_rules.specs.Stands.{IsBlank}
-use Rattle.worker_rules.specs.Lives.{Inputs, Life, Beginning, Release}
-use Rattle.worker_rules.specs.Promises.{Promise, nothing_yet, promised_by, IsLived, GoOn}
-use Rattle.worker_rules.specs.Holds.{KeepsPromise, KeepsBounds}
-use Rattle.worker_rules.specs.Between.{IsLivedOn}
-use Rattle.worker_rules.proofs.Disks.{blank_is_within}
-use Rattle.worker_rules.proofs.NextLives.{found_is_as_long, next_life_finds_it}
-use Rattle.worker_rules.proofs.NextLives.{next_life_is_within}
+use Rattle.restart_theorem.specs.Stands.{IsBlank}
+use Rattle.restart_theorem.specs.Lives.{Inputs, Life, Beginning, Release}
+use Rattle.restart_theorem.specs.Promises.{Promise, nothing_yet, promised_by, IsLived, GoOn}
+use Rattle.restart_theorem.specs.Holds.{KeepsPromise, KeepsBounds}
+use Rattle.restart_theorem.specs.Between.{IsLivedOn}
+use Rattle.restart_theorem.proofs.Disks.{blank_is_within}
+use Rattle.restart_theorem.proofs.NextLives.{found_is_as_long, next_life_finds_it}
+use Rattle.restart_theorem.proofs.NextLives.{next_life_is_within}
 use Rattle.worker.specs.declared.recover_fault.RecoverFault.{RecoverFault}
 use Rattle.worker.specs.laws.OneLife.{CameTrue, IsLifeOver, IsLifeOf, IsLater, opened_in}
 use Rattle.worker.specs.laws.OneLife.{shown_first, CallsMakeLives, released_in}

@@ -26,7 +26,7 @@ use Rattle.state_image.specs.laws.Laws.{ReachedIsWellTyped, RestoredShowsReached
 use Rattle.state_image.specs.rules.Image.{Saved, image}
 use Rattle.state_image.specs.rules.Restored.{IsRestored}
 use Rattle.state_image.specs.rules.WellTyped.{IsWellTyped}
-use Rattle.worker_rules.specs.Stands.{IsNumbered}
+use Rattle.restart_theorem.specs.Stands.{IsNumbered}
 use Rattle.worker_store.specs.laws.Savepoints.{Savepoint}
 use Rattle.worker.specs.declared.recover_fault.RecoverFault.{RecoverFault}
 use Rattle.worker.specs.declared.recover_fault.RecoverFault.TheVariants as recover

@@ -12,7 +12,7 @@ use Rattle.sector_disk.specs.rules.Image.{Image}
 use Rattle.sector_disk.specs.rules.Medium.{Stays}
 use Rattle.sector_disk.specs.rules.Memory.{memory_medium, memory_stays}
 use Rattle.disk_layout.specs.rules.Places.{geometry_of, total_sectors}
-use Rattle.worker_rules.specs.Stands.{StandsFor}
+use Rattle.restart_theorem.specs.Stands.{StandsFor}
 use Rattle.record_replay.specs.declared.refusing.RefusingOutlet.{RefusingOutlet}
 use Rattle.record_replay.specs.rules.Lists.{inner_outlet, until_fault}
 use Rattle.worker.specs.declared.story.LivedOn.{LivedOn}

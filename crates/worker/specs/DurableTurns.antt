@@ -24,10 +24,10 @@ use Rattle.state_image.specs.rules.Saving.{saved_of}
 use Rattle.journal.specs.rules.State.{room_of}
 use Rattle.record_replay.specs.rules.Calls.{Giving, Taking, Begun, Exchange, Asks, Tells}
 use Rattle.record_replay.specs.rules.Calls.{Releases, Exchanges}
-use Rattle.worker_rules.specs.Lives.{Slice, Reply, Fails, Waits, Cause, SourceSaid, Ended}
-use Rattle.worker_rules.specs.Courses.{Stage, Open, phase_ended, next_stage}
-use Rattle.worker_rules.specs.Promises.{Promise, after, IsEnding}
-use Rattle.worker_rules.specs.Holds.{KeepsPromise, StaysWithin}
+use Rattle.restart_theorem.specs.Lives.{Slice, Reply, Fails, Waits, Cause, SourceSaid, Ended}
+use Rattle.restart_theorem.specs.Courses.{Stage, Open, phase_ended, next_stage}
+use Rattle.restart_theorem.specs.Promises.{Promise, after, IsEnding}
+use Rattle.restart_theorem.specs.Holds.{KeepsPromise, StaysWithin}
 use Rattle.worker_store.specs.laws.Underway.{IsUnderWay}
 use Rattle.worker_store.specs.laws.Pieces.{IsForetold, AreDone}
 use Rattle.worker_store.specs.laws.Turns.{GoesOnFrom}

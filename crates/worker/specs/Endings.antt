@@ -5,8 +5,8 @@ use Rattle.sector_disk.specs.declared.memory.MemDisk.{MemDisk}
 use Rattle.sector_disk.specs.rules.FaultDisk.{call_counts_of, disk_below}
 use Rattle.sector_disk.specs.rules.Memory.{memory_medium}
 use Rattle.sector_disk.specs.rules.Trouble.{call_number}
-use Rattle.worker_rules.specs.Between.{IsFoundAfterCut}
-use Rattle.worker_rules.specs.Courses.{HasStopped}
+use Rattle.restart_theorem.specs.Between.{IsFoundAfterCut}
+use Rattle.restart_theorem.specs.Courses.{HasStopped}
 use Rattle.worker.specs.declared.recover_fault.RecoverFault.{RecoverFault}
 use Rattle.worker.specs.declared.story.hearing.HeardLines.{HeardLines}
 use Rattle.worker.specs.declared.story.life.PlannedLife.{PlannedLife}

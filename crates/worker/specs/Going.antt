@@ -1,7 +1,7 @@
 -- Lives that have gone on, and the disk that the last of them left.
 use Rattle.std.specs.Prelude.{◌≡◌, ℕ, ◌≤◌, List, [], ◌∷◌, length, map, ◌+◌, ◌*◌}
 use Rattle.wasm_syntax.specs.declared.module.Module.{Module}
-use Rattle.wasm_syntax_rules.specs.Acceptance.{IsAccepted}
+use Rattle.wasm_semantics.specs.Acceptance.{IsAccepted}
 use Rattle.wasi_abi.specs.rules.Configs.{Settings}
 use Rattle.machine.specs.rules.Offers.{offer}
 use Rattle.sector_disk.specs.declared.memory.MemDisk.{MemDisk}
@@ -9,9 +9,9 @@ use Rattle.sector_disk.specs.rules.Medium.{Medium}
 use Rattle.sector_disk.specs.rules.Memory.{memory_medium}
 use Rattle.disk_layout.specs.rules.Places.{geometry_of, total_sectors}
 use Rattle.disk_layout.specs.rules.Unsynced.{most_unsynced}
-use Rattle.worker_rules.specs.Lives.{Life}
-use Rattle.worker_rules.specs.Promises.{Promise, nothing_yet, promised_by, IsLived, GoOn}
-use Rattle.worker_rules.specs.Holds.{KeepsPromise, KeepsBounds}
+use Rattle.restart_theorem.specs.Lives.{Life}
+use Rattle.restart_theorem.specs.Promises.{Promise, nothing_yet, promised_by, IsLived, GoOn}
+use Rattle.restart_theorem.specs.Holds.{KeepsPromise, KeepsBounds}
 use Rattle.worker.specs.declared.story.life.PlannedLife.{PlannedLife}
 use Rattle.worker.specs.declared.story.report.LifeReport.{LifeReport}
 use Rattle.worker.specs.rules.CallCounts.{most_calls}

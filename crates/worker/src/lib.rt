@@ -79,12 +79,12 @@
 //! (`WorkFaults.antt`); `fault_of_read`, `wants_memory`, `LayerWantsMemory`, `IsOfItsLayer`
 //! (`RecoverFaults.antt`);
 //! `most_calls`, `CallsForEvents` (`CallCounts.antt`); `inputs_of` (`Planned.antt`), `TellsLives`
-//! (`StoryDisks.antt`). They speak in the words of `worker_rules` and `worker_store`.
+//! (`StoryDisks.antt`). They speak in the words of `restart_theorem` and `worker_store`.
 //!
 //! # Who may touch what
 //!
 //! Only this crate decides when records are kept, when they are put on the disk, and when a process
-//! is saved. `wasmhost_serve` uses it. It is handed its disk at each call, and keeps none. It
+//! is saved. `wasmhost_commands` uses it. It is handed its disk at each call, and keeps none. It
 //! stands on `ephemeral_worker`, whose definitions of slices are its own, and on `worker_store`. A
 //! creation takes memory for the module, for a copy of the configuration and for its bytes; the
 //! process keeps the copy. A recovery takes memory for all that it reads. The other calls take none

@@ -25,7 +25,7 @@ use Rattle.snapshot.specs.rules.Calls.{MakesStoresAndHead, with_head}
 use Rattle.snapshot.specs.rules.Steps.{Commits, Replaces}
 use Rattle.state_image.specs.rules.Image.{image}
 use Rattle.state_image.specs.rules.Saving.{saved_of}
-use Rattle.worker_rules.specs.Stands.{IsBlank}
+use Rattle.restart_theorem.specs.Stands.{IsBlank}
 use Rattle.worker_store.specs.laws.Savepoints.{Savepoint, places}
 use Rattle.worker_store.specs.laws.Commits.{BeginsAtPoint}
 use Rattle.worker_store.specs.laws.Creations.{AwaitsHead, AwaitsSuper, HasNoSuper, super_of_point}

@@ -18,7 +18,7 @@ use Rattle.state_image.specs.rules.Saving.{saved_of}
 use Rattle.disk_layout.specs.rules.Places.{geometry_of}
 use Rattle.wasm_syntax.specs.declared.module.Module.{Module}
 use Rattle.wasi_abi.specs.rules.Configs.{Settings}
-use Rattle.worker_rules.specs.Stands.{IsNumbered}
+use Rattle.restart_theorem.specs.Stands.{IsNumbered}
 use Rattle.worker_store.specs.laws.Commits.{BeginsAtPoint}
 use Rattle.worker_store.specs.laws.Moments.{LeavesAll}
 use Rattle.worker_store.specs.laws.Savepoints.{Savepoint, places}

@@ -7,7 +7,7 @@ ghost use Rattle.sector_disk.specs.rules.Medium.{IsAllSynced, LeavesOnly, MakesC
 ghost use Rattle.sector_disk.specs.rules.Medium.{CallsUpTo, spare, CountsUpTo};
 ghost use Rattle.disk_layout.specs.rules.Places.{config_bytes, geometry_of, rounded_up};
 ghost use Rattle.disk_layout.specs.rules.Places.{total_sectors};
-ghost use Rattle.worker_rules.specs.Stands.{IsBlank};
+ghost use Rattle.restart_theorem.specs.Stands.{IsBlank};
 ghost use Rattle.worker_store.specs.laws.Creations.{AwaitsHead, HasNoSuper};
 ghost use Rattle.worker_store.specs.laws.Moments.{LeavesAll};
 ghost use Rattle.worker_store.specs.rules.Creations.{behind_calls, contents_calls, behind_sectors};

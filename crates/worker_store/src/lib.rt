@@ -99,7 +99,7 @@
 //! take from `specs/laws/`: `Savepoint`, `StandsAtPoint` (`Savepoints.antt`), `StandsAtFront`
 //! (`Barriers.antt`), `BeginsAtPoint` and `StandsBefore` (`Commits.antt`).
 //!
-//! All else in `specs/laws/` are second forms of what `worker_rules`, `journal`, `snapshot` and
+//! All else in `specs/laws/` are second forms of what `restart_theorem`, `journal`, `snapshot` and
 //! `disk_layout` define. Nobody has to believe them. They are `AwaitsHead` and `AwaitsSuper`
 //! (`Creations.antt`), `IsJournaled` (`Journaled.antt`), `IsHeldAt`, `SavesFront` and `IsCarried`
 //! (`Carried.antt`), `SyncsAreHeld` and `AreOnRecord` (`Raised.antt`).

@@ -10,13 +10,13 @@ use Rattle.wasm_syntax.specs.declared.value.Trap.TheVariants as trap
 use Rattle.wasm_syntax.specs.declared.instruction.Instruction.{Instruction}
 use Rattle.wasm_syntax.specs.declared.instruction.Instruction.TheVariants as instr
 use Rattle.wasm_syntax.specs.rules.Sequence.{Sequence, Stop, Plain, InBlock, InLoop, InIf, InIfElse}
-use Rattle.wasm_syntax_rules.specs.Types.{takes_of, gives_of, is_same_function_type}
-use Rattle.wasm_syntax_rules.specs.Configuration.{Callee, Host, Own, Program, Label, Frame, FrameOf}
-use Rattle.wasm_syntax_rules.specs.Configuration.{Thread, Configuration, Outcome, Goes, Traps, Asks}
-use Rattle.wasm_syntax_rules.specs.Effects.{Effect, Gives, Fails, Wrong, effect}
-use Rattle.wasm_syntax_rules.specs.Steps.{where_some, topmost, branch, returned, called}
-use Rattle.wasm_syntax_rules.specs.Steps.{calls_entry, kind_of, entered, is_exhausted, after_effect}
-use Rattle.wasm_syntax_rules.specs.Steps.{goes_on, execute, rule_of}
+use Rattle.wasm_semantics.specs.Types.{takes_of, gives_of, is_same_function_type}
+use Rattle.wasm_semantics.specs.Configuration.{Callee, Host, Own, Program, Label, Frame, FrameOf}
+use Rattle.wasm_semantics.specs.Configuration.{Thread, Configuration, Outcome, Goes, Traps, Asks}
+use Rattle.wasm_semantics.specs.Effects.{Effect, Gives, Fails, Wrong, effect}
+use Rattle.wasm_semantics.specs.Steps.{where_some, topmost, branch, returned, called}
+use Rattle.wasm_semantics.specs.Steps.{calls_entry, kind_of, entered, is_exhausted, after_effect}
+use Rattle.wasm_semantics.specs.Steps.{goes_on, execute, rule_of}
 use Rattle.machine_frame.proofs.Threads.Calling.{same_kind}
 
 -- the instructions that call

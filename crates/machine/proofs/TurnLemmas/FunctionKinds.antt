@@ -5,10 +5,10 @@ use Rattle.std.specs.Prelude.{slice_get, map}
 use Rattle.std.specs.Option.{option_map}
 use Rattle.std.proofs.lemmas.Option.{slice_get-map}
 use Rattle.wasm_syntax.specs.declared.types.FunctionType.{FunctionType}
-use Rattle.wasm_syntax_rules.specs.Types.{imported_functions}
+use Rattle.wasm_semantics.specs.Types.{imported_functions}
 use Rattle.wasm_syntax.specs.rules.Modules.{function_type_of}
-use Rattle.wasm_syntax_rules.specs.Configuration.{Callee, Host, Own, Program}
-use Rattle.wasm_syntax_rules.specs.Steps.{kind_of}
+use Rattle.wasm_semantics.specs.Configuration.{Callee, Host, Own, Program}
+use Rattle.wasm_semantics.specs.Steps.{kind_of}
 use Rattle.machine.specs.laws.Routines.{IsNumberedCallee}
 use Rattle.machine.proofs.RoutineLemmas.Numbers.{functions_numbered}
 use Rattle.machine.specs.declared.turns.code.Executable.{Executable}

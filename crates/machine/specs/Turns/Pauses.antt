@@ -5,9 +5,9 @@ use Rattle.wasm_syntax.specs.declared.value.Value.{Value}
 use Rattle.wasm_syntax.specs.declared.value.Trap.{Trap}
 use Rattle.wasi_abi.specs.declared.call.Call.{Call}
 use Rattle.wasi_abi.specs.rules.Calls.{call_type_of}
-use Rattle.wasm_syntax_rules.specs.Types.{AreOf, number_in, takes_of}
-use Rattle.wasm_syntax_rules.specs.Configuration.{Host, Program, Thread, Configuration, Asks, Traps}
-use Rattle.wasm_syntax_rules.specs.Steps.{rule, stopped, IsSettled, IsEnded}
+use Rattle.wasm_semantics.specs.Types.{AreOf, number_in, takes_of}
+use Rattle.wasm_semantics.specs.Configuration.{Host, Program, Thread, Configuration, Asks, Traps}
+use Rattle.wasm_semantics.specs.Steps.{rule, stopped, IsSettled, IsEnded}
 use Rattle.machine_frame.specs.rules.Walks.{Walks}
 use Rattle.machine.specs.declared.turns.code.Executable.{Executable}
 use Rattle.machine.specs.declared.turns.state.State.{State}

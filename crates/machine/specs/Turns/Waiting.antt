@@ -5,8 +5,8 @@ use Rattle.wasm_syntax.specs.declared.types.FunctionType.{FunctionType}
 use Rattle.wasm_syntax.specs.declared.value.Value.{Value}
 use Rattle.wasi_abi.specs.declared.call.Call.{Call}
 use Rattle.wasi_abi.specs.rules.Calls.{parameters_of}
-use Rattle.wasm_syntax_rules.specs.Configuration.{Program, Thread, Configuration, Asks}
-use Rattle.wasm_syntax_rules.specs.Steps.{rule}
+use Rattle.wasm_semantics.specs.Configuration.{Program, Thread, Configuration, Asks}
+use Rattle.wasm_semantics.specs.Steps.{rule}
 use Rattle.machine_frame.specs.rules.laws.Threads.{HasTaken}
 use Rattle.machine.specs.declared.turns.code.Executable.{Executable}
 use Rattle.machine.specs.declared.turns.state.State.{State}

@@ -2,9 +2,9 @@
 use Rattle.std.specs.Prelude.{◌≡◌, ℕ, List, Some, slice_get}
 use Rattle.wasm_syntax.specs.declared.types.FunctionType.{FunctionType}
 use Rattle.wasm_syntax.specs.declared.value.Value.{Value}
-use Rattle.wasm_syntax_rules.specs.Types.{AreOf, gives_of}
-use Rattle.wasm_syntax_rules.specs.Configuration.{Host, Program, Thread, Configuration, Asks}
-use Rattle.wasm_syntax_rules.specs.Steps.{rule}
+use Rattle.wasm_semantics.specs.Types.{AreOf, gives_of}
+use Rattle.wasm_semantics.specs.Configuration.{Host, Program, Thread, Configuration, Asks}
+use Rattle.wasm_semantics.specs.Steps.{rule}
 use Rattle.machine.specs.declared.turns.pause.Paused.{Paused}
 use Rattle.machine.specs.rules.Values.{MachineValue, IsSameMachine, ShowsIn}
 use Rattle.machine.specs.rules.Runs.{RunsOnFuel, Answers}

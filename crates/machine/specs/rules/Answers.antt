@@ -3,9 +3,9 @@ use Rattle.std.specs.Prelude.{◌≡◌, ℕ, List, [], ◌∷◌, Option, Some,
 use Rattle.wasm_syntax.specs.declared.types.FunctionType.{FunctionType}
 use Rattle.wasm_syntax.specs.declared.value.Value.{Value}
 use Rattle.wasm_syntax.specs.declared.value.Value.TheVariants as value
-use Rattle.wasm_syntax_rules.specs.Types.{AreOf, gives_of}
-use Rattle.wasm_syntax_rules.specs.Configuration.{Host, Program, Thread, Configuration, Asks}
-use Rattle.wasm_syntax_rules.specs.Steps.{rule, answered}
+use Rattle.wasm_semantics.specs.Types.{AreOf, gives_of}
+use Rattle.wasm_semantics.specs.Configuration.{Host, Program, Thread, Configuration, Asks}
+use Rattle.wasm_semantics.specs.Steps.{rule, answered}
 use Rattle.machine.specs.declared.turns.code.Executable.{Executable}
 use Rattle.machine.specs.declared.turns.state.State.{State}
 use Rattle.machine.specs.Turns.Codes.{Stands}

@@ -7,11 +7,11 @@ use Rattle.wasm_syntax.specs.declared.value.Trap.{Trap}
 use Rattle.wasm_syntax.specs.declared.module.Module.{Module}
 use Rattle.wasi_abi.specs.declared.call.Call.{Call}
 use Rattle.wasi_abi.specs.rules.Calls.{call_type_of}
-use Rattle.wasm_syntax_rules.specs.Types.{AreOf, number_in, takes_of, gives_of}
-use Rattle.wasm_syntax_rules.specs.Configuration.{Host, Program, Thread, Configuration, Asks, Traps}
-use Rattle.wasm_syntax_rules.specs.Steps.{rule, stopped, answered, IsEnded, Settles, Steps}
-use Rattle.wasm_syntax_rules.specs.Instantiation.{Begins}
-use Rattle.wasm_syntax_rules.specs.Linking.{IsLinkable}
+use Rattle.wasm_semantics.specs.Types.{AreOf, number_in, takes_of, gives_of}
+use Rattle.wasm_semantics.specs.Configuration.{Host, Program, Thread, Configuration, Asks, Traps}
+use Rattle.wasm_semantics.specs.Steps.{rule, stopped, answered, IsEnded, Settles, Steps}
+use Rattle.wasm_semantics.specs.Instantiation.{Begins}
+use Rattle.wasm_semantics.specs.Linking.{IsLinkable}
 use Rattle.machine.specs.rules.Offers.{offer, AreImportedCalls}
 use Rattle.machine.specs.declared.turns.pause.Pause.{Pause}
 use Rattle.machine.specs.declared.turns.pause.Pause.TheVariants as pause

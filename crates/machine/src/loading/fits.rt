@@ -3,8 +3,8 @@
 ghost use Rattle.std.specs.Prelude.{◌≡◌, ◌*◌, ◌≤◌, ◌↔◌, List, [], length, IsTrue, IfOk};
 ghost use Rattle.wasm_syntax.specs.declared.types.FunctionType.{FunctionType as Kind};
 ghost use Rattle.guest_memory.specs.rules.Bytes.{page_size};
-ghost use Rattle.wasm_syntax_rules.specs.Configuration.{Program};
-ghost use Rattle.wasm_syntax_rules.specs.Validity.{module_context};
+ghost use Rattle.wasm_semantics.specs.Configuration.{Program};
+ghost use Rattle.wasm_semantics.specs.Validity.{module_context};
 ghost use Rattle.machine_frame.specs.rules.Fitting.{FitsProgram};
 ghost use Rattle.machine_frame.specs.rules.Stacked.{AreStacked};
 ghost use Rattle.machine_frame.specs.rules.Threads.{machine_state_of};

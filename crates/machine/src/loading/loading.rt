@@ -60,7 +60,7 @@ impl Loading {
     ghost use Rattle.std.specs.Prelude.{◌≢◌, ◌⊎◌, ℕ, OnOk, OnErr, IfOk, IfErr, MatchResult, []};
     ghost use Rattle.std.specs.Prelude.{sum_by};
     ghost use Rattle.std.specs.Prelude.{length};
-    ghost use Rattle.wasm_syntax_rules.specs.Linking.{HasEntry};
+    ghost use Rattle.wasm_semantics.specs.Linking.{HasEntry};
     ghost use Rattle.machine_slots.specs.rules.Places.{ShownFrame};
     ghost use Rattle.machine_slots.specs.declared.limits.TheConstants.{FRAMES};
     ghost use Rattle.machine_slots.specs.declared.slots.TheConstants.{SLOTS};

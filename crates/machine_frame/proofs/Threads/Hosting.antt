@@ -12,16 +12,16 @@ use Rattle.wasm_syntax.specs.declared.value.Trap.TheVariants as trap
 use Rattle.wasm_syntax.specs.declared.instruction.Instruction.{Instruction}
 use Rattle.wasm_syntax.specs.declared.instruction.Instruction.TheVariants as instr
 use Rattle.wasm_syntax.specs.rules.Sequence.{Sequence}
-use Rattle.wasm_syntax_rules.specs.Types.{AreOf, number_in, takes_of, gives_of}
-use Rattle.wasm_syntax_rules.specs.Types.{is_same_function_type}
-use Rattle.wasm_syntax_rules.specs.Typing.{Context}
-use Rattle.wasm_syntax_rules.specs.Configuration.{Callee, Host, Own, Program, Label, Frame, FrameOf}
-use Rattle.wasm_syntax_rules.specs.Configuration.{Thread, Configuration, Goes, Traps, Asks}
-use Rattle.wasm_syntax_rules.specs.Steps.{where_some, entered, called, calls_entry, held_by}
-use Rattle.wasm_syntax_rules.specs.Steps.{is_exhausted, kind_of, zero_of, returned, rule, left_by}
-use Rattle.wasm_syntax_rules.specs.Steps.{IsSettled, IsUncounted, answered}
-use Rattle.wasm_syntax_rules.specs.Typed.{IsTypedMemory, IsEntry}
-use Rattle.wasm_syntax_rules.proofs.Soundness.LeaveSound.{leaves_typed, answers_typed}
+use Rattle.wasm_semantics.specs.Types.{AreOf, number_in, takes_of, gives_of}
+use Rattle.wasm_semantics.specs.Types.{is_same_function_type}
+use Rattle.wasm_semantics.specs.Typing.{Context}
+use Rattle.wasm_semantics.specs.Configuration.{Callee, Host, Own, Program, Label, Frame, FrameOf}
+use Rattle.wasm_semantics.specs.Configuration.{Thread, Configuration, Goes, Traps, Asks}
+use Rattle.wasm_semantics.specs.Steps.{where_some, entered, called, calls_entry, held_by}
+use Rattle.wasm_semantics.specs.Steps.{is_exhausted, kind_of, zero_of, returned, rule, left_by}
+use Rattle.wasm_semantics.specs.Steps.{IsSettled, IsUncounted, answered}
+use Rattle.wasm_semantics.specs.Typed.{IsTypedMemory, IsEntry}
+use Rattle.wasm_semantics.proofs.Soundness.LeaveSound.{leaves_typed, answers_typed}
 use Rattle.machine_slots.specs.rules.Places.{held_beside}
 use Rattle.guest_memory.specs.rules.Memories.{LinearMemory}
 use Rattle.machine_slots.specs.Frames.{frame_words}

@@ -8,16 +8,16 @@ use Rattle.wasm_syntax.specs.declared.value.Value.TheVariants as value
 use Rattle.wasm_syntax.specs.declared.instruction.Instruction.{Instruction}
 use Rattle.wasm_syntax.specs.declared.instruction.Instruction.TheVariants as instr
 use Rattle.wasm_syntax.specs.rules.Sequence.{Sequence, Stop, Plain}
-use Rattle.wasm_syntax_rules.specs.Types.{gives_of}
-use Rattle.wasm_syntax_rules.specs.Typing.{Context}
-use Rattle.wasm_syntax_rules.specs.Configuration.{Callee, Program, Label, FrameOf, Thread}
-use Rattle.wasm_syntax_rules.specs.Configuration.{Configuration}
-use Rattle.wasm_syntax_rules.specs.Steps.{topmost, returned, called, calls_entry, kind_of, rule}
-use Rattle.wasm_syntax_rules.specs.Steps.{rule_of, left_by, IsSettled, IsCounted}
-use Rattle.wasm_syntax_rules.specs.Steps.{IsUncounted}
-use Rattle.wasm_syntax_rules.specs.Typed.{IsTypedProgram, IsTyped}
-use Rattle.wasm_syntax_rules.proofs.Soundness.LeaveSound.{never_stuck_holds}
-use Rattle.wasm_syntax_rules.proofs.Soundness.LeaveSound.{goes_typed as sound_typed}
+use Rattle.wasm_semantics.specs.Types.{gives_of}
+use Rattle.wasm_semantics.specs.Typing.{Context}
+use Rattle.wasm_semantics.specs.Configuration.{Callee, Program, Label, FrameOf, Thread}
+use Rattle.wasm_semantics.specs.Configuration.{Configuration}
+use Rattle.wasm_semantics.specs.Steps.{topmost, returned, called, calls_entry, kind_of, rule}
+use Rattle.wasm_semantics.specs.Steps.{rule_of, left_by, IsSettled, IsCounted}
+use Rattle.wasm_semantics.specs.Steps.{IsUncounted}
+use Rattle.wasm_semantics.specs.Typed.{IsTypedProgram, IsTyped}
+use Rattle.wasm_semantics.proofs.Soundness.LeaveSound.{never_stuck_holds}
+use Rattle.wasm_semantics.proofs.Soundness.LeaveSound.{goes_typed as sound_typed}
 
 -- A configuration whose running frame is before a plain instruction is settled.
 pub settled_before : (program : Program) (d : Configuration) (f : ℕ) (ls vs : List Value)

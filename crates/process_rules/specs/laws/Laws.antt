@@ -4,12 +4,12 @@ use Rattle.std.specs.Prelude.{None}
 use Rattle.wasm_syntax.specs.declared.types.FunctionType.{FunctionType}
 use Rattle.wasm_syntax.specs.declared.value.Trap.{Trap}
 use Rattle.wasm_syntax.specs.declared.module.Module.{Module}
-use Rattle.wasm_syntax_rules.specs.Typing.{Context}
-use Rattle.wasm_syntax_rules.specs.Validity.{AreFunctionTypes, module_context, IsValid}
-use Rattle.wasm_syntax_rules.specs.Configuration.{Program, Configuration, Traps}
-use Rattle.wasm_syntax_rules.specs.Linking.{Offer, IsLinkable}
-use Rattle.wasm_syntax_rules.specs.Steps.{rule, stopped, IsSettled, IsEnded, Steps}
-use Rattle.wasm_syntax_rules.specs.Typed.{IsTyped, OffersNoEntry}
+use Rattle.wasm_semantics.specs.Typing.{Context}
+use Rattle.wasm_semantics.specs.Validity.{AreFunctionTypes, module_context, IsValid}
+use Rattle.wasm_semantics.specs.Configuration.{Program, Configuration, Traps}
+use Rattle.wasm_semantics.specs.Linking.{Offer, IsLinkable}
+use Rattle.wasm_semantics.specs.Steps.{rule, stopped, IsSettled, IsEnded, Steps}
+use Rattle.wasm_semantics.specs.Typed.{IsTyped, OffersNoEntry}
 use Rattle.wasi_abi.specs.declared.call.Call.{Call}
 use Rattle.wasi_abi.specs.rules.Calls.{module_name, name_of, call_type_of}
 use Rattle.wasi_abi.specs.rules.Configs.{Settings}

@@ -3,7 +3,7 @@
 ghost use Rattle.std.specs.Prelude.{◌≡◌, ◌↔◌, ◌≤◌, ◌<◌, ◌+◌, ◌^◌, ℕ, IsTrue, [], Some};
 ghost use Rattle.std.specs.Prelude.{option_map, length};
 ghost use Rattle.std.specs.List.{AllByRecursion};
-ghost use Rattle.wasm_syntax_rules.specs.Linking.{HasEntry};
+ghost use Rattle.wasm_semantics.specs.Linking.{HasEntry};
 ghost use Rattle.wasi_calls_rules.specs.declared.limits.TheConstants.{TEXT_BYTES};
 ghost use Rattle.machine.specs.rules.LentFrames.{lent_frame};
 ghost use Rattle.machine.specs.rules.Loading.{ShowsSome};

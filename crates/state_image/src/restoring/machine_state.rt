@@ -3,7 +3,7 @@
 ghost use Rattle.std.specs.Prelude.{◌≡◌, ◌≢◌, ◌+◌, ◌<◌, ◌≤◌, ◌∷◌, [], ℕ, List, length};
 ghost use Rattle.std.specs.Prelude.{IfOk, IfErr, OnOk, Err};
 ghost use Rattle.std.specs.List.{flat_map};
-ghost use Rattle.wasm_syntax_rules.specs.Validity.{IsValid};
+ghost use Rattle.wasm_semantics.specs.Validity.{IsValid};
 ghost use Rattle.wasi_abi.specs.rules.Layouts.{u64_bytes};
 ghost use Rattle.machine_slots.specs.declared.slots.TheConstants.{SLOTS};
 ghost use Rattle.machine_slots.specs.rules.Places.{ShownFrame};

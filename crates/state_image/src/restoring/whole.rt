@@ -1,8 +1,8 @@
 //! The process of an image, made again.
 
 ghost use Rattle.std.specs.Prelude.{◌≡◌, ◌≢◌, ◌↔◌, ℕ, [], IsTrue, IfOk, Err};
-ghost use Rattle.wasm_syntax_rules.specs.Validity.{IsValid};
-ghost use Rattle.wasm_syntax_rules.specs.Linking.{HasEntry, IsLinkable};
+ghost use Rattle.wasm_semantics.specs.Validity.{IsValid};
+ghost use Rattle.wasm_semantics.specs.Linking.{HasEntry, IsLinkable};
 ghost use Rattle.machine.specs.rules.Loading.{ShowsSome};
 ghost use Rattle.machine.specs.rules.Offers.{offer};
 ghost use Rattle.machine.specs.rules.Runs.{HasBegun};

@@ -1,9 +1,9 @@
 //! How many tables and memories a module has, and how many globals it imports (section 3.4.10).
 
 ghost use Rattle.std.specs.Prelude.{◌≡◌, min, length};
-ghost use Rattle.wasm_syntax_rules.specs.Types.{imported_tables, imported_memories};
-ghost use Rattle.wasm_syntax_rules.specs.Types.{imported_globals};
-ghost use Rattle.wasm_syntax_rules.specs.Validity.{tables_of, memories_of};
+ghost use Rattle.wasm_semantics.specs.Types.{imported_tables, imported_memories};
+ghost use Rattle.wasm_semantics.specs.Types.{imported_globals};
+ghost use Rattle.wasm_semantics.specs.Validity.{tables_of, memories_of};
 
 use wasm_syntax::{Import, ImportItem, Module};
 

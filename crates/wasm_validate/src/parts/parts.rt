@@ -5,7 +5,7 @@
 ghost use Rattle.std.specs.Prelude.{List, IfErr, OnOk};
 ghost use Rattle.std.specs.List.{AllByRecursion};
 ghost use Rattle.wasm_syntax.specs.declared.types.FunctionType.{FunctionType as Kind};
-ghost use Rattle.wasm_syntax_rules.specs.Validity.{AreFunctionTypes, IsFunctionTypeValid, IsValid};
+ghost use Rattle.wasm_semantics.specs.Validity.{AreFunctionTypes, IsFunctionTypeValid, IsValid};
 ghost use Rattle.wasm_validate.specs.rules.Answers.{Decides, Denies, Judges};
 ghost use Rattle.wasm_validate.specs.rules.Faults.{HasFault};
 ghost use Rattle.wasm_validate.specs.Parts.Contexts.{HasFunctionTypes, IsContextOfModule};

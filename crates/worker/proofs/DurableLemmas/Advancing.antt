@@ -17,10 +17,10 @@ use Rattle.record_replay.proofs.Emitted.{released_whole}
 use Rattle.record_replay.proofs.OnTheWay.{quiet_runs, owing_runs}
 use Rattle.sector_disk.specs.rules.Medium.{Medium}
 use Rattle.state_image.specs.rules.Saving.{saved_of}
-use Rattle.worker_rules.specs.Lives.{Slice, Reply, Spent, Over, Fails, Cause, OfMemory, OfBounds}
-use Rattle.worker_rules.specs.Courses.{Stage, Open, MayFail}
-use Rattle.worker_rules.specs.Promises.{Promise, IsEnding, synced_by}
-use Rattle.worker_rules.specs.Holds.{StaysWithin}
+use Rattle.restart_theorem.specs.Lives.{Slice, Reply, Spent, Over, Fails, Cause, OfMemory, OfBounds}
+use Rattle.restart_theorem.specs.Courses.{Stage, Open, MayFail}
+use Rattle.restart_theorem.specs.Promises.{Promise, IsEnding, synced_by}
+use Rattle.restart_theorem.specs.Holds.{StaysWithin}
 use Rattle.worker_store.specs.laws.Underway.{IsUnderWay}
 use Rattle.worker_store.specs.laws.CallEnds.{IsSliceOver, HasBound}
 use Rattle.worker_store.proofs.LawLemmas.AtHand.{shown_is_saved}

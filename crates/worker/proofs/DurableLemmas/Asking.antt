@@ -7,10 +7,10 @@ use Rattle.wasi_abi.specs.declared.answer.Answer.{Answer}
 use Rattle.sector_disk.specs.rules.Medium.{Medium}
 use Rattle.record_replay.specs.declared.fault.SourceFault.{SourceFault}
 use Rattle.record_replay.specs.rules.Calls.{Giving, Exchange}
-use Rattle.worker_rules.specs.Lives.{Reply, Fails, Waits, SourceSaid, OfSource}
-use Rattle.worker_rules.specs.Courses.{Stage}
-use Rattle.worker_rules.specs.Promises.{Promise}
-use Rattle.worker_rules.specs.Holds.{StaysWithin}
+use Rattle.restart_theorem.specs.Lives.{Reply, Fails, Waits, SourceSaid, OfSource}
+use Rattle.restart_theorem.specs.Courses.{Stage}
+use Rattle.restart_theorem.specs.Promises.{Promise}
+use Rattle.restart_theorem.specs.Holds.{StaysWithin}
 use Rattle.worker_store.specs.laws.Turns.{GoesOnFrom, LeavesBegun}
 use Rattle.worker_store.proofs.LawLemmas.TurnLemmas.{turns_join, parts_leave_begun}
 use Rattle.ephemeral_worker.specs.declared.fault.SliceFault.{SliceFault}

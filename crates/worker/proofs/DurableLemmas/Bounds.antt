@@ -12,12 +12,12 @@ use Rattle.disk_layout.specs.rules.Places.{geometry_of, total_sectors}
 use Rattle.disk_layout.specs.rules.Journal.{Record}
 use Rattle.record_replay.specs.rules.Calls.{Ask, Asks}
 use Rattle.record_replay.specs.rules.Records.{given_in}
-use Rattle.worker_rules.specs.Lives.{Event}
-use Rattle.worker_rules.specs.Courses.{Stage}
-use Rattle.worker_rules.specs.Promises.{Promise, promised}
-use Rattle.worker_rules.specs.Exchanges.{AreEvents, none, asked}
-use Rattle.worker_rules.specs.Holds.{IsBounded, KeepsBounds, StaysWithin}
-use Rattle.worker_rules.proofs.Disks.{stands_within}
+use Rattle.restart_theorem.specs.Lives.{Event}
+use Rattle.restart_theorem.specs.Courses.{Stage}
+use Rattle.restart_theorem.specs.Promises.{Promise, promised}
+use Rattle.restart_theorem.specs.Exchanges.{AreEvents, none, asked}
+use Rattle.restart_theorem.specs.Holds.{IsBounded, KeepsBounds, StaysWithin}
+use Rattle.restart_theorem.proofs.Disks.{stands_within}
 use Rattle.worker_store.specs.laws.Savepoints.{Savepoint, places, StandsAtPoint}
 use Rattle.worker_store.specs.laws.Barriers.{StandsAtFront}
 use Rattle.worker_store.specs.laws.Commits.{IsNextPoint, BeginsAtPoint}

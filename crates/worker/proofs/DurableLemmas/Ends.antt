@@ -16,11 +16,11 @@ use Rattle.journal.specs.rules.Packed.{sectors_for}
 use Rattle.journal.specs.rules.State.{JournalState}
 use Rattle.state_image.specs.rules.Saving.{saved_of}
 use Rattle.record_replay.specs.rules.Calls.{Exchange}
-use Rattle.worker_rules.specs.Lives.{Slice, Reply, Cause, Fails, Ended}
-use Rattle.worker_rules.specs.Courses.{Stage, Phase, Open, MayFail, phase_ended, next_stage}
-use Rattle.worker_rules.specs.Promises.{Promise, synced_by, IsEnding}
-use Rattle.worker_rules.specs.Holds.{KeepsPromise, CarriesPromise, StaysWithin}
-use Rattle.worker_rules.specs.Exchanges.{none}
+use Rattle.restart_theorem.specs.Lives.{Slice, Reply, Cause, Fails, Ended}
+use Rattle.restart_theorem.specs.Courses.{Stage, Phase, Open, MayFail, phase_ended, next_stage}
+use Rattle.restart_theorem.specs.Promises.{Promise, synced_by, IsEnding}
+use Rattle.restart_theorem.specs.Holds.{KeepsPromise, CarriesPromise, StaysWithin}
+use Rattle.restart_theorem.specs.Exchanges.{none}
 use Rattle.worker_store.specs.laws.Savepoints.{Savepoint, places}
 use Rattle.worker_store.specs.laws.Underway.{IsInItsSlice, IsBroken}
 use Rattle.worker_store.specs.laws.CallEnds.{HasBound}

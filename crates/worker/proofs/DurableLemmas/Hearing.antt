@@ -24,13 +24,13 @@ use Rattle.journal.specs.rules.State.{room_of}
 use Rattle.journal.proofs.RecordLemmas.{record_of}
 use Rattle.record_replay.specs.declared.fault.SourceFault.{SourceFault}
 use Rattle.record_replay.proofs.Emitted.{released_whole}
-use Rattle.worker_rules.specs.Lives.{Fails, Waits, Cause, SourceSaid, Asked, kept_of_said}
-use Rattle.worker_rules.specs.Lives.{OfSource, OfAnswer, OfMemory, OfBounds}
-use Rattle.worker_rules.specs.Courses.{Stage, Phase, Open, Broken, NoneThere, MayFail, next_stage}
-use Rattle.worker_rules.specs.Courses.{first_said}
-use Rattle.worker_rules.specs.Promises.{Promise, after, IsFitting, IsInquiring}
-use Rattle.worker_rules.specs.Holds.{StaysWithin}
-use Rattle.worker_rules.specs.Exchanges.{none as no_exchange, asked}
+use Rattle.restart_theorem.specs.Lives.{Fails, Waits, Cause, SourceSaid, Asked, kept_of_said}
+use Rattle.restart_theorem.specs.Lives.{OfSource, OfAnswer, OfMemory, OfBounds}
+use Rattle.restart_theorem.specs.Courses.{Stage, Phase, Open, Broken, NoneThere, MayFail, next_stage}
+use Rattle.restart_theorem.specs.Courses.{first_said}
+use Rattle.restart_theorem.specs.Promises.{Promise, after, IsFitting, IsInquiring}
+use Rattle.restart_theorem.specs.Holds.{StaysWithin}
+use Rattle.restart_theorem.specs.Exchanges.{none as no_exchange, asked}
 use Rattle.worker_store.specs.laws.Underway.{IsUnderWay, IsBroken, IsAtQuestion}
 use Rattle.worker_store.specs.laws.CallEnds.{HasBound}
 use Rattle.worker_store.specs.laws.Pieces.{IsForetold, AreDone}

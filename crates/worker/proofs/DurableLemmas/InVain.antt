@@ -17,7 +17,7 @@ use Rattle.sector_disk.specs.declared.fault.DiskFault.{DiskFault}
 use Rattle.sector_disk.specs.rules.Medium.{Medium}
 use Rattle.disk_layout.specs.rules.Journal.{Record}
 use Rattle.record_replay.specs.rules.Calls.{Giving, Taking, Ask, Exchange, Asks}
-use Rattle.worker_rules.specs.Lives.{SourceSaid}
+use Rattle.restart_theorem.specs.Lives.{SourceSaid}
 use Rattle.worker_store.specs.declared.fault.StoreFault.{StoreFault}
 use Rattle.worker_store.specs.declared.fault.StoreFault.TheVariants as store
 use Rattle.worker_store.specs.declared.store.WorkerStore.{WorkerStore}

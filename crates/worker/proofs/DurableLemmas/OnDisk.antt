@@ -2,7 +2,7 @@
 use Rattle.std.proofs.Common.{◌≡◌, ℕ, ◌+◌, ◌≤◌, [], sym, ◌∙◌}
 use Rattle.std.proofs.Common.{subst, arith}
 use Rattle.wasm_syntax.specs.declared.module.Module.{Module}
-use Rattle.wasm_syntax_rules.specs.Validity.{IsValid}
+use Rattle.wasm_semantics.specs.Validity.{IsValid}
 use Rattle.wasi_abi.specs.rules.Configs.{Settings}
 use Rattle.process_rules.specs.Processes.{ProcessState, Guest}
 use Rattle.process_rules.specs.Runs.{Runs, Reaches}
@@ -10,9 +10,9 @@ use Rattle.process_rules.specs.Owing.{RunsQuietly}
 use Rattle.process_rules.proofs.Quiet.{runs_join}
 use Rattle.sector_disk.specs.rules.Medium.{Medium}
 use Rattle.state_image.specs.rules.Image.{Saved}
-use Rattle.worker_rules.specs.Lives.{Act, Reply, Ended}
-use Rattle.worker_rules.specs.Promises.{Promise, after, saved_by, synced_by}
-use Rattle.worker_rules.specs.Holds.{KeepsPromise}
+use Rattle.restart_theorem.specs.Lives.{Act, Reply, Ended}
+use Rattle.restart_theorem.specs.Promises.{Promise, after, saved_by, synced_by}
+use Rattle.restart_theorem.specs.Holds.{KeepsPromise}
 use Rattle.worker_store.specs.laws.Carried.{count_at}
 use Rattle.worker_store.specs.laws.Raised.{SyncsAreHeld}
 use Rattle.worker_store.proofs.LawLemmas.Carrying.{carried_keeps}

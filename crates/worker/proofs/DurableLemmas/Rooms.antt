@@ -13,10 +13,10 @@ use Rattle.disk_layout.specs.declared.geometry.Geometry.{Geometry}
 use Rattle.disk_layout.specs.declared.journal_sectors.TheConstants.{PAYLOAD_SIZE}
 use Rattle.journal.specs.rules.State.{JournalState, state}
 use Rattle.record_replay.proofs.Emitted.{released_whole}
-use Rattle.worker_rules.specs.Lives.{Slice, Fails, Cause, OfDisk, OfBounds}
-use Rattle.worker_rules.specs.Courses.{Stage, Open, MayFail}
-use Rattle.worker_rules.specs.Promises.{Promise}
-use Rattle.worker_rules.specs.Holds.{StaysWithin}
+use Rattle.restart_theorem.specs.Lives.{Slice, Fails, Cause, OfDisk, OfBounds}
+use Rattle.restart_theorem.specs.Courses.{Stage, Open, MayFail}
+use Rattle.restart_theorem.specs.Promises.{Promise}
+use Rattle.restart_theorem.specs.Holds.{StaysWithin}
 use Rattle.worker_store.specs.laws.Savepoints.{Savepoint}
 use Rattle.worker_store.specs.laws.CallEnds.{HasBound}
 use Rattle.worker_store.specs.laws.Carried.{count_at}

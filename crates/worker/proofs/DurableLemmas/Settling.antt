@@ -11,10 +11,10 @@ use Rattle.record_replay.specs.rules.Calls.{Taking, Exchange, all_taken}
 use Rattle.record_replay.specs.rules.Calls.{last_refused}
 use Rattle.record_replay.specs.rules.Waiting.{ReleasesAll, ReleasesSome}
 use Rattle.record_replay.proofs.Emitted.{waiting_behind, released_whole, released_none}
-use Rattle.worker_rules.specs.Lives.{Slice, Fails, OfDisk, OfOutlet}
-use Rattle.worker_rules.specs.Courses.{Stage, Broken}
-use Rattle.worker_rules.specs.Promises.{Promise}
-use Rattle.worker_rules.specs.Holds.{StaysWithin}
+use Rattle.restart_theorem.specs.Lives.{Slice, Fails, OfDisk, OfOutlet}
+use Rattle.restart_theorem.specs.Courses.{Stage, Broken}
+use Rattle.restart_theorem.specs.Promises.{Promise}
+use Rattle.restart_theorem.specs.Holds.{StaysWithin}
 use Rattle.worker_store.specs.laws.Underway.{IsUnderWay}
 use Rattle.worker_store.specs.laws.Pieces.{IsForetold}
 use Rattle.worker_store.specs.laws.Telling.{AddsLines}

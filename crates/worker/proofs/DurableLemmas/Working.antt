@@ -18,10 +18,10 @@ use Rattle.state_image.specs.rules.Saving.{saved_of}
 use Rattle.record_replay.specs.rules.Calls.{Giving, Taking, Begun, Exchange, Asks, Tells, Exchanges}
 use Rattle.record_replay.specs.rules.Calls.{Releases, AnswersInOrder}
 use Rattle.record_replay.proofs.Following.{exchanges_join}
-use Rattle.worker_rules.specs.Lives.{Act, Slice, Reply, Spent, Over, Waits, Fails, Ended}
-use Rattle.worker_rules.specs.Courses.{Stage, Open, phase_ended, next_stage, stage_after}
-use Rattle.worker_rules.specs.Promises.{Promise}
-use Rattle.worker_rules.specs.Holds.{CarriesPromise, StaysWithin}
+use Rattle.restart_theorem.specs.Lives.{Act, Slice, Reply, Spent, Over, Waits, Fails, Ended}
+use Rattle.restart_theorem.specs.Courses.{Stage, Open, phase_ended, next_stage, stage_after}
+use Rattle.restart_theorem.specs.Promises.{Promise}
+use Rattle.restart_theorem.specs.Holds.{CarriesPromise, StaysWithin}
 use Rattle.worker_store.specs.laws.Underway.{IsUnderWay}
 use Rattle.worker_store.specs.laws.Pieces.{IsForetold}
 use Rattle.worker_store.specs.laws.Turns.{LeavesBegun}

@@ -12,13 +12,13 @@ use Rattle.process.specs.rules.Values.{ProcessValue}
 use Rattle.sector_disk.specs.rules.Image.{Image}
 use Rattle.sector_disk.specs.rules.Medium.{Medium, Passes}
 use Rattle.record_replay.specs.rules.Calls.{Exchange}
-use Rattle.worker_rules.specs.Lives.{Act, Cause, Reply}
-use Rattle.worker_rules.specs.Lives.{Fails, Event, Ended, told_in}
-use Rattle.worker_rules.specs.Courses.{Stage, Open, phase_ended, stage_after}
-use Rattle.worker_rules.specs.Courses.{without_first}
-use Rattle.worker_rules.specs.Promises.{Promise, after, promised, IsKept, AreKept}
-use Rattle.worker_rules.specs.Holds.{IsBounded, KeepsPromise, KeepsBounds}
-use Rattle.worker_rules.specs.Holds.{StaysWithin}
+use Rattle.restart_theorem.specs.Lives.{Act, Cause, Reply}
+use Rattle.restart_theorem.specs.Lives.{Fails, Event, Ended, told_in}
+use Rattle.restart_theorem.specs.Courses.{Stage, Open, phase_ended, stage_after}
+use Rattle.restart_theorem.specs.Courses.{without_first}
+use Rattle.restart_theorem.specs.Promises.{Promise, after, promised, IsKept, AreKept}
+use Rattle.restart_theorem.specs.Holds.{IsBounded, KeepsPromise, KeepsBounds}
+use Rattle.restart_theorem.specs.Holds.{StaysWithin}
 use Rattle.worker_store.specs.laws.Pieces.{IsForetold}
 use Rattle.worker_store.proofs.LawLemmas.Pieces.{parts_are_foretold}
 use Rattle.worker_store.proofs.LawLemmas.Passing.{left_in_the_end}

@@ -5,15 +5,15 @@ use Rattle.wasm_syntax.specs.declared.module.Module.{Module}
 use Rattle.wasi_abi.specs.rules.Configs.{Settings}
 use Rattle.state_image.specs.rules.Image.{Saved}
 use Rattle.record_replay.specs.rules.Calls.{Exchange, Asks, Tells}
-use Rattle.worker_rules.specs.Lives.{Act, Slice, Checkpoint, Inputs, Cause, OfOutlet, Reply, Spent}
-use Rattle.worker_rules.specs.Lives.{Waits, Over, Done, Fails, Event, Told, Asked, Opened, Ended}
-use Rattle.worker_rules.specs.Lives.{told_in, End, Finished, Stopped, Failed, Life}
-use Rattle.worker_rules.specs.Courses.{Stage, Phase, Shut, Unheard, Open, NoneThere, Broken, Closed}
-use Rattle.worker_rules.specs.Courses.{phase_told, phase_ended, next_stage, stage_after}
-use Rattle.worker_rules.specs.Courses.{first_taken, without_first, IsToldIn, IsAskedIn}
-use Rattle.worker_rules.specs.Courses.{MayFail, HasFailed, HasStopped, MayEnd, at_first}
-use Rattle.worker_rules.specs.Promises.{Promise, as_begun, after, promised, AreKept, IsKept}
-use Rattle.worker_rules.specs.Promises.{IsReply, IsLived}
+use Rattle.restart_theorem.specs.Lives.{Act, Slice, Checkpoint, Inputs, Cause, OfOutlet, Reply, Spent}
+use Rattle.restart_theorem.specs.Lives.{Waits, Over, Done, Fails, Event, Told, Asked, Opened, Ended}
+use Rattle.restart_theorem.specs.Lives.{told_in, End, Finished, Stopped, Failed, Life}
+use Rattle.restart_theorem.specs.Courses.{Stage, Phase, Shut, Unheard, Open, NoneThere, Broken, Closed}
+use Rattle.restart_theorem.specs.Courses.{phase_told, phase_ended, next_stage, stage_after}
+use Rattle.restart_theorem.specs.Courses.{first_taken, without_first, IsToldIn, IsAskedIn}
+use Rattle.restart_theorem.specs.Courses.{MayFail, HasFailed, HasStopped, MayEnd, at_first}
+use Rattle.restart_theorem.specs.Promises.{Promise, as_begun, after, promised, AreKept, IsKept}
+use Rattle.restart_theorem.specs.Promises.{IsReply, IsLived}
 use Rattle.worker.specs.laws.OneLife.{released_in, taken_in}
 use Rattle.worker.specs.laws.Uncut.{AreTrue}
 

@@ -17,20 +17,20 @@ use Rattle.record_replay.specs.rules.Calls.{Giving, Taking, Begun, Exchange, Ask
 use Rattle.record_replay.specs.rules.Calls.{Releases, AnswersInOrder, Exchanges}
 use Rattle.record_replay.proofs.Following.{exchanges_join}
 use Rattle.ephemeral_worker.proofs.Joining.{tells_ask_nothing, releases_of_tells}
-use Rattle.worker_rules.specs.Lives.{Act, Inputs, Cause, OfDisk, OfSource, OfAnswer, OfOutlet}
-use Rattle.worker_rules.specs.Lives.{OfMemory, OfBounds, Fails, Event, Ended, told_in, Beginning}
-use Rattle.worker_rules.specs.Lives.{Creates, End, Finished, Stopped, Failed, Life}
-use Rattle.worker_rules.specs.Lives.{Slice, Checkpoint}
-use Rattle.worker_rules.specs.Courses.{Stage, Phase, Shut, Unheard, NoneThere, Broken, MayFail}
-use Rattle.worker_rules.specs.Courses.{Open, Closed, at_first, next_stage, stage_after}
-use Rattle.worker_rules.specs.Courses.{HasFailed, HasDiskFault, HasStopped, HasNotStopped, IsCutIn}
-use Rattle.worker_rules.specs.Courses.{MayEnd}
-use Rattle.worker_rules.specs.Promises.{Promise, as_begun, after, promised, IsKept}
-use Rattle.worker_rules.specs.Promises.{AreKept, OpensAnew}
-use Rattle.worker_rules.specs.Holds.{HoldsPromise, KeepsPromise}
-use Rattle.worker_rules.specs.Holds.{KeepsBounds}
-use Rattle.worker_rules.specs.Between.{IsLivedOn}
-use Rattle.worker_rules.proofs.Promised.{calls_join}
+use Rattle.restart_theorem.specs.Lives.{Act, Inputs, Cause, OfDisk, OfSource, OfAnswer, OfOutlet}
+use Rattle.restart_theorem.specs.Lives.{OfMemory, OfBounds, Fails, Event, Ended, told_in, Beginning}
+use Rattle.restart_theorem.specs.Lives.{Creates, End, Finished, Stopped, Failed, Life}
+use Rattle.restart_theorem.specs.Lives.{Slice, Checkpoint}
+use Rattle.restart_theorem.specs.Courses.{Stage, Phase, Shut, Unheard, NoneThere, Broken, MayFail}
+use Rattle.restart_theorem.specs.Courses.{Open, Closed, at_first, next_stage, stage_after}
+use Rattle.restart_theorem.specs.Courses.{HasFailed, HasDiskFault, HasStopped, HasNotStopped, IsCutIn}
+use Rattle.restart_theorem.specs.Courses.{MayEnd}
+use Rattle.restart_theorem.specs.Promises.{Promise, as_begun, after, promised, IsKept}
+use Rattle.restart_theorem.specs.Promises.{AreKept, OpensAnew}
+use Rattle.restart_theorem.specs.Holds.{HoldsPromise, KeepsPromise}
+use Rattle.restart_theorem.specs.Holds.{KeepsBounds}
+use Rattle.restart_theorem.specs.Between.{IsLivedOn}
+use Rattle.restart_theorem.proofs.Promised.{calls_join}
 use Rattle.worker_store.specs.laws.Carried.{PromisesNoMore}
 use Rattle.worker_store.proofs.LawLemmas.Carrying.{less_is_held}
 use Rattle.worker_store.proofs.LawLemmas.Pieces.{parts_are_foretold}

@@ -9,12 +9,12 @@ use Rattle.state_image.specs.rules.Image.{Saved}
 use Rattle.sector_disk.specs.rules.Medium.{Medium}
 use Rattle.record_replay.specs.rules.Calls.{Giving, Taking, Exchange, Exchanges}
 use Rattle.record_replay.proofs.Following.{exchanges_join}
-use Rattle.worker_rules.specs.Lives.{Act, Slice, Checkpoint, Cause, Reply, Fails, Event}
-use Rattle.worker_rules.specs.Lives.{Ended, told_in}
-use Rattle.worker_rules.specs.Courses.{Stage, Open, phase_ended, stage_after, without_first}
-use Rattle.worker_rules.specs.Promises.{Promise, after, promised, IsKept, AreKept}
-use Rattle.worker_rules.specs.Holds.{KeepsPromise, KeepsBounds}
-use Rattle.worker_rules.proofs.Promised.{calls_join}
+use Rattle.restart_theorem.specs.Lives.{Act, Slice, Checkpoint, Cause, Reply, Fails, Event}
+use Rattle.restart_theorem.specs.Lives.{Ended, told_in}
+use Rattle.restart_theorem.specs.Courses.{Stage, Open, phase_ended, stage_after, without_first}
+use Rattle.restart_theorem.specs.Promises.{Promise, after, promised, IsKept, AreKept}
+use Rattle.restart_theorem.specs.Holds.{KeepsPromise, KeepsBounds}
+use Rattle.restart_theorem.proofs.Promised.{calls_join}
 use Rattle.worker_store.specs.laws.Pieces.{IsForetold}
 use Rattle.worker_store.proofs.LawLemmas.Pieces.{parts_are_foretold}
 use Rattle.worker.specs.declared.fault.WorkFault.{WorkFault}

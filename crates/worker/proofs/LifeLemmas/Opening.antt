@@ -5,7 +5,7 @@ use Rattle.std.proofs.Common.{subst, inl, inr, ⊎_elim, arith}
 use Rattle.std.proofs.lemmas.List.{append-nil}
 use Rattle.std.specs.Prelude.{◌⊎◌, Result, Ok, Err, IfErr, Some, None, false, true, map}
 use Rattle.wasm_syntax.specs.declared.module.Module.{Module}
-use Rattle.wasm_syntax_rules.specs.Acceptance.{IsAccepted}
+use Rattle.wasm_semantics.specs.Acceptance.{IsAccepted}
 use Rattle.wasi_abi.specs.declared.numbers.TheConstants.{NUMBERS_END}
 use Rattle.wasi_abi.specs.rules.Configs.{Settings}
 use Rattle.machine.specs.rules.Offers.{offer}
@@ -18,13 +18,13 @@ use Rattle.disk_layout.specs.declared.fault.LayoutFault.TheVariants as layout
 use Rattle.disk_layout.specs.rules.Places.{Geometry, geometry_of, total_sectors}
 use Rattle.disk_layout.specs.rules.Unsynced.{most_unsynced}
 use Rattle.record_replay.specs.rules.Calls.{Taking, Begun, Exchange, Tells, Releases}
-use Rattle.worker_rules.specs.Lives.{Inputs, Cause, OfDisk, OfMemory, OfOutlet, OfBounds, Event}
-use Rattle.worker_rules.specs.Lives.{Beginning, Creates, Opened, told_in}
-use Rattle.worker_rules.specs.Lives.Beginning.{Recovers as recovers}
-use Rattle.worker_rules.specs.Courses.{Stage, Phase, Shut, at_first}
-use Rattle.worker_rules.specs.Courses.{stage_after, HasFailed, IsCutIn}
-use Rattle.worker_rules.specs.Promises.{Promise, as_begun, after, promised, AreKept, OpensAnew}
-use Rattle.worker_rules.specs.Holds.{IsNothingYet, KeepsPromise, KeepsBounds}
+use Rattle.restart_theorem.specs.Lives.{Inputs, Cause, OfDisk, OfMemory, OfOutlet, OfBounds, Event}
+use Rattle.restart_theorem.specs.Lives.{Beginning, Creates, Opened, told_in}
+use Rattle.restart_theorem.specs.Lives.Beginning.{Recovers as recovers}
+use Rattle.restart_theorem.specs.Courses.{Stage, Phase, Shut, at_first}
+use Rattle.restart_theorem.specs.Courses.{stage_after, HasFailed, IsCutIn}
+use Rattle.restart_theorem.specs.Promises.{Promise, as_begun, after, promised, AreKept, OpensAnew}
+use Rattle.restart_theorem.specs.Holds.{IsNothingYet, KeepsPromise, KeepsBounds}
 use Rattle.worker_store.specs.laws.Pieces.{IsForetold}
 use Rattle.worker_store.proofs.LawLemmas.Pieces.{parts_are_foretold}
 use Rattle.worker_store.specs.declared.fault.StoreFault.TheVariants as store

@@ -11,14 +11,14 @@ use Rattle.record_replay.specs.rules.Calls.{Giving, Taking, Exchange, Tells, Exc
 use Rattle.record_replay.proofs.Following.{exchanges_join}
 use Rattle.ephemeral_worker.specs.declared.now.Now.{Now}
 use Rattle.ephemeral_worker.specs.declared.now.Now.TheVariants as now
-use Rattle.worker_rules.specs.Lives.{Act, Slice, Checkpoint, Reply, Spent, Event, Told, Asked}
-use Rattle.worker_rules.specs.Lives.{Opened, Ended, told_in, Inputs}
-use Rattle.worker_rules.specs.Courses.{Stage, at_first, phase_ended, stage_after}
-use Rattle.worker_rules.specs.Courses.{without_first}
-use Rattle.worker_rules.specs.Promises.{Promise, as_begun, after, promised, IsKept, AreKept}
-use Rattle.worker_rules.specs.Exchanges as exchanged
-use Rattle.worker_rules.specs.Exchanges.{AreEvents}
-use Rattle.worker_rules.proofs.Promised.{calls_join}
+use Rattle.restart_theorem.specs.Lives.{Act, Slice, Checkpoint, Reply, Spent, Event, Told, Asked}
+use Rattle.restart_theorem.specs.Lives.{Opened, Ended, told_in, Inputs}
+use Rattle.restart_theorem.specs.Courses.{Stage, at_first, phase_ended, stage_after}
+use Rattle.restart_theorem.specs.Courses.{without_first}
+use Rattle.restart_theorem.specs.Promises.{Promise, as_begun, after, promised, IsKept, AreKept}
+use Rattle.restart_theorem.specs.Exchanges as exchanged
+use Rattle.restart_theorem.specs.Exchanges.{AreEvents}
+use Rattle.restart_theorem.proofs.Promised.{calls_join}
 use Rattle.worker_store.specs.laws.Pieces.{IsForetold}
 use Rattle.worker_store.proofs.LawLemmas.Pieces.{parts_are_foretold}
 use Rattle.worker.specs.declared.recover_fault.RecoverFault.{RecoverFault}

@@ -3,8 +3,8 @@ use Rattle.wasm_syntax.specs.declared.module.Module.{Module}
 use Rattle.wasi_abi.specs.rules.Configs.{Settings}
 use Rattle.process_rules.specs.Processes.{ProcessState, Guest}
 use Rattle.sector_disk.specs.rules.Medium.{Medium}
-use Rattle.worker_rules.specs.Courses.{Stage}
-use Rattle.worker_rules.specs.Promises.{Promise}
+use Rattle.restart_theorem.specs.Courses.{Stage}
+use Rattle.restart_theorem.specs.Promises.{Promise}
 use Rattle.worker.specs.declared.fault.WorkFault.{WorkFault}
 use Rattle.worker.specs.declared.fault.WorkFault.TheVariants.{Work, Disk, Store}
 use Rattle.worker.specs.declared.recover_fault.RecoverFault.TheVariants.{Worker}

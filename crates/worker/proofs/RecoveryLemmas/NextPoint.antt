@@ -18,8 +18,8 @@ use Rattle.disk_layout.specs.rules.Journal.{Record}
 use Rattle.record_replay.specs.declared.fault.ReplayFault.{ReplayFault}
 use Rattle.record_replay.specs.rules.Calls.{Taking}
 use Rattle.record_replay.specs.rules.Replays.{Replays, ReplaysInVain}
-use Rattle.worker_rules.specs.Promises.{Promise}
-use Rattle.worker_rules.specs.Holds.{IsBounded}
+use Rattle.restart_theorem.specs.Promises.{Promise}
+use Rattle.restart_theorem.specs.Holds.{IsBounded}
 use Rattle.worker_store.specs.laws.Savepoints.{Savepoint, StandsAtPoint, StandsBySaved}
 use Rattle.worker_store.specs.laws.Commits.{BeginsAtPoint, StandsBefore}
 use Rattle.worker_store.specs.laws.Carried.{answers_at}

@@ -9,11 +9,11 @@ use Rattle.process_rules.specs.Runs.{Kept, Runs, none as no_step}
 use Rattle.state_image.specs.rules.Saving.{saved_of}
 use Rattle.sector_disk.specs.rules.Medium.{Medium, LeavesOnly}
 use Rattle.record_replay.specs.rules.Calls.{Taking, all_taken}
-use Rattle.worker_rules.specs.Lives.{Inputs, Event, Opened}
-use Rattle.worker_rules.specs.Courses.{Stage, at_first, next_stage, stage_after}
-use Rattle.worker_rules.specs.Promises.{Promise, after, IsOpening}
-use Rattle.worker_rules.specs.Holds.{ImageHolds, KeepsPromise, CarriesPromise, KeepsBounds}
-use Rattle.worker_rules.specs.Holds.{StaysWithin}
+use Rattle.restart_theorem.specs.Lives.{Inputs, Event, Opened}
+use Rattle.restart_theorem.specs.Courses.{Stage, at_first, next_stage, stage_after}
+use Rattle.restart_theorem.specs.Promises.{Promise, after, IsOpening}
+use Rattle.restart_theorem.specs.Holds.{ImageHolds, KeepsPromise, CarriesPromise, KeepsBounds}
+use Rattle.restart_theorem.specs.Holds.{StaysWithin}
 use Rattle.worker_store.specs.laws.Savepoints.{Savepoint}
 use Rattle.worker_store.specs.laws.CallEnds.{IsSavedAs, IsBetween}
 use Rattle.worker_store.specs.laws.Carried.{answers_at, count_at}

@@ -13,10 +13,10 @@ use Rattle.sector_disk.specs.rules.Medium.{Medium, LeavesOnly}
 use Rattle.sector_disk.proofs.Moments.{goes_on, settled_only, stays_left}
 use Rattle.disk_layout.specs.rules.Places.{geometry_of, total_sectors}
 use Rattle.disk_layout.specs.rules.Journal.{Record}
-use Rattle.worker_rules.specs.Promises.{Promise}
-use Rattle.worker_rules.specs.Holds.{HoldsPromise, IsUnopened, KeepsPromise}
-use Rattle.worker_rules.specs.Holds.{IsBounded, KeepsBounds}
-use Rattle.worker_rules.proofs.Disks.{stands_within}
+use Rattle.restart_theorem.specs.Promises.{Promise}
+use Rattle.restart_theorem.specs.Holds.{HoldsPromise, IsUnopened, KeepsPromise}
+use Rattle.restart_theorem.specs.Holds.{IsBounded, KeepsBounds}
+use Rattle.restart_theorem.proofs.Disks.{stands_within}
 use Rattle.worker_store.specs.laws.Savepoints.{Savepoint, places, point_of, StandsAtPoint}
 use Rattle.worker_store.specs.laws.Savepoints.{StandsBySaved}
 use Rattle.worker_store.specs.laws.Moments.{LeavesAll}

@@ -4,7 +4,7 @@ use Rattle.std.proofs.Common.{◌++◌}
 use Rattle.std.proofs.Common.{length, drop, Option, Some, None, refl, sym, ap, ◌∙◌, subst, arith}
 use Rattle.std.proofs.Common.{append_assoc, length-append}
 use Rattle.std.proofs.lemmas.List.{drop-append-le}
-use Rattle.wasm_syntax_rules.specs.Configuration.{Thread}
+use Rattle.wasm_semantics.specs.Configuration.{Thread}
 use Rattle.wasi_abi.specs.declared.answer.Answer.{Answer}
 use Rattle.wasi_calls_rules.specs.Lines.{lines_ended}
 use Rattle.process_rules.specs.Processes.{ProcessState, Guest, HasLineNumbers, closed_at}
@@ -23,9 +23,9 @@ use Rattle.record_replay.proofs.OnTheWay.{goes_on}
 use Rattle.record_replay.proofs.OneRecording.{first_of, split, one_recorded, refused_on_the_way}
 use Rattle.record_replay.proofs.Playing.{due_at, due_before}
 use Rattle.record_replay.proofs.Recordings.{recorded_emit}
-use Rattle.worker_rules.specs.Stands.{IsNumbered}
-use Rattle.worker_rules.proofs.NumbersKept.{move_keeps_numbers, runs_keep_numbers}
-use Rattle.worker_rules.proofs.NumbersKept.{records_keep_numbers}
+use Rattle.restart_theorem.specs.Stands.{IsNumbered}
+use Rattle.restart_theorem.proofs.NumbersKept.{move_keeps_numbers, runs_keep_numbers}
+use Rattle.restart_theorem.proofs.NumbersKept.{records_keep_numbers}
 use Rattle.worker.specs.rules.Recoveries.{TellsSome}
 use Rattle.worker_store.proofs.LawLemmas.Carrying.{more_lines}
 

@@ -10,11 +10,11 @@ use Rattle.sector_disk.specs.rules.Medium.{Medium, LeavesOnly}
 use Rattle.sector_disk.proofs.Moments.{leaves_weaker}
 use Rattle.disk_layout.specs.rules.Journal.{Record}
 use Rattle.record_replay.specs.rules.Calls.{Taking, Exchange, Tells, all_taken}
-use Rattle.worker_rules.specs.Lives.{Inputs}
-use Rattle.worker_rules.specs.Courses.{at_first}
-use Rattle.worker_rules.specs.Promises.{Promise}
-use Rattle.worker_rules.specs.Holds.{ImageHolds, KeepsPromise, CarriesPromise, IsBounded}
-use Rattle.worker_rules.specs.Holds.{KeepsBounds}
+use Rattle.restart_theorem.specs.Lives.{Inputs}
+use Rattle.restart_theorem.specs.Courses.{at_first}
+use Rattle.restart_theorem.specs.Promises.{Promise}
+use Rattle.restart_theorem.specs.Holds.{ImageHolds, KeepsPromise, CarriesPromise, IsBounded}
+use Rattle.restart_theorem.specs.Holds.{KeepsBounds}
 use Rattle.worker_store.specs.laws.Savepoints.{Savepoint, StandsAtPoint}
 use Rattle.worker_store.specs.laws.Commits.{BeginsAtPoint}
 use Rattle.worker_store.specs.laws.Pieces.{IsForetold}

@@ -2,7 +2,7 @@
 use Rattle.std.specs.Prelude.{◌≡◌, ◌⊎◌, ℕ, Bool, ◌+◌, ◌<◌, ◌≤◌, List, [], ◌∷◌, length, Option, Some}
 use Rattle.std.specs.Prelude.{None, Result, Ok, Err, IfErr}
 use Rattle.wasm_syntax.specs.declared.module.Module.{Module}
-use Rattle.wasm_syntax_rules.specs.Acceptance.{IsAccepted}
+use Rattle.wasm_semantics.specs.Acceptance.{IsAccepted}
 use Rattle.wasi_abi.specs.rules.Configs.{Settings}
 use Rattle.machine.specs.rules.Offers.{offer}
 use Rattle.state_image.specs.rules.Image.{Saved}
@@ -13,16 +13,16 @@ use Rattle.disk_layout.specs.rules.Places.{geometry_of, total_sectors}
 use Rattle.disk_layout.specs.rules.Unsynced.{most_unsynced}
 use Rattle.record_replay.specs.declared.fault.ReplayFault.TheVariants as replay
 use Rattle.record_replay.specs.rules.Calls.{Giving, Taking, Exchange, Asks, Tells, Exchanges}
-use Rattle.worker_rules.specs.Lives.{Act, Slice, Checkpoint, SourceSaid, Inputs, Release, Cause}
-use Rattle.worker_rules.specs.Lives.{OfDisk, OfMemory, OfOutlet}
-use Rattle.worker_rules.specs.Lives.{Event, Told, Asked, Opened, Ended, told_in}
-use Rattle.worker_rules.specs.Lives.{Beginning, Creates, End, Finished, Stopped, Failed, Life}
-use Rattle.worker_rules.specs.Lives.Beginning.{Recovers as recovers}
-use Rattle.worker_rules.specs.Courses.{HasDiskFault, HasStopped, HasNotStopped}
-use Rattle.worker_rules.specs.Promises.{Promise}
-use Rattle.worker_rules.specs.Holds.{KeepsPromise, KeepsBounds}
-use Rattle.worker_rules.specs.Between.{IsLivedOn}
-use Rattle.worker_rules.specs.Exchanges.{was_taken, release_of}
+use Rattle.restart_theorem.specs.Lives.{Act, Slice, Checkpoint, SourceSaid, Inputs, Release, Cause}
+use Rattle.restart_theorem.specs.Lives.{OfDisk, OfMemory, OfOutlet}
+use Rattle.restart_theorem.specs.Lives.{Event, Told, Asked, Opened, Ended, told_in}
+use Rattle.restart_theorem.specs.Lives.{Beginning, Creates, End, Finished, Stopped, Failed, Life}
+use Rattle.restart_theorem.specs.Lives.Beginning.{Recovers as recovers}
+use Rattle.restart_theorem.specs.Courses.{HasDiskFault, HasStopped, HasNotStopped}
+use Rattle.restart_theorem.specs.Promises.{Promise}
+use Rattle.restart_theorem.specs.Holds.{KeepsPromise, KeepsBounds}
+use Rattle.restart_theorem.specs.Between.{IsLivedOn}
+use Rattle.restart_theorem.specs.Exchanges.{was_taken, release_of}
 use Rattle.worker_store.specs.laws.Pieces.{Foretell}
 use Rattle.ephemeral_worker.specs.declared.now.Now.{Now}
 use Rattle.worker.specs.declared.fault.WorkFault.{WorkFault}

@@ -1,7 +1,7 @@
 -- What the last slice of a life has answered, among what happened in it (this project's own).
 use Rattle.std.specs.Prelude.{◌≡◌, ◌⊎◌, ℕ, ◌≤◌, List, [], ◌∷◌, ◌++◌, length, Option, Result, Ok}
 use Rattle.wasm_syntax.specs.declared.module.Module.{Module}
-use Rattle.wasm_syntax_rules.specs.Acceptance.{IsAccepted}
+use Rattle.wasm_semantics.specs.Acceptance.{IsAccepted}
 use Rattle.wasi_abi.specs.rules.Configs.{Settings}
 use Rattle.machine.specs.rules.Offers.{offer}
 use Rattle.process.specs.rules.Values.{ending_of}
@@ -10,11 +10,11 @@ use Rattle.sector_disk.specs.rules.Medium.{Medium}
 use Rattle.disk_layout.specs.rules.Places.{geometry_of, total_sectors}
 use Rattle.disk_layout.specs.rules.Unsynced.{most_unsynced}
 use Rattle.record_replay.specs.rules.Calls.{Giving, Taking, Exchange, Exchanges}
-use Rattle.worker_rules.specs.Lives.{Act, Slice, Checkpoint, Reply, Spent, Waits, Over, Event, Told}
-use Rattle.worker_rules.specs.Lives.{Asked, Opened, Ended, told_in, Beginning, Inputs}
-use Rattle.worker_rules.specs.Courses.{at_first, stage_after}
-use Rattle.worker_rules.specs.Promises.{Promise, as_begun, promised, AreKept, IsEnding}
-use Rattle.worker_rules.specs.Holds.{KeepsPromise, KeepsBounds}
+use Rattle.restart_theorem.specs.Lives.{Act, Slice, Checkpoint, Reply, Spent, Waits, Over, Event, Told}
+use Rattle.restart_theorem.specs.Lives.{Asked, Opened, Ended, told_in, Beginning, Inputs}
+use Rattle.restart_theorem.specs.Courses.{at_first, stage_after}
+use Rattle.restart_theorem.specs.Promises.{Promise, as_begun, promised, AreKept, IsEnding}
+use Rattle.restart_theorem.specs.Holds.{KeepsPromise, KeepsBounds}
 use Rattle.ephemeral_worker.specs.declared.now.Now.{Now}
 use Rattle.ephemeral_worker.specs.declared.now.Now.TheVariants as now
 use Rattle.worker.specs.declared.recover_fault.RecoverFault.{RecoverFault}

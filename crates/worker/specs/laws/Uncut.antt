@@ -2,16 +2,16 @@
 use Rattle.std.specs.Prelude.{◌≡◌, ◌⊎◌, ℕ, ◌≤◌, Bool, true, false, List, [], ◌∷◌, length}
 use Rattle.std.specs.Prelude.{Option, Some, None, Result}
 use Rattle.wasm_syntax.specs.declared.module.Module.{Module}
-use Rattle.wasm_syntax_rules.specs.Acceptance.{IsAccepted}
+use Rattle.wasm_semantics.specs.Acceptance.{IsAccepted}
 use Rattle.wasi_abi.specs.rules.Configs.{Settings}
 use Rattle.machine.specs.rules.Offers.{offer}
 use Rattle.sector_disk.specs.rules.Medium.{Medium}
 use Rattle.disk_layout.specs.rules.Places.{geometry_of, total_sectors}
 use Rattle.disk_layout.specs.rules.Unsynced.{most_unsynced}
 use Rattle.record_replay.specs.rules.Calls.{Giving, Taking, Exchange, Exchanges}
-use Rattle.worker_rules.specs.Lives.{Act, Inputs, OfOutlet, told_in, Beginning, Failed, Life}
-use Rattle.worker_rules.specs.Promises.{Promise, promised_by, IsLived}
-use Rattle.worker_rules.specs.Holds.{KeepsPromise, KeepsBounds}
+use Rattle.restart_theorem.specs.Lives.{Act, Inputs, OfOutlet, told_in, Beginning, Failed, Life}
+use Rattle.restart_theorem.specs.Promises.{Promise, promised_by, IsLived}
+use Rattle.restart_theorem.specs.Holds.{KeepsPromise, KeepsBounds}
 use Rattle.worker.specs.declared.recover_fault.RecoverFault.{RecoverFault}
 use Rattle.worker.specs.rules.DurableValues.{DurableValue}
 use Rattle.worker.specs.laws.OneLife.{IsOneLife, IsLifeOver, EndsBy, released_in, said_in}

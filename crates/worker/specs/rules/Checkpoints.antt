@@ -14,8 +14,8 @@ use Rattle.journal.specs.rules.Packed.{sectors_for}
 use Rattle.journal.specs.rules.Steps.{barrier_calls}
 use Rattle.snapshot.specs.declared.writing.Writing.TheVariants.{Changes}
 use Rattle.snapshot.specs.rules.Calls.{AreStores, with_head}
-use Rattle.worker_rules.specs.Courses.{Stage}
-use Rattle.worker_rules.specs.Promises.{Promise}
+use Rattle.restart_theorem.specs.Courses.{Stage}
+use Rattle.restart_theorem.specs.Promises.{Promise}
 use Rattle.worker_store.specs.declared.fault.StoreFault.TheVariants as store
 use Rattle.ephemeral_worker.specs.declared.fault.SliceFault.TheVariants as slice
 use Rattle.worker.specs.declared.fault.WorkFault.{WorkFault}

@@ -12,13 +12,13 @@ use Rattle.record_replay.specs.rules.Calls.{Giving, Taking, Exchange, Exchanges}
 use Rattle.sector_disk.specs.rules.Medium.{Medium}
 use Rattle.state_image.specs.rules.Saving.{saved_of}
 use Rattle.disk_layout.specs.rules.Places.{geometry_of}
-use Rattle.worker_rules.specs.Lives.{Act, Slice, Checkpoint, Cause, OfDisk, OfSource, OfAnswer}
-use Rattle.worker_rules.specs.Lives.{OfOutlet, OfMemory, OfBounds, Reply, Spent, Waits, Over, Done}
-use Rattle.worker_rules.specs.Lives.{Fails, Event, Ended}
-use Rattle.worker_rules.specs.Courses.{Stage, Open, phase_ended, stage_after}
-use Rattle.worker_rules.specs.Promises.{Promise, promised, AreKept}
-use Rattle.worker_rules.specs.Holds.{CarriesPromise, StaysWithin}
-use Rattle.worker_rules.specs.Exchanges.{AreEvents}
+use Rattle.restart_theorem.specs.Lives.{Act, Slice, Checkpoint, Cause, OfDisk, OfSource, OfAnswer}
+use Rattle.restart_theorem.specs.Lives.{OfOutlet, OfMemory, OfBounds, Reply, Spent, Waits, Over, Done}
+use Rattle.restart_theorem.specs.Lives.{Fails, Event, Ended}
+use Rattle.restart_theorem.specs.Courses.{Stage, Open, phase_ended, stage_after}
+use Rattle.restart_theorem.specs.Promises.{Promise, promised, AreKept}
+use Rattle.restart_theorem.specs.Holds.{CarriesPromise, StaysWithin}
+use Rattle.restart_theorem.specs.Exchanges.{AreEvents}
 use Rattle.worker_store.specs.laws.Pieces.{IsForetold}
 use Rattle.worker_store.specs.declared.fault.StoreFault.TheVariants as store
 use Rattle.ephemeral_worker.specs.declared.now.Now.{Now}

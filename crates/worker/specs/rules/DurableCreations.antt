@@ -2,7 +2,7 @@
 use Rattle.std.specs.Prelude.{◌≡◌, ◌⊎◌, ℕ, ◌+◌, ◌*◌, ◌<◌, ◌≤◌, List, [], ◌∷◌, ◌++◌, length, false}
 use Rattle.std.specs.Prelude.{true, Result, Ok, Err}
 use Rattle.wasm_syntax.specs.declared.module.Module.{Module}
-use Rattle.wasm_syntax_rules.specs.Acceptance.{IsAccepted}
+use Rattle.wasm_semantics.specs.Acceptance.{IsAccepted}
 use Rattle.wasi_abi.specs.rules.Configs.{Settings}
 use Rattle.machine.specs.rules.Offers.{offer}
 use Rattle.process_rules.specs.Processes.{ProcessState, Guest}
@@ -17,11 +17,11 @@ use Rattle.disk_layout.specs.declared.geometry.Geometry.{Geometry}
 use Rattle.disk_layout.specs.rules.Places.{geometry_of, total_sectors}
 use Rattle.disk_layout.specs.rules.Unsynced.{most_unsynced}
 use Rattle.disk_layout.specs.rules.Sectors.{HasWorker}
-use Rattle.worker_rules.specs.Between.{FindsNoWorker}
-use Rattle.worker_rules.specs.Lives.{Inputs, Opened}
-use Rattle.worker_rules.specs.Courses.{at_first, next_stage}
-use Rattle.worker_rules.specs.Promises.{Promise, after, AreKept, OpensAnew}
-use Rattle.worker_rules.specs.Holds.{IsNothingYet, CarriesPromise, StaysWithin}
+use Rattle.restart_theorem.specs.Between.{FindsNoWorker}
+use Rattle.restart_theorem.specs.Lives.{Inputs, Opened}
+use Rattle.restart_theorem.specs.Courses.{at_first, next_stage}
+use Rattle.restart_theorem.specs.Promises.{Promise, after, AreKept, OpensAnew}
+use Rattle.restart_theorem.specs.Holds.{IsNothingYet, CarriesPromise, StaysWithin}
 use Rattle.worker_store.specs.declared.fault.StoreFault.TheVariants as store
 use Rattle.worker_store.specs.rules.Creations.{creation_calls}
 use Rattle.ephemeral_worker.specs.rules.Faults.{IsRefusedByWorker}

@@ -8,8 +8,8 @@ use Rattle.process_rules.specs.Runs.{Runs}
 use Rattle.process.specs.rules.Values.{ShowsProcess, waiting_in}
 use Rattle.sector_disk.specs.rules.Medium.{Medium}
 use Rattle.disk_layout.specs.rules.Journal.{Record}
-use Rattle.worker_rules.specs.Courses.{Stage}
-use Rattle.worker_rules.specs.Promises.{Promise}
+use Rattle.restart_theorem.specs.Courses.{Stage}
+use Rattle.restart_theorem.specs.Promises.{Promise}
 use Rattle.worker_store.specs.laws.Savepoints.{Savepoint}
 use Rattle.worker_store.specs.laws.CallEnds.{IsBetween}
 use Rattle.worker_store.specs.laws.Carried.{count_at, IsCarried}

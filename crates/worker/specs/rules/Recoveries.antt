@@ -25,13 +25,13 @@ use Rattle.snapshot.specs.rules.Calls.{AreStores, with_head}
 use Rattle.record_replay.specs.declared.fault.ReplayFault.TheVariants as replay
 use Rattle.record_replay.specs.rules.Calls.{Taking, Begun, Tells, Releases, all_taken}
 use Rattle.record_replay.specs.rules.Replays.{TellsFrom, RefusesFrom}
-use Rattle.worker_rules.specs.Stands.{StandsFor, IsBlank}
-use Rattle.worker_rules.specs.Lives.{Inputs, Event, Opened}
-use Rattle.worker_rules.specs.Courses.{Phase, Shut, Unheard, at_first, stage_after}
-use Rattle.worker_rules.specs.Promises.{Promise, promised, AreKept}
-use Rattle.worker_rules.specs.Holds.{IsUnopened, ImageHolds, KeepsPromise, CarriesPromise}
-use Rattle.worker_rules.specs.Holds.{KeepsBounds, StaysWithin}
-use Rattle.worker_rules.specs.Exchanges.{AreEvents}
+use Rattle.restart_theorem.specs.Stands.{StandsFor, IsBlank}
+use Rattle.restart_theorem.specs.Lives.{Inputs, Event, Opened}
+use Rattle.restart_theorem.specs.Courses.{Phase, Shut, Unheard, at_first, stage_after}
+use Rattle.restart_theorem.specs.Promises.{Promise, promised, AreKept}
+use Rattle.restart_theorem.specs.Holds.{IsUnopened, ImageHolds, KeepsPromise, CarriesPromise}
+use Rattle.restart_theorem.specs.Holds.{KeepsBounds, StaysWithin}
+use Rattle.restart_theorem.specs.Exchanges.{AreEvents}
 use Rattle.worker_store.specs.laws.Pieces.{IsForetold}
 use Rattle.worker_store.specs.declared.fault.StoreFault.TheVariants as store
 use Rattle.worker.specs.declared.fault.WorkFault.TheVariants.{Disk, Store}

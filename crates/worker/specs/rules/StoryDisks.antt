@@ -3,7 +3,7 @@
 use Rattle.std.specs.Prelude.{◌≡◌, ℕ, ◌+◌, ◌-◌, ◌≤◌, Bool, true, false, List, [], ◌∷◌, ◌++◌}
 use Rattle.std.specs.Prelude.{length, map, replicate, take, Option, Result}
 use Rattle.wasm_syntax.specs.declared.module.Module.{Module}
-use Rattle.wasm_syntax_rules.specs.Acceptance.{IsAccepted}
+use Rattle.wasm_semantics.specs.Acceptance.{IsAccepted}
 use Rattle.wasi_abi.specs.declared.answer.Answer.{Answer}
 use Rattle.wasi_abi.specs.rules.Configs.{Settings}
 use Rattle.machine.specs.rules.Offers.{offer}
@@ -19,9 +19,9 @@ use Rattle.sector_disk.specs.rules.Memory.{memory_medium, memory_state_of, after
 use Rattle.sector_disk.specs.rules.Trouble.{call_number, troubled}
 use Rattle.disk_layout.specs.rules.Places.{geometry_of, total_sectors}
 use Rattle.disk_layout.specs.rules.Unsynced.{most_unsynced}
-use Rattle.worker_rules.specs.Lives.{Life, Beginning}
-use Rattle.worker_rules.specs.Promises.{GoesOn}
-use Rattle.worker_rules.specs.Stands.{StandsFor}
+use Rattle.restart_theorem.specs.Lives.{Life, Beginning}
+use Rattle.restart_theorem.specs.Promises.{GoesOn}
+use Rattle.restart_theorem.specs.Stands.{StandsFor}
 use Rattle.worker.specs.declared.recover_fault.RecoverFault.{RecoverFault}
 use Rattle.record_replay.specs.declared.refusing.RefusingOutlet.{RefusingOutlet}
 use Rattle.record_replay.specs.rules.Lists.{inner_outlet, until_fault}

@@ -5,9 +5,9 @@ use Rattle.state_image.specs.rules.Image.{Saved, image}
 use Rattle.disk_layout.specs.rules.Places.{geometry_of, total_sectors}
 use Rattle.record_replay.specs.declared.line_list.NumberedLine.{NumberedLine}
 use Rattle.record_replay.specs.rules.Lists.{numbered}
-use Rattle.worker_rules.specs.Lives.{Release, told_in}
-use Rattle.worker_rules.specs.Lives.{Beginning, Recovers, Creates, End, Life}
-use Rattle.worker_rules.specs.Lives.End.{Finished as finished, Stopped as stopped, Failed as failed}
+use Rattle.restart_theorem.specs.Lives.{Release, told_in}
+use Rattle.restart_theorem.specs.Lives.{Beginning, Recovers, Creates, End, Life}
+use Rattle.restart_theorem.specs.Lives.End.{Finished as finished, Stopped as stopped, Failed as failed}
 use Rattle.worker.specs.laws.OneLife.{opened_in, IsCauseOf}
 use Rattle.worker.specs.declared.story.report.Opening.{Opening}
 use Rattle.worker.specs.declared.story.report.Opening.TheVariants.{Created, Recovered}

@@ -4,8 +4,8 @@ ghost use Rattle.std.specs.Prelude.{◌≡◌, ◌↔◌, ◌-◌, IfOk, IsTrue,
 ghost use Rattle.sector_disk.specs.rules.FaultDisk.{call_counts_of, disk_below, left_front_of};
 ghost use Rattle.sector_disk.specs.rules.Memory.{memory_medium, memory_state_of, after_cut};
 ghost use Rattle.sector_disk.specs.rules.Trouble.{call_number};
-ghost use Rattle.worker_rules.specs.Between.{IsFoundAfterCut};
-ghost use Rattle.worker_rules.specs.Courses.{HasStopped};
+ghost use Rattle.restart_theorem.specs.Between.{IsFoundAfterCut};
+ghost use Rattle.restart_theorem.specs.Courses.{HasStopped};
 ghost use Rattle.worker.specs.rules.Planned.{call_at};
 ghost use Rattle.worker.specs.rules.StoryDisks.{IsLeftBy, front_count};
 ghost use Rattle.worker.specs.Endings.{end_told, IsFoundBehind};

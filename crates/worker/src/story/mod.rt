@@ -13,7 +13,7 @@
 //!   last one (`BeginFewCalls`). So it isn't told as stopped at a call that it can't have come to.
 //! - So a life isn't opened, or leaves an act undone, only where its stop came first, or an error
 //!   with its cause. That is the call of the disk that fails, the line that is refused, want of
-//!   memory, an answer that doesn't fit, or a number at its end (`MayEnd` of `worker_rules`).
+//!   memory, an answer that doesn't fit, or a number at its end (`MayEnd` of `restart_theorem`).
 //! - Want of memory inside of a life ends that life. `StoryFault` is told only where memory was
 //!   refused to `story` itself.
 //! - A life without a stop, or whose stop isn't reached, is cut behind its last act. One that ends
@@ -34,8 +34,8 @@
 //! In `specs/rules/`: `inputs_of` (`Planned.antt`), what is put into each life; `TellsLife`,
 //! (`Told.antt`), what a report tells of one; `TellsLives` (`StoryDisks.antt`), what it tells of
 //! all, and on which disk they were run; `most_calls` (`CallCounts.antt`). They speak in the words
-//! of `worker_rules`. What is read off a life is `opened_in` (`specs/laws/OneLife.antt`) and
-//! `told_in` of `worker_rules`, and `IsCauseOf` says which error is which cause.
+//! of `restart_theorem`. What is read off a life is `opened_in` (`specs/laws/OneLife.antt`) and
+//! `told_in` of `restart_theorem`, and `IsCauseOf` says which error is which cause.
 //!
 //! # Who may touch what
 //!

@@ -7,10 +7,10 @@ use Rattle.state_image.specs.rules.Image.{Saved}
 use Rattle.sector_disk.specs.rules.Image.{Image}
 use Rattle.sector_disk.specs.rules.Medium.{Medium}
 use Rattle.sector_disk.proofs.Moments.{leaves_weaker}
-use Rattle.worker_rules.specs.Stands.{IsBlank}
-use Rattle.worker_rules.specs.Lives.{Opened}
-use Rattle.worker_rules.specs.Promises.{Promise, after}
-use Rattle.worker_rules.specs.Holds.{IsNothingYet, ImageHolds}
+use Rattle.restart_theorem.specs.Stands.{IsBlank}
+use Rattle.restart_theorem.specs.Lives.{Opened}
+use Rattle.restart_theorem.specs.Promises.{Promise, after}
+use Rattle.restart_theorem.specs.Holds.{IsNothingYet, ImageHolds}
 use Rattle.worker_store.specs.laws.Commits.{BeginsAtPoint}
 use Rattle.worker_store.specs.laws.Carried.{IsHeldAt, PromisesNoMore}
 use Rattle.worker_store.specs.laws.Anew.{CreationOpens}

@@ -11,13 +11,13 @@ use Rattle.process_rules.specs.Processes.{ProcessState, Guest, IsStart}
 use Rattle.process_rules.specs.Runs.{Kept, Runs, Next, On, Over, Wants, Nowhere, next_of}
 use Rattle.process.specs.rules.Stops.{LacksNumbers}
 use Rattle.state_image.specs.rules.Image.{Saved}
-use Rattle.worker_rules.specs.Lives.{Act, Slice, Checkpoint}
-use Rattle.worker_rules.specs.Lives.{Fails, Cause, OfDisk, OfSource, OfAnswer, OfOutlet}
-use Rattle.worker_rules.specs.Lives.{OfMemory, OfBounds}
-use Rattle.worker_rules.specs.Courses.{Stage, NoneThere, MayFail}
-use Rattle.worker_rules.specs.Courses.{IsNextAct}
-use Rattle.worker_rules.specs.Promises.{Promise, IsAt, IsAtBound, HasLastLines}
-use Rattle.worker_rules.specs.Promises.{IsCaughtUp, IsOneOf}
+use Rattle.restart_theorem.specs.Lives.{Act, Slice, Checkpoint}
+use Rattle.restart_theorem.specs.Lives.{Fails, Cause, OfDisk, OfSource, OfAnswer, OfOutlet}
+use Rattle.restart_theorem.specs.Lives.{OfMemory, OfBounds}
+use Rattle.restart_theorem.specs.Courses.{Stage, NoneThere, MayFail}
+use Rattle.restart_theorem.specs.Courses.{IsNextAct}
+use Rattle.restart_theorem.specs.Promises.{Promise, IsAt, IsAtBound, HasLastLines}
+use Rattle.restart_theorem.specs.Promises.{IsCaughtUp, IsOneOf}
 use Rattle.worker_store.proofs.LawLemmas.Underway.{among_first}
 use Rattle.worker_store.specs.laws.CallEnds.{IsSavedAs, SpentSlicesEnd, EndedSlicesEnd}
 use Rattle.worker_store.specs.laws.CallEnds.{WaitingSlicesEnd, HasBound, FailedSlicesEnd}

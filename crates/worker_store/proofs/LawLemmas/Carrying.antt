@@ -18,10 +18,10 @@ use Rattle.disk_layout.specs.rules.Journal.{Record}
 use Rattle.journal.specs.rules.State.{JournalState}
 use Rattle.record_replay.specs.rules.Records.{none, given_in}
 use Rattle.record_replay.proofs.Recordings.{recorded_count, recorded_emit, recorded_join}
-use Rattle.worker_rules.specs.Stands.{IsBlank}
-use Rattle.worker_rules.specs.Promises.{Promise, HoldsAll}
-use Rattle.worker_rules.specs.Holds.{HoldsPromise, IsUnopened, ImageHolds, CarriesPromise}
-use Rattle.worker_rules.proofs.Disks.{blank_stands_for_none}
+use Rattle.restart_theorem.specs.Stands.{IsBlank}
+use Rattle.restart_theorem.specs.Promises.{Promise, HoldsAll}
+use Rattle.restart_theorem.specs.Holds.{HoldsPromise, IsUnopened, ImageHolds, CarriesPromise}
+use Rattle.restart_theorem.proofs.Disks.{blank_stands_for_none}
 use Rattle.worker_store.specs.laws.Savepoints.{Savepoint, point_of, StandsAtPoint, StandsBySaved}
 use Rattle.worker_store.specs.laws.Barriers.{StandsAtFront}
 use Rattle.worker_store.specs.laws.Commits.{BeginsAtPoint}

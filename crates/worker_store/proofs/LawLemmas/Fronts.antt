@@ -19,8 +19,8 @@ use Rattle.journal.proofs.RunLemmas.{all_bytes}
 use Rattle.journal.proofs.RecordLemmas.{scan_of}
 use Rattle.record_replay.specs.rules.Records.{Recorded, none, more, given_in}
 use Rattle.record_replay.proofs.Recordings.{recorded_join}
-use Rattle.worker_rules.specs.Stands.{IsNumbered}
-use Rattle.worker_rules.proofs.NumbersKept.{records_keep_numbers}
+use Rattle.restart_theorem.specs.Stands.{IsNumbered}
+use Rattle.restart_theorem.proofs.NumbersKept.{records_keep_numbers}
 use Rattle.worker_store.specs.laws.Savepoints.{Savepoint, places, point_of, StandsAtPoint}
 use Rattle.worker_store.specs.laws.Barriers.{RecordedOnce, BarrierLeavesFront, BarrierLeavesAll}
 use Rattle.worker_store.specs.laws.Barriers.{FrontStands, BarrierStands}

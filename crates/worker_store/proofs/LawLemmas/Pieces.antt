@@ -1,12 +1,12 @@
 -- Parts of a call, one after another.
 use Rattle.std.proofs.Common.{Bool, List, [], ◌∷◌, ◌++◌, sym, ap, ◌∙◌, subst}
 use Rattle.record_replay.specs.rules.Calls.{Exchange, Asks, Tells}
-use Rattle.worker_rules.specs.Lives.{SourceSaid, Event}
-use Rattle.worker_rules.specs.Courses.{Stage, without_first}
-use Rattle.worker_rules.specs.Courses.{next_stage, stage_after}
-use Rattle.worker_rules.specs.Promises.{after, promised, AreKept, IsKept}
-use Rattle.worker_rules.specs.Exchanges.{AreEvents, none, told, asked}
-use Rattle.worker_rules.proofs.Promised.{calls_join}
+use Rattle.restart_theorem.specs.Lives.{SourceSaid, Event}
+use Rattle.restart_theorem.specs.Courses.{Stage, without_first}
+use Rattle.restart_theorem.specs.Courses.{next_stage, stage_after}
+use Rattle.restart_theorem.specs.Promises.{after, promised, AreKept, IsKept}
+use Rattle.restart_theorem.specs.Exchanges.{AreEvents, none, told, asked}
+use Rattle.restart_theorem.proofs.Promised.{calls_join}
 use Rattle.worker_store.specs.laws.Pieces.{Foretell, IsForetold, PartsJoin}
 use Rattle.worker_store.specs.laws.Pieces.{PartsAreForetold, EndsJoin}
 

@@ -16,7 +16,7 @@ use Rattle.disk_layout.specs.rules.Sectors.{HasWorker, HoldsImage}
 use Rattle.disk_layout.specs.rules.Journal.{Record, scan}
 use Rattle.disk_layout.specs.declared.head.TheConstants.{IMAGE_VERSION}
 use Rattle.record_replay.specs.rules.Records.{Recorded, none, more, given_in}
-use Rattle.worker_rules.specs.Stands.{ShowsNoneLater}
+use Rattle.restart_theorem.specs.Stands.{ShowsNoneLater}
 use Rattle.worker_store.specs.laws.Savepoints.{Savepoint, StandsAtPoint, StandsBySaved}
 use Rattle.worker_store.specs.laws.Savepoints.{StandsAtItsPoint, PointStands, ReadAlikeStands}
 use Rattle.worker_store.specs.laws.Savepoints.{PointStandsAlone}

@@ -8,8 +8,8 @@ use Rattle.std.proofs.lemmas.List.{append-nil, take_all, take-append-le, map-app
 use Rattle.std.proofs.lemmas.List.{length-take-le}
 use Rattle.wasm_syntax.specs.declared.value.Value.{Value}
 use Rattle.wasm_syntax.specs.declared.module.Module.{Module}
-use Rattle.wasm_syntax_rules.specs.Configuration.{Configuration, Thread, Outcome}
-use Rattle.wasm_syntax_rules.specs.Validity.{IsValid}
+use Rattle.wasm_semantics.specs.Configuration.{Configuration, Thread, Outcome}
+use Rattle.wasm_semantics.specs.Validity.{IsValid}
 use Rattle.wasi_abi.specs.declared.answer.Kind.{Kind}
 use Rattle.wasi_abi.specs.declared.call.Call.{Call}
 use Rattle.wasi_abi.specs.rules.Configs.{Settings}
@@ -27,9 +27,9 @@ use Rattle.sector_disk.specs.rules.Medium.{Medium}
 use Rattle.disk_layout.specs.rules.Journal.{Record}
 use Rattle.record_replay.specs.rules.Records.{given_in}
 use Rattle.record_replay.proofs.Recordings.{recorded_runs, recorded_join}
-use Rattle.worker_rules.specs.Lives.{kept_of_said}
-use Rattle.worker_rules.specs.Promises.{saved_by, synced_by}
-use Rattle.worker_rules.proofs.Fronts.{LeadsOn, fronts_lead_on}
+use Rattle.restart_theorem.specs.Lives.{kept_of_said}
+use Rattle.restart_theorem.specs.Promises.{saved_by, synced_by}
+use Rattle.restart_theorem.proofs.Fronts.{LeadsOn, fronts_lead_on}
 use Rattle.worker_store.specs.laws.Carried.{answers_at, count_at}
 use Rattle.worker_store.specs.laws.Raised.{AllSyncsAreHeld, QuietSyncsAreHeld}
 use Rattle.worker_store.specs.laws.Raised.{AnsweredSyncsAreHeld, ToldCarries, AskedCarries}

@@ -18,9 +18,9 @@ use Rattle.sector_disk.proofs.Moments.{leaves_weaker}
 use Rattle.disk_layout.specs.rules.Journal.{Record}
 use Rattle.record_replay.specs.rules.Records.{Recorded, given_in}
 use Rattle.record_replay.proofs.Recordings.{recorded_runs}
-use Rattle.worker_rules.specs.Lives.{Opened}
-use Rattle.worker_rules.specs.Promises.{Promise, after, HoldsAll}
-use Rattle.worker_rules.specs.Holds.{HoldsPromise, ImageHolds}
+use Rattle.restart_theorem.specs.Lives.{Opened}
+use Rattle.restart_theorem.specs.Promises.{Promise, after, HoldsAll}
+use Rattle.restart_theorem.specs.Holds.{HoldsPromise, ImageHolds}
 use Rattle.worker_store.specs.laws.Savepoints.{Savepoint, StandsAtPoint, StandsBySaved}
 use Rattle.worker_store.specs.laws.Commits.{BeginsAtPoint}
 use Rattle.worker_store.specs.laws.Carried.{answers_at, count_at, IsHeldAt}

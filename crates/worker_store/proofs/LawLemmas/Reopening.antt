@@ -8,16 +8,16 @@ use Rattle.std.proofs.lemmas.Option.{slice_get_within}
 use Rattle.wasm_syntax.specs.declared.module.Module.{Module}
 use Rattle.wasi_abi.specs.rules.Configs.{Settings}
 use Rattle.wasi_calls_rules.specs.Hosts.{Line}
-use Rattle.wasm_syntax_rules.specs.Configuration.{Thread}
+use Rattle.wasm_semantics.specs.Configuration.{Thread}
 use Rattle.wasi_calls_rules.specs.Lines.{rest_of}
 use Rattle.process_rules.specs.Processes.{ProcessState, Guest, IsStart, closed_at}
 use Rattle.process_rules.specs.Runs.{Runs, none}
 use Rattle.process_rules.proofs.Growing.{start_counts}
 use Rattle.record_replay.specs.rules.Calls.{Tells, all_taken}
-use Rattle.worker_rules.specs.Lives.{Release, Told}
-use Rattle.worker_rules.specs.Courses.{Stage, Unheard, first_taken, next_stage}
-use Rattle.worker_rules.specs.Courses.{IsLast, IsToldIn, ComesAfter, phase_refused}
-use Rattle.worker_rules.specs.Promises.{Promise, after, HoldsAll, IsTelling}
+use Rattle.restart_theorem.specs.Lives.{Release, Told}
+use Rattle.restart_theorem.specs.Courses.{Stage, Unheard, first_taken, next_stage}
+use Rattle.restart_theorem.specs.Courses.{IsLast, IsToldIn, ComesAfter, phase_refused}
+use Rattle.restart_theorem.specs.Promises.{Promise, after, HoldsAll, IsTelling}
 use Rattle.worker_store.specs.laws.Pieces.{IsForetold}
 use Rattle.worker_store.specs.laws.Telling.{AreMade}
 use Rattle.worker_store.specs.laws.Reopening.{IsReviving, LinesAreRetold, LinesAreRetoldInVain}

@@ -18,7 +18,7 @@ use Rattle.snapshot.specs.rules.Heads.{heads_to, IsReadyForHead}
 use Rattle.snapshot.specs.rules.Steps.{KeepsNewest, HasNew, IsOutsideArea}
 use Rattle.snapshot.proofs.AreaLemmas.{parity}
 use Rattle.record_replay.specs.rules.Records.{none}
-use Rattle.worker_rules.specs.Stands.{IsNumbered}
+use Rattle.restart_theorem.specs.Stands.{IsNumbered}
 use Rattle.worker_store.specs.laws.Savepoints.{Savepoint, places, StandsAtPoint}
 use Rattle.worker_store.specs.laws.Commits.{BeginsAtPoint, NewPointBegins, PointIsReady}
 use Rattle.worker_store.specs.laws.Commits.{FillingKeepsPoint, IsNextPoint, CommitLeavesOneOfTwo}

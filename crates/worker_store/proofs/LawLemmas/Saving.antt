@@ -15,9 +15,9 @@ use Rattle.sector_disk.proofs.Moments.{goes_on, weaker, leaves_only, leaves_weak
 use Rattle.disk_layout.specs.rules.Journal.{Record}
 use Rattle.journal.specs.rules.State.{JournalState}
 use Rattle.record_replay.specs.rules.Records.{Recorded, none}
-use Rattle.worker_rules.specs.Lives.{Checkpoint, Done, Ended}
-use Rattle.worker_rules.specs.Promises.{Promise, after}
-use Rattle.worker_rules.specs.Holds.{HoldsPromise, ImageHolds}
+use Rattle.restart_theorem.specs.Lives.{Checkpoint, Done, Ended}
+use Rattle.restart_theorem.specs.Promises.{Promise, after}
+use Rattle.restart_theorem.specs.Holds.{HoldsPromise, ImageHolds}
 use Rattle.worker_store.specs.laws.Savepoints.{Savepoint, StandsAtPoint}
 use Rattle.worker_store.specs.laws.Barriers.{StandsAtFront}
 use Rattle.worker_store.specs.laws.Commits.{BeginsAtPoint}

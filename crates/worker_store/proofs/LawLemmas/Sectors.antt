@@ -10,7 +10,7 @@ use Rattle.disk_layout.specs.rules.Journal.{scan, records_at}
 use Rattle.snapshot.proofs.AreaLemmas.{bytes_same, newest_moves, area_in}
 use Rattle.journal.proofs.PackedLemmas.{payloads_same}
 use Rattle.journal.specs.rules.Steps.{ShowsNoneAfter}
-use Rattle.worker_rules.specs.Stands.{ShowsNoneLater}
+use Rattle.restart_theorem.specs.Stands.{ShowsNoneLater}
 
 abbrev pub SameSector : Image → Image → ℕ → Type 0
 SameSector old new k = sector_at new k ≡ sector_at old k

@@ -11,10 +11,10 @@ use Rattle.wasi_abi.specs.rules.Configs.{Settings}
 use Rattle.wasi_calls_rules.specs.Hosts.{Line}
 use Rattle.process_rules.specs.Processes.{ProcessState, Guest}
 use Rattle.record_replay.specs.rules.Calls.{Exchange, Begun, Tells, all_taken}
-use Rattle.worker_rules.specs.Lives.{Release, Told, OfOutlet}
-use Rattle.worker_rules.specs.Courses.{Stage, Broken, first_taken, next_stage}
-use Rattle.worker_rules.specs.Promises.{Promise, heard_by, after, IsTelling}
-use Rattle.worker_rules.specs.Exchanges.{was_taken, release_of, none, told}
+use Rattle.restart_theorem.specs.Lives.{Release, Told, OfOutlet}
+use Rattle.restart_theorem.specs.Courses.{Stage, Broken, first_taken, next_stage}
+use Rattle.restart_theorem.specs.Promises.{Promise, heard_by, after, IsTelling}
+use Rattle.restart_theorem.specs.Exchanges.{was_taken, release_of, none, told}
 use Rattle.worker_store.specs.laws.Underway.{IsUnderWay, IsBroken}
 use Rattle.worker_store.specs.laws.Pieces.{IsForetold}
 use Rattle.worker_store.specs.laws.Telling.{AddsLines, AreMade, AllLinesAreTold}

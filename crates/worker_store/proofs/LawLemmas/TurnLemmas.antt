@@ -6,7 +6,7 @@ use Rattle.std.specs.Prelude.{max}
 use Rattle.std.proofs.lemmas.Bool.{cases_lt}
 use Rattle.std.proofs.lemmas.List.{take_all, take-append-le, length-take-le}
 use Rattle.wasm_syntax.specs.declared.module.Module.{Module}
-use Rattle.wasm_syntax_rules.specs.Validity.{IsValid}
+use Rattle.wasm_semantics.specs.Validity.{IsValid}
 use Rattle.wasi_abi.specs.declared.answer.Kind.{Kind}
 use Rattle.wasi_abi.specs.rules.Configs.{Settings}
 use Rattle.process_rules.specs.Processes.{ProcessState}
@@ -16,12 +16,12 @@ use Rattle.sector_disk.specs.rules.Image.{Image}
 use Rattle.sector_disk.specs.rules.Medium.{Medium, LeavesOnly}
 use Rattle.sector_disk.proofs.Moments.{started, leaves_only}
 use Rattle.record_replay.specs.rules.Calls.{Exchange}
-use Rattle.worker_rules.specs.Stands.{StandsFor}
-use Rattle.worker_rules.specs.Lives.{SourceSaid, Release, Event, Told, Asked, Ended, kept_of_said}
-use Rattle.worker_rules.specs.Courses.{Stage, next_stage, stage_after}
-use Rattle.worker_rules.specs.Promises.{Promise, after, promised, HoldsAll}
-use Rattle.worker_rules.specs.Holds.{HoldsPromise, IsUnopened, ImageHolds}
-use Rattle.worker_rules.specs.Exchanges.{was_taken, release_of, AreEvents, none, told, asked}
+use Rattle.restart_theorem.specs.Stands.{StandsFor}
+use Rattle.restart_theorem.specs.Lives.{SourceSaid, Release, Event, Told, Asked, Ended, kept_of_said}
+use Rattle.restart_theorem.specs.Courses.{Stage, next_stage, stage_after}
+use Rattle.restart_theorem.specs.Promises.{Promise, after, promised, HoldsAll}
+use Rattle.restart_theorem.specs.Holds.{HoldsPromise, IsUnopened, ImageHolds}
+use Rattle.restart_theorem.specs.Exchanges.{was_taken, release_of, AreEvents, none, told, asked}
 use Rattle.worker_store.specs.laws.Carried.{PromisesNoMore, count_at}
 use Rattle.worker_store.specs.laws.Raised.{SyncsAreHeld}
 use Rattle.worker_store.specs.laws.Turns.{ToldStillHolds, AskedStillHolds}

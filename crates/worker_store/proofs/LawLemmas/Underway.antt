@@ -14,13 +14,13 @@ use Rattle.process_rules.specs.Processes.{ProcessState, Guest}
 use Rattle.process_rules.specs.Runs.{Kept, Given, Runs, none, take as takes, Reaches}
 use Rattle.process_rules.proofs.Quiet.{runs_join}
 use Rattle.process_rules.proofs.Growing.{runs_count, runs_emit, move_counts, move_emits}
-use Rattle.worker_rules.specs.Lives.{Act, Slice, SourceSaid, Release, Told, Asked}
-use Rattle.worker_rules.specs.Lives.{kept_of_said}
-use Rattle.worker_rules.specs.Courses.{Stage, Open, next_stage}
-use Rattle.worker_rules.specs.Courses.{phase_refused, IsToldIn, IsAskedIn}
-use Rattle.worker_rules.specs.Courses.{ComesAfter}
-use Rattle.worker_rules.specs.Courses.{IsWithinSlice}
-use Rattle.worker_rules.specs.Promises.{Promise, after, IsOneOf}
+use Rattle.restart_theorem.specs.Lives.{Act, Slice, SourceSaid, Release, Told, Asked}
+use Rattle.restart_theorem.specs.Lives.{kept_of_said}
+use Rattle.restart_theorem.specs.Courses.{Stage, Open, next_stage}
+use Rattle.restart_theorem.specs.Courses.{phase_refused, IsToldIn, IsAskedIn}
+use Rattle.restart_theorem.specs.Courses.{ComesAfter}
+use Rattle.restart_theorem.specs.Courses.{IsWithinSlice}
+use Rattle.restart_theorem.specs.Promises.{Promise, after, IsOneOf}
 use Rattle.worker_store.specs.laws.Underway.{IsInItsSlice, IsAtQuestion}
 use Rattle.worker_store.specs.laws.Underway.{StepsGoOn, LinesAreTold, TakenLinesGoOn}
 use Rattle.worker_store.specs.laws.Underway.{RefusedLinesBreak, QuestionsAreAsked, AnswersGoOn}

@@ -1,7 +1,7 @@
 -- The process at hand, as it is saved, and the savepoint that a commit makes of it.
 use Rattle.std.specs.Prelude.{◌≡◌, ℕ, ◌≤◌, List, [], length}
 use Rattle.wasm_syntax.specs.declared.module.Module.{Module}
-use Rattle.wasm_syntax_rules.specs.Acceptance.{IsAccepted}
+use Rattle.wasm_semantics.specs.Acceptance.{IsAccepted}
 use Rattle.wasi_abi.specs.rules.Configs.{Settings, AreSettingsWithinLimits}
 use Rattle.machine.specs.rules.Offers.{offer}
 use Rattle.process_rules.specs.Processes.{ProcessState, Guest, IsStart}
@@ -10,8 +10,8 @@ use Rattle.process.specs.rules.Values.{ProcessValue, ShowsProcess, IsProcess}
 use Rattle.state_image.specs.rules.Saving.{saved_of}
 use Rattle.disk_layout.specs.rules.Journal.{Record}
 use Rattle.record_replay.specs.rules.Records.{Recorded}
-use Rattle.worker_rules.specs.Stands.{IsNumbered}
-use Rattle.worker_rules.specs.Promises.{Promise}
+use Rattle.restart_theorem.specs.Stands.{IsNumbered}
+use Rattle.restart_theorem.specs.Promises.{Promise}
 use Rattle.worker_store.specs.laws.Savepoints.{Savepoint}
 use Rattle.worker_store.specs.laws.Commits.{IsNextPoint}
 use Rattle.worker_store.specs.laws.CallEnds.{IsSavedAs}

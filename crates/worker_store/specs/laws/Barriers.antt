@@ -10,7 +10,7 @@ use Rattle.disk_layout.specs.rules.Places.{geometry_of}
 use Rattle.disk_layout.specs.rules.Journal.{Record}
 use Rattle.journal.specs.rules.Steps.{AppendsFront, RecordsStand, AllRecordsFit}
 use Rattle.record_replay.specs.rules.Records.{Recorded, given_in}
-use Rattle.worker_rules.specs.Stands.{IsNumbered, StandsFor}
+use Rattle.restart_theorem.specs.Stands.{IsNumbered, StandsFor}
 use Rattle.worker_store.specs.laws.Savepoints.{Savepoint, places, point_of, StandsAtPoint}
 use Rattle.worker_store.specs.laws.Savepoints.{StandsBySaved}
 

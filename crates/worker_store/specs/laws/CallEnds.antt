@@ -3,7 +3,7 @@ use Rattle.std.specs.Prelude.{◌≡◌, ◌⊎◌, ℕ, ◌+◌, ◌≤◌, ◌
 use Rattle.std.specs.Prelude.{Option, Some, None}
 use Rattle.wasm_syntax.specs.declared.module.Module.{Module}
 use Rattle.wasm_syntax.specs.declared.types.FunctionType.{FunctionType}
-use Rattle.wasm_syntax_rules.specs.Validity.{module_context, AreFunctionTypes}
+use Rattle.wasm_semantics.specs.Validity.{module_context, AreFunctionTypes}
 use Rattle.wasi_abi.specs.declared.numbers.TheConstants.{NUMBERS_END}
 use Rattle.wasi_abi.specs.declared.answer.Answer.{Answer}
 use Rattle.wasi_abi.specs.rules.Configs.{Settings}
@@ -11,11 +11,11 @@ use Rattle.process_rules.specs.Processes.{Ending, ProcessState, Guest, IsStart}
 use Rattle.process_rules.specs.Runs.{Runs}
 use Rattle.process.specs.rules.Stops.{IsBeyond}
 use Rattle.state_image.specs.rules.Image.{Saved, SavedShowsProcess}
-use Rattle.worker_rules.specs.Lives.{Act, Slice, Checkpoint, Reply, Spent, Waits, Over, Done}
-use Rattle.worker_rules.specs.Lives.{Fails, Cause, OfBounds, Ended}
-use Rattle.worker_rules.specs.Courses.{Stage, Phase, Open, NoneThere, MayFail, next_stage}
-use Rattle.worker_rules.specs.Courses.{phase_ended}
-use Rattle.worker_rules.specs.Promises.{Promise, after, IsEnding}
+use Rattle.restart_theorem.specs.Lives.{Act, Slice, Checkpoint, Reply, Spent, Waits, Over, Done}
+use Rattle.restart_theorem.specs.Lives.{Fails, Cause, OfBounds, Ended}
+use Rattle.restart_theorem.specs.Courses.{Stage, Phase, Open, NoneThere, MayFail, next_stage}
+use Rattle.restart_theorem.specs.Courses.{phase_ended}
+use Rattle.restart_theorem.specs.Promises.{Promise, after, IsEnding}
 use Rattle.worker_store.specs.laws.Underway.{IsUnderWay, IsBroken}
 
 module _ (m : Module) (config : Settings) (guest : Guest) where

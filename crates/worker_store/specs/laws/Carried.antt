@@ -10,12 +10,12 @@ use Rattle.disk_layout.specs.rules.Sectors.{HasMarks}
 use Rattle.disk_layout.specs.rules.Journal.{Record}
 use Rattle.journal.specs.rules.State.{JournalState}
 use Rattle.record_replay.specs.rules.Records.{Recorded, given_in}
-use Rattle.worker_rules.specs.Stands.{IsBlank}
-use Rattle.worker_rules.specs.Lives.{Checkpoint, Done, Opened, Ended}
-use Rattle.worker_rules.specs.Courses.{Stage, Shut, IsLast}
-use Rattle.worker_rules.specs.Promises.{Promise, after, HoldsAll, IsAt, IsOpening}
-use Rattle.worker_rules.specs.Holds.{HoldsPromise, IsNothingYet, ImageHolds, KeepsPromise}
-use Rattle.worker_rules.specs.Holds.{CarriesPromise}
+use Rattle.restart_theorem.specs.Stands.{IsBlank}
+use Rattle.restart_theorem.specs.Lives.{Checkpoint, Done, Opened, Ended}
+use Rattle.restart_theorem.specs.Courses.{Stage, Shut, IsLast}
+use Rattle.restart_theorem.specs.Promises.{Promise, after, HoldsAll, IsAt, IsOpening}
+use Rattle.restart_theorem.specs.Holds.{HoldsPromise, IsNothingYet, ImageHolds, KeepsPromise}
+use Rattle.restart_theorem.specs.Holds.{CarriesPromise}
 use Rattle.worker_store.specs.laws.Savepoints.{Savepoint, point_of, StandsAtPoint}
 use Rattle.worker_store.specs.laws.Barriers.{StandsAtFront}
 use Rattle.worker_store.specs.laws.Commits.{BeginsAtPoint}

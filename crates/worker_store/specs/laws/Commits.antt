@@ -12,7 +12,7 @@ use Rattle.disk_layout.specs.declared.head.TheConstants.{IMAGE_VERSION}
 use Rattle.journal.specs.laws.Laws.{ShowsEarlierThan}
 use Rattle.snapshot.specs.rules.Heads.{IsReadyForHead}
 use Rattle.snapshot.specs.rules.Steps.{HasNew, Fills, Commits, Replaces}
-use Rattle.worker_rules.specs.Stands.{IsNumbered, StandsFor}
+use Rattle.restart_theorem.specs.Stands.{IsNumbered, StandsFor}
 use Rattle.worker_store.specs.laws.Savepoints.{Savepoint, places, StandsAtPoint}
 
 -- It stands at this savepoint without records, and no sector of the journal shows the generation.

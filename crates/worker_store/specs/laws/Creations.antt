@@ -15,7 +15,7 @@ use Rattle.disk_layout.specs.declared.head.TheConstants.{IMAGE_VERSION}
 use Rattle.journal.specs.laws.Laws.{ShowsEarlierThan}
 use Rattle.snapshot.specs.rules.Heads.{HasNone, heads_to}
 use Rattle.snapshot.specs.rules.Steps.{HasNew, Fills, Commits, Replaces}
-use Rattle.worker_rules.specs.Stands.{IsNumbered, IsBlank}
+use Rattle.restart_theorem.specs.Stands.{IsNumbered, IsBlank}
 use Rattle.worker_store.specs.laws.Savepoints.{Savepoint, places, StandsBySaved}
 use Rattle.worker_store.specs.laws.Commits.{BeginsAtPoint}
 

@@ -11,7 +11,7 @@ use Rattle.disk_layout.specs.rules.Journal.{Record, record_bytes}
 use Rattle.journal.specs.rules.State.{JournalState, state}
 use Rattle.journal.specs.rules.Steps.{AppendsFront, RecordsStand, RecordFits, IsOn}
 use Rattle.record_replay.specs.rules.Records.{Recorded}
-use Rattle.worker_rules.specs.Stands.{IsNumbered}
+use Rattle.restart_theorem.specs.Stands.{IsNumbered}
 use Rattle.worker_store.specs.laws.Savepoints.{Savepoint, places, StandsAtPoint}
 use Rattle.worker_store.specs.laws.Barriers.{StandsAtFront}
 use Rattle.worker_store.specs.laws.Commits.{BeginsAtPoint}

@@ -16,7 +16,7 @@ use Rattle.disk_layout.specs.declared.geometry.Geometry.{Geometry}
 use Rattle.disk_layout.specs.declared.geometry.TheConstants.{MODULE_PLACE}
 use Rattle.disk_layout.specs.declared.head.TheConstants.{IMAGE_VERSION}
 use Rattle.snapshot.specs.rules.Steps.{Fills, Commits, Replaces}
-use Rattle.worker_rules.specs.Stands.{IsNumbered, IsBlank}
+use Rattle.restart_theorem.specs.Stands.{IsNumbered, IsBlank}
 use Rattle.worker_store.specs.laws.Savepoints.{Savepoint, places, StandsAtPoint}
 use Rattle.worker_store.specs.laws.Commits.{BeginsAtPoint, IsNextPoint, StandsBefore}
 use Rattle.worker_store.specs.laws.Creations.{zero_sector, HasNoSuper, AwaitsHead, AwaitsSuper}

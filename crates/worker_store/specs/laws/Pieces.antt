@@ -3,11 +3,11 @@ use Rattle.std.specs.Prelude.{◌≡◌, Bool, List, [], ◌∷◌, ◌++◌}
 use Rattle.wasm_syntax.specs.declared.module.Module.{Module}
 use Rattle.wasi_abi.specs.rules.Configs.{Settings}
 use Rattle.record_replay.specs.rules.Calls.{Exchange, Asks, Tells}
-use Rattle.worker_rules.specs.Lives.{SourceSaid, Event}
-use Rattle.worker_rules.specs.Courses.{Stage, first_said, first_taken, without_first}
-use Rattle.worker_rules.specs.Courses.{next_stage, stage_after}
-use Rattle.worker_rules.specs.Promises.{Promise, after, promised, AreKept, IsKept}
-use Rattle.worker_rules.specs.Exchanges.{was_taken, AreEvents}
+use Rattle.restart_theorem.specs.Lives.{SourceSaid, Event}
+use Rattle.restart_theorem.specs.Courses.{Stage, first_said, first_taken, without_first}
+use Rattle.restart_theorem.specs.Courses.{next_stage, stage_after}
+use Rattle.restart_theorem.specs.Promises.{Promise, after, promised, AreKept, IsKept}
+use Rattle.restart_theorem.specs.Exchanges.{was_taken, AreEvents}
 
 -- what a source is to say, and an outlet to take, is what they have said and taken
 abbrev pub Foretell : List SourceSaid → List Bool → List Exchange → Type 0

@@ -3,7 +3,7 @@ use Rattle.std.specs.Prelude.{◌≡◌, ℕ, ◌+◌, ◌-◌, ◌≤◌, Bool,
 use Rattle.std.specs.Prelude.{Some, Ok}
 use Rattle.std.specs.Prelude.{Option}
 use Rattle.wasm_syntax.specs.declared.module.Module.{Module}
-use Rattle.wasm_syntax_rules.specs.Validity.{IsValid}
+use Rattle.wasm_semantics.specs.Validity.{IsValid}
 use Rattle.wasi_abi.specs.declared.answer.Kind.{Kind}
 use Rattle.wasi_abi.specs.declared.answer.Answer.{Answer}
 use Rattle.wasi_abi.specs.rules.Configs.{Settings}
@@ -15,9 +15,9 @@ use Rattle.state_image.specs.rules.Image.{Saved}
 use Rattle.sector_disk.specs.rules.Medium.{Medium}
 use Rattle.disk_layout.specs.rules.Journal.{Record}
 use Rattle.journal.specs.rules.State.{JournalState}
-use Rattle.worker_rules.specs.Lives.{Act, Reply, Release, SourceSaid, Told, Asked, Ended}
-use Rattle.worker_rules.specs.Lives.{kept_of_said}
-use Rattle.worker_rules.specs.Promises.{Promise, after, saved_by, synced_by}
+use Rattle.restart_theorem.specs.Lives.{Act, Reply, Release, SourceSaid, Told, Asked, Ended}
+use Rattle.restart_theorem.specs.Lives.{kept_of_said}
+use Rattle.restart_theorem.specs.Promises.{Promise, after, saved_by, synced_by}
 use Rattle.worker_store.specs.laws.Savepoints.{Savepoint}
 use Rattle.worker_store.specs.laws.Journaled.{IsJournaled}
 use Rattle.worker_store.specs.laws.Carried.{answers_at, count_at, IsCarried}

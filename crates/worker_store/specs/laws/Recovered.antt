@@ -6,9 +6,9 @@ use Rattle.process_rules.specs.Processes.{ProcessState}
 use Rattle.state_image.specs.rules.Image.{Saved}
 use Rattle.sector_disk.specs.rules.Medium.{Medium, LeavesOnly}
 use Rattle.disk_layout.specs.rules.Journal.{Record}
-use Rattle.worker_rules.specs.Lives.{Opened}
-use Rattle.worker_rules.specs.Promises.{Promise, after}
-use Rattle.worker_rules.specs.Holds.{CarriesPromise}
+use Rattle.restart_theorem.specs.Lives.{Opened}
+use Rattle.restart_theorem.specs.Promises.{Promise, after}
+use Rattle.restart_theorem.specs.Holds.{CarriesPromise}
 use Rattle.worker_store.specs.laws.Savepoints.{Savepoint, StandsAtPoint}
 use Rattle.worker_store.specs.laws.Commits.{BeginsAtPoint}
 use Rattle.worker_store.specs.laws.Moments.{LeavesAll}

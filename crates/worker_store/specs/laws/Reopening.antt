@@ -9,11 +9,11 @@ use Rattle.process_rules.specs.Processes.{ProcessState, Guest, IsStart}
 use Rattle.process_rules.specs.Runs.{Runs}
 use Rattle.record_replay.specs.rules.Calls.{Tells, all_taken, last_refused}
 use Rattle.state_image.specs.rules.Image.{Saved}
-use Rattle.worker_rules.specs.Lives.{Inputs, Opened}
-use Rattle.worker_rules.specs.Courses.{Stage, Shut, Unheard, at_first, next_stage}
-use Rattle.worker_rules.specs.Courses.{IsLast}
-use Rattle.worker_rules.specs.Promises.{Promise, after, HoldsAll, IsOpening}
-use Rattle.worker_rules.specs.Holds.{IsNothingYet}
+use Rattle.restart_theorem.specs.Lives.{Inputs, Opened}
+use Rattle.restart_theorem.specs.Courses.{Stage, Shut, Unheard, at_first, next_stage}
+use Rattle.restart_theorem.specs.Courses.{IsLast}
+use Rattle.restart_theorem.specs.Promises.{Promise, after, HoldsAll, IsOpening}
+use Rattle.restart_theorem.specs.Holds.{IsNothingYet}
 use Rattle.worker_store.specs.laws.Pieces.{IsForetold}
 use Rattle.worker_store.specs.laws.Telling.{AreMade}
 use Rattle.worker_store.specs.laws.CallEnds.{IsSavedAs, IsBetween}

@@ -2,8 +2,8 @@
 use Rattle.std.specs.Prelude.{◌≡◌, ℕ, List, [], ◌++◌, length, map, Option}
 use Rattle.wasm_syntax.specs.declared.module.Module.{Module}
 use Rattle.wasm_syntax.specs.declared.types.FunctionType.{FunctionType}
-use Rattle.wasm_syntax_rules.specs.Acceptance.{IsAccepted}
-use Rattle.wasm_syntax_rules.specs.Validity.{AreFunctionTypes, module_context}
+use Rattle.wasm_semantics.specs.Acceptance.{IsAccepted}
+use Rattle.wasm_semantics.specs.Validity.{AreFunctionTypes, module_context}
 use Rattle.wasi_abi.specs.rules.Configs.{Settings, AreSettingsWithinLimits}
 use Rattle.wasi_calls_rules.specs.declared.limits.TheConstants.{TEXT_BYTES}
 use Rattle.machine.specs.rules.Offers.{offer}
@@ -16,7 +16,7 @@ use Rattle.disk_layout.specs.rules.Sectors.{HasWorker, HoldsImage}
 use Rattle.disk_layout.specs.rules.Journal.{Record, scan}
 use Rattle.disk_layout.specs.declared.head.TheConstants.{IMAGE_VERSION}
 use Rattle.record_replay.specs.rules.Records.{Recorded, given_in}
-use Rattle.worker_rules.specs.Stands.{ShowsNoneLater, IsNumbered, StandsFor}
+use Rattle.restart_theorem.specs.Stands.{ShowsNoneLater, IsNumbered, StandsFor}
 
 -- The bytes of a module, which are accepted, and a process to which it comes on these answers, as
 -- it is saved in a generation.

@@ -5,9 +5,9 @@ use Rattle.wasi_abi.specs.rules.Configs.{Settings}
 use Rattle.wasi_calls_rules.specs.Hosts.{Line}
 use Rattle.process_rules.specs.Processes.{ProcessState, Guest}
 use Rattle.record_replay.specs.rules.Calls.{Exchange, Tells, all_taken, last_refused}
-use Rattle.worker_rules.specs.Lives.{OfOutlet}
-use Rattle.worker_rules.specs.Courses.{Stage, Broken}
-use Rattle.worker_rules.specs.Promises.{Promise}
+use Rattle.restart_theorem.specs.Lives.{OfOutlet}
+use Rattle.restart_theorem.specs.Courses.{Stage, Broken}
+use Rattle.restart_theorem.specs.Promises.{Promise}
 use Rattle.worker_store.specs.laws.Underway.{IsUnderWay, IsBroken}
 use Rattle.worker_store.specs.laws.Pieces.{IsForetold, AreDone}
 

@@ -1,7 +1,7 @@
 -- Parts of a call, one after another: what they make of what was promised, and of the disk.
 use Rattle.std.specs.Prelude.{◌≡◌, ℕ, ◌≤◌, Bool, true, List, length}
 use Rattle.wasm_syntax.specs.declared.module.Module.{Module}
-use Rattle.wasm_syntax_rules.specs.Validity.{IsValid}
+use Rattle.wasm_semantics.specs.Validity.{IsValid}
 use Rattle.wasi_abi.specs.declared.answer.Kind.{Kind}
 use Rattle.wasi_abi.specs.rules.Configs.{Settings}
 use Rattle.process_rules.specs.Processes.{ProcessState}
@@ -12,10 +12,10 @@ use Rattle.disk_layout.specs.rules.Journal.{Record}
 use Rattle.journal.specs.rules.State.{JournalState}
 use Rattle.state_image.specs.rules.Image.{Saved}
 use Rattle.record_replay.specs.rules.Calls.{Exchange}
-use Rattle.worker_rules.specs.Lives.{Act, Reply, SourceSaid, Asked, Ended}
-use Rattle.worker_rules.specs.Courses.{Stage}
-use Rattle.worker_rules.specs.Promises.{Promise, after}
-use Rattle.worker_rules.specs.Holds.{ImageHolds, KeepsPromise, CarriesPromise}
+use Rattle.restart_theorem.specs.Lives.{Act, Reply, SourceSaid, Asked, Ended}
+use Rattle.restart_theorem.specs.Courses.{Stage}
+use Rattle.restart_theorem.specs.Promises.{Promise, after}
+use Rattle.restart_theorem.specs.Holds.{ImageHolds, KeepsPromise, CarriesPromise}
 use Rattle.worker_store.specs.laws.Savepoints.{Savepoint}
 use Rattle.worker_store.specs.laws.Carried.{PromisesNoMore, IsCarried}
 use Rattle.worker_store.specs.laws.Pieces.{AreDone}

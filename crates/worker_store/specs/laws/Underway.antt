@@ -9,12 +9,12 @@ use Rattle.wasi_calls_rules.specs.Hosts.{Line}
 use Rattle.process_rules.specs.Processes.{ProcessState, Guest, IsStart}
 use Rattle.process_rules.specs.Runs.{Runs, Moves, Wants, next_of}
 use Rattle.record_replay.specs.declared.fault.SourceFault.{SourceFault}
-use Rattle.worker_rules.specs.Lives.{Act, Slice, SourceSaid, Release, Told, Asked}
-use Rattle.worker_rules.specs.Lives.{OfSource, OfAnswer, OfOutlet}
-use Rattle.worker_rules.specs.Courses.{Stage, Phase, Open, NoneThere, Broken, next_stage}
-use Rattle.worker_rules.specs.Courses.{first_said, first_taken}
-use Rattle.worker_rules.specs.Promises.{Promise, after, IsTelling, IsInquiring, IsFitting}
-use Rattle.worker_rules.specs.Promises.{IsOneOf}
+use Rattle.restart_theorem.specs.Lives.{Act, Slice, SourceSaid, Release, Told, Asked}
+use Rattle.restart_theorem.specs.Lives.{OfSource, OfAnswer, OfOutlet}
+use Rattle.restart_theorem.specs.Courses.{Stage, Phase, Open, NoneThere, Broken, next_stage}
+use Rattle.restart_theorem.specs.Courses.{first_said, first_taken}
+use Rattle.restart_theorem.specs.Promises.{Promise, after, IsTelling, IsInquiring, IsFitting}
+use Rattle.restart_theorem.specs.Promises.{IsOneOf}
 
 module _ (m : Module) (config : Settings) (guest : Guest) where
   -- The module's process has taken the first so many of the kept answers. Its slice has come to

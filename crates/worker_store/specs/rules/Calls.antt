@@ -18,7 +18,7 @@ use Rattle.disk_layout.specs.declared.geometry.Geometry.{Geometry}
 use Rattle.disk_layout.specs.rules.Places.{area_place, rounded_up}
 use Rattle.snapshot.specs.declared.writing.Writing.TheVariants.{Changes}
 use Rattle.snapshot.specs.rules.Calls.{MakesStoresAndHead}
-use Rattle.worker_rules.specs.Stands.{IsNumbered}
+use Rattle.restart_theorem.specs.Stands.{IsNumbered}
 use Rattle.worker_store.specs.laws.Savepoints.{Savepoint, StandsAtPoint, places}
 use Rattle.worker_store.specs.laws.Moments.{LeavesAll}
 use Rattle.worker_store.specs.laws.Barriers.{StandsAtFront}

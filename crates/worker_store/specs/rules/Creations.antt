@@ -17,7 +17,7 @@ use Rattle.disk_layout.specs.rules.Places.{area_place, journal_place, rounded_up
 use Rattle.disk_layout.specs.rules.Places.{total_sectors}
 use Rattle.disk_layout.specs.rules.Unsynced.{most_unsynced}
 use Rattle.snapshot.specs.rules.Calls.{with_head}
-use Rattle.worker_rules.specs.Stands.{IsBlank, IsNumbered}
+use Rattle.restart_theorem.specs.Stands.{IsBlank, IsNumbered}
 use Rattle.worker_store.specs.laws.Savepoints.{Savepoint}
 use Rattle.worker_store.specs.laws.Commits.{BeginsAtPoint}
 use Rattle.worker_store.specs.laws.Moments.{LeavesAll}

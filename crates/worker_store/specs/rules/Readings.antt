@@ -15,7 +15,7 @@ use Rattle.disk_layout.specs.rules.Places.{total_sectors}
 use Rattle.journal.specs.declared.fault.JournalFault.TheVariants as journal
 use Rattle.snapshot.specs.declared.fault.SnapshotFault.TheVariants as snapshot
 use Rattle.snapshot.specs.declared.newest.Snapshot.{Snapshot}
-use Rattle.worker_rules.specs.Stands.{IsBlank}
+use Rattle.restart_theorem.specs.Stands.{IsBlank}
 use Rattle.worker_store.specs.laws.Savepoints.{Savepoint, places, StandsAtPoint}
 use Rattle.worker_store.specs.declared.read_fault.ReadFault.{ReadFault}
 use Rattle.worker_store.specs.declared.read_fault.ReadFault.TheVariants as read

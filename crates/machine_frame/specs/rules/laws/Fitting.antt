@@ -1,9 +1,9 @@
 -- What fits a program is what shows some configuration of it.
 use Rattle.std.specs.Prelude.{ℕ, List, Option}
 use Rattle.std.specs.List.{AllByRecursion}
-use Rattle.wasm_syntax_rules.specs.Typing.{Context}
-use Rattle.wasm_syntax_rules.specs.Configuration.{Program, Configuration}
-use Rattle.wasm_syntax_rules.specs.Typed.{IsTypedEntry, IsTypedProgram}
+use Rattle.wasm_semantics.specs.Typing.{Context}
+use Rattle.wasm_semantics.specs.Configuration.{Program, Configuration}
+use Rattle.wasm_semantics.specs.Typed.{IsTypedEntry, IsTypedProgram}
 use Rattle.machine_slots.specs.rules.Places.{MachineState, Shows}
 use Rattle.machine_frame.specs.rules.Fitting.{FitsProgram}
 

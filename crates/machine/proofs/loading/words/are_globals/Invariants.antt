@@ -1,5 +1,5 @@
 use Rattle.std.specs.Prelude.{map}
-use Rattle.wasm_syntax_rules.specs.Types.{value_type_of}
+use Rattle.wasm_semantics.specs.Types.{value_type_of}
 use Rattle.machine.proofs.LoadingLemmas.Words.{FromHere}
 use Rattle.machine.proofs.loading.words.are_globals.Given as goal
 

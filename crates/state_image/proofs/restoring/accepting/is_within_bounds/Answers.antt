@@ -1,6 +1,6 @@
 use Rattle.std.proofs.Common.{◌≡◌, ◌<◌, ◌^◌, length, Option, refl, ap, ◌∙◌, subst}
 use Rattle.std.proofs.Common.{arith}
-use Rattle.wasm_syntax_rules.specs.Validity.{IsValid}
+use Rattle.wasm_semantics.specs.Validity.{IsValid}
 use Rattle.machine.specs.rules.Values.{MachineValue}
 use Rattle.process_rules.specs.Processes.{Ending}
 use Rattle.state_image.specs.rules.Image.{ending_code}

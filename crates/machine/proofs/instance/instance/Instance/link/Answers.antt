@@ -3,8 +3,8 @@ use Rattle.std.specs.List.{AllByRecursion}
 use Rattle.std.proofs.lemmas.Result.{err_from_is_err_and}
 use Rattle.wasm_syntax.specs.declared.types.MemoryType.{MemoryType}
 use Rattle.wasm_syntax.specs.declared.module.Module.{Module}
-use Rattle.wasm_syntax_rules.specs.Validity.{IsMemoryTypeValid}
-use Rattle.wasm_syntax_rules.specs.Linking.{FitsPages, IsLinkable}
+use Rattle.wasm_semantics.specs.Validity.{IsMemoryTypeValid}
+use Rattle.wasm_semantics.specs.Linking.{FitsPages, IsLinkable}
 use Rattle.machine.specs.rules.Offers.{offer}
 use Rattle.machine.specs.declared.instance.instance.Instance.{Instance}
 use Rattle.machine.specs.rules.Refusals.{IsRefused}

@@ -1,0 +1,142 @@
+-- What is no life of `echo`.
+use Rattle.std.proofs.Common.{◌≡◌, inl, inr, ℕ, zero, suc, ◌+◌, ◌≤◌, List, [], length}
+use Rattle.std.proofs.Common.{None, refl, sym, ap, ◌∙◌, subst, arith, length-append}
+use Rattle.std.specs.Prelude.{take as firsts}
+use Rattle.std.proofs.lemmas.Option.{slice_get_within}
+use Rattle.wasm_syntax.specs.laws.Examples.{echo}
+use Rattle.wasi_abi.specs.rules.Configs.{Settings}
+use Rattle.wasi_abi.specs.declared.answer.Kind.{Kind}
+use Rattle.wasi_abi.specs.declared.answer.Kind.TheVariants as kind
+use Rattle.wasi_calls_rules.specs.Hosts.{Line}
+use Rattle.process_rules.specs.Processes.{ProcessState, Guest}
+use Rattle.process_rules.specs.Runs.{Kept, Wants, Runs, Reaches, next_of, LeadsTo, none, step}
+use Rattle.process_rules.specs.Runs.{take}
+use Rattle.process_rules.specs.Behind.{AnswersBehindLine, IsLine}
+use Rattle.process_rules.proofs.EchoValid.{echo_is_valid}
+use Rattle.process_rules.proofs.EchoHolds.{EchoAsks, echo_asks}
+use Rattle.process_rules.proofs.Growing.{runs_emit}
+use Rattle.process_rules.proofs.OneStart.{start_once}
+use Rattle.restart_theorem.specs.laws.WholeLives.{EchoRefusals}
+use Rattle.restart_theorem.proofs.Fronts.{OneLeadsOn, fronts_lead_on}
+
+abbrev reaches_asking : (config : Settings) → Reaches echo config [] 5 (echo_asks config).asking
+reaches_asking config = let asks = echo_asks config in record {
+  guest = asks.guest;
+  start = asks.start;
+  begins = asks.begins;
+  runs = asks.to_asking;
+}
+
+-- ---- what is no life
+
+-- A process that wants an answer takes no step without one.
+stays_asking : (guest : Guest) (p q : ProcessState) (wish : Kind) (kept : List Kept) (n : ℕ)
+    → Runs guest p kept n q → kept ≡ [] → next_of guest p None ≡ Wants wish → q ≡ p
+stays_asking guest p q wish kept n (none {p = p'}) e asks = refl
+stays_asking guest p q wish kept n (step {p = p'} {q = q'} m rest) e asks =
+    let stopped : LeadsTo guest (next_of guest p' None) None p' q' = m.leads in
+    absurd (rw asks at stopped)
+stays_asking guest p q wish kept n (take {p = p'} m rest) e asks =
+    absurd (let none_taken = e in cc)
+
+-- so before its first answer `echo` tells nothing
+no_line_unasked : (config : Settings) (n : ℕ) (p : ProcessState) → Reaches echo config [] n p
+    → length p.host.lines ≡ 0
+no_line_unasked config n p reached = go
+    (fronts_lead_on echo config [] 0 0 5 n asks.asking p echo_is_valid
+    (reaches_asking config) reached)
+  where
+    asks : EchoAsks config
+    asks = echo_asks config
+
+    go : OneLeadsOn asks.guest asks.asking p [] [] → length p.host.lines ≡ 0
+    go (inl on) =
+        let same = stays_asking asks.guest asks.asking p kind.Request on.kept on.steps on.runs
+        on.front asks.asks in
+        ap (λ (z : ProcessState). length z.host.lines) same ∙ ap length asks.no_line
+    go (inr on) =
+        let emits = runs_emit asks.guest p asks.asking on.kept on.steps on.runs in
+        let counted : length asks.asking.host.lines ≡ length p.host.lines + length emits.lines =
+        ap length emits.are ∙ length-append p.host.lines emits.lines in
+        let none_there : length asks.asking.host.lines ≡ 0 = ap length asks.no_line in
+        omega (arith, counted, none_there)
+
+-- and what it then asks for is a request
+asks_a_request : (config : Settings) (n : ℕ) (p : ProcessState) (wish : Kind)
+    → (reached : Reaches echo config [] n p) → next_of reached.guest p None ≡ Wants wish
+    → wish ≡ kind.Request
+asks_a_request config n p wish reached wanted =
+    go (fronts_lead_on echo config [] 0 0 n 5 p asks.asking echo_is_valid reached
+    (reaches_asking config))
+  where
+    asks : EchoAsks config
+    asks = echo_asks config
+
+    guests : reached.guest ≡ asks.guest
+    guests = (start_once echo config reached.guest asks.guest reached.start asks.start
+        echo_is_valid reached.begins asks.begins).0
+
+    asks_here : next_of reached.guest asks.asking None ≡ Wants kind.Request
+    asks_here = subst (λ g. next_of g asks.asking None ≡ Wants kind.Request) (sym guests) asks.asks
+
+    one_wish : (k : Kind) → Wants k ≡ Wants kind.Request → k ≡ kind.Request
+    one_wish k e = cc
+
+    is_request : p ≡ asks.asking → wish ≡ kind.Request
+    is_request same = one_wish wish (sym wanted
+        ∙ subst (λ z. next_of reached.guest z None ≡ Wants kind.Request) (sym same) asks_here)
+
+    go : OneLeadsOn reached.guest p asks.asking [] [] → wish ≡ kind.Request
+    go (inl on) = is_request (sym (stays_asking reached.guest p asks.asking wish on.kept on.steps
+        on.runs on.front wanted))
+    go (inr on) = is_request (stays_asking reached.guest asks.asking p kind.Request on.kept on.steps
+        on.runs on.front asks_here)
+
+abbrev no_answer : List Kept
+no_answer = []
+
+-- a line that is told before any answer
+unasked_line : (config : Settings) (i : ℕ) (line : Line) → IsLine echo config [] i line → ⊥
+unasked_line config i line is =
+    let reached : Reaches echo config [] is.steps is.process =
+    subst (λ z. Reaches echo config z is.steps is.process)
+    (front_of_none is.answers) is.reached in
+    let there = slice_get_within is.process.host.lines is.place line is.is in
+    let no_lines = no_line_unasked config is.steps is.process reached in
+    omega (arith, there, no_lines)
+  where
+    front_of_none : (n : ℕ) → firsts n no_answer ≡ no_answer
+    front_of_none zero = refl
+    front_of_none (suc n) = refl
+
+-- a line behind no answer
+behind_none : (config : Settings) (kept : List Kept) (a : ℕ) → a ≤ 0
+    → AnswersBehindLine echo config kept 1 a → ⊥
+behind_none config kept zero h behind =
+    let no_lines = no_line_unasked config behind.steps behind.process behind.reached in
+    let there = behind.emitted in
+    omega (arith, there, no_lines)
+behind_none config kept (suc a) h behind = omega (arith, h)
+
+wish_kept : (config : Settings) (kept : List Kept) (steps : ℕ) (wish : Kind) → kept ≡ []
+    → (p : ProcessState) → (reached : Reaches echo config kept steps p)
+    → next_of reached.guest p None ≡ Wants wish → wish ≡ kind.Request
+wish_kept config kept steps wish empty p reached wants =
+    asks_a_request config steps p wish (record {
+      guest = reached.guest;
+      start = reached.start;
+      begins = reached.begins;
+      runs = subst (λ z. Runs reached.guest reached.start z steps p) empty reached.runs;
+    }) wants
+
+pub echo_refusals_hold : (config : Settings) → EchoRefusals config
+echo_refusals_hold config = record {
+  loses_a_line = λ so_far stage shown kept begun is.
+      (let held = is.holds.lines 1 begun in
+      behind_none config so_far.kept held.0 held.1 held.2);
+  tells_unasked = λ so_far stage r is_taken empty is.
+      unasked_line config r.number r.line
+      (subst (λ z. IsLine echo config z r.number r.line) empty is.is_line);
+  asks_for_another = λ so_far stage steps wish said fits empty is.
+      wish_kept config so_far.kept steps wish empty is.process is.reached is.wants;
+}

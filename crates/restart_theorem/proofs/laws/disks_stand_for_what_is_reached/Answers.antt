@@ -1,0 +1,11 @@
+use Rattle.restart_theorem.proofs.Disks.{what_stands_is_reached, records_ascend, stands_by_its_parts}
+use Rattle.restart_theorem.proofs.laws.disks_stand_for_what_is_reached.Goals as goal
+
+pub returns-clause-reached : goal.returns-clause-reached
+returns-clause-reached c = what_stands_is_reached
+
+pub returns-clause-in_order : goal.returns-clause-in_order
+returns-clause-in_order c = records_ascend
+
+pub returns-clause-parts : goal.returns-clause-parts
+returns-clause-parts c = stands_by_its_parts

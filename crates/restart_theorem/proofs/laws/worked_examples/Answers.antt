@@ -1,0 +1,11 @@
+use Rattle.restart_theorem.proofs.Examples.{lives_examples, promise_examples, course_examples}
+use Rattle.restart_theorem.proofs.laws.worked_examples.Goals as goal
+
+pub returns-clause-lives : goal.returns-clause-lives
+returns-clause-lives c = lives_examples
+
+pub returns-clause-promises : goal.returns-clause-promises
+returns-clause-promises c = promise_examples
+
+pub returns-clause-courses : goal.returns-clause-courses
+returns-clause-courses c = course_examples

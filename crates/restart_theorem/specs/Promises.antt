@@ -1,0 +1,322 @@
+-- What is promised over lives: the restart theorem in the subject's words (this project's own).
+use Rattle.std.specs.Prelude.{◌≡◌, ◌⊎◌, ℕ, ◌+◌, ◌-◌, ◌≤◌, ◌<◌, max, Bool, true, false}
+use Rattle.std.specs.Prelude.{List, [], ◌∷◌, ◌++◌, length, take, Option, Some, None, Ok}
+use Rattle.wasm_syntax.specs.declared.module.Module.{Module}
+use Rattle.wasm_syntax.specs.declared.types.FunctionType.{FunctionType}
+use Rattle.wasm_semantics.specs.Validity.{module_context, AreFunctionTypes}
+use Rattle.wasi_abi.specs.declared.numbers.TheConstants.{NUMBERS_END}
+use Rattle.wasi_abi.specs.declared.answer.Kind.{Kind}
+use Rattle.wasi_abi.specs.declared.answer.Answer.{Answer}
+use Rattle.wasi_abi.specs.rules.Answers.{Fits}
+use Rattle.wasi_abi.specs.rules.Configs.{Settings}
+use Rattle.wasm_semantics.specs.Configuration.{Configuration}
+use Rattle.wasi_calls_rules.specs.Hosts.{Host}
+use Rattle.process_rules.specs.Processes.{ProcessState, HasLineNumbers}
+use Rattle.process_rules.specs.Runs.{Kept, On, Wants, next_of, Reaches}
+use Rattle.process_rules.specs.Behind.{AnswersBehindLine, AnswersBehindSync, IsLine}
+use Rattle.state_image.specs.rules.Image.{Saved, SavedShowsProcess}
+use Rattle.restart_theorem.specs.Lives.{Act, Slice, Checkpoint, SourceSaid, Inputs, Release}
+use Rattle.restart_theorem.specs.Lives.{OfBounds, Reply, Spent, Waits, Over, Done, Fails}
+use Rattle.restart_theorem.specs.Lives.{Event, Told, Asked, Opened, Ended, Beginning, Recovers}
+use Rattle.restart_theorem.specs.Lives.{Creates, Life}
+use Rattle.restart_theorem.specs.Lives.{kept_of_said}
+use Rattle.restart_theorem.specs.Courses.{Stage, Shut, Open, NoneThere, at_first, next_stage}
+use Rattle.restart_theorem.specs.Courses.{stage_after, first_said, first_taken, IsToldIn, IsAskedIn}
+use Rattle.restart_theorem.specs.Courses.{ComesAfter, IsLast, IsNextAct, MayFail, MayEnd}
+
+-- ---- the promise
+
+-- what has been promised so far
+pub record Promise : Type 0 where
+  -- the answers kept
+  pub kept : List Kept
+  -- how many of them, and how many steps, each later life has at least
+  pub answers : ℕ
+  pub steps : ℕ
+  -- no line up to this one is told again
+  pub passed : ℕ
+  -- the last line whose release was begun, and the last one that an outlet took
+  pub begun : ℕ
+  pub heard : ℕ
+  -- the guest's syncs up to this step have returned
+  pub synced : ℕ
+  -- whether a creation was begun, and whether a life has opened
+  pub was_created : Bool
+  pub has_opened : Bool
+  -- how much has happened
+  pub events : ℕ
+
+-- before the first life
+abbrev pub nothing_yet : Promise
+nothing_yet = record {
+  kept = [];
+  answers = 0;
+  steps = 0;
+  passed = 0;
+  begun = 0;
+  heard = 0;
+  synced = 0;
+  was_created = false;
+  has_opened = false;
+  events = 0;
+}
+
+-- Up to which step the guest's syncs have returned: all steps where a call has said so, else all
+-- but the last.
+abbrev pub synced_by : Reply → ℕ → ℕ
+synced_by (Fails cause) steps = steps - 1
+synced_by _ steps = steps
+
+-- how much of this count a call makes sure of for good: a checkpoint that is done all of it
+abbrev pub saved_by : Act → Reply → ℕ → ℕ
+saved_by Checkpoint Done count = count
+saved_by _ reply count = 0
+
+-- the number of a line that the outlet took
+abbrev pub heard_by : Bool → ℕ → ℕ
+heard_by true number = number
+heard_by false number = 0
+
+-- What is promised after an event. A life that opens stands where it opened. What an earlier one
+-- did beyond that is undone, the guest's syncs there included. Their answers are among those that
+-- every later life opens with. A process that asks has all its syncs behind it.
+abbrev pub after : Promise → Event → Promise
+after so_far (Told r is_taken) = record so_far {
+  begun = max r.number so_far.begun;
+  heard = max (heard_by is_taken r.number) so_far.heard;
+  events = so_far.events + 1;
+}
+after so_far (Asked steps kind said fits) = record so_far {
+  kept = so_far.kept ++ kept_of_said said fits;
+  synced = max steps so_far.synced;
+  events = so_far.events + 1;
+}
+after so_far (Opened held shown) = record so_far {
+  kept = take held so_far.kept;
+  answers = max held so_far.answers;
+  steps = max shown.steps so_far.steps;
+  passed = max shown.lines so_far.passed;
+  synced = shown.steps;
+  has_opened = true;
+  events = so_far.events + 1;
+}
+after so_far (Ended act reply held shown) = record so_far {
+  answers = max (saved_by act reply held) so_far.answers;
+  steps = max (saved_by act reply shown.steps) so_far.steps;
+  passed = max (saved_by act reply shown.lines) so_far.passed;
+  synced = max (synced_by reply shown.steps) so_far.synced;
+  events = so_far.events + 1;
+}
+
+-- what is promised after these events
+abbrev pub promised : Promise → List Event → Promise
+promised so_far [] = so_far
+promised so_far (e ∷ events) = promised (after so_far e) events
+
+-- whether a creation was begun, where a life begins so
+abbrev pub created_by : Beginning → Bool → Bool
+created_by Creates was_created = true
+created_by Recovers was_created = was_created
+
+-- what is promised as a life begins
+abbrev pub as_begun : Beginning → Promise → Promise
+as_begun begins so_far = record so_far { was_created = created_by begins so_far.was_created }
+
+-- what is promised after a life, which counts also where nothing happens in it
+abbrev pub promised_by : Promise → Life → Promise
+promised_by so_far life = record (promised (as_begun life.begins so_far) life.events) {
+  events = (promised (as_begun life.begins so_far) life.events).events + 1;
+}
+
+-- ---- what each event keeps
+
+-- After so many steps on these answers, all of them, the module has come to this process. It is
+-- shown whole: memory, globals, frames, files, descriptors, unfinished lines and counts.
+pub record IsAt (m : Module) (config : Settings) (kept : List Kept) (steps : ℕ) (saved : Saved)
+    : Type 0 where
+  pub process : ProcessState
+  pub reached : Reaches m config kept steps process
+  pub functions : List FunctionType
+  pub function_types : AreFunctionTypes m functions
+  pub table : List (Option ℕ)
+  pub shown : SavedShowsProcess (module_context m functions) reached.guest.program table saved
+      process
+
+-- A line that is told is the line of its number on the kept answers, and this slice has come to
+-- it. In a life numbers follow one another. Over lives none is left out that no outlet has taken,
+-- and none is told again behind which something was saved.
+pub record IsTelling (m : Module) (config : Settings) (so_far : Promise) (stage : Stage)
+    (r : Release) (is_taken : Bool) : Type 0 where
+  pub is_line : IsLine m config so_far.kept r.number r.line
+  pub in_time : IsToldIn stage.phase stage.acts stage.step is_line.steps
+  pub follows : ComesAfter stage.line r.number
+  pub none_skipped : r.number ≤ so_far.heard + 1
+  pub not_passed : so_far.passed < r.number
+  pub heard : is_taken ≡ first_taken stage.takes
+
+-- what is said of an answer is so
+abbrev pub IsFitting : ℕ → Kind → SourceSaid → Bool → Type 0
+IsFitting limit kind (Ok (Some a)) true = Fits limit kind a
+IsFitting limit kind (Ok (Some a)) false = Fits limit kind a → ⊥
+IsFitting limit kind _ fits = Unit {0}
+
+-- a question of a process of so many steps, and what the source says to it
+pub record Question : Type 0 where
+  pub steps : ℕ
+  pub kind : Kind
+  pub said : SourceSaid
+  pub fits : Bool
+
+-- The process that all kept answers lead to asks for this; each of its lines was told. The source
+-- says what it was to say next.
+pub record IsInquiring (m : Module) (config : Settings) (so_far : Promise) (stage : Stage)
+    (question : Question) : Type 0 where
+  pub process : ProcessState
+  pub reached : Reaches m config so_far.kept question.steps process
+  pub running : process.ended ≡ None
+  pub wants : next_of reached.guest process None ≡ Wants question.kind
+  pub in_time : IsAskedIn stage.phase stage.acts stage.step question.steps
+  pub all_told : stage.line ≡ Some (length process.host.lines)
+  pub fitting : IsFitting process.host.limit question.kind question.said question.fits
+  pub heard : question.said ≡ first_said stage.says
+
+-- A front of so many kept answers, with a process of so many steps, holds all that was promised. It
+-- has as many answers and steps. It has the answers behind each line whose release was begun, and
+-- those behind each sync of the guest that returned.
+pub record HoldsAll (m : Module) (config : Settings) (kept : List Kept) (so_far : Promise)
+    (held steps : ℕ) : Type 0 where
+  pub within : held ≤ length kept
+  pub answers : so_far.answers ≤ held
+  pub steps_held : so_far.steps ≤ steps
+  pub lines : (i : ℕ) → i ≤ so_far.begun
+      → (a : ℕ) × (a ≤ held) × AnswersBehindLine m config kept i a
+  pub syncs : (k a : ℕ) → k ≤ so_far.synced → AnswersBehindSync m config kept k a → a ≤ held
+
+-- A life opens only where a creation was begun, by it or before it. It opens exactly where a front
+-- of the kept answers leads that holds all that was promised. An outlet has taken every line up to
+-- there, and this recovery has told none beyond it.
+pub record IsOpening (m : Module) (config : Settings) (so_far : Promise) (stage : Stage) (held : ℕ)
+    (shown : Saved) : Type 0 where
+  pub shut : stage.phase ≡ Shut
+  pub created : so_far.was_created ≡ true
+  pub at : IsAt m config (take held so_far.kept) shown.steps shown
+  pub holds : HoldsAll m config so_far.kept so_far held shown.steps
+  pub all_heard : shown.lines ≤ so_far.heard
+  pub none_beyond : IsLast stage.line shown.lines
+
+-- ---- ends of calls
+
+-- all kept answers were taken, and each line was told, once in this life and none beyond
+pub record IsCaughtUp (so_far : Promise) (stage : Stage) (held : ℕ) (shown : Saved) : Type 0 where
+  pub all_taken : held ≡ length so_far.kept
+  pub all_told : stage.line ≡ Some shown.lines
+
+-- The last line that was told, if there is one, is among the first so many.
+abbrev pub IsOneOf : Option ℕ → ℕ → Type 0
+IsOneOf None lines = Unit {0}
+IsOneOf (Some last) lines = last ≤ lines
+
+-- how many steps an act may take
+abbrev pub fuel_of : Act → ℕ
+fuel_of (Slice fuel) = fuel
+fuel_of Checkpoint = 0
+
+-- A slice says that its steps are taken after exactly its fuel. It says that an answer isn't there
+-- where the source has just said so, and that the process has ended where it has. A checkpoint
+-- takes no step. An error has a cause, and the process then has emitted each line that was told.
+abbrev pub IsReply : Promise → Stage → ℕ → Saved → Act → Reply → Type 0
+IsReply so_far stage held shown (Slice fuel) Spent =
+    (stage.phase ≡ Open) × (shown.steps ≡ stage.step + fuel) × (shown.ended ≡ None)
+    × IsCaughtUp so_far stage held shown
+IsReply so_far stage held shown (Slice fuel) Waits =
+    (stage.phase ≡ NoneThere shown.steps) × (shown.steps < stage.step + fuel)
+    × (shown.ended ≡ None) × IsCaughtUp so_far stage held shown
+IsReply so_far stage held shown (Slice fuel) (Over why) =
+    (stage.phase ≡ Open) × (shown.steps ≤ stage.step + fuel) × (shown.ended ≡ Some why)
+    × IsCaughtUp so_far stage held shown
+IsReply so_far stage held shown Checkpoint Done =
+    (stage.phase ≡ Open) × (shown.steps ≡ stage.step) × IsCaughtUp so_far stage held shown
+IsReply so_far stage held shown act (Fails cause) =
+    MayFail stage.phase cause × (shown.steps ≤ stage.step + fuel_of act)
+    × IsOneOf stage.line shown.lines
+IsReply so_far stage held shown _ _ = ⊥
+
+-- the next step of this process leads to a host whose lines have no numbers below their end
+pub record HasLastLines {m : Module} {config : Settings} {kept : List Kept} {steps : ℕ}
+    {saved : Saved} (at : IsAt m config kept steps saved) : Type 0 where
+  pub given : Option Answer
+  pub configuration : Configuration
+  pub host : Host
+  pub leads : next_of at.reached.guest at.process given ≡ On configuration host
+  pub no_numbers : HasLineNumbers host → ⊥
+
+-- Where a call says that a number is at its end, it is that of the next step, or of its lines. Or
+-- so much has happened that it may be that of a generation.
+abbrev pub IsAtBound : {m : Module} {config : Settings} {kept : List Kept} {steps : ℕ}
+    {saved : Saved} → Promise → IsAt m config kept steps saved → Reply → Type 0
+IsAtBound so_far at (Fails OfBounds) = (NUMBERS_END ≤ at.process.steps + 1)
+    ⊎ (NUMBERS_END ≤ so_far.events + 1) ⊎ HasLastLines at
+IsAtBound so_far at _ = Unit {0}
+
+-- a call that ends
+pub record CallEnd : Type 0 where
+  pub act : Act
+  pub reply : Reply
+  pub held : ℕ
+  pub shown : Saved
+
+-- The next act ends with a process that a front of the kept answers leads to, and takes no step
+-- back.
+pub record IsEnding (m : Module) (config : Settings) (so_far : Promise) (stage : Stage)
+    (end : CallEnd) : Type 0 where
+  pub is_next : IsNextAct end.act stage.acts
+  pub within : end.held ≤ length so_far.kept
+  pub at : IsAt m config (take end.held so_far.kept) end.shown.steps end.shown
+  pub onward : stage.step ≤ end.shown.steps
+  pub reply : IsReply so_far stage end.held end.shown end.act end.reply
+  pub bound : IsAtBound so_far at end.reply
+
+-- ---- lives
+
+-- an event keeps what was promised before it, where a life stands so
+abbrev pub IsKept : Module → Settings → Promise → Stage → Event → Type 0
+IsKept m config so_far stage (Told r is_taken) = IsTelling m config so_far stage r is_taken
+IsKept m config so_far stage (Asked steps kind said fits) = IsInquiring m config so_far stage
+    (record { steps = steps; kind = kind; said = said; fits = fits })
+IsKept m config so_far stage (Opened held shown) = IsOpening m config so_far stage held shown
+IsKept m config so_far stage (Ended act reply held shown) = IsEnding m config so_far stage
+    (record { act = act; reply = reply; held = held; shown = shown })
+
+-- every event of a life keeps what was promised before it
+abbrev pub AreKept : Module → Settings → Promise → Stage → List Event → Type 0
+AreKept m config so_far stage [] = Unit {0}
+AreKept m config so_far stage (e ∷ events) = IsKept m config so_far stage e
+    × AreKept m config (after so_far e) (next_stage stage e) events
+
+-- what a creation opens has taken nothing yet, and told nothing
+abbrev pub OpensAnew : List Event → Type 0
+OpensAnew [] = Unit {0}
+OpensAnew (Opened held shown ∷ events) = (held ≡ 0) × (shown.steps ≡ 0)
+OpensAnew (e ∷ events) = ⊥
+
+-- A life, with what was put into it, keeps what was promised before it. What has opened isn't
+-- created again.
+pub record IsLived (m : Module) (config : Settings) (so_far : Promise) (inputs : Inputs)
+    (life : Life) : Type 0 where
+  pub kept : AreKept m config (as_begun life.begins so_far) (at_first inputs) life.events
+  pub ends : MayEnd inputs (promised (as_begun life.begins so_far) life.events).events life.calls
+      (stage_after (at_first inputs) life.events) life.ends
+  pub begins : life.begins ≡ Creates → (so_far.has_opened ≡ false) × OpensAnew life.events
+
+-- Lives, one for each that was put in, keep what was promised so far.
+abbrev pub GoOn : Module → Settings → Promise → List Inputs → List Life → Type 0
+GoOn m config so_far [] [] = Unit {0}
+GoOn m config so_far (inputs ∷ others) (life ∷ lives) = IsLived m config so_far inputs life
+    × GoOn m config (promised_by so_far life) others lives
+GoOn m config so_far [] (life ∷ lives) = ⊥
+GoOn m config so_far (inputs ∷ others) [] = ⊥
+
+-- The restart theorem of a list of lives, and of what was put into each. Restart after restart, the
+-- worker goes on as one that was never stopped.
+abbrev pub GoesOn : Module → Settings → List Inputs → List Life → Type 0
+GoesOn m config inputs lives = GoOn m config nothing_yet inputs lives

@@ -1,0 +1,200 @@
+-- Two lives of a worker that tells each request again, and what is promised after each kind of
+-- event. The power is cut after the first line was told, and before its record of the steps behind
+-- it.
+use Rattle.std.specs.Prelude.{◌≡◌, ℕ, true, false, List, [], ◌∷◌, codes, Some, None, Ok}
+use Rattle.wasi_abi.specs.declared.answer.Kind.TheVariants as kind
+use Rattle.wasi_abi.specs.declared.answer.Answer.{Answer}
+use Rattle.wasi_abi.specs.declared.answer.Answer.TheVariants as answer
+use Rattle.process_rules.specs.Runs.{Given}
+use Rattle.state_image.specs.rules.Image.{Saved}
+use Rattle.restart_theorem.specs.Lives.{Slice, Checkpoint, Inputs, Release, OfDisk, OfOutlet}
+use Rattle.restart_theorem.specs.Lives.{OfMemory}
+use Rattle.restart_theorem.specs.Lives.{OfSource, Spent, Done, Fails, Event, Told, Asked, Opened}
+use Rattle.restart_theorem.specs.Lives.{Ended}
+use Rattle.restart_theorem.specs.Lives.{Recovers, Creates, Finished, Stopped, Failed, Life}
+use Rattle.restart_theorem.specs.Lives.{kept_after, kept_answers, told_lines}
+use Rattle.restart_theorem.specs.Courses.{Stage, Shut, Unheard, Open, NoneThere, Broken, Closed}
+use Rattle.restart_theorem.specs.Courses.{at_first, stage_after, IsToldIn, IsAskedIn, MayEnd}
+use Rattle.restart_theorem.specs.Promises.{Promise, nothing_yet, promised}
+
+-- ---- events
+
+-- what a process shows that has come to so many steps and lines; the rest counts for nothing here
+abbrev pub saved_at : ℕ → ℕ → Saved
+saved_at steps lines = record {
+  machine = record { frames = []; globals = []; memory = []; later = [] };
+  files = record { nodes = []; next = 2 };
+  descriptors = [];
+  unread = [];
+  input_ended = false;
+  last_monotonic = 0;
+  first = [];
+  second = [];
+  steps = steps;
+  answers = 0;
+  requests = 0;
+  lines = lines;
+  ended = None;
+}
+
+abbrev pub hello_line : Release
+hello_line = record { number = 1; line = record { stream = 1; text = codes "hello" } }
+
+-- a process of five steps asks for a request, and this is the answer
+abbrev pub hands_over : Answer → Event
+hands_over a = Asked 5 kind.Request (Ok (Some a)) true
+
+abbrev pub hello_request : Event
+hello_request = hands_over (answer.Request (codes "hello"))
+
+abbrev pub first_life : Life
+first_life = record {
+  begins = Creates;
+  events = Opened 0 (saved_at 0 0) ∷ hello_request ∷ Told hello_line true
+      ∷ Ended (Slice 20) Spent 1 (saved_at 20 1) ∷ [];
+  calls = 9;
+  ends = Finished;
+}
+
+abbrev pub second_life : Life
+second_life = record {
+  begins = Recovers;
+  events = Opened 1 (saved_at 6 0) ∷ Told hello_line true
+      ∷ Ended (Slice 14) Spent 1 (saved_at 20 1) ∷ [];
+  calls = 9;
+  ends = Finished;
+}
+
+-- the answers that are left where a life opens without its last one
+abbrev pub lost_life : Life
+lost_life = record second_life { events = Opened 0 (saved_at 5 0) ∷ [] }
+
+-- three answers were handed in, of which the next life has taken two
+abbrev pub shortened : List Event
+shortened = hands_over (answer.Realtime 7) ∷ hands_over (answer.Realtime 8)
+    ∷ hands_over (answer.Realtime 9) ∷ Opened 2 (saved_at 5 0) ∷ []
+
+pub record LivesExamples : Type 0 where
+  pub kept : kept_answers (first_life ∷ second_life ∷ [])
+      ≡ Given (answer.Request (codes "hello")) ∷ []
+  pub told : told_lines (first_life ∷ second_life ∷ []) ≡ hello_line ∷ hello_line ∷ []
+  pub lost : kept_answers (first_life ∷ lost_life ∷ []) ≡ []
+  pub first_two : kept_after [] shortened
+      ≡ Given (answer.Realtime 7) ∷ Given (answer.Realtime 8) ∷ []
+  -- an answer that doesn't fit isn't kept, and none and a fault are nothing to keep
+  pub misfit : kept_after [] (Asked 5 kind.Request (Ok (Some (answer.Realtime 7))) false ∷ []) ≡ []
+  pub none_there : kept_after [] (Asked 5 kind.Request (Ok None) true ∷ []) ≡ []
+
+-- ---- promises
+
+abbrev pub promised_to : List Event → Promise
+promised_to events = promised nothing_yet events
+
+-- an opening, and the request handed in
+abbrev pub once_asked : List Event → List Event
+once_asked later = Opened 0 (saved_at 0 0) ∷ hello_request ∷ later
+
+-- what is promised once the request was taken: so many answers, steps and lines for good, and the
+-- step of the last sync
+abbrev pub promise_of : ℕ → ℕ → ℕ → ℕ → ℕ → Promise
+promise_of answers steps passed synced events = record nothing_yet {
+  kept = Given (answer.Request (codes "hello")) ∷ [];
+  answers = answers;
+  steps = steps;
+  passed = passed;
+  synced = synced;
+  has_opened = true;
+  events = events;
+}
+
+-- A call that answers Ok has brought back the guest's syncs of all its steps, else of all but the
+-- last. Only a checkpoint that is done holds answers, steps and lines for good, and so does an
+-- opening. What a later life has not taken again is not synced in it.
+pub record PromiseExamples : Type 0 where
+  pub after_a_question : promised_to (once_asked []) ≡ promise_of 0 0 0 5 2
+  pub after_a_slice : promised_to (once_asked (Ended (Slice 20) Spent 1 (saved_at 20 1) ∷ []))
+      ≡ promise_of 0 0 0 20 3
+  pub after_a_failed_slice : promised_to
+      (once_asked (Ended (Slice 20) (Fails OfDisk) 1 (saved_at 20 1) ∷ []))
+      ≡ promise_of 0 0 0 19 3
+  pub after_a_failed_checkpoint : promised_to
+      (once_asked (Ended Checkpoint (Fails OfDisk) 1 (saved_at 20 1) ∷ []))
+      ≡ promise_of 0 0 0 19 3
+  pub after_a_checkpoint : promised_to
+      (once_asked (Ended Checkpoint Done 1 (saved_at 20 1) ∷ [])) ≡ promise_of 1 20 1 20 3
+  pub after_another_slice : promised_to
+      (once_asked (Ended Checkpoint Done 1 (saved_at 20 1)
+      ∷ Ended (Slice 10) Spent 1 (saved_at 30 2) ∷ [])) ≡ promise_of 1 20 1 30 4
+  pub after_opening : promised_to
+      (once_asked (Ended (Slice 20) Spent 1 (saved_at 20 1) ∷ Opened 1 (saved_at 6 0) ∷ []))
+      ≡ promise_of 1 6 0 6 4
+  pub after_opening_further : promised_to
+      (once_asked (Ended Checkpoint Done 1 (saved_at 20 1) ∷ Opened 1 (saved_at 25 1) ∷ []))
+      ≡ promise_of 1 25 1 25 4
+  -- a call that fails in its first step has not undone a sync, nor an opening what is for good
+  pub after_no_step : promised_to
+      (once_asked (Opened 1 (saved_at 6 0) ∷ Ended (Slice 9) (Fails OfDisk) 1 (saved_at 6 0) ∷ []))
+      ≡ promise_of 1 6 0 6 4
+  pub after_less : (promised_to (once_asked
+      (Ended Checkpoint Done 1 (saved_at 20 1) ∷ Opened 0 (saved_at 6 0) ∷ []))).answers ≡ 1
+  pub after_fewer_steps : (promised_to (once_asked
+      (Ended Checkpoint Done 1 (saved_at 20 1) ∷ Opened 1 (saved_at 6 0) ∷ []))).steps ≡ 20
+  pub after_fewer_lines : (promised_to (once_asked
+      (Ended Checkpoint Done 1 (saved_at 20 1) ∷ Opened 1 (saved_at 6 0) ∷ []))).passed ≡ 1
+  -- a line that was begun counts, whoever took it
+  pub after_telling : promised_to (once_asked (Told hello_line true ∷ []))
+      ≡ record (promise_of 0 0 0 5 3) { begun = 1; heard = 1 }
+  pub after_a_refusal : promised_to (once_asked (Told hello_line false ∷ []))
+      ≡ record (promise_of 0 0 0 5 3) { begun = 1 }
+
+-- ---- where a life stands
+
+-- one slice of 20 steps; the source has one answer, and the outlet refuses the second line
+abbrev pub some_inputs : Inputs
+some_inputs = record {
+  says = Ok (Some (answer.Realtime 7)) ∷ [];
+  takes = true ∷ false ∷ [];
+  acts = Slice 20 ∷ [];
+  stop = Some 8;
+  fails = None;
+}
+
+abbrev pub stage_behind : List Event → Stage
+stage_behind events = stage_after (at_first some_inputs) events
+
+pub record CourseExamples : Type 0 where
+  pub at_first_shut : (stage_behind []).phase ≡ Shut
+  pub refused_in_a_recovery : (stage_behind (Told hello_line false ∷ [])).phase ≡ Unheard
+  pub opened : stage_behind (Opened 0 (saved_at 3 2) ∷ [])
+      ≡ record (at_first some_inputs) { phase = Open; step = 3; line = Some 2 }
+  pub none_there : (stage_behind
+      (Opened 0 (saved_at 0 0) ∷ Asked 5 kind.Request (Ok None) true ∷ [])).phase ≡ NoneThere 5
+  pub refused : (stage_behind (Opened 0 (saved_at 0 0) ∷ Told hello_line false ∷ [])).phase
+      ≡ Broken OfOutlet
+  pub failed : (stage_behind (Opened 0 (saved_at 0 0)
+      ∷ Ended (Slice 20) (Fails OfDisk) 0 (saved_at 4 0) ∷ [])).phase ≡ Closed OfDisk
+  pub used_up : stage_behind (Opened 0 (saved_at 0 0) ∷ Told hello_line true
+      ∷ hands_over (answer.Realtime 7) ∷ Ended (Slice 20) Spent 1 (saved_at 20 1) ∷ [])
+      ≡ record {
+        phase = Open;
+        says = [];
+        takes = false ∷ [];
+        acts = [];
+        step = 20;
+        line = Some 1;
+      }
+  -- lines of a slice from step 3 on, with fuel for 20 steps, and questions of it
+  pub told_within : IsToldIn Open (Slice 20 ∷ []) 3 23
+  pub told_beyond : IsToldIn Open (Slice 20 ∷ []) 3 24 → ⊥
+  pub told_before : IsToldIn Open (Slice 20 ∷ []) 3 2 → ⊥
+  pub told_by_a_checkpoint : IsToldIn Open (Checkpoint ∷ []) 3 3 → ⊥
+  pub asked_within : IsAskedIn Open (Slice 20 ∷ []) 3 22
+  pub asked_without_fuel : IsAskedIn Open (Slice 20 ∷ []) 3 23 → ⊥
+  -- how lives end, whose stop was to come at their eighth call of the disk
+  pub stopped : MayEnd some_inputs 0 8 (at_first some_inputs) Stopped
+  pub stopped_too_early : MayEnd some_inputs 0 7 (at_first some_inputs) Stopped → ⊥
+  pub failed_too_late : MayEnd some_inputs 0 8 (at_first some_inputs) (Failed OfMemory) → ⊥
+  pub failed_by_no_fault : MayEnd some_inputs 0 7 (at_first some_inputs) (Failed OfDisk) → ⊥
+  pub failed_by_memory : MayEnd some_inputs 0 7 (at_first some_inputs) (Failed OfMemory)
+  pub shut_by_a_source : MayEnd some_inputs 0 7 (at_first some_inputs) (Failed OfSource) → ⊥
+  pub shut_by_nothing : MayEnd some_inputs 0 7 (at_first some_inputs) Finished → ⊥

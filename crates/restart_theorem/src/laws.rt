@@ -1,0 +1,132 @@
+//! Laws of the promises, of the disk between lives and of the disks that stand for a worker.
+
+ghost use Rattle.wasm_syntax.specs.declared.module.Module.{Module};
+ghost use Rattle.wasi_abi.specs.rules.Configs.{Settings};
+ghost use Rattle.restart_theorem.specs.laws.Laws.{PromisesAreOfKept, NoNumberHasTwoTexts, CallsJoin};
+ghost use Rattle.restart_theorem.specs.laws.Laws.{OpeningsAreForGood, CheckpointsAreForGood};
+ghost use Rattle.restart_theorem.specs.laws.Laws.{SyncsAreForGood};
+ghost use Rattle.restart_theorem.specs.laws.Laws.{OpenedLinesAreToldNoMore, SavedLinesAreToldNoMore};
+ghost use Rattle.restart_theorem.specs.laws.Found.{FoundWasLeft, FoundIsAsLong, FoundIsSettled};
+ghost use Rattle.restart_theorem.specs.laws.Found.{NoWorkerComes};
+ghost use Rattle.restart_theorem.specs.laws.Found.{NextLifeFindsIt, NextLifeIsWithin, LivesGoOn};
+ghost use Rattle.restart_theorem.specs.laws.Disks.{StandsForWhatIsReached, RecordsAscend};
+ghost use Rattle.restart_theorem.specs.laws.Disks.{StandsByItsParts, BlankStandsForNone};
+ghost use Rattle.restart_theorem.specs.laws.Disks.{RunsKeepNumbers, RecordsKeepNumbers};
+ghost use Rattle.restart_theorem.specs.laws.Disks.{SavedAreNumbered};
+ghost use Rattle.restart_theorem.specs.laws.Disks.{NoLaterImage, NoLaterPayload, OneGeneration};
+ghost use Rattle.restart_theorem.specs.laws.Disks.{OneSpelledWorker, StandsWithin, BlankIsWithin};
+ghost use Rattle.restart_theorem.specs.laws.Disks.{DiskExamples};
+ghost use Rattle.restart_theorem.specs.laws.Examples.{LivesExamples, PromiseExamples, CourseExamples};
+ghost use Rattle.restart_theorem.specs.laws.Honest.{Teller, HonestStories};
+ghost use Rattle.restart_theorem.specs.laws.Refused.{RefusedEvents, RefusedWorkers};
+ghost use Rattle.restart_theorem.specs.laws.WholeLives.{HelloLives, EchoRefusals};
+ghost use Rattle.restart_theorem.specs.Promises.{Promise};
+ghost use Rattle.restart_theorem.specs.Courses.{Stage};
+
+use sector_disk::Disk;
+
+/// The answers that a promise speaks of are the kept ones.
+pub fn promises_are_of_kept_answers()
+    ensures { PromisesAreOfKept }
+{}
+
+/// Where the restart theorem holds of a valid module, no number has two texts.
+pub fn no_number_has_two_texts()
+    ensures { NoNumberHasTwoTexts }
+{}
+
+/// Where it holds, each later life has at least what an earlier one opened with and what a
+/// checkpoint held. So it has the answers behind a guest sync that returned.
+pub fn promises_are_for_good()
+    ensures openings { OpeningsAreForGood }
+    ensures checkpoints { CheckpointsAreForGood }
+    ensures syncs { SyncsAreForGood }
+{}
+
+/// Where it holds, no line is told again behind which a life has opened or a checkpoint was done.
+pub fn passed_lines_are_told_no_more()
+    ensures openings { OpenedLinesAreToldNoMore }
+    ensures checkpoints { SavedLinesAreToldNoMore }
+{}
+
+/// What calls keep one after another they keep together.
+pub fn calls_join()
+    ensures { CallsJoin }
+{}
+
+/// The next life finds what the last one left, with what was promised on it.
+pub fn next_life_finds_it<D: Disk>()
+    ensures keeps { NextLifeFindsIt D.medium }
+    ensures within { NextLifeIsWithin D.medium }
+    ensures was_left { FoundWasLeft D.medium }
+    ensures as_long { FoundIsAsLong D.medium }
+    ensures settled { FoundIsSettled D.medium }
+    ensures no_worker { NoWorkerComes D.medium }
+{}
+
+/// Lives that do what the calls of a worker are proved to do go on as one that was never stopped.
+pub fn lives_go_on<D: Disk>()
+    ensures { LivesGoOn D.medium }
+{}
+
+/// A disk stands for what the module reaches, by an image and by records in the order of their
+/// steps.
+pub fn disks_stand_for_what_is_reached()
+    ensures reached { StandsForWhatIsReached }
+    ensures in_order { RecordsAscend }
+    ensures parts { StandsByItsParts }
+{}
+
+/// All that leads to where a disk stands has numbers below their ends.
+pub fn numbers_only_grow()
+    ensures runs { RunsKeepNumbers }
+    ensures records { RecordsKeepNumbers }
+    ensures saved { SavedAreNumbered }
+{}
+
+/// A disk stands for a worker by one generation, one spelling of its module and one configuration.
+/// Without the marks of one it stands for none.
+pub fn disks_stand_by_one_generation()
+    ensures blank { BlankStandsForNone }
+    ensures image { NoLaterImage }
+    ensures payload { NoLaterPayload }
+    ensures one { OneGeneration }
+    ensures spelled { OneSpelledWorker }
+    ensures within { StandsWithin }
+    ensures blank_within { BlankIsWithin }
+    ensures examples { DiskExamples }
+{}
+
+/// Events that break a promise are refused, whatever was promised and wherever a life stands.
+pub fn refused_events()
+    ensures { (m : Module) (config : Settings) (so_far : Promise) (stage : Stage)
+        → RefusedEvents m config so_far stage }
+{}
+
+/// Workers that nobody wants are refused.
+pub fn refused_workers()
+    ensures { (m : Module) (config : Settings) → RefusedWorkers m config }
+{}
+
+/// Honest stories are satisfied. They have a restart from the journal, one behind a checkpoint, one
+/// behind a recovery that was cut, and a refused line told again.
+pub fn honest_stories()
+    ensures { (m : Module) (config : Settings) (t : Teller m config) → HonestStories t }
+{}
+
+/// Two lives with a cut between them, what events promise, and where a life stands behind them.
+pub fn worked_examples()
+    ensures lives { LivesExamples }
+    ensures promises { PromiseExamples }
+    ensures courses { CourseExamples }
+{}
+
+/// Lives of a module that writes a line go on, from its beginning to its end. Others don't.
+pub fn hello_goes_on()
+    ensures { (config : Settings) → HelloLives config }
+{}
+
+/// Events that are none of a module that tells what it is asked.
+pub fn echo_is_held_to_its_answers()
+    ensures { (config : Settings) → EchoRefusals config }
+{}

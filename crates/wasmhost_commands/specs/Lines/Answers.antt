@@ -1,0 +1,133 @@
+-- What a source hands over.
+use Rattle.std.specs.Prelude.{◌≡◌, ℕ, ◌+◌, ◌<◌, ◌≤◌, ◌^◌, ⊤, Bool, List, [], ◌∷◌, length, Option}
+use Rattle.std.specs.Prelude.{Some, None, Result, Ok, Err}
+use Rattle.std.specs.Option.{IsSomeAnd}
+use Rattle.wasi_abi.specs.declared.answer.Answer.{Answer}
+use Rattle.wasi_abi.specs.declared.answer.Kind.{Kind}
+use Rattle.wasi_abi.specs.declared.answer.Kind.TheVariants as kinds
+use Rattle.wasi_abi.specs.rules.Answers.{Fits}
+use Rattle.wasi_calls_rules.specs.declared.limits.TheConstants.{TEXT_BYTES}
+use Rattle.process_rules.specs.Runs.{Kept, Given}
+use Rattle.record_replay.specs.declared.fault.SourceFault.{SourceFault}
+use Rattle.wasmhost_commands.specs.declared.lines.fault.LineFault.{LineFault}
+use Rattle.wasmhost_commands.specs.declared.lines.fault.LineFault.TheVariants as fault
+use Rattle.wasmhost_commands.specs.declared.lines.outside.Outside.{Outside}
+use Rattle.wasmhost_commands.specs.rules.Requests.{GiveUpTo, BeginsWithOther, BeginsWithNumber}
+use Rattle.wasmhost_commands.specs.rules.Outside.{ComesFrom, request_in, words_in}
+use Rattle.wasmhost_commands.specs.rules.Seeds.{words_for}
+use Rattle.wasmhost_commands.specs.Lines.Reads.{AreSome, IsFaultOfReading}
+
+-- The answer is that of the next request, which is taken. Its text isn't too long.
+pub record IsNext (taken : ℕ) (old : Option (List ℕ)) (a : Answer) (taken' : ℕ)
+    (new : Option (List ℕ)) : Type 0 where
+  pub given : GiveUpTo taken old (Given a ∷ []) (λ rest. new ≡ Some rest)
+  pub fits : Fits TEXT_BYTES kinds.Request a
+  pub counted : taken' ≡ taken + 1
+  pub few : taken' < 2 ^ 63
+
+-- the next request, or none where the lines have come to their end
+abbrev pub FindsNext : ℕ → Option (List ℕ) → Option Answer → ℕ → Option (List ℕ) → Type 0
+FindsNext taken old (Some a) taken' new = IsNext taken old a taken' new
+FindsNext taken old None taken' new = (taken' ≡ taken)
+    × GiveUpTo taken old [] (λ rest. (rest ≡ []) × (new ≡ Some rest))
+
+-- Why no answer comes behind these answers. The next line is of a later request than the wanted
+-- one; or it is no request line; the reader has failed; or memory is wanting.
+abbrev pub MissesNext : ℕ → Option (List ℕ) → List Kept → Bool → Bool → LineFault → Type 0
+MissesNext before lines kept failed failed' (fault.Number given wanted) =
+    (wanted ≡ before + length kept + 1) × (wanted < given)
+    × GiveUpTo before lines kept (BeginsWithNumber given) × (failed' ≡ failed)
+MissesNext before lines kept failed failed' why =
+    IsFaultOfReading (GiveUpTo before lines kept BeginsWithOther)
+    (GiveUpTo before lines kept AreSome) failed failed' why
+
+-- ---- all that is asked for
+
+-- Where a source stands: which stream of the seed it takes words of, how many requests and how many
+-- words it took, the bytes that are still to come, whether a read of them has failed, and why it
+-- refuses, if it does.
+pub record Standing : Type 0 where
+  pub outside : Outside
+  pub stream : ℕ
+  pub taken : ℕ
+  pub place : ℕ
+  pub unread : Option (List ℕ)
+  pub failed : Bool
+  pub fault : Option LineFault
+
+abbrev pub standing : Outside → ℕ → ℕ → ℕ → Option (List ℕ) → Bool → Option LineFault → Standing
+standing outside stream taken place unread failed fault = record {
+  outside = outside;
+  stream = stream;
+  taken = taken;
+  place = place;
+  unread = unread;
+  failed = failed;
+  fault = fault;
+}
+
+-- the machine's clock can't be read, and no time is fixed
+abbrev pub IsClockless : Outside → LineFault → Type 0
+IsClockless outside fault.Clock = outside.clock ≡ None
+IsClockless outside why = ⊥
+
+-- there is no room for so many bytes, or their words can't be counted
+abbrev pub IsWordless : ℕ → ℕ → LineFault → Type 0
+IsWordless place n fault.Memory = ⊤
+IsWordless place n fault.Words = 2 ^ 64 ≤ place + words_for n
+IsWordless place n why = ⊥
+
+-- Why a question is refused, where these requests and so many words were taken: the next request
+-- isn't to be had, or there is no clock, or there are no random bytes.
+abbrev pub IsRefusedFor : Kind → Outside → ℕ → ℕ → Option (List ℕ) → List Kept → Bool → Bool
+    → LineFault → Type 0
+IsRefusedFor kinds.Request outside place before lines kept failed failed' why =
+    MissesNext before lines kept failed failed' why
+IsRefusedFor kinds.Realtime outside place before lines kept failed failed' why =
+    IsClockless outside why × (failed' ≡ failed)
+IsRefusedFor kinds.Monotonic outside place before lines kept failed failed' why =
+    IsClockless outside why × (failed' ≡ failed)
+IsRefusedFor (kinds.Random n) outside place before lines kept failed failed' why =
+    IsWordless place n why × (failed' ≡ failed)
+
+-- why one that stands there refuses
+abbrev pub IsRefusedAt : Kind → Standing → Bool → LineFault → Type 0
+IsRefusedAt kind old failed' why =
+    IsRefusedFor kind old.outside old.place old.taken old.unread [] old.failed failed' why
+
+-- the first fault stays, and where there was none there is one now
+abbrev pub LeavesFault : Kind → Standing → Standing → Option LineFault → Type 0
+LeavesFault kind old new (Some first) = (new.fault ≡ Some first) × (new.failed ≡ old.failed)
+LeavesFault kind old new None = IsSomeAnd new.fault (IsRefusedAt kind old new.failed)
+
+-- An answer that no request line gives. It fits, and takes its words of the seed.
+pub record TakesOther (kind : Kind) (old : Standing) (a : Answer) (new : Standing) : Type 0 where
+  pub comes : ComesFrom old.outside old.stream old.place a
+  pub other : request_in a ≡ []
+  pub fits : (limit : ℕ) → Fits limit kind a
+  pub place : new.place ≡ old.place + words_in a
+  pub taken : new.taken ≡ old.taken
+  pub unread : new.unread ≡ old.unread
+
+-- Requests are answered one by one, in the order of their numbers. There is always an answer to
+-- another question.
+abbrev pub Finds : Kind → Standing → Option Answer → Standing → Type 0
+Finds kinds.Request old found new =
+    (new.place ≡ old.place) × FindsNext old.taken old.unread found new.taken new.unread
+Finds kind old (Some a) new = TakesOther kind old a new
+Finds kind old None new = ⊥
+
+pub record HandsAnswer (kind : Kind) (old : Standing) (answered : Option Answer) (new : Standing) :
+    Type 0 where
+  pub same : new.outside ≡ old.outside
+  pub same_stream : new.stream ≡ old.stream
+  pub unfailed : old.fault ≡ None
+  pub unspoilt : new.fault ≡ None
+  pub steady : new.failed ≡ old.failed
+  pub finds : Finds kind old answered new
+
+-- A refusal takes nothing, and leaves its fault. Then all is refused.
+abbrev pub HandsNext : Kind → Standing → Result (Option Answer) SourceFault → Standing → Type 0
+HandsNext kind old (Ok answered) new = HandsAnswer kind old answered new
+HandsNext kind old (Err e) new = (new.outside ≡ old.outside) × (new.stream ≡ old.stream)
+    × (new.taken ≡ old.taken) × (new.place ≡ old.place) × LeavesFault kind old new old.fault

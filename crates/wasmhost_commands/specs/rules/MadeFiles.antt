@@ -1,0 +1,32 @@
+-- A disk in a file that is made for a worker (this project's own).
+use Rattle.std.specs.Prelude.{◌≡◌, ◌≢◌, ◌⊎◌, ℕ, Bool, List, IsTrue}
+use Rattle.std.specs.declared.io.ErrorKind.{ErrorKind}
+use Rattle.sector_disk.specs.declared.file.FileDisk.{FileDisk}
+use Rattle.sector_disk.specs.declared.open_fault.OpenFault.{OpenFault}
+use Rattle.sector_disk.specs.rules.File.{file_medium}
+use Rattle.sector_disk.specs.rules.Open.{IsUnmade}
+use Rattle.wasmhost_commands.specs.declared.preparing.Prepared.{Prepared}
+use Rattle.wasmhost_commands.specs.rules.Creations.{CreatesOn}
+use Rattle.wasmhost_commands.specs.rules.Openings.{IsUntouched, open_words}
+use Rattle.wasmhost_commands.specs.rules.Printers.{PrinterState}
+use Rattle.wasmhost_commands.specs.rules.Reports.{SaysLine}
+
+-- The disk was made, of as many sectors as are needed, and the worker is created on it. Where the
+-- status isn't 0, its file was removed again.
+pub record IsCreatedInFile (F : Type 0) (removed : Bool) (bytes : List ℕ) (prepared : Prepared)
+    (out out' err err' : PrinterState) (status : ℕ) : Type 0 where
+  pub disk : FileDisk F
+  pub disk' : FileDisk F
+  pub untouched : IsUntouched disk
+  pub sectors : (file_medium disk).sectors ≡ prepared.sectors
+  pub creates : CreatesOn file_medium bytes prepared.config disk disk' out out' err err' status
+  pub removes : status ≢ 0 → IsTrue removed
+
+-- No file is made at this path, or none is left, and it is said why. Or one is made, and the worker
+-- created on it.
+abbrev pub CreatesFile : (F : Type 0) → (ErrorKind → Bool) → Bool → Bool → List ℕ → List ℕ
+    → Prepared → PrinterState → PrinterState → PrinterState → PrinterState → ℕ → Type 0
+CreatesFile F refused made removed path bytes prepared out out' err err' status =
+    ((why : OpenFault) × IsUnmade refused made removed prepared.sectors why
+    × SaysLine (open_words path why) 4 err status err' × (out' ≡ out))
+    ⊎ IsCreatedInFile F removed bytes prepared out out' err err' status

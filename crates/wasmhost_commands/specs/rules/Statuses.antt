@@ -1,0 +1,37 @@
+-- What the commands find, and the exit status that says it.
+use Rattle.std.specs.Prelude.{ℕ, List, Result, Ok, Err, ⊤, if◌then◌else◌}
+use Rattle.machine_loader.specs.declared.fault.FrontFault.{FrontFault}
+use Rattle.machine_loader.specs.rules.Acceptance.{HasAcceptedModule, HasNoAcceptedModule}
+use Rattle.machine_loader.specs.rules.Acceptance.{FrontDenies, is_want}
+use Rattle.ephemeral_worker.specs.declared.fault.SliceFault.{SliceFault}
+use Rattle.ephemeral_worker.specs.declared.fault.SliceFault.TheVariants as fault
+use Rattle.wasmhost_commands.specs.declared.lines.fault.LineFault.{LineFault}
+use Rattle.wasmhost_commands.specs.declared.lines.fault.LineFault.TheVariants as line
+
+-- The bytes spell an accepted module, or none for the fault to be told. Want of memory says nothing
+-- of them.
+abbrev pub IsRight : ℕ → List ℕ → Result ⊤ FrontFault → Type 0
+IsRight pages bytes (Ok done) = HasAcceptedModule pages bytes
+IsRight pages bytes (Err fault) = FrontDenies fault (HasNoAcceptedModule pages bytes)
+
+-- the exit status of a verdict whose line is printed
+abbrev pub status_by : Result ⊤ FrontFault → ℕ
+status_by (Ok done) = 0
+status_by (Err fault) = if is_want fault then 5 else 3
+
+-- the exit status of what a worker's call says
+abbrev pub status_of_work : SliceFault → ℕ
+status_of_work fault.Source = 4
+status_of_work fault.Outlet = 7
+status_of_work fault.Memory = 5
+status_of_work fault.Failed = 4
+status_of_work (fault.Refused why) = 3
+
+-- the exit status of a request line that isn't taken, or of its reader
+abbrev pub status_of_line : LineFault → ℕ
+status_of_line line.Read = 4
+status_of_line line.Clock = 4
+status_of_line line.Words = 4
+status_of_line line.Memory = 5
+status_of_line (line.Number given wanted) = 6
+status_of_line line.Form = 6

@@ -1,0 +1,77 @@
+-- What `wasmhost sweep` prints, and what its exit status says (this project's own).
+use Rattle.std.specs.Prelude.{◌≡◌, ◌⊎◌, ℕ, ◌==◌, ◌%◌, nat_lt, if◌then◌else◌, List, [], ◌∷◌, ◌++◌}
+use Rattle.std.specs.Prelude.{length, Option, codes}
+use Rattle.std.specs.Fmt.{decimal}
+use Rattle.std.specs.Io.KnownBytes.{Appends}
+use Rattle.worker.specs.declared.story.life.PlannedLife.{PlannedLife}
+use Rattle.wasmhost_commands.specs.declared.configuring.Sizes.{Sizes}
+use Rattle.wasmhost_commands.specs.declared.preparing.Prepared.{Prepared}
+use Rattle.wasmhost_commands.specs.rules.Creations.{IsPreparedAs}
+use Rattle.wasmhost_commands.specs.rules.Pieces.{lines_of}
+use Rattle.wasmhost_commands.specs.rules.Printers.{PrinterState, IsPrinted, HasOneFailed, HeedsBoth}
+use Rattle.wasmhost_commands.specs.rules.Stories.{story_config}
+use Rattle.wasmhost_commands.specs.rules.Sweeps.{AreSweptLives, IsSwept}
+
+-- ---- the text
+
+-- a comma, where so many digits are left, and they are groups of three
+abbrev pub comma_before : ℕ → List ℕ
+comma_before left =
+    if nat_lt 0 left then (if left % 3 == 0 then codes "," else []) else []
+
+-- digits with such commas
+abbrev pub grouped : List ℕ → List ℕ
+grouped [] = []
+grouped (digit ∷ digits) = (digit ∷ comma_before (length digits)) ++ grouped digits
+
+-- so many things of this name: one, or several
+abbrev pub quantity : ℕ → List ℕ → List ℕ
+quantity number name =
+    grouped (decimal number) ++ codes " " ++ name ++ (if number == 1 then [] else codes "s")
+
+-- how many cuts agree, and how many lines were told
+abbrev pub swept_line : ℕ → ℕ → List ℕ
+swept_line cuts lines = codes "swept " ++ quantity cuts (codes "cut") ++ codes ": "
+    ++ quantity lines (codes "line") ++ codes ", each told with one text\n"
+
+-- ---- the exit status
+
+-- The script spells lives that nothing befalls, the module is accepted, all cuts of one of the
+-- lives were run and agree with the run without a cut, and the line with their number is printed.
+pub record IsSweepDone (script wasm : List ℕ) (sizes : Sizes) (fronts : List ℕ)
+    (number : Option ℕ) (out out' : Option (List ℕ)) : Type 0 where
+  pub lives : List PlannedLife
+  pub place : ℕ
+  pub spelled : AreSweptLives (lines_of script) number lives place
+  pub prepared : Prepared
+  pub prepares : IsPreparedAs (story_config sizes) wasm prepared
+  pub cuts : ℕ
+  pub count : ℕ
+  pub swept : IsSwept wasm (story_config sizes) lives place fronts cuts count
+  pub printed_whole : Appends out out' (swept_line cuts count)
+
+-- the line is printed, or memory is wanted for it, or a write has failed
+abbrev pub SaysSwept : ℕ → ℕ → PrinterState → PrinterState → PrinterState → PrinterState → ℕ
+    → Type 0
+SaysSwept cuts lines out out' err err' status =
+    ((status ≡ 0) × IsPrinted out out' (swept_line cuts lines) × (err' ≡ err))
+    ⊎ ((status ≡ 5) × (out' ≡ out) × (err'.failed ≡ err.failed))
+    ⊎ ((status ≡ 7) × HasOneFailed out' err')
+
+-- lives that differ are told, or memory is wanted for that, or a write has failed
+abbrev pub SaysDifference : PrinterState → PrinterState → PrinterState → PrinterState → ℕ
+    → Type 0
+SaysDifference out out' err err' status =
+    ((status ≡ 1) × (out'.failed ≡ out.failed) × (err'.failed ≡ err.failed))
+    ⊎ ((status ≡ 5) × (out' ≡ out) × (err'.failed ≡ err.failed))
+    ⊎ ((status ≡ 7) × HasOneFailed out' err')
+
+-- 0: all cuts were run, and agree. 7 comes just where a write of a printer has failed. The others
+-- are 1, 2, 3 and 5.
+pub record TellsSweep (script wasm : List ℕ) (sizes : Sizes) (fronts : List ℕ)
+    (number : Option ℕ) (out out' err err' : PrinterState) (status : ℕ) : Type 0 where
+  pub done : status ≡ 0
+      → IsSweepDone script wasm sizes fronts number out.contents out'.contents
+  pub heeded : HeedsBoth out out' err err' status
+  pub known : (status ≡ 0) ⊎ (status ≡ 1) ⊎ (status ≡ 2) ⊎ (status ≡ 3) ⊎ (status ≡ 5)
+      ⊎ (status ≡ 7)

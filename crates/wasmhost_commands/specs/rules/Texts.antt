@@ -1,0 +1,52 @@
+-- The lines that a worker's reader and writer see (this project's own).
+use Rattle.std.specs.Prelude.{ℕ, ◌≡◌, ◌≤◌, ◌==◌, if◌then◌else◌, List, [], ◌∷◌, ◌++◌, length, map}
+use Rattle.std.specs.Prelude.{codes}
+use Rattle.std.specs.Borrow.{Bor}
+use Rattle.std.specs.Fmt.{decimal}
+use Rattle.wasm_syntax.specs.declared.value.Trap.{Trap}
+use Rattle.wasm_syntax.specs.declared.value.Trap.TheVariants as trap
+use Rattle.wasi_abi.specs.rules.Answers.{newline}
+use Rattle.wasi_calls_rules.specs.Hosts.{Line}
+use Rattle.wasi_calls_rules.specs.declared.limits.TheConstants.{TEXT_BYTES}
+use Rattle.wasmhost_commands.specs.declared.lines.request.Request.{Request}
+use Rattle.wasmhost_commands.specs.declared.lines.request.Request.TheVariants as request
+use Rattle.wasmhost_commands.specs.rules.Numbers.{IsNumberedRequest}
+
+-- the bytes of texts
+abbrev pub texts_in : List (Bor (List ℕ)) → List (List ℕ)
+texts_in = map (λ text. text.now)
+
+-- stream 1 is the output, and stream 2 the error output
+abbrev pub letter_of : ℕ → List ℕ
+letter_of stream = if stream == 2 then codes " e " else codes " o "
+
+-- a line as it is printed: its number, the letter of its stream, its text and a newline
+abbrev pub printed : ℕ → Line → List ℕ
+printed number line = decimal number ++ letter_of line.stream ++ line.text ++ newline ∷ []
+
+-- a request line as it is read, without its newline: its number, and `r` with a text or `e` for the
+-- end
+abbrev pub request_line : Request → List ℕ
+request_line (request.Text number text) = decimal number ++ codes " r " ++ text.now
+request_line (request.End number) = decimal number ++ codes " e"
+
+-- the text of a request isn't too long
+abbrev pub IsShortRequest : Request → Type 0
+IsShortRequest (request.Text number text) = length text.now ≤ TEXT_BYTES
+IsShortRequest (request.End number) = Unit {0}
+
+-- the line of some request, with a text that isn't too long
+abbrev pub IsRequestLine : List ℕ → Type 0
+IsRequestLine line = (r : Request) × IsNumberedRequest r × IsShortRequest r
+    × (line ≡ request_line r)
+
+-- the name of a trap, as it is printed
+abbrev pub trap_text : Trap → List ℕ
+trap_text trap.Unreachable = codes "unreachable"
+trap_text trap.DivideByZero = codes "integer divide by zero"
+trap_text trap.IntegerOverflow = codes "integer overflow"
+trap_text trap.MemoryOutOfBounds = codes "out of bounds memory access"
+trap_text trap.UndefinedElement = codes "undefined element"
+trap_text trap.UninitializedElement = codes "uninitialized element"
+trap_text trap.IndirectCallTypeMismatch = codes "indirect call type mismatch"
+trap_text trap.StackExhausted = codes "stack exhausted"

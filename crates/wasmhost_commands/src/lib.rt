@@ -1,0 +1,255 @@
+//! The commands of the program, and its command line (this project's own). A command works on
+//! bytes, readers and writers that are lent to it, and answers the exit status.
+//!
+//! # Promises
+//!
+//! - `check_bytes`: status 0 says that the bytes spell an accepted module (`accepted`), and that
+//!   `accepted` was printed (`printed`). 3 says that they spell none (`refused`). All others are 5
+//!   and 7 (`known`), and 7 comes just where a write has failed (`heeded`).
+//! - `Printer`: what the program says goes through one. It keeps whether a write has failed, and no
+//!   other code can make that true. So each status 7 below comes with a failed write (`IsSaid`,
+//!   `SaysText`, `HeedsBoth`).
+//! - `prepare`: an error says that the configuration is out of its limits, that the module isn't
+//!   accepted, or that memory ran out (`refused`). Else the module is accepted with the pages of
+//!   the configuration, and the sectors are those that its worker needs (`prepared`). It knows no
+//!   disk, so the program refuses a module before it makes one.
+//! - `create_on`: status 0 says that the worker of these bytes and this configuration is created on
+//!   the disk, at its start. `created N sectors` was printed then. What the other statuses say is
+//!   said too, and what a cut at any moment leaves (`creates`). `report_unprepared` answers the
+//!   status of what it tells, or 7. It tells the bounds of what is out of them (`range`), and the
+//!   limit that a module passes, with its place (`limit`).
+//! - `create_file` is `create_on` of a disk whose file it makes. Where the status isn't 0 that file
+//!   is removed again, and no other one is (`CreatesFile`).
+//! - `serve`: what each status of a run of the worker on a disk says (`serves`), with whatever
+//!   outlet it is lent. Where the worker was recovered, all that was done of the disk, the source
+//!   and the outlet are the calls of one life, in order: slices of its fuel, and checkpoints at its
+//!   pace (`IsPaced`). The source begins behind the requests that the worker has taken, and at the
+//!   first word of the seed's stream of its generation (`stands_behind`). It refuses no question,
+//!   unless the error is its own (`AsksUnless`), and the outlet no line, unless the error is the
+//!   outlet's (`HeedsOutlet` of `worker`). Where `err` is a terminal, its first line says
+//!   how the worker was recovered (`recovered_line`). `laws::lives_on_disk_go_on`: such calls are a
+//!   life that goes on from all that was promised. The last words are those of what its last slice
+//!   has answered (`HasOutcome`). Where a call fails, lines wait only as its own clause says
+//!   (`HasBrokenOff`). Where the disk shows no worker nothing is written or released. No status is
+//!   above 7 (`known`). It is 7 where the outlet has refused a line, and else only where a write of
+//!   `err` has failed (`refusal`). `laws::seven_is_a_failed_write`: what that comes to where the
+//!   lines are printed.
+//! - `laws::statuses_have_causes`: what each of these statuses comes from, and that a reader which
+//!   fails is told (`SaysOnDisk`). Where a number, memory or an answer was wanting, each line of
+//!   the worker was told (`HasToldItsLines`). `laws::refusals_have_reasons`: why the source of a
+//!   run refuses a question. `laws::answers_come_from_the_lines`: what it answers, and when it has
+//!   none yet.
+//! - `survey`: the survey of a worker's disk is printed, or what keeps it from that is told
+//!   (`shows`). Of a disk that stands for a worker the line is that worker's (`stands`). Nothing is
+//!   changed on the disk, but that it is synced.
+//! - `open_disk`: where no rewrite is asked for, the disk of a file of which no call was made since
+//!   it was opened. Else each sector was written back, and synced (`IsOpenedFor`). `show_file` is
+//!   `survey` of a disk that was opened so, and nothing else is done with it (`ShowsFile`).
+//! - `RequestSource` answers requests as the lines of its reader say, in their order (`HandsNext`).
+//!   It answers clocks with the fixed time, or with that of its `RealTime` clock, to the nanosecond
+//!   (`IsRealTime`). It answers wishes for random bytes with the next words of its stream. It says
+//!   why it refuses. A failed read it tells only of a reader that has failed.
+//! - `read_request`: what one line says, where it is a request line (`spelled`, `found`).
+//!   `trap_name`: how last words call a trap.
+//! - `read_seed`, `seeded`: which texts are seeds, and which bytes a seed gives (`seeded_bytes`).
+//! - `report_input`: behind a run, at which line of its input a refused one stands, and how many
+//!   requests were read ahead that nobody took (`SaysOfInput`).
+//! - `LineReader` is what request lines are read from. `BufferedLines` is one over any `BufRead`.
+//! - `LineOutlet` prints each line that it takes, with its number and the letter of its stream. It
+//!   refuses one only where a write of it has failed, and has then printed at most a front of it
+//!   (`PrintsOneLine`). `laws::taken_lines_are_printed`: the lines that it took are printed, and
+//!   nothing else.
+//! - `read_module`: the bytes of a reader, where they are known, up to one more than the longest
+//!   module has. `say_line`, `report`: the line was written and the status is the one given, or a
+//!   write has failed and it is 7 (`SaysLine`). `report_open` does so of a disk's file, and
+//!   `report_unread` of a file that is read: by the path, and the cause that the error's kind is
+//!   (`open_words`, `SaysUnread`). `report_words`: help leaves the error output as it was, and a
+//!   mistake the output. A tip of `clap` to write a number below 0 behind `--` is left out.
+//! - `read_words`: an order is exactly what the words mean. A fault is one that the rules of the
+//!   command line list for them, or want of memory (`IsReading`).
+//! - `read_script`: the lives that a script of a story spells (`IsScript`). A fault names the first
+//!   line behind which the lines are no script (`IsFaultAt`), or it is want of memory.
+//! - `tell`: status 0 says that a whole story was printed. It is of lives that go on as one that
+//!   was never stopped, with what the script put into each. What the other statuses say is said too
+//!   (`TellsStory`). `report_script` tells a fault of a script.
+//! - `tell_sweep`: status 0 says that the lives of a script, which nothing befalls, were run without
+//!   a cut, and then with the power cut at each call of one of them, for each front (`cuts_to`).
+//!   Each cut's lives are told as those of a story are (`TellsLives`). Its last life was opened, and
+//!   handed out all answers that were not kept (`cut_at`). Over all its lives each number has one
+//!   text, none is missing, and the first are those without a cut (`IsCutRun`). The printed line
+//!   says how many cuts and lines these are (`IsSweepDone`). 7 comes just where a write has failed.
+//!   Of the other statuses nothing more is said. `read_sweep`: the lives that the script spells, and
+//!   which one is swept (`AreSweptLives`). `fronts_of`: the fronts that a text spells.
+//! - `laws::faultless_words_mean`, `laws::worked_examples`: words without a fault mean an order,
+//!   with numbers in their ranges; seventy-eight command lines. What `--version` is told of the
+//!   program is `version_words` (`HasVersion`).
+//!
+//! # Definitions to read
+//!
+//! In `specs/rules/`: `last_words` (`LastWords.antt`); `AsksUnless` (`Hearings.antt`);
+//! `GivesAnswers`, `GiveUpTo` (`Requests.antt`); `ComeFrom`, `requests_in` (`Outside.antt`);
+//! `seeded_bytes` (`Seeds.antt`); `printed`, `request_line` (`Texts.antt`);
+//! `CreatesOn`, `IsPreparedAs`, `IsUnprepared`, `config_as` (`Creations.antt`); `CreatesFile`
+//! (`MadeFiles.antt`);
+//! `wasmhost`, `version_words` (`CommandLine.antt`);
+//! `meaning_in`, `IsReading`, `IsStatusOf` (`Commands.antt`);
+//! `IsOutOfBounds`, `range_words` (`Bounds.antt`); `limit_text` (`ModuleLimits.antt`);
+//! `SaysOfInput` (`Leavings.antt`);
+//! `ShowsDisk`, `ShowsSurvey`, `survey_line` (`Showings.antt`); `open_words`, `IsOpenedFor`,
+//! `ShowsFile` (`Openings.antt`);
+//! `ServesOnDisk`, `LivesOnDisk`, `HasOutcome`, `HasBrokenOff`, `stands_behind`
+//! (`ServedOnDisk.antt`); `BreaksOff`, `LeavesNoLine`, `TellsItsLines` (`BrokenLives.antt`);
+//! `SaysOnDisk`, `HasToldItsLines` (`DiskCauses.antt`); `HeedsRefusal` (`Refusals.antt`);
+//! `IsPaced` (`Paces.antt`);
+//! `status_on_disk`, `told_of_opening`, `IsToldOnDisk` (`DiskStatuses.antt`);
+//! `PrinterState`, `IsSaid`, `SaysText`, `HeedsBoth`, `TellsPerson` (`Printers.antt`);
+//! `said_by`, `AreLivesOf`, `IsScript` (`Scripts.antt`); `lines_of` (`Pieces.antt`); `story_text`,
+//! `TellsStory` (`Stories.antt`); `cut_at`, `cuts_to`, `AreTextsOf`, `IsSwept` (`Sweeps.antt`),
+//! `TellsSweep` (`SweepTexts.antt`). Beside these:
+//! `all_printed`, `SevenIsAFailedWrite` (`specs/rules/Printed.antt`), and `PrintsOneLine`
+//! (`specs/rules/Prints.antt`).
+//!
+//! # Who may touch what
+//!
+//! Only this crate knows how lines, requests and last words are spelled, and the exit statuses
+//! (`status`). `wasmhost` calls it. It stands on `ephemeral_worker`, `worker` and `machine_loader`.
+//! Want of memory is status 5. A disk is lent to each call of a worker on it. Beside these only
+//! `open_disk` touches one, which is also the one place here that opens a file.
+//!
+//! # Choices
+//!
+//! - A source of request lines hands over what a line says; that it fits is proved of the line.
+//!   Times come from the clock that `--clock` fixes, or from the machine's, and random bytes from
+//!   the seed. Each call for random bytes begins with a word of its own, so the place counts words.
+//!   The source reads lines by `fill_buf` and `consume`, since `take` hides what its reader has
+//!   left. After a fault it refuses all, since the reader may be within a line.
+//! - The last words of a worker that is over are part of what status 0 says. Those of a run that
+//!   fails are printed by derived `Display`s, which no clause knows: its status is proved, and
+//!   tests show its words.
+//! - A run is a loop without a counter. Fuel is never 0 by its type. So a slice that has spent it
+//!   leaves fewer steps that can be counted.
+//! - **Request lines come from a trait of this project's own**, `LineReader`, with one method. Its
+//!   contract has three values of the reader. They are the bytes that are still to come, whether a
+//!   read has failed, and how many pieces it gives at most. `BufRead` of the standard library has
+//!   the first alone: of an error it says nothing. So code that answered a failed read where none
+//!   was would be proved. Now only the implementation can say that a read has failed, which is a
+//!   few lines.
+//! - **The third value is a measure.** Lines may go on for ever, and a loop has to end. A loop that
+//!   gave up after 2^64 lines would have to tell some fault that isn't true. Now the reader fails
+//!   after 2^64 - 1 pieces, and says so.
+//! - **`serve` takes a source, as it takes an outlet**, and lets it go on after the worker, so that
+//!   no state of it is a premise. Of a reader that is borrowed by a source inside, nothing could be
+//!   said at the end.
+//! - **One relation says which answers lines give** (`GivesAnswers`): of one call, of all calls of
+//!   a source, and of a run.
+//! - **Answers of all kinds are in one list, in their order**, and two readings of it are exact.
+//!   Its requests (`requests_in`) are those that the lines give. Its times and random bytes come
+//!   from the outside (`ComeFrom`), with the place in the seed's stream counted along the list. So
+//!   the second holds where the bytes of the lines aren't known, as of the standard input.
+//! - **A place in the stream is a number of 64 bits.** Words beyond the first 2^64 are refused, by
+//!   a fault of their own, since no count of steps keeps a wish from reaching them.
+//! - **The words of a run are cut at its first `--` before `clap` reads them.** By `clap` alone it
+//!   would be a positional that only `--` reaches, and for such a command `clap`'s contract doesn't
+//!   say what the words mean. A plain positional of several values would also take words without
+//!   `--`.
+//! - **The seed is a text to `clap`**, and is read by `read_seed`, whose contract says of which
+//!   texts. A wrong one is answered before any file is opened.
+//! - `check` is the front end and a line of text: the page limit is 256 there. A module file is
+//!   read up to one byte more than the longest module has, by which a longer one is known.
+//! - `check_bytes` answers 0 only where the bytes spell an accepted module and `accepted` was
+//!   written. It answers 3 only where they spell none, and its other statuses are 5 and 7. That 5
+//!   comes only for lack of memory no clause can say, since the host's room is in no contract.
+//!   Tests and refused allocations show it. Tests also show the text of refusals, which derived
+//!   `Display`s print.
+//! - **The worker's own lines go to whatever outlet `serve` is lent.** It says of each line whether
+//!   it was taken. So 7 for one of them is the fault of a life, `Q3 Outlet` or `N3 Outlet`. The
+//!   program lends a `LineOutlet`, which has a `Printer` of its own. Two clauses meet there:
+//!   `serve` answers 7 for what its outlet said, and a `LineOutlet` refuses only since a write has
+//!   failed.
+//! - **A line that can't be spelled for lack of memory is written part by part.** Else an outlet
+//!   would refuse it, and no write would have failed. The room for the longest line is taken at the
+//!   start, so that a run never comes to it.
+//! - **`Printer::write_all` has the loop over `write`.** The kit's own says nothing of what an
+//!   error has left, and this one that at most a prefix of the bytes was written.
+//! - **The error output is asked once whether it is a terminal**, by `main`. No clause says what a
+//!   terminal is.
+//! - **The last words are read off the calls of that life** (`outcome_after`), not said beside
+//!   them. A clause that had only said that the last slice didn't just spend its fuel was met by
+//!   `parked` for a worker that had exited.
+//! - **That no question was refused is said beside the life** (`AsksUnless`). The calls of a life
+//!   have their exchanges only where the answers of the disk fit an image. What a reader's failure
+//!   comes to is to be known of any disk.
+//! - **A reason names the question that was refused** (`IsRefusedAmong`). For some number of random
+//!   bytes there are always too few words left. So a reason that may be for any question says
+//!   nothing.
+//! - **What a failing call leaves is said by that call's own clause** (`HasBrokenOff`), and beside
+//!   the life, as are refused questions. By what a checkpoint fails is said among the life's calls.
+//!   A law says where no line can wait (`LeavesNoLine`). Of a generation at its end that is a
+//!   condition: `wasmhost_commands` can't name that fault of the store, and the line that it would
+//!   need in `crates.txt` brings a thousand paths too many.
+//! - **The law of a run is of one in which the power isn't cut.** Then no call of the disk is to be
+//!   counted. A run that is killed returns nothing, so no clause of it is ever read.
+//! - **While a worker is opened, a fault of the disk is printed as that, and one of the output as
+//!   one of a replay.** Later both are faults of a call: `N1 Disk` and `N3 Outlet`.
+//! - **What the store refuses has status 3.** It is never out of memory or a fault of the disk:
+//!   those are printed as such.
+//! - **What is printed has a first line of its own, and some faults a second one.** The first is
+//!   `failed` with code and name, or `refused request ..`, and scripts match it. The second is for
+//!   a person. `K2 Io` of a path prints the path and the cause, by a total function of the error's
+//!   kind (`open_cause`, `cause_words`). The words are those of the C library, so that they can be
+//!   looked up. `failed K5 Busy` is alone, and so does `K2 Io` of a disk that fails once it is
+//!   open: `DiskFault` has no cause.
+//! - **`C1 Range` prints its bounds.** `configure` looks for what is out of them before it asks
+//!   `Config::new`, which answers only that something is. That both have the same bounds is proved.
+//! - **A refused line's number is counted by the reader of lines**, and printed after the run. That
+//!   it is the number of that line no clause says: `scripts/disk-rows` has rows of it. What is
+//!   printed of requests that nobody took is a function of the bytes that were read ahead
+//!   (`SaysLeft`). Reading on could wait for ever, so nothing more is read.
+//! - **`--pages -1` prints a tip of `clap`, to write `-- -1`**, which is of no use here: it can't
+//!   be turned off in the kit's `clap` without losing what is proved of its words.
+//! - **A configuration and a module are looked at before the disk's file is made**, and once more
+//!   by the creation. That costs a second decoding, once in a worker's life.
+//! - **`show` counts records, and plays none.** So it shows a disk whose records don't fit, which
+//!   `run` refuses as `Q1 Diverged`.
+#![tactic(auto)]
+
+mod bounds;
+mod check;
+mod configuring;
+pub mod laws;
+mod lines;
+mod module_bytes;
+mod module_limits;
+mod on_disk;
+mod preparing;
+mod printer;
+mod seed;
+pub mod status;
+mod stories;
+mod sweeping;
+mod telling;
+mod words;
+
+pub use bounds::Bound;
+pub use check::check_bytes;
+pub use configuring::Sizes;
+pub use lines::{
+    BufferedLines, LineFault, LineOutlet, LineReader, Outside, RealTime, Request, RequestSource,
+    read_request, trap_name,
+};
+pub use module_bytes::read_module;
+pub use on_disk::{
+    NewDisk, Pace, create_file, create_on, open_disk, report_input, report_open, report_unread,
+    serve, show_file, survey,
+};
+pub use preparing::{Prepared, Unprepared, prepare, report_unprepared};
+pub use printer::Printer;
+pub use seed::{read_seed, seeded};
+pub use stories::{ScriptFault, ScriptLine, read_script, report_script, tell};
+pub use sweeping::{
+    SweepChoice, SweepScriptFault, SweptLives, fronts_of, read_sweep, report_sweep_script,
+    tell_sweep,
+};
+pub use telling::{Obstacle, report, report_words, say_line};
+pub use words::{CreateOrder, Order, RunOrder, StoryOrder, SweepOrder, WordsFault, read_words};
+pub use worker::Worker;

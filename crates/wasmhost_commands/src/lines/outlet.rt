@@ -1,0 +1,67 @@
+//! An outlet that prints.
+
+ghost use Rattle.std.specs.Prelude.{◌≡◌, false, IfOk};
+ghost use Rattle.wasmhost_commands.specs.rules.Printers.{printer_state};
+
+use crate::lines::printing::print_line;
+use crate::printer::Printer;
+use record_replay::{Outlet, OutletFault};
+use std::alloc::{AllocError, Global};
+use std::io::Write;
+use std::marker::Model;
+use wasi_calls_rules::limits::TEXT_BYTES;
+
+/// Room for a worker's longest line: its number, a letter, two spaces and a newline beside the
+/// text.
+const LINE_ROOM: usize = TEXT_BYTES + 24;
+
+/// Prints each line as `N o text`, or `N e text` where it was written to stream 2, with its
+/// newline, by one write, and flushes the writer behind it. It refuses a line only since a write of
+/// it has failed. Contracts see its printer.
+#[derive(Drop)]
+pub struct LineOutlet<W: Write + Drop> {
+    out: Printer<W>,
+    /// Where a line is spelled before it is written.
+    line: Vec<u8>,
+}
+
+impl<W: Write + Drop> Model for LineOutlet<W> {
+    ghost use Rattle.wasmhost_commands.specs.rules.Printers.{PrinterState};
+
+    ghost Value = { PrinterState };
+
+    ghost view = { λ outlet. outlet.out };
+}
+
+impl<W: Write + Drop> LineOutlet<W> {
+    /// Takes memory for a line, so that a release needs none. No write has failed.
+    pub fn new(alloc: Global, out: W) -> Result<Self, AllocError>
+        ensures { IfOk result (λ outlet. outlet ≡ printer_state (W.contents out) false false) }
+    {
+        let line = Vec::with_capacity(alloc, LINE_ROOM)?;
+        Ok(LineOutlet {
+            out: Printer::new(out, false),
+            line,
+        })
+    }
+
+    /// What it writes to.
+    pub fn writer(&self) -> &W
+        ensures { W.contents result.now ≡ self.now.contents }
+    {
+        self.out.writer()
+    }
+}
+
+impl<W: Write + Drop> Outlet for LineOutlet<W> {
+    ghost use Rattle.wasmhost_commands.specs.rules.Prints.{printing};
+
+    ghost takes = { λ old number line said new. printing old number line said new };
+
+    fn release(&mut self, number: u64, stream: u8, text: &[u8]) -> Result<(), OutletFault> {
+        match print_line(&mut self.out, &mut self.line, number, stream, text) {
+            Ok(()) => Ok(()),
+            Err(_) => Err(OutletFault),
+        }
+    }
+}

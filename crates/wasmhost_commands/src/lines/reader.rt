@@ -1,0 +1,32 @@
+//! What request lines are read from.
+
+use crate::lines::fault::LineFault;
+
+/// A reader whose bytes come in pieces. What contracts say of it they say by the bytes that are
+/// still to come, and by whether a read of it has failed. Only a call can make it fail.
+pub trait LineReader {
+    ghost use Rattle.std.specs.Prelude.{◌≡◌, ◌<◌, ℕ, Bool, List, Option, IfOk, IfErr, OnOk, IfSome};
+    ghost use Rattle.wasmhost_commands.specs.Lines.Reads.{MovesPiece, IsFaultOfReading, GrowsTooLong};
+    ghost use Rattle.wasmhost_commands.specs.Lines.Reads.{AreSome};
+
+    // The bytes that are still to come, where they are known.
+    ghost unread: { Self → Option (List ℕ) };
+
+    // Whether a read has failed.
+    ghost has_failed: { Self → Bool };
+
+    // How many pieces come at most.
+    ghost pieces_left: { Self → ℕ };
+
+    /// Moves the next bytes to the line, through a newline at most. Answers whether the line is
+    /// done: by a newline, or by the end of the bytes. A line of `limit` bytes is refused.
+    fn read_piece(&mut self, limit: usize, line: &mut Vec<u8>) -> Result<bool, LineFault>
+        ensures moved { IfOk result (MovesPiece (unread self.old) (unread self.new) line.old.items
+            line.new.items) }
+        ensures steady { OnOk result (has_failed self.new ≡ has_failed self.old) }
+        ensures fewer { OnOk result (pieces_left self.new < pieces_left self.old) }
+        ensures failed { IfErr result (IsFaultOfReading
+            (IfSome (unread self.old) (GrowsTooLong limit line.old.items))
+            (IfSome (unread self.old) AreSome)
+            (has_failed self.old) (has_failed self.new)) };
+}

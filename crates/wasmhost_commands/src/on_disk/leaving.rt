@@ -1,0 +1,68 @@
+//! What a run says of its input behind its last words.
+
+ghost use Rattle.std.specs.Prelude.{◌≡◌, ◌≤◌};
+ghost use Rattle.std.specs.Io.Buffered.{reader_buffer};
+ghost use Rattle.wasmhost_commands.specs.rules.Leavings.{SaysLeft, SaysOfInput, left_line, place_line};
+ghost use Rattle.wasmhost_commands.specs.rules.Printers.{SaysText};
+
+use crate::lines::{BufferedLines, RealTime, RequestSource, count_later};
+use crate::printer::Printer;
+use crate::status::{BAD_LINE, UNWRITTEN};
+use std::io::{BufReader, Read, Write};
+
+/// Says which line of the input was refused, and answers the exit status.
+fn say_place<E: Write + Drop>(err: &mut Printer<E>, number: u64) -> u8
+    ensures said { SaysText (place_line number) 6 err.old result err.new }
+    ensures known { result ≤ 7 }
+{
+    match writeln!(err, "at input line {number}") {
+        Ok(()) => BAD_LINE,
+        Err(_) => UNWRITTEN,
+    }
+}
+
+/// Says how many requests nobody took, and answers the exit status.
+fn say_count<E: Write + Drop>(err: &mut Printer<E>, count: usize) -> u8
+    ensures said { SaysText (left_line count) 0 err.old result err.new }
+    ensures known { result ≤ 7 }
+{
+    match writeln!(err, "requests not taken: {count}") {
+        Ok(()) => 0,
+        Err(_) => UNWRITTEN,
+    }
+}
+
+/// Says that of the lines which were read ahead, if there are any, and answers the exit status.
+fn say_left<E: Write + Drop>(err: &mut Printer<E>, ahead: &[u8], taken: u64) -> u8
+    ensures said { SaysLeft taken ahead.now err.old result err.new }
+    ensures known { result ≤ 7 }
+{
+    let count = count_later(ahead, taken);
+    if count == 0 {
+        return 0;
+    }
+    say_count(err, count)
+}
+
+/// Says behind a run that ended with this status what else is known of its input: at which line a
+/// refused one stands, and how many requests were read ahead that a worker which is over doesn't
+/// take. Reads nothing more. Answers the exit status, or 7 where a write has failed.
+pub fn report_input<R: Read + Drop, C: RealTime + Drop, E: Write + Drop>(
+    source: &RequestSource<BufferedLines<BufReader<R>>, C>,
+    status: u8,
+    err: &mut Printer<E>,
+) -> u8
+    ensures says { SaysOfInput source.now.requests.taken
+        (reader_buffer source.now.requests.reader.reader) source.now.requests.reader.begun status
+        err.old result err.new }
+    ensures known { status ≤ 7 → result ≤ 7 }
+{
+    let requests = source.requests();
+    if status == BAD_LINE {
+        return say_place(err, requests.reader().line_number());
+    }
+    if status == 0 {
+        return say_left(err, requests.reader().read_ahead(), requests.taken());
+    }
+    status
+}

@@ -1,0 +1,75 @@
+//! Why a file isn't made, opened or read, told to a person.
+
+ghost use Rattle.std.specs.Prelude.{◌≡◌, ◌≤◌, ◌↔◌, IsTrue};
+ghost use Rattle.std.specs.IoError.{error_kind};
+ghost use Rattle.wasmhost_commands.specs.rules.Openings.{SaysUnread, cause_words, open_words};
+ghost use Rattle.wasmhost_commands.specs.rules.Reports.{SaysLine};
+
+use crate::printer::Printer;
+use crate::status::{UNREAD, UNWRITTEN};
+use crate::telling::{Obstacle, report, say_line};
+use sector_disk::{OpenCause, OpenFault};
+use std::io::{Error, ErrorKind, Write};
+
+/// What the operating system says of a path.
+fn words_of_cause(cause: OpenCause) -> &'static str
+    ensures { result.now ≡ cause_words cause }
+{
+    match cause {
+        OpenCause::Folder => "is a directory",
+        OpenCause::NoFolder => "not a directory",
+        OpenCause::Missing => "no such file or directory",
+        OpenCause::Forbidden => "permission denied",
+        OpenCause::ReadOnly => "read-only file system",
+        OpenCause::Exists => "file exists",
+        OpenCause::NoRoom => "no space left on device",
+        OpenCause::Quota => "disk quota exceeded",
+        OpenCause::TooLarge => "file too large",
+        OpenCause::LongName => "file name too long",
+        OpenCause::Loop => "too many levels of symbolic links",
+        OpenCause::Other => "the system failed",
+    }
+}
+
+/// Whether an error is want of memory.
+fn is_want(error: &Error) -> bool
+    ensures { IsTrue result ↔ (error_kind error.now ≡ ErrorKind.OutOfMemory) }
+{
+    error.kind() == ErrorKind::OutOfMemory
+}
+
+/// Prints that a path was refused, and on a line of its own the path and the cause.
+fn say_cause<E: Write + Drop>(err: &mut Printer<E>, path: &str, cause: OpenCause) -> u8
+    ensures said { SaysLine (open_words path.now (OpenFault.Io cause)) 4 err.old result err.new }
+    ensures known { result ≤ 7 }
+{
+    let words = words_of_cause(cause);
+    match writeln!(err, "failed K2 Io\n{path}: {words}") {
+        Ok(()) => UNREAD,
+        Err(_) => UNWRITTEN,
+    }
+}
+
+/// Prints why a file isn't made or opened as a disk: the fault, and on a line of its own the path
+/// and what the operating system says of it. Answers the exit status, or 7 where a write has
+/// failed.
+pub fn report_open<E: Write + Drop>(err: &mut Printer<E>, path: &str, fault: OpenFault) -> u8
+    ensures said { SaysLine (open_words path.now fault) 4 err.old result err.new }
+    ensures known { result ≤ 7 }
+{
+    match fault {
+        OpenFault::Busy => say_line(err, UNREAD, "failed K5 Busy"),
+        OpenFault::Io(cause) => say_cause(err, path, cause),
+    }
+}
+
+/// Prints in the same way why a file can't be read. Want of memory is told as that.
+pub fn report_unread<E: Write + Drop>(err: &mut Printer<E>, path: &str, error: Error) -> u8
+    ensures said { SaysUnread path.now (error_kind error) err.old result err.new }
+    ensures known { result ≤ 7 }
+{
+    if is_want(&error) {
+        return report(err, Obstacle::Memory);
+    }
+    report_open(err, path, OpenFault::from(error))
+}

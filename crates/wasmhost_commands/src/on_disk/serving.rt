@@ -1,0 +1,113 @@
+//! `wasmhost run` of a worker on a disk.
+
+ghost use Rattle.std.specs.Prelude.{◌≡◌, ◌≤◌, true, OnErr, OnOk};
+ghost use Rattle.std.specs.Int.NonZero.{non_zero_u64_get};
+ghost use Rattle.disk_layout.specs.rules.Places.{total_sectors};
+ghost use Rattle.wasmhost_commands.specs.rules.DiskStatuses.{IsToldOnDisk};
+ghost use Rattle.wasmhost_commands.specs.rules.Printers.{IsPrinted, TellsPerson};
+ghost use Rattle.wasmhost_commands.specs.rules.Refusals.{HeedsRefusal};
+ghost use Rattle.wasmhost_commands.specs.rules.ServedOnDisk.{ServesOnDisk, disk_job, recovered_line};
+ghost use Rattle.wasmhost_commands.specs.Livings.{HasGoneOn};
+
+use crate::lines::{LineFault, LineReader, RealTime, RequestSource};
+use crate::on_disk::ending::say;
+use crate::on_disk::fault::{OnDiskFault, say_disk_fault};
+use crate::on_disk::living::{Pace, live};
+use crate::on_disk::showing::print_number;
+use crate::printer::Printer;
+use ephemeral_worker::{Now, SliceFault};
+use record_replay::Outlet;
+use sector_disk::Disk;
+use std::alloc::Global;
+use std::io::{self, Write};
+use worker::{WorkFault, Worker};
+
+/// A fault of the source is that of a request line, where there is one.
+fn call_fault_of(fault: WorkFault, line: Option<LineFault>) -> OnDiskFault
+    ensures { IsToldOnDisk fault line result }
+{
+    match line {
+        Some(line) if fault == WorkFault::Work(SliceFault::Source) => OnDiskFault::Line(line),
+        _ => OnDiskFault::from(fault),
+    }
+}
+
+/// Runs a worker that is open on its disk: request lines behind those that it has taken, random
+/// bytes of its generation.
+fn go_on<D: Disk, R: LineReader + Drop, C: RealTime + Drop, O: Outlet>(
+    worker: &mut Worker,
+    disk: &mut D,
+    pace: Pace,
+    source: &mut RequestSource<R, C>,
+    outlet: &mut O,
+) -> Result<Now, OnDiskFault>
+    requires { total_sectors worker.old.store.geometry ≤ (D.medium disk.old).sectors }
+    ensures { HasGoneOn D.medium O.takes (disk_job (non_zero_u64_get pace.fuel)
+        (non_zero_u64_get pace.every) (R.unread source.old.requests.reader) source.old.outside
+        (R.has_failed source.old.requests.reader)) worker.old disk.old disk.new
+        outlet.old outlet.new (R.has_failed source.new.requests.reader) result }
+{
+    let taken = worker.process().requests();
+    source.go_on_behind(taken, worker.generation());
+    match live(worker, disk, pace, source, outlet) {
+        Ok(now) => Ok(now),
+        Err(fault) => Err(call_fault_of(fault, source.fault())),
+    }
+}
+
+/// Prints that a worker is recovered, and how far it was replayed.
+fn print_recovered<E: Write + Drop>(err: &mut Printer<E>, worker: &Worker) -> io::Result<()>
+    ensures printed { OnOk result (IsPrinted err.old err.new (recovered_line worker.now)) }
+    ensures failed { OnErr result (err.new.failed ≡ true) }
+{
+    print_number(err, "recovered generation ", worker.generation())?;
+    print_number(err, " at step ", worker.process().steps())?;
+    print_number(err, ", replayed ", worker.replayed())?;
+    err.write_all(b" steps\n")
+}
+
+/// Tells a person that a worker is recovered. A worker runs on though this can't be printed.
+fn tell_recovered<E: Write + Drop>(err: &mut Printer<E>, worker: &Worker)
+    ensures { TellsPerson (recovered_line worker.now) err.old err.new }
+{
+    if err.is_terminal() {
+        let _ = print_recovered(err, worker);
+    }
+}
+
+/// The worker on a disk goes on: it is recovered, and then runs slices at this pace until it is
+/// over, with a checkpoint behind the last one. Its lines go to the outlet, last words to `err`.
+/// Where that is a terminal, a line before the first slice says how it was recovered.
+/// Request lines that it has taken are passed over, and random bytes are those of the seed's stream
+/// of its generation. Answers the exit status: 0 where the worker has ended, trapped or waits at
+/// the end of the lines, 3 for a disk that shows no worker that can go on and where a number is at
+/// its end, 4 where the disk, the reader or the clock fails, 5 for want of memory, 6 for a refused
+/// request line, 7 where the outlet has refused a line or a write has failed.
+pub fn serve<D: Disk, R: LineReader + Drop, C: RealTime + Drop, O: Outlet, E: Write + Drop>(
+    alloc: Global,
+    disk: &mut D,
+    pace: Pace,
+    source: &mut RequestSource<R, C>,
+    outlet: &mut O,
+    err: &mut Printer<E>,
+) -> u8
+    ensures serves { ServesOnDisk D.medium O.takes (disk_job (non_zero_u64_get pace.fuel)
+        (non_zero_u64_get pace.every) (R.unread source.old.requests.reader) source.old.outside
+        (R.has_failed source.old.requests.reader)) disk.old disk.new
+        outlet.old outlet.new err.old err.new
+        (R.has_failed source.new.requests.reader) result }
+
+    // The status is 7 just where the outlet has refused a line, or a write of `err` has failed.
+    ensures refusal { HeedsRefusal O.takes outlet.old outlet.new err.new result }
+    ensures known { result ≤ 7 }
+{
+    let mut worker = match Worker::recover(alloc, disk, outlet) {
+        Ok(worker) => worker,
+        Err(fault) => return say_disk_fault(err, OnDiskFault::from(fault)),
+    };
+    tell_recovered(err, &worker);
+    match go_on(&mut worker, disk, pace, source, outlet) {
+        Ok(now) => say(err, now),
+        Err(fault) => say_disk_fault(err, fault),
+    }
+}

@@ -1,0 +1,63 @@
+//! Scripts of lives that nothing befalls.
+
+ghost use Rattle.std.specs.Prelude.{◌≡◌, IfOk, OnOk, Some, true};
+ghost use Rattle.wasmhost_commands.specs.rules.Pieces.{lines_of};
+ghost use Rattle.wasmhost_commands.specs.rules.Sweeps.{IsCalm, IsCalmScript};
+ghost use Rattle.wasmhost_commands.specs.laws.Drafts.{IsCalmDraft, put_text, put_texts};
+
+use crate::stories::draft::Draft;
+use crate::stories::fault::ScriptFault;
+use crate::stories::lives::{close, new_draft, put_text};
+use crate::stories::script::cut_line;
+use std::alloc::{AllocError, Global};
+use wasm_syntax::Row;
+use worker::story::PlannedLife;
+
+/// Whether nothing befalls a life.
+fn is_calm(life: &PlannedLife) -> bool
+    ensures { result ≡ true → IsCalm life.now }
+{
+    life.stop.is_none() && life.fail.is_none() && life.refuse.is_none() && life.tears.is_empty()
+}
+
+/// Reads a line, and puts what it says behind a draft, if it may stand there and nothing befalls
+/// its life by then.
+fn put_calm(alloc: Global, draft: &mut Draft, text: &[u8]) -> Result<bool, AllocError>
+    ensures { IfOk result (λ is_put. is_put ≡ true
+        → (put_text text.now draft.old ≡ Some draft.new) × IsCalm draft.new.life) }
+{
+    if !put_text(alloc, draft, text)? {
+        return Ok(false);
+    }
+    Ok(is_calm(&draft.life))
+}
+
+/// Puts what the lines say behind a draft, up to the first one that may not stand there.
+fn put_calm_lines(alloc: Global, draft: &mut Draft, text: &[u8]) -> Result<(), ScriptFault>
+    ensures { OnOk result ((put_texts (lines_of text.now) draft.old ≡ Some draft.new)
+        × (IsCalmDraft draft.old → IsCalmDraft draft.new)) }
+{
+    let mut rest = text;
+    let mut number = 0;
+    while !rest.is_empty() {
+        let (line, behind) = cut_line(rest);
+        rest = behind;
+        number += 1;
+        if !put_calm(alloc, draft, line)? {
+            return Err(ScriptFault::Line { number });
+        }
+    }
+    Ok(())
+}
+
+/// The lives that a script spells, if nothing befalls them. A fault names the first line behind
+/// which the lines are no such script, or it is want of memory.
+pub(crate) fn read_calm_script(alloc: Global, text: &[u8]) -> Result<Row<PlannedLife>, ScriptFault>
+    ensures { IfOk result (IsCalmScript (lines_of text.now)) }
+{
+    let mut draft = new_draft(alloc);
+    put_calm_lines(alloc, &mut draft, text)?;
+    close(alloc, &mut draft)?;
+    let Draft { lives, .. } = draft;
+    Ok(lives)
+}

@@ -1,0 +1,55 @@
+//! Scripts, line by line.
+
+ghost use Rattle.std.specs.Prelude.{◌≡◌, ◌≢◌, [], ◌∷◌, ◌<◌, length, OnOk, IfOk, IfErr, Some};
+ghost use Rattle.wasmhost_commands.specs.rules.Pieces.{lines_of};
+ghost use Rattle.wasmhost_commands.specs.rules.Scripts.{IsScript, IsScriptFault};
+ghost use Rattle.wasmhost_commands.specs.laws.Drafts.{put_texts, IsReadingFault};
+
+use crate::stories::draft::Draft;
+use crate::stories::fault::ScriptFault;
+use crate::stories::lives::{close, new_draft, put_text};
+use crate::stories::pieces::split_once;
+use std::alloc::Global;
+use wasm_syntax::Row;
+use worker::story::PlannedLife;
+
+/// The line in front, and what stands behind its newline.
+pub(crate) fn cut_line(text: &[u8]) -> (&[u8], &[u8])
+    requires { text.now ≢ [] }
+    ensures line { lines_of text.now ≡ result.0.now ∷ lines_of result.1.now }
+    ensures shorter { length result.1.now < length text.now }
+{
+    let (line, behind) = split_once(text, b'\n');
+    (line, behind.unwrap_or(b""))
+}
+
+/// Puts what the lines say behind a draft, up to the first one that may not stand there.
+fn put_lines(alloc: Global, draft: &mut Draft, text: &[u8]) -> Result<(), ScriptFault>
+    ensures put { OnOk result (put_texts (lines_of text.now) draft.old ≡ Some draft.new) }
+    ensures fault { IfErr result (IsReadingFault (lines_of text.now) draft.old) }
+{
+    let mut rest = text;
+    let mut number = 0;
+    while !rest.is_empty() {
+        let (line, behind) = cut_line(rest);
+        rest = behind;
+        number += 1;
+        if !put_text(alloc, draft, line)? {
+            return Err(ScriptFault::Line { number });
+        }
+    }
+    Ok(())
+}
+
+/// The lives that a script spells. A fault names the first line behind which the lines are no
+/// script, or it is want of memory.
+pub fn read_script(alloc: Global, text: &[u8]) -> Result<Row<PlannedLife>, ScriptFault>
+    ensures read { IfOk result (IsScript (lines_of text.now)) }
+    ensures fault { IfErr result (IsScriptFault (lines_of text.now)) }
+{
+    let mut draft = new_draft(alloc);
+    put_lines(alloc, &mut draft, text)?;
+    close(alloc, &mut draft)?;
+    let Draft { lives, .. } = draft;
+    Ok(lives)
+}

@@ -1,0 +1,122 @@
+//! The command, from a script to an exit status.
+
+ghost use Rattle.std.specs.Prelude.{◌≡◌, ◌≤◌, IfOk};
+ghost use Rattle.wasmhost_commands.specs.rules.SweepTexts.{SaysDifference, SaysSwept, TellsSweep};
+ghost use Rattle.wasmhost_commands.specs.rules.SweepTexts.{swept_line};
+
+use crate::configuring::Sizes;
+use crate::preparing::{prepare, report_unprepared};
+use crate::printer::Printer;
+use crate::status::{DIFFERENT, UNWRITTEN};
+use crate::stories::say_text;
+use crate::sweeping::fault::SweepFault;
+use crate::sweeping::reading::{SweptLives, read_sweep, report_sweep_script};
+use crate::sweeping::running::{SweepJob, Swept, sweep_lives};
+use crate::sweeping::spelling::{spell_script, spell_swept};
+use crate::telling::{Obstacle, report, say_line};
+use std::alloc::Global;
+use std::io::{self, Write};
+use worker::story::PlannedLife;
+
+/// What a sweep is asked for, beside its files.
+#[derive(Clone, Copy)]
+pub struct SweepChoice<'a> {
+    pub sizes: Sizes,
+    /// What a cut leaves of a write, in bytes.
+    pub fronts: &'a [u16],
+    /// The number of the life that is swept, from 1 on, or the last one.
+    pub life: Option<u64>,
+}
+
+/// The line that says how many cuts agree.
+fn swept_text(alloc: Global, swept: Swept) -> io::Result<Vec<u8>>
+    ensures { IfOk result (λ text. text.items ≡ swept_line swept.cuts swept.lines) }
+{
+    let mut text = Vec::new(alloc);
+    spell_swept(&mut text, swept.cuts, swept.lines)?;
+    Ok(text)
+}
+
+/// Prints how many cuts agree, and answers the exit status.
+fn say_swept<W: Write + Drop, E: Write + Drop>(
+    alloc: Global,
+    swept: Swept,
+    out: &mut Printer<W>,
+    err: &mut Printer<E>,
+) -> u8
+    ensures known { result ≤ 7 }
+    ensures said { SaysSwept swept.cuts swept.lines out.old out.new err.old err.new result }
+{
+    match swept_text(alloc, swept) {
+        Ok(text) => say_text(out, text.as_slice()),
+        Err(_) => report(err, Obstacle::Memory),
+    }
+}
+
+/// The script of lives.
+fn script_of(alloc: Global, lives: &[PlannedLife]) -> io::Result<Vec<u8>> {
+    let mut text = Vec::new(alloc);
+    spell_script(&mut text, lives)?;
+    Ok(text)
+}
+
+/// Prints the script of lives that differ, and what differs. Answers the exit status.
+fn say_difference<W: Write + Drop, E: Write + Drop>(
+    alloc: Global,
+    lives: &[PlannedLife],
+    out: &mut Printer<W>,
+    err: &mut Printer<E>,
+) -> u8
+    ensures { SaysDifference out.old out.new err.old err.new result }
+{
+    let Ok(text) = script_of(alloc, lives) else {
+        return report(err, Obstacle::Memory);
+    };
+    if say_text(out, text.as_slice()) != 0 {
+        return UNWRITTEN;
+    }
+    let why = "differs: the last life isn't opened, or a line is missing or has another text";
+    say_line(err, DIFFERENT, why)
+}
+
+/// Sweeps the lives that a script spells, of a worker of the module that the bytes spell. It is of
+/// these sizes, and its name is its one argument. They are run without a cut, and then with the
+/// power cut at each call of the disk in one of them, for each of these fronts. Answers the exit
+/// status: 0 where all cuts agree with the run without one, 1 where one differs, 2 for a script
+/// that can't be swept, 3 for a refused configuration or module, 5 for want of memory, 7 where a
+/// write of a printer has failed.
+#[tactic(auto, using(crate::proofs::SweepLemmas::Statuses::unread_now, crate::proofs::SweepLemmas::Statuses::refused_now, crate::proofs::SweepLemmas::Statuses::unshown, crate::proofs::SweepLemmas::Statuses::said_five, crate::proofs::SweepLemmas::Statuses::differs))]
+pub fn tell_sweep<W: Write + Drop, E: Write + Drop>(
+    alloc: Global,
+    script: &[u8],
+    wasm: &[u8],
+    choice: SweepChoice<'_>,
+    out: &mut Printer<W>,
+    err: &mut Printer<E>,
+) -> u8
+    ensures tells { TellsSweep script.now wasm.now choice.entry.sizes choice.entry.fronts.now
+        choice.entry.life out.old out.new err.old err.new result }
+    ensures known { result ≤ 7 }
+{
+    let SweptLives { lives, place } = match read_sweep(alloc, script, choice.life) {
+        Ok(swept) => swept,
+        Err(fault) => return report_sweep_script(err, fault),
+    };
+    let prepared = match prepare(alloc, wasm, choice.sizes, &[], &[]) {
+        Ok(prepared) => prepared,
+        Err(fault) => return report_unprepared(err, fault),
+    };
+    let job = SweepJob {
+        wasm,
+        config: &prepared.config,
+        lives: lives.as_slice(),
+        place,
+        fronts: choice.fronts,
+    };
+    match sweep_lives(alloc, &job, err) {
+        Ok(Some(swept)) => say_swept(alloc, swept, out, err),
+        Ok(None) => UNWRITTEN,
+        Err(SweepFault::Memory) => report(err, Obstacle::Memory),
+        Err(SweepFault::Differs { lives }) => say_difference(alloc, lives.as_slice(), out, err),
+    }
+}

@@ -1,0 +1,138 @@
+//! What the program says beside the lines of a worker: one line, or help, and the status of that.
+
+ghost use Rattle.std.specs.Prelude.{◌≡◌, ◌≤◌, ◌⊎◌, IfSome};
+ghost use Rattle.wasmhost_commands.specs.rules.Commands.{IsStatusOf};
+ghost use Rattle.wasmhost_commands.specs.rules.Printers.{IsSaid, HeedsBoth};
+ghost use Rattle.wasmhost_commands.specs.rules.Reports.{SaysLine, StandsAroundTip, status_told};
+ghost use Rattle.wasmhost_commands.specs.rules.Reports.{words_told};
+
+use crate::printer::Printer;
+use crate::status::{NO_MEMORY, UNREAD, UNWRITTEN, USAGE};
+use crate::words::WordsFault;
+use clap::Error;
+use std::alloc::Global;
+use std::fmt::Display;
+use std::io::Write;
+
+/// How a tip of `clap` begins: to write behind `--` what begins with a hyphen.
+const TIP: &str = "\n\n  tip: to pass '-";
+
+/// What stands behind a tip.
+const GAP: &str = "\n\n";
+
+/// Why a command isn't begun.
+#[derive(Clone, Copy, Debug, PartialEq, Eq)]
+pub enum Obstacle {
+    Memory,
+    /// A disk can't be written back.
+    Unread,
+    /// An argument is no text.
+    NoText,
+    /// A text spells no seed.
+    NoSeed,
+    /// A text spells no fronts.
+    NoFronts,
+    /// A script has no life of a number.
+    NoLife,
+}
+
+/// Prints a line. Answers the status, or 7 where a write has failed.
+pub fn say_line<W: Write + Drop>(out: &mut Printer<W>, status: u8, line: &str) -> u8
+    ensures { SaysLine line.now status out.old result out.new }
+{
+    match writeln!(out, "{line}") {
+        Ok(()) => status,
+        Err(_) => UNWRITTEN,
+    }
+}
+
+/// Prints why a command isn't begun, and answers the exit status.
+pub fn report<E: Write + Drop>(err: &mut Printer<E>, obstacle: Obstacle) -> u8
+    ensures said { SaysLine (words_told obstacle) (status_told obstacle) err.old result err.new }
+    ensures known { result ≤ 7 }
+{
+    match obstacle {
+        Obstacle::Memory => say_line(err, NO_MEMORY, "failed N4 Memory"),
+        Obstacle::Unread => say_line(err, UNREAD, "failed K2 Io"),
+        Obstacle::NoText => say_line(err, USAGE, "error: an argument is no text"),
+        Obstacle::NoSeed => say_line(err, USAGE, "error: a seed is 64 hexadecimal digits"),
+        Obstacle::NoFronts => say_line(err, USAGE, "error: fronts are numbers from 0 to 512"),
+        Obstacle::NoLife => say_line(err, USAGE, "error: the script has no such life"),
+    }
+}
+
+/// Prints a text as it is. Answers the status, or 7 where a write has failed.
+fn say_text<W: Write + Drop, T: Display>(out: &mut Printer<W>, status: u8, text: &T) -> u8
+    ensures { IsSaid status out.old result out.new }
+{
+    match write!(out, "{text}") {
+        Ok(()) => status,
+        Err(_) => UNWRITTEN,
+    }
+}
+
+/// Whether a text begins with a digit.
+fn begins_with_digit(text: &str) -> bool {
+    matches!(text.as_bytes(), [b'0'..=b'9', ..])
+}
+
+/// What stands before and behind a tip to write a number below 0 behind `--`, if the text has one.
+fn around_tip(text: &str) -> Option<(&str, &str)>
+    ensures { IfSome result (λ parts. StandsAroundTip text.now parts.0.now parts.1.now) }
+{
+    let (before, rest) = text.split_once(TIP)?;
+    let (tip, behind) = rest.split_once(GAP)?;
+    if begins_with_digit(tip) {
+        Some((before, behind))
+    } else {
+        None
+    }
+}
+
+/// Prints what is wrong with the words, without such a tip: no number is below 0, behind `--` or
+/// before it. Where there is no memory to look for one, the text is printed as it is. Answers the
+/// status, or 7 where a write has failed.
+fn say_mistake<E: Write + Drop>(
+    alloc: Global,
+    err: &mut Printer<E>,
+    status: u8,
+    mistake: &Error,
+) -> u8
+    ensures { IsSaid status err.old result err.new }
+{
+    let Ok(text) = format!(in alloc; "{mistake}") else {
+        return say_text(err, status, mistake);
+    };
+    let Some((before, behind)) = around_tip(text.as_str()) else {
+        return say_text(err, status, &text);
+    };
+    match write!(err, "{before}{GAP}{behind}") {
+        Ok(()) => status,
+        Err(_) => UNWRITTEN,
+    }
+}
+
+/// Prints the text of a fault of the words: help on the output, all else on the error output.
+/// Answers the exit status, or 7 where a write has failed.
+pub fn report_words<W: Write + Drop, E: Write + Drop>(
+    alloc: Global,
+    fault: &WordsFault,
+    out: &mut Printer<W>,
+    err: &mut Printer<E>,
+) -> u8
+    ensures status { IsStatusOf fault.now result ⊎ (result ≡ 7) }
+    ensures heeded { HeedsBoth out.old out.new err.old err.new result }
+    ensures help { result ≡ 0 → err.new ≡ err.old }
+    ensures mistake { result ≡ 2 → out.new ≡ out.old }
+    ensures known { result ≤ 7 }
+{
+    let WordsFault::Words(text) = fault else {
+        return report(err, Obstacle::Memory);
+    };
+    let status = fault.status();
+    if status == 0 {
+        say_text(out, status, text)
+    } else {
+        say_mistake(alloc, err, status, text)
+    }
+}

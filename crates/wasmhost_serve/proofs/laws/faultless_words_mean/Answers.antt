@@ -1,5 +1,0 @@
-use Rattle.wasmhost_serve.proofs.WordLemmas.Lines.{faultless_words_mean}
-use Rattle.wasmhost_serve.proofs.laws.faultless_words_mean.Goals as goal
-
-pub returns : goal.returns
-returns c = faultless_words_mean

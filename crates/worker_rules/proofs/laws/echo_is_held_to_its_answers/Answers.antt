@@ -1,5 +1,0 @@
-use Rattle.worker_rules.proofs.EchoLives.{echo_refusals_hold}
-use Rattle.worker_rules.proofs.laws.echo_is_held_to_its_answers.Goals as goal
-
-pub returns : goal.returns
-returns c = echo_refusals_hold

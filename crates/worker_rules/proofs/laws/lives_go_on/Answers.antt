@@ -1,5 +1,0 @@
-use Rattle.worker_rules.proofs.NextLives.{lives_go_on}
-use Rattle.worker_rules.proofs.laws.lives_go_on.Goals as goal
-
-pub returns : goal.returns
-returns g c = lives_go_on g.D.Disk.medium
