@@ -10,6 +10,7 @@ use Rattle.wasi_abi.specs.declared.answer.Kind.{Kind}
 use Rattle.wasi_abi.specs.declared.call.Call.{Call}
 use Rattle.wasi_abi.specs.rules.Answers.{Fits}
 use Rattle.wasi_abi.specs.rules.Calls.{parameters_of}
+use Rattle.wasi_abi.specs.rules.Versions.{text_limit}
 use Rattle.wasi_calls_rules.specs.Hosts.{Host}
 use Rattle.wasi_calls_rules.specs.Checks.{Bytes, Ruling, Refuses, Ends, Asks as Wishes}
 use Rattle.wasi_calls_rules.specs.Rows.{row}
@@ -101,17 +102,17 @@ module _ (guest : Guest) (p : ProcessState) (c : Call) (arguments : List ℕ)
         let asks = ap wish_of (wants_by_row None wanted.0 wanted.1) in
         cc
 
-    same_limit : p.host.limit ≡ held.host.limit
-    same_limit = ap (λ (h : Host). h.limit) shows.host.is
+    same_limit : text_limit p.host.version ≡ text_limit held.host.version
+    same_limit = ap (λ (h : Host). text_limit h.version) shows.host.is
 
     pub wants_that : (kind : Kind)
         → ((h : Host) → ShowsHost held h
         → Some kind ≡ wish_of (row c arguments None m.state.memory h))
-        → (a : Answer) (limit : ℕ) → limit ≡ held.host.limit → (b : Bool)
+        → (a : Answer) (limit : ℕ) → limit ≡ text_limit held.host.version → (b : Bool)
         → IsTrue b ↔ Fits limit kind a → IsTrue b ↔ IsWanted guest p (Some a)
     wants_that kind told a limit is b fits =
         let asks = row_wishes (here None) kind (told_here (Some kind) told) in
-        let same : limit ≡ p.host.limit = is ∙ sym same_limit in
+        let same : limit ≡ text_limit p.host.version = is ∙ sym same_limit in
         let P : ℕ → Type 0 = λ n. Fits n kind a in
         let Q : ℕ → Type 0 = λ n. Fits n kind a in (
           λ t. (
@@ -122,7 +123,7 @@ module _ (guest : Guest) (p : ProcessState) (c : Call) (arguments : List ℕ)
           λ w.
               let found = wants_by_row None w.0 w.1 in
               let one : w.0 ≡ kind = cc in
-              let R : Kind → Type 0 = λ k. Fits p.host.limit k a in
+              let R : Kind → Type 0 = λ k. Fits (text_limit p.host.version) k a in
               fits.1 (subst Q (sym same) (subst R one w.2)),
         )
 

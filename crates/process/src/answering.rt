@@ -35,7 +35,7 @@ fn wants(machine: &Machine, host: &Host, call: Call, arguments: &[u64], answer: 
         → IsTrue result ↔ IsWanted guest p (Some answer.now) }
 {
     match wanted_answer(host, machine.memory(), call, arguments) {
-        Some(kind) => fits(host.limit(), kind, answer),
+        Some(kind) => fits(host.version().text_limit(), kind, answer),
         None => false,
     }
 }

@@ -14,6 +14,7 @@ use Rattle.wasi_abi.specs.declared.answer.Answer.{Answer}
 use Rattle.wasi_abi.specs.declared.call.Call.{Call}
 use Rattle.wasi_abi.specs.rules.Answers.{AreBytes}
 use Rattle.wasi_abi.specs.rules.Configs.{Settings}
+use Rattle.wasi_abi.specs.rules.Versions.{text_limit}
 use Rattle.file_tree.specs.declared.limits.TheConstants.{UNIT_BYTES}
 use Rattle.wasi_calls_rules.specs.Hosts.{Host, IsHost}
 use Rattle.wasi_calls_rules.specs.Checks.{Refuses, Ends, Asks as Wishes, Done, Ruling}
@@ -212,7 +213,7 @@ pub reached_input_is_short : ReachedInputIsShort
 reached_input_is_short m config kept n p r =
     let first = (start_follows m config r.guest r.start r.begins).input (omega arith) in
     let short = runs_input r.guest r.start p kept n r.runs first in
-    let limit : p.host.limit ≡ TEXT_BYTES = (reached_are_configured m config kept n p r).limit in
+    let limit : text_limit p.host.version ≡ TEXT_BYTES = (reached_are_configured m config kept n p r).limit in
     omega (arith, short, limit)
 
 -- ---- hosts and bytes

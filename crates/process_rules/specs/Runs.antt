@@ -16,6 +16,7 @@ use Rattle.wasi_abi.specs.declared.call.Call.TheVariants as call
 use Rattle.wasi_abi.specs.rules.Configs.{Settings}
 use Rattle.wasi_abi.specs.rules.Numbers.{errno_number}
 use Rattle.wasi_abi.specs.rules.Answers.{Fits}
+use Rattle.wasi_abi.specs.rules.Versions.{text_limit}
 use Rattle.wasi_calls_rules.specs.Hosts.{Host}
 use Rattle.wasi_calls_rules.specs.Checks.{Refuses, Ends, Asks as Wishes, Ruling}
 use Rattle.wasi_calls_rules.specs.Rows.{row}
@@ -104,7 +105,7 @@ LeadsTo guest Nowhere given p q = ⊥
 abbrev pub IsWanted : Guest → ProcessState → Option Answer → Type 0
 IsWanted guest p None = Unit {0}
 IsWanted guest p (Some a) = (kind : Kind) × (next_of guest p None ≡ Wants kind)
-    × Fits p.host.limit kind a
+    × Fits (text_limit p.host.version) kind a
 
 -- One counted step, with the rules that settle it. A process that has ended takes none.
 pub record Moves (guest : Guest) (p : ProcessState) (given : Option Answer) (q : ProcessState) :

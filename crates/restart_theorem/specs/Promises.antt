@@ -9,6 +9,7 @@ use Rattle.wasi_abi.specs.declared.answer.Kind.{Kind}
 use Rattle.wasi_abi.specs.declared.answer.Answer.{Answer}
 use Rattle.wasi_abi.specs.rules.Answers.{Fits}
 use Rattle.wasi_abi.specs.rules.Configs.{Settings}
+use Rattle.wasi_abi.specs.rules.Versions.{text_limit}
 use Rattle.wasm_semantics.specs.Configuration.{Configuration}
 use Rattle.wasi_calls_rules.specs.Hosts.{Host}
 use Rattle.process_rules.specs.Processes.{ProcessState, HasLineNumbers}
@@ -177,7 +178,7 @@ pub record IsInquiring (m : Module) (config : Settings) (so_far : Promise) (stag
   pub wants : next_of reached.guest process None ≡ Wants question.kind
   pub in_time : IsAskedIn stage.phase stage.acts stage.step question.steps
   pub all_told : stage.line ≡ Some (length process.host.lines)
-  pub fitting : IsFitting process.host.limit question.kind question.said question.fits
+  pub fitting : IsFitting (text_limit process.host.version) question.kind question.said question.fits
   pub heard : question.said ≡ first_said stage.says
 
 -- A front of so many kept answers, with a process of so many steps, holds all that was promised. It

@@ -2,4 +2,5 @@ pub mod CallLemmas
 mod ConfigLemmas
 pub mod LayoutLemmas
 pub mod RightsLemmas
+pub mod VersionLemmas
 pub mod ByteLemmas

@@ -3,3 +3,4 @@ pub mod Calls
 pub mod Configs
 pub mod Layouts
 pub mod Numbers
+pub mod Versions

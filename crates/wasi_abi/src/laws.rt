@@ -6,6 +6,7 @@ ghost use Rattle.wasi_abi.specs.laws.ConfigLimits.{ConfigLimitNumbers};
 ghost use Rattle.wasi_abi.specs.laws.NumbersEnd.{NumbersEndThere};
 ghost use Rattle.wasi_abi.specs.laws.Laws.{ErrorsAreNoSuccess, right_masks, CallsDiffer};
 ghost use Rattle.wasi_abi.specs.laws.Laws.{LayoutSizes, BytesSpellNumbers, WorkedDirectory};
+ghost use Rattle.wasi_abi.specs.laws.Laws.{VersionsHaveRoom};
 ghost use Rattle.wasi_abi.specs.rules.Numbers.{rights_number, file_rights, directory_rights};
 ghost use Rattle.wasi_abi.specs.rules.Numbers.{all_rights, input_rights, output_rights};
 
@@ -72,4 +73,9 @@ pub fn numbers_end_is()
 /// What a configuration may have at most and has at least.
 pub fn configuration_limits_are()
     ensures { ConfigLimitNumbers }
+{}
+
+/// A version has a number of its own, and lengths with room in their bytes.
+pub fn versions_have_room()
+    ensures { VersionsHaveRoom }
 {}

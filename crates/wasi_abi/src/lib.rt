@@ -13,18 +13,20 @@
 //! - `fits` is true exactly where an answer is one to what was asked (`Fits`).
 //! - `Config::new` answers Ok exactly within the limits (`ok`), and else `C1 Range` (`range`) or
 //!   `C2 Text` (`text`). A `Config` is within its limits by its type (`within`).
-//! - Nine calls that do nothing ensure laws. Rights, sets of rights, errors and calls have numbers
+//! - A `Version` has its number, the limit of its texts and the bytes of a length (`Version`).
+//! - Ten calls that do nothing ensure laws. Rights, sets of rights, errors and calls have numbers
 //!   and names of their own (`rights_have_their_bits`, `sets_have_their_rights`,
 //!   `errors_are_no_success`, `calls_differ`). Layouts have their sizes and bytes
 //!   (`layouts_have_their_sizes`, `bytes_spell_numbers`, `worked_directory`). A configuration has
 //!   its limits (`configuration_limits_are`), and the numbers of steps, lines and generations their
-//!   end (`numbers_end_is`, of `NUMBERS_END`).
+//!   end (`numbers_end_is`, of `NUMBERS_END`). A length of each version has room in its bytes
+//!   (`versions_have_room`).
 //!
 //! # Definitions to read
 //!
 //! In `specs/rules/`: `errno_number`, the rights and sets of rights (`Numbers.antt`);
 //! `fdstat_bytes` and its kin (`Layouts.antt`); `name_of`, `parameters_of`, `result_types`
-//! (`Calls.antt`); `Fits` (`Answers.antt`); `Settings`, `AreSettingsWithinLimits` (`Configs.antt`).
+//! (`Calls.antt`); `Fits` (`Answers.antt`); `text_limit` and its kin (`Versions.antt`); `Settings`, `AreSettingsWithinLimits` (`Configs.antt`).
 //!
 //! # Who may touch what
 //!
@@ -43,6 +45,7 @@ mod laws;
 mod layout;
 mod numbers;
 mod rights;
+mod version;
 
 pub use answer::{Answer, Kind, fits};
 pub use call::{Call, MODULE_NAME};
@@ -55,7 +58,7 @@ pub use flags::{
 pub use laws::{
     bytes_spell_numbers, calls_differ, configuration_limits_are, errors_are_no_success,
     layouts_have_their_sizes, numbers_end_is, rights_have_their_bits, sets_have_their_rights,
-    worked_directory,
+    versions_have_room, worked_directory,
 };
 pub use layout::{
     DIRENT_BYTES, Dirent, FDSTAT_BYTES, FILESTAT_BYTES, Fdstat, Filestat, IOVEC_BYTES, Iovec,
@@ -63,3 +66,4 @@ pub use layout::{
 };
 pub use numbers::NUMBERS_END;
 pub use rights::Rights;
+pub use version::Version;

@@ -5,6 +5,7 @@ use Rattle.wasi_abi.specs.declared.answer.Kind.{Kind}
 use Rattle.wasi_abi.specs.declared.answer.Kind.TheVariants as kind
 use Rattle.wasi_abi.specs.declared.answer.Answer.{Answer}
 use Rattle.wasi_abi.specs.rules.Answers.{Fits}
+use Rattle.wasi_abi.specs.rules.Versions.{text_limit}
 use Rattle.wasi_calls_rules.specs.Hosts.{Host}
 use Rattle.wasi_calls_rules.specs.Checks.{Bytes, Halt, Asks, ◌>>=◌, asked, does_fit, answered_by}
 use Rattle.wasi_calls_rules.specs.Moving.{has_bytes}
@@ -22,31 +23,31 @@ no_fit_test limit k a none = by_test (does_fit limit k a) refl where
   by_test false e = refl
 
 -- an answer that fits is taken
-pub takes_answer : (h : Host) (k : Kind) (a : Answer) → Fits h.limit k a
+pub takes_answer : (h : Host) (k : Kind) (a : Answer) → Fits (text_limit h.version) k a
     → answered_by h k (Some a) ≡ Ok a
 takes_answer h k a fits =
-    ap (λ (p : Bool). asked k (if p then Some a else None)) (fit_test h.limit k a fits)
+    ap (λ (p : Bool). asked k (if p then Some a else None)) (fit_test (text_limit h.version) k a fits)
 
 -- one that doesn't fit is asked for again
-pub asks_for_another : (h : Host) (k : Kind) (a : Answer) → (Fits h.limit k a → ⊥)
+pub asks_for_another : (h : Host) (k : Kind) (a : Answer) → (Fits (text_limit h.version) k a → ⊥)
     → answered_by h k (Some a) ≡ Err (Asks k)
 asks_for_another h k a no_fit =
-    ap (λ (p : Bool). asked k (if p then Some a else None)) (no_fit_test h.limit k a no_fit)
+    ap (λ (p : Bool). asked k (if p then Some a else None)) (no_fit_test (text_limit h.version) k a no_fit)
 
 module _ (h : Host) (a : Answer) (none : h.unread ≡ []) (open_still : h.input_ended ≡ false) where
   -- what is done with an answer, by whether it fits
   abbrev by_fit : Bool → Result Host Halt
   by_fit p = asked kind.Request (if p then Some a else None) >>= λ x. line_taken x h
 
-  supplied_is : supplied (Some a) h ≡ by_fit (does_fit h.limit kind.Request a)
+  supplied_is : supplied (Some a) h ≡ by_fit (does_fit (text_limit h.version) kind.Request a)
   supplied_is =
       ap (λ (x : Bytes). if has_bytes x then Ok h else if h.input_ended then Ok h
-      else by_fit (does_fit h.limit kind.Request a)) none
-      ∙ ap (λ (p : Bool). if p then Ok h else by_fit (does_fit h.limit kind.Request a)) open_still
+      else by_fit (does_fit (text_limit h.version) kind.Request a)) none
+      ∙ ap (λ (p : Bool). if p then Ok h else by_fit (does_fit (text_limit h.version) kind.Request a)) open_still
 
-  pub asks_again : (Fits h.limit kind.Request a → ⊥) → supplied (Some a) h ≡ Err (Asks kind.Request)
-  asks_again no_fit = supplied_is ∙ ap by_fit (no_fit_test h.limit kind.Request a no_fit)
+  pub asks_again : (Fits (text_limit h.version) kind.Request a → ⊥) → supplied (Some a) h ≡ Err (Asks kind.Request)
+  asks_again no_fit = supplied_is ∙ ap by_fit (no_fit_test (text_limit h.version) kind.Request a no_fit)
 
-  pub takes_line : (r : Result Host Halt) → Fits h.limit kind.Request a → line_taken a h ≡ r
+  pub takes_line : (r : Result Host Halt) → Fits (text_limit h.version) kind.Request a → line_taken a h ≡ r
       → supplied (Some a) h ≡ r
-  takes_line r fits is = supplied_is ∙ ap by_fit (fit_test h.limit kind.Request a fits) ∙ is
+  takes_line r fits is = supplied_is ∙ ap by_fit (fit_test (text_limit h.version) kind.Request a fits) ∙ is

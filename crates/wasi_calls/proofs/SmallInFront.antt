@@ -12,6 +12,7 @@ use Rattle.wasi_abi.specs.declared.errno.Errno.TheVariants.{Badf, Inval, Nametoo
 use Rattle.wasi_abi.specs.rules.Layouts.{fdstat_bytes}
 use Rattle.wasi_abi.specs.rules.Numbers.{fd_fdstat_set_flags_right, fd_filestat_get_right}
 use Rattle.wasi_abi.specs.rules.Numbers.{fd_filestat_set_size_right, fd_seek_right, fd_tell_right}
+use Rattle.wasi_abi.specs.rules.Versions.{text_limit}
 use Rattle.wasi_calls_rules.specs.Hosts.{Line, Target, Stream, Node, Host}
 use Rattle.wasi_calls_rules.specs.Checks.{Bytes, Ruling, check_or, open_descriptor, a_file}
 use Rattle.wasi_calls_rules.specs.Checks.{with_right, in_memory, node_named, answered_by}
@@ -144,7 +145,7 @@ module _ (before : List Line) where
     pub random_get_behind : (buf len : ℕ) (given : Option Answer)
         → IsBehind (random_get buf len given m) h
     random_get_behind buf len given =
-        next before (check_or (nat_le len h.limit) Inval) _ _ (λ _.
+        next before (check_or (nat_le len (text_limit h.version)) Inval) _ _ (λ _.
         next before (in_memory m buf len) _ _ (λ _.
         either (len == 0) _ _ _ _ refl
         (next before (answered_by h (kind.Random len) given) _ _ (λ a. random_put_behind a buf))))

@@ -31,7 +31,7 @@ pub fn get(
     ensures kept { IfErr result (λ _. memory.new ≡ memory.old) }
     ensures large { IsAsLarge memory.old memory.new }
 {
-    if len as usize > host.limit() {
+    if len as usize > host.version().text_limit() {
         return Err(CallStop::Refused(Errno::Inval));
     }
     in_range(memory, buffer, len)?;

@@ -53,7 +53,7 @@ fn wanted_by_clock(memory: &Memory, arguments: TimeArguments) -> Option<Kind>
 fn wanted_by_random(host: &Host, memory: &Memory, buffer: u32, len: u32) -> Option<Kind>
     ensures { result ≡ wish_of (random_get buffer len None memory.now.bytes host.now.host) }
 {
-    if len as usize > host.limit() || len == 0 {
+    if len as usize > host.version().text_limit() || len == 0 {
         return None;
     }
     match in_range(memory, buffer, len) {

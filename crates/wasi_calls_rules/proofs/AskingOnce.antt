@@ -6,6 +6,7 @@ use Rattle.wasi_abi.specs.declared.answer.Kind.{Kind}
 use Rattle.wasi_abi.specs.declared.answer.Answer.{Answer}
 use Rattle.wasi_abi.specs.declared.call.Call.TheVariants as call
 use Rattle.wasi_abi.specs.rules.Answers.{Fits}
+use Rattle.wasi_abi.specs.rules.Versions.{text_limit}
 use Rattle.wasi_calls_rules.specs.Hosts.{Target, Stream, Node, Descriptor, Host}
 use Rattle.wasi_calls_rules.specs.Checks.{Bytes, Buffer, Halt, Refuses, Asks, Ends, ◌>>=◌, check_or}
 use Rattle.wasi_calls_rules.specs.Checks.{some_or, buffers, asked, does_fit, answered_by}
@@ -31,7 +32,7 @@ module _ (h : Host) (a : Answer) where
   -- Without an answer, and with this one: where the first asks for one that this fits, the second
   -- asks for none.
   record AsksOnce {A : Type 0} (without with_it : Result A Halt) : Type 0 where
-    pub once : (k other : Kind) → without ≡ Err (Asks k) → Fits h.limit k a → with_it ≢ Err
+    pub once : (k other : Kind) → without ≡ Err (Asks k) → Fits (text_limit h.version) k a → with_it ≢ Err
         (Asks other)
 
   -- one that only refuses asks for nothing
@@ -75,7 +76,7 @@ module _ (h : Host) (a : Answer) where
         once.once k other (ap (λ z. Err z) is) fits (ap (λ z. Err z) was);
   }
 
-  tested : (k : Kind) (b : Bool) → (Fits h.limit k a → b ≡ true) → (other : Kind) → Fits h.limit k a
+  tested : (k : Kind) (b : Bool) → (Fits (text_limit h.version) k a → b ≡ true) → (other : Kind) → Fits (text_limit h.version) k a
       → asked k (if b then Some a else None) ≢ Err (Asks other)
   tested k true fit other fits e = absurd (cc)
   tested k false fit other fits e = let t = fit fits in absurd (cc)
@@ -84,8 +85,8 @@ module _ (h : Host) (a : Answer) where
   answered_once k = record {
     once = λ wish other e fits.
         let is : k ≡ wish = cc in
-        let P : Kind → Type 0 = λ z. Fits h.limit z a in
-        tested k (does_fit h.limit k a) (λ f. (tests_tell h.limit k a).1 f) other
+        let P : Kind → Type 0 = λ z. Fits (text_limit h.version) z a in
+        tested k (does_fit (text_limit h.version) k a) (λ f. (tests_tell (text_limit h.version) k a).1 f) other
         (subst P (sym is) fits);
   }
 

@@ -9,6 +9,7 @@ use Rattle.wasi_calls_rules.specs.Lines.{stream_written}
 use Rattle.wasi_calls_rules.specs.Small.{names, has_path, swept}
 use Rattle.wasi_calls_rules.specs.Entries.{cut_if, without, renamed_over}
 use Rattle.wasi_calls_rules.specs.laws.Laws.{IsConfiguredAs, RowsKeepConfigurations}
+use Rattle.wasi_calls_rules.specs.laws.Laws.{RowsKeepVersions}
 use Rattle.wasi_calls_rules.specs.laws.Laws.{MakesOneNodeAtMost, RowsMakeOneNodeAtMost}
 use Rattle.wasi_calls_rules.proofs.HostChanges.{Becomes, stays, sees_time, leaves_unread}
 use Rattle.wasi_calls_rules.proofs.HostChanges.{takes_text, ends_input, closes, sets_flags, seeks}
@@ -19,43 +20,77 @@ use Rattle.wasi_calls_rules.proofs.KeptLines.{stream_either}
 
 -- ---- what was configured
 
-alike : (h after : Host) → after.room ≡ h.room → after.limit ≡ h.limit
-    → after.arguments ≡ h.arguments → after.environment ≡ h.environment → IsConfiguredAs h after
-alike h after room limit arguments environment =
-    record { room = room; limit = limit; arguments = arguments; environment = environment }
+alike : (h after : Host) → after.room ≡ h.room → after.arguments ≡ h.arguments
+    → after.environment ≡ h.environment → IsConfiguredAs h after
+alike h after room arguments environment =
+    record { room = room; arguments = arguments; environment = environment }
 
 stream_alike : (h : Host) (s : ℕ) (bytes : Bytes) → IsConfiguredAs h (stream_written s bytes h)
 stream_alike h s bytes =
-    stream_either (IsConfiguredAs h) h s bytes (alike h _ refl refl refl refl)
-    (alike h _ refl refl refl refl)
+    stream_either (IsConfiguredAs h) h s bytes (alike h _ refl refl refl)
+    (alike h _ refl refl refl)
 
 renamed_alike : (h : Host) (k : ℕ) (j : Option ℕ) (from to : Path)
     → IsConfiguredAs h (renamed_over k j from to h)
-renamed_alike h k None from to = alike h _ refl refl refl refl
-renamed_alike h k (Some j) from to = alike h _ refl refl refl refl
+renamed_alike h k None from to = alike h _ refl refl refl
+renamed_alike h k (Some j) from to = alike h _ refl refl refl
 
 configured : (m : Bytes) (h after : Host) → Becomes m h after → IsConfiguredAs h after
-configured m h _ stays = alike h h refl refl refl refl
-configured m h _ (sees_time n small) = alike h _ refl refl refl refl
-configured m h _ (leaves_unread n) = alike h _ refl refl refl refl
-configured m h _ (takes_text n text k short) = alike h _ refl refl refl refl
-configured m h _ ends_input = alike h _ refl refl refl refl
-configured m h _ (closes fd d o other) = alike h _ refl refl refl refl
-configured m h _ (sets_flags fd flags d o few) = alike h _ refl refl refl refl
-configured m h _ (seeks fd offset d o small) = alike h _ refl refl refl refl
-configured m h _ (reads_file fd n k d o e) = alike h _ refl refl refl refl
+configured m h _ stays = alike h h refl refl refl
+configured m h _ (sees_time n small) = alike h _ refl refl refl
+configured m h _ (leaves_unread n) = alike h _ refl refl refl
+configured m h _ (takes_text n text k short) = alike h _ refl refl refl
+configured m h _ ends_input = alike h _ refl refl refl
+configured m h _ (closes fd d o other) = alike h _ refl refl refl
+configured m h _ (sets_flags fd flags d o few) = alike h _ refl refl refl
+configured m h _ (seeks fd offset d o small) = alike h _ refl refl refl
+configured m h _ (reads_file fd n k d o e) = alike h _ refl refl refl
 configured m h _ (writes_stream s bytes k) = stream_alike h s bytes
-configured m h _ (rewrites k bytes r) = alike h _ refl refl refl refl
-configured m h _ (writes_file fd k offset d bytes o fits r) = alike h _ refl refl refl refl
-configured m h _ (makes p x) = alike h _ refl refl refl refl
-configured m h _ (opens_new p n flags base inheriting x free few) = alike h _ refl refl refl refl
-configured m h _ (opens k n flags base inheriting cut x few) = alike h _ refl refl refl refl
-configured m h _ (loses k x) = alike h _ refl refl refl refl
+configured m h _ (rewrites k bytes r) = alike h _ refl refl refl
+configured m h _ (writes_file fd k offset d bytes o fits r) = alike h _ refl refl refl
+configured m h _ (makes p x) = alike h _ refl refl refl
+configured m h _ (opens_new p n flags base inheriting x free few) = alike h _ refl refl refl
+configured m h _ (opens k n flags base inheriting cut x few) = alike h _ refl refl refl
+configured m h _ (loses k x) = alike h _ refl refl refl
 configured m h _ (renames k j from to x) = renamed_alike h k j from to
 
 pub rows_keep_configurations : RowsKeepConfigurations
 rows_keep_configurations c arguments given m h done e =
     configured m h done.host (changes c arguments given m h done e)
+
+-- ---- the version
+
+stream_version : (h : Host) (s : ℕ) (bytes : Bytes) → (stream_written s bytes h).version ≡ h.version
+stream_version h s bytes =
+    stream_either (λ (after : Host). after.version ≡ h.version) h s bytes refl refl
+
+renamed_version : (h : Host) (k : ℕ) (j : Option ℕ) (from to : Path)
+    → (renamed_over k j from to h).version ≡ h.version
+renamed_version h k None from to = refl
+renamed_version h k (Some j) from to = refl
+
+same_version : (m : Bytes) (h after : Host) → Becomes m h after → after.version ≡ h.version
+same_version m h _ stays = refl
+same_version m h _ (sees_time n small) = refl
+same_version m h _ (leaves_unread n) = refl
+same_version m h _ (takes_text n text k short) = refl
+same_version m h _ ends_input = refl
+same_version m h _ (closes fd d o other) = refl
+same_version m h _ (sets_flags fd flags d o few) = refl
+same_version m h _ (seeks fd offset d o small) = refl
+same_version m h _ (reads_file fd n k d o e) = refl
+same_version m h _ (writes_stream s bytes k) = stream_version h s bytes
+same_version m h _ (rewrites k bytes r) = refl
+same_version m h _ (writes_file fd k offset d bytes o fits r) = refl
+same_version m h _ (makes p x) = refl
+same_version m h _ (opens_new p n flags base inheriting x free few) = refl
+same_version m h _ (opens k n flags base inheriting cut x few) = refl
+same_version m h _ (loses k x) = refl
+same_version m h _ (renames k j from to x) = renamed_version h k j from to
+
+pub rows_keep_versions : RowsKeepVersions
+rows_keep_versions c arguments given m h done e =
+    same_version m h done.host (changes c arguments given m h done e)
 
 -- ---- numbers of nodes
 

@@ -25,6 +25,7 @@ use Rattle.wasi_abi.specs.rules.Numbers.{path_filestat_get_right, path_filestat_
 use Rattle.wasi_abi.specs.rules.Numbers.{path_remove_directory_right, path_unlink_file_right}
 use Rattle.wasi_abi.specs.rules.Numbers.{create_flag, directory_flag, exclusive_flag, truncate_flag}
 use Rattle.wasi_abi.specs.rules.Numbers.{has_flag}
+use Rattle.wasi_abi.specs.rules.Versions.{text_limit}
 use Rattle.wasi_calls_rules.specs.Hosts.{Line, Target, Stream, Node, Descriptor, Host}
 use Rattle.wasi_calls_rules.specs.Checks.{Bytes, Refuses, Ends, Done, check_or, some_or}
 use Rattle.wasi_calls_rules.specs.Checks.{open_descriptor, a_file, a_directory, no_directory}
@@ -254,7 +255,7 @@ module _ (m : Bytes) (h : Host) where
   random_get_keeps : (buf len : ℕ) (given : Option Answer)
       → HoldsAfter (KeepsBy h) (random_get buf len given m h)
   random_get_keeps buf len given =
-      next (check_or (nat_le len h.limit) Inval) _ (λ _. next (in_memory m buf len) _ (λ _.
+      next (check_or (nat_le len (text_limit h.version)) Inval) _ (λ _. next (in_memory m buf len) _ (λ _.
       either_way (len == 0) _ _ (kept m h refl refl refl)
       (next (answered_by h (kind.Random len) given) _ (λ a. random_put_keeps a buf))))
 

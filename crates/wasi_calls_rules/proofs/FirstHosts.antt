@@ -5,6 +5,7 @@ use Rattle.std.specs.Prelude.{Option, Some, None, IfSome, slice_get}
 use Rattle.std.specs.List.{AllByRecursion}
 use Rattle.std.proofs.lemmas.Bool.Decides.{eqb_tells}
 use Rattle.file_tree.specs.rules.Files.{FileNode, Directory, IsFiles, fresh}
+use Rattle.wasi_abi.specs.declared.version.Version.{Version}
 use Rattle.wasi_abi.specs.rules.Numbers.{directory_rights, all_rights, input_rights}
 use Rattle.wasi_abi.specs.rules.Numbers.{output_rights, are_within}
 use Rattle.wasi_calls_rules.specs.Hosts.{Stream, Node, Descriptor, stream, stream_rights}
@@ -84,9 +85,9 @@ kept k (n, is, gone) =
       | inr h ↦ (let none : None ≡ Some n = rw h.0 at is in absurd (cc))
     ]
 
-pub first_is_host : (room limit : ℕ) (arguments environment : List (List ℕ))
-    → IsHost (first_host room limit arguments environment)
-first_is_host room limit arguments environment = record {
+pub first_is_host : (room : ℕ) (version : Version) (arguments environment : List (List ℕ))
+    → IsHost (first_host room version arguments environment)
+first_is_host room version arguments environment = record {
   files = fresh_is_files;
   within = omega arith;
   places = refl;

@@ -11,6 +11,7 @@ use Rattle.wasi_abi.specs.declared.call.Call.{Call}
 use Rattle.wasi_abi.specs.declared.call.Call.TheVariants as call
 use Rattle.file_tree.specs.rules.Files.{Name, Files, is_directory, child}
 use Rattle.wasi_abi.specs.rules.Numbers.{fd_datasync_right, fd_sync_right}
+use Rattle.wasi_abi.specs.rules.Versions.{text_limit}
 use Rattle.wasi_calls_rules.specs.Hosts.{Target, Stream, Node, Descriptor, Host}
 use Rattle.wasi_calls_rules.specs.Checks.{Bytes, Buffer, Halt, Refuses, Asks, Ends, ◌>>=◌, check_or}
 use Rattle.wasi_calls_rules.specs.Checks.{some_or, a_file, lent, buffers, asked, fitting}
@@ -301,7 +302,7 @@ module _ (Q : Halt → Type 0) (refusals : (e : Errno) → Q (Refuses e)) where
       answered_then : {A : Type 0} (k : Kind) (given : Option Answer) (go : Answer → Result A Halt)
           → ((a : Answer) → HaltsBy Q (go a)) → HaltsBy Q (answered_by h k given >>= go)
       answered_then k given go f =
-          next (answered_by h k given) go (asked_halts k (fitting h.limit k given)) f
+          next (answered_by h k given) go (asked_halts k (fitting (text_limit h.version) k given)) f
 
       clock_time_get_halts : (id ret : ℕ) (given : Option Answer)
           → HaltsBy Q (clock_time_get id ret given m h)

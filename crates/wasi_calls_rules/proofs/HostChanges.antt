@@ -3,6 +3,7 @@ use Rattle.std.specs.Prelude.{◌≡◌, ℕ, ◌+◌, ◌≤◌, ◌<◌, ◌^�
 use Rattle.std.specs.Prelude.{[], ◌∷◌, ◌++◌, length, drop, slice_get, slice_set}
 use Rattle.std.specs.Prelude.{Option, Some, None, Ok}
 use Rattle.wasi_abi.specs.rules.Answers.{newline, AreBytes}
+use Rattle.wasi_abi.specs.rules.Versions.{text_limit}
 use Rattle.file_tree.specs.rules.Files.{Name, Path, Directory, File, child, is_directory}
 use Rattle.file_tree.specs.rules.Files.{bytes_of_node, used, with_file_bytes, created}
 use Rattle.file_tree.specs.declared.limits.TheConstants.{NODES, FILE_BYTES}
@@ -92,7 +93,7 @@ pub data Becomes (m : Bytes) (h : Host) : Host → Type 0 where
   sees_time : (n : ℕ) → has_64_bits n ≡ true
       → Becomes m h (record h { last_monotonic = max n h.last_monotonic })
   leaves_unread : (n : ℕ) → Becomes m h (record h { unread = drop n h.unread })
-  takes_text : (n : ℕ) (text : Bytes) → has_bytes_alone text ≡ true → length text ≤ h.limit
+  takes_text : (n : ℕ) (text : Bytes) → has_bytes_alone text ≡ true → length text ≤ text_limit h.version
       → Becomes m h (record h { unread = drop n (text ++ newline ∷ []) })
   ends_input : Becomes m h (record h { input_ended = true })
   closes : (fd : ℕ) (d : Descriptor) → IsOpen h fd d → (fd == 3) ≡ false

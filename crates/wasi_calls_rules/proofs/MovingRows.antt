@@ -9,6 +9,7 @@ use Rattle.wasi_abi.specs.declared.answer.Answer.{Answer}
 use Rattle.wasi_abi.specs.declared.answer.Answer.TheVariants as answer
 use Rattle.wasi_abi.specs.rules.Answers.{newline}
 use Rattle.wasi_abi.specs.rules.Numbers.{fd_read_right, fd_seek_right, fd_write_right}
+use Rattle.wasi_abi.specs.rules.Versions.{text_limit}
 use Rattle.wasi_calls_rules.specs.Hosts.{Target, Stream, Node, Descriptor, Host}
 use Rattle.wasi_calls_rules.specs.Checks.{Bytes, Refuses, check_or, open_descriptor, a_file}
 use Rattle.wasi_calls_rules.specs.Checks.{no_directory, with_right, node_named, is_inside}
@@ -63,7 +64,7 @@ module _ (Q : ℕ → Type 0) (low : (x : ℕ)
       (either_way h.input_ended _ _ (done_with (GotHolds Q) (record { bytes = []; host = h }) tt)
       (step (AnswerHolds Q) (answered_by h kind.Request given) _
       (answered (AnswerHolds Q) h kind.Request given (λ a e fits.
-      fine h.limit kind.Request a e fits))
+      fine (text_limit h.version) kind.Request a e fits))
       (λ a k. input_taken_holds n a k))))
 
   target_read_holds : (t : Target) (fd : ℕ) (d : Descriptor) (n : ℕ) (given : Option Answer)

@@ -25,6 +25,7 @@ use Rattle.wasi_abi.specs.rules.Numbers.{path_rename_target_right, path_filestat
 use Rattle.wasi_abi.specs.rules.Numbers.{path_filestat_set_size_right, path_unlink_file_right}
 use Rattle.wasi_abi.specs.rules.Numbers.{path_remove_directory_right, create_flag, directory_flag}
 use Rattle.wasi_abi.specs.rules.Numbers.{exclusive_flag, truncate_flag, has_flag}
+use Rattle.wasi_abi.specs.rules.Versions.{text_limit}
 use Rattle.guest_memory.specs.rules.Bytes.{IsByte, part}
 use Rattle.guest_memory.proofs.Lists.{all_both, all_take, all_drop, all_replicate}
 use Rattle.file_tree.specs.rules.Bytes.{written, resized}
@@ -222,10 +223,10 @@ module _ (m : Bytes) (h : Host) where
   time_put_changes (answer.Realtime n) ret small = same _
   time_put_changes _ ret small = refused _ (Refuses Inval)
 
-  time_fits : (id : ℕ) (a : Answer) → does_fit h.limit (clock_kind id) a ≡ true → IsSmallTime a
+  time_fits : (id : ℕ) (a : Answer) → does_fit (text_limit h.version) (clock_kind id) a ≡ true → IsSmallTime a
   time_fits id a = by_kind (id == 0) a where
     by_kind : (b : Bool) (a : Answer)
-        → does_fit h.limit (if b then kind.Realtime else kind.Monotonic) a ≡ true → IsSmallTime a
+        → does_fit (text_limit h.version) (if b then kind.Realtime else kind.Monotonic) a ≡ true → IsSmallTime a
     by_kind true (answer.Monotonic n) e = absurd (cc)
     by_kind false (answer.Monotonic n) e = e
     by_kind _ (answer.Realtime n) e = tt
@@ -326,22 +327,22 @@ module _ (m : Bytes) (h : Host) where
   random_get_changes : (buf len : ℕ) (given : Option Answer)
       → HoldsAfter BecomesBy (random_get buf len given m h)
   random_get_changes buf len given =
-      next (check_or (nat_le len h.limit) Inval) _ (λ _. next (in_memory m buf len) _ (λ _.
+      next (check_or (nat_le len (text_limit h.version)) Inval) _ (λ _. next (in_memory m buf len) _ (λ _.
       either_way (len == 0) _ _ (same m)
       (next (answered_by h (kind.Random len) given) _ (λ a. random_put_changes a buf))))
 
   -- ---- reads
 
   abbrev IsShortText : Answer → Type 0
-  IsShortText (answer.Request text) = (has_bytes_alone text ≡ true) × (length text ≤ h.limit)
+  IsShortText (answer.Request text) = (has_bytes_alone text ≡ true) × (length text ≤ text_limit h.version)
   IsShortText _ = Unit {0}
 
-  text_fits : (a : Answer) → does_fit h.limit kind.Request a ≡ true → IsShortText a
+  text_fits : (a : Answer) → does_fit (text_limit h.version) kind.Request a ≡ true → IsShortText a
   text_fits (answer.Request text) e =
-      let all = and_parts (nat_le (length text) h.limit)
+      let all = and_parts (nat_le (length text) (text_limit h.version))
       (has_bytes_alone text && has_no_newline text) e in (
         (and_parts (has_bytes_alone text) (has_no_newline text) all.1).0,
-        leb-true (length text) h.limit all.0,
+        leb-true (length text) (text_limit h.version) all.0,
       )
   text_fits answer.End e = tt
   text_fits (answer.Realtime n) e = tt

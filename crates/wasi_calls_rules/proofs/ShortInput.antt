@@ -2,6 +2,7 @@
 use Rattle.std.proofs.Common.{◌≡◌, ℕ, ◌+◌, ◌≤◌, [], ◌∷◌, ◌++◌, length, drop, Option, Some, None}
 use Rattle.std.proofs.Common.{arith, length-append, length-drop}
 use Rattle.wasi_abi.specs.rules.Answers.{newline}
+use Rattle.wasi_abi.specs.rules.Versions.{text_limit}
 use Rattle.file_tree.specs.rules.Files.{Path}
 use Rattle.wasi_calls_rules.specs.Hosts.{Host}
 use Rattle.wasi_calls_rules.specs.Checks.{Bytes}
@@ -34,8 +35,8 @@ input_short : (m : Bytes) (h after : Host) → HasShortInput h → Becomes m h a
     → HasShortInput after
 input_short m h _ is stays = is
 input_short m h _ is (sees_time n small) = is
-input_short m h _ is (leaves_unread n) = rest_short n (h.limit + 1) h.unread is
-input_short m h _ is (takes_text n text k short) = text_short n h.limit text short
+input_short m h _ is (leaves_unread n) = rest_short n (text_limit h.version + 1) h.unread is
+input_short m h _ is (takes_text n text k short) = text_short n (text_limit h.version) text short
 input_short m h _ is ends_input = is
 input_short m h _ is (closes fd d o other) = is
 input_short m h _ is (sets_flags fd flags d o few) = is

@@ -14,6 +14,7 @@ use Rattle.wasi_abi.specs.declared.answer.Answer.TheVariants as answer
 use Rattle.wasi_abi.specs.rules.Layouts.{fdstat_bytes, prestat_bytes}
 use Rattle.wasi_abi.specs.rules.Numbers.{fd_fdstat_set_flags_right, fd_filestat_get_right}
 use Rattle.wasi_abi.specs.rules.Numbers.{fd_filestat_set_size_right, fd_seek_right, fd_tell_right}
+use Rattle.wasi_abi.specs.rules.Versions.{text_limit}
 use Rattle.wasi_calls_rules.specs.Hosts.{Target, Stream, Node, Host}
 use Rattle.wasi_calls_rules.specs.Checks.{Bytes, Refuses, Done, Ruling, check_or, open_descriptor}
 use Rattle.wasi_calls_rules.specs.Checks.{a_file, with_right, node_named, has_bytes_alone, does_fit}
@@ -208,9 +209,9 @@ module _ (Q : ℕ → Type 0) (low : (x : ℕ)
   pub random_get_keeps : (buf len : ℕ) (given : Option Answer) → GivenHolds Q given
       → Keeps Q m (random_get buf len given m h)
   random_get_keeps buf len given fine =
-      next (check_or (nat_le len h.limit) Inval) _ (λ _. within m buf len _ (λ room.
+      next (check_or (nat_le len (text_limit h.version)) Inval) _ (λ _. within m buf len _ (λ room.
       either_way (len == 0) _ _ (unchanged h)
       (step (RandomHolds Q len) (answered_by h (kind.Random len) given) _
       (answered (RandomHolds Q len) h (kind.Random len) given (λ a e fits.
-      random_given len h.limit a (fine h.limit (kind.Random len) a e fits) fits))
+      random_given len (text_limit h.version) a (fine (text_limit h.version) (kind.Random len) a e fits) fits))
       (λ a k. random_put_keeps a buf len room k))))

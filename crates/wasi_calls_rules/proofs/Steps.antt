@@ -7,6 +7,7 @@ use Rattle.wasi_abi.specs.declared.errno.Errno.{Errno}
 use Rattle.wasi_abi.specs.declared.errno.Errno.TheVariants.{Fault, Inval}
 use Rattle.wasi_abi.specs.declared.answer.Kind.{Kind}
 use Rattle.wasi_abi.specs.declared.answer.Answer.{Answer}
+use Rattle.wasi_abi.specs.rules.Versions.{text_limit}
 use Rattle.file_tree.specs.rules.Files.{Name}
 use Rattle.wasi_calls_rules.specs.Hosts.{Host}
 use Rattle.wasi_calls_rules.specs.Checks.{Bytes, Halt, Refuses, Asks, ◌>>=◌, check_or, some_or}
@@ -83,10 +84,10 @@ asked_where P k a true f = done_with P a (f refl)
 asked_where P k a false f = refused P (Asks k)
 
 pub answered : (P : Answer → Type 0) (h : Host) (k : Kind) (given : Option Answer)
-    → ((a : Answer) → given ≡ Some a → does_fit h.limit k a ≡ true → P a)
+    → ((a : Answer) → given ≡ Some a → does_fit (text_limit h.version) k a ≡ true → P a)
     → HoldsAfter P (answered_by h k given)
 answered P h k None f = refused P (Asks k)
-answered P h k (Some a) f = asked_where P k a (does_fit h.limit k a) (f a refl)
+answered P h k (Some a) f = asked_where P k a (does_fit (text_limit h.version) k a) (f a refl)
 
 -- ---- where a name in a directory is wanted
 

@@ -7,6 +7,7 @@ use Rattle.wasi_abi.specs.declared.answer.Answer.TheVariants as answer
 use Rattle.wasi_abi.specs.declared.answer.Kind.TheVariants as kind
 use Rattle.wasi_abi.specs.declared.errno.Errno.TheVariants.{Inval}
 use Rattle.wasi_abi.specs.rules.Layouts.{u64_bytes}
+use Rattle.wasi_abi.specs.rules.Versions.{text_limit}
 use Rattle.file_tree.specs.rules.Files.{Path}
 use Rattle.wasi_calls_rules.specs.Hosts.{Host}
 use Rattle.wasi_calls_rules.specs.Checks.{Bytes, Done, check_or, in_memory, answered_by, does_fit}
@@ -73,7 +74,7 @@ abbrev TellsLast : ℕ → Bytes → Done → Type 0
 TellsLast ret m done = done.memory ≡ with_part m ret (u64_bytes done.host.last_monotonic)
 
 abbrev IsMonotonic : Host → Answer → Type 0
-IsMonotonic h a = does_fit h.limit kind.Monotonic a ≡ true
+IsMonotonic h a = does_fit (text_limit h.version) kind.Monotonic a ≡ true
 
 time_told : (m : Bytes) (h : Host) (ret : ℕ) (a : Answer) → IsMonotonic h a
     → HoldsAfter (TellsLast ret m) (time_put a ret m h)

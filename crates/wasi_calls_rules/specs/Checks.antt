@@ -16,6 +16,7 @@ use Rattle.wasi_abi.specs.declared.answer.Answer.TheVariants as answer
 use Rattle.wasi_abi.specs.rules.Numbers.{has_right, are_within}
 use Rattle.wasi_abi.specs.rules.Answers.{newline}
 use Rattle.wasi_abi.specs.rules.Layouts.{u32_at}
+use Rattle.wasi_abi.specs.rules.Versions.{text_limit}
 use Rattle.guest_memory.specs.rules.Bytes.{part, with_part}
 use Rattle.file_tree.specs.rules.Files.{is_directory}
 use Rattle.wasi_calls_rules.specs.Hosts.{Target, Stream, Node, Descriptor, Host}
@@ -196,4 +197,4 @@ fitting limit k (Some a) = if does_fit limit k a then Some a else None
 
 -- the answer that was given where it fits, else a wish for one
 abbrev pub answered_by : Host → Kind → Option Answer → Result Answer Halt
-answered_by h k given = asked k (fitting h.limit k given)
+answered_by h k given = asked k (fitting (text_limit h.version) k given)

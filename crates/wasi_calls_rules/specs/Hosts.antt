@@ -3,6 +3,7 @@
 use Rattle.std.specs.Prelude.{◌≡◌, ℕ, ◌<◌, ◌≤◌, ◌^◌, ◌==◌, if◌then◌else◌, Bool, true, false, List}
 use Rattle.std.specs.Prelude.{[], ◌∷◌, length, replicate, Option, Some, None, IfSome, slice_get}
 use Rattle.std.specs.List.{AllByRecursion}
+use Rattle.wasi_abi.specs.declared.version.Version.{Version}
 use Rattle.wasi_abi.specs.rules.Numbers.{are_within, input_rights, output_rights, directory_rights}
 use Rattle.wasi_abi.specs.rules.Numbers.{all_rights}
 use Rattle.wasi_abi.specs.rules.Answers.{IsNoNewline, AreBytes, IsTime}
@@ -27,8 +28,8 @@ pub record Line : Type 0 where
   pub stream : ℕ
   pub text : List ℕ
 
--- What the calls read and change. `limit` is that of request texts and of random bytes, and `room`
--- that of all files, in bytes.
+-- What the calls read and change. `version` says how long request texts and random bytes may be, and
+-- `room` is that of all files, in bytes.
 pub record Host : Type 0 where
   pub files : Files
   pub descriptors : List (Option Descriptor)
@@ -44,7 +45,7 @@ pub record Host : Type 0 where
   pub arguments : List (List ℕ)
   pub environment : List (List ℕ)
   pub room : ℕ
-  pub limit : ℕ
+  pub version : Version
 
 -- ---- the beginning
 
@@ -65,8 +66,8 @@ first_descriptors =
     }) ∷ replicate 60 None
 
 -- nothing was read or written yet, and there is an empty root
-abbrev pub first_host : ℕ → ℕ → List (List ℕ) → List (List ℕ) → Host
-first_host room limit arguments environment = record {
+abbrev pub first_host : ℕ → Version → List (List ℕ) → List (List ℕ) → Host
+first_host room version arguments environment = record {
   files = fresh;
   descriptors = first_descriptors;
   unread = [];
@@ -78,7 +79,7 @@ first_host room limit arguments environment = record {
   arguments = arguments;
   environment = environment;
   room = room;
-  limit = limit;
+  version = version;
 }
 
 -- ---- when a value is a host

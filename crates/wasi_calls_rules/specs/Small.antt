@@ -17,6 +17,7 @@ use Rattle.wasi_abi.specs.rules.Numbers.{fd_filestat_set_size_right, fd_seek_rig
 use Rattle.wasi_abi.specs.rules.Numbers.{character_device, directory_type, regular_file}
 use Rattle.wasi_abi.specs.rules.Layouts.{u32_bytes, u64_bytes, fdstat_bytes, filestat_bytes}
 use Rattle.wasi_abi.specs.rules.Layouts.{prestat_bytes}
+use Rattle.wasi_abi.specs.rules.Versions.{text_limit}
 use Rattle.guest_memory.specs.rules.Bytes.{with_part}
 use Rattle.file_tree.specs.rules.Bytes.{resized}
 use Rattle.file_tree.specs.rules.Files.{Files, slash, path_of, is_directory, bytes_of_node, used}
@@ -258,7 +259,7 @@ random_put _ buf m h = Err (Refuses Inval)
 -- no bytes are asked for where none are wanted
 abbrev pub random_get : ℕ → ℕ → Option Answer → Bytes → Host → Ruling
 random_get buf len given m h =
-    check_or (nat_le len h.limit) Inval >>= λ _.
+    check_or (nat_le len (text_limit h.version)) Inval >>= λ _.
     in_memory m buf len >>= λ _.
     if len == 0 then call_done m h else (answered_by h (kind.Random len) given
     >>= λ a. random_put a buf m h)

@@ -27,6 +27,7 @@ ghost use Rattle.wasi_calls_rules.specs.laws.StoryExamples.{AnswerStory, PageSto
 ghost use Rattle.wasi_calls_rules.specs.laws.CallLimits.{CallLimitNumbers};
 ghost use Rattle.wasi_calls_rules.specs.laws.Laws.{RowsKeepMemory, RowsKeepBytes, RowsEmit};
 ghost use Rattle.wasi_calls_rules.specs.laws.Laws.{RowsKeepConfigurations, RowsKeepHostsOfBytes};
+ghost use Rattle.wasi_calls_rules.specs.laws.Laws.{RowsKeepVersions};
 ghost use Rattle.wasi_calls_rules.specs.laws.Laws.{FirstHostsAreHosts, RowsKeepHosts};
 ghost use Rattle.wasi_calls_rules.specs.laws.Laws.{RowsMakeOneNodeAtMost, RowsKeepInputShort};
 ghost use Rattle.wasi_calls_rules.specs.laws.Laws.{RowsKeepTimes, LastTimesAreTold};
@@ -162,7 +163,8 @@ pub fn calls_keep_hosts_of_bytes()
 
 /// No call that is done changes what the host was configured with.
 pub fn calls_keep_configurations()
-    ensures { RowsKeepConfigurations }
+    ensures configured { RowsKeepConfigurations }
+    ensures version { RowsKeepVersions }
 {}
 
 /// The rules take an answer exactly where it fits what is asked for.

@@ -18,7 +18,7 @@
 //!   call that is done leaves no more.
 //! - `monotonic_clocks_never_fall`: a guest is told the last monotonic time that was seen, and no
 //!   call lowers that.
-//! - `calls_keep_configurations`: it leaves room, limit, arguments and environment as they were.
+//! - `calls_keep_configurations`: it leaves room, arguments and environment as they were, and the version.
 //! - `answers_are_taken_that_fit`: the rules take an answer exactly where it fits what is asked.
 //! - `few_calls_ask_and_once`: three calls may want an answer, and none once it has one that fits.
 //! - `one_call_ends`: no call but `proc_exit` ends the process.
@@ -50,8 +50,7 @@
 //!   is as none.
 //! - **A write is measured before it is made** (`size_after`), so the two refusals for room speak
 //!   of numbers.
-//! - **The limit on texts and random bytes is a field of the host**, and no number in a rule. So a
-//!   wider version can change it.
+//! - **The limit on texts and random bytes is that of the host's version**, and no number in a rule.
 #![tactic(auto)]
 
 pub mod laws;

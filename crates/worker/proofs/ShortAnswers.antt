@@ -17,6 +17,7 @@ use Rattle.wasi_abi.specs.declared.answer.Answer.TheVariants as answer
 use Rattle.wasi_abi.specs.declared.call.Call.{Call}
 use Rattle.wasi_abi.specs.declared.call.Call.TheVariants as call
 use Rattle.wasi_abi.specs.rules.Answers.{Fits}
+use Rattle.wasi_abi.specs.rules.Versions.{text_limit}
 use Rattle.wasi_calls_rules.specs.Hosts.{Target, Stream, Node, Descriptor, Host}
 use Rattle.wasi_calls_rules.specs.Checks.{Bytes, Halt, Refuses, Ends, Asks as Wishes, ◌>>=◌}
 use Rattle.wasi_calls_rules.specs.Checks.{Buffer, Ruling, check_or, some_or, buffers, asked}
@@ -83,7 +84,7 @@ module _ (limit : ℕ) where
       (go : Answer → Result A Halt) → ((n : ℕ) → k ≡ kind.Random n → n ≤ limit)
       → ((a : Answer) → AsksFew (go a)) → AsksFew (answered_by h k given >>= go)
   answered_then h k given go f g =
-      next (answered_by h k given) go (asked_few k (fitting h.limit k given) f) g
+      next (answered_by h k given) go (asked_few k (fitting (text_limit h.version) k given) f) g
 
   -- ---- the three calls that ask
 
@@ -120,11 +121,11 @@ module _ (limit : ℕ) where
     random_answered len few given go f =
         answered_then h (kind.Random len) given go (λ n e. same_count len n few e) f
 
-    random_few : (buf len : ℕ) (given : Option Answer) → h.limit ≡ limit
+    random_few : (buf len : ℕ) (given : Option Answer) → text_limit h.version ≡ limit
         → AsksFew (random_get buf len given m h)
     random_few buf len given same =
-        check_so (nat_le len h.limit) Inval _ (λ below.
-        let few : len ≤ h.limit = leb-true len h.limit below in
+        check_so (nat_le len (text_limit h.version)) Inval _ (λ below.
+        let few : len ≤ text_limit h.version = leb-true len (text_limit h.version) below in
         let here : len ≤ limit = omega (arith, few, same) in
         search (check, either, random_answered, random_put_few, done) depth 12)
 
@@ -176,12 +177,12 @@ module _ (limit : ℕ) where
     read_row (fd ∷ iovs ∷ count ∷ ret ∷ []) given = fd_read_few fd iovs count ret given
     read_row _ given = refused Inval
 
-    random_row : (arguments : List ℕ) (given : Option Answer) → h.limit ≡ limit
+    random_row : (arguments : List ℕ) (given : Option Answer) → text_limit h.version ≡ limit
         → AsksFew (row call.RandomGet arguments given m h)
     random_row (buf ∷ len ∷ []) given same = random_few buf len given same
     random_row _ given same = refused Inval
 
-    row_few : (c : Call) (arguments : List ℕ) (given : Option Answer) → h.limit ≡ limit
+    row_few : (c : Call) (arguments : List ℕ) (given : Option Answer) → text_limit h.version ≡ limit
         → AsksFew (row c arguments given m h)
     row_few call.ClockTimeGet arguments given same = clock_row arguments given
     row_few call.FdRead arguments given same = read_row arguments given
@@ -211,7 +212,7 @@ module _ (limit : ℕ) where
       wish_few k (λ n e. few.few n (ap (λ z. Err (Wishes z)) e))
 
   call_wanted : (o : Option Call) (arguments : List Value) (given : Option Answer)
-      (before : Configuration) (h : Host) (waits : Thread) → h.limit ≡ limit
+      (before : Configuration) (h : Host) (waits : Thread) → text_limit h.version ≡ limit
       → FewWanted (after_call o arguments given before h waits)
   call_wanted None arguments given before h waits same = tt
   call_wanted (Some c) arguments given before h waits same =
@@ -219,7 +220,7 @@ module _ (limit : ℕ) where
       (row_few before.store.memory h c (reverse (map number_in arguments)) given same)
 
   rule_wanted : (guest : Guest) (outcome : Outcome) (given : Option Answer)
-      (before : Configuration) (h : Host) → h.limit ≡ limit
+      (before : Configuration) (h : Host) → text_limit h.version ≡ limit
       → FewWanted (after_rule guest outcome given before h)
   rule_wanted guest (Goes next) given before h same = tt
   rule_wanted guest (Traps why) given before h same = tt
@@ -229,19 +230,19 @@ module _ (limit : ℕ) where
 
 -- at most as many bytes as a line may have
 pub few_wanted : (guest : Guest) (p : ProcessState) (n : ℕ)
-    → next_of guest p None ≡ Wants (kind.Random n) → n ≤ p.host.limit
+    → next_of guest p None ≡ Wants (kind.Random n) → n ≤ text_limit p.host.version
 few_wanted guest p n wants =
-    subst (FewWanted p.host.limit) wants
-    (rule_wanted p.host.limit guest (rule guest.program p.configuration) None p.configuration p.host
+    subst (FewWanted (text_limit p.host.version)) wants
+    (rule_wanted (text_limit p.host.version) guest (rule guest.program p.configuration) None p.configuration p.host
     refl)
 
 -- ---- an answer
 
 pub short_payload : (guest : Guest) (p : ProcessState) (k : Kind) (a : Answer)
-    → next_of guest p None ≡ Wants k → p.host.limit ≤ LONGEST_PAYLOAD → Fits p.host.limit k a
+    → next_of guest p None ≡ Wants k → text_limit p.host.version ≤ LONGEST_PAYLOAD → Fits (text_limit p.host.version) k a
     → length (payload_of a) ≤ LONGEST_PAYLOAD
 short_payload guest p kind.Request (answer.Request text) wants low fits =
-    let short : length text ≤ p.host.limit = fits.short in omega (arith, low, short)
+    let short : length text ≤ text_limit p.host.version = fits.short in omega (arith, low, short)
 short_payload guest p kind.Request answer.End wants low fits = omega arith
 short_payload guest p kind.Realtime (answer.Realtime n) wants low fits = omega arith
 short_payload guest p kind.Monotonic (answer.Monotonic n) wants low fits = omega arith

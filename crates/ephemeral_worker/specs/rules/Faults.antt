@@ -4,6 +4,7 @@ use Rattle.std.specs.Prelude.{Option, Some, None, Result, Ok, Err}
 use Rattle.wasi_abi.specs.declared.answer.Kind.{Kind}
 use Rattle.wasi_abi.specs.declared.answer.Answer.{Answer}
 use Rattle.wasi_abi.specs.rules.Answers.{Fits}
+use Rattle.wasi_abi.specs.rules.Versions.{text_limit}
 use Rattle.wasi_calls_rules.specs.Hosts.{Line}
 use Rattle.process_rules.specs.Processes.{ProcessState, Guest}
 use Rattle.process_rules.specs.Runs.{Moves}
@@ -83,7 +84,7 @@ pub record StopsAtAnswer (guest : Guest) (p : ProcessState) (exchanges : List Ex
   pub ask : Ask
   pub is : exchanges ≡ front ++ (Asks ask ∷ [])
   pub leads : SliceLeadsTo guest p front n q
-  pub bad : IsBadAnswer q.host.limit ask.kind ask.said
+  pub bad : IsBadAnswer (text_limit q.host.version) ask.kind ask.said
 
 module _ {S O : Type 0} (gives : Giving S) (takes : Taking O) where
   -- The process that the worker showed has gone on to one that it then shows, up to what failed.

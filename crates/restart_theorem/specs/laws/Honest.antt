@@ -8,6 +8,7 @@ use Rattle.wasi_abi.specs.declared.answer.Kind.{Kind}
 use Rattle.wasi_abi.specs.declared.answer.Answer.{Answer}
 use Rattle.wasi_abi.specs.rules.Answers.{Fits}
 use Rattle.wasi_abi.specs.rules.Configs.{Settings}
+use Rattle.wasi_abi.specs.rules.Versions.{text_limit}
 use Rattle.wasi_calls_rules.specs.Hosts.{Line}
 use Rattle.process_rules.specs.Processes.{ProcessState}
 use Rattle.process_rules.specs.Runs.{Kept, Given, Wants, next_of, Reaches}
@@ -28,7 +29,7 @@ pub record AsksThis (m : Module) (config : Settings) (kept : List Kept) (steps :
   pub reached : Reaches m config kept steps process
   pub running : process.ended ≡ None
   pub wants : next_of reached.guest process None ≡ Wants kind
-  pub fits : Fits process.host.limit kind answer
+  pub fits : Fits (text_limit process.host.version) kind answer
   pub told : length process.host.lines ≡ lines
 
 -- by some step within these it has emitted this line, at this place

@@ -23,6 +23,8 @@ use Rattle.wasi_abi.specs.rules.Numbers.{fd_filestat_set_size_right, fd_filestat
 use Rattle.wasi_abi.specs.rules.Numbers.{path_symlink_right, path_remove_directory_right}
 use Rattle.wasi_abi.specs.rules.Numbers.{path_unlink_file_right, poll_fd_readwrite_right}
 use Rattle.wasi_abi.specs.rules.Numbers.{sock_shutdown_right}
+use Rattle.wasi_abi.specs.declared.version.Version.{Version}
+use Rattle.wasi_abi.specs.rules.Versions.{version_number, text_limit, length_bytes}
 
 -- 0 is success, so no error has it
 abbrev pub ErrorsAreNoSuccess : Type 0
@@ -65,6 +67,11 @@ pub record LayoutSizes : Type 0 where
 pub record BytesSpellNumbers : Type 0 where
   pub numbers : (n x : ℕ) → x < 256 ^ n → number_of (bytes_of n x) ≡ x
   pub bytes : (bs : List ℕ) → AllByRecursion IsByte bs → bytes_of (length bs) (number_of bs) ≡ bs
+
+-- Each version has a number of its own, and its longest payload has a length that its bytes spell.
+pub record VersionsHaveRoom : Type 0 where
+  pub own : (v w : Version) → version_number v ≡ version_number w → v ≡ w
+  pub room : (v : Version) → text_limit v < 256 ^ length_bytes v
 
 -- a directory with the files `a`, node 2, and `b`, node 3
 abbrev pub entry_a : List ℕ

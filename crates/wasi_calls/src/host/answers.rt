@@ -4,6 +4,7 @@ ghost use Rattle.std.specs.Prelude.{◌≡◌, ℕ, option_copied, IfOk, IfErr, 
 ghost use Rattle.guest_memory.specs.rules.Bytes.{with_part};
 ghost use Rattle.wasi_abi.specs.rules.Answers.{Fits};
 ghost use Rattle.wasi_abi.specs.rules.Layouts.{u64_bytes};
+ghost use Rattle.wasi_abi.specs.rules.Versions.{text_limit};
 ghost use Rattle.wasi_calls_rules.specs.Checks.{Bytes, answered_by};
 ghost use Rattle.wasi_calls_rules.specs.Small.{clock_kind, time_put};
 ghost use Rattle.wasi_calls.specs.Steps.{StopsStep};
@@ -21,7 +22,7 @@ impl Host {
     ) -> Result<&'a Answer, CallStop>
         ensures given { IfOk result (λ a. answered_by self.now.host kind
             (option_copied answer.entry) ≡ Ok a.now) }
-        ensures fits { IfOk result (λ a. Fits self.now.host.limit kind a.now) }
+        ensures fits { IfOk result (λ a. Fits (text_limit self.now.host.version) kind a.now) }
         ensures asks { IfErr result (λ why. StopsStep why (answered_by self.now.host kind
             (option_copied answer.entry))) }
     {
@@ -36,7 +37,7 @@ impl Host {
 
     /// The time that a guest sees of a clock's answer. A monotonic one is never below the last.
     pub(crate) fn see_time(&mut self, answer: &Answer) -> u64
-        requires clock { (clock : ℕ) × Fits self.old.host.limit (clock_kind clock) answer.now }
+        requires clock { (clock : ℕ) × Fits (text_limit self.old.host.version) (clock_kind clock) answer.now }
         ensures put { (ret : ℕ) (m : Bytes) → time_put answer.now ret m self.old.host
             ≡ Ok (record { memory = with_part m ret (u64_bytes result); host = self.new.host }) }
         ensures released { self.new.released ≡ self.old.released }

@@ -20,6 +20,7 @@ ghost use Rattle.wasi_calls_rules.specs.Checks.{gathered};
 ghost use Rattle.wasi_calls_rules.specs.Lines.{stream_written, rest_of, lines_ended};
 ghost use Rattle.wasi_calls.specs.Moves.{AreInside};
 ghost use Rattle.wasi_calls.specs.Writes.{unfinished_of};
+ghost use Rattle.wasi_abi.specs.rules.Versions.{text_limit};
 
 use crate::buffers::Buffers;
 use crate::descriptor::Descriptor;
@@ -60,10 +61,10 @@ impl Model for Host {
 
     ghost Value = { HeldHost };
 
-    ghost view = { λ h. held_host_of h.config h.limit h.tree h.descriptors.items h.unread.items
+    ghost view = { λ h. held_host_of h.config (text_limit h.version) h.tree h.descriptors.items h.unread.items
         h.input_ended h.last_monotonic h.streams };
 
-    ghost invariant = { λ h. IsHost (held_host_of h.config h.limit h.tree h.descriptors.items
+    ghost invariant = { λ h. IsHost (held_host_of h.config (text_limit h.version) h.tree h.descriptors.items
         h.unread.items h.input_ended h.last_monotonic h.streams).host };
 }
 
@@ -180,7 +181,7 @@ impl Host {
 
     /// The most bytes of a request's text, and of the random bytes that a call may want.
     pub fn limit(&self) -> usize
-        ensures { result ≡ self.now.host.limit }
+        ensures { result ≡ text_limit self.now.host.version }
     {
         self.limit
     }

@@ -8,6 +8,7 @@ ghost use Rattle.file_tree.specs.rules.Bytes.{written};
 ghost use Rattle.file_tree.specs.rules.Files.{is_directory, bytes_of_node, with_file_bytes};
 ghost use Rattle.file_tree.specs.declared.limits.TheConstants.{FILE_BYTES};
 ghost use Rattle.wasi_abi.specs.declared.answer.Kind.TheVariants.{Request};
+ghost use Rattle.wasi_abi.specs.rules.Versions.{text_limit};
 ghost use Rattle.wasi_calls_rules.specs.Hosts.{Node, Descriptor as Opened, IsThere, IsDescriptor};
 ghost use Rattle.wasi_calls_rules.specs.Checks.{gathered, scattered, open_descriptor};
 ghost use Rattle.wasi_calls_rules.specs.Checks.{names_directory};
@@ -260,7 +261,7 @@ impl Host {
     /// memory
     /// alone, and changes nothing then.
     fn take_answer(&mut self, answer: &Answer) -> Result<(), AllocError>
-        requires fits { Fits self.old.host.limit Request answer.now }
+        requires fits { Fits (text_limit self.old.host.version) Request answer.now }
         requires none { self.old.host.unread ≡ [] }
         ensures taken { OnOk result (line_taken answer.now self.old.host ≡ Ok self.new.host) }
         ensures released { self.new.released ≡ self.old.released }

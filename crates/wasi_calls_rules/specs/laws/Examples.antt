@@ -10,6 +10,7 @@ use Rattle.wasi_abi.specs.rules.Numbers.{file_rights, errno_number}
 use Rattle.wasi_abi.specs.rules.Layouts.{u32_bytes, u64_bytes, iovec_bytes, padding}
 use Rattle.guest_memory.specs.rules.Bytes.{part}
 use Rattle.file_tree.specs.rules.Files.{Path, Files, Directory, File, fresh, created}
+use Rattle.wasi_abi.specs.declared.version.Version.TheVariants.{One}
 use Rattle.wasi_calls_rules.specs.Hosts.{Node, Host, first_host}
 use Rattle.wasi_calls_rules.specs.Checks.{Bytes, Refuses, Asks, Ruling}
 use Rattle.wasi_calls_rules.specs.Lines.{cut_all}
@@ -25,7 +26,7 @@ path_to name = name ∷ []
 
 -- a fresh host with one unit of room, and one with the file `a`, node 2, and with `b`, node 3
 abbrev pub bare_host : Host
-bare_host = first_host 65536 4096 [] []
+bare_host = first_host 65536 One [] []
 
 abbrev pub with_a : Host
 with_a = record bare_host { files = created (path_to (codes "a")) (File (codes "xyz")) fresh }

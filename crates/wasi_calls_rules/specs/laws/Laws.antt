@@ -5,10 +5,12 @@ use Rattle.std.specs.List.{AllByRecursion}
 use Rattle.wasi_abi.specs.declared.answer.Kind.{Kind}
 use Rattle.wasi_abi.specs.declared.answer.Answer.{Answer}
 use Rattle.wasi_abi.specs.declared.call.Call.{Call}
+use Rattle.wasi_abi.specs.declared.version.Version.{Version}
 use Rattle.wasi_abi.specs.declared.call.Call.TheVariants as call
 use Rattle.guest_memory.specs.rules.Bytes.{with_part}
 use Rattle.wasi_abi.specs.rules.Answers.{Fits, AreBytes}
 use Rattle.wasi_abi.specs.rules.Layouts.{u64_bytes}
+use Rattle.wasi_abi.specs.rules.Versions.{text_limit}
 use Rattle.file_tree.specs.rules.Files.{Path, Content, Directory, File, FileNode}
 use Rattle.wasi_calls_rules.specs.Hosts.{Line, Host, first_host, IsHost}
 use Rattle.wasi_calls_rules.specs.Checks.{Bytes, Done, Asks, Ends, does_fit}
@@ -62,10 +64,9 @@ RowsKeepBytes = (c : Call) (arguments : List ℕ) (given : Option Answer) (m : B
 
 -- ---- hosts
 
--- configured as before: the same room, limit, arguments and environment
+-- configured as before: the same room, arguments and environment
 pub record IsConfiguredAs (before after : Host) : Type 0 where
   pub room : after.room ≡ before.room
-  pub limit : after.limit ≡ before.limit
   pub arguments : after.arguments ≡ before.arguments
   pub environment : after.environment ≡ before.environment
 
@@ -73,6 +74,11 @@ pub record IsConfiguredAs (before after : Host) : Type 0 where
 abbrev pub RowsKeepConfigurations : Type 0
 RowsKeepConfigurations = (c : Call) (arguments : List ℕ) (given : Option Answer) (m : Bytes)
     (h : Host) (done : Done) → row c arguments given m h ≡ Ok done → IsConfiguredAs h done.host
+
+-- a call that is done leaves the version
+abbrev pub RowsKeepVersions : Type 0
+RowsKeepVersions = (c : Call) (arguments : List ℕ) (given : Option Answer) (m : Bytes) (h : Host)
+    (done : Done) → row c arguments given m h ≡ Ok done → done.host.version ≡ h.version
 
 -- where memory and the host hold bytes, the host holds bytes after a call that is done
 abbrev pub RowsKeepHostsOfBytes : Type 0
@@ -88,8 +94,8 @@ RowsKeepHosts = (c : Call) (arguments : List ℕ) (given : Option Answer) (m : B
 
 -- what a process begins with is a host
 abbrev pub FirstHostsAreHosts : Type 0
-FirstHostsAreHosts = (room limit : ℕ) (arguments environment : List (List ℕ))
-    → IsHost (first_host room limit arguments environment)
+FirstHostsAreHosts = (room : ℕ) (version : Version) (arguments environment : List (List ℕ))
+    → IsHost (first_host room version arguments environment)
 
 -- at most one number more was given to a node, and none was taken back
 pub record MakesOneNodeAtMost (before after : Host) : Type 0 where
@@ -104,7 +110,7 @@ RowsMakeOneNodeAtMost = (c : Call) (arguments : List ℕ) (given : Option Answer
 
 -- at most one request's text and its newline weren't read yet
 abbrev pub HasShortInput : Host → Type 0
-HasShortInput h = length h.unread ≤ h.limit + 1
+HasShortInput h = length h.unread ≤ text_limit h.version + 1
 
 -- a call that is done leaves no more
 abbrev pub RowsKeepInputShort : Type 0
@@ -148,7 +154,7 @@ FewRowsAsk = (c : Call) (arguments : List ℕ) (given : Option Answer) (m : Byte
 -- a call that wants an answer wants none once it has one that fits
 abbrev pub RowsAskOnce : Type 0
 RowsAskOnce = (c : Call) (arguments : List ℕ) (m : Bytes) (h : Host) (k other : Kind) (a : Answer)
-    → row c arguments None m h ≡ Err (Asks k) → Fits h.limit k a
+    → row c arguments None m h ≡ Err (Asks k) → Fits (text_limit h.version) k a
     → row c arguments (Some a) m h ≢ Err (Asks other)
 
 -- ---- the end of the process

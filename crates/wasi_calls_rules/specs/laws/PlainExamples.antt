@@ -9,6 +9,7 @@ use Rattle.wasi_abi.specs.declared.answer.Answer.TheVariants as answer
 use Rattle.wasi_abi.specs.declared.call.Call.TheVariants as call
 use Rattle.wasi_abi.specs.rules.Numbers.{errno_number}
 use Rattle.wasi_abi.specs.rules.Layouts.{padding}
+use Rattle.wasi_abi.specs.declared.version.Version.TheVariants.{One, Two}
 use Rattle.wasi_calls_rules.specs.Hosts.{Host, first_host}
 use Rattle.wasi_calls_rules.specs.Checks.{Asks, Ends}
 use Rattle.wasi_calls_rules.specs.Small.{call_done}
@@ -27,7 +28,7 @@ pub record ErrorNumbers : Type 0 where
 
 -- two arguments, and one entry of the environment
 abbrev pub with_texts : Host
-with_texts = first_host 65536 4096 (codes "ab" ∷ codes "c" ∷ []) (codes "X=1" ∷ [])
+with_texts = first_host 65536 One (codes "ab" ∷ codes "c" ∷ []) (codes "X=1" ∷ [])
 
 pub record TextExamples : Type 0 where
   -- pointers at 1, texts at 10
@@ -118,6 +119,10 @@ pub record RandomExamples : Type 0 where
   pub most : bare_call call.RandomGet (0 ∷ 4096 ∷ []) (old_bytes 8) bare_host ≡ refused_by Fault
   pub too_many_bytes : bare_call call.RandomGet (0 ∷ 4097 ∷ []) (old_bytes 8) bare_host
       ≡ refused_by Inval
+  pub most_in_two : bare_call call.RandomGet (0 ∷ 65536 ∷ []) (old_bytes 8)
+      (record bare_host { version = Two }) ≡ refused_by Fault
+  pub too_many_in_two : bare_call call.RandomGet (0 ∷ 65537 ∷ []) (old_bytes 8)
+      (record bare_host { version = Two }) ≡ refused_by Inval
   pub are_put : answered_call (answer.Random (1 ∷ 2 ∷ 3 ∷ [])) call.RandomGet (4 ∷ 3 ∷ [])
       (old_bytes 8) bare_host ≡ call_done (old_bytes 4 ++ (1 ∷ 2 ∷ 3 ∷ 255 ∷ [])) bare_host
   -- an answer that is too short, or too long, is as none

@@ -3,6 +3,7 @@
 use Rattle.std.specs.Prelude.{◌≡◌, ℕ, ◌-◌, ◌^◌, true, List, [], ◌∷◌, ◌++◌, replicate, codes, Err}
 use Rattle.wasi_abi.specs.declared.errno.Errno.TheVariants.{Badf, Fault, Fbig, Inval, Isdir}
 use Rattle.wasi_abi.specs.declared.errno.Errno.TheVariants.{Nospc, Spipe, Notcapable}
+use Rattle.wasi_abi.specs.declared.version.Version.TheVariants.{Two}
 use Rattle.wasi_abi.specs.declared.answer.Kind.TheVariants as kind
 use Rattle.wasi_abi.specs.declared.answer.Answer.TheVariants as answer
 use Rattle.wasi_abi.specs.declared.call.Call.TheVariants as call
@@ -18,6 +19,10 @@ use Rattle.wasi_calls_rules.specs.laws.Scenes.{small_u32, one_buffer, node_descr
 use Rattle.wasi_calls_rules.specs.laws.Scenes.{tree_of_a}
 
 -- ---- input
+
+-- a line of so many bytes `a`
+abbrev pub a_line : ℕ → Bytes
+a_line n = replicate n 97
 
 -- a host that has these bytes of requests unread
 abbrev pub with_unread : Bytes → Host
@@ -68,12 +73,14 @@ pub record InputExamples : Type 0 where
   pub no_buffer : bare_call call.FdRead (0 ∷ 0 ∷ 0 ∷ 0 ∷ []) (old_bytes 4) bare_host
       ≡ call_done (padding 4) bare_host
   -- a text of more bytes than the limit, or with a newline, is as none; and so is another answer
-  pub longest : reads_request (codes "abcd") (one_buffer (old_bytes 4) (old_bytes 8))
-      (record bare_host { limit = 4 })
-      ≡ call_done (one_buffer (small_u32 5) (codes "abcd" ++ (10 ∷ old_bytes 3)))
-      (record bare_host { limit = 4 })
-  pub too_long : reads_request (codes "abcde") (one_buffer (old_bytes 4) (old_bytes 8))
-      (record bare_host { limit = 4 }) ≡ Err (Asks kind.Request)
+  pub longest : reads_request (a_line 4096) (one_buffer (old_bytes 4) (old_bytes 8)) bare_host
+      ≡ call_done (one_buffer (small_u32 8) (a_line 8)) (with_unread (a_line 4088 ++ 10 ∷ []))
+  pub too_long : reads_request (a_line 4097) (one_buffer (old_bytes 4) (old_bytes 8)) bare_host
+      ≡ Err (Asks kind.Request)
+  pub longer_in_two : reads_request (a_line 4097) (one_buffer (old_bytes 4) (old_bytes 8))
+      (record bare_host { version = Two })
+      ≡ call_done (one_buffer (small_u32 8) (a_line 8))
+      (record (with_unread (a_line 4089 ++ 10 ∷ [])) { version = Two })
   pub two_lines : reads_request (97 ∷ 10 ∷ []) (one_buffer (old_bytes 4) (old_bytes 8)) bare_host
       ≡ Err (Asks kind.Request)
   pub no_byte : reads_request (97 ∷ 256 ∷ []) (one_buffer (old_bytes 4) (old_bytes 8)) bare_host
@@ -288,10 +295,6 @@ with_lines lines first second = record bare_host { lines = lines; first = first;
 abbrev pub writes_to : ℕ → Bytes → Host → Ruling
 writes_to fd text h =
     bare_call call.FdWrite (fd ∷ 0 ∷ 1 ∷ 8 ∷ []) (one_buffer (old_bytes 4) text) h
-
--- a line of so many bytes `a`
-abbrev pub a_line : ℕ → Bytes
-a_line n = replicate n 97
 
 pub record LineExamples : Type 0 where
   pub unfinished : writes_to 1 (codes "hi") (with_lines [] (codes "oh, ") (codes "no"))

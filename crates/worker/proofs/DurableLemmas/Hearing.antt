@@ -6,6 +6,7 @@ use Rattle.std.proofs.lemmas.List.{append-nil}
 use Rattle.wasi_abi.specs.declared.answer.Kind.{Kind}
 use Rattle.wasi_abi.specs.declared.answer.Answer.{Answer}
 use Rattle.wasi_abi.specs.rules.Answers.{Fits}
+use Rattle.wasi_abi.specs.rules.Versions.{text_limit}
 use Rattle.wasi_calls_rules.specs.Hosts.{Host}
 use Rattle.wasi_calls_rules.specs.declared.limits.TheConstants.{TEXT_BYTES}
 use Rattle.process_rules.specs.Processes.{ProcessState, Guest}
@@ -111,12 +112,12 @@ module _ {D : Type 0} (medium : D → Medium) (c : Course) (promise : Promise) (
   wants_there = subst (λ (g : Guest). next_of g p None ≡ Wants kind) (sym by_answers.guest_is)
       asking.wants
 
-  same_limit : p.host.limit ≡ w.process.host.host.limit
+  same_limit : text_limit p.host.version ≡ w.process.host.host.limit
   same_limit =
       let running = asking.running in
       let shows = running.shows in
       let host = shows.host in
-      ap (λ (h : Host). h.limit) host.is
+      ap (λ (h : Host). text_limit h.version) host.is
 
   -- the disk is left alone
   bounds_still : (later : ℕ) → promise.events + 1 ≤ later
@@ -128,13 +129,13 @@ module _ {D : Type 0} (medium : D → Medium) (c : Course) (promise : Promise) (
   -- ---- what was said
 
   module _ (said : SourceSaid) (fits : Bool) where
-    done_once : IsFitting p.host.limit kind said fits → IsForetold stage (asks_once kind said)
+    done_once : IsFitting (text_limit p.host.version) kind said fits → IsForetold stage (asks_once kind said)
         → AreDone c.code c.config promise stage (asks_once kind said)
         (promise_once promise p kind said fits) (stage_once stage p kind said fits)
     done_once fitting foretold =
         let is_first : said ≡ first_said stage.says = foretold.0 in
-        let there : IsFitting p.host.limit kind (first_said stage.says) fits =
-        subst (λ s. IsFitting p.host.limit kind s fits) is_first fitting in
+        let there : IsFitting (text_limit p.host.version) kind (first_said stage.says) fits =
+        subst (λ s. IsFitting (text_limit p.host.version) kind s fits) is_first fitting in
         let inquiring = questions_are_asked c.code c.config c.guest promise stage c.fuel p kind fits
         question there in
         let here : IsInquiring c.code c.config promise stage
@@ -168,7 +169,7 @@ module _ {D : Type 0} (medium : D → Medium) (c : Course) (promise : Promise) (
         asked_carries medium c.code c.config promise is.point w.store.journal is.records is.pending
         is.last is.now p.steps kind said fits disk is.carried running.synced syncs_once
 
-    goes_once : IsFitting p.host.limit kind said fits → IsForetold stage (asks_once kind said)
+    goes_once : IsFitting (text_limit p.host.version) kind said fits → IsForetold stage (asks_once kind said)
         → GoesOnFrom c.code c.config promise (promise_once promise p kind said fits) (medium disk)
         (medium disk)
     goes_once fitting foretold =
@@ -187,7 +188,7 @@ module _ {D : Type 0} (medium : D → Medium) (c : Course) (promise : Promise) (
 
     -- the process is as it was
     module _ (w' : Running) (same : w'.process ≡ w.process)
-        (fitting : IsFitting p.host.limit kind said fits)
+        (fitting : IsFitting (text_limit p.host.version) kind said fits)
         (foretold : IsForetold stage (asks_once kind said)) where
       shows_still : ShowsProcess w'.process c.guest p
       shows_still = let running = asking.running in
@@ -310,7 +311,7 @@ module _ {D : Type 0} (medium : D → Medium) (c : Course) (promise : Promise) (
               (Broken OfAnswer) OfAnswer (others.misfit a) refl tt,
         )
 
-    module _ (fits : Fits p.host.limit kind a) (w' : Running) where
+    module _ (fits : Fits (text_limit p.host.version) kind a) (w' : Running) where
       -- it is kept, and not taken
       kept_once : (same : w'.process ≡ w.process) (cause : Cause) → MayFail Open cause
           → HasBound c.code c.config c.guest
@@ -335,7 +336,7 @@ module _ {D : Type 0} (medium : D → Medium) (c : Course) (promise : Promise) (
       short =
           let configured = reached_are_configured c.code c.config promise.kept p.steps p
           by_answers.reached in
-          let limit : p.host.limit ≡ TEXT_BYTES = configured.limit in
+          let limit : text_limit p.host.version ≡ TEXT_BYTES = configured.limit in
           short_payload c.guest p kind a asking.wants (omega (arith, limit)) fits
 
       -- no record is wanting but for memory
@@ -472,7 +473,7 @@ module _ {D : Type 0} (medium : D → Medium) (c : Course) (promise : Promise) (
             early = is.early;
           }
 
-      goes_taken : Fits p.host.limit kind a
+      goes_taken : Fits (text_limit p.host.version) kind a
           → TurnGoes c promise stage (asks_once kind (Ok (Some a))) w' (medium disk) (medium disk)
       goes_taken fits =
           let running = asking.running in

@@ -7,6 +7,7 @@ use Rattle.wasi_abi.specs.declared.answer.Kind.{Kind}
 use Rattle.wasi_abi.specs.declared.answer.Kind.TheVariants as kinds
 use Rattle.wasi_abi.specs.declared.answer.Answer.{Answer}
 use Rattle.wasi_abi.specs.rules.Answers.{Fits}
+use Rattle.wasi_abi.specs.rules.Versions.{text_limit}
 use Rattle.wasi_calls_rules.specs.Hosts.{Host, Line}
 use Rattle.process_rules.specs.Processes.{ProcessState, Guest}
 use Rattle.process.specs.declared.fault.ProcessFault.{ProcessFault}
@@ -278,7 +279,7 @@ module _ {S O : Type 0} (gives : Giving S) (takes : Taking O) where
           let g = so_far guest p shows in
           let shown = g.shows in
           let host = shown.host in
-          ap (λ (h : Host). h.limit) host.is
+          ap (λ (h : Host). text_limit h.version) host.is
           ∙ ap (λ (x : ProcessValue). x.host.host.limit) (sym same)
 
       misfit_vainly : (a : Answer) → gives t kind (Ok (Some a)) u

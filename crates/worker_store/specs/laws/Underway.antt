@@ -5,6 +5,7 @@ use Rattle.wasm_syntax.specs.declared.module.Module.{Module}
 use Rattle.wasi_abi.specs.declared.answer.Kind.{Kind}
 use Rattle.wasi_abi.specs.declared.answer.Answer.{Answer}
 use Rattle.wasi_abi.specs.rules.Configs.{Settings}
+use Rattle.wasi_abi.specs.rules.Versions.{text_limit}
 use Rattle.wasi_calls_rules.specs.Hosts.{Line}
 use Rattle.process_rules.specs.Processes.{ProcessState, Guest, IsStart}
 use Rattle.process_rules.specs.Runs.{Runs, Moves, Wants, next_of}
@@ -98,7 +99,7 @@ module _ (m : Module) (config : Settings) (guest : Guest) where
   QuestionsAreAsked =
       (promise : Promise) (stage : Stage) (fuel : ℕ) (p : ProcessState) (kind : Kind)
       (fits : Bool) → IsAtQuestion promise stage fuel p kind
-      → IsFitting p.host.limit kind (first_said stage.says) fits
+      → IsFitting (text_limit p.host.version) kind (first_said stage.says) fits
       → IsInquiring m config promise stage (record {
         steps = p.steps;
         kind = kind;
