@@ -21,7 +21,8 @@ use Rattle.wasi_abi.specs.rules.Answers.{IsRequestText}
 use Rattle.wasi_abi.specs.rules.Configs.{Settings}
 use Rattle.wasi_calls_rules.specs.Hosts as host
 use Rattle.wasi_calls_rules.specs.Checks.{Bytes}
-use Rattle.wasi_calls_rules.specs.declared.limits.TheConstants.{TEXT_BYTES}
+use Rattle.wasi_abi.specs.declared.version.Version.TheVariants.{One}
+use Rattle.wasi_abi.specs.rules.Versions.{text_limit}
 use Rattle.process_rules.specs.Processes.{ProcessState, Guest, Exited, IsStart, host_of, closed}
 use Rattle.process_rules.specs.Runs.{On, Wants, next_of, after_rule, stepped, IsWanted, LeadsTo}
 use Rattle.process_rules.specs.Runs.{Moves, Given, Runs, Reaches, none, step, take}
@@ -221,7 +222,7 @@ stores_four config rest = refl
 differs : (b : ℕ) → (b == 10) ≡ false → b ≢ 10
 differs b other e = let clash : (b == 10) ≡ true = ap (λ z. z == 10) e in absurd (cc)
 
-pub abc_fits : IsRequestText TEXT_BYTES (codes "abc")
+pub abc_fits : IsRequestText (text_limit One) (codes "abc")
 abc_fits = record {
   short = lit≤ tt;
   are_bytes = (omega arith, (omega arith, (omega arith, tt)));

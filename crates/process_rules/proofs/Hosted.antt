@@ -12,19 +12,18 @@ use Rattle.wasm_semantics.specs.Configuration.{Asks, Stuck}
 use Rattle.wasm_semantics.specs.Steps.{rule}
 use Rattle.wasi_abi.specs.declared.answer.Answer.{Answer}
 use Rattle.wasi_abi.specs.declared.call.Call.{Call}
+use Rattle.wasi_abi.specs.declared.version.Version.TheVariants.{One}
 use Rattle.wasi_abi.specs.rules.Answers.{AreBytes}
 use Rattle.wasi_abi.specs.rules.Configs.{Settings}
-use Rattle.wasi_abi.specs.rules.Versions.{text_limit}
 use Rattle.file_tree.specs.declared.limits.TheConstants.{UNIT_BYTES}
 use Rattle.wasi_calls_rules.specs.Hosts.{Host, IsHost}
 use Rattle.wasi_calls_rules.specs.Checks.{Refuses, Ends, Asks as Wishes, Done, Ruling}
 use Rattle.wasi_calls_rules.specs.Lines.{lines_ended}
 use Rattle.wasi_calls_rules.specs.Rows.{row}
-use Rattle.wasi_calls_rules.specs.declared.limits.TheConstants.{TEXT_BYTES}
 use Rattle.wasi_calls_rules.specs.laws.Laws.{IsOfBytes, IsConfiguredAs, MakesOneNodeAtMost}
 use Rattle.wasi_calls_rules.specs.laws.Laws.{HasShortInput}
 use Rattle.wasi_calls_rules.proofs.KeepsMemory.{rows_keep_bytes}
-use Rattle.wasi_calls_rules.proofs.Configured.{rows_keep_configurations}
+use Rattle.wasi_calls_rules.proofs.Configured.{rows_keep_configurations, rows_keep_versions}
 use Rattle.wasi_calls_rules.proofs.Configured.{rows_make_one_node_at_most}
 use Rattle.wasi_calls_rules.proofs.HostBytes.{rows_keep_hosts_of_bytes}
 use Rattle.wasi_calls_rules.proofs.ShortInput.{rows_keep_input_short}
@@ -36,6 +35,7 @@ use Rattle.process_rules.specs.Runs.{Next, On, Over, Wants, Nowhere, after_row, 
 use Rattle.process_rules.specs.Runs.{after_rule}
 use Rattle.process_rules.specs.Runs.{next_of, stepped, LeadsTo, Moves, Kept, Runs, none, step, take}
 use Rattle.process_rules.specs.laws.Laws.{ReachedAreConfigured, NodesAreFew}
+use Rattle.process_rules.specs.laws.Laws.{ReachedVersions}
 use Rattle.process_rules.specs.laws.Laws.{ReachedInputIsShort, ReachedHaveHosts}
 use Rattle.process_rules.proofs.MemoryKept.{GoesToBytes, rule_bytes, settled_store}
 use Rattle.process_rules.proofs.MemoryKept.{begins_with_bytes}
@@ -44,12 +44,14 @@ use Rattle.process_rules.proofs.MemoryKept.{begins_with_bytes}
 
 record Follows (h after : Host) : Type 0 where
   configured : IsConfiguredAs h after
+  version : after.version ≡ h.version
   nodes : MakesOneNodeAtMost h after
   input : HasShortInput h → HasShortInput after
 
 same_host : (h : Host) → Follows h h
 same_host h = record {
-  configured = record { room = refl; limit = refl; arguments = refl; environment = refl };
+  configured = record { room = refl; arguments = refl; environment = refl };
+  version = refl;
   nodes = record { least = omega arith; most = omega arith };
   input = λ short. short;
 }
@@ -77,6 +79,7 @@ call_follows (Some c) arguments given before h waits =
     row_follows c (row c numbers given before.store.memory h) before h waits
     (λ done e. record {
       configured = rows_keep_configurations c numbers given before.store.memory h done e;
+      version = rows_keep_versions c numbers given before.store.memory h done e;
       nodes = rows_make_one_node_at_most c numbers given before.store.memory h done e;
       input = λ short.
           rows_keep_input_short c numbers given before.store.memory h done short e;
@@ -94,10 +97,10 @@ ended_follows : (g h : Host) → Follows g h → Follows g (lines_ended h)
 ended_follows g h f = record {
   configured = record {
     room = f.configured.room;
-    limit = f.configured.limit;
     arguments = f.configured.arguments;
     environment = f.configured.environment;
   };
+  version = f.version;
   nodes = record { least = f.nodes.least; most = f.nodes.most };
   input = f.input;
 }
@@ -130,7 +133,6 @@ move_follows guest p q given moves =
 configured_on : (g h k : Host) → IsConfiguredAs g h → IsConfiguredAs h k → IsConfiguredAs g k
 configured_on g h k a b = record {
   room = b.room ∙ a.room;
-  limit = b.limit ∙ a.limit;
   arguments = b.arguments ∙ a.arguments;
   environment = b.environment ∙ a.environment;
 }
@@ -145,6 +147,15 @@ runs_configured guest p q kept n
     (take {p = p'} {q = next} {a = a} {kept = kept'} {n = m} moves rest) =
     configured_on p'.host next.host q.host (move_follows guest p' next (Some a) moves).configured
     (runs_configured guest next q kept' m rest)
+
+runs_version : (guest : Guest) (p q : ProcessState) (kept : List Kept) (n : ℕ)
+    → Runs guest p kept n q → q.host.version ≡ p.host.version
+runs_version guest p q kept n none = refl
+runs_version guest p q kept n (step {p = p'} {q = next} {kept = kept'} {n = m} moves rest) =
+    runs_version guest next q kept' m rest ∙ (move_follows guest p' next None moves).version
+runs_version guest p q kept n
+    (take {p = p'} {q = next} {a = a} {kept = kept'} {n = m} moves rest) =
+    runs_version guest next q kept' m rest ∙ (move_follows guest p' next (Some a) moves).version
 
 runs_nodes : (guest : Guest) (p q : ProcessState) (kept : List Kept) (n : ℕ) → Runs guest p kept n q
     → q.host.files.next ≤ p.host.files.next + n
@@ -203,6 +214,11 @@ reached_are_configured m config kept n p r =
     (start_follows m config r.guest r.start r.begins).configured
     (runs_configured r.guest r.start p kept n r.runs)
 
+pub reached_versions : ReachedVersions
+reached_versions m config kept n p r =
+    runs_version r.guest r.start p kept n r.runs
+    ∙ (start_follows m config r.guest r.start r.begins).version
+
 pub nodes_are_few : NodesAreFew
 nodes_are_few m config kept n p r =
     let first = start_next m config r.guest r.start r.begins in
@@ -212,9 +228,7 @@ nodes_are_few m config kept n p r =
 pub reached_input_is_short : ReachedInputIsShort
 reached_input_is_short m config kept n p r =
     let first = (start_follows m config r.guest r.start r.begins).input (omega arith) in
-    let short = runs_input r.guest r.start p kept n r.runs first in
-    let limit : text_limit p.host.version ≡ TEXT_BYTES = (reached_are_configured m config kept n p r).limit in
-    omega (arith, short, limit)
+    runs_input r.guest r.start p kept n r.runs first
 
 -- ---- hosts and bytes
 
@@ -332,7 +346,7 @@ start_holds m config guest p valid bytes start =
       memory_bytes = begins_with_bytes m config.pages start.entry guest.program start.first valid
           start.begins;
       of_bytes = bytes;
-      host = first_is_host (config.files * UNIT_BYTES) TEXT_BYTES config.arguments
+      host = first_is_host (config.files * UNIT_BYTES) One config.arguments
           config.environment;
     }))
 

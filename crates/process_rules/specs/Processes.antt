@@ -14,7 +14,7 @@ use Rattle.wasi_abi.specs.rules.Calls.{module_name, name_of}
 use Rattle.file_tree.specs.declared.limits.TheConstants.{UNIT_BYTES}
 use Rattle.wasi_calls_rules.specs.Hosts.{Host, first_host}
 use Rattle.wasi_calls_rules.specs.Lines.{lines_ended}
-use Rattle.wasi_calls_rules.specs.declared.limits.TheConstants.{TEXT_BYTES}
+use Rattle.wasi_abi.specs.declared.version.Version.TheVariants.{One}
 use Rattle.std.specs.Prelude.{codes}
 
 -- how a process ended
@@ -51,10 +51,10 @@ HasLineNumbers h = length (lines_ended h).lines + 2 < 2 ^ 63
 
 -- ---- the beginning
 
--- the host with which a process begins under this configuration
+-- the host with which a process begins under this configuration, in version 1
 abbrev pub host_of : Settings → Host
 host_of config =
-    first_host (config.files * UNIT_BYTES) TEXT_BYTES config.arguments config.environment
+    first_host (config.files * UNIT_BYTES) One config.arguments config.environment
 
 -- a process that has ended emits what it has not finished
 abbrev pub over : Ending → ProcessState → ProcessState

@@ -5,7 +5,8 @@ ghost use Rattle.process_rules.specs.laws.Laws.{OneProcess, OneProcessRun, RunsJ
 ghost use Rattle.process_rules.specs.laws.Laws.{RunsEmit, QuietRunsJoin, QuietRunsAreRuns};
 ghost use Rattle.process_rules.specs.laws.Laws.{RulesAreQuiet, LastRuleEnds, TrapEnds};
 ghost use Rattle.process_rules.specs.laws.Laws.{ReachedAreConfigured, NodesAreFew};
-ghost use Rattle.process_rules.specs.laws.Laws.{ReachedInputIsShort, ReachedHaveHosts};
+ghost use Rattle.process_rules.specs.laws.Laws.{ReachedVersions, ReachedInputIsShort};
+ghost use Rattle.process_rules.specs.laws.Laws.{ReachedHaveHosts};
 ghost use Rattle.process_rules.specs.laws.Laws.{ReachedAreCounted, ReachedAreClosed};
 ghost use Rattle.process_rules.specs.laws.Laws.{ReachedAreTyped};
 ghost use Rattle.wasi_abi.specs.rules.Configs.{Settings};
@@ -59,6 +60,7 @@ pub fn trap_ends()
 /// beside the root and the number that comes next. At most one request waits to be read.
 pub fn reached_hosts_are_bounded()
     ensures configured { ReachedAreConfigured }
+    ensures versions { ReachedVersions }
     ensures few { NodesAreFew }
     ensures input { ReachedInputIsShort }
 {}

@@ -11,7 +11,8 @@
 //!   line (`emit`).
 //! - `reached_processes_have_hosts`: what a valid module reaches has a host, and host and memory
 //!   hold bytes, where the configuration's texts are bytes.
-//! - `reached_hosts_are_bounded`: a reached host is configured as at the beginning (`configured`).
+//! - `reached_hosts_are_bounded`: a reached host is configured as at the beginning (`configured`),
+//!   and has the version in which it began (`versions`).
 //!   It has one node a step at most, beside the root (`few`). One request at most waits to be read
 //!   (`input`).
 //! - `reached_processes_are_counted`: a reached process has counted its steps and its answers, one

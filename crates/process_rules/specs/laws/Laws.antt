@@ -16,7 +16,8 @@ use Rattle.wasi_abi.specs.rules.Configs.{Settings}
 use Rattle.wasi_abi.specs.rules.Answers.{AreBytes}
 use Rattle.wasi_calls_rules.specs.Hosts.{IsHost}
 use Rattle.wasi_calls_rules.specs.laws.Laws.{Emits, IsConfiguredAs, IsOfBytes}
-use Rattle.wasi_calls_rules.specs.declared.limits.TheConstants.{TEXT_BYTES}
+use Rattle.wasi_abi.specs.declared.version.Version.TheVariants.{One}
+use Rattle.wasi_abi.specs.rules.Versions.{text_limit}
 use Rattle.process_rules.specs.Processes.{Ending, ProcessState, Guest, Exited, Trapped, over}
 use Rattle.process_rules.specs.Processes.{host_of}
 use Rattle.process_rules.specs.Runs.{Kept, Moves, Runs, Reaches}
@@ -106,11 +107,17 @@ ReachedAreConfigured =
     (m : Module) (config : Settings) (kept : List Kept) (n : ℕ) (p : ProcessState)
     → Reaches m config kept n p → IsConfiguredAs (host_of config) p.host
 
+-- It has the version in which it began.
+abbrev pub ReachedVersions : Type 0
+ReachedVersions =
+    (m : Module) (config : Settings) (kept : List Kept) (n : ℕ) (p : ProcessState)
+    → Reaches m config kept n p → p.host.version ≡ One
+
 -- At most one request's text and its newline wait to be read.
 abbrev pub ReachedInputIsShort : Type 0
 ReachedInputIsShort =
     (m : Module) (config : Settings) (kept : List Kept) (n : ℕ) (p : ProcessState)
-    → Reaches m config kept n p → length p.host.unread ≤ TEXT_BYTES + 1
+    → Reaches m config kept n p → length p.host.unread ≤ text_limit p.host.version + 1
 
 -- Each step makes one node at most, beside the root and the number that comes next.
 abbrev pub NodesAreFew : Type 0

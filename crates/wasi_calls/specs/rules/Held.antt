@@ -1,5 +1,6 @@
 -- The host's side of a process as the code keeps it (this project's own).
 use Rattle.std.specs.Prelude.{◌≡◌, ℕ, ◌*◌, Bool, List, ◌+◌, ◌++◌, length, drop, Option, Ok, Err}
+use Rattle.wasi_abi.specs.declared.version.Version.{Version}
 use Rattle.wasi_abi.specs.rules.Configs.{Settings}
 use Rattle.file_tree.specs.rules.Files.{Files}
 use Rattle.file_tree.specs.declared.limits.TheConstants.{UNIT_BYTES}
@@ -25,9 +26,9 @@ pub record ShowsHost (held : HeldHost) (h : Host) : Type 0 where
   pub is : h ≡ behind_lines before held.host
 
 -- of its parts
-abbrev pub held_host_of : Settings → ℕ → Files → List (Option Descriptor) → List ℕ → Bool → ℕ
+abbrev pub held_host_of : Settings → Version → Files → List (Option Descriptor) → List ℕ → Bool → ℕ
     → Output → HeldHost
-held_host_of config limit files descriptors unread input_ended last_monotonic o = record {
+held_host_of config version files descriptors unread input_ended last_monotonic o = record {
   released = o.released;
   host = record {
     files = files;
@@ -41,7 +42,7 @@ held_host_of config limit files descriptors unread input_ended last_monotonic o 
     arguments = config.arguments;
     environment = config.environment;
     room = config.files * UNIT_BYTES;
-    limit = limit;
+    version = version;
   };
 }
 

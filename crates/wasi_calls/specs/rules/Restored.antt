@@ -1,5 +1,6 @@
 -- A host that is made of its parts (this project's own).
 use Rattle.std.specs.Prelude.{◌≡◌, ℕ, ◌<◌, ◌≤◌, ◌^◌, true, []}
+use Rattle.wasi_abi.specs.declared.version.Version.{Version}
 use Rattle.wasi_abi.specs.rules.Configs.{Settings}
 use Rattle.wasi_abi.specs.rules.Numbers.{are_within, all_rights}
 use Rattle.wasi_calls_rules.specs.Hosts.{Descriptor}
@@ -14,9 +15,9 @@ pub record IsBoundedDescriptor (d : Descriptor) : Type 0 where
   pub inheriting : are_within d.inheriting all_rights ≡ true
 
 -- what is held of these parts: no line waits
-abbrev pub held_host_from : Settings → ℕ → HostParts → HeldHost
-held_host_from config limit p =
-    held_host_of config limit p.tree p.descriptors.items p.unread.items p.input_ended
+abbrev pub held_host_from : Settings → Version → HostParts → HeldHost
+held_host_from config version p =
+    held_host_of config version p.tree p.descriptors.items p.unread.items p.input_ended
     p.last_monotonic (record {
       first = p.first.items;
       second = p.second.items;

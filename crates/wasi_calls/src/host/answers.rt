@@ -29,7 +29,7 @@ impl Host {
         let Some(answer) = answer else {
             return Err(CallStop::Asks(kind));
         };
-        if !fits(self.limit, kind, answer) {
+        if !fits(self.version.text_limit(), kind, answer) {
             return Err(CallStop::Asks(kind));
         }
         Ok(answer)

@@ -20,7 +20,6 @@ ghost use Rattle.wasi_calls_rules.specs.Checks.{gathered};
 ghost use Rattle.wasi_calls_rules.specs.Lines.{stream_written, rest_of, lines_ended};
 ghost use Rattle.wasi_calls.specs.Moves.{AreInside};
 ghost use Rattle.wasi_calls.specs.Writes.{unfinished_of};
-ghost use Rattle.wasi_abi.specs.rules.Versions.{text_limit};
 
 use crate::buffers::Buffers;
 use crate::descriptor::Descriptor;
@@ -32,7 +31,7 @@ use guest_memory::laws::are_bytes;
 pub use restoring::{HostParts, PartsFault};
 use std::alloc::{AllocError, Global};
 use std::marker::Model;
-use wasi_abi::{Config, Rights};
+use wasi_abi::{Config, Rights, Version};
 use wasi_calls_rules::limits::DESCRIPTORS;
 
 /// The number of the root.
@@ -46,7 +45,7 @@ const OPENED: usize = 4;
 #[derive(Drop)]
 pub struct Host {
     config: Config,
-    limit: usize,
+    version: Version,
     tree: Tree,
     descriptors: Vec<Option<Descriptor>>,
     unread: Vec<u8>,
@@ -61,28 +60,26 @@ impl Model for Host {
 
     ghost Value = { HeldHost };
 
-    ghost view = { λ h. held_host_of h.config (text_limit h.version) h.tree h.descriptors.items h.unread.items
+    ghost view = { λ h. held_host_of h.config h.version h.tree h.descriptors.items h.unread.items
         h.input_ended h.last_monotonic h.streams };
 
-    ghost invariant = { λ h. IsHost (held_host_of h.config (text_limit h.version) h.tree h.descriptors.items
+    ghost invariant = { λ h. IsHost (held_host_of h.config h.version h.tree h.descriptors.items
         h.unread.items h.input_ended h.last_monotonic h.streams).host };
 }
 
 impl Host {
     ghost use Rattle.wasi_calls.specs.rules.Held.{HeldHost, ShowsHost, held_ended, held_released};
 
-    /// The host of a process that begins. `limit` is that of a request's text and of random
-    /// bytes. It
-    /// fails for want of memory alone.
-    pub fn new(alloc: Global, config: Config, limit: usize) -> Result<Host, AllocError>
+    /// The host of a process that begins. It fails for want of memory alone.
+    pub fn new(alloc: Global, config: Config, version: Version) -> Result<Host, AllocError>
         ensures { IfOk result (λ h. h ≡ record {
           released = 0;
-          host = first_host (config.files * UNIT_BYTES) limit config.arguments config.environment;
+          host = first_host (config.files * UNIT_BYTES) version config.arguments config.environment;
         }) }
     {
         Ok(Host {
             config,
-            limit,
+            version,
             tree: Tree::new(alloc)?,
             descriptors: begin(alloc)?,
             unread: Vec::new(alloc),
@@ -179,11 +176,11 @@ impl Host {
         self.streams.unfinished_line(2)
     }
 
-    /// The most bytes of a request's text, and of the random bytes that a call may want.
-    pub fn limit(&self) -> usize
-        ensures { result ≡ text_limit self.now.host.version }
+    /// The version, which says how long a request's text and the random bytes of a call may be.
+    pub fn version(&self) -> Version
+        ensures { result ≡ self.now.host.version }
     {
-        self.limit
+        self.version
     }
 
     /// The lines that wait to be released, in the order in which they were emitted.

@@ -250,7 +250,7 @@ impl Host {
         let Some(answer) = answer else {
             return Err(CallStop::Asks(Kind::Request));
         };
-        if !fits(self.limit, Kind::Request, answer) {
+        if !fits(self.version.text_limit(), Kind::Request, answer) {
             return Err(CallStop::Asks(Kind::Request));
         }
         self.take_answer(answer)?;

@@ -3,6 +3,7 @@
 ghost use Rattle.std.specs.Prelude.{◌≡◌, ◌≢◌, ◌*◌, ◌≤◌, ◌↔◌, ℕ, IfOk, IfSome, IsTrue, Err};
 ghost use Rattle.file_tree.specs.declared.limits.TheConstants.{UNIT_BYTES};
 ghost use Rattle.file_tree.specs.rules.Files.{IsFiles, used};
+ghost use Rattle.wasi_abi.specs.declared.version.Version.{Version};
 ghost use Rattle.wasi_abi.specs.rules.Answers.{IsTime};
 ghost use Rattle.wasi_calls_rules.specs.Hosts.{IsThere, IsDescriptor, IsUnfinished, IsHost};
 ghost use Rattle.wasi_calls.specs.declared.host.restoring.PartsFault.TheVariants as fault;
@@ -20,7 +21,7 @@ use file_tree::Tree;
 use file_tree::limits::UNIT_BYTES;
 use guest_memory::laws::are_bytes;
 use std::alloc::{AllocError, Global};
-use wasi_abi::Config;
+use wasi_abi::{Config, Version};
 use wasi_calls_rules::limits::{DESCRIPTORS, LINE_BYTES};
 
 /// What an image has of the host's side of a process. No line waits: all that were emitted were
@@ -161,8 +162,8 @@ fn is_time(time: u64)
 
 /// Whether a host has these parts.
 fn is_host(config: &Config, parts: &HostParts) -> bool
-    ensures { (limit : ℕ) → IsTrue result
-        ↔ IsHost (held_host_from config.now limit parts.now).host }
+    ensures { (version : Version) → IsTrue result
+        ↔ IsHost (held_host_from config.now version parts.now).host }
 {
     are_bytes(parts.unread.as_slice());
     is_time(parts.last_monotonic);
@@ -173,19 +174,19 @@ fn is_host(config: &Config, parts: &HostParts) -> bool
 }
 
 impl Host {
-    /// The host that has these parts. `limit` is that of a request's text and of random bytes. It
-    /// takes memory for the two lines that an end may emit, after all tests.
+    /// The host that has these parts. It takes memory for the two lines that an end may
+    /// emit, after all tests.
     pub fn from_parts(
         alloc: Global,
         config: Config,
-        limit: usize,
+        version: Version,
         parts: HostParts,
     ) -> Result<Host, PartsFault>
-        ensures made { IfOk result (λ h. h ≡ held_host_from config limit parts) }
+        ensures made { IfOk result (λ h. h ≡ held_host_from config version parts) }
         ensures is { result ≢ Err PartsFault.NoHost
-            → IsHost (held_host_from config limit parts).host }
+            → IsHost (held_host_from config version parts).host }
         ensures refused { result ≡ Err PartsFault.NoHost
-            → ¬ IsHost (held_host_from config limit parts).host }
+            → ¬ IsHost (held_host_from config version parts).host }
     {
         if !is_host(&config, &parts) {
             return Err(PartsFault::NoHost);
@@ -193,7 +194,7 @@ impl Host {
         let streams = Streams::of_unfinished(alloc, parts.first, parts.second, parts.released)?;
         Ok(Host {
             config,
-            limit,
+            version,
             tree: parts.tree,
             descriptors: parts.descriptors,
             unread: parts.unread,

@@ -1,9 +1,12 @@
-use Rattle.process_rules.proofs.Hosted.{reached_are_configured, nodes_are_few}
+use Rattle.process_rules.proofs.Hosted.{reached_are_configured, reached_versions, nodes_are_few}
 use Rattle.process_rules.proofs.Hosted.{reached_input_is_short}
 use Rattle.process_rules.proofs.laws.reached_hosts_are_bounded.Goals as goal
 
 pub returns-clause-configured : goal.returns-clause-configured
 returns-clause-configured c = reached_are_configured
+
+pub returns-clause-versions : goal.returns-clause-versions
+returns-clause-versions c = reached_versions
 
 pub returns-clause-few : goal.returns-clause-few
 returns-clause-few c = nodes_are_few

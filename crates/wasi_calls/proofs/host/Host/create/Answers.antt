@@ -5,7 +5,7 @@ use Rattle.wasi_calls.proofs.host.Host.create.Goals as goal
 pub invariant_of-self : goal.invariant_of-self
 invariant_of-self c =
     let s = c.self.inside in
-    let held = held_host_of s.config s.limit s.tree s.descriptors.items s.unread.items
+    let held = held_host_of s.config s.version s.tree s.descriptors.items s.unread.items
     s.input_ended s.last_monotonic s.streams in
     made_or_same c.create.result held.host c.create.new.self c.args.directory c.args.name.now
     c.args.kind c.self.invariant (rw (← c.self.view_is) at c.requires.free)

@@ -5,7 +5,7 @@ use Rattle.wasi_calls.proofs.host.Host.move_to.Goals as goal
 pub invariant_of-self : goal.invariant_of-self
 invariant_of-self c =
     let s = c.self.inside in
-    let held = held_host_of s.config s.limit s.tree s.descriptors.items s.unread.items
+    let held = held_host_of s.config s.version s.tree s.descriptors.items s.unread.items
     s.input_ended s.last_monotonic s.streams in
     let there = (rw (← c.self.view_is) at c.known_descriptor.ensures) in
     rw c.at_offset-moved.ensures

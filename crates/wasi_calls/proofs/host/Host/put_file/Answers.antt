@@ -24,7 +24,7 @@ put_pieces-requires-clause-small c =
 pub invariant_of-self : goal.invariant_of-self
 invariant_of-self c =
     let s = c.self.inside in
-    let h = (held_host_of s.config s.limit s.tree s.descriptors.items s.unread.items
+    let h = (held_host_of s.config s.version s.tree s.descriptors.items s.unread.items
     s.input_ended s.last_monotonic s.streams).host in
     let m = c.args.memory.now.bytes in
     let old = bytes_of_node s.tree c.args.node in

@@ -5,7 +5,7 @@ use Rattle.wasi_calls.proofs.host.Host.remove.Goals as goal
 pub remove-requires : goal.remove-requires
 remove-requires c =
     let s = c.self.inside in
-    let held = held_host_of s.config s.limit s.tree s.descriptors.items s.unread.items
+    let held = held_host_of s.config s.version s.tree s.descriptors.items s.unread.items
     s.input_ended s.last_monotonic s.streams in
     let there = (rw (← c.self.view_is) at c.requires.there) in
     can_lose held.host there.0 c.args.node there.1 c.self.invariant there.2
@@ -14,7 +14,7 @@ remove-requires c =
 pub invariant_of-self : goal.invariant_of-self
 invariant_of-self c =
     let s = c.self.inside in
-    let held = held_host_of s.config s.limit s.tree s.descriptors.items s.unread.items
+    let held = held_host_of s.config s.version s.tree s.descriptors.items s.unread.items
     s.input_ended s.last_monotonic s.streams in
     let there = (rw (← c.self.view_is) at c.requires.there) in
     rw (c.sweep.ensures, c.remove.ensures, c.deref.ensures.value)

@@ -11,7 +11,7 @@ use Rattle.wasi_calls.proofs.host.Host.take_line.Goals as goal
 pub invariant_of-self-2 : goal.invariant_of-self-2
 invariant_of-self-2 c =
     let s = c.self.inside in
-    let h = (held_host_of s.config s.limit s.tree s.descriptors.items s.unread.items
+    let h = (held_host_of s.config s.version s.tree s.descriptors.items s.unread.items
     s.input_ended s.last_monotonic s.streams).host in
     let text = c.args.text.now in
     let low : AreBytes text = all_bytes text (λ k. omega (arith, c.type_inv.text k)) in

@@ -7,7 +7,7 @@ use Rattle.wasi_calls.proofs.host.Host.truncate.Goals as goal
 pub invariant_of-self-2 : goal.invariant_of-self-2
 invariant_of-self-2 c =
     let s = c.self.inside in
-    let held = held_host_of s.config s.limit s.tree s.descriptors.items s.unread.items
+    let held = held_host_of s.config s.version s.tree s.descriptors.items s.unread.items
     s.input_ended s.last_monotonic s.streams in
     let within = c.self.invariant.within in
     rw c.in_ok-resize.ensures.resized

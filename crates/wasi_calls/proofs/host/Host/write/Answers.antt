@@ -10,7 +10,7 @@ use Rattle.wasi_calls.proofs.host.Host.write.Goals as goal
 pub invariant_of-self-2 : goal.invariant_of-self-2
 invariant_of-self-2 c =
     let s = c.self.inside in
-    let old = (held_host_of s.config s.limit s.tree s.descriptors.items s.unread.items s.input_ended
+    let old = (held_host_of s.config s.version s.tree s.descriptors.items s.unread.items s.input_ended
     s.last_monotonic s.streams).host in
     let m = c.args.memory.now.bytes in
     let bytes = gathered m c.args.buffers.now in

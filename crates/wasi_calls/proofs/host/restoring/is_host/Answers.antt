@@ -9,8 +9,8 @@ use Rattle.wasi_calls.proofs.host.restoring.is_host.Goals.{then-is_table}
 use Rattle.wasi_calls.proofs.host.restoring.is_host.Goals.{else-is_table}
 
 pub returns-then-is_unfinished : goal.returns-then-is_unfinished
-returns-then-is_unfinished c = λ limit.
-    let h = (held_host_from c.args.config.now limit c.args.parts.now).host in
+returns-then-is_unfinished c = λ version.
+    let h = (held_host_from c.args.config.now version c.args.parts.now).host in
     elim c.if-is_table.branch [
       | then-is_table v ↦ elim c.if-fits_room.branch [
         | then-fits_room w ↦ (
@@ -34,8 +34,8 @@ returns-then-is_unfinished c = λ limit.
     ]
 
 pub returns-else-is_unfinished : goal.returns-else-is_unfinished
-returns-else-is_unfinished c = λ limit.
-    let h = (held_host_from c.args.config.now limit c.args.parts.now).host in (
+returns-else-is_unfinished c = λ version.
+    let h = (held_host_from c.args.config.now version c.args.parts.now).host in (
       λ yes. absurd (both_ways _ c.if-is_unfinished.false yes),
       λ is. elim c.if-is_table.branch [
         | then-is_table v ↦ v.value-is
