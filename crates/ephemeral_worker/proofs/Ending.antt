@@ -502,7 +502,7 @@ module _ {S O : Type 0} (gives : Giving S) (takes : Taking O) where
       }
 
       bad_answer : (guest : Guest) (p : ProcessState) (shows : ShowsProcess old guest p)
-          → IsBadAnswer (so_far guest p shows).process.host.limit kind said
+          → IsBadAnswer (text_limit (so_far guest p shows).process.host.version) kind said
           → IsCause guest p fuel (asked_calls guest p shows) (so_far guest p shows).steps
           (so_far guest p shows).process fault.Source
       bad_answer guest p shows bad = (

@@ -12,9 +12,8 @@ use guest_memory::Memory;
 use machine::{LinkFault, Machine, link};
 use std::alloc::Global;
 use std::marker::Model;
-use wasi_abi::Config;
+use wasi_abi::{Config, Version};
 use wasi_calls::{Host, Line};
-use wasi_calls_rules::limits::TEXT_BYTES;
 use wasm_validate::ValidModule;
 
 /// What holds of a module by its type.
@@ -62,7 +61,7 @@ impl Process {
     {
         is_valid(&module);
         let machine = link(alloc, module, config.pages())?;
-        let mut host = Host::new(alloc, config, TEXT_BYTES)?;
+        let mut host = Host::new(alloc, config, Version::One)?;
         let ended = end_with_program(alloc, &machine, &mut host);
         Ok(Process {
             alloc,

@@ -1,5 +1,6 @@
 use Rattle.std.proofs.Common.{◌≡◌, None, Some, sym, ap, ◌∙◌}
 use Rattle.guest_memory.specs.rules.Memories.{LinearMemory}
+use Rattle.wasi_abi.specs.rules.Versions.{text_limit}
 use Rattle.wasi_calls_rules.specs.Hosts.{Host}
 use Rattle.wasi_calls_rules.specs.Rows.{row}
 use Rattle.wasi_calls.specs.rules.Held.{ShowsHost}
@@ -15,7 +16,8 @@ returns-in-Some c = λ guest p shows at.
     ∙ ap (λ (m : LinearMemory). wish_of (row c.args.call c.args.arguments.now None m.bytes h))
     c.memory.ensures in
     wants_that guest p c.args.call c.args.arguments.now at c.args.machine.now c.args.host.now shows
-    c.in-Some.kind told c.args.answer.now c.limit.result c.limit.ensures c.fits.result
+    c.in-Some.kind told c.args.answer.now c.text_limit.result
+    (c.text_limit.ensures ∙ ap text_limit c.version.ensures) c.fits.result
     c.fits.ensures
 
 pub returns-in-None : goal.returns-in-None
