@@ -230,7 +230,7 @@ well_typed config some few = record {
   process = first_of config;
   shown = first_shown config some few;
   host = first_is_host _ _ _ _;
-  configured = record { room = refl; limit = refl; arguments = refl; environment = refl };
+  configured = record { room = refl; version = refl; arguments = refl; environment = refl };
   outermost = refl;
   alive = λ e. absurd cc;
   steps = omega arith;

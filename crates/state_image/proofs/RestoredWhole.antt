@@ -60,7 +60,7 @@ record SameHosts (g h : Host) : Type 0 where
   pub arguments : g.arguments ≡ h.arguments
   pub environment : g.environment ≡ h.environment
   pub room : g.room ≡ h.room
-  pub limit : g.limit ≡ h.limit
+  pub version : g.version ≡ h.version
 
 host_behind : (g h : Host) → SameHosts g h → g.lines ++ h.lines ≡ g.lines
     → g ≡ behind_lines g.lines h
@@ -69,11 +69,11 @@ host_behind g h s lines =
     let files = s.files in let descriptors = s.descriptors in let unread = s.unread in
     let input = s.input_ended in let time = s.last_monotonic in let first = s.first in
     let second = s.second in let arguments = s.arguments in let environment = s.environment in
-    let room = s.room in let limit = s.limit in
+    let room = s.room in let version = s.version in
     let whole : host_with g.files g.descriptors g.unread g.input_ended g.last_monotonic g.first
-    g.second g.lines g.arguments g.environment g.room g.limit
+    g.second g.lines g.arguments g.environment g.room g.version
     ≡ host_with h.files h.descriptors h.unread h.input_ended h.last_monotonic h.first h.second
-    (g.lines ++ h.lines) h.arguments h.environment h.room h.limit =
+    (g.lines ++ h.lines) h.arguments h.environment h.room h.version =
     rw (
       lines,
       files,
@@ -86,7 +86,7 @@ host_behind g h s lines =
       arguments,
       environment,
       room,
-      limit,
+      version,
     ) refl in
     whole
 
@@ -184,7 +184,7 @@ module _ (linked : MachineValue) (config : Settings)
       arguments = shown.configured.arguments ∙ sym configured.arguments;
       environment = shown.configured.environment ∙ sym configured.environment;
       room = shown.configured.room ∙ sym configured.room;
-      limit = shown.configured.limit ∙ sym configured.limit;
+      version = shown.configured.version ∙ sym configured.version;
     }
 
     shows_host : ShowsHost v.host p.host
@@ -462,7 +462,7 @@ module _ (linked : MachineValue) (config : Settings)
     unfolding a_process
     is_configured = record {
       room = from.configured.room;
-      limit = from.configured.limit;
+      version = from.configured.version;
       arguments = from.configured.arguments;
       environment = from.configured.environment;
     }

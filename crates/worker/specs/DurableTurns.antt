@@ -9,6 +9,7 @@ use Rattle.wasi_calls_rules.specs.laws.Laws.{IsOfBytes}
 use Rattle.process_rules.specs.Processes.{ProcessState, Guest, host_of}
 use Rattle.process_rules.specs.Runs.{Wants, next_of}
 use Rattle.wasi_abi.specs.rules.Answers.{Fits}
+use Rattle.wasi_abi.specs.rules.Versions.{text_limit}
 use Rattle.process.specs.declared.fault.ProcessFault.{ProcessFault}
 use Rattle.process.specs.rules.Values.{ProcessValue, ShowsProcess, IsProcess, waiting_in}
 use Rattle.process.specs.rules.Stops.{GivesAnswer}
@@ -200,7 +201,7 @@ asks_once kind said = Asks (record { kind = kind; said = said }) ∷ []
 
 -- an answer that fits was kept on record, and the process has taken it
 pub record TakesOnRecord (old : Running) (kind : Kind) (r : Record) (new : Running) : Type 0 where
-  pub fits : Fits old.process.host.host.limit kind r.answer
+  pub fits : Fits (text_limit old.process.host.host.version) kind r.answer
   pub appended : new.store ≡ with_record old.store r
   pub record_fits : RecordFits r
   pub room : length (record_bytes r) ≤ room_of old.store.geometry old.store.journal
@@ -212,7 +213,7 @@ pub record TakesOnRecord (old : Running) (kind : Kind) (r : Record) (new : Runni
 -- an answer that fits isn't kept on record
 pub record LacksRecord (old : Running) (kind : Kind) (r : Record) (why : WorkFault)
     (new : Running) : Type 0 where
-  pub fits : Fits old.process.host.host.limit kind r.answer
+  pub fits : Fits (text_limit old.process.host.host.version) kind r.answer
   pub fault : StoreFault
   pub fails : AppendFails old.store r fault
   pub is : why ≡ fault_of_store fault
@@ -221,7 +222,7 @@ pub record LacksRecord (old : Running) (kind : Kind) (r : Record) (why : WorkFau
 -- an answer that fits is one that the process doesn't take
 pub record IsNotTaken (old : Running) (kind : Kind) (r : Record) (why : WorkFault)
     (new : Running) : Type 0 where
-  pub fits : Fits old.process.host.host.limit kind r.answer
+  pub fits : Fits (text_limit old.process.host.host.version) kind r.answer
   pub fault : ProcessFault
   pub given : GivesAnswer old.process r.answer (Err fault) new.process
   pub is : why ≡ Work (slice_fault fault)
@@ -229,7 +230,7 @@ pub record IsNotTaken (old : Running) (kind : Kind) (r : Record) (why : WorkFaul
 -- an answer doesn't fit
 pub record IsMisfit (old : Running) (kind : Kind) (r : Record) (why : WorkFault)
     (new : Running) : Type 0 where
-  pub misfits : Fits old.process.host.host.limit kind r.answer → ⊥
+  pub misfits : Fits (text_limit old.process.host.host.version) kind r.answer → ⊥
   pub is : why ≡ Work slice.Source
   pub same : new ≡ old
 

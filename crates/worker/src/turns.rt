@@ -133,7 +133,11 @@ impl Running {
         ensures kept { HearsOrNot result self.old.store self.new.store }
         ensures places { self.new.store.geometry ≡ self.old.store.geometry }
     {
-        let does_fit = fits(self.process.host().limit(), kind, &entry.answer);
+        let does_fit = fits(
+            self.process.host().version().text_limit(),
+            kind,
+            &entry.answer,
+        );
         if !does_fit {
             return Err(WorkFault::Work(SliceFault::Source));
         }

@@ -8,7 +8,8 @@ use Rattle.wasi_abi.specs.rules.Configs.{Settings}
 use Rattle.file_tree.specs.rules.Files.{Files, IsFiles}
 use Rattle.wasi_calls_rules.specs.Hosts.{Descriptor, Line, Host, IsDescriptor}
 use Rattle.wasi_calls_rules.specs.Hosts.{IsHost}
-use Rattle.wasi_calls_rules.specs.declared.limits.TheConstants.{TEXT_BYTES}
+use Rattle.wasi_abi.specs.declared.version.Version.{Version}
+use Rattle.wasi_abi.specs.declared.version.Version.TheVariants.{One}
 use Rattle.wasi_calls.specs.declared.host.restoring.HostParts.{HostParts}
 use Rattle.wasi_calls.specs.declared.host.restoring.PartsFault.{PartsFault}
 use Rattle.wasi_calls.specs.declared.host.restoring.PartsFault.TheVariants as parts
@@ -114,9 +115,9 @@ no_descriptors_of_host fs old mid are next read none h rest is its_next stands =
 -- ---- the host
 
 unfoldable pub host_with : Files → List (Option Descriptor) → List ℕ → Bool → ℕ → List ℕ
-    → List ℕ → List Line → List (List ℕ) → List (List ℕ) → ℕ → ℕ → Host
+    → List ℕ → List Line → List (List ℕ) → List (List ℕ) → ℕ → Version → Host
 host_with files descriptors unread input_ended last_monotonic first second lines arguments
-    environment room limit = record {
+    environment room version = record {
       files = files;
       descriptors = descriptors;
       unread = unread;
@@ -128,7 +129,7 @@ host_with files descriptors unread input_ended last_monotonic first second lines
       arguments = arguments;
       environment = environment;
       room = room;
-      limit = limit;
+      version = version;
     }
 
 -- lines that were emitted count for nothing
@@ -152,7 +153,7 @@ pub host_of_parts : (config : Settings) (counts : ReadCounts) (end : ReadEnd)
     (streams : StreamTexts) (p : HostParts) (old new : List ℕ)
     → AreReadParts counts end streams p old new → (h : Host) (rest : List ℕ) → IsHost h
     → h.files.next < 2 ^ 64 → IsToldHost config counts end streams h
-    → old ≡ host_bytes h ++ rest → IsHost (held_host_from config TEXT_BYTES p).host
+    → old ≡ host_bytes h ++ rest → IsHost (held_host_from config One p).host
 unfolding host_with
 host_of_parts config counts end streams p old new read h rest is next told stands =
     let others = items_bytes (descriptor_bytes p.tree) (open_from 0 p.descriptors.items) in
@@ -168,12 +169,12 @@ host_of_parts config counts end streams p old new read h rest is next told stand
     let first = told.first ∙ sym read.first in
     let second = told.second ∙ sym read.second in
     let room = told.configured.room in
-    let limit = told.configured.limit in
+    let version = told.configured.version in
     let arguments = told.configured.arguments in
     let environment = told.configured.environment in
     let whole : host_with h.files h.descriptors h.unread h.input_ended h.last_monotonic h.first
-    h.second [] h.arguments h.environment h.room h.limit
-    ≡ (held_host_from config TEXT_BYTES p).host = rw (
+    h.second [] h.arguments h.environment h.room h.version
+    ≡ (held_host_from config One p).host = rw (
       files,
       descriptors,
       unread,
@@ -184,7 +185,7 @@ host_of_parts config counts end streams p old new read h rest is next told stand
       arguments,
       environment,
       room,
-      limit,
+      version,
     ) refl in
     subst IsHost whole (without_lines h is)
 

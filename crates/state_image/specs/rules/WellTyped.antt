@@ -43,7 +43,7 @@ IsAlive (Some why) s = (s.machine.frames ≡ []) × (s.machine.later ≡ []) × 
 -- what no call changes is as the configuration has it
 pub record IsConfigured (config : Settings) (h : Host) : Type 0 where
   pub room : h.room ≡ (host_of config).room
-  pub limit : h.limit ≡ (host_of config).limit
+  pub version : h.version ≡ (host_of config).version
   pub arguments : h.arguments ≡ config.arguments
   pub environment : h.environment ≡ config.environment
 

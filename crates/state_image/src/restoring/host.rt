@@ -15,9 +15,8 @@ use crate::restoring::fault::RestoreFault;
 use crate::restoring::files::restore_files;
 use file_tree::Tree;
 use std::alloc::Global;
-use wasi_abi::Config;
+use wasi_abi::{Config, Version};
 use wasi_calls::{Host, HostParts, PartsFault};
-use wasi_calls_rules::limits::TEXT_BYTES;
 
 /// The host of this configuration of which this was told, and whose files and descriptors stand
 /// next in an image. It reads each byte once. No line waits.
@@ -36,7 +35,7 @@ pub fn restore_host(
         → reader.old ≢ host_bytes h ++ rest }
 {
     let parts = read_parts(alloc, counts, end, streams, reader)?;
-    Ok(Host::from_parts(alloc, config, TEXT_BYTES, parts)?)
+    Ok(Host::from_parts(alloc, config, Version::One, parts)?)
 }
 
 /// The parts of a host of which this was told, and whose files and descriptors stand next in an

@@ -8,11 +8,10 @@ use Rattle.wasi_abi.specs.declared.answer.Answer.{Answer}
 use Rattle.wasi_abi.specs.rules.Answers.{Fits}
 use Rattle.wasi_abi.specs.rules.Versions.{text_limit}
 use Rattle.wasi_calls_rules.specs.Hosts.{Host}
-use Rattle.wasi_calls_rules.specs.declared.limits.TheConstants.{TEXT_BYTES}
 use Rattle.process_rules.specs.Processes.{ProcessState, Guest}
 use Rattle.process_rules.specs.Runs.{Moves, Wants, next_of, none}
 use Rattle.process_rules.proofs.Growing.{move_counts}
-use Rattle.process_rules.proofs.Hosted.{reached_are_configured}
+use Rattle.process_rules.proofs.Hosted.{reached_versions}
 use Rattle.process.specs.declared.fault.ProcessFault.{ProcessFault}
 use Rattle.process.specs.declared.fault.ProcessFault.TheVariants as stop
 use Rattle.process.specs.rules.Values.{ProcessValue, ShowsProcess}
@@ -112,7 +111,7 @@ module _ {D : Type 0} (medium : D → Medium) (c : Course) (promise : Promise) (
   wants_there = subst (λ (g : Guest). next_of g p None ≡ Wants kind) (sym by_answers.guest_is)
       asking.wants
 
-  same_limit : text_limit p.host.version ≡ w.process.host.host.limit
+  same_limit : text_limit p.host.version ≡ text_limit w.process.host.host.version
   same_limit =
       let running = asking.running in
       let shows = running.shows in
@@ -334,9 +333,9 @@ module _ {D : Type 0} (medium : D → Medium) (c : Course) (promise : Promise) (
 
       short : length (payload_of a) ≤ LONGEST_PAYLOAD
       short =
-          let configured = reached_are_configured c.code c.config promise.kept p.steps p
+          let version = reached_versions c.code c.config promise.kept p.steps p
           by_answers.reached in
-          let limit : text_limit p.host.version ≡ TEXT_BYTES = configured.limit in
+          let limit : text_limit p.host.version ≡ LONGEST_PAYLOAD = ap text_limit version in
           short_payload c.guest p kind a asking.wants (omega (arith, limit)) fits
 
       -- no record is wanting but for memory

@@ -225,7 +225,7 @@ module _ {S O : Type 0} (gives : Giving S) (takes : Taking O) where
       }
 
       bad_vainly : ((guest : Guest) (p : ProcessState) (shows : ShowsProcess old guest p)
-          → IsBadAnswer (so_far guest p shows).process.host.limit kind said)
+          → IsBadAnswer (text_limit (so_far guest p shows).process.host.version) kind said)
           → SlicesOnDiskInVain gives takes old fuel (Work slice.Source) new s u o q
       bad_vainly bad guest p shows = (
         asks_here guest p shows,
@@ -274,13 +274,13 @@ module _ {S O : Type 0} (gives : Giving S) (takes : Taking O) where
     module _ (mid new : Running) (step : ℕ) (u : S) (why : WorkFault)
         (same : mid.process ≡ v) where
       same_limit : (guest : Guest) (p : ProcessState) (shows : ShowsProcess old guest p)
-          → (so_far guest p shows).process.host.limit ≡ mid.process.host.host.limit
+          → text_limit (so_far guest p shows).process.host.version ≡ text_limit mid.process.host.host.version
       same_limit guest p shows =
           let g = so_far guest p shows in
           let shown = g.shows in
           let host = shown.host in
           ap (λ (h : Host). text_limit h.version) host.is
-          ∙ ap (λ (x : ProcessValue). x.host.host.limit) (sym same)
+          ∙ ap (λ (x : ProcessValue). text_limit x.host.host.version) (sym same)
 
       misfit_vainly : (a : Answer) → gives t kind (Ok (Some a)) u
           → IsMisfit mid kind (record { step = step; answer = a }) why new

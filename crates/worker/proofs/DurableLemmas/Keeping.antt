@@ -5,6 +5,7 @@ use Rattle.std.proofs.Common.{Ok, Err, ◌≤◌, subst}
 use Rattle.std.specs.Prelude.{◌↔◌, IsTrue}
 use Rattle.wasi_abi.specs.declared.answer.Kind.{Kind}
 use Rattle.wasi_abi.specs.rules.Answers.{Fits}
+use Rattle.wasi_abi.specs.rules.Versions.{text_limit}
 use Rattle.process.specs.declared.fault.ProcessFault.{ProcessFault}
 use Rattle.process.specs.rules.Values.{ProcessValue, IsProcess}
 use Rattle.process.specs.rules.Stops.{GivesAnswer}
@@ -23,9 +24,9 @@ use Rattle.ephemeral_worker.specs.rules.Refusals.{slice_fault}
 use Rattle.worker.specs.DurableTurns.{TakesOnRecord, TakesNone}
 
 module _ (old : Running) (kind : Kind) (r : Record) (limit : ℕ)
-    (limit_is : limit ≡ old.process.host.host.limit) (does_fit : Bool)
+    (limit_is : limit ≡ text_limit old.process.host.host.version) (does_fit : Bool)
     (fitting : IsTrue does_fit ↔ Fits limit kind r.answer) where
-  fits_there : does_fit ≡ true → Fits old.process.host.host.limit kind r.answer
+  fits_there : does_fit ≡ true → Fits (text_limit old.process.host.host.version) kind r.answer
   fits_there is = subst (λ n. Fits n kind r.answer) limit_is (fitting.0 is)
 
   -- it doesn't fit

@@ -6,18 +6,19 @@ use Rattle.worker.proofs.DurableLemmas.Keeping.{answer_refused}
 use Rattle.worker.proofs.DurableLemmas.Keeping.{answer_taken}
 use Rattle.worker.proofs.StoreTurnLemmas.{append_hears, append_cause, taken_cause}
 use Rattle.worker.proofs.running.Running.keep.Goals as goal
+use Rattle.wasi_abi.specs.rules.Versions.{text_limit}
 
 pub returns-then-not-does_fit-clause-not_taken : goal.returns-then-not-does_fit-clause-not_taken
 returns-then-not-does_fit-clause-not_taken c =
-    misfit_refused c.args.self.now c.args.kind c.args.entry c.limit.result
-    (c.limit.ensures ∙ ap (λ (h : HeldHost). h.host.limit) c.host.ensures) c.fits-does_fit.result
+    misfit_refused c.args.self.now c.args.kind c.args.entry c.text_limit.result
+    (c.text_limit.ensures ∙ ap text_limit (c.version.ensures ∙ ap (λ (h : HeldHost). h.host.version) c.host.ensures)) c.fits-does_fit.result
     c.fits-does_fit.ensures c.if-not-does_fit.true
 
 pub returns-in_err-append-clause-not_taken : goal.returns-in_err-append-clause-not_taken
 returns-in_err-append-clause-not_taken c =
     let p = err_from_is_err_and c.from_residual.result c.from_residual.ensures.1 in
-    rw (p.1, p.2) (record_lacking c.args.self.now c.args.kind c.args.entry c.limit.result
-    (c.limit.ensures ∙ ap (λ (h : HeldHost). h.host.limit) c.host.ensures) c.fits-does_fit.result
+    rw (p.1, p.2) (record_lacking c.args.self.now c.args.kind c.args.entry c.text_limit.result
+    (c.text_limit.ensures ∙ ap text_limit (c.version.ensures ∙ ap (λ (h : HeldHost). h.host.version) c.host.ensures)) c.fits-does_fit.result
     c.fits-does_fit.ensures c.if-not-does_fit.false c.args.self.now.process c.append.new.self
     c.in_err-append.field-0.0 c.in_err-append.ensures.cause)
 
@@ -25,15 +26,15 @@ pub returns-in_err-give-clause-not_taken : goal.returns-in_err-give-clause-not_t
 returns-in_err-give-clause-not_taken c =
     let p = err_from_is_err_and c.from_residual-in_err-give.result
     c.from_residual-in_err-give.ensures.1 in
-    rw (p.1, p.2) (answer_refused c.args.self.now c.args.kind c.args.entry c.limit.result
-    (c.limit.ensures ∙ ap (λ (h : HeldHost). h.host.limit) c.host.ensures) c.fits-does_fit.result
+    rw (p.1, p.2) (answer_refused c.args.self.now c.args.kind c.args.entry c.text_limit.result
+    (c.text_limit.ensures ∙ ap text_limit (c.version.ensures ∙ ap (λ (h : HeldHost). h.host.version) c.host.ensures)) c.fits-does_fit.result
     c.fits-does_fit.ensures c.if-not-does_fit.false c.give.new.self c.append.new.self
     c.in_err-give.field-0.0 c.in_err-give.ensures.gives)
 
 pub returns-clause-taken : goal.returns-clause-taken
 returns-clause-taken c =
-    answer_taken c.args.self.now c.args.kind c.args.entry c.limit.result
-    (c.limit.ensures ∙ ap (λ (h : HeldHost). h.host.limit) c.host.ensures) c.fits-does_fit.result
+    answer_taken c.args.self.now c.args.kind c.args.entry c.text_limit.result
+    (c.text_limit.ensures ∙ ap text_limit (c.version.ensures ∙ ap (λ (h : HeldHost). h.host.version) c.host.ensures)) c.fits-does_fit.result
     c.fits-does_fit.ensures c.if-not-does_fit.false c.give.new.self c.append.new.self
     c.in_ok-append.ensures.appended c.in_ok-append.ensures.fits c.in_ok-append.ensures.room
     c.in_ok-give.ensures.gives c.steps-is_numbered.ensures.shows c.in_ok-give.ensures.released
