@@ -1,7 +1,6 @@
 use Rattle.wasi_calls.specs.rules.Held.{held_host_of}
 use Rattle.wasi_calls.proofs.InputRows.{takes_answer, asks_for_another}
 use Rattle.wasi_calls.proofs.host.Host.fitting_answer.Goals as goal
-use Rattle.wasi_abi.specs.rules.Versions.{text_limit}
 
 pub returns-then-not-fits-clause-asks : goal.returns-then-not-fits-clause-asks
 returns-then-not-fits-clause-asks c =

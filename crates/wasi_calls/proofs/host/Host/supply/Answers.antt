@@ -3,7 +3,6 @@ use Rattle.std.specs.Prelude.{Ok, vec_len}
 use Rattle.std.proofs.lemmas.Bool.{eqb-true}
 use Rattle.wasi_abi.specs.declared.answer.Kind.TheVariants.{Request}
 use Rattle.wasi_abi.specs.rules.Answers.{Fits}
-use Rattle.wasi_abi.specs.rules.Versions.{text_limit}
 use Rattle.wasi_calls.specs.rules.Held.{held_host_of}
 use Rattle.wasi_calls.proofs.FileRows.{no_items}
 use Rattle.wasi_calls.proofs.InputRows.{asks_again, takes_line}
