@@ -1,11 +1,15 @@
 // A disk in a file of the operating system.
 ghost use Rattle.std.specs.Prelude.{◌≡◌, ◌<◌, ◌≤◌, ◌^◌, ◌*◌, ◌/◌, ◌↔◌, ℕ, [], IfErr, IfOk};
-ghost use Rattle.std.specs.Prelude.{IsErrOf, IsTrue, OnOk};
+ghost use Rattle.std.specs.Prelude.{IsErrOf, IsTrue, OnOk, false, true};
+ghost use Rattle.sector_disk.specs.declared.open_fault.OpenFault.TheVariants.{Io};
+ghost use Rattle.sector_disk.specs.declared.open_fault.OpenCause.TheVariants.{NoDevice, TooLarge};
 
 use crate::file_call::{Failure, FileCall, NO_BYTES};
 use crate::file_log::FileLog;
 use crate::folder::folder_of;
-use crate::{Disk, DiskFault, LockFile, NewFiles, OpenCause, OpenFault, SECTOR_SIZE, SizeFile};
+use crate::{
+    DeviceFile, Disk, DiskFault, LockFile, NewFiles, OpenCause, OpenFault, SECTOR_SIZE, SizeFile,
+};
 use std::fs::{File, OpenFile, OpenOptions};
 use std::os::unix::fs::FileExt;
 use std::rt::Files;
@@ -33,8 +37,6 @@ pub struct FileDisk<F> {
 impl<F: OpenFile + FileExt + LockFile + SizeFile> FileDisk<F> {
     ghost use Rattle.sector_disk.specs.rules.File.{file_medium, answers_of, file_of};
     ghost use Rattle.sector_disk.specs.rules.Open.{IsUnmade};
-    ghost use Rattle.sector_disk.specs.declared.open_fault.OpenFault.TheVariants.{Io};
-    ghost use Rattle.sector_disk.specs.declared.open_fault.OpenCause.TheVariants.{TooLarge};
 
     /// Makes a file of so many sectors of zeros, locks it, and makes its entry in its folder
     /// durable. It fails where there is such a path already, and from 2^54 sectors on. All zeros
@@ -75,6 +77,39 @@ impl<F: OpenFile + FileExt + LockFile + SizeFile> FileDisk<F> {
         }
     }
 
+    /// Takes so many sectors of a block device that is there, locks it, and writes zeros to them. It
+    /// fails where the path is no block device, where the device has fewer sectors, and from 2^54
+    /// sectors on. What the device has behind these sectors stays. It makes and removes no file.
+    pub fn create_on_device<R: Files<File = F>>(
+        files: &R,
+        path: &str,
+        sectors: u64,
+    ) -> Result<FileDisk<F>, OpenFault>
+    where
+        F: DeviceFile + Drop,
+        ensures sectors { IfOk result (λ d. (file_medium d).sectors ≡ sectors) }
+        ensures device { IfOk result (λ d. IsTrue (F.is_found_device (file_of d) true)) }
+        ensures room { IfOk result (λ d. (bytes : ℕ)
+            × IsTrue (F.is_measured_at (file_of d) bytes) × (sectors ≤ bytes / SECTOR_SIZE)) }
+        ensures fresh { IfOk result (λ d. answers_of d ≡ []) }
+        ensures locked { IfOk result (λ d. IsTrue (F.is_locked (file_of d))) }
+        ensures busy { IsErrOf result OpenFault.Busy → ((file : F) × IsTrue (F.is_refused file)) }
+        ensures large { 2 ^ 54 ≤ sectors → IsErrOf result (Io TooLarge) }
+        ensures other { IsErrOf result (Io NoDevice)
+            → ((file : F) × IsTrue (F.is_found_device file false)) }
+    {
+        if sectors >= SECTORS_END {
+            return Err(OpenFault::Io(OpenCause::TooLarge));
+        }
+        let file = OpenOptions::new().read(true).write(true).open(files, path)?;
+        take_device(&file, sectors)?;
+        Ok(FileDisk {
+            file,
+            count: sectors,
+            past: FileLog::new(),
+        })
+    }
+
     /// Opens a file and locks it, before anything of it is read. Bytes past its last whole sector
     /// are left alone.
     pub fn open<R: Files<File = F>>(files: &R, path: &str) -> Result<FileDisk<F>, OpenFault>
@@ -89,10 +124,10 @@ impl<F: OpenFile + FileExt + LockFile + SizeFile> FileDisk<F> {
     {
         let file = OpenOptions::new().read(true).write(true).open(files, path)?;
         lock(&file)?;
-        let found = file.measure()?;
+        let bytes = file.measure()?;
         Ok(FileDisk {
             file,
-            count: found.len() / SECTOR_SIZE as u64,
+            count: bytes / SECTOR_SIZE as u64,
             past: FileLog::new(),
         })
     }
@@ -102,6 +137,7 @@ impl<F: OpenFile + FileExt + LockFile + SizeFile> FileDisk<F> {
 fn lock<F: LockFile>(file: &F) -> Result<(), OpenFault>
     ensures locked { OnOk result (IsTrue (F.is_locked file.now)) }
     ensures busy { IsErrOf result OpenFault.Busy → IsTrue (F.is_refused file.now) }
+    ensures device { IsErrOf result (Io NoDevice) → ⊥ }
 {
     file.try_lock()?;
     Ok(())
@@ -127,10 +163,50 @@ fn settle<F: OpenFile + FileExt + LockFile + SizeFile, R: Files>(
     sync_folder(files, path)
 }
 
+/// Locks a file that is a block device with so many sectors, and fills these.
+fn take_device<F: OpenFile + FileExt + LockFile + SizeFile + DeviceFile>(
+    file: &F,
+    sectors: u64,
+) -> Result<(), OpenFault>
+    requires { sectors < 2 ^ 54 }
+    ensures device { OnOk result (IsTrue (F.is_found_device file.now true)) }
+    ensures room { OnOk result ((bytes : ℕ) × IsTrue (F.is_measured_at file.now bytes)
+        × (sectors ≤ bytes / SECTOR_SIZE)) }
+    ensures locked { OnOk result (IsTrue (F.is_locked file.now)) }
+    ensures busy { IsErrOf result OpenFault.Busy → IsTrue (F.is_refused file.now) }
+    ensures other { IsErrOf result (Io NoDevice) → IsTrue (F.is_found_device file.now false) }
+{
+    if !file.is_block_device()? {
+        return Err(OpenFault::Io(OpenCause::NoDevice));
+    }
+    lock(file)?;
+    if file.measure()? / (SECTOR_SIZE as u64) < sectors {
+        return Err(OpenFault::Io(OpenCause::NoRoom));
+    }
+    fill_device(file, sectors)
+}
+
+/// Fills so many sectors of a block device with zeros, and makes these durable.
+fn fill_device<F: OpenFile + FileExt + LockFile + DeviceFile>(
+    file: &F,
+    sectors: u64,
+) -> Result<(), OpenFault>
+    requires bound { sectors < 2 ^ 54 }
+    requires device { IsTrue (F.is_found_device file.now true) }
+    requires locked { IsTrue (F.is_locked file.now) }
+    ensures busy { IsErrOf result OpenFault.Busy → ⊥ }
+    ensures device { IsErrOf result (Io NoDevice) → ⊥ }
+{
+    fill(file, sectors)?;
+    file.sync_all()?;
+    Ok(())
+}
+
 /// Writes zeros to so many sectors.
 fn fill<F: FileExt>(file: &F, sectors: u64) -> Result<(), OpenFault>
     requires { sectors < 2 ^ 54 }
-    ensures { IsErrOf result OpenFault.Busy → ⊥ }
+    ensures busy { IsErrOf result OpenFault.Busy → ⊥ }
+    ensures device { IsErrOf result (Io NoDevice) → ⊥ }
 {
     for sector in 0..sectors {
         file.write_all_at(&NO_BYTES, sector * SECTOR_SIZE as u64)?;

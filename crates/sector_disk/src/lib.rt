@@ -17,10 +17,11 @@
 //! - `FileDisk` logs each call that it made of its file, with the answer. After a write or a sync
 //!   that failed every call answers `Io`, and the file isn't asked (`logged`). `create` gives a
 //!   disk of so many sectors (`sectors`), and makes its file as long as these (`resized`). `open`
-//!   gives the whole sectors of a length that its file said (`measured`). Both begin with an empty
-//!   log (`fresh`), and answer Ok only with the file's lock (`locked`). No clause says that
-//!   `create` fills the file with zeros, and then syncs it and the folder that has its entry
-//!   (`folder_of`). `scripts/file-calls` shows that.
+//!   gives the whole sectors before the end that its file said (`measured`). `create_on_device`
+//!   gives a disk of so many sectors on a block device that has them (`device`, `room`). All begin
+//!   with an empty log (`fresh`), and answer Ok only with the file's lock (`locked`). No clause
+//!   says that `create` fills the file with zeros, and then syncs it and the folder that has its
+//!   entry (`folder_of`). `scripts/file-calls` shows that.
 //! - `OpenFault` says why they failed: another host has the file (`busy`), or what the operating
 //!   system said of the path (`open_cause`).
 //! - `rewrite` writes each sector of a disk back as it reads it, and syncs. At no moment does it
@@ -29,8 +30,8 @@
 //!   leaves of each some front (`any_moment`). After Ok each cut leaves all of them (`stored`).
 //!   There are never more unsynced writes than before and these (`counts`). They are written in
 //!   rising order, and `store_run` then syncs once (`calls`).
-//! - `LockFile` and `SizeFile` are what a file must answer for its lock and its length, so that
-//!   clauses can say that it was asked.
+//! - `LockFile`, `SizeFile` and `DeviceFile` are what a file must answer for its lock, its length
+//!   and its kind, so that clauses can say that it was asked.
 //! - `laws`: how many bytes a sector has (`sector_size_is`, of `SECTOR_SIZE`), and
 //!   `worked_examples`.
 //!
@@ -67,11 +68,15 @@
 //!   far as code can know. So a body that opens without it isn't proved. `File` says nothing more
 //!   of its handles. Where a file system has no locks, its files aren't opened (`Other`).
 //! - **A disk has the length that its file said.** The kit's contracts say nothing of what a file
-//!   answers, so `SizeFile` stands for it as `LockFile` does for the lock. It hands on what the
-//!   system said as a whole, and `open` takes the length of that. So its impl for `File` counts
-//!   nothing. `create` makes a file as long by it (`is_resized_to`). That the file is then filled
-//!   and synced could be said so too, but not that it is in this order. So that is left to
+//!   answers, so `SizeFile` stands for it as `LockFile` does for the lock. The impl for `File` seeks
+//!   the end, and hands its place on: the length that the system tells of a block device is 0.
+//!   `create` makes a file as long by it (`is_resized_to`). That the file is then filled and synced
+//!   could be said so too, but not that it is in this order. So that is left to
 //!   `scripts/file-calls`.
+//! - **A device is taken only where one is asked for**, since what it holds is lost. A call of its
+//!   own does so, and it refuses a path that isn't a block device. Only a handle that was found to
+//!   be one, and that has the lock, is filled (`fill_device`). A device has a length and a name
+//!   already: it is given neither, and its folder isn't synced. `open` takes both kinds.
 //! - **`OpenFault` is a type of its own**, apart from `DiskFault`. A disk that is open is never
 //!   busy, and a fault of a path is of no use to a journal. It carries a cause for a person, whose
 //!   words the program has. `K2 Io` stays the one word of all failures of the system.
@@ -88,6 +93,7 @@
 //!   stay as they are. An empty one is a disk of no sectors.
 #![tactic(auto)]
 
+mod device;
 mod disk;
 mod disk_call;
 mod fault;
@@ -112,6 +118,7 @@ mod size;
 mod trouble;
 mod write;
 
+pub use device::DeviceFile;
 pub use disk::Disk;
 pub use fault::DiskFault;
 pub use fault_disk::FaultDisk;

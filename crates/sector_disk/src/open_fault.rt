@@ -35,5 +35,7 @@ pub enum OpenCause {
     LongName,
     /// The links of the path lead nowhere.
     Loop,
+    /// A block device is wanted, and the path is none.
+    NoDevice,
     Other,
 }
