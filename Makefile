@@ -10,7 +10,7 @@ UNITDIR ?= $(LIBDIR)/systemd/system
 
 # A release has the program beside this file.
 PROGRAM := $(or $(wildcard wasmhost),crates/wasmhost/out/wasmhost)
-DOCS := README.md docs/COMMANDS.md docs/FORMATS.md docs/WORKERS.md
+DOCS := README.md docs/COMMANDS.md docs/DEPLOYMENT.md docs/FORMATS.md docs/WORKERS.md
 UNIT := wasmhost@.service
 
 # Tells the story of a worker whose power is cut twice. It proves nothing.
