@@ -7,7 +7,7 @@ use wasmhost_commands::{CreateOrder, Order, RunOrder, StoryOrder, WordsFault, re
 /// Words, and the status of what is read: 0 for an order.
 type StatusRow = (&'static [&'static str], u8);
 
-static STATUSES: [StatusRow; 25] = [
+static STATUSES: [StatusRow; 26] = [
     (&["wasmhost"], 2),
     (&["wasmhost", "open", "a"], 2),
     (&["wasmhost", "check"], 2),
@@ -23,6 +23,7 @@ static STATUSES: [StatusRow; 25] = [
         &["wasmhost", "create", "a.disk", "a.wasm", "--pages", "0"],
         0,
     ),
+    (&["wasmhost", "create", "a.disk", "a.wasm", "--device"], 0),
     (&["wasmhost", "create", "--help"], 0),
     (&["wasmhost", "run"], 2),
     (&["wasmhost", "run", "-h"], 0),

@@ -11,7 +11,8 @@
 //!
 //! - It reads the command line, and opens the files that it names.
 //! - `check` and `create` hand over a module's bytes. `create` has the disk's file made by
-//!   `create_file`, once the module and its configuration are accepted.
+//!   `create_file`, or its device taken by `create_device`, once the module and its configuration
+//!   are accepted.
 //! - `story` and `sweep` hand over all bytes of a script, and a module's bytes. They read them in
 //!   this order.
 //! - `run` and `show` open the disk's file by `open_disk` and `show_file`. One host holds it at a
@@ -47,10 +48,10 @@ use std::rt::{Env, Files};
 use std::time::Clock;
 use wasmhost_commands::{
     BufferedLines, CreateOrder, LineOutlet, NewDisk, Obstacle, Order, Outside, Pace, Printer,
-    RequestSource, RunOrder, Sizes, StoryOrder, SweepChoice, SweepOrder, check_bytes, create_file,
-    fronts_of, open_disk, prepare, read_module, read_script, read_seed, read_sweep, read_words,
-    report, report_input, report_script, report_sweep_script, report_unprepared, report_unread,
-    report_words, serve, show_file, tell, tell_sweep,
+    RequestSource, RunOrder, Sizes, StoryOrder, SweepChoice, SweepOrder, check_bytes,
+    create_device, create_file, fronts_of, open_disk, prepare, read_module, read_script, read_seed,
+    read_sweep, read_words, report, report_input, report_script, report_sweep_script,
+    report_unprepared, report_unread, report_words, serve, show_file, tell, tell_sweep,
 };
 
 /// It is read to keep a number from other files. It has no bytes, and takes none from a reader.
@@ -103,7 +104,8 @@ fn check<R: Files, W: Write + Drop, E: Write + Drop>(
     }
 }
 
-/// Makes the disk's file, once module and configuration are accepted, and a worker on it.
+/// Makes the disk's file, or takes its device, once module and configuration are accepted. Then a
+/// worker is made on it.
 fn create<R: Files<File = File>, W: Write + Drop, E: Write + Drop>(
     rt: &R,
     alloc: Global,
@@ -133,7 +135,12 @@ fn create<R: Files<File = File>, W: Write + Drop, E: Write + Drop>(
         wasm: wasm.as_slice(),
         prepared: &prepared,
     };
-    create_file(alloc, rt, new, &mut Printer::new(out, false), err)
+    let out = &mut Printer::new(out, false);
+    if order.on_device {
+        create_device(alloc, rt, new, out, err)
+    } else {
+        create_file(alloc, rt, new, out, err)
+    }
 }
 
 /// The seed that the words give, or zeros, which anyone can foresee.

@@ -19,7 +19,8 @@
 //!   status of what it tells, or 7. It tells the bounds of what is out of them (`range`), and the
 //!   limit that a module passes, with its place (`limit`).
 //! - `create_file` is `create_on` of a disk whose file it makes. Where the status isn't 0 that file
-//!   is removed again, and no other one is (`CreatesFile`).
+//!   is removed again, and no other one is (`CreatesFile`). `create_device` is `create_on` of a
+//!   block device that is there (`CreatesOnDevice`).
 //! - `serve`: what each status of a run of the worker on a disk says (`serves`), with whatever
 //!   outlet it is lent. Where the worker was recovered, all that was done of the disk, the source
 //!   and the outlet are the calls of one life, in order: slices of its fuel, and checkpoints at its
@@ -81,7 +82,7 @@
 //!   Of the other statuses nothing more is said. `read_sweep`: the lives that the script spells, and
 //!   which one is swept (`AreSweptLives`). `fronts_of`: the fronts that a text spells.
 //! - `laws::faultless_words_mean`, `laws::worked_examples`: words without a fault mean an order,
-//!   with numbers in their ranges; seventy-eight command lines. What `--version` is told of the
+//!   with numbers in their ranges; eighty-one command lines. What `--version` is told of the
 //!   program is `version_words` (`HasVersion`).
 //!
 //! # Definitions to read
@@ -89,8 +90,8 @@
 //! In `specs/rules/`: `last_words` (`LastWords.antt`); `AsksUnless` (`Hearings.antt`);
 //! `GivesAnswers`, `GiveUpTo` (`Requests.antt`); `ComeFrom`, `requests_in` (`Outside.antt`);
 //! `seeded_bytes` (`Seeds.antt`); `printed`, `request_line` (`Texts.antt`);
-//! `CreatesOn`, `IsPreparedAs`, `IsUnprepared`, `config_as` (`Creations.antt`); `CreatesFile`
-//! (`MadeFiles.antt`);
+//! `CreatesOn`, `IsPreparedAs`, `IsUnprepared`, `config_as` (`Creations.antt`); `CreatesFile`,
+//! `CreatesOnDevice` (`MadeFiles.antt`);
 //! `wasmhost`, `version_words` (`CommandLine.antt`);
 //! `meaning_in`, `IsReading`, `IsStatusOf` (`Commands.antt`);
 //! `IsOutOfBounds`, `range_words` (`Bounds.antt`); `limit_text` (`ModuleLimits.antt`);
@@ -239,8 +240,8 @@ pub use lines::{
 };
 pub use module_bytes::read_module;
 pub use on_disk::{
-    NewDisk, Pace, create_file, create_on, open_disk, report_input, report_open, report_unread,
-    serve, show_file, survey,
+    NewDisk, Pace, create_device, create_file, create_on, open_disk, report_input, report_open,
+    report_unread, serve, show_file, survey,
 };
 pub use preparing::{Prepared, Unprepared, prepare, report_unprepared};
 pub use printer::Printer;

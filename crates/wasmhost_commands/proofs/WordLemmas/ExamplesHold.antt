@@ -23,6 +23,8 @@ create_examples = record {
   no_pages = (refl, refl, refl);
   the_most_pages = (refl, refl, refl);
   environment = (refl, refl, refl);
+  device = (refl, refl, refl);
+  device_behind_dashes = (refl, refl, refl);
   arguments = (refl, refl, refl);
   no_arguments = (refl, refl, refl);
 }
@@ -93,6 +95,7 @@ option_mistakes = record {
   seed_twice = refl;
   rewrite_with_a_value = refl;
   rewrite_twice = refl;
+  device_of_a_run = refl;
   too_many_pages = refl;
   files_of_no_number = refl;
   journal_below_zero = refl;

@@ -35,7 +35,8 @@ use Rattle.wasmhost_commands.proofs.WordLemmas.Stops.{NoHelp, walk_on}
 use Rattle.wasmhost_commands.proofs.WordLemmas.Rows.{IsGood, added_good, options_are_taken}
 use Rattle.wasmhost_commands.proofs.WordLemmas.Rows.{path_is_there}
 use Rattle.wasmhost_commands.proofs.WordLemmas.Uses.{keeps_env, keeps_help, keeps_number, keeps_path}
-use Rattle.wasmhost_commands.proofs.WordLemmas.Uses.{keeps_fronts, keeps_rewrite, keeps_seed}
+use Rattle.wasmhost_commands.proofs.WordLemmas.Uses.{keeps_device, keeps_fronts, keeps_rewrite}
+use Rattle.wasmhost_commands.proofs.WordLemmas.Uses.{keeps_seed}
 
 -- ---- one level
 
@@ -64,6 +65,11 @@ no_rewrite : (rows : List Row) → Each IsGood rows
     → Each IsGood (with_values (codes "rewrite") AsWritten DefaultValue (codes "false" ∷ []) rows)
 no_rewrite rows good =
     added_good DefaultValue (codes "rewrite") (codes "false") rows (inr refl) good
+
+no_device : (rows : List Row) → Each IsGood rows
+    → Each IsGood (with_values (codes "device") AsWritten DefaultValue (codes "false" ∷ []) rows)
+no_device rows good =
+    added_good DefaultValue (codes "device") (codes "false") rows (inr refl) good
 
 -- good rows for which no fault is listed in the end have the paths of their command
 abbrev AsksForPaths : Shape → Type 0
@@ -163,13 +169,13 @@ module _ (name : Text) (words : List Text) (no_help : bytes_eq name (codes "help
               (
                 keeps_number 3 (codes "journal") 0
                     (λ v is. is),
-                (keeps_env 3, (keeps_help, tt)),
+                (keeps_env 3, (keeps_device 3, (keeps_help, tt))),
               ),
             ),
           ),
         ),
       )
-          (unused, (unused, (unused, (unused, (unused, (unused, (unused, tt)))))))
+          (unused, (unused, (unused, (unused, (unused, (unused, (no_device, (unused, tt))))))))
           (λ rows good e. inr (inl (two_paths (codes "create") (codes "DISK") (codes "MODULE")
           rows good e))) e,
       (

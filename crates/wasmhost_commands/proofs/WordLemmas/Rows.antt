@@ -26,6 +26,10 @@ abbrev pub counts_from_zero : Text → Bool
 counts_from_zero id = bytes_eq id (codes "pages") || (bytes_eq id (codes "files")
     || (bytes_eq id (codes "journal") || bytes_eq id (codes "clock")))
 
+-- and the flags
+abbrev pub is_flag : Text → Bool
+is_flag id = bytes_eq id (codes "rewrite") || bytes_eq id (codes "device")
+
 -- what is asked of the value of an argument
 pub data Asked : Type 0 where
   anything : Asked
@@ -34,7 +38,7 @@ pub data Asked : Type 0 where
 
 abbrev pub asked_of : Text → Asked
 asked_of id = cond (counts_from_one id) (number 1) (cond (counts_from_zero id) (number 0)
-    (cond (bytes_eq id (codes "rewrite")) flag anything))
+    (cond (is_flag id) flag anything))
 
 abbrev pub PassesAs : Asked → Text → Type 0
 PassesAs anything text = ⊤
@@ -130,4 +134,5 @@ options_are_taken rows good = record {
   clock = first_passes (codes "clock") rows good;
   life = first_passes (codes "life") rows good;
   rewrite = first_passes (codes "rewrite") rows good;
+  device = first_passes (codes "device") rows good;
 }

@@ -13,7 +13,7 @@ use Rattle.clap.specs.declared.error.kind.ErrorKind.TheVariants as kind
 use Rattle.clap.specs.declared.parser.matches.ValueSource.TheVariants.{CommandLine}
 use Rattle.clap.proofs.ValueTestLemmas.{accepts-Accepts}
 use Rattle.wasmhost_commands.specs.rules.CommandLine.{env_rule, number_rule, path_rule}
-use Rattle.wasmhost_commands.specs.rules.CommandLine.{fronts_rule, rewrite_rule, seed_rule}
+use Rattle.wasmhost_commands.specs.rules.CommandLine.{device_rule, fronts_rule, rewrite_rule, seed_rule}
 use Rattle.wasmhost_commands.specs.rules.Commands.{IsNumberFrom}
 use Rattle.wasmhost_commands.proofs.WordLemmas.Walks.{Keeps, no_first, no_second, some_kind}
 use Rattle.wasmhost_commands.proofs.WordLemmas.Rows.{IsGood, Passes, added_good, with_good}
@@ -97,6 +97,11 @@ keeps_env n (v ∷ w ∷ vs) rows e good =
 pub keeps_rewrite : (n : ℕ) → Keeps IsGood false (with_index n (filled rewrite_rule))
 keeps_rewrite n [] rows e good = with_good (codes "rewrite") (codes "true") rows (inl refl) good
 keeps_rewrite n (v ∷ vs) rows e good =
+    absurd (some_values v vs (no_first (range_kinds 0 0 (length (v ∷ vs))) _ e))
+
+pub keeps_device : (n : ℕ) → Keeps IsGood false (with_index n (filled device_rule))
+keeps_device n [] rows e good = with_good (codes "device") (codes "true") rows (inl refl) good
+keeps_device n (v ∷ vs) rows e good =
     absurd (some_values v vs (no_first (range_kinds 0 0 (length (v ∷ vs))) _ e))
 
 pub keeps_help : Keeps IsGood false (filled help_rule)

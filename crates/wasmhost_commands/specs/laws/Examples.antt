@@ -25,6 +25,7 @@ plain_creation = record {
   files = 16;
   journal = 256;
   environment = [];
+  on_device = false;
   arguments = [];
 }
 
@@ -101,6 +102,10 @@ pub record CreateOrderExamples : Type 0 where
   pub environment : Means
       (create_line (codes "--env" ∷ codes "a=b" ∷ codes "--env" ∷ codes "c=" ∷ []))
       (create (record plain_creation { environment = codes "a=b" ∷ codes "c=" ∷ [] }))
+  pub device : Means (create_line (codes "--device" ∷ []))
+      (create (record plain_creation { on_device = true }))
+  pub device_behind_dashes : Means (create_line (codes "--" ∷ codes "--device" ∷ []))
+      (create (record plain_creation { arguments = codes "--device" ∷ [] }))
   pub arguments : Means
       (create_line (codes "--" ∷ codes "--pages" ∷ codes "--" ∷ codes "b" ∷ []))
       (create (record plain_creation { arguments = codes "--pages" ∷ codes "--" ∷ codes "b" ∷ [] }))
@@ -199,6 +204,7 @@ pub record OptionMistakes : Type 0 where
       (kind.TooManyValues ∷ [])
   pub rewrite_twice : WordsFail (run_line (codes "--rewrite" ∷ codes "--rewrite" ∷ []))
       (kind.ArgumentConflict ∷ [])
+  pub device_of_a_run : WordsFail (run_line (codes "--device" ∷ [])) (kind.UnknownArgument ∷ [])
   pub too_many_pages : WordsFail
       (create_line (codes "--pages" ∷ codes "18446744073709551616" ∷ []))
       (kind.ValueValidation ∷ [])

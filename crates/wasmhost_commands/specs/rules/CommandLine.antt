@@ -49,6 +49,13 @@ rewrite_rule = record (new_rule (codes "rewrite")) {
   action = Some SetTrue;
 }
 
+-- the flag `--device`
+abbrev pub device_rule : Rule
+device_rule = record (new_rule (codes "device")) {
+  long = Some (codes "device");
+  action = Some SetTrue;
+}
+
 -- ---- commands
 
 -- a command with the argument DISK
@@ -68,9 +75,9 @@ abbrev pub sized_create_app : App
 sized_create_app = with_rule (with_rule (with_rule bare_create_app (number_rule (codes "pages") 0))
     (number_rule (codes "files") 0)) (number_rule (codes "journal") 0)
 
--- the same, with `--env` as often as it is wanted
+-- the same, with `--env` as often as it is wanted, and with `--device` where it is wanted
 abbrev pub create_app : App
-create_app = with_rule sized_create_app env_rule
+create_app = with_rule (with_rule sized_create_app env_rule) device_rule
 
 -- `run DISK`, with `--fuel` and `--every` where they are wanted
 abbrev pub paced_run_app : App

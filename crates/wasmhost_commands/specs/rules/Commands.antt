@@ -55,7 +55,7 @@ faults_in_words words = fault_of wasmhost (own_words words)
 -- ---- orders
 
 -- What a creation says: the paths of the disk and of the module, the environment and the arguments
--- as texts, and the others as numbers.
+-- as texts, whether the disk is a block device, and the others as numbers.
 pub record CreateMeaning : Type 0 where
   pub disk : Text
   pub «module» : Text
@@ -63,6 +63,7 @@ pub record CreateMeaning : Type 0 where
   pub files : ℕ
   pub journal : ℕ
   pub environment : List Text
+  pub on_device : Bool
   pub arguments : List Text
 
 -- What a run says: the disk's path and the seed as texts, whether it writes all sectors back first,
@@ -112,6 +113,7 @@ create_said order = record {
   files = order.files;
   journal = order.journal;
   environment = texts_in order.environment.items;
+  on_device = order.on_device;
   arguments = texts_in order.arguments.items;
 }
 
@@ -202,6 +204,7 @@ create_in rows arguments disk wasm = record {
   files = number_or (codes "files") 16 rows;
   journal = number_or (codes "journal") 256 rows;
   environment = environment_in rows;
+  on_device = flag_in (codes "device") rows;
   arguments = arguments;
 }
 
@@ -309,7 +312,7 @@ IsFlagText text = (text ≡ codes "true") ⊎ (text ≡ codes "false")
 abbrev pub TakesFlag : Text → List Row → Type 0
 TakesFlag name rows = IfSome (one_of name rows) IsFlagText
 
--- each number that is there is in its range, and the flag says yes or no
+-- each number that is there is in its range, and each flag says yes or no
 pub record TakesOptions (rows : List Row) : Type 0 where
   pub pages : TakesNumber 0 (codes "pages") rows
   pub files : TakesNumber 0 (codes "files") rows
@@ -319,6 +322,7 @@ pub record TakesOptions (rows : List Row) : Type 0 where
   pub clock : TakesNumber 0 (codes "clock") rows
   pub life : TakesNumber 1 (codes "life") rows
   pub rewrite : TakesFlag (codes "rewrite") rows
+  pub device : TakesFlag (codes "device") rows
 
 -- one of the six commands, with the paths that it needs
 abbrev pub HasPaths : Text → List Row → Type 0

@@ -1,9 +1,9 @@
--- A disk in a file that is made for a worker (this project's own).
+-- A disk that is made for a worker, in a new file or on a device (this project's own).
 use Rattle.std.specs.Prelude.{◌≡◌, ◌≢◌, ◌⊎◌, ℕ, Bool, List, IsTrue}
 use Rattle.std.specs.declared.io.ErrorKind.{ErrorKind}
 use Rattle.sector_disk.specs.declared.file.FileDisk.{FileDisk}
 use Rattle.sector_disk.specs.declared.open_fault.OpenFault.{OpenFault}
-use Rattle.sector_disk.specs.rules.File.{file_medium}
+use Rattle.sector_disk.specs.rules.File.{file_medium, file_of}
 use Rattle.sector_disk.specs.rules.Open.{IsUnmade}
 use Rattle.wasmhost_commands.specs.declared.preparing.Prepared.{Prepared}
 use Rattle.wasmhost_commands.specs.rules.Creations.{CreatesOn}
@@ -30,3 +30,22 @@ CreatesFile F refused made removed path bytes prepared out out' err err' status 
     ((why : OpenFault) × IsUnmade refused made removed prepared.sectors why
     × SaysLine (open_words path why) 4 err status err' × (out' ≡ out))
     ⊎ IsCreatedInFile F removed bytes prepared out out' err err' status
+
+-- ---- on a device
+
+-- The disk is on such a device, of as many sectors as are needed, and the worker is created on it.
+pub record IsCreatedOnDevice {F : Type 0} (is_device : F → Bool) (bytes : List ℕ)
+    (prepared : Prepared) (out out' err err' : PrinterState) (status : ℕ) : Type 0 where
+  pub disk : FileDisk F
+  pub disk' : FileDisk F
+  pub device : IsTrue (is_device (file_of disk))
+  pub untouched : IsUntouched disk
+  pub sectors : (file_medium disk).sectors ≡ prepared.sectors
+  pub creates : CreatesOn file_medium bytes prepared.config disk disk' out out' err err' status
+
+-- It is said why the path can't be taken. Or the worker is created on the device that it names.
+abbrev pub CreatesOnDevice : {F : Type 0} → (F → Bool) → List ℕ → List ℕ → Prepared
+    → PrinterState → PrinterState → PrinterState → PrinterState → ℕ → Type 0
+CreatesOnDevice is_device path bytes prepared out out' err err' status =
+    ((why : OpenFault) × SaysLine (open_words path why) 4 err status err' × (out' ≡ out))
+    ⊎ IsCreatedOnDevice is_device bytes prepared out out' err err' status

@@ -30,6 +30,7 @@ cause_words cause.Quota = codes "disk quota exceeded"
 cause_words cause.TooLarge = codes "file too large"
 cause_words cause.LongName = codes "file name too long"
 cause_words cause.Loop = codes "too many levels of symbolic links"
+cause_words cause.NoDevice = codes "block device required"
 cause_words cause.Other = codes "the system failed"
 
 -- the fault, and on a line of its own the path and what the operating system says of it

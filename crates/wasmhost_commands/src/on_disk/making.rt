@@ -1,13 +1,13 @@
-//! `wasmhost create`, on a disk whose file is made for it.
+//! `wasmhost create`, on a disk whose file is made for it, or on a device.
 
-ghost use Rattle.std.specs.Prelude.{◌≤◌};
-ghost use Rattle.wasmhost_commands.specs.rules.MadeFiles.{CreatesFile};
+ghost use Rattle.std.specs.Prelude.{◌≤◌, true};
+ghost use Rattle.wasmhost_commands.specs.rules.MadeFiles.{CreatesFile, CreatesOnDevice};
 
 use crate::on_disk::creation::create_on;
 use crate::on_disk::opening::report_open;
 use crate::preparing::Prepared;
 use crate::printer::Printer;
-use sector_disk::{FileDisk, LockFile, NewFiles, SizeFile};
+use sector_disk::{DeviceFile, FileDisk, LockFile, NewFiles, SizeFile};
 use std::alloc::Global;
 use std::fs::OpenFile;
 use std::io::Write;
@@ -17,7 +17,7 @@ use std::rt::Files;
 /// A disk that is to be made, and the worker that is to be created on it.
 #[derive(Clone, Copy)]
 pub struct NewDisk<'a> {
-    /// The path of its file.
+    /// The path of its file, or of its device.
     pub path: &'a str,
     /// The bytes of the worker's module.
     pub wasm: &'a [u8],
@@ -59,4 +59,34 @@ where
         files.remove_new(path);
     }
     status
+}
+
+/// `wasmhost create --device`: a worker is created on a block device that is there. Nothing is made
+/// or removed. Returns the exit status.
+pub fn create_device<F, R, W, E>(
+    alloc: Global,
+    files: &R,
+    new: NewDisk<'_>,
+    out: &mut Printer<W>,
+    err: &mut Printer<E>,
+) -> u8
+where
+    F: OpenFile + FileExt + LockFile + SizeFile + DeviceFile + Drop,
+    R: Files<File = F>,
+    W: Write + Drop,
+    E: Write + Drop,
+    ensures creates { CreatesOnDevice (λ file. F.is_found_device file true) new.entry.path.now
+        new.entry.wasm.now new.entry.prepared.now out.old out.new err.old err.new result }
+    ensures known { result ≤ 7 }
+{
+    let NewDisk {
+        path,
+        wasm,
+        prepared,
+    } = new;
+    let mut disk = match FileDisk::create_on_device(files, path, prepared.sectors) {
+        Ok(disk) => disk,
+        Err(fault) => return report_open(err, path, fault),
+    };
+    create_on(alloc, &mut disk, wasm, &prepared.config, out, err)
 }

@@ -15,7 +15,7 @@ pub use creation::create_on;
 pub use disk_file::{open_disk, show_file};
 pub use leaving::report_input;
 pub use living::Pace;
-pub use making::{NewDisk, create_file};
+pub use making::{NewDisk, create_device, create_file};
 pub use opening::{report_open, report_unread};
 pub use serving::serve;
 pub use showing::survey;

@@ -27,6 +27,7 @@ fn words_of_cause(cause: OpenCause) -> &'static str
         OpenCause::TooLarge => "file too large",
         OpenCause::LongName => "file name too long",
         OpenCause::Loop => "too many levels of symbolic links",
+        OpenCause::NoDevice => "block device required",
         OpenCause::Other => "the system failed",
     }
 }

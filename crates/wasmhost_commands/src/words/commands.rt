@@ -3,7 +3,7 @@
 ghost use Rattle.std.specs.Prelude.{IfOk, codes};
 ghost use Rattle.wasmhost_commands.specs.rules.CommandLine.{IsArgument, IsCommand, bare_app};
 ghost use Rattle.wasmhost_commands.specs.rules.CommandLine.{bare_create_app, bare_script_app};
-ghost use Rattle.wasmhost_commands.specs.rules.CommandLine.{check_app, create_app, disk_app};
+ghost use Rattle.wasmhost_commands.specs.rules.CommandLine.{check_app, create_app, device_rule, disk_app};
 ghost use Rattle.wasmhost_commands.specs.rules.CommandLine.{disks_app, env_rule, fronts_rule, half_app};
 ghost use Rattle.wasmhost_commands.specs.rules.CommandLine.{number_rule, paced_run_app, path_rule};
 ghost use Rattle.wasmhost_commands.specs.rules.CommandLine.{rewrite_rule, run_app, seed_rule};
@@ -68,6 +68,16 @@ fn rewrite_flag<'a>(alloc: Global) -> Arg<'a>
     Arg::new(alloc, "rewrite")
         .long("rewrite")
         .help("Write every sector back first, after a disk fault")
+        .action(ArgAction::SetTrue)
+}
+
+/// The flag `--device`.
+fn device_flag<'a>(alloc: Global) -> Arg<'a>
+    ensures { IsArgument device_rule result }
+{
+    Arg::new(alloc, "device")
+        .long("device")
+        .help("DISK is a block device, whose first sectors are overwritten")
         .action(ArgAction::SetTrue)
 }
 
@@ -151,7 +161,9 @@ fn sized_create_command<'a>(alloc: Global) -> Result<Command<'a>, AllocError>
 fn create_command<'a>(alloc: Global) -> Result<Command<'a>, AllocError>
     ensures { IfOk result (IsCommand create_app) }
 {
-    sized_create_command(alloc)?.arg(env_option(alloc))
+    sized_create_command(alloc)?
+        .arg(env_option(alloc))?
+        .arg(device_flag(alloc))
 }
 
 /// The command `run`, with its path and the options `--fuel` and `--every`.

@@ -135,6 +135,7 @@ fn create_of<'a>(
         files: number_or_else(matches, "files", FILES),
         journal: number_or_else(matches, "journal", JOURNAL),
         environment: environment_of(alloc, matches)?,
+        on_device: flag_of(matches, "device"),
         arguments,
     })
 }

@@ -22,7 +22,7 @@ use thiserror::Error as FaultText;
 /// What the words say of a creation.
 #[derive(Debug, Drop)]
 pub struct CreateOrder<'a> {
-    /// The file of the disk, which is to be made.
+    /// The file of the disk, which is to be made, or the block device.
     pub disk: &'a str,
     /// The file of the module.
     pub module: &'a str,
@@ -34,6 +34,8 @@ pub struct CreateOrder<'a> {
     pub journal: u64,
     /// Entries of the guest's environment, in their order.
     pub environment: Vec<&'a str>,
+    /// Whether the disk is a block device that is there.
+    pub on_device: bool,
     /// The guest's arguments behind its name.
     pub arguments: Vec<&'a str>,
 }
