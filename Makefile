@@ -33,7 +33,7 @@ install: $(PROGRAM)
 	install -D -t $(DESTDIR)$(BINDIR) $(PROGRAM)
 	install -D -m 644 -t $(DESTDIR)$(DATADIR)/man/man1 docs/wasmhost.1
 	install -D -m 644 -t $(DESTDIR)$(DOCDIR) $(DOCS)
-	cd examples/deployment && install -D -t $(DESTDIR)$(LIBDIR)/wasmhost feed tell worker
+	cd examples/deployment && install -D -t $(DESTDIR)$(LIBDIR)/wasmhost feed tell watch worker
 	install -d $(DESTDIR)$(UNITDIR)
 	sed 's|/usr/local/bin|$(BINDIR)|; s|/usr/local/lib|$(LIBDIR)|' examples/deployment/$(UNIT) \
 		>$(DESTDIR)$(UNITDIR)/$(UNIT)

@@ -6,7 +6,7 @@ ghost use Rattle.std.specs.Prelude.{◌≤◌};
 use crate::asking::create_worker;
 use crate::check::{BEFORE_CODE, EMPTY_BODY, HELLO, bytes_of};
 use crate::lines::{NoClock, OUTSIDE};
-use crate::serving::pace_of;
+use crate::serving::{Unwatched, pace_of};
 use crate::show::{SECTORS, WRITES, fresh_disk};
 use ephemeral_worker::{EphemeralWorker, Now, SliceFault};
 use record_replay::{AnswerList, LineList};
@@ -16,7 +16,7 @@ use std::io::Write;
 use std::num::NonZeroU64;
 use std::test::Fail;
 use wasmhost_commands::{
-    BufferedLines, LineOutlet, Pace, Prepared, Printer, RequestSource, Sizes, Unprepared,
+    BufferedLines, Drive, LineOutlet, Pace, Prepared, Printer, RequestSource, Sizes, Unprepared,
     create_on, prepare, serve,
 };
 
@@ -73,7 +73,11 @@ pub(crate) fn status_of<W: Write + Drop, E: Write + Drop>(
     err: &mut Printer<E>,
 ) -> u8 {
     let mut source = empty_source(alloc);
-    let status = serve(alloc, disk, pace, &mut source, outlet, err);
+    let drive = Drive {
+        pace,
+        watcher: &Unwatched,
+    };
+    let status = serve(alloc, disk, drive, &mut source, outlet, err);
     drop(source);
     status
 }

@@ -4,12 +4,15 @@ use crate::asking::ECHO;
 use crate::lines::{Flushed, NoClock, OUTSIDE};
 use crate::run::status_of;
 use crate::show::{Shown, after_one_slice, fresh_disk, shows};
+use ephemeral_worker::Now;
 use sector_disk::MemDisk;
 use std::alloc::Global;
 use std::io::Write;
 use std::num::NonZeroU64;
 use std::test::Fail;
-use wasmhost_commands::{BufferedLines, LineOutlet, Pace, Printer, RequestSource, serve};
+use wasmhost_commands::{
+    BufferedLines, Drive, LineOutlet, Pace, Printer, RequestSource, Watcher, Worker, serve,
+};
 
 /// Steps of a slice, and slices between two checkpoints.
 const FUEL: u64 = 100;
@@ -25,6 +28,17 @@ pub(crate) fn pace_of(fuel: u64, every: u64) -> Result<Pace, Fail> {
         fuel: NonZeroU64::try_from(fuel)?,
         every: NonZeroU64::try_from(every)?,
     })
+}
+
+/// One who watches no run.
+pub(crate) struct Unwatched;
+
+impl Watcher for Unwatched {
+    ghost use Rattle.std.specs.Prelude.{true};
+
+    ghost is_told = { λ _ _ _. true };
+
+    fn tell(&self, _worker: &Worker, _now: Now) {}
 }
 
 /// The status of a run on the disk, if the worker's line was printed in it.
@@ -102,12 +116,15 @@ const BEHIND: Shown = Shown {
 
 /// Whether a run on the disk does so.
 fn runs_so(alloc: Global, disk: &mut MemDisk, run: &Run) -> Result<bool, Fail> {
-    let pace = pace_of(FUEL, EVERY)?;
+    let drive = Drive {
+        pace: pace_of(FUEL, EVERY)?,
+        watcher: &Unwatched,
+    };
     let mut source = RequestSource::new(alloc, BufferedLines::new(run.0), NoClock, OUTSIDE, 0);
     let mut outlet = LineOutlet::new(alloc, Vec::new(alloc))?;
     let mut err = Vec::new(alloc);
     let told = &mut Printer::new(&mut err, false);
-    let status = serve(alloc, disk, pace, &mut source, &mut outlet, told);
+    let status = serve(alloc, disk, drive, &mut source, &mut outlet, told);
     drop(source);
     let lines = outlet.writer().as_slice() == run.1;
     Ok(lines && err.as_slice() == run.2.as_bytes() && status == run.3)

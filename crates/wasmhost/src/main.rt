@@ -37,7 +37,7 @@
 //! and a line.
 #![tactic(auto)]
 
-ghost use Rattle.std.specs.Prelude.{◌≤◌};
+ghost use Rattle.std.specs.Prelude.{◌≤◌, IfErr};
 
 use std::alloc::Global;
 use std::env;
@@ -47,11 +47,12 @@ use std::process::ExitCode;
 use std::rt::{Env, Files};
 use std::time::Clock;
 use wasmhost_commands::{
-    BufferedLines, CreateOrder, LineOutlet, NewDisk, Obstacle, Order, Outside, Pace, Printer,
-    RequestSource, RunOrder, Sizes, StoryOrder, SweepChoice, SweepOrder, check_bytes,
-    create_device, create_file, fronts_of, open_disk, prepare, read_module, read_script, read_seed,
-    read_sweep, read_words, report, report_input, report_script, report_sweep_script,
-    report_unprepared, report_unread, report_words, serve, show_file, tell, tell_sweep,
+    BufferedLines, CreateOrder, Drive, LineOutlet, NewDisk, Obstacle, Order, Outside, Pace,
+    Printer, RequestSource, RunOrder, Sizes, StatusFile, StoryOrder, SweepChoice, SweepOrder,
+    check_bytes, create_device, create_file, fronts_of, open_disk, prepare, read_module,
+    read_script, read_seed, read_sweep, read_words, report, report_input, report_script,
+    report_sweep_script, report_unprepared, report_unread, report_words, serve, show_file, tell,
+    tell_sweep,
 };
 
 /// It is read to keep a number from other files. It has no bytes, and takes none from a reader.
@@ -151,6 +152,32 @@ fn seed_of(order: &RunOrder<'_>) -> Option<[u8; 32]> {
     }
 }
 
+/// The file that says where the worker stands, if the words name one.
+fn watcher_of<'a, R: Files, E: Write + Drop>(
+    rt: &'a R,
+    alloc: Global,
+    order: &RunOrder<'a>,
+    err: &mut Printer<E>,
+) -> Result<Option<StatusFile<'a, R>>, u8>
+    ensures { IfErr result (λ status. status ≤ 7) }
+{
+    let Some(path) = order.status else {
+        return Ok(None);
+    };
+    match StatusFile::new(alloc, rt, path) {
+        Ok(file) => Ok(Some(file)),
+        Err(error) => Err(report_unread(err, path, error)),
+    }
+}
+
+/// How the words say that a worker is driven.
+fn pace_of(order: &RunOrder<'_>) -> Pace {
+    Pace {
+        fuel: order.fuel,
+        every: order.every,
+    }
+}
+
 /// Runs the worker of a disk on the lines of the standard input and the machine's clock.
 fn run<R: Files<File = File> + Input + Clock, W: Write + Drop, E: Write + Drop>(
     rt: &R,
@@ -163,6 +190,10 @@ fn run<R: Files<File = File> + Input + Clock, W: Write + Drop, E: Write + Drop>(
 {
     let Some(seed) = seed_of(order) else {
         return report(err, Obstacle::NoSeed);
+    };
+    let watcher = match watcher_of(rt, alloc, order, err) {
+        Ok(watcher) => watcher,
+        Err(status) => return status,
     };
     let mut disk = match open_disk(rt, order.disk, order.rewrites, err) {
         Ok(disk) => disk,
@@ -179,11 +210,11 @@ fn run<R: Files<File = File> + Input + Clock, W: Write + Drop, E: Write + Drop>(
     let Ok(mut outlet) = LineOutlet::new(alloc, out) else {
         return report(err, Obstacle::Memory);
     };
-    let pace = Pace {
-        fuel: order.fuel,
-        every: order.every,
+    let drive = Drive {
+        pace: pace_of(order),
+        watcher: &watcher,
     };
-    let status = serve(alloc, &mut disk, pace, &mut source, &mut outlet, err);
+    let status = serve(alloc, &mut disk, drive, &mut source, &mut outlet, err);
     report_input(&source, status, err)
 }
 

@@ -32,3 +32,4 @@ pub mod Scripts
 pub mod Stories
 pub mod SweepTexts
 pub mod Sweeps
+pub mod Watchings

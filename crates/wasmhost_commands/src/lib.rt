@@ -82,7 +82,7 @@
 //!   Of the other statuses nothing more is said. `read_sweep`: the lives that the script spells, and
 //!   which one is swept (`AreSweptLives`). `fronts_of`: the fronts that a text spells.
 //! - `laws::faultless_words_mean`, `laws::worked_examples`: words without a fault mean an order,
-//!   with numbers in their ranges; eighty-one command lines. What `--version` is told of the
+//!   with numbers in their ranges; eighty-three command lines. What `--version` is told of the
 //!   program is `version_words` (`HasVersion`).
 //!
 //! # Definitions to read
@@ -240,8 +240,8 @@ pub use lines::{
 };
 pub use module_bytes::read_module;
 pub use on_disk::{
-    NewDisk, Pace, create_device, create_file, create_on, open_disk, report_input, report_open,
-    report_unread, serve, show_file, survey,
+    Drive, NewDisk, Pace, StatusFile, Watcher, create_device, create_file, create_on, open_disk,
+    report_input, report_open, report_unread, serve, show_file, survey,
 };
 pub use preparing::{Prepared, Unprepared, prepare, report_unprepared};
 pub use printer::Printer;

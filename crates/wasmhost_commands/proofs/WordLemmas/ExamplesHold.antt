@@ -40,6 +40,7 @@ run_examples = record {
   seed = (refl, refl, refl);
   clock = (refl, refl, refl);
   rewrites = (refl, refl, refl);
+  status = (refl, refl, refl);
   dashes = (refl, refl, refl);
 }
 
@@ -95,6 +96,7 @@ option_mistakes = record {
   seed_twice = refl;
   rewrite_with_a_value = refl;
   rewrite_twice = refl;
+  status_of_nothing = refl;
   device_of_a_run = refl;
   too_many_pages = refl;
   files_of_no_number = refl;

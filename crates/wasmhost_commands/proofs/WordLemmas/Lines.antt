@@ -36,7 +36,7 @@ use Rattle.wasmhost_commands.proofs.WordLemmas.Rows.{IsGood, added_good, options
 use Rattle.wasmhost_commands.proofs.WordLemmas.Rows.{path_is_there}
 use Rattle.wasmhost_commands.proofs.WordLemmas.Uses.{keeps_env, keeps_help, keeps_number, keeps_path}
 use Rattle.wasmhost_commands.proofs.WordLemmas.Uses.{keeps_device, keeps_fronts, keeps_rewrite}
-use Rattle.wasmhost_commands.proofs.WordLemmas.Uses.{keeps_seed}
+use Rattle.wasmhost_commands.proofs.WordLemmas.Uses.{keeps_seed, keeps_status}
 
 -- ---- one level
 
@@ -190,13 +190,13 @@ module _ (name : Text) (words : List Text) (no_help : bytes_eq name (codes "help
                 keeps_seed 2,
                 (
                   keeps_number 2 (codes "clock") 0 (λ v is. is),
-                  (keeps_rewrite 2, (keeps_help, tt)),
+                  (keeps_rewrite 2, (keeps_status 2, (keeps_help, tt))),
                 ),
               ),
             ),
           ),
         )
-            (unused, (unused, (unused, (unused, (unused, (no_rewrite, (unused, tt)))))))
+            (unused, (unused, (unused, (unused, (unused, (no_rewrite, (unused, (unused, tt))))))))
             (λ rows good e. inr (inr (inl (refl, one_path (codes "DISK") rows good e)))) e,
         (
           λ here e. below_taken _ words (keeps_path 1 (codes "DISK") (λ v. tt), (keeps_help, tt))

@@ -14,6 +14,7 @@ use Rattle.clap.specs.declared.parser.matches.ValueSource.TheVariants.{CommandLi
 use Rattle.clap.proofs.ValueTestLemmas.{accepts-Accepts}
 use Rattle.wasmhost_commands.specs.rules.CommandLine.{env_rule, number_rule, path_rule}
 use Rattle.wasmhost_commands.specs.rules.CommandLine.{device_rule, fronts_rule, rewrite_rule, seed_rule}
+use Rattle.wasmhost_commands.specs.rules.CommandLine.{status_rule}
 use Rattle.wasmhost_commands.specs.rules.Commands.{IsNumberFrom}
 use Rattle.wasmhost_commands.proofs.WordLemmas.Walks.{Keeps, no_first, no_second, some_kind}
 use Rattle.wasmhost_commands.proofs.WordLemmas.Rows.{IsGood, Passes, added_good, with_good}
@@ -79,6 +80,12 @@ pub keeps_seed : (n : ℕ) → Keeps IsGood false (with_index n (filled seed_rul
 keeps_seed n [] rows e good = absurd (some_kind _ _ e)
 keeps_seed n (v ∷ []) rows e good = with_good (codes "seed") v rows tt good
 keeps_seed n (v ∷ w ∷ vs) rows e good =
+    absurd (too_many v w vs (no_first (range_kinds 1 1 (length (v ∷ w ∷ vs))) _ e))
+
+pub keeps_status : (n : ℕ) → Keeps IsGood false (with_index n (filled status_rule))
+keeps_status n [] rows e good = absurd (some_kind _ _ e)
+keeps_status n (v ∷ []) rows e good = with_good (codes "status") v rows tt good
+keeps_status n (v ∷ w ∷ vs) rows e good =
     absurd (too_many v w vs (no_first (range_kinds 1 1 (length (v ∷ w ∷ vs))) _ e))
 
 pub keeps_fronts : (n : ℕ) → Keeps IsGood false (with_index n (filled fronts_rule))

@@ -41,6 +41,7 @@ plain_run = record {
   seed = None;
   clock = None;
   rewrites = false;
+  status = None;
 }
 
 -- one with so many steps a slice
@@ -126,6 +127,8 @@ pub record RunOrderExamples : Type 0 where
       (run (record plain_run { clock = Some 0 }))
   pub rewrites : Means (run_line (codes "--rewrite" ∷ []))
       (run (record plain_run { rewrites = true }))
+  pub status : Means (run_line (codes "--status" ∷ codes "a.status" ∷ []))
+      (run (record plain_run { status = Some (codes "a.status") }))
   pub dashes : Means (line (codes "run" ∷ codes "--" ∷ codes "a.disk" ∷ [])) (run plain_run)
 
 pub record StoryOrderExamples : Type 0 where
@@ -204,6 +207,7 @@ pub record OptionMistakes : Type 0 where
       (kind.TooManyValues ∷ [])
   pub rewrite_twice : WordsFail (run_line (codes "--rewrite" ∷ codes "--rewrite" ∷ []))
       (kind.ArgumentConflict ∷ [])
+  pub status_of_nothing : WordsFail (run_line (codes "--status" ∷ [])) (kind.InvalidValue ∷ [])
   pub device_of_a_run : WordsFail (run_line (codes "--device" ∷ [])) (kind.UnknownArgument ∷ [])
   pub too_many_pages : WordsFail
       (create_line (codes "--pages" ∷ codes "18446744073709551616" ∷ []))

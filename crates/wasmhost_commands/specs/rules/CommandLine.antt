@@ -27,6 +27,13 @@ number_rule name least = record (new_rule name) {
 abbrev pub seed_rule : Rule
 seed_rule = record (new_rule (codes "seed")) { long = Some (codes "seed"); value_names = 1 }
 
+-- the option `--status`, with any text
+abbrev pub status_rule : Rule
+status_rule = record (new_rule (codes "status")) {
+  long = Some (codes "status");
+  value_names = 1;
+}
+
 -- the option `--fronts`, with any text
 abbrev pub fronts_rule : Rule
 fronts_rule = record (new_rule (codes "fronts")) {
@@ -88,9 +95,9 @@ paced_run_app = with_rule (with_rule (disk_app (codes "run")) (number_rule (code
 abbrev pub seeded_run_app : App
 seeded_run_app = with_rule (with_rule paced_run_app seed_rule) (number_rule (codes "clock") 0)
 
--- the same, with `--rewrite` where it is wanted
+-- the same, with `--rewrite` and `--status` where they are wanted
 abbrev pub run_app : App
-run_app = with_rule seeded_run_app rewrite_rule
+run_app = with_rule (with_rule seeded_run_app rewrite_rule) status_rule
 
 -- `show DISK`
 abbrev pub show_app : App

@@ -66,8 +66,8 @@ pub record CreateMeaning : Type 0 where
   pub on_device : Bool
   pub arguments : List Text
 
--- What a run says: the disk's path and the seed as texts, whether it writes all sectors back first,
--- and the others as numbers.
+-- What a run says: the paths of the disk and of a status file and the seed as texts, whether it
+-- writes all sectors back first, and the others as numbers.
 pub record RunMeaning : Type 0 where
   pub disk : Text
   pub fuel : ℕ
@@ -75,6 +75,7 @@ pub record RunMeaning : Type 0 where
   pub seed : Option Text
   pub clock : Option ℕ
   pub rewrites : Bool
+  pub status : Option Text
 
 -- what a story says: the paths of the script and of the module, and its sizes
 pub record StoryMeaning : Type 0 where
@@ -126,6 +127,7 @@ run_said order = record {
   seed = option_map (λ text. text.now) order.seed;
   clock = order.clock;
   rewrites = order.rewrites;
+  status = option_map (λ text. text.now) order.status;
 }
 
 -- what an order to tell a story says
@@ -218,6 +220,7 @@ run_in rows disk = record {
   seed = first_of (codes "seed") rows;
   clock = number_given (codes "clock") rows;
   rewrites = flag_in (codes "rewrite") rows;
+  status = first_of (codes "status") rows;
 }
 
 -- What a story means with these paths and the rows of what stands behind its word. Where no number

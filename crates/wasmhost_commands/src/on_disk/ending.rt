@@ -12,7 +12,7 @@ use process::ProcessEnd;
 use std::io::{self, Write};
 
 /// Writes the last words of a worker that is over.
-fn print_last_words<E: Write + Drop>(err: &mut Printer<E>, now: Now) -> io::Result<()>
+pub(super) fn print_last_words<E: Write + Drop>(err: &mut Printer<E>, now: Now) -> io::Result<()>
     ensures printed { OnOk result (IsPrinted err.old err.new (last_words (ended_by now))) }
     ensures failed { OnErr result (err.new.failed ≡ true) }
 {

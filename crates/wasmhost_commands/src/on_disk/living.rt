@@ -1,6 +1,6 @@
 //! Slices and checkpoints of a worker that is open on its disk.
 
-ghost use Rattle.std.specs.Prelude.{◌≡◌, ◌≢◌, ◌≤◌, ◌<◌, ◌↔◌, IsTrue, IfOk, IfErr, Ok};
+ghost use Rattle.std.specs.Prelude.{◌≡◌, ◌≢◌, ◌≤◌, ◌<◌, ◌↔◌, IsTrue, IfOk, IfErr, Ok, OnOk};
 ghost use Rattle.std.specs.Int.NonZero.{non_zero_u64_get};
 ghost use Rattle.disk_layout.specs.rules.Places.{total_sectors};
 ghost use Rattle.process.specs.rules.Values.{IsProcess};
@@ -8,6 +8,7 @@ ghost use Rattle.ephemeral_worker.specs.declared.now.Now.TheVariants.{Spent};
 ghost use Rattle.wasmhost_commands.specs.Livings.{scene, steps_left, IsRested};
 ghost use Rattle.wasmhost_commands.specs.Livings.{IsRound, IsBrokenRound, LivesAtPace};
 
+use crate::on_disk::watching::Watcher;
 use ephemeral_worker::Now;
 use record_replay::{Outlet, Source};
 use sector_disk::Disk;
@@ -40,32 +41,40 @@ fn is_spent(now: Now) -> bool
     }
 }
 
-/// Saves a worker behind a slice that has answered this. No line waits, and none is released.
-fn rest_on<D: Disk, O: Outlet>(
+/// Saves a worker behind a slice that has answered this, and tells the watcher. No line waits, and
+/// none is released.
+fn rest_on<D: Disk, O: Outlet, T: Watcher>(
     worker: &mut Worker,
     disk: &mut D,
     now: Now,
     outlet: &mut O,
+    watcher: &T,
 ) -> Result<Now, WorkFault>
     requires { total_sectors worker.old.store.geometry ≤ (D.medium disk.old).sectors }
     ensures rested { IsRested now result worker.old worker.new (D.medium disk.old)
         (D.medium disk.new) }
     ensures room { total_sectors worker.new.store.geometry ≤ (D.medium disk.new).sectors }
     ensures quiet { outlet.new ≡ outlet.old }
+    ensures told { OnOk result (IsTrue (T.is_told watcher.now worker.new now)) }
 {
     match worker.checkpoint(disk, outlet) {
-        Ok(()) => Ok(now),
+        Ok(()) => {
+            watcher.tell(worker, now);
+            Ok(now)
+        }
         Err(fault) => Err(fault),
     }
 }
 
-/// Slice after slice, at most as many as come between two checkpoints, and then a checkpoint.
-fn round<D: Disk, S: Source, O: Outlet>(
+/// Slice after slice, at most as many as come between two checkpoints, and then a checkpoint, of
+/// which the watcher is told.
+fn round<D: Disk, S: Source, O: Outlet, T: Watcher>(
     worker: &mut Worker,
     disk: &mut D,
     pace: Pace,
     source: &mut S,
     outlet: &mut O,
+    watcher: &T,
 ) -> Result<Now, WorkFault>
     requires { total_sectors worker.old.store.geometry ≤ (D.medium disk.old).sectors }
     ensures done { IfOk result (λ now. IsRound D.medium S.gives O.takes
@@ -80,6 +89,7 @@ fn round<D: Disk, S: Source, O: Outlet>(
         disk.new source.new outlet.new) }
     ensures room { IfOk result (λ _.
         total_sectors worker.new.store.geometry ≤ (D.medium disk.new).sectors) }
+    ensures told { IfOk result (λ now. IsTrue (T.is_told watcher.now worker.new now)) }
 {
     let every = pace.every.get();
     let mut taken = 0;
@@ -91,18 +101,19 @@ fn round<D: Disk, S: Source, O: Outlet>(
             Err(fault) => return Err(fault),
         };
         if taken == every || !is_spent(now) {
-            return rest_on(worker, disk, now, outlet);
+            return rest_on(worker, disk, now, outlet, watcher);
         }
     }
 }
 
 /// Lives on until the worker is over. It comes to that, or fails, since its steps are numbered.
-pub(crate) fn live<D: Disk, S: Source, O: Outlet>(
+pub(crate) fn live<D: Disk, S: Source, O: Outlet, T: Watcher>(
     worker: &mut Worker,
     disk: &mut D,
     pace: Pace,
     source: &mut S,
     outlet: &mut O,
+    watcher: &T,
 ) -> Result<Now, WorkFault>
     requires { total_sectors worker.old.store.geometry ≤ (D.medium disk.old).sectors }
     ensures lives { LivesAtPace D.medium S.gives O.takes
@@ -110,9 +121,10 @@ pub(crate) fn live<D: Disk, S: Source, O: Outlet>(
         (scene worker.old disk.old source.old outlet.old) result
         disk.new source.new outlet.new }
     ensures over { IfOk result (λ now. now ≢ Spent) }
+    ensures told { IfOk result (λ now. IsTrue (T.is_told watcher.now worker.new now)) }
 {
     loop {
-        match round(worker, disk, pace, source, outlet) {
+        match round(worker, disk, pace, source, outlet, watcher) {
             Ok(Now::Spent) => {}
             Ok(Now::Waiting) => return Ok(Now::Waiting),
             Ok(Now::Ended(how)) => return Ok(Now::Ended(how)),

@@ -10,6 +10,7 @@ mod making;
 mod opening;
 mod serving;
 mod showing;
+mod watching;
 
 pub use creation::create_on;
 pub use disk_file::{open_disk, show_file};
@@ -17,5 +18,6 @@ pub use leaving::report_input;
 pub use living::Pace;
 pub use making::{NewDisk, create_device, create_file};
 pub use opening::{report_open, report_unread};
-pub use serving::serve;
+pub use serving::{Drive, serve};
 pub use showing::survey;
+pub use watching::{StatusFile, Watcher};

@@ -1,12 +1,14 @@
 //! `wasmhost run` of a worker on a disk.
 
-ghost use Rattle.std.specs.Prelude.{◌≡◌, ◌≤◌, true, OnErr, OnOk};
+ghost use Rattle.std.specs.Prelude.{◌≡◌, ◌≢◌, ◌≤◌, true, IfOk, IsTrue, OnErr, OnOk};
 ghost use Rattle.std.specs.Int.NonZero.{non_zero_u64_get};
 ghost use Rattle.disk_layout.specs.rules.Places.{total_sectors};
+ghost use Rattle.ephemeral_worker.specs.declared.now.Now.TheVariants.{Spent};
 ghost use Rattle.wasmhost_commands.specs.rules.DiskStatuses.{IsToldOnDisk};
 ghost use Rattle.wasmhost_commands.specs.rules.Printers.{IsPrinted, TellsPerson};
 ghost use Rattle.wasmhost_commands.specs.rules.Refusals.{HeedsRefusal};
 ghost use Rattle.wasmhost_commands.specs.rules.ServedOnDisk.{ServesOnDisk, disk_job, recovered_line};
+ghost use Rattle.wasmhost_commands.specs.rules.Watchings.{WatchesEnd};
 ghost use Rattle.wasmhost_commands.specs.Livings.{HasGoneOn};
 
 use crate::lines::{LineFault, LineReader, RealTime, RequestSource};
@@ -14,6 +16,7 @@ use crate::on_disk::ending::say;
 use crate::on_disk::fault::{OnDiskFault, say_disk_fault};
 use crate::on_disk::living::{Pace, live};
 use crate::on_disk::showing::print_number;
+use crate::on_disk::watching::Watcher;
 use crate::printer::Printer;
 use ephemeral_worker::{Now, SliceFault};
 use record_replay::Outlet;
@@ -32,24 +35,34 @@ fn call_fault_of(fault: WorkFault, line: Option<LineFault>) -> OnDiskFault
     }
 }
 
+/// How a worker on a disk is driven, and who watches it.
+#[derive(Clone, Copy)]
+pub struct Drive<'a, T> {
+    pub pace: Pace,
+    pub watcher: &'a T,
+}
+
 /// Runs a worker that is open on its disk: request lines behind those that it has taken, random
 /// bytes of its generation.
-fn go_on<D: Disk, R: LineReader + Drop, C: RealTime + Drop, O: Outlet>(
+fn go_on<D: Disk, R: LineReader + Drop, C: RealTime + Drop, O: Outlet, T: Watcher>(
     worker: &mut Worker,
     disk: &mut D,
     pace: Pace,
     source: &mut RequestSource<R, C>,
     outlet: &mut O,
+    watcher: &T,
 ) -> Result<Now, OnDiskFault>
     requires { total_sectors worker.old.store.geometry ≤ (D.medium disk.old).sectors }
-    ensures { HasGoneOn D.medium O.takes (disk_job (non_zero_u64_get pace.fuel)
+    ensures gone { HasGoneOn D.medium O.takes (disk_job (non_zero_u64_get pace.fuel)
         (non_zero_u64_get pace.every) (R.unread source.old.requests.reader) source.old.outside
         (R.has_failed source.old.requests.reader)) worker.old disk.old disk.new
         outlet.old outlet.new (R.has_failed source.new.requests.reader) result }
+    ensures told { IfOk result (λ now. (now ≢ Spent)
+        × IsTrue (T.is_told watcher.now worker.new now)) }
 {
     let taken = worker.process().requests();
     source.go_on_behind(taken, worker.generation());
-    match live(worker, disk, pace, source, outlet) {
+    match live(worker, disk, pace, source, outlet, watcher) {
         Ok(now) => Ok(now),
         Err(fault) => Err(call_fault_of(fault, source.fault())),
     }
@@ -77,36 +90,51 @@ fn tell_recovered<E: Write + Drop>(err: &mut Printer<E>, worker: &Worker)
 
 /// The worker on a disk goes on: it is recovered, and then runs slices at this pace until it is
 /// over, with a checkpoint behind the last one. Its lines go to the outlet, last words to `err`.
-/// Where that is a terminal, a line before the first slice says how it was recovered.
+/// Where that is a terminal, a line before the first slice says how it was recovered. The watcher is
+/// told where the worker stands: then, behind each checkpoint, and at its end.
 /// Request lines that it has taken are passed over, and random bytes are those of the seed's stream
 /// of its generation. Answers the exit status: 0 where the worker has ended, trapped or waits at
 /// the end of the lines, 3 for a disk that shows no worker that can go on and where a number is at
 /// its end, 4 where the disk, the reader or the clock fails, 5 for want of memory, 6 for a refused
 /// request line, 7 where the outlet has refused a line or a write has failed.
-pub fn serve<D: Disk, R: LineReader + Drop, C: RealTime + Drop, O: Outlet, E: Write + Drop>(
+pub fn serve<D, R, C, O, E, T>(
     alloc: Global,
     disk: &mut D,
-    pace: Pace,
+    drive: Drive<'_, T>,
     source: &mut RequestSource<R, C>,
     outlet: &mut O,
     err: &mut Printer<E>,
 ) -> u8
-    ensures serves { ServesOnDisk D.medium O.takes (disk_job (non_zero_u64_get pace.fuel)
-        (non_zero_u64_get pace.every) (R.unread source.old.requests.reader) source.old.outside
+where
+    D: Disk,
+    R: LineReader + Drop,
+    C: RealTime + Drop,
+    O: Outlet,
+    E: Write + Drop,
+    T: Watcher,
+    ensures serves { ServesOnDisk D.medium O.takes
+        (disk_job (non_zero_u64_get drive.entry.pace.fuel)
+        (non_zero_u64_get drive.entry.pace.every)
+        (R.unread source.old.requests.reader) source.old.outside
         (R.has_failed source.old.requests.reader)) disk.old disk.new
         outlet.old outlet.new err.old err.new
         (R.has_failed source.new.requests.reader) result }
 
     // The status is 7 just where the outlet has refused a line, or a write of `err` has failed.
     ensures refusal { HeedsRefusal O.takes outlet.old outlet.new err.new result }
+
+    // Where it is 0, the watcher was told of that end.
+    ensures watched { WatchesEnd (T.is_told drive.entry.watcher.now) err.new result }
     ensures known { result ≤ 7 }
 {
     let mut worker = match Worker::recover(alloc, disk, outlet) {
         Ok(worker) => worker,
         Err(fault) => return say_disk_fault(err, OnDiskFault::from(fault)),
     };
+    let Drive { pace, watcher } = drive;
     tell_recovered(err, &worker);
-    match go_on(&mut worker, disk, pace, source, outlet) {
+    watcher.tell(&worker, Now::Spent);
+    match go_on(&mut worker, disk, pace, source, outlet, watcher) {
         Ok(now) => say(err, now),
         Err(fault) => say_disk_fault(err, fault),
     }

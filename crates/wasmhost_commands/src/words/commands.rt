@@ -7,7 +7,7 @@ ghost use Rattle.wasmhost_commands.specs.rules.CommandLine.{check_app, create_ap
 ghost use Rattle.wasmhost_commands.specs.rules.CommandLine.{disks_app, env_rule, fronts_rule, half_app};
 ghost use Rattle.wasmhost_commands.specs.rules.CommandLine.{number_rule, paced_run_app, path_rule};
 ghost use Rattle.wasmhost_commands.specs.rules.CommandLine.{rewrite_rule, run_app, seed_rule};
-ghost use Rattle.wasmhost_commands.specs.rules.CommandLine.{script_app, seeded_run_app, show_app};
+ghost use Rattle.wasmhost_commands.specs.rules.CommandLine.{script_app, seeded_run_app, show_app, status_rule};
 ghost use Rattle.wasmhost_commands.specs.rules.CommandLine.{sized_create_app, story_app, sweep_app};
 ghost use Rattle.wasmhost_commands.specs.rules.CommandLine.{wasmhost};
 ghost use Rattle.wasmhost_commands.specs.rules.CommandLine.{HasVersion, version_words};
@@ -89,6 +89,16 @@ fn seed_option<'a>(alloc: Global) -> Arg<'a>
         .long("seed")
         .help("Seed of random bytes, 64 hexadecimal digits; default zeros")
         .value_name("HEX")
+}
+
+/// The option `--status`.
+fn status_option<'a>(alloc: Global) -> Arg<'a>
+    ensures { IsArgument status_rule result }
+{
+    Arg::new(alloc, "status")
+        .long("status")
+        .help("File that says where the worker stands, replaced at each checkpoint")
+        .value_name("FILE")
 }
 
 /// The option `--fronts`.
@@ -192,7 +202,9 @@ fn seeded_run_command<'a>(alloc: Global) -> Result<Command<'a>, AllocError>
 fn run_command<'a>(alloc: Global) -> Result<Command<'a>, AllocError>
     ensures { IfOk result (IsCommand run_app) }
 {
-    seeded_run_command(alloc)?.arg(rewrite_flag(alloc))
+    seeded_run_command(alloc)?
+        .arg(rewrite_flag(alloc))?
+        .arg(status_option(alloc))
 }
 
 fn show_command<'a>(alloc: Global) -> Result<Command<'a>, AllocError>

@@ -97,6 +97,14 @@ fn seed_text_of<'a>(matches: &ArgMatches<'a>) -> Option<&'a str>
     matches.get_str("seed")
 }
 
+/// What `--status` says, if it is there.
+fn status_text_of<'a>(matches: &ArgMatches<'a>) -> Option<&'a str>
+    ensures { option_map (λ text. text.now) result
+        ≡ first_of (codes "status") (rows_of (found_of matches.now)) }
+{
+    matches.get_str("status")
+}
+
 /// What `--fronts` says, if it is there.
 fn fronts_text_of<'a>(matches: &ArgMatches<'a>) -> Option<&'a str>
     ensures { option_map (λ text. text.now) result
@@ -152,6 +160,7 @@ fn run_of<'a>(matches: &ArgMatches<'a>, disk: &'a str) -> RunOrder<'a>
         seed: seed_text_of(matches),
         clock: number_of(matches, "clock"),
         rewrites: flag_of(matches, "rewrite"),
+        status: status_text_of(matches),
     }
 }
 

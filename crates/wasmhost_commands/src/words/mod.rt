@@ -55,6 +55,8 @@ pub struct RunOrder<'a> {
     pub clock: Option<u64>,
     /// Whether every sector of the disk is written back first.
     pub rewrites: bool,
+    /// The file that says where the worker stands.
+    pub status: Option<&'a str>,
 }
 
 /// What the words say of a story.

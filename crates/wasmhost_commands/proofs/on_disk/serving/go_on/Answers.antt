@@ -6,8 +6,8 @@ use Rattle.wasmhost_commands.specs.rules.ServedOnDisk.{disk_job}
 use Rattle.wasmhost_commands.proofs.OnDiskLemmas.{is_behind, has_gone, has_failed}
 use Rattle.wasmhost_commands.proofs.on_disk.serving.go_on.Goals as goal
 
-pub returns-in-Ok : goal.returns-in-Ok
-returns-in-Ok g c =
+pub returns-in-Ok-clause-gone : goal.returns-in-Ok-clause-gone
+returns-in-Ok-clause-gone g c =
     let behind = c.go_on_behind.ensures in
     has_gone g.D.Disk.medium (λ s. standing s.outside s.stream s.requests.taken s.place
     (g.R.LineReader.unread s.requests.reader) (g.R.LineReader.has_failed s.requests.reader)
@@ -23,8 +23,8 @@ returns-in-Ok g c =
     behind.place behind.reader behind.unfailed)
     c.in-Ok.now c.in-Ok.ensures.over c.in-Ok.ensures.lives
 
-pub returns-in-Err : goal.returns-in-Err
-returns-in-Err g c =
+pub returns-in-Err-clause-gone : goal.returns-in-Err-clause-gone
+returns-in-Err-clause-gone g c =
     let behind = c.go_on_behind.ensures in
     has_failed g.D.Disk.medium (λ s. standing s.outside s.stream s.requests.taken s.place
     (g.R.LineReader.unread s.requests.reader) (g.R.LineReader.has_failed s.requests.reader)

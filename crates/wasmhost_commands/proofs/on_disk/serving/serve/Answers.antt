@@ -8,7 +8,7 @@ use Rattle.wasmhost_commands.proofs.on_disk.serving.serve.Goals as goal
 pub returns-in-Err-clause-serves : goal.returns-in-Err-clause-serves
 returns-in-Err-clause-serves g c =
     serves_none g.D.Disk.medium g.O.Outlet.takes
-    (disk_job (non_zero_u64_get c.args.pace.fuel) (non_zero_u64_get c.args.pace.every)
+    (disk_job (non_zero_u64_get c.args.drive.pace.fuel) (non_zero_u64_get c.args.drive.pace.every)
     (g.R.LineReader.unread c.args.source.now.requests.reader) c.args.source.now.outside
     (g.R.LineReader.has_failed c.args.source.now.requests.reader))
     c.args.disk.now c.recover.new.disk c.args.outlet.now c.recover.new.outlet _ _ _
@@ -24,13 +24,13 @@ returns-in-Err-clause-refusal g c =
 pub returns-in-Ok-go_on-clause-serves : goal.returns-in-Ok-go_on-clause-serves
 returns-in-Ok-go_on-clause-serves g c =
     serves_over g.D.Disk.medium g.O.Outlet.takes
-    (disk_job (non_zero_u64_get c.args.pace.fuel) (non_zero_u64_get c.args.pace.every)
+    (disk_job (non_zero_u64_get c.args.drive.pace.fuel) (non_zero_u64_get c.args.drive.pace.every)
     (g.R.LineReader.unread c.args.source.now.requests.reader) c.args.source.now.outside
     (g.R.LineReader.has_failed c.args.source.now.requests.reader))
     c.args.disk.now c.go_on.new.disk c.args.outlet.now c.go_on.new.outlet _ _ _ c.say.result
     c.in-Ok.worker c.recover.new.disk c.recover.new.outlet c.tell_recovered.new.err
     c.in-Ok.ensures.carries c.in-Ok.ensures.heeds c.tell_recovered.ensures c.in-Ok-go_on.now
-    c.in-Ok-go_on.ensures c.say.ensures
+    c.in-Ok-go_on.ensures.gone c.say.ensures
 
 pub returns-in-Ok-go_on-clause-refusal : goal.returns-in-Ok-go_on-clause-refusal
 returns-in-Ok-go_on-clause-refusal g c =
@@ -40,14 +40,14 @@ returns-in-Ok-go_on-clause-refusal g c =
 pub returns-clause-serves : goal.returns-clause-serves
 returns-clause-serves g c =
     serves_broken g.D.Disk.medium g.O.Outlet.takes
-    (disk_job (non_zero_u64_get c.args.pace.fuel) (non_zero_u64_get c.args.pace.every)
+    (disk_job (non_zero_u64_get c.args.drive.pace.fuel) (non_zero_u64_get c.args.drive.pace.every)
     (g.R.LineReader.unread c.args.source.now.requests.reader) c.args.source.now.outside
     (g.R.LineReader.has_failed c.args.source.now.requests.reader))
     c.args.disk.now c.go_on.new.disk c.args.outlet.now c.go_on.new.outlet _ _ _
     c.say_disk_fault-in-Err-go_on.result
     c.in-Ok.worker c.recover.new.disk c.recover.new.outlet c.tell_recovered.new.err
     c.in-Ok.ensures.carries c.in-Ok.ensures.heeds c.tell_recovered.ensures c.in-Err-go_on.fault
-    c.in-Err-go_on.ensures c.say_disk_fault-in-Err-go_on.ensures
+    c.in-Err-go_on.ensures.gone c.say_disk_fault-in-Err-go_on.ensures
 
 pub returns-clause-refusal : goal.returns-clause-refusal
 returns-clause-refusal g c =

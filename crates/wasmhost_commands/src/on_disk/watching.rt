@@ -1,0 +1,111 @@
+//! Where a worker on a disk stands, for whoever watches it.
+
+ghost use Rattle.std.specs.Prelude.{◌≡◌, true, OnErr, OnOk};
+ghost use Rattle.wasmhost_commands.specs.rules.Printers.{IsPrinted};
+ghost use Rattle.wasmhost_commands.specs.rules.Watchings.{standing_line, standing_words};
+
+use crate::on_disk::ending::print_last_words;
+use crate::on_disk::showing::print_number;
+use crate::printer::Printer;
+use ephemeral_worker::Now;
+use std::alloc::Global;
+use std::fs::File;
+use std::io::{self, Write};
+use std::rt::Files;
+use worker::Worker;
+
+/// Whoever is told where a worker on a disk stands.
+pub trait Watcher {
+    ghost use Rattle.std.specs.Prelude.{Bool, IsTrue};
+    ghost use Rattle.ephemeral_worker.specs.declared.now.Now.{Now};
+    ghost use Rattle.worker.specs.rules.DurableValues.{DurableValue};
+
+    // Whether it was told of this worker, whose last slice has answered this.
+    ghost is_told: { Self → DurableValue → Now → Bool };
+
+    /// Tells where a worker stands that was just saved, and what its last slice has answered.
+    fn tell(&self, worker: &Worker, now: Now)
+        ensures { IsTrue (is_told self.now worker.now now) };
+}
+
+/// Writes that a worker runs on, or how it is over.
+fn print_standing<W: Write + Drop>(out: &mut Printer<W>, now: Now) -> io::Result<()>
+    ensures printed { OnOk result (IsPrinted out.old out.new (standing_words now)) }
+    ensures failed { OnErr result (out.new.failed ≡ true) }
+{
+    match now {
+        Now::Spent => out.write_all(b"running\n"),
+        Now::Waiting => print_last_words(out, Now::Waiting),
+        Now::Ended(how) => print_last_words(out, Now::Ended(how)),
+    }
+}
+
+/// Writes where a worker stands.
+fn print_status<W: Write + Drop>(out: &mut Printer<W>, worker: &Worker, now: Now) -> io::Result<()>
+    ensures printed { OnOk result (IsPrinted out.old out.new (standing_line worker.now now)) }
+    ensures failed { OnErr result (out.new.failed ≡ true) }
+{
+    print_number(out, "generation ", worker.generation())?;
+    print_number(out, " steps ", worker.process().steps())?;
+    print_number(out, " answers ", worker.process().answers())?;
+    print_number(out, " lines ", worker.process().lines())?;
+    out.write_all(b" ")?;
+    print_standing(out, now)
+}
+
+// Where there is none, nobody has to be told.
+impl<T: Watcher> Watcher for Option<T> {
+    ghost use Rattle.std.specs.Prelude.{true};
+    ghost use Rattle.std.specs.Option.{option_map_or};
+
+    ghost is_told = { λ watcher w now. option_map_or (λ t. T.is_told t w now) watcher true };
+
+    fn tell(&self, worker: &Worker, now: Now) {
+        if let Some(watcher) = self {
+            watcher.tell(worker, now);
+        }
+    }
+}
+
+/// A small file with one line, where a worker stands. It is written beside its path, and then
+/// renamed, so that whoever reads it finds a whole line. A worker runs on though it can't be
+/// written.
+#[derive(Drop)]
+pub struct StatusFile<'a, R> {
+    files: &'a R,
+    path: &'a str,
+    beside: String,
+}
+
+impl<'a, R: Files> StatusFile<'a, R> {
+    /// A file at this path, once there is something to tell. Fails where none can be made beside
+    /// it.
+    pub fn new(alloc: Global, files: &'a R, path: &'a str) -> io::Result<StatusFile<'a, R>> {
+        let beside = format!(in alloc; "{path}.new")?;
+        File::create(files, beside.as_str())?;
+        Ok(StatusFile {
+            files,
+            path,
+            beside,
+        })
+    }
+
+    /// Writes the line beside the path, and renames it.
+    fn replace(&self, worker: &Worker, now: Now) -> io::Result<()> {
+        let mut out = Printer::new(File::create(self.files, self.beside.as_str())?, false);
+        print_status(&mut out, worker, now)?;
+        drop(out);
+        self.files.rename(self.beside.as_str(), self.path)
+    }
+}
+
+// Of files no more is known than what they answer.
+impl<R: Files> Watcher for StatusFile<'_, R> {
+    ghost use Rattle.std.specs.Prelude.{true};
+
+    ghost is_told = { λ _ _ _. true };
+
+    fn tell(&self, worker: &Worker, now: Now) {
+        let _ = self.replace(worker, now);
+    }
+}
