@@ -6,6 +6,7 @@ mod TurnCounts
 mod StoreTurnLemmas
 mod ShortAnswers
 mod DurableLemmas
+mod SavingActLemmas
 mod CheckpointLemmas
 mod RecoveryLemmas
 mod CreationLemmas

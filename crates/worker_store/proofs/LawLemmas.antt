@@ -8,6 +8,7 @@ pub mod Passing
 pub mod Keeping
 pub mod Reading
 pub mod Underway
+pub mod Acts
 pub mod CallEnds
 pub mod Pieces
 pub mod Telling

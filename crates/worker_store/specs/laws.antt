@@ -6,6 +6,7 @@ pub mod Journaled
 pub mod Moments
 pub mod Readings
 pub mod Underway
+pub mod Acts
 pub mod CallEnds
 pub mod Pieces
 pub mod Telling

@@ -10,7 +10,7 @@ ghost use Rattle.worker_store.specs.laws.Underway.{AnswersGoOn, AnswersAreKept, 
 ghost use Rattle.worker_store.specs.laws.Telling.{AllLinesAreTold, LinesAreToldInVain};
 ghost use Rattle.worker_store.specs.laws.CallEnds.{SpentSlicesEnd, EndedSlicesEnd};
 ghost use Rattle.worker_store.specs.laws.CallEnds.{WaitingSlicesEnd, FailedSlicesEnd};
-ghost use Rattle.worker_store.specs.laws.CallEnds.{DoneCheckpointsEnd, FailedCheckpointsEnd};
+ghost use Rattle.worker_store.specs.laws.CallEnds.{DoneSavesEnd, FailedSavesEnd};
 ghost use Rattle.worker_store.specs.laws.CallEnds.{SlicesBegin, CallsLeaveBetween};
 ghost use Rattle.worker_store.specs.laws.Pieces.{PartsJoin, PartsAreForetold, EndsJoin};
 ghost use Rattle.worker_store.specs.laws.Reopening.{LinesAreRetold, LinesAreRetoldInVain};
@@ -55,9 +55,9 @@ pub fn calls_end()
     ensures failed { (m : Module) (config : Settings) (guest : Guest)
         → FailedSlicesEnd m config guest }
     ensures saved { (m : Module) (config : Settings) (guest : Guest)
-        → DoneCheckpointsEnd m config guest }
+        → DoneSavesEnd m config guest }
     ensures not_saved { (m : Module) (config : Settings) (guest : Guest)
-        → FailedCheckpointsEnd m config guest }
+        → FailedSavesEnd m config guest }
     ensures begins { (m : Module) (config : Settings) (guest : Guest)
         → SlicesBegin m config guest }
     ensures between { (m : Module) (config : Settings) (guest : Guest)

@@ -31,7 +31,7 @@ ghost use Rattle.worker_store.specs.laws.Readings.{ReadsUndamaged, FindsNewestPo
 ghost use Rattle.worker_store.specs.laws.Readings.{ScansTheRecords};
 ghost use Rattle.worker_store.specs.laws.Carried.{HeldAtStands, StandsHeldAt, LessIsHeld};
 ghost use Rattle.worker_store.specs.laws.Carried.{MarkedIsHeld, BlankIsUnopened, StaysCarried};
-ghost use Rattle.worker_store.specs.laws.Carried.{NextIsHeld, FreshIsHeld, CheckpointIsHeld};
+ghost use Rattle.worker_store.specs.laws.Carried.{NextIsHeld, FreshIsHeld, SavedIsHeld};
 ghost use Rattle.worker_store.specs.laws.Carried.{OpeningIsHeld, PointIsAt, PointOpens};
 ghost use Rattle.worker_store.specs.laws.Carried.{CarriedKeeps, BarrierCarries, BarrierCarriesOn};
 ghost use Rattle.worker_store.specs.laws.Carried.{CommitCarries, StandingCarries};
@@ -40,11 +40,12 @@ ghost use Rattle.worker_store.specs.laws.Raised.{AllSyncsAreHeld, QuietSyncsAreH
 ghost use Rattle.worker_store.specs.laws.Raised.{AnsweredSyncsAreHeld, AnswerIsOnRecord};
 ghost use Rattle.worker_store.specs.laws.Raised.{MovedSyncsAreHeld};
 ghost use Rattle.worker_store.specs.laws.Raised.{ToldCarries, AskedCarries, EndedCarries};
-ghost use Rattle.worker_store.specs.laws.Raised.{AppendCarries, CarriedIsReached};
+ghost use Rattle.worker_store.specs.laws.Raised.{MoreCarries, AppendCarries, CarriedIsReached};
 ghost use Rattle.worker_store.specs.laws.AtHand.{ShownIsSaved, ShownIsNumbered, NextIsAtHand};
 ghost use Rattle.worker_store.specs.laws.AtHand.{FirstIsAtHand};
-ghost use Rattle.worker_store.specs.laws.Saves.{SaveAtAnyMoment, SaveCarries, SavingCheckpoints};
-ghost use Rattle.worker_store.specs.laws.Saves.{EndsPromiseNoLess};
+ghost use Rattle.worker_store.specs.laws.Acts.{CheckpointsSave, SavingEndsAlike};
+ghost use Rattle.worker_store.specs.laws.Saves.{SaveAtAnyMoment, SaveCarries, DoneSavesCarry};
+ghost use Rattle.worker_store.specs.laws.Saves.{FailedSavesCarry, EndsPromiseNoLess};
 ghost use Rattle.worker_store.specs.laws.Anew.{CreationOpens};
 ghost use Rattle.worker_store.specs.laws.Recovered.{RetoldIsHeld, RecoveryOpens};
 ghost use Rattle.worker_store.specs.laws.Laws.{AppendStores, ImagesFitAreas};
@@ -154,7 +155,7 @@ pub fn disks_give_what_they_stand_by()
 {}
 
 /// What stands at a savepoint holds of a promise what the savepoint and its records hold. A next
-/// savepoint holds that too, and what the end of a checkpoint or an opening promises there.
+/// savepoint holds that too, and what an opening or the end of an act that saves promises there.
 pub fn savepoints_hold_promises()
     ensures stands { HeldAtStands }
     ensures held { StandsHeldAt }
@@ -163,7 +164,7 @@ pub fn savepoints_hold_promises()
     ensures less { LessIsHeld }
     ensures next { NextIsHeld }
     ensures fresh { FreshIsHeld }
-    ensures checkpoint { CheckpointIsHeld }
+    ensures saved { SavedIsHeld }
     ensures opening { OpeningIsHeld }
     ensures at { PointIsAt }
     ensures opens { PointOpens }
@@ -195,6 +196,7 @@ pub fn syncs_are_held()
 pub fn events_carry_promises<D: Disk>()
     ensures told { ToldCarries D.medium }
     ensures asked { AskedCarries D.medium }
+    ensures more { MoreCarries D.medium }
     ensures ended { EndedCarries D.medium }
     ensures appended { AppendCarries D.medium }
     ensures reached { CarriedIsReached D.medium }
@@ -210,11 +212,14 @@ pub fn processes_are_savepoints()
 {}
 
 /// A barrier and a commit, one after the other, save a worker. At each moment its disk keeps what
-/// is promised, and in the end what a checkpoint promises.
+/// is promised. In the end it keeps what the act promises that saves it, by Ok or by any error.
 pub fn saves_carry_promises<D: Disk>()
     ensures moment { SaveAtAnyMoment D.medium }
     ensures carries { SaveCarries D.medium }
-    ensures checkpoint { SavingCheckpoints D.medium }
+    ensures checkpoint { CheckpointsSave }
+    ensures alike { SavingEndsAlike }
+    ensures done { DoneSavesCarry D.medium }
+    ensures failed { FailedSavesCarry D.medium }
     ensures ends { EndsPromiseNoLess }
 {}
 

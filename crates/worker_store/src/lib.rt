@@ -59,25 +59,28 @@
 //! - `disks_give_what_they_stand_by`: what is read of a disk that stands for a worker is what it
 //!   stands by.
 //! - `savepoints_hold_promises`: what stands at a savepoint with its records holds of a promise
-//!   what these hold (`IsHeldAt`). The next savepoint holds that too, and what the end of a
-//!   checkpoint, or a life that opens there, promises. A recovery finds what holds all that is
+//!   what these hold (`IsHeldAt`). The next savepoint holds that too, and what the end of an act
+//!   that saves, or a life that opens there, promises. A recovery finds what holds all that is
 //!   promised, or nothing was promised.
 //! - `disks_carry_promises`: the disk of an open worker (`IsCarried`) keeps what is promised. So it
 //!   does at each moment of a barrier, of a commit and of a creation, and behind their errors.
 //! - `processes_are_savepoints`: the process at hand is the next savepoint, wherever the records of
-//!   the last one have led (`IsNextOf`). One that begins is a first savepoint.
+//!   the last one, and what is kept besides, have led (`IsNextOf`). One that begins is a first
+//!   savepoint.
 //! - `saves_carry_promises`: a barrier and a commit, one after the other, keep what is promised,
-//!   and in the end what a checkpoint promises. `creations_open_workers`: so does a creation, and
-//!   in the end what its opening promises. `recoveries_open_workers`: so does a recovery.
-//! - `events_carry_promises`, `syncs_are_held`: so it is behind each event. Which syncs of the
-//!   guest need no answer but those on the disk follows from the steps between two barriers.
+//!   and in the end what the act promises that saves the worker (`IsSaving`). A checkpoint is one.
+//!   `creations_open_workers`: so does a creation, and in the end what its opening promises.
+//!   `recoveries_open_workers`: so does a recovery.
+//! - `events_carry_promises`, `syncs_are_held`: so it is behind each event, and where more is kept.
+//!   Which syncs of the guest need no answer but those on the disk follows from the steps between
+//!   two barriers.
 //!
 //! The calls of `events` say how what a worker does becomes events of a life:
 //!
 //! - `slices_tell_lines`: in a slice that is under way steps go on. Each line that is told is the
 //!   next one, and lines that are released one after another keep what was promised.
 //! - `slices_ask_questions`: so does each question, whatever is said to it.
-//! - `calls_end`: each way in which a slice or a checkpoint is over keeps it too.
+//! - `calls_end`: each way in which a slice or an act that saves is over keeps it too.
 //! - `parts_of_calls_join`: what parts of a call keep one after another they keep together.
 //! - `lives_are_opened`: a recovery keeps it by what it tells, and by its opening. A fresh worker
 //!   holds what was promised where nothing was.
@@ -102,7 +105,8 @@
 //! All else in `specs/laws/` are second forms of what `restart_theorem`, `journal`, `snapshot` and
 //! `disk_layout` define. Nobody has to believe them. They are `AwaitsHead` and `AwaitsSuper`
 //! (`Creations.antt`), `IsJournaled` (`Journaled.antt`), `IsHeldAt`, `SavesFront` and `IsCarried`
-//! (`Carried.antt`), `SyncsAreHeld` and `AreOnRecord` (`Raised.antt`).
+//! (`Carried.antt`), `IsSaving` and `SavesWith` (`Acts.antt`), `SyncsAreHeld` and `AreOnRecord`
+//! (`Raised.antt`).
 //!
 //! # Who may touch what
 //!

@@ -1,6 +1,6 @@
 -- Room on the disk for the next answer.
 use Rattle.std.proofs.Common.{◌≡◌, ℕ, ◌+◌, ◌-◌, ◌*◌, ◌≤◌, [], length, refl}
-use Rattle.std.proofs.Common.{sym, ap, ◌∙◌, subst, inl, inr, arith, false}
+use Rattle.std.proofs.Common.{sym, ap, ◌∙◌, subst, inl, inr, arith, false, take}
 use Rattle.std.proofs.lemmas.List.{append-nil}
 use Rattle.wasi_abi.specs.declared.answer.Kind.{Kind}
 use Rattle.wasi_abi.specs.declared.numbers.TheConstants.{NUMBERS_END}
@@ -40,7 +40,7 @@ use Rattle.worker.specs.rules.Savings.{LeavesFrontOrNext, IsSaveFault, SaveFails
 use Rattle.worker.specs.DurableTurns.{Course, IsAskingOn, HasRoom, MakesRoom}
 use Rattle.worker.specs.DurableTurns.{MakesNoRoom}
 use Rattle.worker.specs.DurableTurns.{TurnFails, slice_end, longest_record}
-use Rattle.worker.proofs.CheckpointLemmas.{CanSave, can_save}
+use Rattle.worker.proofs.SavingActLemmas.{CanSave, can_save, all_first}
 use Rattle.worker.proofs.DurableLemmas.OnDisk.{keeps_now, fewer_syncs, lowered_to}
 use Rattle.worker.proofs.DurableLemmas.Bounds.{on_disk_still, saves_within}
 use Rattle.worker.proofs.DurableLemmas.Ends.{fails_at_call, failed_end, broken_open}
@@ -106,11 +106,11 @@ module _ {D : Type 0} (medium : D → Medium) (w : Running) (after : WorkerStore
   module _ (c : Course) (promise : Promise) (stage : Stage) (p : ProcessState) (kind : Kind)
       (asking : IsAskingOn c promise stage p kind promise.events w (medium disk)) where
     ready : CanSave c.code c.config c.guest promise p p.steps promise.events w.store (medium disk)
-        asking.running.on_disk w.process
+        asking.running.on_disk [] p w.process
     ready =
         let running = asking.running in
-        can_save medium c.code c.config c.guest promise p p.steps promise.events w.store disk
-        w.process running.on_disk running.shows numbered running.module_is running.texts fit
+        can_save medium c.code c.config c.guest promise p p.steps promise.events w.store disk [] 0 p
+        w.process running.on_disk none running.shows numbered running.module_is running.texts fit
 
     -- all lines were told
     heard : length p.host.lines ≤ promise.heard
@@ -121,6 +121,11 @@ module _ {D : Type 0} (medium : D → Medium) (w : Running) (after : WorkerStore
         released_whole w.process c.guest p running.shows asking.none_waits in
         let few : w.process.host.released ≤ promise.heard = way.heard in
         omega (arith, told, few)
+
+    all_kept : take (length ready.next.front) promise.kept ≡ ready.next.front
+    all_kept =
+        let can = ready in
+        all_first promise.kept can.next.front (can.all ∙ append-nil promise.kept)
 
     -- at any moment it is one generation on at most
     save_bounds : StaysWithin (promise.events + 1) (medium disk) (medium disk')
@@ -201,10 +206,10 @@ module _ {D : Type 0} (medium : D → Medium) (w : Running) (after : WorkerStore
               running.module_is why.may why.bound)
               (save_carries medium c.code c.config promise
               (slice_end promise c.fuel (Fails why.cause) held w) point can.next w.store.journal
-              is.records is.pending is.last is.now disk disk'
+              is.records is.pending [] is.last is.now disk disk'
               (ends_promise_no_less promise (Slice c.fuel) (Fails why.cause) held
               (saved_of w.process)) later
-              (next_is.saves (slice_end promise c.fuel (Fails why.cause) held w) heard)
+              (next_is.saves (slice_end promise c.fuel (Fails why.cause) held w) all_kept heard)
               (leaves c.code c.config point can.next is.records is.pending is.last is.now is.stores
               next_is.comes next_is.saved))
               save_bounds,
@@ -221,7 +226,8 @@ module _ {D : Type 0} (medium : D → Medium) (w : Running) (after : WorkerStore
           next_is.comes next_is.saved
 
       all_on_record : AreOnRecord promise ready.next []
-      all_on_record = sym ready.all ∙ sym (append-nil ready.next.front)
+      all_on_record =
+          sym (append-nil promise.kept) ∙ sym ready.all ∙ sym (append-nil ready.next.front)
 
       save_goes : GoesOnFrom c.code c.config promise promise (medium disk) (medium disk')
       save_goes =
@@ -230,8 +236,8 @@ module _ {D : Type 0} (medium : D → Medium) (w : Running) (after : WorkerStore
           let next_is = ready.is_next in
           carried_on medium c promise disk disk' running.opened
           (save_carries medium c.code c.config promise promise is.point ready.next w.store.journal
-          is.records is.pending is.last is.now disk disk' (same_no_more promise) is.carried
-          (next_is.saves promise heard)
+          is.records is.pending [] is.last is.now disk disk' (same_no_more promise) is.carried
+          (next_is.saves promise all_kept heard)
           (leaves c.code c.config is.point ready.next is.records is.pending is.last is.now is.stores
           next_is.comes next_is.saved))
 
@@ -257,7 +263,7 @@ module _ {D : Type 0} (medium : D → Medium) (w : Running) (after : WorkerStore
             stores = stored;
             carried = begins_carried medium c.code c.config promise next after.journal disk'
                 (next_held medium c.code c.config promise is.point next w.store.journal is.records
-                is.pending is.last is.now disk is.carried (next_is.saves promise heard))
+                is.pending [] is.last is.now disk is.carried (next_is.saves promise all_kept heard))
                 journaled;
             on_record = all_on_record;
             n = 0;

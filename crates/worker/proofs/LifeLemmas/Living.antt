@@ -23,8 +23,8 @@ use Rattle.restart_theorem.specs.Lives.{Creates, End, Finished, Stopped, Failed,
 use Rattle.restart_theorem.specs.Lives.{Slice, Checkpoint}
 use Rattle.restart_theorem.specs.Courses.{Stage, Phase, Shut, Unheard, NoneThere, Broken, MayFail}
 use Rattle.restart_theorem.specs.Courses.{Open, Closed, at_first, next_stage, stage_after}
-use Rattle.restart_theorem.specs.Courses.{HasFailed, HasDiskFault, HasStopped, HasNotStopped, IsCutIn}
-use Rattle.restart_theorem.specs.Courses.{MayEnd}
+use Rattle.restart_theorem.specs.Courses.{HasFailed, HasDiskFault, HasStopped, HasNotStopped}
+use Rattle.restart_theorem.specs.Courses.{IsCutIn, MayEnd}
 use Rattle.restart_theorem.specs.Promises.{Promise, as_begun, after, promised, IsKept}
 use Rattle.restart_theorem.specs.Promises.{AreKept, OpensAnew}
 use Rattle.restart_theorem.specs.Holds.{HoldsPromise, KeepsPromise}
@@ -331,8 +331,31 @@ module _ (m : Module) (config : Settings) (bytes : List ℕ) (before : Promise) 
           going,
         )
 
-        by : HasStopped inputs.stop calls ⊎ HasNotStopped inputs.stop calls → LifeGoesOn (Err why)
-        by (inl stopped) =
+        -- The power was cut, and the call has seen it as a fault of the disk.
+        cut_at_end : b.cause ≡ OfDisk → HasStopped inputs.stop calls
+            → MayEnd inputs (promised so_far (events ++ end ∷ [])).events calls
+            (stage_after (at_first inputs) (events ++ end ∷ [])) Stopped
+        cut_at_end of_disk stopped =
+            (subst (λ (s : Stage). IsCutIn s.phase) (sym staged) of_disk, stopped)
+
+        -- with the end of the call
+        with_end : (ends : End) → EndsBy inputs calls (Err why) ends
+            → MayEnd inputs (promised so_far (events ++ end ∷ [])).events calls
+            (stage_after (at_first inputs) (events ++ end ∷ [])) ends → LifeGoesOn (Err why)
+        with_end ends by may =
+            ends_so (Err why) (events ++ end ∷ []) all_kept
+            (told_join events (end ∷ []) ∙ append-nil (told_in events) ∙ told) still_shown
+            (λ creates. let both = anew creates in (both.0, both.1 (end ∷ []))) ends by may
+            (subst (λ (p : Promise). KeepsPromise m config p last) (sym joined) b.keeps)
+            (subst (λ (p : Promise). KeepsBounds (p.events + 1) last) (sym joined)
+            (later_bound m config ((promised so_far events).events + 1)
+            ((promised so_far events).events + 1 + 1) last (omega arith) b.bounded)) later
+            (calls_longer (length events + 1) (length (events ++ end ∷ []) + 1) found last
+            (omega (arith, length-append events (end ∷ []))) few)
+
+        -- without it, where the error comes from elsewhere
+        without_end : HasStopped inputs.stop calls → LifeGoesOn (Err why)
+        without_end stopped =
             ends_so (Err why) events kept told shown anew_alone Stopped stopped (
               failed_cut m config (promised so_far events) (stage_after (at_first inputs) events)
                   b.act b.cause b.held b.shown b.ended,
@@ -340,17 +363,15 @@ module _ (m : Module) (config : Settings) (bytes : List ℕ) (before : Promise) 
             )
             (unended m config (promised so_far events) b.act b.cause b.held b.shown last
             b.has_opened b.keeps) b.bounded later few
-        by (inr going) =
-            ends_so (Err why) (events ++ end ∷ []) all_kept
-            (told_join events (end ∷ []) ∙ append-nil (told_in events) ∙ told) still_shown
-            (λ creates. let both = anew creates in (both.0, both.1 (end ∷ [])))
-            (Failed b.cause) (why, refl, b.is, going) (fails going)
-            (subst (λ (p : Promise). KeepsPromise m config p last) (sym joined) b.keeps)
-            (subst (λ (p : Promise). KeepsBounds (p.events + 1) last) (sym joined)
-            (later_bound m config ((promised so_far events).events + 1)
-            ((promised so_far events).events + 1 + 1) last (omega arith) b.bounded)) later
-            (calls_longer (length events + 1) (length (events ++ end ∷ []) + 1) found last
-            (omega (arith, length-append events (end ∷ []))) few)
+
+        cut : (cause : Cause) → b.cause ≡ cause → HasStopped inputs.stop calls
+            → LifeGoesOn (Err why)
+        cut OfDisk is stopped = with_end Stopped stopped (cut_at_end is stopped)
+        cut other is stopped = without_end stopped
+
+        by : HasStopped inputs.stop calls ⊎ HasNotStopped inputs.stop calls → LifeGoesOn (Err why)
+        by (inl stopped) = cut b.cause refl stopped
+        by (inr going) = with_end (Failed b.cause) (why, refl, b.is, going) (fails going)
 
   -- it wasn't opened
   ends_unopened : (why : RecoverFault)

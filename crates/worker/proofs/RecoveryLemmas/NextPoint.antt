@@ -1,6 +1,6 @@
 -- The next generation of a recovered worker: a savepoint of the process at hand.
 use Rattle.std.proofs.Common.{◌≡◌, ◌⊎◌, inl, inr, ⊎_elim, ℕ, ◌+◌, ◌≤◌, List, [], length, refl, sym}
-use Rattle.std.proofs.Common.{ap, ◌∙◌, subst, arith}
+use Rattle.std.proofs.Common.{ap, ◌∙◌, subst, arith, append-nil}
 use Rattle.std.specs.Prelude.{Result, Ok, Err}
 use Rattle.wasm_syntax.specs.declared.module.Module.{Module}
 use Rattle.wasi_abi.specs.declared.numbers.TheConstants.{NUMBERS_END}
@@ -48,7 +48,8 @@ pub record HasNext (m : Module) (config : Settings) (promise : Promise) (found :
     (sectors : ℕ) (mid new : Medium) (there : IsThere m config promise found sectors mid)
     (v : ProcessValue) : Type 0 where
   pub next : Savepoint m config
-  pub is_next : IsNextOf there.point found.records.items there.last there.last v next
+  pub is_next : IsNextOf there.point found.records.items [] there.last there.last v next
+  pub front : next.front ≡ answers_at there.point found.records.items
   pub again : IsAgain found.geometry (found.generation + 1) v next
   pub leaves : LeavesOnly mid new (λ disk.
       StandsAtPoint there.point found.records.items there.last disk ⊎ BeginsAtPoint next disk)
@@ -56,7 +57,7 @@ pub record HasNext (m : Module) (config : Settings) (promise : Promise) (found :
 -- where images stand at a savepoint, what is saved comes behind that
 before_next : (m : Module) (config : Settings) (point next : Savepoint m config)
     (records : List Record) (last p : ProcessState) (v : ProcessValue) (disk : Image)
-    → IsNextOf point records last p v next → StandsAtPoint point records last disk
+    → IsNextOf point records [] last p v next → StandsAtPoint point records last disk
     → StandsBefore next (answers_at point records) last.steps disk
 before_next m config point next records last p v disk is_next at =
     let by : StandsBySaved point (answers_at point records) last.steps disk =
@@ -81,8 +82,8 @@ module _ {D O : Type 0} (medium : D → Medium) (takes : Taking O) (m : Module)
         let records : List Record = found.records.items in
         let held = there.held in
         let at = there.found_at in
-        let hand = next_is_at_hand m config point records there.last there.last 0 v held.recorded
-        no_step back.shows back.some back.module_is in
+        let hand = next_is_at_hand m config point records [] there.last there.last 0 v
+        held.recorded no_step back.shows back.some back.module_is in
         let next : Savepoint m config = hand.0 in
         let comes = hand.1.comes in
         let again : IsAgain found.geometry (found.generation + 1) v next = record {
@@ -95,6 +96,7 @@ module _ {D O : Type 0} (medium : D → Medium) (takes : Taking O) (m : Module)
         record {
           next = next;
           is_next = hand.1;
+          front = hand.1.front ∙ append-nil (answers_at point records);
           again = again;
           leaves = writes.leaves m config point next records there.last again comes there.all;
         }

@@ -19,7 +19,7 @@ use Rattle.worker_store.specs.laws.CallEnds.{IsSavedAs, IsBetween}
 use Rattle.worker_store.specs.laws.Carried.{answers_at, count_at}
 use Rattle.worker_store.specs.laws.Recovered.{OpensAtNext}
 use Rattle.worker_store.proofs.LawLemmas.AtHand.{shown_is_saved, same_within}
-use Rattle.worker_store.proofs.LawLemmas.Carrying.{answers_count, begins_carried}
+use Rattle.worker_store.proofs.LawLemmas.Carrying.{answers_count, begins_carried, first_on_record}
 use Rattle.worker_store.proofs.LawLemmas.Pieces.{ends_join}
 use Rattle.worker_store.proofs.LawLemmas.Raising.{all_syncs_are_held}
 use Rattle.worker_store.proofs.LawLemmas.Recovering.{recovery_opens}
@@ -71,7 +71,7 @@ module _ {D O : Type 0} (medium : D → Medium) (takes : Taking O) (m : Module)
     opening = Opened (length has.next.front) (saved_of w.process)
 
     counted : length has.next.front ≡ count_at there.point found.records.items
-    counted = ap (λ (l : List Kept). length l) has.is_next.front
+    counted = ap (λ (l : List Kept). length l) has.front
         ∙ answers_count there.point found.records.items
 
     opened_there : IsOpening m config told.made.promise' told.made.stage' held
@@ -96,14 +96,16 @@ module _ {D O : Type 0} (medium : D → Medium) (takes : Taking O) (m : Module)
     opens_at =
         recovery_opens medium m config promise told.made.promise' (saved_of w.process) there.point
         has.next found.records.items there.last mid new told.no_more told.held
-        (has.is_next.saves told.made.promise' heard) has.is_next.saved has.leaves
+        (has.is_next.saves told.made.promise'
+        (first_on_record m config told.made.promise' there.point found.records.items there.last
+        has.next.front told.held has.front) heard) has.is_next.saved has.leaves
         stored.journaled.stands
 
     -- all kept answers are those of the savepoint
     kept_is : (after told.made.promise' opening).kept ≡ answers_at has.next []
     kept_is =
         let all = told.held in
-        ap (λ n. take n told.made.promise'.kept) counted ∙ all.front ∙ sym has.is_next.front
+        ap (λ n. take n told.made.promise'.kept) counted ∙ all.front ∙ sym has.front
         ∙ sym (append-nil has.next.front)
 
     open_now : IsOpenOn m config there.point.reached.guest (after told.made.promise' opening)

@@ -2,7 +2,6 @@
 use Rattle.std.proofs.Common.{◌≡◌, ℕ, ◌+◌, ◌≤◌, List, [], ◌++◌, length, refl, ◌∙◌}
 use Rattle.std.proofs.Common.{subst, arith}
 use Rattle.std.specs.Prelude.{map}
-use Rattle.std.proofs.lemmas.List.{append-nil}
 use Rattle.wasm_syntax.specs.declared.types.FunctionType.{FunctionType}
 use Rattle.wasm_syntax.specs.declared.module.Module.{Module}
 use Rattle.wasm_semantics.specs.Validity.{AreFunctionTypes, module_context}
@@ -45,7 +44,7 @@ pub same_within : (a b c : ℕ) → a ≡ b → b ≤ c → a ≤ c
 same_within a b c e le = omega (arith, e, le)
 
 pub next_is_at_hand : NextIsAtHand
-next_is_at_hand m config point records last p n v recorded runs shows is same =
+next_is_at_hand m config point records more last p n v recorded runs shows is same =
     let guest : Guest = point.reached.guest in
     let start : ProcessState = point.reached.start in
     let answers : List Kept = answers_at point records in
@@ -53,11 +52,8 @@ next_is_at_hand m config point records last p n v recorded runs shows is same =
     let back : Runs guest start answers (point.steps + on.steps) last =
     runs_join guest start point.process last point.front (map given_in records) point.steps
     on.steps point.reached.runs on.runs in
-    let there : Runs guest start (answers ++ []) (point.steps + on.steps + n) p =
-    runs_join guest start last p answers [] (point.steps + on.steps) n back runs in
-    let all : Runs guest start answers (point.steps + on.steps + n) p =
-    subst (λ (l : List Kept). Runs guest start l (point.steps + on.steps + n) p)
-    (append-nil answers) there in
+    let all : Runs guest start (answers ++ more) (point.steps + on.steps + n) p =
+    runs_join guest start last p answers more (point.steps + on.steps) n back runs in
     let saved = shown_is_saved m config guest v p shows same in
     let lines : (saved_of v).lines ≡ length p.host.lines = saved.shows.lines in
     let next : Savepoint m config = record {
@@ -66,7 +62,7 @@ next_is_at_hand m config point records last p n v recorded runs shows is same =
       settings = point.settings;
       generation = point.generation + 1;
       saved = saved_of v;
-      front = answers;
+      front = answers ++ more;
       steps = point.steps + on.steps + n;
       process = p;
       reached = record {
@@ -91,8 +87,9 @@ next_is_at_hand m config point records last p n v recorded runs shows is same =
         front = refl;
         process = refl;
         same = refl;
-        saves = λ promise heard. record {
+        saves = λ promise kept heard. record {
           front = refl;
+          kept = kept;
           steps = n;
           runs = runs;
           heard = same_within (saved_of v).lines (length p.host.lines) promise.heard lines heard;

@@ -1,5 +1,5 @@
 -- How a worker's call ends.
-use Rattle.std.proofs.Common.{◌≡◌, ℕ, suc, ◌+◌, ◌≤◌, ◌^◌, List, ◌∷◌, length}
+use Rattle.std.proofs.Common.{◌≡◌, ℕ, suc, ◌+◌, ◌≤◌, ◌^◌, List, ◌∷◌, ◌++◌, length}
 use Rattle.std.proofs.Common.{take, refl, sym, ap, ◌∙◌, subst, arith, inl, inr, Option}
 use Rattle.std.proofs.Common.{Some}
 use Rattle.std.proofs.Math.Seq.{take-length}
@@ -9,19 +9,22 @@ use Rattle.wasi_abi.specs.declared.answer.Answer.{Answer}
 use Rattle.wasi_abi.specs.rules.Configs.{Settings}
 use Rattle.process_rules.specs.Processes.{ProcessState, Guest, IsStart}
 use Rattle.process_rules.specs.Runs.{Kept, Runs, Next, On, Over, Wants, Nowhere, next_of}
+use Rattle.process_rules.proofs.Growing.{runs_count}
+use Rattle.process_rules.proofs.Quiet.{runs_join}
 use Rattle.process.specs.rules.Stops.{LacksNumbers}
 use Rattle.state_image.specs.rules.Image.{Saved}
-use Rattle.restart_theorem.specs.Lives.{Act, Slice, Checkpoint}
+use Rattle.restart_theorem.specs.Lives.{Act, Slice, Done, Ended}
 use Rattle.restart_theorem.specs.Lives.{Fails, Cause, OfDisk, OfSource, OfAnswer, OfOutlet}
 use Rattle.restart_theorem.specs.Lives.{OfMemory, OfBounds}
 use Rattle.restart_theorem.specs.Courses.{Stage, NoneThere, MayFail}
 use Rattle.restart_theorem.specs.Courses.{IsNextAct}
-use Rattle.restart_theorem.specs.Promises.{Promise, IsAt, IsAtBound, HasLastLines}
+use Rattle.restart_theorem.specs.Promises.{Promise, after, IsAt, IsAtBound, HasLastLines}
 use Rattle.restart_theorem.specs.Promises.{IsCaughtUp, IsOneOf}
 use Rattle.worker_store.proofs.LawLemmas.Underway.{among_first}
 use Rattle.worker_store.specs.laws.CallEnds.{IsSavedAs, SpentSlicesEnd, EndedSlicesEnd}
 use Rattle.worker_store.specs.laws.CallEnds.{WaitingSlicesEnd, HasBound, FailedSlicesEnd}
-use Rattle.worker_store.specs.laws.CallEnds.{DoneCheckpointsEnd, FailedCheckpointsEnd}
+use Rattle.worker_store.specs.laws.CallEnds.{IsSavingNext, DoneSavesEnd, FailedSavesEnd}
+use Rattle.worker_store.proofs.LawLemmas.Acts.{done_reply, failed_reply}
 use Rattle.worker_store.specs.laws.CallEnds.{SlicesBegin, CallsLeaveBetween}
 
 next_act : (act : Act) (acts rest : List Act) → acts ≡ act ∷ rest → IsNextAct act acts
@@ -166,7 +169,7 @@ module _ (m : Module) (config : Settings) (guest : Guest) where
             saved cause bound;
       }
 
-  -- ---- a checkpoint
+  -- ---- an act that saves
 
   all_kept : (promise : Promise) (p : ProcessState) (start : ProcessState)
       → Runs guest start promise.kept p.steps p
@@ -174,40 +177,93 @@ module _ (m : Module) (config : Settings) (guest : Guest) where
   all_kept promise p start runs =
       subst (λ kept. Runs guest start kept p.steps p) (sym (take-length promise.kept)) runs
 
-  pub done_checkpoints_end : DoneCheckpointsEnd m config guest
-  done_checkpoints_end promise stage acts p shown at saved is =
-      let steps : shown.steps ≡ p.steps = saved.shows.steps in
+  -- What is kept in the end leads to the process that is saved.
+  module _ (promise : Promise) (stage : Stage) (act : Act) (more : List Kept)
+      (p q : ProcessState) (shown : Saved)
+      (is : IsSavingNext m config guest promise stage act more p q shown) where
+    same_steps : q.steps ≡ p.steps
+    same_steps =
+        let counted : q.steps ≡ p.steps + 0 =
+        runs_count guest p q more 0 (let comes = is.comes in comes.runs) in
+        omega (arith, counted)
+
+    pub saved_runs : Runs guest (let at = is.between in at.start) (promise.kept ++ more) q.steps q
+    saved_runs =
+        let at = is.between in
+        let comes = is.comes in
+        let there : p.steps + 0 ≡ q.steps = (let s = same_steps in omega (arith, s)) in
+        subst (λ n. Runs guest at.start (promise.kept ++ more) n q) there
+        (runs_join guest at.start p q promise.kept more p.steps 0 at.runs comes.runs)
+
+    saved_at : (kept : List Kept) → kept ≡ promise.kept ++ more
+        → Runs guest (let at = is.between in at.start) (take (length (promise.kept ++ more)) kept)
+        q.steps q
+    saved_at kept same =
+        subst (λ l. Runs guest (let at = is.between in at.start) l q.steps q)
+        (sym (ap (λ l. take (length (promise.kept ++ more)) l) same
+        ∙ take-length (promise.kept ++ more))) saved_runs
+
+    at_step : shown.steps ≡ stage.step
+    at_step =
+        let saved = is.saved in
+        let between = is.between in
+        saved.shows.steps ∙ same_steps ∙ sym between.step
+
+    told_all : stage.line ≡ Some (length q.host.lines)
+    told_all =
+        let between = is.between in
+        let comes = is.comes in
+        between.line ∙ ap (λ n. Some n) (sym comes.lines)
+
+  pub done_saves_end : DoneSavesEnd m config guest
+  done_saves_end promise stage act more p q shown is =
+      let held : ℕ = length (promise.kept ++ more) in
+      let saves = is.saves in
+      let between = is.between in
+      let kept : List Kept = (after promise (Ended act Done held shown)).kept in
+      let long : length kept ≡ length (promise.kept ++ more) =
+      ap (λ (l : List Kept). length l) (saves.kept Done held) in
+      let step : shown.steps ≡ stage.step =
+      at_step promise stage act more p q shown is in
+      let line = told_all promise stage act more p q shown is in
       record {
-        is_next = next_act Checkpoint stage.acts acts is;
-        within = omega arith;
-        at = at_of (take (length promise.kept) promise.kept) p shown at.start at.begins
-            (all_kept promise p at.start at.runs) saved;
-        onward = (let s = at.step in omega (arith, s, steps));
-        reply = (
-          at.is_open,
-          steps ∙ sym at.step,
-          caught_up promise stage p shown at.line saved,
-        );
+        is_next = next_act act stage.acts is.acts is.is_next;
+        within = omega (arith, long);
+        at = at_of (take held kept) q shown between.start between.begins
+            (saved_at promise stage act more p q shown is kept (saves.kept Done held)) is.saved;
+        onward = omega (arith, step);
+        reply = done_reply promise stage held shown act saves.saving between.is_open step
+            (record {
+              all_taken = sym long;
+              all_told = line ∙ ap (λ n. Some n) (let saved = is.saved in sym saved.shows.lines);
+            });
         bound = tt;
       }
 
-  pub failed_checkpoints_end : FailedCheckpointsEnd m config guest
-  failed_checkpoints_end promise stage acts p shown cause at saved is may bound =
-      let steps : shown.steps ≡ p.steps = saved.shows.steps in
+  pub failed_saves_end : FailedSavesEnd m config guest
+  failed_saves_end promise stage act more p q shown cause is may bound =
+      let held : ℕ = length (promise.kept ++ more) in
+      let saves = is.saves in
+      let between = is.between in
+      let kept : List Kept = (after promise (Ended act (Fails cause) held shown)).kept in
+      let long : length kept ≡ length (promise.kept ++ more) =
+      ap (λ (l : List Kept). length l) (saves.kept (Fails cause) held) in
+      let step : shown.steps ≡ stage.step =
+      at_step promise stage act more p q shown is in
+      let runs = saved_at promise stage act more p q shown is kept
+      (saves.kept (Fails cause) held) in
       record {
-        is_next = next_act Checkpoint stage.acts acts is;
-        within = omega arith;
-        at = at_of (take (length promise.kept) promise.kept) p shown at.start at.begins
-            (all_kept promise p at.start at.runs) saved;
-        onward = (let s = at.step in omega (arith, s, steps));
-        reply = (
-          subst (λ z. MayFail z cause) (sym at.is_open) may,
-          (let s = at.step in omega (arith, s, steps)),
-          among_first stage.line (length p.host.lines) shown.lines at.line
-              (let l = saved.shows.lines in omega (arith, l)),
-        );
-        bound = at_bound promise (take (length promise.kept) promise.kept) p shown at.start
-            at.begins (all_kept promise p at.start at.runs) saved cause bound;
+        is_next = next_act act stage.acts is.acts is.is_next;
+        within = omega (arith, long);
+        at = at_of (take held kept) q shown between.start between.begins runs is.saved;
+        onward = omega (arith, step);
+        reply = failed_reply promise stage held shown act cause saves.saving
+            (subst (λ z. MayFail z cause) (sym between.is_open) may) step
+            (among_first stage.line (length q.host.lines) shown.lines
+            (told_all promise stage act more p q shown is)
+            (let saved = is.saved in let l = saved.shows.lines in omega (arith, l)));
+        bound = at_bound promise (take held kept) q shown between.start between.begins runs is.saved
+            cause bound;
       }
 
   -- ---- from call to call

@@ -19,7 +19,8 @@ use Rattle.journal.specs.rules.State.{JournalState}
 use Rattle.record_replay.specs.rules.Records.{none, given_in}
 use Rattle.record_replay.proofs.Recordings.{recorded_count, recorded_emit, recorded_join}
 use Rattle.restart_theorem.specs.Stands.{IsBlank}
-use Rattle.restart_theorem.specs.Promises.{Promise, HoldsAll}
+use Rattle.restart_theorem.specs.Lives.{Checkpoint, Done, Ended}
+use Rattle.restart_theorem.specs.Promises.{Promise, after, HoldsAll}
 use Rattle.restart_theorem.specs.Holds.{HoldsPromise, IsUnopened, ImageHolds, CarriesPromise}
 use Rattle.restart_theorem.proofs.Disks.{blank_stands_for_none}
 use Rattle.worker_store.specs.laws.Savepoints.{Savepoint, point_of, StandsAtPoint, StandsBySaved}
@@ -29,10 +30,12 @@ use Rattle.worker_store.specs.laws.Carried.{answers_at, count_at, IsHeldAt, IsCa
 use Rattle.worker_store.specs.laws.Carried.{HeldAtStands}
 use Rattle.worker_store.specs.laws.Carried.{MarkedIsHeld, BlankIsUnopened, StaysCarried}
 use Rattle.worker_store.specs.laws.Carried.{StandsHeldAt, PromisesNoMore, LessIsHeld}
-use Rattle.worker_store.specs.laws.Carried.{NextIsHeld, FreshIsHeld, CheckpointIsHeld}
+use Rattle.worker_store.specs.laws.Carried.{NextIsHeld, FreshIsHeld, SavedIsHeld}
 use Rattle.worker_store.specs.laws.Carried.{OpeningIsHeld, PointIsAt, PointOpens, CarriedKeeps}
 use Rattle.worker_store.specs.laws.Carried.{BarrierCarries, BarrierCarriesOn, CommitCarries}
 use Rattle.worker_store.specs.laws.Carried.{StandingCarries, CreationCarries, BeginsCarried}
+use Rattle.worker_store.specs.laws.Acts.{keeping_more}
+use Rattle.worker_store.proofs.LawLemmas.Acts.{saving_ends_alike}
 use Rattle.worker_store.proofs.LawLemmas.Points.{by_point, steps_of}
 use Rattle.worker_store.proofs.LawLemmas.Fronts.{front_kept, length_of_map}
 use Rattle.worker_store.proofs.LawLemmas.Passing.{left_in_the_end}
@@ -221,15 +224,16 @@ blank_is_unopened m config promise disk found blank =
 -- ---- savepoints
 
 pub next_is_held : NextIsHeld
-next_is_held m config promise point next records last held saves =
+next_is_held m config promise point next records more last held saves =
     let guest = point.reached.guest in
-    let all = held.holds in
-    let bound : count_at point records ≤ length promise.kept = all.within in
-    let long : length next.front ≡ count_at point records =
-    ap (λ l. length l) saves.front ∙ answers_count point records in
-    let same : count_at point records ≡ count_at next [] = omega (arith, long) in
+    let long : length next.front ≡ count_at point records + length more =
+    ap (λ l. length l) saves.front ∙ length-append (answers_at point records) more
+    ∙ ap (λ n. n + length more) (answers_count point records) in
+    let bound : length next.front ≤ length promise.kept =
+    within_of (length next.front) promise.kept next.front saves.kept refl in
+    let same : length next.front ≡ count_at next [] = omega arith in
     let run : next.process.steps ≡ last.steps + saves.steps =
-    runs_count guest last next.process [] saves.steps saves.runs in
+    runs_count guest last next.process more saves.steps saves.runs in
     let told : point.saved.lines ≡ length point.process.host.lines = point.shown.lines in
     let tells : next.saved.lines ≡ length next.process.host.lines = next.shown.lines in
     let first : length point.process.host.lines ≤ length last.host.lines =
@@ -237,19 +241,29 @@ next_is_held m config promise point next records last held saves =
     (recorded_emit guest point.process last records held.recorded) in
     let later : length last.host.lines ≤ length next.process.host.lines =
     more_lines last.host next.process.host
-    (runs_emit guest last next.process [] saves.steps saves.runs) in
+    (runs_emit guest last next.process more saves.steps saves.runs) in
     let few : promise.passed ≤ point.saved.lines = held.passed in
     record {
       created = held.created;
       front = subst (λ n. take n promise.kept ≡ next.front ++ []) same
-          (held.front ∙ sym saves.front ∙ sym (append-nil next.front));
+          (saves.kept ∙ sym (append-nil next.front));
       recorded = none;
       holds = holds_grow m config promise.kept promise (count_at point records)
-          (count_at next []) last.steps next.process.steps all (omega (arith, same))
-          (omega (arith, same, bound)) (omega (arith, run));
+          (count_at next []) last.steps next.process.steps held.holds (omega (arith, long))
+          (omega (arith, bound)) (omega (arith, run));
       heard = saves.heard;
       passed = omega (arith, few, told, tells, first, later);
     }
+
+-- the answers on record are the first of all that is kept
+pub first_on_record : (m : Module) (config : Settings) (promise : Promise)
+    (point : Savepoint m config) (records : List Record) (last : ProcessState)
+    (front : List Kept) → IsHeldAt promise point records last
+    → front ≡ answers_at point records → take (length front) promise.kept ≡ front
+first_on_record m config promise point records last front held is =
+    subst (λ (l : List Kept). take (length l) promise.kept ≡ l) (sym is)
+    (subst (λ n. take n promise.kept ≡ answers_at point records)
+    (sym (answers_count point records)) held.front)
 
 pub fresh_is_held : FreshIsHeld
 fresh_is_held m config promise point nothing created empty no_lines =
@@ -297,7 +311,12 @@ fresh_is_held m config promise point nothing created empty no_lines =
       emitted = at_zero i (length point.process.host.lines) e;
     }
 
-pub checkpoint_is_held : CheckpointIsHeld
+-- what the end of a checkpoint promises
+checkpoint_is_held : (m : Module) (config : Settings) (promise : Promise)
+    (point : Savepoint m config) → IsHeldAt promise point [] point.process
+    → point.front ≡ promise.kept
+    → IsHeldAt (after promise (Ended Checkpoint Done (length point.front) point.saved)) point []
+    point.process
 checkpoint_is_held m config promise point held all =
     let holds = held.holds in
     let long : length point.front ≡ length promise.kept = ap (λ l. length l) all in
@@ -323,6 +342,12 @@ checkpoint_is_held m config promise point held all =
   where
     few : (a n k : ℕ) → a ≤ n → k ≡ n → a ≤ k + 0
     few a n k below e = omega (arith, below, e)
+
+pub saved_is_held : SavedIsHeld
+saved_is_held m config promise act more point saves held all =
+    subst (λ (z : Promise). IsHeldAt z point [] point.process)
+    (sym (saving_ends_alike promise act more point.saved Done (length point.front) saves))
+    (checkpoint_is_held m config (keeping_more promise more) point held all)
 
 pub opening_is_held : OpeningIsHeld
 opening_is_held m config promise point held =
@@ -506,8 +531,9 @@ module _ {D : Type 0} (medium : D → Medium) where
       }
 
   pub commit_carries : CommitCarries medium
-  commit_carries m config less promise point next records last old new no_more held saves leaves =
-      let there = next_is_held m config promise point next records last held saves in
+  commit_carries m config less promise point next records more last old new no_more held saves
+      leaves =
+      let there = next_is_held m config promise point next records more last held saves in
       carries m config less promise (medium old) (medium new) _ no_more
       (λ disk at. ⊎_elim
       (λ (stands : StandsAtPoint point records last disk).

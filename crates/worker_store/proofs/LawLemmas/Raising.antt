@@ -315,7 +315,7 @@ line_of_more m config kept more_kept i a behind = record {
     longer a n k l within e = omega (arith, within, e)
 
 -- fronts that are as long as some list stay where more are kept
-front_of_more : (n : ℕ) (kept more_kept answers : List Kept) → take n kept ≡ answers
+pub front_of_more : (n : ℕ) (kept more_kept answers : List Kept) → take n kept ≡ answers
     → n ≤ length kept → take n (kept ++ more_kept) ≡ answers
 front_of_more n kept more_kept answers e within = take-append-le n kept more_kept within ∙ e
 

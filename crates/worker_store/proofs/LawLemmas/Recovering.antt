@@ -4,7 +4,7 @@ use Rattle.std.proofs.Common.{sym}
 use Rattle.std.proofs.Common.{ap, ◌∙◌, subst, inr, ⊎_elim, arith}
 use Rattle.std.specs.Prelude.{map}
 use Rattle.std.proofs.lemmas.Bool.{cases_lt}
-use Rattle.std.proofs.lemmas.List.{length-take-le, take-take}
+use Rattle.std.proofs.lemmas.List.{append-nil, length-take-le, take-take}
 use Rattle.wasm_syntax.specs.declared.module.Module.{Module}
 use Rattle.wasi_abi.specs.rules.Configs.{Settings}
 use Rattle.process_rules.specs.Processes.{ProcessState, Guest}
@@ -182,14 +182,14 @@ module _ {D : Type 0} (medium : D → Medium) where
       let n : ℕ = length next.front in
       let more : Promise = after promise (Opened (length next.front) shown) in
       let there : IsHeldAt promise next [] next.process =
-      next_is_held m config promise point next records last held saves in
+      next_is_held m config promise point next records [] last held saves in
       let opened : IsHeldAt (after promise (Opened (length next.front) shown)) next []
       next.process =
       subst (λ (s : Saved).
       IsHeldAt (after promise (Opened (length next.front) s)) next [] next.process) same
       (opening_is_held m config promise next there) in
       let long : length next.front ≡ length (answers_at point records) =
-      ap (λ (l : List Kept). length l) saves.front in
+      ap (λ (l : List Kept). length l) (saves.front ∙ append-nil (answers_at point records)) in
       let P : Image → Type 0 = λ disk.
       StandsAtPoint point records last disk ⊎ BeginsAtPoint next disk in
       let holds : (disk : Image) → P disk → HoldsPromise m config less more disk =

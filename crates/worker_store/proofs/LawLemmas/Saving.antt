@@ -10,23 +10,28 @@ use Rattle.process_rules.specs.Processes.{ProcessState}
 use Rattle.process_rules.specs.Runs.{Kept}
 use Rattle.state_image.specs.rules.Image.{Saved}
 use Rattle.sector_disk.specs.rules.Image.{Image}
-use Rattle.sector_disk.specs.rules.Medium.{Medium}
+use Rattle.sector_disk.specs.rules.Medium.{Medium, LeavesOnly}
 use Rattle.sector_disk.proofs.Moments.{goes_on, weaker, leaves_only, leaves_weaker}
 use Rattle.disk_layout.specs.rules.Journal.{Record}
 use Rattle.journal.specs.rules.State.{JournalState}
 use Rattle.record_replay.specs.rules.Records.{Recorded, none}
-use Rattle.restart_theorem.specs.Lives.{Checkpoint, Done, Ended}
-use Rattle.restart_theorem.specs.Promises.{Promise, after}
-use Rattle.restart_theorem.specs.Holds.{HoldsPromise, ImageHolds}
+use Rattle.restart_theorem.specs.Lives.{Act, Checkpoint, Done, Fails, Cause, Ended}
+use Rattle.restart_theorem.specs.Promises.{Promise, after, synced_by}
+use Rattle.restart_theorem.specs.Holds.{HoldsPromise, ImageHolds, CarriesPromise}
 use Rattle.worker_store.specs.laws.Savepoints.{Savepoint, StandsAtPoint}
 use Rattle.worker_store.specs.laws.Barriers.{StandsAtFront}
 use Rattle.worker_store.specs.laws.Commits.{BeginsAtPoint}
-use Rattle.worker_store.specs.laws.Carried.{IsHeldAt, IsCarried, SavesFront}
+use Rattle.worker_store.specs.laws.Acts.{SavesWith, keeping_more}
+use Rattle.worker_store.specs.laws.Carried.{IsHeldAt, IsCarried, SavesFront, count_at}
+use Rattle.worker_store.specs.laws.Raised.{SyncsAreHeld}
 use Rattle.worker_store.specs.laws.Saves.{StandsAtFrontOrNext, SaveAtAnyMoment, SaveCarries}
-use Rattle.worker_store.specs.laws.Saves.{SavingCheckpoints, EndsPromiseNoLess}
+use Rattle.worker_store.specs.laws.Saves.{IsSavingAt, promise_saved, DoneSavesCarry}
+use Rattle.worker_store.specs.laws.Saves.{FailedSavesCarry, EndsPromiseNoLess}
+use Rattle.worker_store.proofs.LawLemmas.Acts.{saving_ends_alike}
 use Rattle.worker_store.proofs.LawLemmas.Carrying.{carries, front_is_held, all_is_held}
 use Rattle.worker_store.proofs.LawLemmas.Carrying.{next_is_held}
-use Rattle.worker_store.proofs.LawLemmas.Carrying.{held_at_stands, checkpoint_is_held}
+use Rattle.worker_store.proofs.LawLemmas.Carrying.{held_at_stands, saved_is_held}
+use Rattle.worker_store.proofs.LawLemmas.Raising.{ended_carries}
 
 -- ---- fronts
 
@@ -75,19 +80,29 @@ ends_promise_no_less promise act reply held shown = record {
   synced = le-max_right _ promise.synced;
 }
 
--- what holds a promise holds it also when the end of a call has promised more
-held_on : (m : Module) (config : Settings) (promise : Promise) (n : ℕ) (shown : Saved)
-    (disk : Image) → HoldsPromise m config promise promise disk
-    → HoldsPromise m config promise (after promise (Ended Checkpoint Done n shown)) disk
-held_on m config promise n shown disk holds = record {
-  created = holds.created;
-  held = holds.held;
-  steps = holds.steps;
-  stands = holds.stands;
-  holds = holds.holds;
-  snapshot_heard = holds.snapshot_heard;
-  snapshot_passed = holds.snapshot_passed;
-}
+-- What holds a promise with more kept holds it also when the end of a call has promised more.
+held_on : (m : Module) (config : Settings) (promise : Promise) (more : List Kept) (n : ℕ)
+    (shown : Saved) (disk : Image)
+    → HoldsPromise m config (keeping_more promise more) (keeping_more promise more) disk
+    → HoldsPromise m config promise
+    (after (keeping_more promise more) (Ended Checkpoint Done n shown)) disk
+held_on m config promise more n shown disk holds =
+    let all = holds.holds in
+    record {
+      created = holds.created;
+      held = holds.held;
+      steps = holds.steps;
+      stands = holds.stands;
+      holds = record {
+        within = all.within;
+        answers = all.answers;
+        steps_held = all.steps_held;
+        lines = all.lines;
+        syncs = all.syncs;
+      };
+      snapshot_heard = holds.snapshot_heard;
+      snapshot_passed = holds.snapshot_passed;
+    }
 
 module _ {D : Type 0} (medium : D → Medium) where
   pub save_at_any_moment : SaveAtAnyMoment medium
@@ -108,11 +123,12 @@ module _ {D : Type 0} (medium : D → Medium) where
 
   -- each image that a save leaves holds what is promised
   module _ (m : Module) (config : Settings) (promise : Promise) (point next : Savepoint m config)
-      (journal : JournalState) (records pending : List Record) (last now : ProcessState) (old : D)
+      (journal : JournalState) (records pending : List Record) (more : List Kept)
+      (last now : ProcessState) (old : D)
       (is : IsCarried promise point journal records pending last now (medium old))
-      (saves : SavesFront promise point next (records ++ pending) now) where
+      (saves : SavesFront promise point next (records ++ pending) more now) where
     pub next_held : IsHeldAt promise next [] next.process
-    next_held = next_is_held m config promise point next (records ++ pending) now
+    next_held = next_is_held m config promise point next (records ++ pending) more now
         (all_is_held m config promise point journal records pending last now (medium old) is) saves
 
     pub saved_holds : (disk : Image) → StandsAtFrontOrNext point next records last pending disk
@@ -124,40 +140,99 @@ module _ {D : Type 0} (medium : D → Medium) where
         held_at_stands m config promise next [] next.process disk next_held begins.at) at
 
   pub save_carries : SaveCarries medium
-  save_carries m config less promise point next journal records pending last now old new no_more is
-      saves leaves =
+  save_carries m config less promise point next journal records pending more last now old new
+      no_more is saves leaves =
       carries m config less promise (medium old) (medium new)
       (StandsAtFrontOrNext point next records last pending) no_more
-      (saved_holds m config promise point next journal records pending last now old is saves)
+      (saved_holds m config promise point next journal records pending more last now old is saves)
       leaves
 
-  pub saving_checkpoints : SavingCheckpoints medium
-  saving_checkpoints m config promise shown point next journal records pending last now old new is
-      saves all same leaves stands =
-      let long : length next.front ≡ length promise.kept =
-      ap (λ (l : List Kept). length l) all in
-      let held : IsHeldAt (after promise (Ended Checkpoint Done (length promise.kept) shown)) next
-      [] next.process =
-      subst (λ (s : Saved).
-      IsHeldAt (after promise (Ended Checkpoint Done (length promise.kept) s)) next [] next.process)
-      same
-      (subst (λ n.
-      IsHeldAt (after promise (Ended Checkpoint Done n next.saved)) next [] next.process) long
-      (checkpoint_is_held m config promise next
-      (next_held m config promise point next journal records pending last now old is saves) all))
-      in
+  -- ---- by an act
+
+  module _ (m : Module) (config : Settings) (promise : Promise) (act : Act) (more : List Kept)
+      (shown : Saved) (point next : Savepoint m config) (journal : JournalState)
+      (records pending : List Record) (last now : ProcessState) (old new : D)
+      (is : IsSavingAt promise act more shown point next journal records pending last now
+      (medium old))
+      (leaves : LeavesOnly (medium old) (medium new)
+      (StandsAtFrontOrNext point next records last pending)) where
+    done_held : IsHeldAt (promise_saved promise act more shown) next [] next.process
+    done_held =
+        let long : length next.front ≡ length (promise.kept ++ more) =
+        ap (λ (l : List Kept). length l) is.all in
+        let saves : SavesWith promise act more next.saved =
+        subst (λ (s : Saved). SavesWith promise act more s) (sym is.saved) is.saves in
+        subst (λ (s : Saved). IsHeldAt (promise_saved promise act more s) next [] next.process)
+        is.saved
+        (subst (λ n. IsHeldAt (after promise (Ended act Done n next.saved)) next [] next.process)
+        long
+        (saved_is_held m config promise act more next saves
+        (next_held m config (keeping_more promise more) point next journal records pending more last
+        now old is.carried is.front) is.all))
+
+    done_moments : LeavesOnly (medium old) (medium new)
+        (ImageHolds m config promise (promise_saved promise act more shown))
+    done_moments =
+        let n : ℕ = length (promise.kept ++ more) in
+        subst (λ (z : Promise).
+        LeavesOnly (medium old) (medium new) (ImageHolds m config promise z))
+        (sym (saving_ends_alike promise act more shown Done n is.saves))
+        (leaves_weaker (medium old) (medium new)
+        (StandsAtFrontOrNext point next records last pending)
+        (ImageHolds m config promise
+        (after (keeping_more promise more) (Ended Checkpoint Done n shown))) leaves
+        (λ disk at. inr (held_on m config promise more n shown disk
+        (saved_holds m config (keeping_more promise more) point next journal records pending more
+        last now old is.carried is.front disk at))))
+
+    failed_carries : (cause : Cause) (held : ℕ)
+        → SyncsAreHeld m config (promise.kept ++ more) (count_at point records)
+        (synced_by (Fails cause) shown.steps)
+        → CarriesPromise m config promise (after promise (Ended act (Fails cause) held shown))
+        (medium old) (medium new)
+    failed_carries cause held syncs =
+        let front = is.front in
+        subst (λ (z : Promise). CarriesPromise m config promise z (medium old) (medium new))
+        (sym (saving_ends_alike promise act more shown (Fails cause) held is.saves))
+        (save_carries m config promise
+        (after (keeping_more promise more) (Ended Checkpoint (Fails cause) held shown)) point next
+        journal records pending more last now old new
+        (record {
+          answers = le-max_right _ promise.answers;
+          steps = le-max_right _ promise.steps;
+          passed = le-max_right _ promise.passed;
+          begun = omega arith;
+          synced = le-max_right _ promise.synced;
+        })
+        (ended_carries medium m config (keeping_more promise more) point journal records pending
+        last now Checkpoint (Fails cause) held shown old is.carried (λ count. refl) syncs)
+        (record {
+          front = front.front;
+          kept = front.kept;
+          steps = front.steps;
+          runs = front.runs;
+          heard = front.heard;
+        }) leaves)
+
+  pub done_saves_carry : DoneSavesCarry medium
+  done_saves_carry m config promise act more shown point next journal records pending last now old
+      new is leaves stands =
+      let held : IsHeldAt (promise_saved promise act more shown) next [] next.process =
+      done_held m config promise act more shown point next journal records pending last now old new
+      is leaves in
       record {
         carries = record {
-          at_any_moment = leaves_weaker (medium old) (medium new)
-              (StandsAtFrontOrNext point next records last pending)
-              (ImageHolds m config promise
-              (after promise (Ended Checkpoint Done (length promise.kept) shown))) leaves
-              (λ disk at. inr (held_on m config promise (length promise.kept) shown disk
-              (saved_holds m config promise point next journal records pending last now old is saves
-              disk at)));
+          at_any_moment = done_moments m config promise act more shown point next journal records
+              pending last now old new is leaves;
           in_the_end = λ disk left. inr (held_at_stands m config
-              (after promise (Ended Checkpoint Done (length promise.kept) shown)) next []
-              next.process disk held (stands disk left));
+              (promise_saved promise act more shown) next [] next.process disk held
+              (stands disk left));
         };
         held = held;
       }
+
+  pub failed_saves_carry : FailedSavesCarry medium
+  failed_saves_carry m config promise act more shown cause held point next journal records pending
+      last now old new is syncs leaves =
+      failed_carries m config promise act more shown point next journal records pending last now old
+      new is leaves cause held syncs

@@ -17,18 +17,20 @@ use Rattle.sector_disk.specs.rules.Medium.{Medium, LeavesOnly}
 use Rattle.sector_disk.proofs.Moments.{started, leaves_only}
 use Rattle.record_replay.specs.rules.Calls.{Exchange}
 use Rattle.restart_theorem.specs.Stands.{StandsFor}
-use Rattle.restart_theorem.specs.Lives.{SourceSaid, Release, Event, Told, Asked, Ended, kept_of_said}
+use Rattle.restart_theorem.specs.Lives.{SourceSaid, Release, Event, Told, Asked, Ended}
+use Rattle.restart_theorem.specs.Lives.{kept_of_said}
 use Rattle.restart_theorem.specs.Courses.{Stage, next_stage, stage_after}
 use Rattle.restart_theorem.specs.Promises.{Promise, after, promised, HoldsAll}
 use Rattle.restart_theorem.specs.Holds.{HoldsPromise, IsUnopened, ImageHolds}
 use Rattle.restart_theorem.specs.Exchanges.{was_taken, release_of, AreEvents, none, told, asked}
-use Rattle.worker_store.specs.laws.Carried.{PromisesNoMore, count_at}
-use Rattle.worker_store.specs.laws.Raised.{SyncsAreHeld}
+use Rattle.worker_store.specs.laws.Carried.{PromisesNoMore, answers_at, count_at}
+use Rattle.worker_store.specs.laws.Raised.{SyncsAreHeld, MoreCarries}
 use Rattle.worker_store.specs.laws.Turns.{ToldStillHolds, AskedStillHolds}
 use Rattle.worker_store.specs.laws.Turns.{EndedStillHolds, LeavesBegun, PartsLeaveBegun, GoesOnFrom}
 use Rattle.worker_store.specs.laws.Turns.{TurnsJoin, TurnsCarry, RestsGoOn, LinesCarry}
-use Rattle.worker_store.proofs.LawLemmas.Carrying.{less_is_held, answers_count}
+use Rattle.worker_store.proofs.LawLemmas.Carrying.{less_is_held, answers_count, within_of}
 use Rattle.worker_store.proofs.LawLemmas.Raising.{later_step, behind_front, line_of_more}
+use Rattle.worker_store.proofs.LawLemmas.Raising.{front_of_more}
 
 -- ---- what an image holds
 
@@ -156,6 +158,39 @@ module _ (m : Module) (config : Settings) (kept more_kept : List Kept) (n : ℕ)
     where
       up_to : (k synced : ℕ) → k ≤ synced → synced ≤ n → k ≤ n
       up_to k synced below early = omega (arith, below, early)
+
+module _ {D : Type 0} (medium : D → Medium) where
+  pub more_carries : MoreCarries medium
+  more_carries m config promise point journal records pending last now p n more disk is valid
+      reached early =
+      let held = is.held in
+      let holds = held.holds in
+      let all = all_of_more m config promise.kept more n p valid reached promise
+      (count_at point records) last.steps early holds in
+      let long : count_at point (records ++ pending) ≤ length promise.kept =
+      within_of (count_at point (records ++ pending)) promise.kept
+      (answers_at point (records ++ pending)) is.answers
+      (answers_count point (records ++ pending)) in
+      record {
+        journaled = is.journaled;
+        held = record {
+          created = held.created;
+          front = front_of_more (count_at point records) promise.kept more
+              (answers_at point records) held.front holds.within;
+          recorded = held.recorded;
+          holds = record {
+            within = all.within;
+            answers = all.answers;
+            steps_held = all.steps_held;
+            lines = all.lines;
+            syncs = all.syncs;
+          };
+          heard = held.heard;
+          passed = held.passed;
+        };
+        answers = front_of_more (count_at point (records ++ pending)) promise.kept more
+            (answers_at point (records ++ pending)) is.answers long;
+      }
 
 pub asked_still_holds : AskedStillHolds
 asked_still_holds m config promise p kind said fits valid reached synced first image no_more held =

@@ -1,11 +1,11 @@
 -- The process at hand, as it is saved, and the savepoint that a commit makes of it.
-use Rattle.std.specs.Prelude.{◌≡◌, ℕ, ◌≤◌, List, [], length}
+use Rattle.std.specs.Prelude.{◌≡◌, ℕ, ◌≤◌, List, [], ◌++◌, length, take}
 use Rattle.wasm_syntax.specs.declared.module.Module.{Module}
 use Rattle.wasm_semantics.specs.Acceptance.{IsAccepted}
 use Rattle.wasi_abi.specs.rules.Configs.{Settings, AreSettingsWithinLimits}
 use Rattle.machine.specs.rules.Offers.{offer}
 use Rattle.process_rules.specs.Processes.{ProcessState, Guest, IsStart}
-use Rattle.process_rules.specs.Runs.{Runs}
+use Rattle.process_rules.specs.Runs.{Kept, Runs}
 use Rattle.process.specs.rules.Values.{ProcessValue, ShowsProcess, IsProcess}
 use Rattle.state_image.specs.rules.Saving.{saved_of}
 use Rattle.disk_layout.specs.rules.Journal.{Record}
@@ -31,27 +31,28 @@ ShownIsNumbered =
 
 -- ---- the next savepoint
 
--- The next savepoint is of the process at hand, to which the last one on record has come without
--- an answer. It has the answers on record.
+-- The next savepoint is of the process at hand, to which the last one on record has come by these.
+-- It has the answers on record, and then these.
 pub record IsNextOf {m : Module} {config : Settings} (point : Savepoint m config)
-    (records : List Record) (last p : ProcessState) (v : ProcessValue)
+    (records : List Record) (more : List Kept) (last p : ProcessState) (v : ProcessValue)
     (next : Savepoint m config) : Type 0 where
   pub comes : IsNextPoint point next
   pub saved : next.saved ≡ saved_of v
-  pub front : next.front ≡ answers_at point records
+  pub front : next.front ≡ answers_at point records ++ more
   pub process : next.process ≡ p
   pub same : next.reached.guest ≡ point.reached.guest
-  pub saves : (promise : Promise) → length p.host.lines ≤ promise.heard
-      → SavesFront promise point next records last
+  pub saves : (promise : Promise) → take (length next.front) promise.kept ≡ next.front
+      → length p.host.lines ≤ promise.heard → SavesFront promise point next records more last
 
 -- There is one, wherever the records of a savepoint have led.
 abbrev pub NextIsAtHand : Type 0
 NextIsAtHand =
     (m : Module) (config : Settings) (point : Savepoint m config) (records : List Record)
-    (last p : ProcessState) (n : ℕ) (v : ProcessValue)
+    (more : List Kept) (last p : ProcessState) (n : ℕ) (v : ProcessValue)
     → Recorded point.reached.guest point.process records last
-    → Runs point.reached.guest last [] n p → ShowsProcess v point.reached.guest p → IsProcess v
-    → v.machine.guest ≡ m → (next : Savepoint m config) × IsNextOf point records last p v next
+    → Runs point.reached.guest last more n p → ShowsProcess v point.reached.guest p → IsProcess v
+    → v.machine.guest ≡ m
+    → (next : Savepoint m config) × IsNextOf point records more last p v next
 
 -- ---- the first one
 

@@ -1,5 +1,5 @@
 -- How a worker's call ends, as an event of a life.
-use Rattle.std.specs.Prelude.{◌≡◌, ◌⊎◌, ℕ, ◌+◌, ◌≤◌, ◌<◌, List, ◌∷◌, length}
+use Rattle.std.specs.Prelude.{◌≡◌, ◌⊎◌, ℕ, ◌+◌, ◌≤◌, ◌<◌, List, ◌∷◌, ◌++◌, length}
 use Rattle.std.specs.Prelude.{Option, Some, None}
 use Rattle.wasm_syntax.specs.declared.module.Module.{Module}
 use Rattle.wasm_syntax.specs.declared.types.FunctionType.{FunctionType}
@@ -8,15 +8,22 @@ use Rattle.wasi_abi.specs.declared.numbers.TheConstants.{NUMBERS_END}
 use Rattle.wasi_abi.specs.declared.answer.Answer.{Answer}
 use Rattle.wasi_abi.specs.rules.Configs.{Settings}
 use Rattle.process_rules.specs.Processes.{Ending, ProcessState, Guest, IsStart}
-use Rattle.process_rules.specs.Runs.{Runs}
+use Rattle.process_rules.specs.Runs.{Kept, Runs}
 use Rattle.process.specs.rules.Stops.{IsBeyond}
 use Rattle.state_image.specs.rules.Image.{Saved, SavedShowsProcess}
-use Rattle.restart_theorem.specs.Lives.{Act, Slice, Checkpoint, Reply, Spent, Waits, Over, Done}
+use Rattle.restart_theorem.specs.Lives.{Act, Slice, Reply, Spent, Waits, Over, Done}
 use Rattle.restart_theorem.specs.Lives.{Fails, Cause, OfBounds, Ended}
 use Rattle.restart_theorem.specs.Courses.{Stage, Phase, Open, NoneThere, MayFail, next_stage}
 use Rattle.restart_theorem.specs.Courses.{phase_ended}
 use Rattle.restart_theorem.specs.Promises.{Promise, after, IsEnding}
+use Rattle.worker_store.specs.laws.Acts.{SavesWith}
 use Rattle.worker_store.specs.laws.Underway.{IsUnderWay, IsBroken}
+
+-- A process comes to another one by these, without a step and without a line.
+pub record ComesAtOnce (guest : Guest) (p : ProcessState) (more : List Kept) (q : ProcessState)
+    : Type 0 where
+  pub runs : Runs guest p more 0 q
+  pub lines : length q.host.lines ≡ length p.host.lines
 
 module _ (m : Module) (config : Settings) (guest : Guest) where
   -- this is the process as it is saved
@@ -91,7 +98,7 @@ module _ (m : Module) (config : Settings) (guest : Guest) where
         shown = shown;
       })
 
-  -- ---- a checkpoint
+  -- ---- an act that saves
 
   -- The process between two calls: it has taken all kept answers, and all its lines were told.
   pub record IsBetween (promise : Promise) (stage : Stage) (p : ProcessState) : Type 0 where
@@ -102,26 +109,36 @@ module _ (m : Module) (config : Settings) (guest : Guest) where
     pub step : stage.step ≡ p.steps
     pub line : stage.line ≡ Some (length p.host.lines)
 
-  abbrev pub DoneCheckpointsEnd : Type 0
-  DoneCheckpointsEnd =
-      (promise : Promise) (stage : Stage) (acts : List Act) (p : ProcessState) (shown : Saved)
-      → IsBetween promise stage p → IsSavedAs p shown → stage.acts ≡ Checkpoint ∷ acts
+  -- An act that saves is next, and this is the process that it saves.
+  pub record IsSavingNext (promise : Promise) (stage : Stage) (act : Act) (more : List Kept)
+      (p q : ProcessState) (shown : Saved) : Type 0 where
+    pub between : IsBetween promise stage p
+    pub comes : ComesAtOnce guest p more q
+    pub saved : IsSavedAs q shown
+    pub saves : SavesWith promise act more shown
+    pub acts : List Act
+    pub is_next : stage.acts ≡ act ∷ acts
+
+  abbrev pub DoneSavesEnd : Type 0
+  DoneSavesEnd =
+      (promise : Promise) (stage : Stage) (act : Act) (more : List Kept) (p q : ProcessState)
+      (shown : Saved) → IsSavingNext promise stage act more p q shown
       → IsEnding m config promise stage (record {
-        act = Checkpoint;
+        act = act;
         reply = Done;
-        held = length promise.kept;
+        held = length (promise.kept ++ more);
         shown = shown;
       })
 
-  abbrev pub FailedCheckpointsEnd : Type 0
-  FailedCheckpointsEnd =
-      (promise : Promise) (stage : Stage) (acts : List Act) (p : ProcessState) (shown : Saved)
-      (cause : Cause) → IsBetween promise stage p → IsSavedAs p shown
-      → stage.acts ≡ Checkpoint ∷ acts → MayFail Open cause → HasBound promise p cause
+  abbrev pub FailedSavesEnd : Type 0
+  FailedSavesEnd =
+      (promise : Promise) (stage : Stage) (act : Act) (more : List Kept) (p q : ProcessState)
+      (shown : Saved) (cause : Cause) → IsSavingNext promise stage act more p q shown
+      → MayFail Open cause → HasBound promise q cause
       → IsEnding m config promise stage (record {
-        act = Checkpoint;
+        act = act;
         reply = Fails cause;
-        held = length promise.kept;
+        held = length (promise.kept ++ more);
         shown = shown;
       })
 
@@ -140,7 +157,7 @@ module _ (m : Module) (config : Settings) (guest : Guest) where
   CallsLeaveBetween =
       (promise : Promise) (stage : Stage) (act : Act) (reply : Reply) (held : ℕ)
       (p : ProcessState) (shown : Saved) (start : ProcessState) → IsStart m config guest start
-      → Runs guest start promise.kept p.steps p → stage.line ≡ Some (length p.host.lines)
-      → shown.steps ≡ p.steps → phase_ended reply ≡ Open
+      → Runs guest start (after promise (Ended act reply held shown)).kept p.steps p
+      → stage.line ≡ Some (length p.host.lines) → shown.steps ≡ p.steps → phase_ended reply ≡ Open
       → IsBetween (after promise (Ended act reply held shown))
       (next_stage stage (Ended act reply held shown)) p

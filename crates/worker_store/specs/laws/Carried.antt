@@ -11,7 +11,7 @@ use Rattle.disk_layout.specs.rules.Journal.{Record}
 use Rattle.journal.specs.rules.State.{JournalState}
 use Rattle.record_replay.specs.rules.Records.{Recorded, given_in}
 use Rattle.restart_theorem.specs.Stands.{IsBlank}
-use Rattle.restart_theorem.specs.Lives.{Checkpoint, Done, Opened, Ended}
+use Rattle.restart_theorem.specs.Lives.{Act, Done, Opened, Ended}
 use Rattle.restart_theorem.specs.Courses.{Stage, Shut, IsLast}
 use Rattle.restart_theorem.specs.Promises.{Promise, after, HoldsAll, IsAt, IsOpening}
 use Rattle.restart_theorem.specs.Holds.{HoldsPromise, IsNothingYet, ImageHolds, KeepsPromise}
@@ -20,6 +20,7 @@ use Rattle.worker_store.specs.laws.Savepoints.{Savepoint, point_of, StandsAtPoin
 use Rattle.worker_store.specs.laws.Barriers.{StandsAtFront}
 use Rattle.worker_store.specs.laws.Commits.{BeginsAtPoint}
 use Rattle.worker_store.specs.laws.Journaled.{IsJournaled}
+use Rattle.worker_store.specs.laws.Acts.{SavesWith, keeping_more}
 
 -- ---- a savepoint and its records
 
@@ -89,21 +90,24 @@ LessIsHeld =
 
 -- ---- savepoints
 
--- A savepoint is of a process to which the last one has come without an answer. It has the answers
--- that are on record, and an outlet has taken all its lines.
+-- A savepoint is of a process to which the last one has come by these. It has the answers that are
+-- on record, and then these: the first of all that is kept. An outlet has taken all its lines.
 pub record SavesFront {m : Module} {config : Settings} (promise : Promise)
-    (point next : Savepoint m config) (records : List Record) (last : ProcessState) : Type 0 where
-  pub front : next.front ≡ answers_at point records
+    (point next : Savepoint m config) (records : List Record) (more : List Kept)
+    (last : ProcessState) : Type 0 where
+  pub front : next.front ≡ answers_at point records ++ more
+  pub kept : take (length next.front) promise.kept ≡ next.front
   pub steps : ℕ
-  pub runs : Runs point.reached.guest last [] steps next.process
+  pub runs : Runs point.reached.guest last more steps next.process
   pub heard : next.saved.lines ≤ promise.heard
 
 -- It holds what the last one and the records behind that hold.
 abbrev pub NextIsHeld : Type 0
 NextIsHeld =
     (m : Module) (config : Settings) (promise : Promise) (point next : Savepoint m config)
-    (records : List Record) (last : ProcessState) → IsHeldAt promise point records last
-    → SavesFront promise point next records last → IsHeldAt promise next [] next.process
+    (records : List Record) (more : List Kept) (last : ProcessState)
+    → IsHeldAt promise point records last → SavesFront promise point next records more last
+    → IsHeldAt promise next [] next.process
 
 -- A fresh savepoint without lines holds all where nothing has been promised but a creation begun.
 abbrev pub FreshIsHeld : Type 0
@@ -112,12 +116,14 @@ FreshIsHeld =
     → IsNothingYet promise → promise.was_created ≡ true → point.front ≡ []
     → point.saved.lines ≡ 0 → IsHeldAt promise point [] point.process
 
--- It holds also what the end of a checkpoint promises, where it has all kept answers,
-abbrev pub CheckpointIsHeld : Type 0
-CheckpointIsHeld =
-    (m : Module) (config : Settings) (promise : Promise) (point : Savepoint m config)
-    → IsHeldAt promise point [] point.process → point.front ≡ promise.kept
-    → IsHeldAt (after promise (Ended Checkpoint Done (length point.front) point.saved)) point []
+-- It holds also what the end of an act that saves promises, where it has all that is kept then,
+abbrev pub SavedIsHeld : Type 0
+SavedIsHeld =
+    (m : Module) (config : Settings) (promise : Promise) (act : Act) (more : List Kept)
+    (point : Savepoint m config) → SavesWith promise act more point.saved
+    → IsHeldAt (keeping_more promise more) point [] point.process
+    → point.front ≡ promise.kept ++ more
+    → IsHeldAt (after promise (Ended act Done (length point.front) point.saved)) point []
     point.process
 
 -- and what a life promises that opens there.
@@ -193,8 +199,9 @@ BarrierCarriesOn {D} medium =
 abbrev pub CommitCarries : {D : Type 0} → (D → Medium) → Type 0
 CommitCarries {D} medium =
     (m : Module) (config : Settings) (less promise : Promise) (point next : Savepoint m config)
-    (records : List Record) (last : ProcessState) (old new : D) → PromisesNoMore less promise
-    → IsHeldAt promise point records last → SavesFront promise point next records last
+    (records : List Record) (more : List Kept) (last : ProcessState) (old new : D)
+    → PromisesNoMore less promise → IsHeldAt promise point records last
+    → SavesFront promise point next records more last
     → LeavesOnly (medium old) (medium new)
     (λ disk. StandsAtPoint point records last disk ⊎ BeginsAtPoint next disk)
     → CarriesPromise m config less promise (medium old) (medium new)

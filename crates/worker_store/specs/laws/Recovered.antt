@@ -37,7 +37,7 @@ RecoveryOpens {D} medium =
     (m : Module) (config : Settings) (less promise : Promise) (shown : Saved)
     (point next : Savepoint m config) (records : List Record) (last : ProcessState) (old new : D)
     → PromisesNoMore less promise → IsHeldAt promise point records last
-    → SavesFront promise point next records last → next.saved ≡ shown
+    → SavesFront promise point next records [] last → next.saved ≡ shown
     → LeavesOnly (medium old) (medium new)
     (λ disk. StandsAtPoint point records last disk ⊎ BeginsAtPoint next disk)
     → LeavesAll (medium new) (StandsAtPoint next [] next.process)

@@ -3,20 +3,24 @@ use Rattle.std.specs.Prelude.{◌≡◌, ◌⊎◌, ℕ, List, [], ◌++◌, len
 use Rattle.wasm_syntax.specs.declared.module.Module.{Module}
 use Rattle.wasi_abi.specs.rules.Configs.{Settings}
 use Rattle.process_rules.specs.Processes.{ProcessState}
+use Rattle.process_rules.specs.Runs.{Kept}
 use Rattle.state_image.specs.rules.Image.{Saved}
 use Rattle.sector_disk.specs.rules.Image.{Image}
 use Rattle.sector_disk.specs.rules.Medium.{Medium, LeavesOnly}
 use Rattle.disk_layout.specs.rules.Journal.{Record}
 use Rattle.journal.specs.rules.State.{JournalState}
-use Rattle.restart_theorem.specs.Lives.{Act, Checkpoint, Reply, Done, Ended}
-use Rattle.restart_theorem.specs.Promises.{Promise, after}
+use Rattle.restart_theorem.specs.Lives.{Act, Reply, Done, Fails, Cause, Ended}
+use Rattle.restart_theorem.specs.Promises.{Promise, after, synced_by}
 use Rattle.restart_theorem.specs.Holds.{CarriesPromise}
 use Rattle.worker_store.specs.laws.Savepoints.{Savepoint, StandsAtPoint}
 use Rattle.worker_store.specs.laws.Barriers.{StandsAtFront}
 use Rattle.worker_store.specs.laws.Commits.{BeginsAtPoint}
 use Rattle.worker_store.specs.laws.Journaled.{IsJournaled}
 use Rattle.worker_store.specs.laws.Moments.{LeavesAll}
+use Rattle.worker_store.specs.laws.Acts.{SavesWith, keeping_more}
 use Rattle.worker_store.specs.laws.Carried.{PromisesNoMore, SavesFront, IsHeldAt, IsCarried}
+use Rattle.worker_store.specs.laws.Carried.{count_at}
+use Rattle.worker_store.specs.laws.Raised.{SyncsAreHeld}
 
 -- it stands for a front of the pending records, or begins at the next savepoint
 abbrev pub StandsAtFrontOrNext : {m : Module} {config : Settings} → Savepoint m config
@@ -39,33 +43,62 @@ SaveAtAnyMoment {D} medium =
 abbrev pub SaveCarries : {D : Type 0} → (D → Medium) → Type 0
 SaveCarries {D} medium =
     (m : Module) (config : Settings) (less promise : Promise) (point next : Savepoint m config)
-    (journal : JournalState) (records pending : List Record) (last now : ProcessState)
-    (old new : D) → PromisesNoMore less promise
+    (journal : JournalState) (records pending : List Record) (more : List Kept)
+    (last now : ProcessState) (old new : D) → PromisesNoMore less promise
     → IsCarried promise point journal records pending last now (medium old)
-    → SavesFront promise point next (records ++ pending) now
+    → SavesFront promise point next (records ++ pending) more now
     → LeavesOnly (medium old) (medium new) (StandsAtFrontOrNext point next records last pending)
     → CarriesPromise m config less promise (medium old) (medium new)
 
--- the disk of a worker that is saved holds also what the end of a checkpoint promises
-pub record SavesCheckpoint {m : Module} {config : Settings} (promise : Promise) (shown : Saved)
-    (next : Savepoint m config) (old new : Medium) : Type 0 where
-  pub carries : CarriesPromise m config promise
-      (after promise (Ended Checkpoint Done (length promise.kept) shown)) old new
-  pub held : IsHeldAt (after promise (Ended Checkpoint Done (length promise.kept) shown)) next []
-      next.process
+-- ---- by an act
 
--- where it has all kept answers
-abbrev pub SavingCheckpoints : {D : Type 0} → (D → Medium) → Type 0
-SavingCheckpoints {D} medium =
-    (m : Module) (config : Settings) (promise : Promise) (shown : Saved)
-    (point next : Savepoint m config) (journal : JournalState) (records pending : List Record)
-    (last now : ProcessState) (old new : D)
-    → IsCarried promise point journal records pending last now (medium old)
-    → SavesFront promise point next (records ++ pending) now → next.front ≡ promise.kept
-    → next.saved ≡ shown
+-- An act saves the process shown, which is that of the next savepoint. That has all that is kept
+-- then. What was promised is held on the disk, these being kept besides.
+pub record IsSavingAt {m : Module} {config : Settings} (promise : Promise) (act : Act)
+    (more : List Kept) (shown : Saved) (point next : Savepoint m config) (journal : JournalState)
+    (records pending : List Record) (last now : ProcessState) (disk : Medium) : Type 0 where
+  pub saves : SavesWith promise act more shown
+  pub saved : next.saved ≡ shown
+  pub all : next.front ≡ promise.kept ++ more
+  pub front : SavesFront (keeping_more promise more) point next (records ++ pending) more now
+  pub carried : IsCarried (keeping_more promise more) point journal records pending last now disk
+
+-- what an act that is done promises of a worker whose process is shown
+abbrev pub promise_saved : Promise → Act → List Kept → Saved → Promise
+promise_saved promise act more shown =
+    after promise (Ended act Done (length (promise.kept ++ more)) shown)
+
+-- The disk of a worker that is saved holds that too.
+pub record IsSavedBy {m : Module} {config : Settings} (promise : Promise) (act : Act)
+    (more : List Kept) (shown : Saved) (next : Savepoint m config) (old new : Medium)
+    : Type 0 where
+  pub carries : CarriesPromise m config promise (promise_saved promise act more shown) old new
+  pub held : IsHeldAt (promise_saved promise act more shown) next [] next.process
+
+abbrev pub DoneSavesCarry : {D : Type 0} → (D → Medium) → Type 0
+DoneSavesCarry {D} medium =
+    (m : Module) (config : Settings) (promise : Promise) (act : Act) (more : List Kept)
+    (shown : Saved) (point next : Savepoint m config) (journal : JournalState)
+    (records pending : List Record) (last now : ProcessState) (old new : D)
+    → IsSavingAt promise act more shown point next journal records pending last now (medium old)
     → LeavesOnly (medium old) (medium new) (StandsAtFrontOrNext point next records last pending)
     → LeavesAll (medium new) (StandsAtPoint next [] next.process)
-    → SavesCheckpoint promise shown next (medium old) (medium new)
+    → IsSavedBy promise act more shown next (medium old) (medium new)
+
+-- After an error it holds what the end promises then, where no sync of the guest that has returned
+-- needs an answer that isn't on the disk.
+abbrev pub FailedSavesCarry : {D : Type 0} → (D → Medium) → Type 0
+FailedSavesCarry {D} medium =
+    (m : Module) (config : Settings) (promise : Promise) (act : Act) (more : List Kept)
+    (shown : Saved) (cause : Cause) (held : ℕ) (point next : Savepoint m config)
+    (journal : JournalState) (records pending : List Record) (last now : ProcessState)
+    (old new : D)
+    → IsSavingAt promise act more shown point next journal records pending last now (medium old)
+    → SyncsAreHeld m config (promise.kept ++ more) (count_at point records)
+    (synced_by (Fails cause) shown.steps)
+    → LeavesOnly (medium old) (medium new) (StandsAtFrontOrNext point next records last pending)
+    → CarriesPromise m config promise (after promise (Ended act (Fails cause) held shown))
+    (medium old) (medium new)
 
 -- The end of a call takes no promise back.
 abbrev pub EndsPromiseNoLess : Type 0

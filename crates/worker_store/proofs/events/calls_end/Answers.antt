@@ -1,7 +1,7 @@
 use Rattle.worker_store.proofs.LawLemmas.CallEnds.{spent_slices_end, ended_slices_end}
 use Rattle.worker_store.proofs.LawLemmas.CallEnds.{waiting_slices_end}
-use Rattle.worker_store.proofs.LawLemmas.CallEnds.{failed_slices_end, done_checkpoints_end}
-use Rattle.worker_store.proofs.LawLemmas.CallEnds.{failed_checkpoints_end}
+use Rattle.worker_store.proofs.LawLemmas.CallEnds.{failed_slices_end, done_saves_end}
+use Rattle.worker_store.proofs.LawLemmas.CallEnds.{failed_saves_end}
 use Rattle.worker_store.proofs.LawLemmas.CallEnds.{slices_begin, calls_leave_between}
 use Rattle.worker_store.proofs.events.calls_end.Goals as goal
 
@@ -18,10 +18,10 @@ pub returns-clause-failed : goal.returns-clause-failed
 returns-clause-failed c = failed_slices_end
 
 pub returns-clause-saved : goal.returns-clause-saved
-returns-clause-saved c = done_checkpoints_end
+returns-clause-saved c = done_saves_end
 
 pub returns-clause-not_saved : goal.returns-clause-not_saved
-returns-clause-not_saved c = failed_checkpoints_end
+returns-clause-not_saved c = failed_saves_end
 
 pub returns-clause-begins : goal.returns-clause-begins
 returns-clause-begins c = slices_begin

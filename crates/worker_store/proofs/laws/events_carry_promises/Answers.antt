@@ -1,6 +1,7 @@
 use Rattle.worker_store.proofs.LawLemmas.Raising.{told_carries, asked_carries, ended_carries}
 use Rattle.worker_store.proofs.LawLemmas.Raising.{append_carries}
 use Rattle.worker_store.proofs.LawLemmas.Raising.{carried_is_reached}
+use Rattle.worker_store.proofs.LawLemmas.TurnLemmas.{more_carries}
 use Rattle.worker_store.proofs.laws.events_carry_promises.Goals as goal
 
 pub returns-clause-told : goal.returns-clause-told
@@ -8,6 +9,9 @@ returns-clause-told g c = told_carries g.D.Disk.medium
 
 pub returns-clause-asked : goal.returns-clause-asked
 returns-clause-asked g c = asked_carries g.D.Disk.medium
+
+pub returns-clause-more : goal.returns-clause-more
+returns-clause-more g c = more_carries g.D.Disk.medium
 
 pub returns-clause-ended : goal.returns-clause-ended
 returns-clause-ended g c = ended_carries g.D.Disk.medium

@@ -1,6 +1,6 @@
 use Rattle.worker_store.proofs.LawLemmas.Carrying.{held_at_stands, stands_held_at, less_is_held}
 use Rattle.worker_store.proofs.LawLemmas.Carrying.{next_is_held}
-use Rattle.worker_store.proofs.LawLemmas.Carrying.{fresh_is_held, checkpoint_is_held}
+use Rattle.worker_store.proofs.LawLemmas.Carrying.{fresh_is_held, saved_is_held}
 use Rattle.worker_store.proofs.LawLemmas.Carrying.{opening_is_held}
 use Rattle.worker_store.proofs.LawLemmas.Carrying.{point_is_at, point_opens}
 use Rattle.worker_store.proofs.LawLemmas.Carrying.{marked_is_held, blank_is_unopened}
@@ -21,8 +21,8 @@ returns-clause-next c = next_is_held
 pub returns-clause-fresh : goal.returns-clause-fresh
 returns-clause-fresh c = fresh_is_held
 
-pub returns-clause-checkpoint : goal.returns-clause-checkpoint
-returns-clause-checkpoint c = checkpoint_is_held
+pub returns-clause-saved : goal.returns-clause-saved
+returns-clause-saved c = saved_is_held
 
 pub returns-clause-opening : goal.returns-clause-opening
 returns-clause-opening c = opening_is_held

@@ -1,5 +1,6 @@
 use Rattle.worker_store.proofs.LawLemmas.Saving.{save_at_any_moment, save_carries}
-use Rattle.worker_store.proofs.LawLemmas.Saving.{saving_checkpoints}
+use Rattle.worker_store.proofs.LawLemmas.Saving.{done_saves_carry, failed_saves_carry}
+use Rattle.worker_store.proofs.LawLemmas.Acts.{checkpoints_save, saving_ends_alike}
 use Rattle.worker_store.proofs.LawLemmas.Saving.{ends_promise_no_less}
 use Rattle.worker_store.proofs.laws.saves_carry_promises.Goals as goal
 
@@ -10,7 +11,16 @@ pub returns-clause-carries : goal.returns-clause-carries
 returns-clause-carries g c = save_carries g.D.Disk.medium
 
 pub returns-clause-checkpoint : goal.returns-clause-checkpoint
-returns-clause-checkpoint g c = saving_checkpoints g.D.Disk.medium
+returns-clause-checkpoint g c = checkpoints_save
+
+pub returns-clause-alike : goal.returns-clause-alike
+returns-clause-alike g c = saving_ends_alike
+
+pub returns-clause-done : goal.returns-clause-done
+returns-clause-done g c = done_saves_carry g.D.Disk.medium
+
+pub returns-clause-failed : goal.returns-clause-failed
+returns-clause-failed g c = failed_saves_carry g.D.Disk.medium
 
 pub returns-clause-ends : goal.returns-clause-ends
 returns-clause-ends g c = ends_promise_no_less

@@ -1,0 +1,500 @@
+-- An act that saves a worker, as an event of a life, and what its disk holds.
+use Rattle.std.proofs.Common.{◌≡◌, ℕ, ◌+◌, ◌-◌, ◌*◌, ◌≤◌, ◌^◌, List, [], ◌∷◌, ◌++◌}
+use Rattle.std.proofs.Common.{length, Some, false, refl, sym, ap, ◌∙◌, subst, inl, inr, arith, take}
+use Rattle.std.proofs.lemmas.List.{append-nil}
+use Rattle.std.proofs.Math.Seq.{take-length}
+use Rattle.std.specs.Prelude.{Result, Ok, Err}
+use Rattle.wasm_syntax.specs.declared.module.Module.{Module}
+use Rattle.wasi_abi.specs.declared.numbers.TheConstants.{NUMBERS_END}
+use Rattle.wasi_abi.specs.rules.Configs.{Settings}
+use Rattle.wasi_calls_rules.specs.laws.Laws.{IsOfBytes}
+use Rattle.process_rules.specs.Processes.{ProcessState, Guest, host_of}
+use Rattle.process_rules.specs.Runs.{Kept, Runs, Reaches, none}
+use Rattle.process_rules.proofs.Quiet.{runs_join}
+use Rattle.process_rules.proofs.Growing.{runs_count}
+use Rattle.process.specs.rules.Values.{ProcessValue, ShowsProcess, IsProcess, waiting_in}
+use Rattle.state_image.specs.rules.Image.{image}
+use Rattle.state_image.specs.rules.Saving.{saved_of}
+use Rattle.state_image.specs.rules.WellTyped.{IsWellTyped}
+use Rattle.state_image.proofs.ReachedWellTyped.{saved_is_well_typed}
+use Rattle.sector_disk.specs.declared.sector.TheConstants.{SECTOR_SIZE}
+use Rattle.sector_disk.specs.rules.Medium.{Medium, CallsUpTo}
+use Rattle.disk_layout.specs.declared.geometry.Geometry.{Geometry}
+use Rattle.disk_layout.specs.rules.Journal.{Record}
+use Rattle.restart_theorem.specs.Lives.{Act, Checkpoint, Reply, Done, Fails, Cause, OfDisk}
+use Rattle.restart_theorem.specs.Lives.{OfBounds, Ended}
+use Rattle.restart_theorem.specs.Courses.{Stage, Open, MayFail, next_stage}
+use Rattle.restart_theorem.specs.Promises.{Promise, after}
+use Rattle.restart_theorem.specs.Holds.{StaysWithin}
+use Rattle.restart_theorem.specs.Exchanges.{none as no_exchange}
+use Rattle.worker_store.specs.laws.Savepoints.{Savepoint}
+use Rattle.worker_store.specs.laws.Acts.{SavesWith, keeping_more}
+use Rattle.worker_store.specs.laws.CallEnds.{IsSavedAs, HasBound, ComesAtOnce, IsSavingNext}
+use Rattle.worker_store.specs.laws.Carried.{count_at, IsHeldAt}
+use Rattle.worker_store.specs.laws.Raised.{SyncsAreHeld}
+use Rattle.worker_store.specs.laws.AtHand.{IsNextOf}
+use Rattle.worker_store.specs.laws.Saves.{IsSavingAt, IsSavedBy}
+use Rattle.worker_store.proofs.LawLemmas.Acts.{saving_ends_alike}
+use Rattle.worker_store.proofs.LawLemmas.CallEnds.{done_saves_end, failed_saves_end, saved_runs}
+use Rattle.worker_store.proofs.LawLemmas.CallEnds.{calls_leave_between}
+use Rattle.worker_store.proofs.LawLemmas.Carrying.{all_is_held, begins_carried}
+use Rattle.worker_store.proofs.LawLemmas.Raising.{all_syncs_are_held, carried_is_reached}
+use Rattle.worker_store.proofs.LawLemmas.AtHand.{shown_is_saved, next_is_at_hand, same_within}
+use Rattle.worker_store.proofs.LawLemmas.Saving.{done_saves_carry, failed_saves_carry}
+use Rattle.worker_store.proofs.LawLemmas.TurnLemmas.{more_carries, syncs_of_more}
+use Rattle.worker_store.proofs.LawLemmas.Telling.{max_within}
+use Rattle.worker_store.specs.declared.fault.StoreFault.{StoreFault}
+use Rattle.worker_store.specs.declared.fault.StoreFault.TheVariants as store
+use Rattle.worker_store.specs.declared.store.WorkerStore.{WorkerStore}
+use Rattle.worker_store.specs.laws.Laws.{ImagesFitAreas}
+use Rattle.worker_store.specs.rules.Calls.{StoresNext}
+use Rattle.worker_store.specs.rules.Stores.{IsStoreOf}
+use Rattle.worker.specs.declared.fault.WorkFault.{WorkFault}
+use Rattle.worker.specs.rules.WorkFaults.{fault_of_store}
+use Rattle.worker.specs.rules.DurableValues.{DurableValue}
+use Rattle.worker.specs.rules.DurableCalls.{CallCarries, IsFailureOf, IsReplyOfSaving}
+use Rattle.worker.specs.rules.OpenWorkers.{IsOpenOn, IsOnDisk}
+use Rattle.worker.specs.rules.Savings.{LeavesFrontOrNext, IsSaveFault, SaveFails}
+use Rattle.worker.specs.rules.CallCounts.{most_saving}
+use Rattle.worker.specs.rules.Checkpoints.{IsCheckpointFault, CheckpointFails}
+use Rattle.worker.proofs.CallCountLemmas.{calls_once}
+use Rattle.worker.proofs.DurableLemmas.Bounds.{saves_within}
+use Rattle.worker.proofs.DurableLemmas.OnDisk.{fewer_syncs, reached_now}
+
+one_more : (a b c : ℕ) → a ≡ b + 1 → b ≤ c → a ≤ c + 1
+one_more a b c e le = omega (arith, e, le)
+
+-- all that is kept is the first of it
+pub all_first : (kept front : List Kept) → front ≡ kept → take (length front) kept ≡ front
+all_first kept front all = subst (λ l. take (length front) l ≡ front) all (take-length front)
+
+-- ---- a worker on its disk
+
+-- The process that is saved of a worker at p: that has come to it by these. No line waits in it.
+pub record SavesProcess (m : Module) (guest : Guest) (p : ProcessState) (more : List Kept)
+    (q : ProcessState) (v : ProcessValue) : Type 0 where
+  pub comes : ComesAtOnce guest p more q
+  pub is_process : IsProcess v
+  pub shows : ShowsProcess v guest q
+  pub module_is : v.machine.guest ≡ m
+  pub none_waits : waiting_in v ≡ []
+
+-- It can be saved: the next savepoint is of it, and has all kept answers and these. Its image fits
+-- into its area.
+pub record CanSave (m : Module) (config : Settings) (guest : Guest) (promise : Promise)
+    (p : ProcessState) (step latest : ℕ) (before : WorkerStore) (disk : Medium)
+    (on : IsOnDisk m config guest promise p step latest before disk) (more : List Kept)
+    (q : ProcessState) (v : ProcessValue) : Type 0 where
+  pub next : Savepoint m config
+  pub is_next : IsNextOf on.point (on.records ++ on.pending) more on.now q v next
+  pub all : next.front ≡ promise.kept ++ more
+  pub same : next.reached.guest ≡ guest
+  pub fits : length (image (saved_of v)) ≤ SECTOR_SIZE * before.geometry.area_sectors
+
+module _ {D : Type 0} (medium : D → Medium) where
+  pub can_save : (m : Module) (config : Settings) (guest : Guest) (promise : Promise)
+      (p : ProcessState) (step latest : ℕ) (before : WorkerStore) (disk : D) (more : List Kept)
+      (k : ℕ) (q : ProcessState) (v : ProcessValue)
+      → (on : IsOnDisk m config guest promise p step latest before (medium disk))
+      → Runs guest p more k q → ShowsProcess v guest q → IsProcess v → v.machine.guest ≡ m
+      → IsOfBytes (host_of config) → ImagesFitAreas
+      → CanSave m config guest promise p step latest before (medium disk) on more q v
+  can_save m config guest promise p step latest before disk more k q v on comes shows is same texts
+      fit =
+      let point : Savepoint m config = on.point in
+      let all : List Record = on.records ++ on.pending in
+      let held = all_is_held m config promise point before.journal on.records on.pending on.last
+      on.now (medium disk) on.carried in
+      let shown : ShowsProcess v point.reached.guest q =
+      subst (λ (g : Guest). ShowsProcess v g q) (sym on.same) shows in
+      let here : Runs point.reached.guest on.now [] on.n p =
+      subst (λ (g : Guest). Runs g on.now [] on.n p) (sym on.same) on.runs in
+      let on_to : Runs point.reached.guest p more k q =
+      subst (λ (g : Guest). Runs g p more k q) (sym on.same) comes in
+      let runs : Runs point.reached.guest on.now more (on.n + k) q =
+      runs_join point.reached.guest on.now p q [] more on.n k here on_to in
+      let found = next_is_at_hand m config point all more on.now q (on.n + k) v held.recorded runs
+      shown is same in
+      let at_p = carried_is_reached medium m config promise point before.journal on.records
+      on.pending on.last on.now p on.n disk on.carried on.on_record here in
+      let reached : Reaches m config promise.kept p.steps p = at_p.0 in
+      let there : Runs reached.guest reached.start (promise.kept ++ more) (p.steps + k) q =
+      runs_join reached.guest reached.start p q promise.kept more p.steps k reached.runs
+      (subst (λ (g : Guest). Runs g p more k q) (sym at_p.1) on_to) in
+      let pages = point.settings.in_range.pages in
+      let typed : IsWellTyped m config (saved_of v) =
+      saved_is_well_typed point.wasm m config (promise.kept ++ more) (p.steps + k) v q
+      point.accepted (few_pages config.pages pages.1) texts
+      (record {
+        guest = reached.guest;
+        start = reached.start;
+        begins = reached.begins;
+        runs = there;
+      }) same is (subst (λ (g : Guest). ShowsProcess v g q) (sym at_p.1) shown) in
+      let of_next = found.1 in
+      record {
+        next = found.0;
+        is_next = of_next;
+        all = of_next.front ∙ ap (λ (l : List Kept). l ++ more) (sym on.on_record);
+        same = of_next.same ∙ on.same;
+        fits = subst (λ (g : Geometry). length (image (saved_of v)) ≤ SECTOR_SIZE * g.area_sectors)
+            (sym on.stores.geometry) (fit m config (saved_of v) (length point.wasm) typed);
+      }
+    where
+      few_pages : (pages : ℕ) → pages ≤ 256 → pages ≤ 2 ^ 16
+      few_pages pages few = omega (arith, few)
+
+-- ---- an act that saves it
+
+-- A worker that is open on its disk, and the process that is saved of it: the one that it shows in
+-- the end.
+module _ {D : Type 0} (medium : D → Medium) (old new : DurableValue) (disk : D)
+    (fit : ImagesFitAreas) (m : Module) (config : Settings) (guest : Guest) (promise : Promise)
+    (stage : Stage) (p : ProcessState)
+    (opened : IsOpenOn m config guest promise stage p old (medium disk)) (more : List Kept)
+    (q : ProcessState) (is : SavesProcess m guest p more q new.process) where
+  ready : CanSave m config guest promise p p.steps promise.events old.store (medium disk)
+      opened.on_disk more q new.process
+  ready =
+      let comes = is.comes in
+      can_save medium m config guest promise p p.steps promise.events old.store disk more 0 q
+      new.process opened.on_disk comes.runs is.shows is.is_process is.module_is opened.texts fit
+
+  shown_whole : IsSavedAs m config guest q (saved_of new.process)
+  shown_whole = shown_is_saved m config guest new.process q is.shows is.module_is
+
+  -- the steps are those of the process before
+  same_steps : q.steps ≡ p.steps
+  same_steps =
+      let comes = is.comes in
+      let counted : q.steps ≡ p.steps + 0 = runs_count guest p q more 0 comes.runs in
+      omega (arith, counted)
+
+  -- an error of the store
+  pub save_fault : (disk' : D) (fault : StoreFault)
+      → SaveFails old.store new.process (medium disk) (medium disk') fault
+      → IsCheckpointFault old (medium disk) (medium disk') (fault_of_store fault)
+  save_fault disk' fault fails =
+      let on = opened.on_disk in
+      faulted fault (fails m config on.point on.records on.pending on.last on.now on.stores)
+    where
+      faulted : (fault : StoreFault)
+          → IsSaveFault old.store new.process (medium disk) (medium disk') fault
+          → IsCheckpointFault old (medium disk) (medium disk') (fault_of_store fault)
+      faulted store.TooBig (inl late) = late
+      faulted store.TooBig (inr long) = let few = ready.fits in absurd (omega (arith, long, few))
+      faulted store.Full h = absurd h
+      faulted store.TooLong h = absurd h
+      faulted store.Damaged h = absurd h
+      faulted (store.Layout why) h = absurd h
+      faulted (store.Disk why) h = h
+      faulted store.Memory h = absurd h
+      faulted store.Failed h = absurd h
+
+  module _ (act : Act) (saves : SavesWith promise act more (saved_of new.process))
+      (acts : List Act) (next_act : stage.acts ≡ act ∷ acts) (disk' : D)
+      (leaves : LeavesFrontOrNext old.store new.process (medium disk) (medium disk'))
+      (few : CallsUpTo (most_saving (medium disk).sectors) (medium disk) (medium disk')) where
+    -- how many are kept in the end
+    abbrev held_then : ℕ
+    held_then = length (promise.kept ++ more)
+
+    abbrev saving_next : IsSavingNext m config guest promise stage act more p q
+        (saved_of new.process)
+    saving_next = record {
+      between = opened.between;
+      comes = is.comes;
+      saved = shown_whole;
+      saves = saves;
+      acts = acts;
+      is_next = next_act;
+    }
+
+    saving_at : (let on = opened.on_disk in
+        let can = ready in
+        IsSavingAt promise act more (saved_of new.process) on.point can.next old.store.journal
+        on.records on.pending on.last on.now (medium disk))
+    saving_at =
+        let on = opened.on_disk in
+        let can = ready in
+        let next_is = can.is_next in
+        let comes = is.comes in
+        let lines : length q.host.lines ≡ length p.host.lines = comes.lines in
+        let heard : length p.host.lines ≤ promise.heard = opened.heard in
+        let by = reached_now medium m config guest promise p p.steps promise.events old.store disk
+        on in
+        record {
+          saves = saves;
+          saved = next_is.saved;
+          all = can.all;
+          front = next_is.saves (keeping_more promise more)
+              (all_first (promise.kept ++ more) can.next.front can.all)
+              (omega (arith, lines, heard));
+          carried = more_carries medium m config promise on.point old.store.journal on.records
+              on.pending on.last on.now p p.steps more disk on.carried on.point.accepted.valid
+              by.reached opened.synced;
+        }
+
+    -- at any moment it is one generation on at most
+    save_bounds : StaysWithin (promise.events + 1) (medium disk) (medium disk')
+    save_bounds =
+        let on = opened.on_disk in
+        let stores = on.stores in
+        let next_is = ready.is_next in
+        let early = on.early in
+        saves_within m config on.point (promise.events + 1) (medium disk) (medium disk')
+        stores.sectors ready.next on.records on.pending on.last next_is.comes
+        (omega (arith, early))
+        (leaves m config on.point ready.next on.records on.pending on.last on.now on.stores
+        next_is.comes next_is.saved)
+
+    -- no sync of the guest that has returned needs an answer that isn't on the disk
+    syncs_then : (let on = opened.on_disk in
+        SyncsAreHeld m config (promise.kept ++ more) (count_at on.point on.records)
+        ((saved_of new.process).steps - 1))
+    syncs_then =
+        let on = opened.on_disk in
+        let by = reached_now medium m config guest promise p p.steps promise.events old.store disk
+        on in
+        fewer_syncs m config (keeping_more promise more) (count_at on.point on.records) p.steps
+        ((saved_of new.process).steps - 1)
+        (one_less (saved_of new.process).steps p.steps (shown_whole.shows.steps ∙ same_steps))
+        (syncs_of_more m config promise.kept more p.steps p on.point.accepted.valid by.reached
+        (count_at on.point on.records) on.syncs)
+      where
+        one_less : (n s : ℕ) → n ≡ s → n - 1 ≤ s
+        one_less n s e = omega (arith, e)
+
+    pub save_failed : (cause : Cause) → MayFail Open cause
+        → HasBound m config guest promise q cause
+        → CallCarries m config guest promise stage act (Fails cause) new (medium disk)
+        (medium disk') []
+    save_failed cause may bound =
+        let on = opened.on_disk in
+        let can = ready in
+        let next_is = can.is_next in
+        record {
+          events = [];
+          are = no_exchange;
+          held = held_then;
+          kept = (
+            failed_saves_end m config guest promise stage act more p q (saved_of new.process) cause
+                saving_next may bound,
+            tt,
+          );
+          carried = failed_saves_carry medium m config promise act more (saved_of new.process) cause
+              held_then on.point can.next old.store.journal on.records on.pending on.last on.now
+              disk disk' saving_at syncs_then
+              (leaves m config on.point can.next on.records on.pending on.last on.now on.stores
+              next_is.comes next_is.saved);
+          bounded = save_bounds;
+          counted = calls_once (most_saving (medium disk).sectors) 1 (medium disk) (medium disk')
+              few (omega arith) (omega arith);
+          goes_on = λ opens. absurd (cc);
+        }
+
+    module _ (works : new.has_failed ≡ false)
+        (stores : StoresNext old.store new.store new.process (medium disk) (medium disk')) where
+      -- what is promised then is what a checkpoint promises where these are kept
+      abbrev more_then : Promise
+      more_then = after (keeping_more promise more)
+          (Ended Checkpoint Done held_then (saved_of new.process))
+
+      stored : (let can = ready in
+          IsStoreOf can.next new.store [] [] can.next.process can.next.process (medium disk'))
+      stored =
+          let on = opened.on_disk in
+          let can = ready in
+          let next_is = can.is_next in
+          stores m config on.point can.next on.records on.pending on.last on.now on.stores
+          next_is.comes next_is.saved
+
+      saved_by_act : (let can = ready in
+          IsSavedBy promise act more (saved_of new.process) can.next (medium disk) (medium disk'))
+      saved_by_act =
+          let on = opened.on_disk in
+          let can = ready in
+          let next_is = can.is_next in
+          done_saves_carry medium m config promise act more (saved_of new.process) on.point can.next
+          old.store.journal on.records on.pending on.last on.now disk disk' saving_at
+          (leaves m config on.point can.next on.records on.pending on.last on.now on.stores
+          next_is.comes next_is.saved) (let s = stored in s.journaled.stands)
+
+      saved_on : (let can = ready in
+          IsOnDisk m config guest more_then q q.steps (promise.events + 1) new.store
+          (medium disk'))
+      saved_on =
+          let on = opened.on_disk in
+          let can = ready in
+          let next : Savepoint m config = can.next in
+          let next_is = can.is_next in
+          let numbered = next_is.comes.generation in
+          let kept : promise.kept ++ more ≡ next.front ++ [] =
+          sym can.all ∙ sym (append-nil next.front) in
+          let there = saved_by_act in
+          let journaled = stored.journaled in
+          record {
+            point = next;
+            same = can.same;
+            records = [];
+            pending = [];
+            last = next.process;
+            now = next.process;
+            stores = stored;
+            carried = begins_carried medium m config more_then next new.store.journal disk'
+                (subst (λ (z : Promise). IsHeldAt z next [] next.process)
+                (saving_ends_alike promise act more (saved_of new.process) Done held_then saves)
+                there.held) journaled;
+            on_record = kept;
+            n = 0;
+            runs = subst (λ (z : ProcessState). Runs guest z [] 0 q) (sym next_is.process) none;
+            syncs = all_syncs_are_held m config more_then next [] q.steps kept;
+            early = one_more next.generation on.point.generation promise.events numbered on.early;
+          }
+
+      -- it is open on the disk again
+      saved_open : IsOpenOn m config guest more_then
+          (next_stage stage (Ended act Done held_then (saved_of new.process))) q new
+          (medium disk')
+      saved_open =
+          let comes = is.comes in
+          let between = opened.between in
+          let shown = shown_whole in
+          let steps : (saved_of new.process).steps ≡ q.steps = shown.shows.steps in
+          let lines : (saved_of new.process).lines ≡ length q.host.lines = shown.shows.lines in
+          let told : length q.host.lines ≡ length p.host.lines = comes.lines in
+          let passed : promise.passed ≤ length p.host.lines = opened.passed in
+          let heard : length p.host.lines ≤ promise.heard = opened.heard in
+          let synced : promise.synced ≤ p.steps = opened.synced in
+          let on = same_steps in
+          record {
+            works = works;
+            opened = opened.opened;
+            texts = opened.texts;
+            shows = is.shows;
+            module_is = is.module_is;
+            between = calls_leave_between m config guest (keeping_more promise more) stage
+                Checkpoint Done held_then q (saved_of new.process) between.start between.begins
+                (saved_runs m config guest promise stage act more p q (saved_of new.process)
+                saving_next) (between.line ∙ ap (λ n. Some n) (sym told)) steps refl;
+            heard = omega (arith, told, heard);
+            passed = max_within (saved_of new.process).lines promise.passed (length q.host.lines)
+                (same_within _ _ _ lines (omega arith)) (omega (arith, passed, told));
+            none_waits = is.none_waits;
+            on_disk = saved_on;
+            synced = max_within (saved_of new.process).steps promise.synced q.steps
+                (same_within _ _ _ steps (omega arith)) (omega (arith, synced, on));
+          }
+
+      pub save_done : CallCarries m config guest promise stage act Done new (medium disk)
+          (medium disk') []
+      save_done =
+          let there = saved_by_act in
+          record {
+            events = [];
+            are = no_exchange;
+            held = held_then;
+            kept = (
+              done_saves_end m config guest promise stage act more p q (saved_of new.process)
+                  saving_next,
+              tt,
+            );
+            carried = there.carries;
+            bounded = save_bounds;
+            counted = calls_once (most_saving (medium disk).sectors) 1 (medium disk)
+                (medium disk') few (omega arith) (omega arith);
+            goes_on = λ opens. (
+              q,
+              subst (λ (z : Promise). IsOpenOn m config guest z
+                  (next_stage stage (Ended act Done held_then (saved_of new.process))) q new
+                  (medium disk'))
+                  (sym (saving_ends_alike promise act more (saved_of new.process) Done held_then
+                  saves)) saved_open,
+            );
+          }
+
+-- ---- whatever was promised
+
+-- What an open worker shows in the end is saved of it by this act, whatever was promised of it.
+abbrev pub SavesShown : Act → DurableValue → DurableValue → Medium → Type 0
+SavesShown act old new disk =
+    (m : Module) (config : Settings) (guest : Guest) (promise : Promise) (stage : Stage)
+    (p : ProcessState) → IsOpenOn m config guest promise stage p old disk
+    → (more : List Kept) × (q : ProcessState) × SavesProcess m guest p more q new.process
+    × SavesWith promise act more (saved_of new.process)
+
+-- the act keeps it
+abbrev pub SavingCarries : Act → DurableValue → Result (Unit {0}) WorkFault → DurableValue
+    → Medium → Medium → Type 0
+SavingCarries act old result new disk disk' =
+    (m : Module) (config : Settings) (guest : Guest) (promise : Promise) (stage : Stage)
+    (p : ProcessState) (acts : List Act) → IsOpenOn m config guest promise stage p old disk
+    → stage.acts ≡ act ∷ acts → (reply : Reply) × IsReplyOfSaving result reply
+    × CallCarries m config guest promise stage act reply new disk disk' []
+
+-- how its disk is left
+module _ {D : Type 0} (medium : D → Medium) (act : Act) (old new : DurableValue) (disk disk' : D)
+    (fit : ImagesFitAreas) (saves : SavesShown act old new (medium disk))
+    (leaves : LeavesFrontOrNext old.store new.process (medium disk) (medium disk'))
+    (few : CallsUpTo (most_saving (medium disk).sectors) (medium disk) (medium disk')) where
+  pub saving_done : new.has_failed ≡ false
+      → StoresNext old.store new.store new.process (medium disk) (medium disk')
+      → SavingCarries act old (Ok tt) new (medium disk) (medium disk')
+  saving_done works stores m config guest promise stage p acts opened next_act =
+      let is = saves m config guest promise stage p opened in (
+        Done,
+        refl,
+        save_done medium old new disk fit m config guest promise stage p opened is.0 is.1 is.2
+            act is.3 acts next_act disk' leaves few works stores,
+      )
+
+  pub saving_fault : (fault : StoreFault)
+      → SaveFails old.store new.process (medium disk) (medium disk') fault
+      → SavingCarries act old (Err (fault_of_store fault)) new (medium disk) (medium disk')
+  saving_fault fault fails m config guest promise stage p acts opened next_act =
+      let is = saves m config guest promise stage p opened in
+      carries fault (save_fault medium old new disk fit m config guest promise stage p opened is.0
+      is.1 is.2 disk' fault fails)
+    where
+      on_generation : (q : ProcessState) → NUMBERS_END ≤ old.store.journal.generation + 1
+          → HasBound m config guest promise q OfBounds
+      on_generation q late =
+          let on = opened.on_disk in
+          let early = on.early in
+          let numbered = on.stores.journaled.generation in
+          inr (omega (arith, late, early, numbered))
+
+      failed : (cause : Cause) → MayFail Open cause
+          → ((q : ProcessState) → HasBound m config guest promise q cause)
+          → CallCarries m config guest promise stage act (Fails cause) new (medium disk)
+          (medium disk') []
+      failed cause may bound =
+          let is = saves m config guest promise stage p opened in
+          save_failed medium old new disk fit m config guest promise stage p opened is.0 is.1
+          is.2 act is.3 acts next_act disk' leaves few cause may (bound is.1)
+
+      carries : (fault : StoreFault)
+          → IsCheckpointFault old (medium disk) (medium disk') (fault_of_store fault)
+          → (reply : Reply) × IsFailureOf (fault_of_store fault) reply
+          × CallCarries m config guest promise stage act reply new (medium disk) (medium disk') []
+      carries store.TooBig late = (
+        Fails OfBounds,
+        (OfBounds, refl, refl),
+        failed OfBounds tt (λ q. on_generation q late),
+      )
+      carries (store.Disk why) h =
+          (Fails OfDisk, (OfDisk, refl, refl), failed OfDisk tt (λ q. tt))
+      carries store.Full h = absurd h
+      carries store.TooLong h = absurd h
+      carries store.Damaged h = absurd h
+      carries (store.Layout why) h = absurd h
+      carries store.Memory h = absurd h
+      carries store.Failed h = absurd h
+
+  pub saving_fails : (fault : StoreFault)
+      → SaveFails old.store new.process (medium disk) (medium disk') fault
+      → CheckpointFails old (medium disk) (medium disk') (fault_of_store fault)
+  saving_fails fault fails m config guest promise stage p opened =
+      let is = saves m config guest promise stage p opened in
+      save_fault medium old new disk fit m config guest promise stage p opened is.0 is.1 is.2 disk'
+      fault fails
