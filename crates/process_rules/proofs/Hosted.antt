@@ -30,7 +30,7 @@ use Rattle.wasi_calls_rules.proofs.HostBytes.{rows_keep_hosts_of_bytes}
 use Rattle.wasi_calls_rules.proofs.ShortInput.{rows_keep_input_short}
 use Rattle.wasi_calls_rules.proofs.KeepsHosts.{rows_keep_hosts}
 use Rattle.wasi_calls_rules.proofs.KeptLines.{nothing_unfinished}
-use Rattle.wasi_calls_rules.proofs.FirstHosts.{first_is_host}
+use Rattle.wasi_calls_rules.proofs.FirstHosts.{first_is_host, of_any_version}
 use Rattle.process_rules.specs.Processes.{ProcessState, Guest, IsStart, host_of, closed_at}
 use Rattle.process_rules.specs.Runs.{Next, On, Over, Wants, Nowhere, after_row, after_call}
 use Rattle.process_rules.specs.Runs.{after_rule, next_of, stepped, LeadsTo, Moves, Kept, widened}
@@ -418,19 +418,7 @@ widened_holds p k = record {
     arguments = k.of_bytes.arguments;
     environment = k.of_bytes.environment;
   };
-  host = record {
-    files = k.host.files;
-    within = k.host.within;
-    places = k.host.places;
-    descriptors = k.host.descriptors;
-    streams = k.host.streams;
-    root = k.host.root;
-    unread = k.host.unread;
-    last_monotonic = k.host.last_monotonic;
-    first = k.host.first;
-    second = k.host.second;
-    open_nodes = k.host.open_nodes;
-  };
+  host = of_any_version p.host Two k.host;
 }
 
 runs_hold : (guest : Guest) (p q : ProcessState) (kept : List Kept) (n : ℕ) → Runs guest p kept n q
