@@ -5,6 +5,7 @@ use Rattle.state_image.specs.laws.ImageExamples.{ImagesOnExamples}
 pub images : ImagesOnExamples
 images = record {
   whole = refl;
+  whole_in_two = refl;
   in_start_function = refl;
   exited = refl;
   unreachable = refl;

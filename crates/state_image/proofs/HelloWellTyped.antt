@@ -200,6 +200,7 @@ pub first_shown : (config : Settings) → 1 ≤ config.pages → config.pages �
     → SavedShowsProcess context (program_under config) [] (fresh_process first_memory)
     (first_of config)
 first_shown config some few = record {
+  version = refl;
   machine = shows config some few;
   files = refl;
   descriptors = refl;
@@ -230,7 +231,7 @@ well_typed config some few = record {
   process = first_of config;
   shown = first_shown config some few;
   host = first_is_host _ _ _ _;
-  configured = record { room = refl; version = refl; arguments = refl; environment = refl };
+  configured = record { room = refl; arguments = refl; environment = refl };
   outermost = refl;
   alive = λ e. absurd cc;
   steps = omega arith;

@@ -87,7 +87,7 @@ pub fn what_is_read_in_steps()
 
 /// Bytes that begin with those of a field lead its reader to this field, and to what is behind it.
 pub fn fields_lead_their_readers()
-    ensures mark { LeadsItsReader (λ (mark : Unit {0}). image_mark) (λ mark. Unit {0}) }
+    ensures mark { LeadsItsReader image_mark (λ version. Unit {0}) }
     ensures counts { LeadsPartReader counts_of counts_bytes FitsCounts }
     ensures phase { LeadsPartReader read_end_of phase_bytes FitsCode }
     ensures streams { LeadsPartReader streams_of streams_bytes FitsStreams }

@@ -1,4 +1,4 @@
-//! The image of a process as bytes, version 1, and which images are accepted (this project's own).
+//! The image of a process as bytes, and which images are accepted (this project's own).
 //! The code writes images, and makes processes of them again.
 //!
 //! # Promises
@@ -119,9 +119,8 @@
 //! - **An image names the position at which a frame of the machine is.** What the frame shows fixes
 //!   that position (`shapes_tell_positions`), also in the two parts of one `if`. So image and
 //!   process determine each other to the byte.
-//! - **An image has no limit on texts.** The limit is a field of the host, and an accepted image of
-//!   version 1 is that of a host with 4,096 (`IsConfigured`). A wider version would have it as a
-//!   field of its own. Its number is in the head beside the image.
+//! - **The mark tells the version.** The version says how long texts may be (`text_limit`), so an
+//!   image has no field for that. All behind the mark is spelled alike in both versions.
 #![tactic(auto)]
 
 mod byte_sink;
@@ -133,4 +132,4 @@ mod writing;
 
 pub use byte_sink::ByteSink;
 pub use sink::Sink;
-pub use writing::{IMAGE_MARK, write_image, write_image_to};
+pub use writing::{image_mark, write_image, write_image_to};
