@@ -29,14 +29,13 @@ mark_length One = refl
 mark_length Two = refl
 
 -- the eighth byte
-digit_of : List ℕ → ℕ
+abbrev pub digit_of : List ℕ → ℕ
 digit_of (a ∷ b ∷ c ∷ d ∷ e ∷ f ∷ g ∷ digit ∷ rest) = digit
 digit_of other = 0
 
 -- a mark in front tells the version, and what is behind it
 pub same_version : (v w : Version) (rest other : List ℕ)
     → image_mark v ++ rest ≡ image_mark w ++ other → (v ≡ w) × (rest ≡ other)
-unfolding digit_of
 same_version One One rest other e = (refl, append_cancel_left (image_mark One) rest other e)
 same_version Two Two rest other e = (refl, append_cancel_left (image_mark Two) rest other e)
 same_version One Two rest other e =

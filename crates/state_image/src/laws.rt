@@ -6,6 +6,7 @@ ghost use Rattle.wasi_abi.specs.rules.Configs.{Settings};
 ghost use Rattle.state_image.specs.laws.Refusals.{RefusesCounts, RefusesStreams, RefusesMachines};
 ghost use Rattle.state_image.specs.laws.Refusals.{RefusesFiles, RefusesDescriptors};
 ghost use Rattle.state_image.specs.laws.WellTypedExamples.{HelloBeginsWellTyped};
+ghost use Rattle.state_image.specs.laws.WellTypedExamples.{HelloIsWellTypedInTwo};
 ghost use Rattle.state_image.specs.laws.Reading.{NodesAreRead, DescriptorsAreRead};
 ghost use Rattle.state_image.specs.laws.Reading.{PartsAreOfProcesses};
 ghost use Rattle.state_image.specs.laws.ImageOrder.{ImagesAreInOrder, LeadsItsReader};
@@ -45,9 +46,11 @@ pub fn images_on_examples()
     ensures { ImagesOnExamples }
 {}
 
-/// The process that `hello` begins as is well typed.
+/// The process that `hello` begins as is well typed, in version 2 too. There it may have as many
+/// unread bytes as a request has.
 pub fn hello_begins_well_typed()
-    ensures { HelloBeginsWellTyped }
+    ensures first { HelloBeginsWellTyped }
+    ensures widened { HelloIsWellTypedInTwo }
 {}
 
 /// What no well-typed process has, clause by clause.

@@ -48,13 +48,14 @@
 //!   memory and files. That is what an area of the worker's disk has. It is of bytes.
 //! - `laws::a_fresh_image_has_its_size`: the image of a process that has just begun, with one page
 //!   of memory and an empty file system, has 65,811 bytes.
-//! - `laws::images_on_examples`: the whole image of a small process, byte by byte, and phases and
-//!   codes of others.
+//! - `laws::images_on_examples`: the whole image of a small process in both versions, byte by byte,
+//!   both marks, and phases and codes of others.
 //! - `laws::reached_processes_are_well_typed`: every process that an accepted module reaches is
 //!   well typed, and so is what is saved of the code's process that shows it. So their images are
 //!   accepted ones, and no two of them have one image.
 //! - `laws::hello_begins_well_typed`: the process that `hello` begins as is well typed, under any
-//!   configuration with a page.
+//!   configuration with a page. So it is once it was widened, with as many unread bytes as a request
+//!   of version 2 has.
 //! - `laws::others_are_refused`: what no well-typed process has: counts, streams, memories, files
 //!   and descriptors just beyond what is allowed.
 //!

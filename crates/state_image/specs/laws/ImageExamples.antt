@@ -7,6 +7,7 @@ use Rattle.file_tree.specs.rules.Files.{Files, Directory, File}
 use Rattle.wasi_calls_rules.specs.Hosts.{Stream, Node}
 use Rattle.process_rules.specs.Processes.{Ending, Exited, Trapped}
 use Rattle.state_image.specs.rules.Image.{Saved, memory_bytes, phase_bytes, image}
+use Rattle.state_image.specs.laws.Marks.{IsVersionOf}
 
 -- ---- a process
 
@@ -142,6 +143,10 @@ pub record ImagesOnExamples : Type 0 where
   pub whole : image sample ≡ mark_with 49 ++ behind_mark
   -- in version 2 only the last byte of the mark is another one
   pub whole_in_two : image sample_in_two ≡ mark_with 50 ++ behind_mark
+  -- both marks are read, and there is no third one
+  pub mark_of_one : IsVersionOf (mark_with 49) (Some One)
+  pub mark_of_two : IsVersionOf (mark_with 50) (Some Two)
+  pub no_mark_of_three : IsVersionOf (mark_with 51) None
   pub in_start_function : phase_bytes starting ≡ 0 ∷ 0 ∷ 0 ∷ 0 ∷ 0 ∷ 0 ∷ []
   pub exited : phase_at (Exited 513) ≡ 2 ∷ 1 ∷ 2 ∷ 0 ∷ 0 ∷ 1 ∷ []
   pub unreachable : phase_trapped trap.Unreachable ≡ 3 ∷ 1 ∷ 0 ∷ 0 ∷ 0 ∷ 1 ∷ []
