@@ -192,6 +192,7 @@ module _ (config : Settings) (some : 1 ≤ config.pages) (few : config.pages ≤
       → HoldsAll hello config so_far.kept so_far 0 steps
   holds so_far steps kept answers enough begun = record {
     within = omega arith;
+    up_to = subst (λ (l : List Kept). IsUpTo l steps) (sym kept) tt;
     answers = omega (arith, answers);
     steps_held = enough;
     lines = λ i h. (

@@ -6,8 +6,10 @@ use Rattle.wasm_syntax.specs.declared.module.Module.{Module}
 use Rattle.wasi_abi.specs.rules.Configs.{Settings}
 use Rattle.process_rules.specs.Runs.{Kept, Given, Reaches}
 use Rattle.process_rules.specs.Behind.{IsUpTo, AnswersBehindLine}
-use Rattle.restart_theorem.specs.Lives.{Act, Slice, Checkpoint, Inputs, OfOutlet, Spent, Waits, Done}
-use Rattle.restart_theorem.specs.Lives.{Fails, Event, Told, Asked, Opened, Ended, Beginning, Recovers}
+use Rattle.restart_theorem.specs.Lives.{Act, Slice, Checkpoint, Inputs, OfOutlet, Spent, Waits}
+use Rattle.restart_theorem.specs.Lives.{Done}
+use Rattle.restart_theorem.specs.Lives.{Fails, Event, Told, Asked, Opened, Ended, Beginning}
+use Rattle.restart_theorem.specs.Lives.{Recovers}
 use Rattle.restart_theorem.specs.Lives.{Creates}
 use Rattle.restart_theorem.specs.Courses.{Stage, NoneThere, at_first, next_stage, first_taken}
 use Rattle.restart_theorem.specs.Promises.{Promise, nothing_yet, after, promised_by, IsAt, HoldsAll}
@@ -62,6 +64,7 @@ module _ {m : Module} {config : Settings} (t : Teller m config) where
     at = t.fresh.at;
     holds = record {
       within = omega arith;
+      up_to = tt;
       answers = omega arith;
       steps_held = omega arith;
       lines = λ i few. (0, omega arith, behind [] 0 0 0 i (omega arith) t.fresh tt few);
@@ -216,6 +219,7 @@ module _ {m : Module} {config : Settings} (t : Teller m config) where
       → so_far.begun ≡ 2 → HoldsAll m config kept_both so_far 2 steps
   holds so_far steps answers many two = record {
     within = omega arith;
+    up_to = tt;
     answers = answers;
     steps_held = many;
     lines = λ i few. (
@@ -497,6 +501,7 @@ module _ {m : Module} {config : Settings} (t : Teller m config) where
         at = t.answered.at;
         holds = record {
           within = omega arith;
+          up_to = tt;
           answers = omega arith;
           steps_held = omega (arith, e);
           lines = λ i few.
