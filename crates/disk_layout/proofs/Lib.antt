@@ -1,5 +1,6 @@
 pub mod FieldLemmas
 pub mod HeadLemmas
+mod LongRecordLemmas
 mod TextLemmas
 pub mod ContentsLemmas
 pub mod ReadLemmas

@@ -5,11 +5,11 @@
 //!
 //! - `Geometry::of` gives the places and sizes of the definitions. `head_place`, `area_place`,
 //!   `journal_place` and `total_sectors` are those of heads, areas, journal, and the whole.
-//! - `Super`, `Head`, `Stamp`, `journal_sector`, `record_head` and `clock_bytes` are laid out byte
-//!   by byte as defined. Their readers give the fields that the definitions read: `read`,
-//!   `shown_at`, `is_complete`, `is_of`, `used_length`, `payload_length`, `record_step`,
-//!   `clock_from`, `u16_from` and `u32_from`. `digest_of` is the SHA-256 of configuration and
-//!   module.
+//! - `Super`, `Head`, `Stamp`, `journal_sector`, `record_head`, `short_length`, `wide_length` and
+//!   `clock_bytes` are laid out byte by byte as defined. Their readers give the fields that the
+//!   definitions read: `read`, `shown_at`, `is_complete`, `is_of`, `used_length`,
+//!   `payload_length`, `record_step`, `clock_from`, `u16_from` and `u32_from`. `digest_of` is the
+//!   SHA-256 of configuration and module.
 //! - `write_super`, `write_contents`: a cut at any moment leaves of each sector some front, and
 //!   all others as they were (`any_moment`). An error says that the disk failed, or had no room
 //!   for the writes (`cause`). There are never more unsynced writes than before and these
@@ -37,7 +37,7 @@
 //! # Who may touch what
 //!
 //! The marks, and the places of fields in supers, heads and stamps, are known here alone, each as
-//! one constant, as `IMAGE_VERSION` and `LONGEST_PAYLOAD`. `journal`, `snapshot` and `worker_store`
+//! one constant, as `IMAGE_VERSION` and `PAYLOAD_SIZE`. `journal`, `snapshot` and `worker_store`
 //! use it, and `record_replay` its `Record`. `restart_theorem` cites the definitions. It stands on
 //! `sector_disk` and `wasi_abi`. Reading back and `config_bytes_of` take memory. Whatever fails, a
 //! read leaves the disk unwritten.
@@ -47,6 +47,9 @@
 //! - Which of `K2` and `K3` a failing disk answers is no part of a disk's clauses. So those of a
 //!   write of contents or super say that its fault is one of the two, and not which.
 //! - Padding is written as zeros and not compared when it is read.
+//! - A record's length has two bytes in version 1 and four in version 2, and its payload a limit of
+//!   the version. All else of a record and of the journal is the same in both. No command makes a
+//!   disk of version 2 yet.
 //! - A torn head may show a lower generation than before, one that no commit made. What stays is
 //!   the latest that a head's sector shows.
 //! - `write_contents` takes configuration and module apart and builds each sector of a part of
@@ -85,11 +88,10 @@ pub use geometry::{Geometry, MODULE_PLACE};
 pub use head::{Head, IMAGE_VERSION};
 pub use journal_sectors::{PAYLOAD_AT, PAYLOAD_SIZE, is_of, journal_sector, used_length};
 pub use reading::{Contents, config_from, read_contents};
-pub use record::{
-    END_KIND, LONGEST_PAYLOAD, MONOTONIC_KIND, RANDOM_KIND, REALTIME_KIND, REQUEST_KIND, Record,
-};
+pub use record::{END_KIND, MONOTONIC_KIND, RANDOM_KIND, REALTIME_KIND, REQUEST_KIND, Record};
 pub use record_fields::{
-    RECORD_HEAD_BYTES, clock_bytes, clock_from, payload_length, record_head, record_step,
+    clock_bytes, clock_from, payload_length, record_head, record_head_bytes, record_step,
+    short_length, wide_length,
 };
 pub use stamp::Stamp;
 pub use stored::{Stored, digest_of, read_super, write_super};

@@ -1,9 +1,6 @@
 // Records of answers.
 use wasi_abi::Answer;
 
-/// The most bytes of a record's payload: of a request, and of random bytes.
-pub const LONGEST_PAYLOAD: usize = 4_096;
-
 /// The first byte of the record of a request.
 pub const REQUEST_KIND: u8 = 1;
 

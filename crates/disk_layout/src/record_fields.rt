@@ -1,46 +1,72 @@
 // The fields of a record, byte by byte.
 
-ghost use Rattle.std.specs.Prelude.{◌≡◌, ◌∷◌, ◌++◌, ◌<◌, ◌≤◌, ◌^◌, length};
+ghost use Rattle.std.specs.Prelude.{◌≡◌, ◌∷◌, ◌<◌, ◌≤◌, ◌^◌, length};
 ghost use Rattle.guest_memory.specs.rules.Bytes.{number_of};
-ghost use Rattle.wasi_abi.specs.rules.Layouts.{u16_bytes, u64_bytes, u64_at};
-ghost use Rattle.disk_layout.specs.declared.record_fields.TheConstants.{RECORD_HEAD_BYTES, STEP_AT};
-ghost use Rattle.disk_layout.specs.rules.Journal.{payload_length};
+ghost use Rattle.wasi_abi.specs.rules.Layouts.{u16_bytes, u32_bytes, u64_bytes, u64_at};
+ghost use Rattle.disk_layout.specs.declared.record_fields.TheConstants.{STEP_AT, PAYLOAD_LENGTH_AT};
+ghost use Rattle.disk_layout.specs.rules.Journal.{payload_length, record_head_bytes};
 
-use crate::fields::{put_u16, put_u64, u16_from, u64_from};
-
-/// How many bytes of a record stand before its payload: its kind, its step and the payload's
-/// length.
-pub const RECORD_HEAD_BYTES: usize = 11;
+use crate::fields::{put_u16, put_u32, put_u64, u16_from, u32_from, u64_from};
+use wasi_abi::Version;
 
 /// Where the step stands, behind the kind.
 pub const STEP_AT: usize = 1;
 
-/// Where the payload's length stands.
+/// Where the payload's length stands, behind kind and step.
 pub const PAYLOAD_LENGTH_AT: usize = 9;
 
-/// What stands before a record's payload: its kind, its step and the payload's length in bytes.
-pub fn record_head(kind: u8, step: u64, payload_len: u16) -> [u8; RECORD_HEAD_BYTES]
-    ensures { result ≡ kind ∷ (u64_bytes step ++ u16_bytes payload_len) }
+/// How many bytes of a record stand before its payload: its kind, its step and the payload's
+/// length.
+pub fn record_head_bytes(version: Version) -> usize
+    ensures value { result ≡ record_head_bytes version }
+    ensures within { result < 2 ^ 4 }
 {
-    let mut head = [0; RECORD_HEAD_BYTES];
+    PAYLOAD_LENGTH_AT + version.length_bytes()
+}
+
+/// What stands before the length of a record's payload: its kind and its step.
+pub fn record_head(kind: u8, step: u64) -> [u8; PAYLOAD_LENGTH_AT]
+    ensures { result ≡ kind ∷ u64_bytes step }
+{
+    let mut head = [0; PAYLOAD_LENGTH_AT];
     head[0] = kind;
     put_u64(&mut head, STEP_AT, step);
-    put_u16(&mut head, PAYLOAD_LENGTH_AT, payload_len);
     head
 }
 
 /// The length in bytes of the payload of the record at the front.
-pub fn payload_length(bytes: &[u8]) -> usize
-    requires { RECORD_HEAD_BYTES ≤ length bytes.now }
-    ensures value { result ≡ payload_length bytes.now }
-    ensures within { result < 2 ^ 16 }
+pub fn payload_length(version: Version, bytes: &[u8]) -> usize
+    requires { record_head_bytes version ≤ length bytes.now }
+    ensures value { result ≡ payload_length version bytes.now }
+    ensures within { result < 2 ^ 32 }
 {
-    usize::from(u16_from(bytes, PAYLOAD_LENGTH_AT))
+    match version {
+        Version::One => usize::from(u16_from(bytes, PAYLOAD_LENGTH_AT)),
+        Version::Two => u32_from(bytes, PAYLOAD_LENGTH_AT) as usize,
+    }
+}
+
+/// The length of a payload as a record of version 1 has it, the lowest byte first.
+pub fn short_length(len: u16) -> [u8; 2]
+    ensures { result ≡ u16_bytes len }
+{
+    let mut bytes = [0; 2];
+    put_u16(&mut bytes, 0, len);
+    bytes
+}
+
+/// The length of a payload as a record of version 2 has it, the lowest byte first.
+pub fn wide_length(len: u32) -> [u8; 4]
+    ensures { result ≡ u32_bytes len }
+{
+    let mut bytes = [0; 4];
+    put_u32(&mut bytes, 0, len);
+    bytes
 }
 
 /// The step of the record at the front.
 pub fn record_step(bytes: &[u8]) -> u64
-    requires { RECORD_HEAD_BYTES ≤ length bytes.now }
+    requires { PAYLOAD_LENGTH_AT ≤ length bytes.now }
     ensures { result ≡ u64_at bytes.now STEP_AT }
 {
     u64_from(bytes, STEP_AT)

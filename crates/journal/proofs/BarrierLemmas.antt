@@ -7,6 +7,7 @@ use Rattle.sector_disk.specs.rules.Image.{Image, sector_at}
 use Rattle.sector_disk.specs.rules.Medium.{Medium, After, Follows, LeavesOnly, Passes}
 use Rattle.sector_disk.specs.rules.Run.{IsTornRun, IsWrittenRun}
 use Rattle.sector_disk.proofs.Moments.{started, weaker, leaves_only, shows_left, leaves_weaker}
+use Rattle.wasi_abi.specs.declared.version.Version.{Version}
 use Rattle.disk_layout.specs.rules.Places.{Geometry, journal_place, total_sectors}
 use Rattle.disk_layout.specs.rules.Journal.{Record, record_bytes}
 use Rattle.disk_layout.proofs.JournalLemmas.{length-journal_sector}
@@ -18,39 +19,40 @@ use Rattle.journal.proofs.RunLemmas.{IsRun, all_bytes, none_after, is_new, front
 use Rattle.journal.proofs.RunLemmas.{none_later, others_same, holds_all}
 use Rattle.journal.proofs.RecordLemmas.{scan_of}
 
-module _ (geometry : Geometry) (g used : ℕ) (bytes : List ℕ) (records kept : List Record)
-    (old : Medium) (on : IsOn geometry g used bytes records kept old.may_leave)
+module _ (geometry : Geometry) (v : Version) (g used : ℕ) (bytes : List ℕ)
+    (records kept : List Record) (old : Medium)
+    (on : IsOn geometry v g used bytes records kept old.may_leave)
     (size : total_sectors geometry ≤ old.sectors) where
   -- where nothing is written
   stays_so : (image : Image) → old.may_leave image
-      → AppendsFront geometry g used records kept image image
+      → AppendsFront geometry v g used records kept image image
   stays_so image left =
       let holds = on.stands image left in
-      let all = all_bytes geometry g used (records_bytes records) image holds in
-      let front = scan_of geometry image g 0 records kept on.fit on.fit_kept (all
-      ∙ sym (append-nil (records_bytes records))) in
+      let all = all_bytes geometry g used (records_bytes v records) image holds in
+      let front = scan_of v geometry image g 0 records kept on.fit on.fit_kept (all
+      ∙ sym (append-nil (records_bytes v records))) in
       record {
         count = front.0;
         within = front.1;
         scanned = front.2;
-        none_later = none_after geometry g used (records_bytes records) image holds;
+        none_later = none_after geometry g used (records_bytes v records) image holds;
         others = record { count = refl; below = λ k lt. refl; above = λ k le. refl };
       }
 
   pub nothing_written : LeavesOnly old old
-      (After (AppendsFront geometry g used records kept) old.may_leave)
+      (After (AppendsFront geometry v g used records kept) old.may_leave)
   nothing_written =
       leaves_only old old _ (started old _) (λ image left. (image, left, stays_so image left))
 
   pub still_stands : length bytes ≡ 0 → (image : Image) → old.may_leave image
-      → RecordsStand geometry g used (records ++ kept) image
+      → RecordsStand geometry v g used (records ++ kept) image
   still_stands none image left =
       let holds = on.stands image left in
-      let empty : records_bytes (records ++ kept) ≡ records_bytes records =
-      flat_map-append record_bytes records kept
-      ∙ ap (λ l. records_bytes records ++ l) (sym on.spells)
-      ∙ ap (λ l. records_bytes records ++ l) (nil bytes none)
-      ∙ append-nil (records_bytes records) in
+      let empty : records_bytes v (records ++ kept) ≡ records_bytes v records =
+      flat_map-append (record_bytes v) records kept
+      ∙ ap (λ l. records_bytes v records ++ l) (sym on.spells)
+      ∙ ap (λ l. records_bytes v records ++ l) (nil bytes none)
+      ∙ append-nil (records_bytes v records) in
       subst (λ (l : List ℕ). HoldsBytes geometry g used l image) (sym empty) holds
     where
       nil : (l : List ℕ) → length l ≡ 0 → l ≡ []
@@ -60,7 +62,7 @@ module _ (geometry : Geometry) (g used : ℕ) (bytes : List ℕ) (records kept :
   module _ (room : used + sectors_for (length bytes) ≤ geometry.journal_sectors)
       (bound : geometry.journal_sectors < 2 ^ 32) where
     run_of : (image : Image) → old.may_leave image
-        → IsRun geometry g used (sectors_for (length bytes)) (records_bytes records) bytes image
+        → IsRun geometry g used (sectors_for (length bytes)) (records_bytes v records) bytes image
     run_of image left =
         let is = old.is_image image left in
         let full = is.full in
@@ -77,22 +79,22 @@ module _ (geometry : Geometry) (g used : ℕ) (bytes : List ℕ) (records kept :
         → IsTornRun (journal_place geometry + used)
         (packed g (used + 1) (sectors_for (length bytes)) bytes)
         (sectors_for (length bytes)) old_image new_image
-        → AppendsFront geometry g used records kept old_image new_image
+        → AppendsFront geometry v g used records kept old_image new_image
     appends old_image new_image left torn =
         let n = sectors_for (length bytes) in
         let run = run_of old_image left in
-        let front = front_of_kept geometry g used n (records_bytes records) bytes old_image
+        let front = front_of_kept geometry g used n (records_bytes v records) bytes old_image
         new_image run torn in
-        let scanned = scan_of geometry new_image g front.0 records kept on.fit on.fit_kept (front.1
-        ∙ ap (λ l. records_bytes records ++ take front.0 l) on.spells) in
+        let scanned = scan_of v geometry new_image g front.0 records kept on.fit on.fit_kept
+        (front.1 ∙ ap (λ l. records_bytes v records ++ take front.0 l) on.spells) in
         record {
           count = scanned.0;
           within = scanned.1;
           scanned = scanned.2;
           none_later =
-              none_later geometry g used n (records_bytes records) bytes old_image new_image run
+              none_later geometry g used n (records_bytes v records) bytes old_image new_image run
               torn;
-          others = others_same geometry g used n (records_bytes records) bytes old_image new_image
+          others = others_same geometry g used n (records_bytes v records) bytes old_image new_image
               run torn;
         }
 
@@ -101,7 +103,7 @@ module _ (geometry : Geometry) (g used : ℕ) (bytes : List ℕ) (records kept :
         (After (IsTornRun (journal_place geometry + used)
         (packed g (used + 1) (sectors_for (length bytes)) bytes) (sectors_for (length bytes)))
         old.may_leave)
-        → LeavesOnly old new (After (AppendsFront geometry g used records kept) old.may_leave)
+        → LeavesOnly old new (After (AppendsFront geometry v g used records kept) old.may_leave)
     any_moment new leaves =
         leaves_weaker old new _ _ leaves (λ image was. (
           was.0,
@@ -126,7 +128,7 @@ module _ (geometry : Geometry) (g used : ℕ) (bytes : List ℕ) (records kept :
           below = written.below;
           above = written.above;
           each = λ i lt.
-              let new = is_new geometry g used n (records_bytes records) bytes old_image new_image
+              let new = is_new geometry g used n (records_bytes v records) bytes old_image new_image
               run i lt in
               let long : length (sector_at (packed g (used + 1) n bytes) i) ≡ 512 =
               ap length (packed_at g (used + 1) n bytes i lt)
@@ -150,7 +152,7 @@ module _ (geometry : Geometry) (g used : ℕ) (bytes : List ℕ) (records kept :
         (packed g (used + 1) (sectors_for (length bytes)) bytes) (sectors_for (length bytes)))
         old.shows new.may_leave
         → (image : Image) → new.may_leave image
-        → RecordsStand geometry g (used + sectors_for (length bytes)) (records ++ kept) image
+        → RecordsStand geometry v g (used + sectors_for (length bytes)) (records ++ kept) image
     durable new stored image left =
         let n = sectors_for (length bytes) in
         let was = stored image left in
@@ -158,25 +160,26 @@ module _ (geometry : Geometry) (g used : ℕ) (bytes : List ℕ) (records kept :
         let before = shows_left old was.0 was.1 in
         let run = run_of was.0 before in
         let torn = torn_of_written was.0 image before written in
-        let all = holds_all geometry g used n (records_bytes records) bytes was.0 image run torn
+        let all = holds_all geometry g used n (records_bytes v records) bytes was.0 image run torn
         written.each in
-        let spelled : records_bytes records ++ bytes ≡ records_bytes (records ++ kept) =
-        ap (λ l. records_bytes records ++ l) on.spells
-        ∙ sym (flat_map-append record_bytes records kept) in
+        let spelled : records_bytes v records ++ bytes ≡ records_bytes v (records ++ kept) =
+        ap (λ l. records_bytes v records ++ l) on.spells
+        ∙ sym (flat_map-append (record_bytes v) records kept) in
         subst (λ (l : List ℕ). HoldsBytes geometry g (used + n) l image) spelled all
 
 -- the same of values that are these
-pub any_moment_at : (geometry : Geometry) (g used : ℕ) (bytes : List ℕ) (records kept : List Record)
-    (old new : Medium) (at h u : ℕ) (b : List ℕ) → at ≡ journal_place geometry → h ≡ g → u ≡ used
+pub any_moment_at : (geometry : Geometry) (v : Version) (g used : ℕ) (bytes : List ℕ)
+    (records kept : List Record) (old new : Medium) (at h u : ℕ) (b : List ℕ)
+    → at ≡ journal_place geometry → h ≡ g → u ≡ used
     → b ≡ bytes
-    → IsOn geometry g used bytes records kept old.may_leave → total_sectors geometry ≤ old.sectors
+    → IsOn geometry v g used bytes records kept old.may_leave → total_sectors geometry ≤ old.sectors
     → used + sectors_for (length bytes) ≤ geometry.journal_sectors
     → geometry.journal_sectors < 2 ^ 32
     → LeavesOnly old new (After (IsTornRun (at + u) (packed h (u + 1) (sectors_for (length b)) b)
     (sectors_for (length b))) old.may_leave)
-    → LeavesOnly old new (After (AppendsFront geometry g used records kept) old.may_leave)
-any_moment_at geometry g used bytes records kept old new at h u b at-is h-is u-is b-is on size room
-    bound leaves =
+    → LeavesOnly old new (After (AppendsFront geometry v g used records kept) old.may_leave)
+any_moment_at geometry v g used bytes records kept old new at h u b at-is h-is u-is b-is on size
+    room bound leaves =
     let P : ℕ → ℕ → ℕ → List ℕ → Type 0 =
     λ at h u b. LeavesOnly old new
     (After (IsTornRun (at + u) (packed h (u + 1) (sectors_for (length b)) b)
@@ -185,20 +188,21 @@ any_moment_at geometry g used bytes records kept old new at h u b at-is h-is u-i
     let two = subst (λ (x : ℕ). P (journal_place geometry) x u b) h-is one in
     let three = subst (λ (x : ℕ). P (journal_place geometry) g x b) u-is two in
     let four = subst (λ (x : List ℕ). P (journal_place geometry) g used x) b-is three in
-    any_moment geometry g used bytes records kept old on size room bound new four
+    any_moment geometry v g used bytes records kept old on size room bound new four
 
-pub durable_at : (geometry : Geometry) (g used : ℕ) (bytes : List ℕ) (records kept : List Record)
-    (old new : Medium) (at h u n : ℕ) (b : List ℕ) → at ≡ journal_place geometry → h ≡ g → u ≡ used
+pub durable_at : (geometry : Geometry) (v : Version) (g used : ℕ) (bytes : List ℕ)
+    (records kept : List Record) (old new : Medium) (w : Version) (at h u n : ℕ) (b : List ℕ)
+    → w ≡ v → at ≡ journal_place geometry → h ≡ g → u ≡ used
     → b ≡ bytes → n ≡ sectors_for (length bytes)
-    → IsOn geometry g used bytes records kept old.may_leave → total_sectors geometry ≤ old.sectors
+    → IsOn geometry v g used bytes records kept old.may_leave → total_sectors geometry ≤ old.sectors
     → used + sectors_for (length bytes) ≤ geometry.journal_sectors
     → geometry.journal_sectors < 2 ^ 32
     → Follows (IsWrittenRun (at + u) (packed h (u + 1) (sectors_for (length b)) b)
     (sectors_for (length b))) old.shows new.may_leave
     → (image : Image) → new.may_leave image
-    → RecordsStand geometry h (u + n) (records ++ kept) image
-durable_at geometry g used bytes records kept old new at h u n b at-is h-is u-is b-is n-is on size
-    room bound stored image left =
+    → RecordsStand geometry w h (u + n) (records ++ kept) image
+durable_at geometry v g used bytes records kept old new w at h u n b w-is at-is h-is u-is b-is n-is
+    on size room bound stored image left =
     let P : ℕ → ℕ → ℕ → List ℕ → Type 0 =
     λ at h u b. Follows (IsWrittenRun (at + u) (packed h (u + 1) (sectors_for (length b)) b)
     (sectors_for (length b))) old.shows new.may_leave in
@@ -206,13 +210,16 @@ durable_at geometry g used bytes records kept old new at h u n b at-is h-is u-is
     let two = subst (λ (x : ℕ). P (journal_place geometry) x u b) h-is one in
     let three = subst (λ (x : ℕ). P (journal_place geometry) g x b) u-is two in
     let four = subst (λ (x : List ℕ). P (journal_place geometry) g used x) b-is three in
-    let five = durable geometry g used bytes records kept old on size room bound new four image left
-    in
-    let six = subst (λ (x : ℕ). RecordsStand geometry x (used + sectors_for (length bytes)) (records
-    ++ kept) image) (sym h-is) five in
-    let seven = subst (λ (x : ℕ). RecordsStand geometry h (x + sectors_for (length bytes)) (records
-    ++ kept) image) (sym u-is) six in
-    subst (λ (x : ℕ). RecordsStand geometry h (u + x) (records ++ kept) image) (sym n-is) seven
+    let five = durable geometry v g used bytes records kept old on size room bound new four image
+    left in
+    let six = subst (λ (x : ℕ). RecordsStand geometry v x (used + sectors_for (length bytes))
+    (records ++ kept) image) (sym h-is) five in
+    let seven = subst (λ (x : ℕ). RecordsStand geometry v h (x + sectors_for (length bytes))
+    (records ++ kept) image) (sym u-is) six in
+    let eight = subst (λ (x : ℕ). RecordsStand geometry v h (u + x) (records
+    ++ kept) image) (sym n-is) seven in
+    subst (λ (x : Version). RecordsStand geometry x h (u + n) (records ++ kept) image) (sym w-is)
+    eight
 
 -- there is room for what was counted
 pub room_for : (used journal len counted : ℕ) → counted ≡ sectors_for len → (len ≡ 0 → ⊥)
@@ -230,7 +237,7 @@ goes_not m = started m (λ _. Unit {0})
 -- ---- laws
 
 pub fresh_stands : FreshStands
-fresh_stands geometry g image earlier =
+fresh_stands geometry v g image earlier =
     record {
       within = omega arith;
       written = λ k lt. absurd (omega arith);
@@ -239,10 +246,10 @@ fresh_stands geometry g image earlier =
     }
 
 pub scans_what_stands : ScansWhatStands
-scans_what_stands geometry g used records image holds fit =
-    let front = scan_of geometry image g 0 records [] fit tt
-    (all_bytes geometry g used (records_bytes records) image holds
-    ∙ sym (append-nil (records_bytes records))) in
+scans_what_stands geometry v g used records image holds fit =
+    let front = scan_of v geometry image g 0 records [] fit tt
+    (all_bytes geometry g used (records_bytes v records) image holds
+    ∙ sym (append-nil (records_bytes v records))) in
     front.2 ∙ ap (λ l. records ++ l) (none front.0) ∙ append-nil records
   where
     none : (k : ℕ) → take k (let l : List Record = [] in l) ≡ []
@@ -250,5 +257,5 @@ scans_what_stands geometry g used records image holds fit =
     none (suc k) = refl
 
 pub scans_none_of_later : ScansNoneOfLater
-scans_none_of_later geometry g image earlier =
-    scans_what_stands geometry g 0 [] image (fresh_stands geometry g image earlier) tt
+scans_none_of_later geometry v g image earlier =
+    scans_what_stands geometry v g 0 [] image (fresh_stands geometry v g image earlier) tt

@@ -7,6 +7,7 @@ use Rattle.sector_disk.proofs.ExampleLemmas.{below_two, peel, differ}
 use Rattle.disk_layout.specs.rules.Journal.{is_of}
 use Rattle.disk_layout.specs.rules.Sectors.{shown_generation}
 use Rattle.disk_layout.specs.laws.RecordExamples.{bare, spread, two_records}
+use Rattle.disk_layout.specs.laws.RecordExamples.{two_wide_records}
 use Rattle.journal.specs.rules.Steps.{SameOthers, ShowsNoneAfter}
 use Rattle.journal.specs.laws.Examples.{FittingExamples, StandingExamples, BarrierExamples}
 use Rattle.journal.specs.laws.Examples.{before_one_of, behind_hello, only_hello, whole_end}
@@ -52,6 +53,9 @@ fitting_examples = record {
   longest = λ text long. record { step = omega arith; payload = omega (arith, long); clock = tt };
   too_long = λ text long f. (let h = f.payload in omega (arith, h, long));
   too_many_bytes = λ bytes long f. (let h = f.payload in omega (arith, h, long));
+  longest_in_two = λ text long.
+      record { step = omega arith; payload = omega (arith, long); clock = tt };
+  too_long_in_two = λ text long f. (let h = f.payload in omega (arith, h, long));
 }
 
 -- ---- what stands
@@ -83,6 +87,14 @@ standing_examples = record {
       (let h : 6 < 5 = s.clean 2 (omega arith) (omega arith) in omega (arith, h));
   beyond_the_journal = λ s. (let h : 2 ≤ 1 = s.within in omega (arith, h));
   other_records = λ s. differ 16 27 (sym (ap length s.holds)) (omega arith);
+  in_two = record {
+    within = omega arith;
+    written = below_two (stamped 5 (spread 12 two_wide_records)) refl refl;
+    holds = refl;
+    clean = only_two (λ k. shown_generation (1 + k) (sector_at (spread 12 two_wide_records) (3 + k))
+        < 5) (lit< tt);
+  };
+  of_the_other_version = λ s. differ 27 31 (ap length s.holds) (omega arith);
 }
 
 -- ---- what a barrier may leave

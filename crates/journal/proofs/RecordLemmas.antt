@@ -6,255 +6,313 @@ use Rattle.std.proofs.lemmas.Bool.{cases_lt, cond-true, cond-false, le-leb, lt-l
 use Rattle.std.proofs.lemmas.List.{take_at, drop_at, take-take, drop-take, drop-drop}
 use Rattle.std.proofs.lemmas.List.{length-take-le, take-append-le}
 use Rattle.std.proofs.Math.Seq.{take-append-add}
-use Rattle.guest_memory.specs.rules.Bytes.{number_of, part}
-use Rattle.guest_memory.proofs.ByteLemmas.{number_of-bytes_of}
+use Rattle.guest_memory.specs.rules.Bytes.{bytes_of, number_of, part}
+use Rattle.guest_memory.proofs.ByteLemmas.{length-bytes_of, number_of-bytes_of}
+use Rattle.wasi_abi.specs.declared.version.Version.{Version}
+use Rattle.wasi_abi.specs.rules.Versions.{text_limit, length_bytes}
+use Rattle.wasi_abi.proofs.VersionLemmas.{lengths_fit}
 use Rattle.wasi_abi.specs.rules.Layouts.{u64_bytes}
 use Rattle.wasi_abi.specs.declared.answer.Answer.{Answer}
 use Rattle.wasi_abi.specs.declared.answer.Answer.TheVariants as answer
 use Rattle.sector_disk.specs.rules.Image.{Image}
 use Rattle.disk_layout.specs.rules.Places.{Geometry, journal_place}
-use Rattle.disk_layout.specs.rules.Journal.{Record, record_bytes, kind_number, payload_of}
+use Rattle.disk_layout.specs.rules.Journal.{Record, record_bytes, record_head_bytes, kind_number}
+use Rattle.disk_layout.specs.rules.Journal.{payload_of}
 use Rattle.disk_layout.specs.rules.Journal.{answer_if, answer_of, payload_length, record_at}
 use Rattle.disk_layout.specs.rules.Journal.{records_at, with_first, payloads_from, scan}
 use Rattle.journal.specs.rules.Steps.{ClockFits, RecordFits, AllRecordsFit, records_bytes}
-use Rattle.disk_layout.specs.declared.record.TheConstants.{LONGEST_PAYLOAD}
 
 -- the record of an answer that a step takes
 abbrev pub record_of : ℕ → Answer → Record
 record_of step a = record { step = step; answer = a }
 
--- ---- a whole record
+module _ (v : Version) where
+  -- ---- a whole record
 
-length-record : (r : Record) → length (record_bytes r) ≡ 11 + length (payload_of r.answer)
-length-record r = let p = length (payload_of r.answer) in omega arith
+  -- the bytes of its payload's length
+  abbrev length_field : Record → List ℕ
+  length_field r = bytes_of (length_bytes v) (length (payload_of r.answer))
 
-length_read : (r : Record) (rest : List ℕ) → RecordFits r
-    → payload_length (record_bytes r ++ rest) ≡ length (payload_of r.answer)
-length_read r rest fits = let le = fits.payload in
-    number_of-bytes_of 2 (length (payload_of r.answer)) (omega arith)
+  length-field : (r : Record) → length (length_field r) ≡ length_bytes v
+  length-field r = length-bytes_of (length_bytes v) (length (payload_of r.answer))
 
-answer_read : (a : Answer) → length (payload_of a) ≤ LONGEST_PAYLOAD → ClockFits a
-    → answer_of LONGEST_PAYLOAD (kind_number a) (payload_of a) ≡ Some a
-answer_read (answer.Request text) le clock =
-    ap (λ b. answer_if b (answer.Request text)) (le-leb (length text) LONGEST_PAYLOAD le)
-answer_read answer.End le clock = refl
-answer_read (answer.Realtime n) le clock =
-    ap (λ k. Some (answer.Realtime k)) (number_of-bytes_of 8 n clock)
-answer_read (answer.Monotonic n) le clock =
-    ap (λ k. Some (answer.Monotonic k)) (number_of-bytes_of 8 n clock)
-answer_read (answer.Random bytes) le clock =
-    ap (λ b. answer_if b (answer.Random bytes)) (le-leb (length bytes) LONGEST_PAYLOAD le)
+  length-record : (r : Record) → length (record_bytes v r) ≡ record_head_bytes v
+      + length (payload_of r.answer)
+  length-record r =
+      let field = length-field r in
+      let behind = length-append (length_field r) (payload_of r.answer) in
+      omega (arith, field, behind)
 
-pub record_read : (r : Record) (rest : List ℕ) → RecordFits r
-    → record_at LONGEST_PAYLOAD (record_bytes r ++ rest) ≡ Some r
-record_read r rest fits =
-    let payload = payload_of r.answer in
-    let all = record_bytes r ++ rest in
-    let len = length_read r rest fits in
-    let count : length all ≡ 11 + length payload + length rest = length-append (record_bytes r) rest
-    ∙ ap (λ n. n + length rest) (length-record r) in
-    let within : leb (11 + payload_length all) (length all) ≡ true =
-    le-leb (11 + payload_length all) (length all) (omega arith) in
-    let body : part all 11 (payload_length all) ≡ payload = ap (λ n. part all 11 n) len
-    ∙ take_at payload rest (length payload) refl in
-    let answer-is = ap (λ l. answer_of LONGEST_PAYLOAD (kind_number r.answer) l) body
-    ∙ answer_read r.answer fits.payload fits.clock in
-    let step-is : number_of (u64_bytes r.step) ≡ r.step = number_of-bytes_of 8 r.step fits.step in
-    cond-true (leb (11 + payload_length all) (length all))
-    (option_map (record_of (number_of (u64_bytes r.step)))
-    (answer_of LONGEST_PAYLOAD (kind_number r.answer) (part all 11 (payload_length all)))) None
-    within
-    ∙ ap (λ o. option_map (record_of (number_of (u64_bytes r.step))) o) answer-is
-    ∙ ap (λ n. Some (record_of n r.answer)) step-is
+  number_read : (r : Record) → RecordFits v r
+      → number_of (length_field r) ≡ length (payload_of r.answer)
+  number_read r fits =
+      let le = fits.payload in
+      let room = lengths_fit v in
+      number_of-bytes_of (length_bytes v) (length (payload_of r.answer)) (omega (arith, le, room))
 
-pub rest_read : (r : Record) (rest : List ℕ) → RecordFits r
-    → drop (11 + payload_length (record_bytes r ++ rest)) (record_bytes r ++ rest) ≡ rest
-rest_read r rest fits =
-    ap (λ n. drop (11 + n) (record_bytes r ++ rest)) (length_read r rest fits)
-    ∙ drop_at (record_bytes r) rest (11 + length (payload_of r.answer)) (length-record r)
+  -- what stands behind kind and step
+  behind_step : (r : Record) (rest : List ℕ) → drop 9 (record_bytes v r ++ rest)
+      ≡ length_field r ++ (payload_of r.answer ++ rest)
+  behind_step r rest = append_assoc (length_field r) (payload_of r.answer) rest
 
--- ---- a cut one
+  length_read : (r : Record) (rest : List ℕ) → RecordFits v r
+      → payload_length v (record_bytes v r ++ rest) ≡ length (payload_of r.answer)
+  length_read r rest fits =
+      ap (λ l. number_of (take (length_bytes v) l)) (behind_step r rest)
+      ∙ ap (λ l. number_of l)
+      (take_at (length_field r) (payload_of r.answer ++ rest) (length_bytes v) (length-field r))
+      ∙ number_read r fits
 
-cut_length : (r : Record) (m : ℕ) → RecordFits r → 11 ≤ m
-    → payload_length (take m (record_bytes r)) ≡ length (payload_of r.answer)
-cut_length r m fits le =
-    let split : drop 9 (take m (record_bytes r)) ≡ take (m - 9) (drop 9 (record_bytes r)) =
-    ap (λ n. drop 9 (take n (record_bytes r))) (let e : m ≡ 9 + (m - 9) = omega arith in e)
-    ∙ drop-take 9 (m - 9) (record_bytes r) in
-    ap (λ l. number_of (take 2 l)) split
-    ∙ ap (λ l. number_of l) (take-take 2 (m - 9) (drop 9 (record_bytes r)) (omega arith))
-    ∙ (let p = fits.payload in number_of-bytes_of 2 (length (payload_of r.answer)) (omega arith))
+  -- what stands behind its head
+  behind_head : (r : Record) (rest : List ℕ) → drop (record_head_bytes v) (record_bytes v r ++ rest)
+      ≡ payload_of r.answer ++ rest
+  behind_head r rest =
+      sym (drop-drop (length_bytes v) 9 (record_bytes v r ++ rest))
+      ∙ ap (λ l. drop (length_bytes v) l) (behind_step r rest)
+      ∙ drop_at (length_field r) (payload_of r.answer ++ rest) (length_bytes v) (length-field r)
 
-pub cut_none : (r : Record) (m : ℕ) → RecordFits r → m < length (record_bytes r)
-    → record_at LONGEST_PAYLOAD (take m (record_bytes r)) ≡ None
-cut_none r zero fits lt = refl
-cut_none r (suc m) fits lt =
-    let cut = take (suc m) (record_bytes r) in
-    let count : length cut ≡ suc m = length-take-le (suc m) (record_bytes r) (omega arith) in
-    let beyond : length cut < 11 + payload_length cut =
-    ⊎_elim
-    (λ (short : suc m < 11). omega arith)
-    (λ (long : 11 ≤ suc m). let len = cut_length r (suc m) fits long in let all = length-record r in
-    omega arith)
-    (cases_lt (suc m) 11) in
-    cond-false (leb (11 + payload_length cut) (length cut))
-    (option_map (record_of (number_of (part (take m (drop 1 (record_bytes r))) 0 8)))
-    (answer_of LONGEST_PAYLOAD (kind_number r.answer) (part cut 11 (payload_length cut)))) None
-    (lt-leb (11 + payload_length cut) (length cut) beyond)
+  answer_read : (a : Answer) → length (payload_of a) ≤ (text_limit v) → ClockFits a
+      → answer_of (text_limit v) (kind_number a) (payload_of a) ≡ Some a
+  answer_read (answer.Request text) le clock =
+      ap (λ b. answer_if b (answer.Request text)) (le-leb (length text) (text_limit v) le)
+  answer_read answer.End le clock = refl
+  answer_read (answer.Realtime n) le clock =
+      ap (λ k. Some (answer.Realtime k)) (number_of-bytes_of 8 n clock)
+  answer_read (answer.Monotonic n) le clock =
+      ap (λ k. Some (answer.Monotonic k)) (number_of-bytes_of 8 n clock)
+  answer_read (answer.Random bytes) le clock =
+      ap (λ b. answer_if b (answer.Random bytes)) (le-leb (length bytes) (text_limit v) le)
 
--- ---- lists of records
+  pub record_read : (r : Record) (rest : List ℕ) → RecordFits v r
+      → record_at v (record_bytes v r ++ rest) ≡ Some r
+  record_read r rest fits =
+      let payload = payload_of r.answer in
+      let all = record_bytes v r ++ rest in
+      let len = length_read r rest fits in
+      let count : length all ≡ record_head_bytes v + length payload + length rest =
+      length-append (record_bytes v r) rest
+      ∙ ap (λ n. n + length rest) (length-record r) in
+      let within : leb (record_head_bytes v + payload_length v all) (length all) ≡ true =
+      le-leb (record_head_bytes v + payload_length v all) (length all) (omega arith) in
+      let body : part all (record_head_bytes v) (payload_length v all) ≡ payload =
+      ap (λ n. part all (record_head_bytes v) n) len
+      ∙ ap (λ l. take (length payload) l) (behind_head r rest)
+      ∙ take_at payload rest (length payload) refl in
+      let answer-is = ap (λ l. answer_of (text_limit v) (kind_number r.answer) l) body
+      ∙ answer_read r.answer fits.payload fits.clock in
+      let step-is : number_of (u64_bytes r.step) ≡ r.step = number_of-bytes_of 8 r.step fits.step in
+      cond-true (leb (record_head_bytes v + payload_length v all) (length all))
+      (option_map (record_of (number_of (u64_bytes r.step)))
+      (answer_of (text_limit v) (kind_number r.answer)
+      (part all (record_head_bytes v) (payload_length v all)))) None
+      within
+      ∙ ap (λ o. option_map (record_of (number_of (u64_bytes r.step))) o) answer-is
+      ∙ ap (λ n. Some (record_of n r.answer)) step-is
 
-no_bytes : (n : ℕ) → records_at LONGEST_PAYLOAD n [] ≡ []
-no_bytes zero = refl
-no_bytes (suc n) = refl
+  pub rest_read : (r : Record) (rest : List ℕ) → RecordFits v r
+      → drop (record_head_bytes v + payload_length v (record_bytes v r ++ rest))
+      (record_bytes v r ++ rest) ≡ rest
+  rest_read r rest fits =
+      ap (λ n. drop (record_head_bytes v + n) (record_bytes v r ++ rest)) (length_read r rest fits)
+      ∙ drop_at (record_bytes v r) rest (record_head_bytes v + length (payload_of r.answer))
+      (length-record r)
 
-none_at : (n : ℕ) (bytes : List ℕ) → record_at LONGEST_PAYLOAD bytes ≡ None
-    → records_at LONGEST_PAYLOAD n bytes ≡ []
-none_at zero bytes e = refl
-none_at (suc n) bytes e =
-    ap (λ o. with_first o (records_at LONGEST_PAYLOAD n (drop (11 + payload_length bytes) bytes))) e
+  -- ---- a cut one
 
-one_more : (r : Record) (rest : List ℕ) (n : ℕ) → RecordFits r
-    → records_at LONGEST_PAYLOAD (suc n) (record_bytes r ++ rest)
-    ≡ r ∷ records_at LONGEST_PAYLOAD n rest
-one_more r rest n fits =
-    ap (λ o. with_first o (records_at LONGEST_PAYLOAD n (drop (11 + payload_length (record_bytes r
-    ++ rest)) (record_bytes r ++ rest)))) (record_read r rest fits)
-    ∙ ap (λ l. r ∷ records_at LONGEST_PAYLOAD n l) (rest_read r rest fits)
+  cut_length : (r : Record) (m : ℕ) → RecordFits v r → record_head_bytes v ≤ m
+      → payload_length v (take m (record_bytes v r)) ≡ length (payload_of r.answer)
+  cut_length r m fits le =
+      let split : drop 9 (take m (record_bytes v r)) ≡ take (m - 9) (drop 9 (record_bytes v r)) =
+      ap (λ n. drop 9 (take n (record_bytes v r))) (let e : m ≡ 9 + (m - 9) = omega arith in e)
+      ∙ drop-take 9 (m - 9) (record_bytes v r) in
+      ap (λ l. number_of (take (length_bytes v) l)) split
+      ∙ ap (λ l. number_of l)
+      (take-take (length_bytes v) (m - 9) (drop 9 (record_bytes v r)) (omega arith))
+      ∙ ap (λ l. number_of l)
+      (take_at (length_field r) (payload_of r.answer) (length_bytes v) (length-field r))
+      ∙ number_read r fits
 
--- a front of the bytes of records holds a front of them
-pub cut_front : (records : List Record) (m n : ℕ) → AllRecordsFit records
-    → length (take m (records_bytes records)) ≤ n
-    → (k : ℕ) × (k ≤ length records)
-    × (records_at LONGEST_PAYLOAD n (take m (records_bytes records)) ≡ take k records)
-cut_front [] m n fit le = (
-  0,
-  omega arith,
-  ap (λ l. records_at LONGEST_PAYLOAD n l) (nothing m)
-      ∙ no_bytes n,
-)
-  where
-    nothing : (m : ℕ) → take m (records_bytes []) ≡ []
-    nothing zero = refl
-    nothing (suc m) = refl
-cut_front (r ∷ records) m n fit le =
-    ⊎_elim
-    (λ (short : m < length (record_bytes r)).
-    let e : take m (record_bytes r ++ records_bytes records) ≡ take m (record_bytes r) =
-    take-append-le m (record_bytes r) (records_bytes records) (omega arith) in (
-      0,
-      omega arith,
-      none_at n (take m (record_bytes r ++ records_bytes records))
-          (ap (λ l. record_at LONGEST_PAYLOAD l) e ∙ cut_none r m fit.0 short),
-    ))
-    (λ (long : length (record_bytes r) ≤ m).
-    let more = m - length (record_bytes r) in
-    let e : take m (record_bytes r ++ records_bytes records) ≡ record_bytes r
-    ++ take more (records_bytes records) =
-    ap (λ k. take k (record_bytes r ++ records_bytes records)) (let f : m
-    ≡ length (record_bytes r) + more = omega arith in f)
-    ∙ take-append-add (record_bytes r) (records_bytes records) more in
-    let count = ap length e ∙ length-append (record_bytes r) (take more (records_bytes records)) in
-    let head = length-record r in
-    let fewer = n - 1 in
-    let n-is : n ≡ suc fewer = omega arith in
-    let rest = cut_front records more fewer fit.1 (omega arith) in (
-      suc rest.0,
-      let l = rest.1 in omega arith,
-      ap (λ k. records_at LONGEST_PAYLOAD k (take m (record_bytes r ++ records_bytes records))) n-is
-          ∙ ap (λ l. records_at LONGEST_PAYLOAD (suc fewer) l) e
-          ∙ one_more r (take more (records_bytes records)) fewer fit.0 ∙ ap (λ l. r ∷ l) rest.2,
-    ))
-    (cases_lt m (length (record_bytes r)))
+  pub cut_none : (r : Record) (m : ℕ) → RecordFits v r → m < length (record_bytes v r)
+      → record_at v (take m (record_bytes v r)) ≡ None
+  cut_none r zero fits lt = refl
+  cut_none r (suc m) fits lt =
+      let cut = take (suc m) (record_bytes v r) in
+      let count : length cut ≡ suc m = length-take-le (suc m) (record_bytes v r) (omega arith) in
+      let beyond : length cut < record_head_bytes v + payload_length v cut =
+      ⊎_elim
+      (λ (short : suc m < record_head_bytes v). omega arith)
+      (λ (long : record_head_bytes v ≤ suc m).
+      let len = cut_length r (suc m) fits long in
+      let all = length-record r in
+      omega arith)
+      (cases_lt (suc m) (record_head_bytes v)) in
+      cond-false (leb (record_head_bytes v + payload_length v cut) (length cut))
+      (option_map (record_of (number_of (part (take m (drop 1 (record_bytes v r))) 0 8)))
+      (answer_of (text_limit v) (kind_number r.answer)
+      (part cut (record_head_bytes v) (payload_length v cut)))) None
+      (lt-leb (record_head_bytes v + payload_length v cut) (length cut) beyond)
 
--- records, and a front of the bytes of further ones
-pub scan_front : (records kept : List Record) (c n : ℕ) → AllRecordsFit records → AllRecordsFit kept
-    → length (records_bytes records ++ take c (records_bytes kept)) ≤ n
-    → (k : ℕ) × (k ≤ length kept)
-    × (records_at LONGEST_PAYLOAD n (records_bytes records ++ take c (records_bytes kept))
-    ≡ records ++ take k kept)
-scan_front [] kept c n fit fit-kept le = cut_front kept c n fit-kept le
-scan_front (r ∷ records) kept c n fit fit-kept le =
-    let tail = records_bytes records ++ take c (records_bytes kept) in
-    let e : (record_bytes r ++ records_bytes records) ++ take c (records_bytes kept)
-    ≡ record_bytes r
-    ++ tail = append_assoc (record_bytes r) (records_bytes records)
-    (take c (records_bytes kept)) in
-    let count = ap length e ∙ length-append (record_bytes r) tail in
-    let head = length-record r in
-    let fewer = n - 1 in
-    let n-is : n ≡ suc fewer = omega arith in
-    let rest = scan_front records kept c fewer fit.1 fit-kept (omega arith) in (
-      rest.0,
-      rest.1,
-      ap (λ k. records_at LONGEST_PAYLOAD k ((record_bytes r ++ records_bytes records)
-          ++ take c (records_bytes kept))) n-is
-          ∙ ap (λ l. records_at LONGEST_PAYLOAD (suc fewer) l) e ∙ one_more r tail fewer fit.0
-          ∙ ap (λ l. r ∷ l) rest.2,
-    )
+  -- ---- lists of records
 
-pub scan_of : (geometry : Geometry) (image : Image) (g c : ℕ) (records kept : List Record)
-    → AllRecordsFit records → AllRecordsFit kept
-    → payloads_from image g (journal_place geometry) 1 geometry.journal_sectors
-    ≡ records_bytes records ++ take c (records_bytes kept)
-    → (k : ℕ) × (k ≤ length kept) × (scan geometry LONGEST_PAYLOAD image g ≡ records ++ take k kept)
-scan_of geometry image g c records kept fit fit-kept e =
-    let front = scan_front records kept c (length (records_bytes records
-    ++ take c (records_bytes kept))) fit fit-kept (omega arith) in
-    (front.0, front.1, ap (λ l. records_at LONGEST_PAYLOAD (length l) l) e ∙ front.2)
+  no_bytes : (n : ℕ) → records_at v n [] ≡ []
+  no_bytes zero = refl
+  no_bytes (suc n) = refl
 
--- ---- as they are read
+  none_at : (n : ℕ) (bytes : List ℕ) → record_at v bytes ≡ None
+      → records_at v n bytes ≡ []
+  none_at zero bytes e = refl
+  none_at (suc n) bytes e =
+      ap (λ o. with_first o
+      (records_at v n (drop (record_head_bytes v + payload_length v bytes) bytes))) e
 
-pub short_none : (bytes : List ℕ) → length bytes < 11 + payload_length bytes
-    → record_at LONGEST_PAYLOAD bytes ≡ None
-short_none [] lt = refl
-short_none (kind ∷ bytes) lt =
-    let all = kind ∷ bytes in
-    cond-false (leb (11 + payload_length all) (length all))
-    (option_map (record_of (number_of (part bytes 0 8))) (answer_of LONGEST_PAYLOAD kind
-    (part all 11 (payload_length all)))) None
-    (lt-leb (11 + payload_length all) (length all) lt)
+  one_more : (r : Record) (rest : List ℕ) (n : ℕ) → RecordFits v r
+      → records_at v (suc n) (record_bytes v r ++ rest)
+      ≡ r ∷ records_at v n rest
+  one_more r rest n fits =
+      let all = record_bytes v r ++ rest in
+      ap (λ o. with_first o
+      (records_at v n (drop (record_head_bytes v + payload_length v all) all)))
+      (record_read r rest fits)
+      ∙ ap (λ l. r ∷ records_at v n l) (rest_read r rest fits)
 
-pub record_at_parts : (bytes : List ℕ) → 11 + payload_length bytes ≤ length bytes
-    → record_at LONGEST_PAYLOAD bytes
-    ≡ option_map (record_of (number_of (part bytes 1 8)))
-    (answer_of LONGEST_PAYLOAD (get_or bytes 0 0) (part bytes 11 (payload_length bytes)))
-record_at_parts [] le = absurd (omega arith)
-record_at_parts (kind ∷ bytes) le =
-    let all = kind ∷ bytes in
-    cond-true (leb (11 + payload_length all) (length all))
-    (option_map (record_of (number_of (part bytes 0 8))) (answer_of LONGEST_PAYLOAD kind
-    (part all 11 (payload_length all)))) None
-    (le-leb (11 + payload_length all) (length all) le)
+  -- a front of the bytes of records holds a front of them
+  pub cut_front : (records : List Record) (m n : ℕ) → AllRecordsFit v records
+      → length (take m (records_bytes v records)) ≤ n
+      → (k : ℕ) × (k ≤ length records)
+      × (records_at v n (take m (records_bytes v records)) ≡ take k records)
+  cut_front [] m n fit le = (
+    0,
+    omega arith,
+    ap (λ l. records_at v n l) (nothing m)
+        ∙ no_bytes n,
+  )
+    where
+      nothing : (m : ℕ) → take m (records_bytes v []) ≡ []
+      nothing zero = refl
+      nothing (suc m) = refl
+  cut_front (r ∷ records) m n fit le =
+      ⊎_elim
+      (λ (short : m < length (record_bytes v r)).
+      let e : take m (record_bytes v r ++ records_bytes v records) ≡ take m (record_bytes v r) =
+      take-append-le m (record_bytes v r) (records_bytes v records) (omega arith) in (
+        0,
+        omega arith,
+        none_at n (take m (record_bytes v r ++ records_bytes v records))
+            (ap (λ l. record_at v l) e ∙ cut_none r m fit.0 short),
+      ))
+      (λ (long : length (record_bytes v r) ≤ m).
+      let more = m - length (record_bytes v r) in
+      let e : take m (record_bytes v r ++ records_bytes v records) ≡ record_bytes v r
+      ++ take more (records_bytes v records) =
+      ap (λ k. take k (record_bytes v r ++ records_bytes v records)) (let f : m
+      ≡ length (record_bytes v r) + more = omega arith in f)
+      ∙ take-append-add (record_bytes v r) (records_bytes v records) more in
+      let count = ap length e
+      ∙ length-append (record_bytes v r) (take more (records_bytes v records)) in
+      let head = length-record r in
+      let fewer = n - 1 in
+      let n-is : n ≡ suc fewer = omega arith in
+      let rest = cut_front records more fewer fit.1 (omega arith) in (
+        suc rest.0,
+        let l = rest.1 in omega arith,
+        ap (λ k. records_at v k (take m (record_bytes v r ++ records_bytes v records))) n-is
+            ∙ ap (λ l. records_at v (suc fewer) l) e
+            ∙ one_more r (take more (records_bytes v records)) fewer fit.0 ∙ ap (λ l. r ∷ l) rest.2,
+      ))
+      (cases_lt m (length (record_bytes v r)))
 
--- so many records are enough as there are bytes
-pub enough : (n m : ℕ) (bytes : List ℕ) → length bytes ≤ n → length bytes ≤ m
-    → records_at LONGEST_PAYLOAD n bytes ≡ records_at LONGEST_PAYLOAD m bytes
-enough n m [] one two = no_bytes n ∙ sym (no_bytes m)
-enough zero m (x ∷ bytes) one two = absurd (omega arith)
-enough (suc n) zero (x ∷ bytes) one two = absurd (omega arith)
-enough (suc n) (suc m) (x ∷ bytes) one two =
-    let all = x ∷ bytes in
-    let less = length-drop (11 + payload_length all) all in
-    ap (λ l. with_first (record_at LONGEST_PAYLOAD all) l)
-    (enough n m (drop (11 + payload_length all) all) (omega arith) (omega arith))
+  -- records, and a front of the bytes of further ones
+  pub scan_front : (records kept : List Record) (c n : ℕ) → AllRecordsFit v records
+      → AllRecordsFit v kept
+      → length (records_bytes v records ++ take c (records_bytes v kept)) ≤ n
+      → (k : ℕ) × (k ≤ length kept)
+      × (records_at v n (records_bytes v records ++ take c (records_bytes v kept))
+      ≡ records ++ take k kept)
+  scan_front [] kept c n fit fit-kept le = cut_front kept c n fit-kept le
+  scan_front (r ∷ records) kept c n fit fit-kept le =
+      let tail = records_bytes v records ++ take c (records_bytes v kept) in
+      let e : (record_bytes v r ++ records_bytes v records) ++ take c (records_bytes v kept)
+      ≡ record_bytes v r
+      ++ tail = append_assoc (record_bytes v r) (records_bytes v records)
+      (take c (records_bytes v kept)) in
+      let count = ap length e ∙ length-append (record_bytes v r) tail in
+      let head = length-record r in
+      let fewer = n - 1 in
+      let n-is : n ≡ suc fewer = omega arith in
+      let rest = scan_front records kept c fewer fit.1 fit-kept (omega arith) in (
+        rest.0,
+        rest.1,
+        ap (λ k. records_at v k ((record_bytes v r ++ records_bytes v records)
+            ++ take c (records_bytes v kept))) n-is
+            ∙ ap (λ l. records_at v (suc fewer) l) e ∙ one_more r tail fewer fit.0
+            ∙ ap (λ l. r ∷ l) rest.2,
+      )
 
-pub read_on : (bytes : List ℕ) (start : ℕ) (r : Record) → start ≤ length bytes
-    → record_at LONGEST_PAYLOAD (drop start bytes) ≡ Some r
-    → 11 + payload_length (drop start bytes) ≤ length (drop start bytes)
-    → records_at LONGEST_PAYLOAD (length bytes - start) (drop start bytes)
-    ≡ r ∷ records_at LONGEST_PAYLOAD (length bytes
-    - (start + (11 + payload_length (drop start bytes))))
-    (drop (start + (11 + payload_length (drop start bytes))) bytes)
-read_on bytes start r le is whole =
-    let rest = drop start bytes in
-    let k = 11 + payload_length rest in
-    let count = length-drop start bytes in
-    let n = length bytes - start - 1 in
-    let n-is : length bytes - start ≡ suc n = omega arith in
-    let less = length-drop (start + k) bytes in
-    ap (λ m. records_at LONGEST_PAYLOAD m rest) n-is
-    ∙ ap (λ o. with_first o (records_at LONGEST_PAYLOAD n (drop k rest))) is
-    ∙ ap (λ l. r ∷ records_at LONGEST_PAYLOAD n l) (drop-drop k start bytes)
-    ∙ ap (λ l. r ∷ l) (enough n (length bytes - (start + k)) (drop (start + k) bytes) (omega arith)
-    (omega arith))
+  pub scan_of : (geometry : Geometry) (image : Image) (g c : ℕ) (records kept : List Record)
+      → AllRecordsFit v records → AllRecordsFit v kept
+      → payloads_from image g (journal_place geometry) 1 geometry.journal_sectors
+      ≡ records_bytes v records ++ take c (records_bytes v kept)
+      → (k : ℕ) × (k ≤ length kept) × (scan geometry v image g ≡ records ++ take k kept)
+  scan_of geometry image g c records kept fit fit-kept e =
+      let front = scan_front records kept c (length (records_bytes v records
+      ++ take c (records_bytes v kept))) fit fit-kept (omega arith) in
+      (front.0, front.1, ap (λ l. records_at v (length l) l) e ∙ front.2)
+
+  -- ---- as they are read
+
+  pub short_none : (bytes : List ℕ) → length bytes < record_head_bytes v + payload_length v bytes
+      → record_at v bytes ≡ None
+  short_none [] lt = refl
+  short_none (kind ∷ bytes) lt =
+      let all = kind ∷ bytes in
+      cond-false (leb (record_head_bytes v + payload_length v all) (length all))
+      (option_map (record_of (number_of (part bytes 0 8))) (answer_of (text_limit v) kind
+      (part all (record_head_bytes v) (payload_length v all)))) None
+      (lt-leb (record_head_bytes v + payload_length v all) (length all) lt)
+
+  pub record_at_parts : (bytes : List ℕ)
+      → record_head_bytes v + payload_length v bytes ≤ length bytes
+      → record_at v bytes
+      ≡ option_map (record_of (number_of (part bytes 1 8)))
+      (answer_of (text_limit v) (get_or bytes 0 0)
+      (part bytes (record_head_bytes v) (payload_length v bytes)))
+  record_at_parts [] le = absurd (omega arith)
+  record_at_parts (kind ∷ bytes) le =
+      let all = kind ∷ bytes in
+      cond-true (leb (record_head_bytes v + payload_length v all) (length all))
+      (option_map (record_of (number_of (part bytes 0 8))) (answer_of (text_limit v) kind
+      (part all (record_head_bytes v) (payload_length v all)))) None
+      (le-leb (record_head_bytes v + payload_length v all) (length all) le)
+
+  -- so many records are enough as there are bytes
+  pub enough : (n m : ℕ) (bytes : List ℕ) → length bytes ≤ n → length bytes ≤ m
+      → records_at v n bytes ≡ records_at v m bytes
+  enough n m [] one two = no_bytes n ∙ sym (no_bytes m)
+  enough zero m (x ∷ bytes) one two = absurd (omega arith)
+  enough (suc n) zero (x ∷ bytes) one two = absurd (omega arith)
+  enough (suc n) (suc m) (x ∷ bytes) one two =
+      let all = x ∷ bytes in
+      let less = length-drop (record_head_bytes v + payload_length v all) all in
+      ap (λ l. with_first (record_at v all) l)
+      (enough n m (drop (record_head_bytes v + payload_length v all) all) (omega arith)
+      (omega arith))
+
+  pub read_on : (bytes : List ℕ) (start : ℕ) (r : Record) → start ≤ length bytes
+      → record_at v (drop start bytes) ≡ Some r
+      → record_head_bytes v + payload_length v (drop start bytes) ≤ length (drop start bytes)
+      → records_at v (length bytes - start) (drop start bytes)
+      ≡ r ∷ records_at v (length bytes
+      - (start + (record_head_bytes v + payload_length v (drop start bytes))))
+      (drop (start + (record_head_bytes v + payload_length v (drop start bytes))) bytes)
+  read_on bytes start r le is whole =
+      let rest = drop start bytes in
+      let k = record_head_bytes v + payload_length v rest in
+      let count = length-drop start bytes in
+      let n = length bytes - start - 1 in
+      let n-is : length bytes - start ≡ suc n = omega arith in
+      let less = length-drop (start + k) bytes in
+      ap (λ m. records_at v m rest) n-is
+      ∙ ap (λ o. with_first o (records_at v n (drop k rest))) is
+      ∙ ap (λ l. r ∷ records_at v n l) (drop-drop k start bytes)
+      ∙ ap (λ l. r ∷ l) (enough n (length bytes - (start + k)) (drop (start + k) bytes)
+      (omega arith) (omega arith))

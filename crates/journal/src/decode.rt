@@ -1,25 +1,28 @@
 // Records from bytes.
 ghost use Rattle.std.specs.Prelude.{◌≡◌, ◌+◌, ◌≤◌, length, IfOk, IsSome};
 ghost use Rattle.disk_layout.specs.rules.Journal.{answer_of, payload_length, record_at, records_at};
-ghost use Rattle.disk_layout.specs.declared.record.TheConstants.{LONGEST_PAYLOAD};
-ghost use Rattle.disk_layout.specs.declared.record_fields.TheConstants.{RECORD_HEAD_BYTES};
+ghost use Rattle.disk_layout.specs.rules.Journal.{record_head_bytes};
 
 use disk_layout::{
-    END_KIND, LONGEST_PAYLOAD, MONOTONIC_KIND, RANDOM_KIND, REALTIME_KIND, RECORD_HEAD_BYTES,
-    REQUEST_KIND, Record, clock_from, payload_length, record_step,
+    END_KIND, MONOTONIC_KIND, RANDOM_KIND, REALTIME_KIND, REQUEST_KIND, Record, clock_from,
+    payload_length, record_head_bytes, record_step,
 };
 use std::alloc::{AllocError, Global};
-use wasi_abi::Answer;
+use wasi_abi::{Answer, Version};
 use wasm_syntax::Row;
 
 /// The records at the front, until one is cut or not well formed. It fails only for want of memory.
-pub(crate) fn records_from(alloc: Global, bytes: &[u8]) -> Result<Vec<Record>, AllocError>
-    ensures { IfOk result (λ v. v.items ≡ records_at LONGEST_PAYLOAD (length bytes.now) bytes.now) }
+pub(crate) fn records_from(
+    alloc: Global,
+    version: Version,
+    bytes: &[u8],
+) -> Result<Vec<Record>, AllocError>
+    ensures { IfOk result (λ v. v.items ≡ records_at version (length bytes.now) bytes.now) }
 {
     let mut records = Vec::new(alloc);
     let mut start = 0;
-    while let Some(entry) = record_from(alloc, &bytes[start..])? {
-        let len = RECORD_HEAD_BYTES + payload_length(&bytes[start..]);
+    while let Some(entry) = record_from(alloc, version, &bytes[start..])? {
+        let len = record_head_bytes(version) + payload_length(version, &bytes[start..]);
         records.push(entry)?;
         start += len;
     }
@@ -27,19 +30,21 @@ pub(crate) fn records_from(alloc: Global, bytes: &[u8]) -> Result<Vec<Record>, A
 }
 
 /// The record at the front, if it is whole and well formed.
-fn record_from(alloc: Global, bytes: &[u8]) -> Result<Option<Record>, AllocError>
-    ensures value { IfOk result (λ o. o ≡ record_at LONGEST_PAYLOAD bytes.now) }
+fn record_from(alloc: Global, version: Version, bytes: &[u8]) -> Result<Option<Record>, AllocError>
+    ensures value { IfOk result (λ o. o ≡ record_at version bytes.now) }
     ensures whole { IfOk result (λ o. IsSome o
-        → RECORD_HEAD_BYTES + payload_length bytes.now ≤ length bytes.now) }
+        → record_head_bytes version + payload_length version bytes.now ≤ length bytes.now) }
 {
-    if bytes.len() < RECORD_HEAD_BYTES {
+    let head = record_head_bytes(version);
+    if bytes.len() < head {
         return Ok(None);
     }
-    let end = RECORD_HEAD_BYTES + payload_length(bytes);
+    let end = head + payload_length(version, bytes);
     if bytes.len() < end {
         return Ok(None);
     }
-    let Some(answer) = answer_from(alloc, bytes[0], &bytes[RECORD_HEAD_BYTES..end])? else {
+    let limit = version.text_limit();
+    let Some(answer) = answer_from(alloc, limit, bytes[0], &bytes[head..end])? else {
         return Ok(None);
     };
     Ok(Some(Record {
@@ -48,12 +53,18 @@ fn record_from(alloc: Global, bytes: &[u8]) -> Result<Option<Record>, AllocError
     }))
 }
 
-/// The answer of this kind with this payload, if they are well formed.
-fn answer_from(alloc: Global, kind: u8, payload: &[u8]) -> Result<Option<Answer>, AllocError>
-    ensures { IfOk result (λ o. o ≡ answer_of LONGEST_PAYLOAD kind payload.now) }
+/// The answer of this kind with this payload, if they are well formed. Texts and random bytes have
+/// at most so many bytes.
+fn answer_from(
+    alloc: Global,
+    limit: usize,
+    kind: u8,
+    payload: &[u8],
+) -> Result<Option<Answer>, AllocError>
+    ensures { IfOk result (λ o. o ≡ answer_of limit kind payload.now) }
 {
     if kind == REQUEST_KIND {
-        if payload.len() > LONGEST_PAYLOAD {
+        if payload.len() > limit {
             return Ok(None);
         }
         let text = Row::from_vec(Vec::from_slice(alloc, payload)?);
@@ -79,7 +90,7 @@ fn answer_from(alloc: Global, kind: u8, payload: &[u8]) -> Result<Option<Answer>
         let nanoseconds = clock_from(payload);
         return Ok(Some(Answer::Monotonic { nanoseconds }));
     }
-    if kind != RANDOM_KIND || payload.len() > LONGEST_PAYLOAD {
+    if kind != RANDOM_KIND || payload.len() > limit {
         return Ok(None);
     }
     let bytes = Row::from_vec(Vec::from_slice(alloc, payload)?);

@@ -7,7 +7,7 @@ pub enum JournalFault {
     /// The record is longer than the room that is left, in bytes.
     #[error("J1 Full")]
     Full,
-    /// The payload is longer than this version allows.
+    /// The payload is longer than the journal's version allows.
     #[error("J2 TooLong")]
     TooLong,
     /// The disk failed.

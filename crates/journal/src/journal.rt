@@ -11,22 +11,24 @@ ghost use Rattle.journal.specs.rules.State.{state, room_of};
 ghost use Rattle.journal.specs.rules.Packed.{sectors_for};
 ghost use Rattle.journal.specs.rules.Steps.{AppendsFront, RecordsStand, IsOn, RecordFits};
 ghost use Rattle.journal.specs.rules.Steps.{barrier_calls};
-ghost use Rattle.disk_layout.specs.declared.record.TheConstants.{LONGEST_PAYLOAD};
+ghost use Rattle.wasi_abi.specs.rules.Versions.{text_limit};
 
 use crate::decode::records_from;
 use crate::fault::JournalFault;
 use crate::records::{payload_len, put_record};
 use crate::scan::read_payloads;
 use crate::store::{sectors_for, store_packed};
-use disk_layout::{Geometry, LONGEST_PAYLOAD, PAYLOAD_SIZE, RECORD_HEAD_BYTES, Record};
+use disk_layout::{Geometry, PAYLOAD_SIZE, Record, record_head_bytes};
 use sector_disk::{Disk, DiskFault};
 use std::alloc::Global;
 use std::marker::Model;
+use wasi_abi::Version;
 
-/// The records of one generation. Contracts see the generation, how many sectors are written in it,
-/// the bytes that only memory holds, and whether a call has failed.
+/// The records of one generation. Contracts see their version, the generation, how many sectors are
+/// written in it, the bytes that only memory holds, and whether a call has failed.
 #[derive(Drop)]
 pub struct Journal {
+    version: Version,
     generation: u64,
     used: u64,
     kept: Vec<u8>,
@@ -38,15 +40,16 @@ impl Model for Journal {
 
     ghost Value = { JournalState };
 
-    ghost view = { λ j. state j.generation j.used j.kept.items j.has_failed };
+    ghost view = { λ j. state j.version j.generation j.used j.kept.items j.has_failed };
 }
 
 impl Journal {
     /// Without a record. It takes no memory.
-    pub fn fresh(alloc: Global, generation: u64) -> Self
-        ensures { result ≡ state generation 0 [] false }
+    pub fn fresh(alloc: Global, version: Version, generation: u64) -> Self
+        ensures { result ≡ state version generation 0 [] false }
     {
         Journal {
+            version,
             generation,
             used: 0,
             kept: Vec::new(alloc),
@@ -60,12 +63,13 @@ impl Journal {
         alloc: Global,
         disk: &mut D,
         geometry: &Geometry,
+        version: Version,
         generation: u64,
     ) -> Result<Vec<Record>, JournalFault>
         requires { total_sectors geometry.now ≤ (D.medium disk.old).sectors }
         ensures reads { OnlyReads (D.medium disk.old) (D.medium disk.new) }
         ensures scans { IfOk result (λ v. (image : Image) → (D.medium disk.new).shows image
-            → v.items ≡ scan geometry.now LONGEST_PAYLOAD image generation) }
+            → v.items ≡ scan geometry.now version image generation) }
         ensures cause { (fault : DiskFault) → result ≡ Err (JournalFault.Disk fault)
             → (D.medium disk.old).faults < (D.medium disk.new).faults }
         ensures kind { IfErr result (λ e. e ≡ JournalFault.Memory
@@ -74,7 +78,7 @@ impl Journal {
             (D.medium disk.new) }
     {
         let bytes = read_payloads(alloc, disk, geometry, generation)?;
-        match records_from(alloc, bytes.as_slice()) {
+        match records_from(alloc, version, bytes.as_slice()) {
             Ok(records) => Ok(records),
             Err(_) => Err(JournalFault::Memory),
         }
@@ -95,39 +99,40 @@ impl Journal {
         (PAYLOAD_SIZE * unwritten as usize).saturating_sub(self.kept.len())
     }
 
-    /// Keeps a record in memory, until the next barrier. A payload over `LONGEST_PAYLOAD` is
+    /// Keeps a record in memory, until the next barrier. A payload over the limit of the version is
     /// `TooLong`; then a record longer than the room that is left is `Full`. After an error nothing
     /// is kept any more.
     pub fn append(&mut self, geometry: &Geometry, entry: &Record) -> Result<(), JournalFault>
-        ensures ok { OnOk result (self.new ≡ state self.old.generation self.old.used (self.old.kept
-            ++ record_bytes entry.now) false) }
-        ensures fits { OnOk result (RecordFits entry.now) }
+        ensures ok { OnOk result (self.new
+            ≡ state self.old.version self.old.generation self.old.used
+            (self.old.kept ++ record_bytes self.old.version entry.now) false) }
+        ensures fits { OnOk result (RecordFits self.old.version entry.now) }
         ensures err { OnErr result (self.new.has_failed ≡ true) }
-        ensures stays { self.new
-            ≡ state self.old.generation self.old.used self.new.kept self.new.has_failed }
+        ensures stays { self.new ≡ state self.old.version self.old.generation self.old.used
+            self.new.kept self.new.has_failed }
         ensures failed { (result ≡ Err JournalFault.Failed) ↔ (self.old.has_failed ≡ true) }
         ensures too_long { (result ≡ Err JournalFault.TooLong)
             ↔ ((self.old.has_failed ≡ false)
-            × (LONGEST_PAYLOAD < length (payload_of entry.now.answer))) }
+            × (text_limit self.old.version < length (payload_of entry.now.answer))) }
         ensures full { (result ≡ Err JournalFault.Full) ↔
             ((self.old.has_failed ≡ false)
-            × (length (payload_of entry.now.answer) ≤ LONGEST_PAYLOAD)
-            × (room_of geometry.now self.old < length (record_bytes entry.now))) }
+            × (length (payload_of entry.now.answer) ≤ text_limit self.old.version)
+            × (room_of geometry.now self.old < length (record_bytes self.old.version entry.now))) }
         ensures no_disk { (fault : DiskFault) → result ≡ Err (JournalFault.Disk fault) → ⊥ }
     {
         if self.has_failed {
             return Err(JournalFault::Failed);
         }
         let payload = payload_len(entry);
-        if payload > LONGEST_PAYLOAD {
+        if payload > self.version.text_limit() {
             self.has_failed = true;
             return Err(JournalFault::TooLong);
         }
-        if RECORD_HEAD_BYTES + payload > self.room(geometry) {
+        if record_head_bytes(self.version) + payload > self.room(geometry) {
             self.has_failed = true;
             return Err(JournalFault::Full);
         }
-        let Ok(()) = put_record(&mut self.kept, entry) else {
+        let Ok(()) = put_record(&mut self.kept, self.version, entry) else {
             self.has_failed = true;
             return Err(JournalFault::Memory);
         };
@@ -143,10 +148,10 @@ impl Journal {
     ) -> Result<(), JournalFault>
         requires { total_sectors geometry.now ≤ (D.medium disk.old).sectors }
         ensures ok { OnOk result (self.new
-            ≡ state self.old.generation (self.old.used + sectors_for (length self.old.kept)) []
-            false) }
+            ≡ state self.old.version self.old.generation
+            (self.old.used + sectors_for (length self.old.kept)) [] false) }
         ensures err { OnErr result (self.new
-            ≡ state self.old.generation self.old.used self.old.kept true) }
+            ≡ state self.old.version self.old.generation self.old.used self.old.kept true) }
 
         // When each error comes.
         ensures failed { (result ≡ Err JournalFault.Failed) ↔ (self.old.has_failed ≡ true) }
@@ -166,19 +171,19 @@ impl Journal {
         // A cut at any moment leaves a front of the records that holds all that stood before, and
         // nothing else is changed.
         ensures any_moment { (records kept : List Record)
-            → IsOn geometry.now self.old.generation self.old.used self.old.kept records kept
-            (D.medium disk.old).may_leave →
+            → IsOn geometry.now self.old.version self.old.generation self.old.used self.old.kept
+            records kept (D.medium disk.old).may_leave →
             LeavesOnly (D.medium disk.old) (D.medium disk.new)
-            (After (AppendsFront geometry.now self.old.generation self.old.used records kept)
-            (D.medium disk.old).may_leave) }
+            (After (AppendsFront geometry.now self.old.version self.old.generation self.old.used
+            records kept) (D.medium disk.old).may_leave) }
 
         // Once it has answered Ok, each cut leaves all of them.
         ensures durable { (records kept : List Record)
-            → IsOn geometry.now self.old.generation self.old.used self.old.kept records kept
-            (D.medium disk.old).may_leave →
+            → IsOn geometry.now self.old.version self.old.generation self.old.used self.old.kept
+            records kept (D.medium disk.old).may_leave →
             OnOk result ((image : Image) → (D.medium disk.new).may_leave image
-            → RecordsStand geometry.now self.new.generation self.new.used (records
-            ++ kept) image) }
+            → RecordsStand geometry.now self.new.version self.new.generation self.new.used
+            (records ++ kept) image) }
         ensures passes { Passes (D.medium disk.old) (D.medium disk.new) (λ _. Unit {0}) }
         ensures settled { OnOk result ((length self.old.kept ≡ 0)
             ⊎ IsAllSynced (D.medium disk.new)) }

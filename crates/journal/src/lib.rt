@@ -3,10 +3,10 @@
 //!
 //! # Promises
 //!
-//! - `Journal::fresh` is the journal of a generation without records. `generation` and `room` say
-//!   what it is and has.
+//! - `Journal::fresh` is the journal of a version and a generation, without records. `generation`
+//!   and `room` say what it is and has.
 //! - `append` keeps a record in memory (`ok`). `TooLong` and `Full` come exactly where the
-//!   payload, or the record, is too long (`too_long`, `full`).
+//!   payload is longer than the version allows, or the record than the room (`too_long`, `full`).
 //! - `barrier` puts the kept records on the disk. A cut at any moment leaves all records that
 //!   stood, and a front of those kept, and no other sector is changed (`any_moment`). After Ok all
 //!   stand (`durable`).
@@ -17,7 +17,8 @@
 //! - `Journal::scan` gives the records that the definitions read of what the disk shows (`scans`).
 //!   It only reads (`reads`).
 //! - After an error of `append` or `barrier`, each call of these answers `Failed` (`err`,
-//!   `failed`). Whatever `append` answers, generation and sectors are as before (`stays`).
+//!   `failed`). Whatever `append` answers, version, generation and sectors are as before
+//!   (`stays`).
 //! - `laws::what_stands_is_scanned`: a scan gives what stands, and nothing of a generation that no
 //!   sector shows. `laws::worked_examples`: records that fit, what stands, and what a barrier may
 //!   leave.
@@ -26,7 +27,7 @@
 //!
 //! In `specs/rules/`: `JournalState`, `room_of` (`State.antt`); `RecordsStand`, `IsOn`,
 //! `AppendsFront`, `RecordFits`, `barrier_calls` (`Steps.antt`); `sectors_for` (`Packed.antt`). Of
-//! `disk_layout`: `record_bytes` and `scan` (`specs/rules/Journal.antt`).
+//! `disk_layout`: `record_bytes` and `scan` (`specs/rules/Journal.antt`). Of `wasi_abi`: `Version`.
 //!
 //! # Who may touch what
 //!
@@ -40,6 +41,8 @@
 //! - Any error, a refusal included, makes a journal or the snapshots failed: every later call
 //!   answers `Failed`.
 //! - `append` takes a record by reference, since the worker still needs the answer.
+//! - The versions differ in the limit of a payload and in the bytes of its length. Code asks which
+//!   one it is where a length is written or read, and nowhere else.
 //! - Faults of layout, journal and snapshot carry the disk's fault.
 #![tactic(auto)]
 

@@ -2,6 +2,7 @@
 use Rattle.std.specs.Prelude.{◌≡◌, ℕ, List, [], ◌∷◌, length, take, codes, Some, None}
 use Rattle.wasi_abi.specs.rules.Configs.{Settings}
 use Rattle.wasi_abi.specs.declared.answer.Answer.TheVariants as answer
+use Rattle.wasi_abi.specs.declared.version.Version.TheVariants.{One, Two}
 use Rattle.sector_disk.specs.rules.Image.{front_over}
 use Rattle.disk_layout.specs.rules.Places.{geometry_of, config_bytes, rounded_up}
 use Rattle.disk_layout.specs.rules.Places.{head_place, area_place, journal_place, total_sectors}
@@ -60,10 +61,18 @@ pub record LayoutExamples : Type 0 where
   pub journal : journal_place (geometry_of small 193) ≡ 4612
   pub module_sectors : (geometry_of small 193).module_sectors ≡ 1
   pub area_sectors : (geometry_of small 193).area_sectors ≡ 2304
-  pub record_is : record_bytes hello_record ≡ 1 ∷ 6 ∷ 0 ∷ 0 ∷ 0 ∷ 0 ∷ 0 ∷ 0 ∷ 0 ∷ 5 ∷ 0 ∷ 0x68
-      ∷ 0x65 ∷ 0x6c ∷ 0x6c ∷ 0x6f ∷ []
-  pub record_back : record_at 4096 (record_bytes hello_record) ≡ Some hello_record
-  pub record_cut : record_at 4096 (take 15 (record_bytes hello_record)) ≡ None
+  pub record_is : record_bytes One hello_record ≡ 1 ∷ 6 ∷ 0 ∷ 0 ∷ 0 ∷ 0 ∷ 0 ∷ 0 ∷ 0 ∷ 5 ∷ 0
+      ∷ 0x68 ∷ 0x65 ∷ 0x6c ∷ 0x6c ∷ 0x6f ∷ []
+  pub record_back : record_at One (record_bytes One hello_record) ≡ Some hello_record
+  pub record_cut : record_at One (take 15 (record_bytes One hello_record)) ≡ None
+  -- the same record in version 2, whose length has four bytes
+  pub wide_record_is : record_bytes Two hello_record ≡ 1 ∷ 6 ∷ 0 ∷ 0 ∷ 0 ∷ 0 ∷ 0 ∷ 0 ∷ 0
+      ∷ 5 ∷ 0 ∷ 0 ∷ 0 ∷ 0x68 ∷ 0x65 ∷ 0x6c ∷ 0x6c ∷ 0x6f ∷ []
+  pub wide_record_back : record_at Two (record_bytes Two hello_record) ≡ Some hello_record
+  pub wide_record_cut : record_at Two (take 17 (record_bytes Two hello_record)) ≡ None
+  -- cut inside its length
+  pub length_cut : record_at One (take 10 (record_bytes One hello_record)) ≡ None
+  pub wide_length_cut : record_at Two (take 12 (record_bytes Two hello_record)) ≡ None
   pub sector_length : length (third_sector 255) ≡ 512
   -- a sector of generation 255 overwritten for 256 and torn: with 497 new bytes it shows 0, from
   -- 498 on it is the new one

@@ -1,5 +1,5 @@
 -- The numbers and marks of the layout, spelled out.
-use Rattle.std.specs.Prelude.{◌≡◌, ◌+◌, codes}
+use Rattle.std.specs.Prelude.{◌≡◌, codes}
 use Rattle.disk_layout.specs.declared.geometry.TheConstants.{MODULE_PLACE}
 use Rattle.disk_layout.specs.declared.superblock.TheConstants.{SUPER_MARK, SUPER_END_MARK, LAYOUT}
 use Rattle.disk_layout.specs.declared.superblock.TheConstants.{LAYOUT_AT, CONFIG_LENGTH_AT}
@@ -11,9 +11,10 @@ use Rattle.disk_layout.specs.declared.head.TheConstants.{IMAGE_LENGTH_AT, IMAGE_
 use Rattle.disk_layout.specs.declared.head.TheConstants.{HEAD_STAMP_PLACE}
 use Rattle.disk_layout.specs.declared.stamp.TheConstants.{GENERATION_AT, PLACE_AT}
 use Rattle.disk_layout.specs.declared.journal_sectors.TheConstants.{PAYLOAD_SIZE, PAYLOAD_AT}
-use Rattle.disk_layout.specs.declared.record_fields.TheConstants.{RECORD_HEAD_BYTES, STEP_AT}
-use Rattle.disk_layout.specs.declared.record_fields.TheConstants.{PAYLOAD_LENGTH_AT}
-use Rattle.disk_layout.specs.declared.record.TheConstants.{LONGEST_PAYLOAD, REQUEST_KIND, END_KIND}
+use Rattle.wasi_abi.specs.declared.version.Version.TheVariants.{One, Two}
+use Rattle.disk_layout.specs.rules.Journal.{record_head_bytes, longest_record}
+use Rattle.disk_layout.specs.declared.record_fields.TheConstants.{STEP_AT, PAYLOAD_LENGTH_AT}
+use Rattle.disk_layout.specs.declared.record.TheConstants.{REQUEST_KIND, END_KIND}
 use Rattle.disk_layout.specs.declared.record.TheConstants.{REALTIME_KIND, MONOTONIC_KIND}
 use Rattle.disk_layout.specs.declared.record.TheConstants.{RANDOM_KIND}
 
@@ -48,9 +49,10 @@ pub record LayoutNumbers : Type 0 where
   -- a record
   pub step_at : STEP_AT ≡ 1
   pub payload_length_at : PAYLOAD_LENGTH_AT ≡ 9
-  pub record_head_bytes : RECORD_HEAD_BYTES ≡ 11
-  pub longest_payload : LONGEST_PAYLOAD ≡ 4096
-  pub longest_record : RECORD_HEAD_BYTES + LONGEST_PAYLOAD ≡ 4107
+  pub record_head : record_head_bytes One ≡ 11
+  pub wide_record_head : record_head_bytes Two ≡ 13
+  pub longest : longest_record One ≡ 4107
+  pub longest_wide : longest_record Two ≡ 65549
   pub request_kind : REQUEST_KIND ≡ 1
   pub end_kind : END_KIND ≡ 2
   pub realtime_kind : REALTIME_KIND ≡ 3

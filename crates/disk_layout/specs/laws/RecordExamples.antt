@@ -1,7 +1,8 @@
 -- Worked examples of records, and of journals that are scanned.
-use Rattle.std.specs.Prelude.{◌≡◌, ℕ, List, [], ◌∷◌, ◌++◌, take, drop, Some, None}
+use Rattle.std.specs.Prelude.{◌≡◌, ℕ, List, [], ◌∷◌, ◌++◌, length, take, drop, Some, None}
 use Rattle.wasi_abi.specs.declared.answer.Answer.{Answer}
 use Rattle.wasi_abi.specs.declared.answer.Answer.TheVariants as answer
+use Rattle.wasi_abi.specs.declared.version.Version.TheVariants.{One, Two}
 use Rattle.sector_disk.specs.rules.Image.{Image}
 use Rattle.disk_layout.specs.rules.Places.{Geometry}
 use Rattle.disk_layout.specs.rules.Journal.{Record, record_bytes, record_at, answer_of}
@@ -16,16 +17,25 @@ at_258 a = record { step = 258; answer = a }
 abbrev pub front_of : ℕ → ℕ → List ℕ
 front_of kind len = kind ∷ 2 ∷ 1 ∷ 0 ∷ 0 ∷ 0 ∷ 0 ∷ 0 ∷ 0 ∷ len ∷ 0 ∷ []
 
+-- the same of a request, whose length has these two bytes
+abbrev pub front_of_long : ℕ → ℕ → List ℕ
+front_of_long low high = 1 ∷ 2 ∷ 1 ∷ 0 ∷ 0 ∷ 0 ∷ 0 ∷ 0 ∷ 0 ∷ low ∷ high ∷ []
+
+-- the same for version 2, whose lengths have four bytes: these are the first three
+abbrev pub wide_front_of : ℕ → ℕ → ℕ → ℕ → List ℕ
+wide_front_of kind low next third =
+    kind ∷ 2 ∷ 1 ∷ 0 ∷ 0 ∷ 0 ∷ 0 ∷ 0 ∷ 0 ∷ low ∷ next ∷ third ∷ 0 ∷ []
+
 -- 513 in eight bytes
 abbrev pub clock_513 : List ℕ
 clock_513 = 1 ∷ 2 ∷ 0 ∷ 0 ∷ 0 ∷ 0 ∷ 0 ∷ 0 ∷ []
 
 pub record RecordExamples : Type 0 where
-  pub request : record_bytes (at_258 (answer.Request (7 ∷ []))) ≡ front_of 1 1 ++ (7 ∷ [])
-  pub end : record_bytes (at_258 answer.End) ≡ front_of 2 0
-  pub realtime : record_bytes (at_258 (answer.Realtime 513)) ≡ front_of 3 8 ++ clock_513
-  pub monotonic : record_bytes (at_258 (answer.Monotonic 513)) ≡ front_of 4 8 ++ clock_513
-  pub random : record_bytes (at_258 (answer.Random (7 ∷ []))) ≡ front_of 5 1 ++ (7 ∷ [])
+  pub request : record_bytes One (at_258 (answer.Request (7 ∷ []))) ≡ front_of 1 1 ++ (7 ∷ [])
+  pub end : record_bytes One (at_258 answer.End) ≡ front_of 2 0
+  pub realtime : record_bytes One (at_258 (answer.Realtime 513)) ≡ front_of 3 8 ++ clock_513
+  pub monotonic : record_bytes One (at_258 (answer.Monotonic 513)) ≡ front_of 4 8 ++ clock_513
+  pub random : record_bytes One (at_258 (answer.Random (7 ∷ []))) ≡ front_of 5 1 ++ (7 ∷ [])
   -- a payload is as long as its answer has it, and texts and bytes are no longer than the limit
   pub reads_a_request : answer_of 2 1 (6 ∷ 7 ∷ []) ≡ Some (answer.Request (6 ∷ 7 ∷ []))
   pub long_request : answer_of 1 1 (6 ∷ 7 ∷ []) ≡ None
@@ -40,9 +50,26 @@ pub record RecordExamples : Type 0 where
   pub no_kind : answer_of 2 0 [] ≡ None
   pub sixth_kind : answer_of 2 6 [] ≡ None
   -- what stands behind a record isn't its own
-  pub read_at_the_front : record_at 2 (front_of 1 1 ++ (7 ∷ 8 ∷ []))
+  pub read_at_the_front : record_at One (front_of 1 1 ++ (7 ∷ 8 ∷ []))
       ≡ Some (at_258 (answer.Request (7 ∷ [])))
-  pub no_record : record_at 2 [] ≡ None
+  pub no_record : record_at One [] ≡ None
+  -- the same records in version 2
+  pub wide_request : record_bytes Two (at_258 (answer.Request (7 ∷ [])))
+      ≡ wide_front_of 1 1 0 0 ++ (7 ∷ [])
+  pub wide_end : record_bytes Two (at_258 answer.End) ≡ wide_front_of 2 0 0 0
+  pub wide_realtime : record_bytes Two (at_258 (answer.Realtime 513))
+      ≡ wide_front_of 3 8 0 0 ++ clock_513
+  -- 4,096 bytes in version 1 and no more, and 65,536 in version 2
+  pub longest : (text : List ℕ) → length text ≡ 4096
+      → record_at One (front_of_long 0 16 ++ text) ≡ Some (at_258 (answer.Request text))
+  pub too_long : (text : List ℕ) → length text ≡ 4097
+      → record_at One (front_of_long 1 16 ++ text) ≡ None
+  pub long_in_two : (text : List ℕ) → length text ≡ 4097
+      → record_at Two (wide_front_of 1 1 16 0 ++ text) ≡ Some (at_258 (answer.Request text))
+  pub longest_in_two : (text : List ℕ) → length text ≡ 65536
+      → record_at Two (wide_front_of 1 0 0 1 ++ text) ≡ Some (at_258 (answer.Request text))
+  pub too_long_in_two : (text : List ℕ) → length text ≡ 65537
+      → record_at Two (wide_front_of 1 1 0 1 ++ text) ≡ None
 
 -- ---- journals
 
@@ -66,7 +93,15 @@ spread n bytes = bare_disk (journal_sector 5 1 (take n bytes)) (journal_sector 5
     (journal_sector 4 3 (7 ∷ []))
 
 abbrev pub two_records : List ℕ
-two_records = record_bytes hello_record ++ record_bytes end_record
+two_records = record_bytes One hello_record ++ record_bytes One end_record
+
+-- the same two in version 2
+abbrev pub two_wide_records : List ℕ
+two_wide_records = record_bytes Two hello_record ++ record_bytes Two end_record
+
+-- what a reader of version 1 takes for the first of them: two bytes of its length are text
+abbrev pub misread_hello : Record
+misread_hello = record { step = 6; answer = answer.Request (0 ∷ 0 ∷ 0x68 ∷ 0x65 ∷ 0x6c ∷ []) }
 
 pub record JournalExamples : Type 0 where
   pub in_order : fifth_of (bare_disk (journal_sector 5 1 (6 ∷ 7 ∷ []))
@@ -80,7 +115,10 @@ pub record JournalExamples : Type 0 where
   pub none_from_another_place : fifth_of (bare_disk (journal_sector 5 2 (6 ∷ []))
       (journal_sector 5 2 (7 ∷ [])) (journal_sector 5 3 (8 ∷ []))) ≡ []
   pub no_more_than_asked : payloads_from (spread 12 two_records) 5 3 1 1 ≡ take 12 two_records
-  pub scanned : scan bare 5 (spread 12 two_records) 5 ≡ hello_record ∷ end_record ∷ []
-  pub scanned_to_a_cut : scan bare 5 (spread 12 (take 26 two_records)) 5 ≡ hello_record ∷ []
-  pub scanned_to_a_long_one : scan bare 4 (spread 12 two_records) 5 ≡ []
-  pub scanned_of_another_generation : scan bare 5 (spread 12 two_records) 4 ≡ []
+  pub scanned : scan bare One (spread 12 two_records) 5 ≡ hello_record ∷ end_record ∷ []
+  pub scanned_to_a_cut : scan bare One (spread 12 (take 26 two_records)) 5 ≡ hello_record ∷ []
+  pub scanned_to_a_sixth_kind : scan bare One (spread 12 (6 ∷ drop 1 two_records)) 5 ≡ []
+  pub scanned_of_another_generation : scan bare One (spread 12 two_records) 4 ≡ []
+  pub scanned_wide : scan bare Two (spread 12 two_wide_records) 5 ≡ hello_record ∷ end_record ∷ []
+  pub scanned_in_the_wrong_version : scan bare One (spread 12 two_wide_records) 5
+      ≡ misread_hello ∷ []

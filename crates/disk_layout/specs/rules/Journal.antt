@@ -1,19 +1,20 @@
--- Records, and the sectors of the journal (this project's own), version 1.
+-- Records of either version, and the sectors of the journal (this project's own).
 use Rattle.std.specs.Prelude.{ℕ, zero, suc, ◌+◌, ◌-◌, nat_le, nat_lt, ◌==◌, ◌&&◌, if◌then◌else◌}
 use Rattle.std.specs.Prelude.{Bool, true, false, List, [], ◌∷◌, ◌++◌, length, drop, Option, Some}
 use Rattle.std.specs.Prelude.{None, option_map}
-use Rattle.guest_memory.specs.rules.Bytes.{number_of, part}
+use Rattle.guest_memory.specs.rules.Bytes.{bytes_of, number_of, part}
 use Rattle.disk_layout.specs.declared.record.Record.{Record as DeclaredRecord}
 use Rattle.wasi_abi.specs.declared.answer.Answer.{Answer}
 use Rattle.wasi_abi.specs.declared.answer.Answer.TheVariants as answer
+use Rattle.wasi_abi.specs.declared.version.Version.{Version}
+use Rattle.wasi_abi.specs.rules.Versions.{text_limit, length_bytes}
 use Rattle.wasi_abi.specs.rules.Layouts.{u16_bytes, u64_bytes, padding}
 use Rattle.sector_disk.specs.rules.Image.{Image, sector_at}
 use Rattle.disk_layout.specs.rules.Places.{Geometry, journal_place}
 use Rattle.disk_layout.specs.rules.Sectors.{stamp_bytes, shown_generation}
 use Rattle.disk_layout.specs.declared.record.TheConstants.{REQUEST_KIND, END_KIND, REALTIME_KIND}
 use Rattle.disk_layout.specs.declared.record.TheConstants.{MONOTONIC_KIND, RANDOM_KIND}
-use Rattle.disk_layout.specs.declared.record_fields.TheConstants.{RECORD_HEAD_BYTES, STEP_AT}
-use Rattle.disk_layout.specs.declared.record_fields.TheConstants.{PAYLOAD_LENGTH_AT}
+use Rattle.disk_layout.specs.declared.record_fields.TheConstants.{STEP_AT, PAYLOAD_LENGTH_AT}
 use Rattle.disk_layout.specs.declared.journal_sectors.TheConstants.{PAYLOAD_SIZE, PAYLOAD_AT}
 
 -- a step, and the answer that it took
@@ -36,11 +37,19 @@ payload_of (answer.Realtime n) = u64_bytes n
 payload_of (answer.Monotonic n) = u64_bytes n
 payload_of (answer.Random bytes) = bytes
 
--- kind, step, length of the payload in 16 bits, payload
-abbrev pub record_bytes : Record → List ℕ
-record_bytes r =
-    kind_number r.answer ∷ (u64_bytes r.step ++ (u16_bytes (length (payload_of r.answer))
-    ++ payload_of r.answer))
+-- how many bytes stand before a record's payload: kind, step, and the payload's length
+abbrev pub record_head_bytes : Version → ℕ
+record_head_bytes v = PAYLOAD_LENGTH_AT + length_bytes v
+
+-- the most bytes of a record
+abbrev pub longest_record : Version → ℕ
+longest_record v = record_head_bytes v + text_limit v
+
+-- kind, step, length of the payload, payload
+abbrev pub record_bytes : Version → Record → List ℕ
+record_bytes v r =
+    kind_number r.answer ∷ (u64_bytes r.step
+    ++ (bytes_of (length_bytes v) (length (payload_of r.answer)) ++ payload_of r.answer))
 
 -- ---- reading records
 
@@ -64,20 +73,20 @@ answer_of limit kind payload =
     else None
 
 -- the length of the payload of the record at the front
-abbrev pub payload_length : List ℕ → ℕ
-payload_length bytes = number_of (part bytes PAYLOAD_LENGTH_AT 2)
+abbrev pub payload_length : Version → List ℕ → ℕ
+payload_length v bytes = number_of (part bytes PAYLOAD_LENGTH_AT (length_bytes v))
 
 -- the record at the front, if it is whole and well formed
-abbrev pub record_at : ℕ → List ℕ → Option Record
-record_at limit [] = None
-record_at limit (kind ∷ bytes) =
-    if nat_le (RECORD_HEAD_BYTES + payload_length (kind ∷ bytes)) (length (kind ∷ bytes))
+abbrev pub record_at : Version → List ℕ → Option Record
+record_at v [] = None
+record_at v (kind ∷ bytes) =
+    if nat_le (record_head_bytes v + payload_length v (kind ∷ bytes)) (length (kind ∷ bytes))
     then option_map (λ a. record {
       step = number_of (part (kind ∷ bytes) STEP_AT 8);
       answer = a;
     })
-    (answer_of limit kind (part (kind ∷ bytes) RECORD_HEAD_BYTES (payload_length (kind
-    ∷ bytes))))
+    (answer_of (text_limit v) kind (part (kind ∷ bytes) (record_head_bytes v)
+    (payload_length v (kind ∷ bytes))))
     else None
 
 -- a record, if there is one, before the others
@@ -86,11 +95,11 @@ with_first None others = []
 with_first (Some r) others = r ∷ others
 
 -- the records at the front, until one is cut or not well formed; so many at most
-abbrev pub records_at : ℕ → ℕ → List ℕ → List Record
-records_at limit zero bytes = []
-records_at limit (suc n) bytes =
-    with_first (record_at limit bytes)
-    (records_at limit n (drop (RECORD_HEAD_BYTES + payload_length bytes) bytes))
+abbrev pub records_at : Version → ℕ → List ℕ → List Record
+records_at v zero bytes = []
+records_at v (suc n) bytes =
+    with_first (record_at v bytes)
+    (records_at v n (drop (record_head_bytes v + payload_length v bytes) bytes))
 
 -- ---- the sectors of the journal
 
@@ -122,8 +131,8 @@ payloads_from image g sector place (suc count) =
 
 -- what the journal of generation g holds. Each record has a byte at least, so there are no more
 -- than bytes
-abbrev pub scan : Geometry → ℕ → Image → ℕ → List Record
-scan geometry limit image g =
+abbrev pub scan : Geometry → Version → Image → ℕ → List Record
+scan geometry v image g =
     let bytes : List ℕ = payloads_from image g (journal_place geometry) 1 geometry.journal_sectors
     in
-    records_at limit (length bytes) bytes
+    records_at v (length bytes) bytes

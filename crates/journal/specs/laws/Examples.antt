@@ -1,12 +1,14 @@
 -- Worked examples of journals: what stands in their sectors, and what a barrier may leave.
 use Rattle.std.specs.Prelude.{◌≡◌, ◌-◌, ◌^◌, ℕ, false, List, [], ◌∷◌, ◌++◌, length, take, replicate}
 use Rattle.wasi_abi.specs.declared.answer.Answer.TheVariants as answer
+use Rattle.wasi_abi.specs.declared.version.Version.TheVariants.{One, Two}
 use Rattle.sector_disk.specs.rules.Image.{Image}
 use Rattle.sector_disk.specs.declared.disk_call.DiskCall.TheVariants.{WriteOf, Sync}
 use Rattle.disk_layout.specs.rules.Places.{Geometry}
 use Rattle.disk_layout.specs.rules.Journal.{record_bytes, journal_sector}
 use Rattle.disk_layout.specs.laws.Examples.{hello_record}
 use Rattle.disk_layout.specs.laws.RecordExamples.{bare, bare_disk, end_record, spread, two_records}
+use Rattle.disk_layout.specs.laws.RecordExamples.{two_wide_records}
 use Rattle.journal.specs.rules.Packed.{sectors_for, packed}
 use Rattle.journal.specs.rules.State.{state, room_of}
 use Rattle.journal.specs.rules.Steps.{RecordFits, records_bytes, RecordsStand, SameOthers}
@@ -18,64 +20,75 @@ pub record PackingExamples : Type 0 where
   pub one_byte_more : sectors_for 495 ≡ 2
   pub packed_in_order : packed 5 2 2 (replicate 494 7 ++ (8 ∷ []))
       ≡ journal_sector 5 2 (replicate 494 7) ∷ journal_sector 5 3 (8 ∷ []) ∷ []
-  pub room_behind_one : room_of bare (state 5 1 (7 ∷ 8 ∷ []) false) ≡ 986
-  pub no_room_behind_all : room_of bare (state 5 3 [] false) ≡ 0
-  pub records_in_order : records_bytes (hello_record ∷ end_record ∷ []) ≡ two_records
+  pub room_behind_one : room_of bare (state One 5 1 (7 ∷ 8 ∷ []) false) ≡ 986
+  pub no_room_behind_all : room_of bare (state One 5 3 [] false) ≡ 0
+  pub records_in_order : records_bytes One (hello_record ∷ end_record ∷ []) ≡ two_records
+  pub wide_in_order : records_bytes Two (hello_record ∷ end_record ∷ []) ≡ two_wide_records
 
 -- what a barrier asks the disk for, the newest call first: sector 4 is the second of the journal
 pub record BarrierCallExamples : Type 0 where
-  pub nothing_kept : barrier_calls bare (state 5 1 [] false) ≡ []
-  pub one_byte : barrier_calls bare (state 5 1 (7 ∷ []) false) ≡ Sync ∷ WriteOf 4 ∷ []
-  pub full_sector : barrier_calls bare (state 5 1 (replicate 494 7) false)
+  pub nothing_kept : barrier_calls bare (state One 5 1 [] false) ≡ []
+  pub one_byte : barrier_calls bare (state One 5 1 (7 ∷ []) false) ≡ Sync ∷ WriteOf 4 ∷ []
+  pub full_sector : barrier_calls bare (state One 5 1 (replicate 494 7) false)
       ≡ Sync ∷ WriteOf 4 ∷ []
-  pub two_sectors : barrier_calls bare (state 5 1 (replicate 495 7) false)
+  pub two_sectors : barrier_calls bare (state One 5 1 (replicate 495 7) false)
       ≡ Sync ∷ WriteOf 5 ∷ WriteOf 4 ∷ []
 
--- what a journal takes: clocks and steps of 64 bits, and 4,096 bytes
+-- what a journal takes: clocks and steps of 64 bits, and 4,096 bytes in version 1, or 65,536 in
+-- version 2
 pub record FittingExamples : Type 0 where
-  pub last_step : RecordFits (record { step = 2 ^ 64 - 1; answer = answer.End })
-  pub no_step : RecordFits (record { step = 2 ^ 64; answer = answer.End }) → ⊥
-  pub last_time : RecordFits (record { step = 0; answer = answer.Realtime (2 ^ 64 - 1) })
-  pub no_time : RecordFits (record { step = 0; answer = answer.Realtime (2 ^ 64) }) → ⊥
-  pub no_count : RecordFits (record { step = 0; answer = answer.Monotonic (2 ^ 64) }) → ⊥
+  pub last_step : RecordFits One (record { step = 2 ^ 64 - 1; answer = answer.End })
+  pub no_step : RecordFits One (record { step = 2 ^ 64; answer = answer.End }) → ⊥
+  pub last_time : RecordFits One (record { step = 0; answer = answer.Realtime (2 ^ 64 - 1) })
+  pub no_time : RecordFits One (record { step = 0; answer = answer.Realtime (2 ^ 64) }) → ⊥
+  pub no_count : RecordFits One (record { step = 0; answer = answer.Monotonic (2 ^ 64) }) → ⊥
   pub longest : (text : List ℕ) → length text ≡ 4096
-      → RecordFits (record { step = 0; answer = answer.Request text })
+      → RecordFits One (record { step = 0; answer = answer.Request text })
   pub too_long : (text : List ℕ) → length text ≡ 4097
-      → RecordFits (record { step = 0; answer = answer.Request text }) → ⊥
+      → RecordFits One (record { step = 0; answer = answer.Request text }) → ⊥
   pub too_many_bytes : (bytes : List ℕ) → length bytes ≡ 4097
-      → RecordFits (record { step = 0; answer = answer.Random bytes }) → ⊥
+      → RecordFits One (record { step = 0; answer = answer.Random bytes }) → ⊥
+  pub longest_in_two : (text : List ℕ) → length text ≡ 65536
+      → RecordFits Two (record { step = 0; answer = answer.Request text })
+  pub too_long_in_two : (text : List ℕ) → length text ≡ 65537
+      → RecordFits Two (record { step = 0; answer = answer.Request text }) → ⊥
 
 -- ---- what stands
 
 -- two records in two sectors of generation 5, and behind them one of this generation
 abbrev pub before_one_of : ℕ → Image
-before_one_of g = bare_disk (journal_sector 5 1 (record_bytes hello_record))
-    (journal_sector 5 2 (record_bytes end_record)) (journal_sector g 3 (7 ∷ []))
+before_one_of g = bare_disk (journal_sector 5 1 (record_bytes One hello_record))
+    (journal_sector 5 2 (record_bytes One end_record)) (journal_sector g 3 (7 ∷ []))
 
 -- the same disk with a shorter journal
 abbrev pub short : Geometry
 short = record bare { journal_sectors = 1 }
 
 pub record StandingExamples : Type 0 where
-  pub stands : RecordsStand bare 5 2 (hello_record ∷ end_record ∷ []) (spread 12 two_records)
-  pub in_fewer_sectors : RecordsStand bare 5 1 (hello_record ∷ []) (spread 16 two_records) → ⊥
-  pub in_more_sectors : RecordsStand bare 5 3 (hello_record ∷ end_record ∷ [])
+  pub stands : RecordsStand bare One 5 2 (hello_record ∷ end_record ∷ []) (spread 12 two_records)
+  pub in_fewer_sectors : RecordsStand bare One 5 1 (hello_record ∷ []) (spread 16 two_records) → ⊥
+  pub in_more_sectors : RecordsStand bare One 5 3 (hello_record ∷ end_record ∷ [])
       (spread 12 two_records) → ⊥
-  pub of_another_generation : RecordsStand bare 4 2 (hello_record ∷ end_record ∷ [])
+  pub of_another_generation : RecordsStand bare One 4 2 (hello_record ∷ end_record ∷ [])
       (spread 12 two_records) → ⊥
-  pub before_one_of_earlier : RecordsStand bare 5 2 (hello_record ∷ end_record ∷ [])
+  pub before_one_of_earlier : RecordsStand bare One 5 2 (hello_record ∷ end_record ∷ [])
       (before_one_of 4)
-  pub before_a_later_one : RecordsStand bare 5 2 (hello_record ∷ end_record ∷ [])
+  pub before_a_later_one : RecordsStand bare One 5 2 (hello_record ∷ end_record ∷ [])
       (before_one_of 6) → ⊥
-  pub beyond_the_journal : RecordsStand short 5 2 (hello_record ∷ end_record ∷ [])
+  pub beyond_the_journal : RecordsStand short One 5 2 (hello_record ∷ end_record ∷ [])
       (spread 12 two_records) → ⊥
-  pub other_records : RecordsStand bare 5 2 (hello_record ∷ []) (spread 12 two_records) → ⊥
+  pub other_records : RecordsStand bare One 5 2 (hello_record ∷ []) (spread 12 two_records) → ⊥
+  pub in_two : RecordsStand bare Two 5 2 (hello_record ∷ end_record ∷ [])
+      (spread 12 two_wide_records)
+  -- lengths of two bytes in a journal of version 2
+  pub of_the_other_version : RecordsStand bare Two 5 2 (hello_record ∷ end_record ∷ [])
+      (spread 12 two_records) → ⊥
 
 -- ---- what a barrier may leave
 
 -- a journal that holds one record, with these two sectors behind it, and one sector more
 abbrev pub behind_hello : List ℕ → List ℕ → Image
-behind_hello second third = [] ∷ [] ∷ [] ∷ journal_sector 5 1 (record_bytes hello_record)
+behind_hello second third = [] ∷ [] ∷ [] ∷ journal_sector 5 1 (record_bytes One hello_record)
     ∷ second ∷ third ∷ (9 ∷ []) ∷ []
 
 abbrev pub only_hello : Image
@@ -83,7 +96,7 @@ only_hello = behind_hello [] []
 
 -- the second record is written behind it
 abbrev pub whole_end : List ℕ
-whole_end = journal_sector 5 2 (record_bytes end_record)
+whole_end = journal_sector 5 2 (record_bytes One end_record)
 
 abbrev pub torn_end : List ℕ
 torn_end = take 7 whole_end
@@ -93,7 +106,7 @@ with_end = behind_hello whole_end []
 
 -- a front of the kept record, which stays beside what stood
 abbrev pub AppendsEnd : Image → Type 0
-AppendsEnd new = AppendsFront bare 5 1 (hello_record ∷ []) (end_record ∷ []) only_hello new
+AppendsEnd new = AppendsFront bare One 5 1 (hello_record ∷ []) (end_record ∷ []) only_hello new
 
 pub record BarrierExamples : Type 0 where
   pub appended : AppendsEnd with_end
@@ -102,9 +115,9 @@ pub record BarrierExamples : Type 0 where
   pub lost : AppendsEnd ([] ∷ [] ∷ [] ∷ [] ∷ [] ∷ [] ∷ (9 ∷ []) ∷ []) → ⊥
   pub shows_a_later_one : AppendsEnd (behind_hello [] (journal_sector 6 3 (7 ∷ []))) → ⊥
   pub super_changed : AppendsEnd ((7 ∷ []) ∷ [] ∷ [] ∷
-      journal_sector 5 1 (record_bytes hello_record)
+      journal_sector 5 1 (record_bytes One hello_record)
       ∷ [] ∷ [] ∷ (9 ∷ []) ∷ []) → ⊥
-  pub changed_behind : AppendsEnd ([] ∷ [] ∷ [] ∷ journal_sector 5 1 (record_bytes hello_record)
+  pub changed_behind : AppendsEnd ([] ∷ [] ∷ [] ∷ journal_sector 5 1 (record_bytes One hello_record)
       ∷ [] ∷ [] ∷ (8 ∷ []) ∷ []) → ⊥
   pub longer : AppendsEnd (only_hello ++ [] ∷ []) → ⊥
   -- of the sectors in use none is changed

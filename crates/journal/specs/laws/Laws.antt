@@ -1,11 +1,11 @@
 -- Laws of the journal (this project's own).
 use Rattle.std.specs.Prelude.{◌≡◌, ℕ, ◌+◌, ◌<◌, List, []}
+use Rattle.wasi_abi.specs.declared.version.Version.{Version}
 use Rattle.sector_disk.specs.rules.Image.{Image, sector_at}
 use Rattle.disk_layout.specs.rules.Places.{Geometry, journal_place}
 use Rattle.disk_layout.specs.rules.Sectors.{shown_generation}
 use Rattle.disk_layout.specs.rules.Journal.{Record, scan}
 use Rattle.journal.specs.rules.Steps.{RecordsStand, AllRecordsFit}
-use Rattle.disk_layout.specs.declared.record.TheConstants.{LONGEST_PAYLOAD}
 
 -- each sector of the journal shows an earlier generation
 abbrev pub ShowsEarlierThan : Geometry → ℕ → Image → Type 0
@@ -14,16 +14,16 @@ ShowsEarlierThan geometry g image = (k : ℕ) → k < geometry.journal_sectors
 
 -- a journal of a generation that no sector shows has no records yet
 abbrev pub FreshStands : Type 0
-FreshStands = (geometry : Geometry) (g : ℕ) (image : Image) → ShowsEarlierThan geometry g image
-    → RecordsStand geometry g 0 [] image
+FreshStands = (geometry : Geometry) (v : Version) (g : ℕ) (image : Image)
+    → ShowsEarlierThan geometry g image → RecordsStand geometry v g 0 [] image
 
 -- a scan gives the records that stand in the sectors
 abbrev pub ScansWhatStands : Type 0
-ScansWhatStands = (geometry : Geometry) (g used : ℕ) (records : List Record) (image : Image)
-    → RecordsStand geometry g used records image → AllRecordsFit records
-    → scan geometry LONGEST_PAYLOAD image g ≡ records
+ScansWhatStands = (geometry : Geometry) (v : Version) (g used : ℕ) (records : List Record)
+    (image : Image) → RecordsStand geometry v g used records image → AllRecordsFit v records
+    → scan geometry v image g ≡ records
 
 -- a scan of a generation that no sector shows gives none
 abbrev pub ScansNoneOfLater : Type 0
-ScansNoneOfLater = (geometry : Geometry) (g : ℕ) (image : Image) → ShowsEarlierThan geometry g image
-    → scan geometry LONGEST_PAYLOAD image g ≡ []
+ScansNoneOfLater = (geometry : Geometry) (v : Version) (g : ℕ) (image : Image)
+    → ShowsEarlierThan geometry g image → scan geometry v image g ≡ []

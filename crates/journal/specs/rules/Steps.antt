@@ -11,7 +11,8 @@ use Rattle.disk_layout.specs.rules.Journal.{Record, record_bytes, payload_of, is
 use Rattle.disk_layout.specs.rules.Journal.{scan}
 use Rattle.wasi_abi.specs.declared.answer.Answer.{Answer}
 use Rattle.wasi_abi.specs.declared.answer.Answer.TheVariants as answer
-use Rattle.disk_layout.specs.declared.record.TheConstants.{LONGEST_PAYLOAD}
+use Rattle.wasi_abi.specs.declared.version.Version.{Version}
+use Rattle.wasi_abi.specs.rules.Versions.{text_limit}
 use Rattle.journal.specs.rules.Packed.{sectors_for}
 use Rattle.journal.specs.rules.State.{JournalState}
 
@@ -23,19 +24,19 @@ ClockFits (answer.Realtime n) = n < 2 ^ 64
 ClockFits (answer.Monotonic n) = n < 2 ^ 64
 ClockFits (answer.Random bytes) = Unit {0}
 
--- a record that a journal of version 1 takes
-pub record RecordFits (r : Record) : Type 0 where
+-- a record that a journal of this version takes
+pub record RecordFits (v : Version) (r : Record) : Type 0 where
   pub step : r.step < 2 ^ 64
-  pub payload : length (payload_of r.answer) ≤ LONGEST_PAYLOAD
+  pub payload : length (payload_of r.answer) ≤ text_limit v
   pub clock : ClockFits r.answer
 
 -- each of these records fits
-abbrev pub AllRecordsFit : List Record → Type 0
-AllRecordsFit records = AllByRecursion RecordFits records
+abbrev pub AllRecordsFit : Version → List Record → Type 0
+AllRecordsFit v records = AllByRecursion (RecordFits v) records
 
 -- the bytes of records, one after another
-abbrev pub records_bytes : List Record → List ℕ
-records_bytes records = flat_map record_bytes records
+abbrev pub records_bytes : Version → List Record → List ℕ
+records_bytes v records = flat_map (record_bytes v) records
 
 -- So many sectors of the journal are written in generation g, which hold these bytes, and each
 -- later one shows an earlier generation.
@@ -49,9 +50,9 @@ pub record HoldsBytes (geometry : Geometry) (g used : ℕ) (bytes : List ℕ) (i
       → shown_generation (1 + k) (sector_at image (journal_place geometry + k)) < g
 
 -- so many sectors hold these records
-abbrev pub RecordsStand : Geometry → ℕ → ℕ → List Record → Image → Type 0
-RecordsStand geometry g used records image =
-    HoldsBytes geometry g used (records_bytes records) image
+abbrev pub RecordsStand : Geometry → Version → ℕ → ℕ → List Record → Image → Type 0
+RecordsStand geometry v g used records image =
+    HoldsBytes geometry g used (records_bytes v records) image
 
 -- all sectors but those of the journal from this one on are as they were
 pub record SameOthers (geometry : Geometry) (used : ℕ) (old new : Image) : Type 0 where
@@ -67,22 +68,22 @@ ShowsNoneAfter geometry g image = (k : ℕ) → k < geometry.journal_sectors
 
 -- a scan of the new image gives the records, and a front of those kept behind them; no other sector
 -- is changed
-pub record AppendsFront (geometry : Geometry) (g used : ℕ) (records kept : List Record)
-    (old new : Image) : Type 0 where
+pub record AppendsFront (geometry : Geometry) (v : Version) (g used : ℕ)
+    (records kept : List Record) (old new : Image) : Type 0 where
   pub count : ℕ
   pub within : count ≤ length kept
-  pub scanned : scan geometry LONGEST_PAYLOAD new g ≡ records ++ take count kept
+  pub scanned : scan geometry v new g ≡ records ++ take count kept
   pub none_later : ShowsNoneAfter geometry g new
   pub others : SameOthers geometry used old new
 
 -- what the records of a journal are: these are on the disk whatever a cut leaves, and those only in
 -- memory
-pub record IsOn (geometry : Geometry) (g used : ℕ) (kept_bytes : List ℕ)
+pub record IsOn (geometry : Geometry) (v : Version) (g used : ℕ) (kept_bytes : List ℕ)
     (records kept : List Record) (outcomes : Image → Type 0) : Type 0 where
-  pub stands : (image : Image) → outcomes image → RecordsStand geometry g used records image
-  pub spells : kept_bytes ≡ records_bytes kept
-  pub fit : AllRecordsFit records
-  pub fit_kept : AllRecordsFit kept
+  pub stands : (image : Image) → outcomes image → RecordsStand geometry v g used records image
+  pub spells : kept_bytes ≡ records_bytes v kept
+  pub fit : AllRecordsFit v records
+  pub fit_kept : AllRecordsFit v kept
   pub generation : g < 2 ^ 64
 
 -- so many sectors from this one on are written one after another, and then synced; for none there

@@ -2,36 +2,41 @@ use Rattle.std.proofs.Common.{◌≡◌, ◌≤◌, ◌+◌, ◌-◌, ◌++◌, 
 use Rattle.std.proofs.Common.{is_some, subst, sym, ap, ◌∙◌, arith, append_assoc, length-drop}
 use Rattle.std.proofs.lemmas.List.{take_all}
 use Rattle.disk_layout.specs.rules.Journal.{Record, payload_length, record_at, records_at}
+use Rattle.disk_layout.specs.rules.Journal.{record_head_bytes}
 use Rattle.journal.proofs.RecordLemmas.{read_on}
-use Rattle.disk_layout.specs.declared.record.TheConstants.{LONGEST_PAYLOAD}
 use Rattle.journal.proofs.decode.records_from.Goals as goal
 
 pub loop-records-preserved : goal.loop-records-preserved
 loop-records-preserved c =
+    let v = c.args.version in
     let at = c.loop-records.invariant in
     let bytes = c.args.bytes.now in
     let start = c.loop-records.start in
     let rest = drop start bytes in
     let lent : take (length bytes - start) rest ≡ rest =
     take_all (length bytes - start) rest (omega (arith, length-drop start bytes)) in
-    let is : record_at LONGEST_PAYLOAD rest ≡ Some c.in-Some.entry =
-    ap (λ (l : List ℕ). record_at LONGEST_PAYLOAD l) (sym lent)
+    let is : record_at v rest ≡ Some c.in-Some.entry =
+    ap (λ (l : List ℕ). record_at v l) (sym lent)
     ∙ sym c.in_ok-entry.ensures.value ∙ c.in-Some.is in
-    let whole : 11 + payload_length rest ≤ length rest =
-    subst (λ (l : List ℕ). 11 + payload_length l
+    let whole : record_head_bytes v + payload_length v rest ≤ length rest =
+    subst (λ (l : List ℕ). record_head_bytes v + payload_length v l
     ≤ length l) lent (c.in_ok-entry.ensures.whole (ap is_some c.in-Some.is)) in
-    let len : c.payload_length-len.result ≡ payload_length rest = c.payload_length-len.ensures.value
-    ∙ ap (λ (l : List ℕ). payload_length l) lent in
-    let one = read_on bytes start c.in-Some.entry at.within is whole in
+    let len : c.payload_length.result ≡ payload_length v rest = c.payload_length.ensures.value
+    ∙ ap (λ (l : List ℕ). payload_length v l) lent in
+    let head = c.record_head_bytes.ensures.value in
+    let one = read_on v bytes start c.in-Some.entry at.within is whole in
     let behind : ℕ → List Record =
-    λ n. records_at LONGEST_PAYLOAD (length bytes - (start + (11 + n)))
-    (drop (start + (11 + n)) bytes) in
+    λ n. records_at v (length bytes - (start + n)) (drop (start + n) bytes) in
     record {
       within = omega (arith, length-drop start bytes);
       so_far = ap (λ (l : List Record). l
-          ++ behind c.payload_length-len.result) c.in_ok-push.ensures.items
-          ∙ ap (λ (n : ℕ). (c.loop-records.records.items ++ c.in-Some.entry ∷ []) ++ behind n) len
+          ++ behind (c.record_head_bytes.result + c.payload_length.result))
+          c.in_ok-push.ensures.items
+          ∙ ap (λ (n : ℕ). (c.loop-records.records.items ++ c.in-Some.entry ∷ [])
+          ++ behind (n + c.payload_length.result)) head
+          ∙ ap (λ (n : ℕ). (c.loop-records.records.items ++ c.in-Some.entry ∷ [])
+          ++ behind (record_head_bytes v + n)) len
           ∙ append_assoc c.loop-records.records.items (c.in-Some.entry
-          ∷ []) (behind (payload_length rest))
+          ∷ []) (behind (record_head_bytes v + payload_length v rest))
           ∙ ap (λ (l : List Record). c.loop-records.records.items ++ l) (sym one) ∙ at.so_far;
     }

@@ -9,19 +9,22 @@ use Rattle.journal.proofs.journal.Journal.barrier.Goals as goal
 
 pub returns-then-self-clause-any_moment : goal.returns-then-self-clause-any_moment
 returns-then-self-clause-any_moment g c = λ records kept on.
-    nothing_written c.args.geometry.now c.args.self.now.generation c.args.self.now.used
-    c.args.self.now.kept records kept (g.D.Disk.medium c.args.disk.now) on c.requires
+    nothing_written c.args.geometry.now c.args.self.now.version c.args.self.now.generation
+    c.args.self.now.used c.args.self.now.kept records kept (g.D.Disk.medium c.args.disk.now) on
+    c.requires
 
 pub returns-then-is_empty-clause-any_moment : goal.returns-then-is_empty-clause-any_moment
 returns-then-is_empty-clause-any_moment g c = λ records kept on.
-    nothing_written c.args.geometry.now c.args.self.now.generation c.args.self.now.used
-    c.args.self.now.kept records kept (g.D.Disk.medium c.args.disk.now) on c.requires
+    nothing_written c.args.geometry.now c.args.self.now.version c.args.self.now.generation
+    c.args.self.now.used c.args.self.now.kept records kept (g.D.Disk.medium c.args.disk.now) on
+    c.requires
 
 pub returns-then-count-unwritten-clause-any_moment :
     goal.returns-then-count-unwritten-clause-any_moment
 returns-then-count-unwritten-clause-any_moment g c = λ records kept on.
-    nothing_written c.args.geometry.now c.args.self.now.generation c.args.self.now.used
-    c.args.self.now.kept records kept (g.D.Disk.medium c.args.disk.now) on c.requires
+    nothing_written c.args.geometry.now c.args.self.now.version c.args.self.now.generation
+    c.args.self.now.used c.args.self.now.kept records kept (g.D.Disk.medium c.args.disk.now) on
+    c.requires
 
 pub returns-in-Err-clause-any_moment : goal.returns-in-Err-clause-any_moment
 returns-in-Err-clause-any_moment g c = λ records kept on.
@@ -44,8 +47,8 @@ returns-in-Err-clause-any_moment g c = λ records kept on.
     (let f = c.if-count-unwritten.false in let u = c.saturating_sub-unwritten.ensures in
     let j = c.from.ensures in omega arith) in
     let bound : geometry.journal_sectors < 2 ^ 32 = search rules in
-    any_moment_at geometry s.generation s.used s.kept records kept old new c.journal_place.result
-    c.self.inside.generation c.self.inside.used c.as_slice.result.now
+    any_moment_at geometry s.version s.generation s.used s.kept records kept old new
+    c.journal_place.result c.self.inside.generation c.self.inside.used c.as_slice.result.now
     c.journal_place.ensures (ap (λ x. x.generation) view) used bytes on c.requires room bound
     c.store_packed-stored.ensures.any_moment
 
@@ -70,8 +73,8 @@ returns-clause-any_moment g c = λ records kept on.
     (let f = c.if-count-unwritten.false in let u = c.saturating_sub-unwritten.ensures in
     let j = c.from.ensures in omega arith) in
     let bound : geometry.journal_sectors < 2 ^ 32 = search rules in
-    any_moment_at geometry s.generation s.used s.kept records kept old new c.journal_place.result
-    c.self.inside.generation c.self.inside.used c.as_slice.result.now
+    any_moment_at geometry s.version s.generation s.used s.kept records kept old new
+    c.journal_place.result c.self.inside.generation c.self.inside.used c.as_slice.result.now
     c.journal_place.ensures (ap (λ x. x.generation) view) used bytes on c.requires room bound
     c.store_packed-stored.ensures.any_moment
 
@@ -96,8 +99,9 @@ returns-clause-durable g c = λ records kept on.
     (let f = c.if-count-unwritten.false in let u = c.saturating_sub-unwritten.ensures in
     let j = c.from.ensures in omega arith) in
     let bound : geometry.journal_sectors < 2 ^ 32 = search rules in
-    durable_at geometry s.generation s.used s.kept records kept old new c.journal_place.result
-    c.self.inside.generation c.self.inside.used c.sectors_for-count.result c.as_slice.result.now
+    durable_at geometry s.version s.generation s.used s.kept records kept old new
+    c.self.inside.version c.journal_place.result c.self.inside.generation c.self.inside.used
+    c.sectors_for-count.result c.as_slice.result.now (ap (λ x. x.version) view)
     c.journal_place.ensures (ap (λ x. x.generation) view) used bytes counted on c.requires room
     bound c.in_default.ensures.stored
 
