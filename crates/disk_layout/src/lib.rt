@@ -90,8 +90,8 @@ pub use journal_sectors::{PAYLOAD_AT, PAYLOAD_SIZE, is_of, journal_sector, used_
 pub use reading::{Contents, config_from, read_contents};
 pub use record::{END_KIND, MONOTONIC_KIND, RANDOM_KIND, REALTIME_KIND, REQUEST_KIND, Record};
 pub use record_fields::{
-    clock_bytes, clock_from, payload_length, record_head, record_head_bytes, record_step,
-    short_length, wide_length,
+    clock_bytes, clock_from, longest_record, payload_length, record_head, record_head_bytes,
+    record_step, short_length, wide_length,
 };
 pub use stamp::Stamp;
 pub use stored::{Stored, digest_of, read_super, write_super};

@@ -4,7 +4,8 @@ ghost use Rattle.std.specs.Prelude.{◌≡◌, ◌∷◌, ◌<◌, ◌≤◌, �
 ghost use Rattle.guest_memory.specs.rules.Bytes.{number_of};
 ghost use Rattle.wasi_abi.specs.rules.Layouts.{u16_bytes, u32_bytes, u64_bytes, u64_at};
 ghost use Rattle.disk_layout.specs.declared.record_fields.TheConstants.{STEP_AT, PAYLOAD_LENGTH_AT};
-ghost use Rattle.disk_layout.specs.rules.Journal.{payload_length, record_head_bytes};
+ghost use Rattle.disk_layout.specs.rules.Journal.{longest_record, payload_length};
+ghost use Rattle.disk_layout.specs.rules.Journal.{record_head_bytes};
 
 use crate::fields::{put_u16, put_u32, put_u64, u16_from, u32_from, u64_from};
 use wasi_abi::Version;
@@ -22,6 +23,13 @@ pub fn record_head_bytes(version: Version) -> usize
     ensures within { result < 2 ^ 4 }
 {
     PAYLOAD_LENGTH_AT + version.length_bytes()
+}
+
+/// The most bytes of a record.
+pub fn longest_record(version: Version) -> usize
+    ensures { result ≡ longest_record version }
+{
+    record_head_bytes(version) + version.text_limit()
 }
 
 /// What stands before the length of a record's payload: its kind and its step.

@@ -7,7 +7,7 @@ use disk_layout::{Geometry, Record, journal_sector};
 use journal::{Journal, JournalFault};
 use sector_disk::{Disk, DiskFault, FaultDisk, MemDisk, Place};
 use std::alloc::{AllocError, Global};
-use wasi_abi::Answer;
+use wasi_abi::{Answer, Version};
 use wasm_syntax::Row;
 
 /// A journal of 16 sectors from sector 4 on.
@@ -50,7 +50,7 @@ fn scan<D: Disk>(
     if disk.sectors() < PLACES.total_sectors() {
         return Err(JournalFault::Full);
     }
-    Journal::scan(alloc, disk, &PLACES, generation)
+    Journal::scan(alloc, disk, &PLACES, Version::One, generation)
 }
 
 /// Whether the steps count from this one on.
@@ -191,7 +191,11 @@ fn write_all<D: Disk>(
 /// Writes what was scanned of generation 1 in a generation 2.
 fn write_again<D: Disk>(alloc: Global, disk: &mut D) -> Result<bool, JournalFault> {
     let records = scan(alloc, disk, 1)?;
-    write_all(&mut Journal::fresh(alloc, 2), disk, records.as_slice())
+    write_all(
+        &mut Journal::fresh(alloc, Version::One, 2),
+        disk,
+        records.as_slice(),
+    )
 }
 
 /// A sector, the bytes at its front, and its stamp. Between them are zeros.
@@ -218,7 +222,7 @@ fn hold<D: Disk>(disk: &mut D, wants: &[Sector]) -> bool {
 }
 
 fn are_bytes_so<D: Disk>(alloc: Global, disk: &mut D) -> Result<bool, JournalFault> {
-    let is_room_so = write_twice(alloc, &mut Journal::fresh(alloc, 1), disk)?;
+    let is_room_so = write_twice(alloc, &mut Journal::fresh(alloc, Version::One, 1), disk)?;
     let is_written_so = is_room_so && hold(disk, &WRITTEN);
     Ok(write_again(alloc, disk)? && is_written_so && hold(disk, &WRITTEN_AGAIN))
 }
@@ -283,7 +287,12 @@ fn write_and_scan<D: Disk>(
     generation: u64,
     lens: &[usize],
 ) -> Result<Option<usize>, JournalFault> {
-    append_and_write(alloc, &mut Journal::fresh(alloc, generation), disk, lens)?;
+    append_and_write(
+        alloc,
+        &mut Journal::fresh(alloc, Version::One, generation),
+        disk,
+        lens,
+    )?;
     scan_count(alloc, disk, generation)
 }
 
@@ -328,7 +337,12 @@ fn is_torn_so(alloc: Global, disk: &MemDisk) -> Result<bool, JournalFault> {
 
 fn keeps_its_first(alloc: Global, len: usize) -> Result<bool, JournalFault> {
     let mut disk = faulty_disk(alloc, Some(Place { call: 4, front: 0 }), None)?;
-    if is_stopped(alloc, &mut Journal::fresh(alloc, 1), &mut disk, len) {
+    if is_stopped(
+        alloc,
+        &mut Journal::fresh(alloc, Version::One, 1),
+        &mut disk,
+        len,
+    ) {
         is_torn_so(alloc, &disk.into_inner())
     } else {
         Ok(false)
@@ -410,7 +424,11 @@ fn is_stopped_so(alloc: Global, kept: &Kept, front: u16) -> Result<bool, Journal
         }),
         None,
     )?;
-    let acknowledged = run(alloc, &mut Journal::fresh(alloc, 1), &mut disk)?;
+    let acknowledged = run(
+        alloc,
+        &mut Journal::fresh(alloc, Version::One, 1),
+        &mut disk,
+    )?;
     let mut left = cut(alloc, &disk.into_inner(), &[])?;
     is_kept_so(alloc, &mut left, acknowledged, kept, front)
 }
@@ -424,7 +442,11 @@ fn is_failed_so(alloc: Global, kept: &Kept, front: u16) -> Result<bool, JournalF
             front,
         }),
     )?;
-    let acknowledged = run(alloc, &mut Journal::fresh(alloc, 1), &mut disk)?;
+    let acknowledged = run(
+        alloc,
+        &mut Journal::fresh(alloc, Version::One, 1),
+        &mut disk,
+    )?;
     is_kept_so(alloc, &mut disk.into_inner(), acknowledged, kept, front)
 }
 
@@ -467,7 +489,13 @@ fn is_written_by<D: Disk>(
 
 fn is_written_in(alloc: Global, len: usize, writes: u64) -> Result<bool, JournalFault> {
     let mut disk = faulty_disk(alloc, None, None)?;
-    is_written_by(alloc, &mut Journal::fresh(alloc, 1), &mut disk, len, writes)
+    is_written_by(
+        alloc,
+        &mut Journal::fresh(alloc, Version::One, 1),
+        &mut disk,
+        len,
+        writes,
+    )
 }
 
 static WRITES: [(usize, u64); 6] = [(0, 1), (483, 1), (484, 2), (977, 2), (978, 3), (3941, 8)];
@@ -495,7 +523,12 @@ fn are_written_before<D: Disk>(disk: &mut D, end: u64) -> bool {
 /// Whether a barrier of three sectors, stopped at this call, has written just those before `end`.
 fn rises_to(alloc: Global, call: u64, end: u64) -> Result<bool, JournalFault> {
     let mut disk = faulty_disk(alloc, Some(Place { call, front: 0 }), None)?;
-    match append_and_write(alloc, &mut Journal::fresh(alloc, 1), &mut disk, &[978]) {
+    match append_and_write(
+        alloc,
+        &mut Journal::fresh(alloc, Version::One, 1),
+        &mut disk,
+        &[978],
+    ) {
         Err(JournalFault::Disk(_)) => Ok(are_written_before(&mut disk.into_inner(), end)),
         Ok(()) => Ok(false),
         Err(fault) => Err(fault),
@@ -530,7 +563,7 @@ static LAST: [Last; 4] = [
 ];
 
 fn is_taken_so(alloc: Global, last: &Last) -> Result<bool, JournalFault> {
-    let mut journal = Journal::fresh(alloc, 1);
+    let mut journal = Journal::fresh(alloc, Version::One, 1);
     append_requests(alloc, &mut journal, last.0)?;
     Ok(journal.room(&PLACES) == last.1 && append_request(alloc, &mut journal, 9, last.2) == last.3)
 }
@@ -592,7 +625,12 @@ fn a_scan_ends_at_what_is_no_record(rt: HostRuntime) -> Result<(), JournalFault>
 /// A disk with two requests in two sectors of generation 1.
 fn with_two(alloc: Global) -> Result<MemDisk, JournalFault> {
     let mut disk = empty(alloc)?;
-    append_and_write(alloc, &mut Journal::fresh(alloc, 1), &mut disk, &[250; 2])?;
+    append_and_write(
+        alloc,
+        &mut Journal::fresh(alloc, Version::One, 1),
+        &mut disk,
+        &[250; 2],
+    )?;
     Ok(disk)
 }
 

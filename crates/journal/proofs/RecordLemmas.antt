@@ -30,21 +30,21 @@ module _ (v : Version) where
   -- ---- a whole record
 
   -- the bytes of its payload's length
-  abbrev length_field : Record → List ℕ
-  length_field r = bytes_of (length_bytes v) (length (payload_of r.answer))
+  abbrev spelled_length : Record → List ℕ
+  spelled_length r = bytes_of (length_bytes v) (length (payload_of r.answer))
 
-  length-field : (r : Record) → length (length_field r) ≡ length_bytes v
-  length-field r = length-bytes_of (length_bytes v) (length (payload_of r.answer))
+  length-spelled : (r : Record) → length (spelled_length r) ≡ length_bytes v
+  length-spelled r = length-bytes_of (length_bytes v) (length (payload_of r.answer))
 
   length-record : (r : Record) → length (record_bytes v r) ≡ record_head_bytes v
       + length (payload_of r.answer)
   length-record r =
-      let field = length-field r in
-      let behind = length-append (length_field r) (payload_of r.answer) in
+      let field = length-spelled r in
+      let behind = length-append (spelled_length r) (payload_of r.answer) in
       omega (arith, field, behind)
 
   number_read : (r : Record) → RecordFits v r
-      → number_of (length_field r) ≡ length (payload_of r.answer)
+      → number_of (spelled_length r) ≡ length (payload_of r.answer)
   number_read r fits =
       let le = fits.payload in
       let room = lengths_fit v in
@@ -52,15 +52,15 @@ module _ (v : Version) where
 
   -- what stands behind kind and step
   behind_step : (r : Record) (rest : List ℕ) → drop 9 (record_bytes v r ++ rest)
-      ≡ length_field r ++ (payload_of r.answer ++ rest)
-  behind_step r rest = append_assoc (length_field r) (payload_of r.answer) rest
+      ≡ spelled_length r ++ (payload_of r.answer ++ rest)
+  behind_step r rest = append_assoc (spelled_length r) (payload_of r.answer) rest
 
   length_read : (r : Record) (rest : List ℕ) → RecordFits v r
       → payload_length v (record_bytes v r ++ rest) ≡ length (payload_of r.answer)
   length_read r rest fits =
       ap (λ l. number_of (take (length_bytes v) l)) (behind_step r rest)
       ∙ ap (λ l. number_of l)
-      (take_at (length_field r) (payload_of r.answer ++ rest) (length_bytes v) (length-field r))
+      (take_at (spelled_length r) (payload_of r.answer ++ rest) (length_bytes v) (length-spelled r))
       ∙ number_read r fits
 
   -- what stands behind its head
@@ -69,7 +69,7 @@ module _ (v : Version) where
   behind_head r rest =
       sym (drop-drop (length_bytes v) 9 (record_bytes v r ++ rest))
       ∙ ap (λ l. drop (length_bytes v) l) (behind_step r rest)
-      ∙ drop_at (length_field r) (payload_of r.answer ++ rest) (length_bytes v) (length-field r)
+      ∙ drop_at (spelled_length r) (payload_of r.answer ++ rest) (length_bytes v) (length-spelled r)
 
   answer_read : (a : Answer) → length (payload_of a) ≤ (text_limit v) → ClockFits a
       → answer_of (text_limit v) (kind_number a) (payload_of a) ≡ Some a
@@ -129,7 +129,7 @@ module _ (v : Version) where
       ∙ ap (λ l. number_of l)
       (take-take (length_bytes v) (m - 9) (drop 9 (record_bytes v r)) (omega arith))
       ∙ ap (λ l. number_of l)
-      (take_at (length_field r) (payload_of r.answer) (length_bytes v) (length-field r))
+      (take_at (spelled_length r) (payload_of r.answer) (length_bytes v) (length-spelled r))
       ∙ number_read r fits
 
   pub cut_none : (r : Record) (m : ℕ) → RecordFits v r → m < length (record_bytes v r)

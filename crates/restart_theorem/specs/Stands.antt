@@ -5,7 +5,7 @@ use Rattle.wasm_syntax.specs.declared.types.FunctionType.{FunctionType}
 use Rattle.wasm_semantics.specs.Acceptance.{IsAccepted}
 use Rattle.wasm_semantics.specs.Validity.{AreFunctionTypes, module_context}
 use Rattle.wasi_abi.specs.rules.Configs.{Settings, AreSettingsWithinLimits}
-use Rattle.wasi_calls_rules.specs.declared.limits.TheConstants.{TEXT_BYTES}
+use Rattle.wasi_abi.specs.declared.version.Version.TheVariants.{One}
 use Rattle.machine.specs.rules.Offers.{offer}
 use Rattle.process_rules.specs.Processes.{ProcessState, HasLineNumbers}
 use Rattle.process_rules.specs.Runs.{Kept, Reaches}
@@ -54,7 +54,7 @@ pub record StandsFor (disk : Image) (m : Module) (config : Settings) (kept : Lis
   pub shown : SavedShowsProcess (module_context m functions) reached.guest.program table saved
       process
   pub records : List Record
-  pub scanned : scan (geometry_of config (length wasm)) TEXT_BYTES disk generation ≡ records
+  pub scanned : scan (geometry_of config (length wasm)) One disk generation ≡ records
   pub rest : kept ≡ front ++ map given_in records
   pub last : ProcessState
   pub recorded : Recorded reached.guest process records last

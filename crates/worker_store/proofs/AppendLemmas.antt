@@ -4,7 +4,7 @@ use Rattle.std.proofs.Common.{inr}
 use Rattle.std.specs.Prelude.{◌↔◌, Result, Err}
 use Rattle.std.proofs.lemmas.Bool.{cases_lt, false_from_ne_true}
 use Rattle.sector_disk.specs.declared.fault.DiskFault.{DiskFault}
-use Rattle.disk_layout.specs.declared.record.TheConstants.{LONGEST_PAYLOAD}
+use Rattle.wasi_abi.specs.rules.Versions.{text_limit}
 use Rattle.disk_layout.specs.rules.Journal.{Record, record_bytes, payload_of}
 use Rattle.journal.specs.declared.fault.JournalFault.{JournalFault}
 use Rattle.journal.specs.declared.fault.JournalFault.TheVariants as journal
@@ -29,31 +29,34 @@ module _ (store : WorkerStore) (r : Record) where
       ↔ (store.journal.has_failed ≡ true))
       → ((refusal journal.Memory ≡ refusal journal.TooLong)
       ↔ ((store.journal.has_failed ≡ false)
-      × (LONGEST_PAYLOAD < length (payload_of r.answer))))
+      × (text_limit store.journal.version < length (payload_of r.answer))))
       → ((refusal journal.Memory ≡ refusal journal.Full)
-      ↔ ((store.journal.has_failed ≡ false) × (length (payload_of r.answer) ≤ LONGEST_PAYLOAD)
-      × (room_of store.geometry store.journal < length (record_bytes r))))
-      → (length (payload_of r.answer) ≤ LONGEST_PAYLOAD)
-      × (length (record_bytes r) ≤ room_of store.geometry store.journal)
+      ↔ ((store.journal.has_failed ≡ false)
+      × (length (payload_of r.answer) ≤ text_limit store.journal.version)
+      × (room_of store.geometry store.journal < length (record_bytes store.journal.version r))))
+      → (length (payload_of r.answer) ≤ text_limit store.journal.version)
+      × (length (record_bytes store.journal.version r) ≤ room_of store.geometry store.journal)
   fits_but failed too_long full =
       let works : store.journal.has_failed ≡ false =
       false_from_ne_true store.journal.has_failed
       (λ is. subst WantsMemory (failed.1 is) tt) in
-      let short : length (payload_of r.answer) ≤ LONGEST_PAYLOAD =
+      let short : length (payload_of r.answer) ≤ text_limit store.journal.version =
       ⊎_elim (λ long. absurd (subst WantsMemory (too_long.1 (works, long)) tt)) (λ le. le)
-      (cases_lt LONGEST_PAYLOAD (length (payload_of r.answer))) in
-      let room : length (record_bytes r) ≤ room_of store.geometry store.journal =
+      (cases_lt (text_limit store.journal.version) (length (payload_of r.answer))) in
+      let room : length (record_bytes store.journal.version r)
+      ≤ room_of store.geometry store.journal =
       ⊎_elim (λ more. absurd (subst WantsMemory (full.1 (works, short, more)) tt)) (λ le. le)
-      (cases_lt (room_of store.geometry store.journal) (length (record_bytes r))) in
+      (cases_lt (room_of store.geometry store.journal)
+      (length (record_bytes store.journal.version r))) in
       (short, room)
 
   pub append_fails : (fault : JournalFault) (e : StoreFault) → e ≡ fault_of_journal fault
       → ((refusal fault ≡ refusal journal.Failed) ↔ (store.journal.has_failed ≡ true))
       → ((refusal fault ≡ refusal journal.TooLong) ↔ ((store.journal.has_failed ≡ false)
-      × (LONGEST_PAYLOAD < length (payload_of r.answer))))
+      × (text_limit store.journal.version < length (payload_of r.answer))))
       → ((refusal fault ≡ refusal journal.Full) ↔ ((store.journal.has_failed ≡ false)
-      × (length (payload_of r.answer) ≤ LONGEST_PAYLOAD)
-      × (room_of store.geometry store.journal < length (record_bytes r))))
+      × (length (payload_of r.answer) ≤ text_limit store.journal.version)
+      × (room_of store.geometry store.journal < length (record_bytes store.journal.version r))))
       → ((disk : DiskFault) → refusal fault ≡ refusal (journal.Disk disk) → ⊥)
       → AppendFails store r e
   append_fails journal.Full e same failed too_long full no_disk =

@@ -5,6 +5,7 @@ use Rattle.std.proofs.Common.{subst, inl, arith, append_assoc, false}
 use Rattle.std.specs.Prelude.{Result, Ok}
 use Rattle.sha2.specs.Sha256.{sha256}
 use Rattle.wasm_syntax.specs.declared.module.Module.{Module}
+use Rattle.wasi_abi.specs.declared.version.Version.TheVariants.{One}
 use Rattle.wasi_abi.specs.rules.Configs.{Settings}
 use Rattle.process.specs.rules.Values.{ProcessValue}
 use Rattle.sector_disk.specs.declared.disk_call.DiskCall.{DiskCall}
@@ -184,7 +185,7 @@ module _ (geometry : Geometry) (count : ℕ) where
 
 pub first_stored : {D : Type 0} (medium : D → Medium) (settings : Settings) (wasm : List ℕ)
     (process : ProcessValue) (store : WorkerStore) (new : D) → store.has_failed ≡ false
-    → store.geometry ≡ geometry_of settings (length wasm) → store.journal ≡ state 1 0 [] false
+    → store.geometry ≡ geometry_of settings (length wasm) → store.journal ≡ state One 1 0 [] false
     → total_sectors store.geometry ≤ (medium new).sectors
     → IsAllSynced (medium new)
     → ((m : Module) (point : Savepoint m settings) → IsFirstPoint wasm process point

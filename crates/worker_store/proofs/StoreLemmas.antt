@@ -17,6 +17,7 @@ use Rattle.state_image.specs.rules.Image.{image}
 use Rattle.state_image.specs.rules.Saving.{saved_of}
 use Rattle.disk_layout.specs.rules.Places.{geometry_of}
 use Rattle.wasm_syntax.specs.declared.module.Module.{Module}
+use Rattle.wasi_abi.specs.declared.version.Version.TheVariants.{One}
 use Rattle.wasi_abi.specs.rules.Configs.{Settings}
 use Rattle.restart_theorem.specs.Stands.{IsNumbered}
 use Rattle.worker_store.specs.laws.Commits.{BeginsAtPoint}
@@ -41,7 +42,7 @@ module _ {D : Type 0} (medium : D → Medium) where
   append_stores m config point store records pending last now asks next a n disk is runs moves fits
       numbers room =
       let r : Record = record { step = next.steps; answer = a } in
-      let more = length-append store.journal.kept (record_bytes r) in
+      let more = length-append store.journal.kept (record_bytes store.journal.version r) in
       let many = ap (λ (g : Geometry). g.journal_sectors) is.geometry in
       record {
         works = is.works;
@@ -49,9 +50,9 @@ module _ {D : Type 0} (medium : D → Medium) where
         geometry = is.geometry;
         journaled =
             append_goes_on medium m config point store.journal
-            (state store.journal.generation store.journal.used
-            (store.journal.kept ++ record_bytes r) false) records pending last now asks next a n
-            disk is.journaled runs moves fits numbers refl;
+            (state store.journal.version store.journal.generation store.journal.used
+            (store.journal.kept ++ record_bytes store.journal.version r) false) records pending
+            last now asks next a n disk is.journaled runs moves fits numbers refl;
         fits = omega (arith, more, many, room, is.fits);
         sectors = is.sectors;
         settled = is.settled;
@@ -61,11 +62,11 @@ module _ {D : Type 0} (medium : D → Medium) where
   -- what a barrier leaves, and what it leaves after Ok
   module _ (before : WorkerStore) (old new : D)
       (leaves : (records kept : List Record)
-      → IsOn before.geometry before.journal.generation before.journal.used before.journal.kept
-      records kept (medium old).may_leave
+      → IsOn before.geometry before.journal.version before.journal.generation before.journal.used
+      before.journal.kept records kept (medium old).may_leave
       → LeavesOnly (medium old) (medium new)
-      (After (AppendsFront before.geometry before.journal.generation before.journal.used records
-      kept) (medium old).may_leave)) where
+      (After (AppendsFront before.geometry before.journal.version before.journal.generation
+      before.journal.used records kept) (medium old).may_leave)) where
     pub barrier_leaves : LeavesFronts before (medium old) (medium new)
     barrier_leaves m config point records pending last now is =
         let journal = before.journal in
@@ -73,20 +74,22 @@ module _ {D : Type 0} (medium : D → Medium) where
         barrier_at_any_moment medium m config point journal records pending last now old new
         journaled
         (subst (λ (g : Geometry). LeavesOnly (medium old) (medium new)
-        (After (AppendsFront g journal.generation journal.used records pending)
+        (After (AppendsFront g journal.version journal.generation journal.used records
+        pending)
         (medium old).may_leave)) is.geometry
         (leaves records pending
-        (subst (λ (g : Geometry). IsOn g journal.generation journal.used journal.kept records
-        pending (medium old).may_leave) (sym is.geometry) journaled.on)))
+        (subst (λ (g : Geometry). IsOn g journal.version journal.generation journal.used
+        journal.kept records pending (medium old).may_leave) (sym is.geometry) journaled.on)))
 
     pub barrier_stores : (after : WorkerStore) (used : ℕ)
-        → after.journal ≡ state before.journal.generation used [] false
+        → after.journal ≡ state before.journal.version before.journal.generation used [] false
         → after.geometry ≡ before.geometry → after.has_failed ≡ false
         → ((records kept : List Record)
-        → IsOn before.geometry before.journal.generation before.journal.used before.journal.kept
-        records kept (medium old).may_leave → (image : Image) → (medium new).may_leave image
-        → RecordsStand before.geometry after.journal.generation after.journal.used
-        (records ++ kept) image)
+        → IsOn before.geometry before.journal.version before.journal.generation
+        before.journal.used before.journal.kept records kept (medium old).may_leave
+        → (image : Image) → (medium new).may_leave image
+        → RecordsStand before.geometry after.journal.version after.journal.generation
+        after.journal.used (records ++ kept) image)
         → (length before.journal.kept ≡ 0) ⊎ IsAllSynced (medium new)
         → (length before.journal.kept ≡ 0 → new ≡ old)
         → StoresAll before after (medium old) (medium new)
@@ -94,10 +97,10 @@ module _ {D : Type 0} (medium : D → Medium) where
         now is =
         let journal = before.journal in
         let journaled = is.journaled in
-        let on : IsOn before.geometry journal.generation journal.used journal.kept records pending
-        (medium old).may_leave =
-        subst (λ (g : Geometry). IsOn g journal.generation journal.used journal.kept records
-        pending (medium old).may_leave) (sym is.geometry) journaled.on in
+        let on : IsOn before.geometry journal.version journal.generation journal.used journal.kept
+        records pending (medium old).may_leave =
+        subst (λ (g : Geometry). IsOn g journal.version journal.generation journal.used
+        journal.kept records pending (medium old).may_leave) (sym is.geometry) journaled.on in
         let all = leaves records pending on in
         let p = all.passes in
         let none = ap (λ (j : JournalState). length j.kept) e in
@@ -109,11 +112,13 @@ module _ {D : Type 0} (medium : D → Medium) where
               barrier_in_the_end medium m config point journal after.journal records pending last
               now used old new journaled
               (subst (λ (g : Geometry). LeavesOnly (medium old) (medium new)
-              (After (AppendsFront g journal.generation journal.used records pending)
+              (After (AppendsFront g journal.version journal.generation journal.used records
+              pending)
               (medium old).may_leave)) is.geometry all) e
               (subst (λ (g : Geometry). (image : Image) → (medium new).may_leave image
-              → RecordsStand g after.journal.generation after.journal.used (records ++ pending)
-              image) is.geometry (durable records pending on));
+              → RecordsStand g after.journal.version after.journal.generation
+              after.journal.used (records ++ pending) image) is.geometry
+              (durable records pending on));
           fits = omega (arith, none);
           sectors = let s = is.sectors in omega (arith, s, p.sectors);
           settled = ⊎_elim (λ quiet_one. subst (λ (d : D). IsAllSynced (medium d))
@@ -125,15 +130,15 @@ module _ {D : Type 0} (medium : D → Medium) where
   pub begun_stored : (m : Module) (config : Settings) (point : Savepoint m config)
       (store : WorkerStore)
       (new : D) (g : ℕ) → g ≡ point.generation → g < 2 ^ 63 → store.has_failed ≡ false
-      → store.geometry ≡ places point → store.journal ≡ state g 0 [] false
+      → store.geometry ≡ places point → store.journal ≡ state One g 0 [] false
       → total_sectors store.geometry ≤ (medium new).sectors → IsAllSynced (medium new)
       → LeavesAll (medium new) (BeginsAtPoint point) → IsNumbered point.process
       → IsStoreOf point store [] [] point.process point.process (medium new)
   begun_stored m config point store new g numbered early works placed e sectors settled begins
       numbers =
       let below : point.generation < 2 ^ 63 = subst (λ k. k < 2 ^ 63) numbered early in
-      let fresh : store.journal ≡ state point.generation 0 [] false =
-      e ∙ ap (λ k. state k 0 [] false) numbered in
+      let fresh : store.journal ≡ state One point.generation 0 [] false =
+      e ∙ ap (λ k. state One k 0 [] false) numbered in
       let none = ap (λ (j : JournalState). length j.kept) e in
       record {
         works = works;
@@ -172,7 +177,7 @@ module _ {D : Type 0} (medium : D → Medium) where
         (After (Commits before.geometry n IMAGE_VERSION (image s))
         (medium old).may_leave)) (sym saved) leaves)))
 
-    pub commit_stores : (after : WorkerStore) → after.journal ≡ state n 0 [] false
+    pub commit_stores : (after : WorkerStore) → after.journal ≡ state One n 0 [] false
         → after.geometry ≡ before.geometry → after.has_failed ≡ false
         → (medium new).sectors ≡ (medium old).sectors
         → Follows (Replaces before.geometry n IMAGE_VERSION (image (saved_of process)))
@@ -237,7 +242,7 @@ module _ {D : Type 0} (medium : D → Medium) where
         (After (Commits geometry g IMAGE_VERSION (image s)) (medium old).may_leave))
         (sym again.saved) leaves)))
 
-    pub reopening_stores : (store : WorkerStore) → store.journal ≡ state g 0 [] false
+    pub reopening_stores : (store : WorkerStore) → store.journal ≡ state One g 0 [] false
         → store.geometry ≡ geometry → store.has_failed ≡ false
         → total_sectors geometry ≤ (medium new).sectors
         → Follows (Replaces geometry g IMAGE_VERSION (image (saved_of process)))

@@ -28,7 +28,7 @@ use process::Process;
 use sector_disk::Disk;
 use snapshot::Writing;
 use std::alloc::Global;
-use wasi_abi::Config;
+use wasi_abi::{Config, Version};
 
 /// Lays a disk out for a worker of this configuration and the bytes of this module, that begins as
 /// this process. A disk with too few sectors is refused before anything is written, and so is want
@@ -83,7 +83,7 @@ pub fn lay_out<D: Disk>(
     lay_worker(disk, &geometry, config.as_slice(), wasm, process)?;
     Ok(WorkerStore {
         geometry,
-        journal: Journal::fresh(alloc, 1),
+        journal: Journal::fresh(alloc, Version::One, 1),
         has_failed: false,
     })
 }

@@ -16,6 +16,7 @@ use journal::Journal;
 use sector_disk::Disk;
 use snapshot::{Snapshot, SnapshotFault, Snapshots};
 use std::alloc::Global;
+use wasi_abi::Version;
 
 /// The configuration and the module of the worker on a disk, and where its things lie. A disk
 /// without one is a `Layout` fault.
@@ -94,7 +95,7 @@ pub fn read_records<D: Disk>(
     ensures cause { IfErr result (HasReadCause (D.medium disk.old) (D.medium disk.new)) }
     ensures asks { CallsUpTo geometry.now.journal_sectors (D.medium disk.old) (D.medium disk.new) }
 {
-    match Journal::scan(alloc, disk, geometry, generation) {
+    match Journal::scan(alloc, disk, geometry, Version::One, generation) {
         Ok(records) => Ok(records),
         Err(fault) => Err(ReadFault::from(fault)),
     }

@@ -8,6 +8,7 @@ use process::Process;
 use sector_disk::Disk;
 use snapshot::Writing;
 use std::alloc::Global;
+use wasi_abi::Version;
 
 /// Where a worker's records and snapshots go. It keeps no disk: each call that touches one is
 /// handed it. After an error each call answers `Failed`, and touches neither disk nor store.
@@ -21,6 +22,7 @@ pub struct WorkerStore {
 impl WorkerStore {
     ghost use Rattle.std.specs.Prelude.{◌≡◌, ◌⊎◌, ◌+◌, ◌-◌, ◌<◌, ◌≤◌, [], false, true, IfErr, IfOk};
     ghost use Rattle.std.specs.Prelude.{OnErr, OnOk, length};
+    ghost use Rattle.wasi_abi.specs.declared.version.Version.TheVariants.{One};
     ghost use Rattle.disk_layout.specs.rules.Journal.{record_bytes};
     ghost use Rattle.disk_layout.specs.rules.Places.{total_sectors};
     ghost use Rattle.sector_disk.specs.rules.Image.{Image};
@@ -83,7 +85,7 @@ impl WorkerStore {
         }
         Ok(WorkerStore {
             geometry: *geometry,
-            journal: Journal::fresh(alloc, generation),
+            journal: Journal::fresh(alloc, Version::One, generation),
             has_failed: false,
         })
     }
@@ -102,12 +104,12 @@ impl WorkerStore {
         self.journal.room(&self.geometry)
     }
 
-    /// Keeps a record in memory, until the next barrier. A payload of more than `LONGEST_PAYLOAD`
-    /// bytes is `TooLong`; then a record longer than the room that is left is `Full`.
+    /// Keeps a record in memory, until the next barrier. A payload over the limit of the
+    /// version is `TooLong`; then a record longer than the room that is left is `Full`.
     pub fn append(&mut self, entry: &Record) -> Result<(), StoreFault>
         ensures appended { OnOk result (self.new ≡ with_record self.old entry.now) }
-        ensures fits { OnOk result (RecordFits entry.now) }
-        ensures room { OnOk result (length (record_bytes entry.now)
+        ensures fits { OnOk result (RecordFits self.old.journal.version entry.now) }
+        ensures room { OnOk result (length (record_bytes self.old.journal.version entry.now)
             ≤ room_of self.old.geometry self.old.journal) }
         ensures cause { IfErr result (λ e. AppendFails self.old entry.now e) }
         ensures stays { IsOfStore self.old self.new }
@@ -207,7 +209,7 @@ impl WorkerStore {
         ensures numbered { OnOk result
             (self.new.journal.generation ≡ self.old.journal.generation + 1) }
         ensures fresh { OnOk result
-            (self.new.journal ≡ state self.new.journal.generation 0 [] false) }
+            (self.new.journal ≡ state One self.new.journal.generation 0 [] false) }
         ensures begun { OnOk result (self.new
             ≡ begun_store self.old.geometry (self.old.journal.generation + 1)) }
         ensures unchanged { OnErr result (self.new.journal ≡ self.old.journal) }
@@ -232,7 +234,7 @@ impl WorkerStore {
             self.has_failed = true;
             return Err(StoreFault::from(fault));
         }
-        self.journal = Journal::fresh(alloc, next);
+        self.journal = Journal::fresh(alloc, Version::One, next);
         Ok(())
     }
 }

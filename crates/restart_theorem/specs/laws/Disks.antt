@@ -3,6 +3,8 @@ use Rattle.std.specs.Prelude.{◌≡◌, ℕ, ◌+◌, ◌-◌, ◌^◌, ◌<◌
 use Rattle.std.specs.Prelude.{replicate, take}
 use Rattle.wasm_syntax.specs.declared.module.Module.{Module}
 use Rattle.wasm_syntax.specs.rules.Modules.{IsModule}
+use Rattle.wasi_abi.specs.declared.version.Version.TheVariants.{One}
+use Rattle.wasi_abi.specs.rules.Versions.{text_limit}
 use Rattle.wasi_calls_rules.specs.declared.limits.TheConstants.{TEXT_BYTES}
 use Rattle.state_image.specs.rules.Image.{image}
 use Rattle.wasi_abi.specs.rules.Configs.{Settings}
@@ -17,7 +19,6 @@ use Rattle.restart_theorem.specs.Stands.{ShowsNoneLater, IsNumbered, StandsFor, 
 use Rattle.restart_theorem.specs.Holds.{IsBounded}
 use Rattle.sector_disk.specs.declared.sector.TheConstants.{SECTOR_SIZE}
 use Rattle.disk_layout.specs.declared.head.TheConstants.{IMAGE_VERSION}
-use Rattle.disk_layout.specs.declared.record.TheConstants.{LONGEST_PAYLOAD}
 use Rattle.disk_layout.specs.declared.superblock.TheConstants.{END_MARK_AT}
 
 -- A disk stands only for what the module reaches on all the kept answers, in so many steps.
@@ -101,8 +102,8 @@ abbrev pub BlankIsWithin : Type 0
 BlankIsWithin = (disk : Image) (latest sectors : ℕ) → IsBlank disk → IsBounded latest sectors disk
 
 -- What a disk stands by, with its numbers. It is the module that its bytes spell, at most 2 MiB of
--- them, an image of version 1, and records of at most 4,096 bytes each. The kept answers are those
--- of the image and of these. A worker has between 1 and 256 pages, and fewer than 2 ^ 63 steps.
+-- them, and an image and records of version 1. The kept answers are those of the image and of the
+-- records. A worker has between 1 and 256 pages, and fewer than 2 ^ 63 steps.
 pub record StandsBy (disk : Image) (m : Module) (config : Settings) (kept : List Kept) (n : ℕ)
     (stands : StandsFor disk m config kept n) : Type 0 where
   pub spelled : IsModule stands.wasm m
@@ -112,7 +113,7 @@ pub record StandsBy (disk : Image) (m : Module) (config : Settings) (kept : List
   pub image : HoldsImage (geometry_of config (length stands.wasm)) disk stands.generation 1
       (image stands.saved)
   pub records : stands.records
-      ≡ scan (geometry_of config (length stands.wasm)) 4096 disk stands.generation
+      ≡ scan (geometry_of config (length stands.wasm)) One disk stands.generation
   pub kept_answers : kept ≡ stands.front ++ map given_in stands.records
   pub steps : n < 2 ^ 63
 
@@ -145,7 +146,7 @@ torn_super = take END_MARK_AT (super_bytes tiny (replicate 32 0)) ++ replicate 8
 
 pub record DiskExamples : Type 0 where
   -- the longest payload of a record is the longest text of a request
-  pub longest_payload : LONGEST_PAYLOAD ≡ TEXT_BYTES
+  pub longest_payload : text_limit One ≡ TEXT_BYTES
   pub none_later : ShowsNoneLater tiny (tiny_disk 2 3 3) 3
   pub first_head_later : ShowsNoneLater tiny (tiny_disk 4 3 3) 3 → ⊥
   pub second_head_later : ShowsNoneLater tiny (tiny_disk 2 5 3) 3 → ⊥

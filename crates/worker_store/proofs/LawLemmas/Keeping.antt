@@ -4,10 +4,13 @@ use Rattle.std.proofs.Common.{subst}
 use Rattle.std.proofs.lemmas.List.{append-nil}
 use Rattle.std.proofs.lemmas.Grind.{flat_map-append}
 use Rattle.sector_disk.specs.rules.Medium.{Medium}
+use Rattle.wasi_abi.specs.declared.version.Version.{Version}
+use Rattle.wasi_abi.specs.declared.version.Version.TheVariants.{One}
 use Rattle.disk_layout.specs.rules.Places.{Geometry}
 use Rattle.disk_layout.specs.rules.Journal.{Record, record_bytes}
 use Rattle.journal.specs.rules.State.{JournalState}
-use Rattle.journal.specs.rules.Steps.{AppendsFront, RecordsStand, RecordFits, records_bytes, IsOn}
+use Rattle.journal.specs.rules.Steps.{AppendsFront, RecordsStand, RecordFits, AllRecordsFit}
+use Rattle.journal.specs.rules.Steps.{records_bytes, IsOn}
 use Rattle.record_replay.specs.rules.Records.{none}
 use Rattle.worker_store.specs.laws.Savepoints.{places}
 use Rattle.worker_store.specs.laws.Journaled.{BarrierAtAnyMoment, BarrierInTheEnd}
@@ -19,22 +22,25 @@ use Rattle.worker_store.proofs.LawLemmas.Passing.{step_at_any_moment, left_in_th
 
 -- ---- the bytes in memory
 
-one_more : (pending : List Record) (r : Record)
-    → records_bytes pending ++ record_bytes r ≡ records_bytes (pending ++ r ∷ [])
-one_more pending r = ap (λ l. records_bytes pending ++ l) (sym (append-nil (record_bytes r)))
-    ∙ sym (flat_map-append record_bytes pending (r ∷ []))
+one_more : (v : Version) (pending : List Record) (r : Record)
+    → records_bytes v pending ++ record_bytes v r ≡ records_bytes v (pending ++ r ∷ [])
+one_more v pending r =
+    ap (λ l. records_bytes v pending ++ l) (sym (append-nil (record_bytes v r)))
+    ∙ sym (flat_map-append (record_bytes v) pending (r ∷ []))
 
 appended_on : (geometry : Geometry) (journal : JournalState) (records pending : List Record)
     (r : Record) (disk : Medium)
-    → IsOn geometry journal.generation journal.used journal.kept records pending disk.may_leave
-    → RecordFits r
-    → IsOn geometry journal.generation journal.used (journal.kept ++ record_bytes r) records
-    (pending ++ r ∷ []) disk.may_leave
+    → IsOn geometry journal.version journal.generation journal.used journal.kept records pending
+    disk.may_leave
+    → RecordFits journal.version r
+    → IsOn geometry journal.version journal.generation journal.used
+    (journal.kept ++ record_bytes journal.version r) records (pending ++ r ∷ []) disk.may_leave
 appended_on geometry journal records pending r disk on fits = record {
   stands = on.stands;
-  spells = ap (λ l. l ++ record_bytes r) on.spells ∙ one_more pending r;
+  spells = ap (λ l. l ++ record_bytes journal.version r) on.spells
+      ∙ one_more journal.version pending r;
   fit = on.fit;
-  fit_kept = both_fit pending (r ∷ []) on.fit_kept (fits, tt);
+  fit_kept = both_fit journal.version pending (r ∷ []) on.fit_kept (fits, tt);
   generation = on.generation;
 }
 
@@ -45,30 +51,40 @@ module _ {D : Type 0} (medium : D → Medium) where
       (λ a b at appends.
       barrier_leaves_front m config point records pending last now journal.used a b at
       is.recorded is.numbers
-      (subst (λ g. AppendsFront (places point) g journal.used records pending a b)
-      is.generation appends)) leaves
+      (subst (λ g. AppendsFront (places point) One g journal.used records pending a b)
+      is.generation
+      (subst (λ v. AppendsFront (places point) v journal.generation journal.used records pending a
+      b) is.version appends))) leaves
 
   pub barrier_in_the_end : BarrierInTheEnd medium
   barrier_in_the_end m config point before after records pending last now used old new is leaves
       e stand =
       let same : after.generation ≡ before.generation =
       ap (λ (j : JournalState). j.generation) e in
+      let version : after.version ≡ before.version = ap (λ (j : JournalState). j.version) e in
       let on = is.on in
       record {
+        version = version ∙ is.version;
         generation = same ∙ is.generation;
         stands = λ image left.
             let step = left_in_the_end (medium old) (medium new) _ leaves image left in
             barrier_leaves_all m config point records pending last now before.used after.used
             step.0 image (is.stands step.0 step.1) is.recorded is.numbers
-            (subst (λ g. AppendsFront (places point) g before.used records pending step.0 image)
-            is.generation step.2)
-            on.fit on.fit_kept
-            (subst (λ g. RecordsStand (places point) g after.used (records ++ pending) image)
-            (same ∙ is.generation) (stand image left));
+            (subst (λ g. AppendsFront (places point) One g before.used records pending step.0 image)
+            is.generation
+            (subst (λ v. AppendsFront (places point) v before.generation before.used records
+            pending step.0 image) is.version step.2))
+            (subst (λ v. AllRecordsFit v records) is.version on.fit)
+            (subst (λ v. AllRecordsFit v pending) is.version on.fit_kept)
+            (subst (λ g. RecordsStand (places point) One g after.used (records ++ pending) image)
+            (same ∙ is.generation)
+            (subst (λ v. RecordsStand (places point) v after.generation after.used
+            (records ++ pending) image) (version ∙ is.version) (stand image left)));
         on = record {
           stands = stand;
           spells = ap (λ (j : JournalState). j.kept) e;
-          fit = both_fit records pending on.fit on.fit_kept;
+          fit = subst (λ v. AllRecordsFit v (records ++ pending)) (sym version)
+              (both_fit before.version records pending on.fit on.fit_kept);
           fit_kept = tt;
           generation = subst (λ g. g < 2 ^ 64) (sym same) on.generation;
         };
@@ -82,10 +98,11 @@ module _ {D : Type 0} (medium : D → Medium) where
       let r : Record = record { step = next.steps; answer = a } in
       let grown = appended_on (places point) before records pending r (medium disk) is.on fits in
       record {
+        version = ap (λ (j : JournalState). j.version) e ∙ is.version;
         generation = ap (λ (j : JournalState). j.generation) e ∙ is.generation;
         stands = is.stands;
         on = subst (λ (j : JournalState).
-            IsOn (places point) j.generation j.used j.kept records (pending ++ r ∷ [])
+            IsOn (places point) j.version j.generation j.used j.kept records (pending ++ r ∷ [])
             (medium disk).may_leave) (sym e) grown;
         recorded = recorded_once point.reached.guest last now asks next pending a n is.recorded
             runs moves;
@@ -96,6 +113,7 @@ module _ {D : Type 0} (medium : D → Medium) where
   stays_journaled m config point journal records pending last now old new is stays =
       let on = is.on in
       record {
+        version = is.version;
         generation = is.generation;
         stands = λ image left. is.stands image (stays image left);
         on = record {
@@ -111,6 +129,7 @@ module _ {D : Type 0} (medium : D → Medium) where
 
   pub begins_journaled : BeginsJournaled medium
   begins_journaled m config point disk begins below numbers = record {
+    version = refl;
     generation = refl;
     stands = λ image left. (let begun = begins image left in begun.at);
     on = record {

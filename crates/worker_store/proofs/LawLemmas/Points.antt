@@ -5,7 +5,7 @@ use Rattle.std.specs.Prelude.{map, take, length}
 use Rattle.std.proofs.lemmas.List.{append-nil}
 use Rattle.wasm_syntax.specs.declared.module.Module.{Module}
 use Rattle.wasi_abi.specs.rules.Configs.{Settings}
-use Rattle.wasi_calls_rules.specs.declared.limits.TheConstants.{TEXT_BYTES}
+use Rattle.wasi_abi.specs.declared.version.Version.TheVariants.{One}
 use Rattle.process_rules.specs.Processes.{ProcessState, Guest}
 use Rattle.process_rules.specs.Runs.{Kept}
 use Rattle.process_rules.proofs.Growing.{runs_count, start_counts}
@@ -139,8 +139,8 @@ read_alike_stands m config point other records last q disk found at there wasm g
     record {
       worker = subst (λ w. HasWorker config w found) wasm there.worker;
       holds = holds;
-      scanned = subst (λ g. scan (place point.wasm) TEXT_BYTES found g ≡ records) generation
-          (subst (λ w. scan (place w) TEXT_BYTES found other.generation ≡ records) wasm
+      scanned = subst (λ g. scan (place point.wasm) One found g ≡ records) generation
+          (subst (λ w. scan (place w) One found other.generation ≡ records) wasm
           there.scanned);
       recorded = at.recorded;
       numbers = at.numbers;

@@ -3,6 +3,7 @@ use Rattle.std.proofs.Common.{◌≡◌, ◌≢◌, ℕ, ◌+◌, ◌-◌, ◌*�
 use Rattle.std.proofs.Common.{sym, ap, ◌∙◌, subst, inl, inr, ⊎_elim, arith}
 use Rattle.sha2.specs.Sha256.{sha256}
 use Rattle.wasm_syntax.specs.declared.module.Module.{Module}
+use Rattle.wasi_abi.specs.declared.version.Version.TheVariants.{One}
 use Rattle.wasi_abi.specs.rules.Configs.{Settings}
 use Rattle.process_rules.specs.Processes.{ProcessState}
 use Rattle.state_image.specs.rules.Image.{image}
@@ -103,7 +104,7 @@ kept_point m config point records last old new at super contents journal keeps =
     record {
       worker = worker_stays config point.wasm old new super contents at.worker;
       holds = keeps.image point.generation IMAGE_VERSION (image point.saved) at.holds;
-      scanned = scan_stays (places point) old new point.generation _ (λ k below. journal k)
+      scanned = scan_stays (places point) old new point.generation One (λ k below. journal k)
           ∙ at.scanned;
       recorded = at.recorded;
       numbers = at.numbers;
@@ -128,7 +129,7 @@ filling_keeps_point m config point records last old new at fills =
 -- ---- where the new one is there
 
 pub no_records : (geometry : Geometry) (g : ℕ) (disk : Image) → ShowsEarlierThan geometry g disk
-    → RecordsStand geometry g 0 [] disk
+    → RecordsStand geometry One g 0 [] disk
 no_records geometry g disk earlier = record {
   within = omega arith;
   written = λ k below. absurd (omega (arith, below));

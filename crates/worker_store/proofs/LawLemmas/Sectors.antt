@@ -1,6 +1,7 @@
 -- What is read of an image, where the sectors that it is read of stay.
 use Rattle.std.proofs.Common.{◌≡◌, ℕ, ◌+◌, ◌-◌, ◌<◌, ◌≤◌, List, ◌++◌, length, take, sym, ap, ◌∙◌}
 use Rattle.std.proofs.Common.{subst, arith}
+use Rattle.wasi_abi.specs.declared.version.Version.{Version}
 use Rattle.wasi_abi.specs.rules.Configs.{Settings}
 use Rattle.sector_disk.specs.rules.Image.{Image, sector_at}
 use Rattle.disk_layout.specs.rules.Places.{Geometry, geometry_of, config_bytes, head_place}
@@ -74,11 +75,12 @@ image_below geometry old new g version bytes same holds =
 
 -- ---- the journal
 
-pub scan_stays : (geometry : Geometry) (old new : Image) (g limit : ℕ)
+pub scan_stays : (geometry : Geometry) (old new : Image) (g : ℕ)
+    (v : Version)
     → ((k : ℕ) → k < geometry.journal_sectors → SameSector old new (journal_place geometry + k))
-    → scan geometry limit new g ≡ scan geometry limit old g
-scan_stays geometry old new g limit same =
-    ap (λ l. records_at limit (length l) l)
+    → scan geometry v new g ≡ scan geometry v old g
+scan_stays geometry old new g v same =
+    ap (λ l. records_at v (length l) l)
     (payloads_same new old g (journal_place geometry) 1 geometry.journal_sectors same)
 
 -- ---- generations

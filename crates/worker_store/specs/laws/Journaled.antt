@@ -2,6 +2,7 @@
 use Rattle.std.specs.Prelude.{◌≡◌, ℕ, ◌^◌, ◌<◌, List, [], ◌∷◌, ◌++◌, false, Some}
 use Rattle.wasm_syntax.specs.declared.module.Module.{Module}
 use Rattle.wasi_abi.specs.declared.answer.Answer.{Answer}
+use Rattle.wasi_abi.specs.declared.version.Version.TheVariants.{One}
 use Rattle.wasi_abi.specs.rules.Configs.{Settings}
 use Rattle.process_rules.specs.Processes.{ProcessState}
 use Rattle.process_rules.specs.Runs.{Runs, Moves}
@@ -18,14 +19,15 @@ use Rattle.worker_store.specs.laws.Commits.{BeginsAtPoint}
 
 -- Whatever a cut leaves of the disk stands at this savepoint, with these records, which lead to
 -- the first process. The journal holds them, and in memory those behind them, which lead on to the
--- second process. Its numbers are below their ends.
+-- second process. Its numbers are below their ends. All records are of version 1 so far.
 pub record IsJournaled {m : Module} {config : Settings} (point : Savepoint m config)
     (journal : JournalState) (records pending : List Record) (last now : ProcessState)
     (disk : Medium) : Type 0 where
+  pub version : journal.version ≡ One
   pub generation : journal.generation ≡ point.generation
   pub stands : (image : Image) → disk.may_leave image → StandsAtPoint point records last image
-  pub on : IsOn (places point) journal.generation journal.used journal.kept records pending
-      disk.may_leave
+  pub on : IsOn (places point) journal.version journal.generation journal.used journal.kept records
+      pending disk.may_leave
   pub recorded : Recorded point.reached.guest last pending now
   pub numbers : IsNumbered now
 
@@ -36,7 +38,8 @@ BarrierAtAnyMoment {D} medium =
     (records pending : List Record) (last now : ProcessState) (old new : D)
     → IsJournaled point journal records pending last now (medium old)
     → LeavesOnly (medium old) (medium new)
-    (After (AppendsFront (places point) journal.generation journal.used records pending)
+    (After (AppendsFront (places point) journal.version journal.generation journal.used records
+    pending)
     (medium old).may_leave)
     → LeavesOnly (medium old) (medium new) (StandsAtFront point records last pending)
 
@@ -47,11 +50,13 @@ BarrierInTheEnd {D} medium =
     (records pending : List Record) (last now : ProcessState) (used : ℕ) (old new : D)
     → IsJournaled point before records pending last now (medium old)
     → LeavesOnly (medium old) (medium new)
-    (After (AppendsFront (places point) before.generation before.used records pending)
+    (After (AppendsFront (places point) before.version before.generation before.used records
+    pending)
     (medium old).may_leave)
-    → after ≡ state before.generation used [] false
+    → after ≡ state before.version before.generation used [] false
     → ((image : Image) → (medium new).may_leave image
-    → RecordsStand (places point) after.generation after.used (records ++ pending) image)
+    → RecordsStand (places point) after.version after.generation after.used (records ++ pending)
+    image)
     → IsJournaled point after (records ++ pending) [] now now (medium new)
 
 -- the record of an answer that a process has taken is appended
@@ -62,8 +67,9 @@ AppendGoesOn {D} medium =
     (disk : D) → (let r : Record = record { step = next.steps; answer = a } in
     IsJournaled point before records pending last now (medium disk)
     → Runs point.reached.guest now [] n asks → Moves point.reached.guest asks (Some a) next
-    → RecordFits r → IsNumbered next
-    → after ≡ state before.generation before.used (before.kept ++ record_bytes r) false
+    → RecordFits before.version r → IsNumbered next
+    → after ≡ state before.version before.generation before.used
+    (before.kept ++ record_bytes before.version r) false
     → IsJournaled point after records (pending ++ r ∷ []) last next (medium disk))
 
 -- where a cut leaves no other image than before
@@ -81,5 +87,5 @@ BeginsJournaled {D} medium =
     (m : Module) (config : Settings) (point : Savepoint m config) (disk : D)
     → ((image : Image) → (medium disk).may_leave image → BeginsAtPoint point image)
     → point.generation < 2 ^ 64 → IsNumbered point.process
-    → IsJournaled point (state point.generation 0 [] false) [] [] point.process point.process
+    → IsJournaled point (state One point.generation 0 [] false) [] [] point.process point.process
     (medium disk)

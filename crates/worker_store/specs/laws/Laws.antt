@@ -26,8 +26,8 @@ AppendStores {D} medium =
     (disk : D) → (let r : Record = record { step = next.steps; answer = a } in
     IsStoreOf point store records pending last now (medium disk)
     → Runs point.reached.guest now [] n asks → Moves point.reached.guest asks (Some a) next
-    → RecordFits r → IsNumbered next
-    → length (record_bytes r) ≤ room_of store.geometry store.journal
+    → RecordFits store.journal.version r → IsNumbered next
+    → length (record_bytes store.journal.version r) ≤ room_of store.geometry store.journal
     → IsStoreOf point (with_record store r) records (pending ++ r ∷ []) last next (medium disk))
 
 -- The image of a well-typed process fits into its area, whatever the module's length: no commit of

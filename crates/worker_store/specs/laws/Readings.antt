@@ -8,6 +8,7 @@ use Rattle.process_rules.specs.Processes.{ProcessState}
 use Rattle.state_image.specs.rules.Image.{image}
 use Rattle.sector_disk.specs.rules.Image.{Image}
 use Rattle.disk_layout.specs.rules.Places.{total_sectors}
+use Rattle.wasi_abi.specs.declared.version.Version.TheVariants.{One}
 use Rattle.disk_layout.specs.rules.Journal.{Record, scan}
 use Rattle.disk_layout.specs.rules.Held.{GivesContents}
 use Rattle.disk_layout.specs.laws.Reading.{IsOfTheDisk}
@@ -15,7 +16,6 @@ use Rattle.disk_layout.specs.declared.fault.LayoutFault.{LayoutFault}
 use Rattle.disk_layout.specs.declared.head.Head.{Head}
 use Rattle.disk_layout.specs.declared.head.TheConstants.{IMAGE_VERSION}
 use Rattle.disk_layout.specs.declared.reading.contents.Contents.{Contents}
-use Rattle.disk_layout.specs.declared.record.TheConstants.{LONGEST_PAYLOAD}
 use Rattle.snapshot.specs.declared.fault.SnapshotFault.TheVariants.{Damaged}
 use Rattle.snapshot.specs.declared.newest.Snapshot.{Snapshot}
 use Rattle.snapshot.specs.rules.Heads.{FindsHead}
@@ -76,4 +76,4 @@ abbrev pub ScansTheRecords : Type 0
 ScansTheRecords =
     (m : Module) (config : Settings) (point : Savepoint m config) (records : List Record)
     (last : ProcessState) (disk : Image) → StandsAtPoint point records last disk
-    → scan (places point) LONGEST_PAYLOAD disk point.generation ≡ records
+    → scan (places point) One disk point.generation ≡ records

@@ -5,7 +5,7 @@ use Rattle.wasm_syntax.specs.declared.types.FunctionType.{FunctionType}
 use Rattle.wasm_semantics.specs.Acceptance.{IsAccepted}
 use Rattle.wasm_semantics.specs.Validity.{AreFunctionTypes, module_context}
 use Rattle.wasi_abi.specs.rules.Configs.{Settings, AreSettingsWithinLimits}
-use Rattle.wasi_calls_rules.specs.declared.limits.TheConstants.{TEXT_BYTES}
+use Rattle.wasi_abi.specs.declared.version.Version.TheVariants.{One}
 use Rattle.machine.specs.rules.Offers.{offer}
 use Rattle.process_rules.specs.Processes.{ProcessState}
 use Rattle.process_rules.specs.Runs.{Kept, Reaches}
@@ -46,7 +46,7 @@ pub record StandsAtPoint {m : Module} {config : Settings} (point : Savepoint m c
     (records : List Record) (last : ProcessState) (disk : Image) : Type 0 where
   pub worker : HasWorker config point.wasm disk
   pub holds : HoldsImage (places point) disk point.generation IMAGE_VERSION (image point.saved)
-  pub scanned : scan (places point) TEXT_BYTES disk point.generation ≡ records
+  pub scanned : scan (places point) One disk point.generation ≡ records
   pub recorded : Recorded point.reached.guest point.process records last
   pub numbers : IsNumbered last
   pub none_later : ShowsNoneLater (places point) disk point.generation

@@ -8,8 +8,8 @@ use Rattle.disk_layout.specs.declared.geometry.Geometry.{Geometry}
 use Rattle.disk_layout.specs.declared.head.Head.{Head}
 use Rattle.disk_layout.specs.declared.head.TheConstants.{IMAGE_VERSION}
 use Rattle.disk_layout.specs.declared.reading.contents.Contents.{Contents}
-use Rattle.disk_layout.specs.declared.record.TheConstants.{LONGEST_PAYLOAD}
 use Rattle.disk_layout.specs.rules.Held.{GivesContents}
+use Rattle.wasi_abi.specs.declared.version.Version.TheVariants.{One}
 use Rattle.disk_layout.specs.rules.Journal.{Record, scan}
 use Rattle.disk_layout.specs.rules.Sectors.{IsNewest, HoldsImage}
 use Rattle.journal.specs.declared.fault.JournalFault.TheVariants as journal
@@ -62,7 +62,7 @@ TellsNewest geometry disk (Err other) = ⊥
 -- the records are those that stand there
 abbrev pub TellsRecords : Geometry → ℕ → Image → Result (Vec Record Global) ReadFault → Type 0
 TellsRecords geometry generation disk (Ok found) =
-    found.items ≡ scan geometry LONGEST_PAYLOAD disk generation
+    found.items ≡ scan geometry One disk generation
 TellsRecords geometry generation disk (Err (read.Journal journal.Memory)) = Unit {0}
 TellsRecords geometry generation disk (Err (read.Disk fault)) = Unit {0}
 TellsRecords geometry generation disk (Err other) = ⊥

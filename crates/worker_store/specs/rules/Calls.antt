@@ -9,7 +9,7 @@ use Rattle.state_image.specs.rules.Image.{image}
 use Rattle.state_image.specs.rules.Saving.{saved_of}
 use Rattle.sector_disk.specs.declared.sector.TheConstants.{SECTOR_SIZE}
 use Rattle.sector_disk.specs.rules.Medium.{Medium, LeavesOnly, spare}
-use Rattle.disk_layout.specs.declared.record.TheConstants.{LONGEST_PAYLOAD}
+use Rattle.wasi_abi.specs.rules.Versions.{text_limit}
 use Rattle.disk_layout.specs.rules.Journal.{Record, record_bytes, payload_of}
 use Rattle.journal.specs.rules.Packed.{sectors_for}
 use Rattle.journal.specs.rules.State.{room_of}
@@ -33,11 +33,11 @@ use Rattle.worker_store.specs.rules.Stores.{IsStoreOf}
 
 -- When each error of `append` comes. Where the record fits, want of memory is the only one.
 abbrev pub AppendFails : WorkerStore → Record → StoreFault → Type 0
-AppendFails store r Full = (length (payload_of r.answer) ≤ LONGEST_PAYLOAD)
-    × (room_of store.geometry store.journal < length (record_bytes r))
-AppendFails store r TooLong = LONGEST_PAYLOAD < length (payload_of r.answer)
-AppendFails store r Memory = (length (payload_of r.answer) ≤ LONGEST_PAYLOAD)
-    × (length (record_bytes r) ≤ room_of store.geometry store.journal)
+AppendFails store r Full = (length (payload_of r.answer) ≤ text_limit store.journal.version)
+    × (room_of store.geometry store.journal < length (record_bytes store.journal.version r))
+AppendFails store r TooLong = text_limit store.journal.version < length (payload_of r.answer)
+AppendFails store r Memory = (length (payload_of r.answer) ≤ text_limit store.journal.version)
+    × (length (record_bytes store.journal.version r) ≤ room_of store.geometry store.journal)
 AppendFails store r Failed = (store.has_failed ≡ true) ⊎ (store.journal.has_failed ≡ true)
 AppendFails store r other = ⊥
 

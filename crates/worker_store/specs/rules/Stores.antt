@@ -1,6 +1,7 @@
 -- The store of a worker on its disk (this project's own).
 use Rattle.std.specs.Prelude.{◌≡◌, ℕ, ◌+◌, ◌-◌, ◌*◌, ◌^◌, ◌<◌, ◌≤◌, List, [], ◌++◌, length, false}
 use Rattle.wasm_syntax.specs.declared.module.Module.{Module}
+use Rattle.wasi_abi.specs.declared.version.Version.TheVariants.{One}
 use Rattle.wasi_abi.specs.rules.Configs.{Settings}
 use Rattle.process_rules.specs.Processes.{ProcessState}
 use Rattle.sector_disk.specs.rules.Medium.{Medium, IsAllSynced}
@@ -31,25 +32,25 @@ pub record IsStoreOf {m : Module} {config : Settings} (point : Savepoint m confi
   pub settled : IsAllSynced disk
   pub early : point.generation < 2 ^ 63
 
--- where a generation begins: there is no record of it, and no call has failed
+-- where a generation begins, of version 1 so far: there is no record of it, and no call has failed
 abbrev pub begun_store : Geometry → ℕ → WorkerStore
 begun_store geometry g = record {
   geometry = geometry;
-  journal = state g 0 [] false;
+  journal = state One g 0 [] false;
   has_failed = false;
 }
 
 -- with one more record in memory
 abbrev pub with_record : WorkerStore → Record → WorkerStore
 with_record store r = record store {
-  journal = state store.journal.generation store.journal.used (store.journal.kept ++ record_bytes r)
-      false;
+  journal = state store.journal.version store.journal.generation store.journal.used
+      (store.journal.kept ++ record_bytes store.journal.version r) false;
 }
 
 -- with all records on the disk, in the next sectors of the journal
 abbrev pub with_stored : WorkerStore → WorkerStore
 with_stored store = record store {
-  journal = state store.journal.generation
+  journal = state store.journal.version store.journal.generation
       (store.journal.used + sectors_for (length store.journal.kept)) [] false;
 }
 
