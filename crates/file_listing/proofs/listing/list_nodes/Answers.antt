@@ -1,0 +1,19 @@
+use Rattle.std.proofs.Common.{List, Option, take, sym, ap, ◌++◌, ◌∙◌}
+use Rattle.std.specs.Prelude.{option_to_list}
+use Rattle.std.specs.List.{filter_map}
+use Rattle.file_listing.specs.declared.listed.ListedNode.{ListedNode}
+use Rattle.file_listing.specs.rules.Listed.{listed_of}
+use Rattle.file_listing.proofs.NodeLemmas.{place_found, listed_more}
+use Rattle.file_listing.proofs.listing.list_nodes.Goals as goal
+
+pub loop-place-preserved : goal.loop-place-preserved
+loop-place-preserved c =
+    let tree = c.args.tree.now in
+    let n = place_found tree c.loop-place.place c.unwrap-number.result c.len-count.ensures.shape
+    (sym c.number_at.ensures ∙ c.unwrap-number.ensures) in
+    c.in_ok-push_some.ensures
+    ∙ ap (λ (l : List ListedNode). l ++ option_to_list c.in_ok-node.node) c.loop-place.invariant
+    ∙ ap (λ (o : Option ListedNode).
+    filter_map listed_of (take c.loop-place.place tree.nodes) ++ option_to_list o)
+    (c.in_ok-node.ensures n.0 n.2 n.3)
+    ∙ listed_more tree.nodes c.loop-place.place n.0 n.1

@@ -1,0 +1,35 @@
+//! The files of a tree, listed by their paths (this project's own).
+//!
+//! # Promises
+//!
+//! - `list_nodes`: the nodes that have a path, but for the root, by rising numbers. Each has its
+//!   number, whether it is a directory, its size and its path (`listed`). A node that was removed
+//!   isn't among them, though a descriptor may name it still.
+//! - `read_path`: the bytes of the file that is listed under a path. Or it says that no node is
+//!   listed so, or that it is a directory (`reads`).
+//!
+//! # Definitions to read
+//!
+//! In `specs/rules/`: `path_text`, `listed`, `ReadsPath` (`Listed.antt`). They speak in the words of
+//! `file_tree`.
+//!
+//! # Who may touch what
+//!
+//! A tree is only asked. Both functions take memory, and want of it is the only error of the first
+//! one.
+//!
+//! # Choices
+//!
+//! - **A path is text as it is printed**: its names with a `/` between each two. No name has a `/`
+//!   in it, so a text is that of one path at most. The root has no name, so it isn't listed.
+#![tactic(auto)]
+
+mod fault;
+mod listed;
+mod listing;
+mod reading;
+
+pub use fault::PathFault;
+pub use listed::ListedNode;
+pub use listing::list_nodes;
+pub use reading::read_path;

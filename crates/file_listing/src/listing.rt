@@ -1,0 +1,77 @@
+//! The nodes of a tree, by their paths.
+
+ghost use Rattle.std.specs.Prelude.{◌≡◌, ◌++◌, IfOk, OnOk, Some, option_to_list};
+ghost use Rattle.file_tree.specs.rules.Changes.{path_at};
+ghost use Rattle.file_tree.specs.rules.Files.{FileNode, node_of};
+ghost use Rattle.file_listing.specs.rules.Listed.{path_text, listed_of, listed};
+ghost use Rattle.file_listing.specs.Separators.{separator_behind};
+
+use crate::listed::ListedNode;
+use file_tree::Tree;
+use std::alloc::{AllocError, Global};
+use wasm_syntax::Row;
+
+/// What stands between the path of a directory and a name in it: nothing behind the root.
+fn separator(tree: &Tree, directory: u64) -> &'static [u8]
+    ensures { result.now ≡ separator_behind (path_at tree.now directory) }
+{
+    match tree.parent(directory) {
+        Some(_) => b"/",
+        None => b"",
+    }
+}
+
+/// Puts the text of a node's path behind another one: nothing of the root.
+fn spell_path(tree: &Tree, number: u64, text: &mut Vec<u8>) -> Result<(), AllocError>
+    ensures { OnOk result (text.new.items ≡ text.old.items ++ path_text (path_at tree.now number)) }
+{
+    let Some(directory) = tree.parent(number) else {
+        return Ok(());
+    };
+    spell_path(tree, directory, text)?;
+    text.extend_from_slice(separator(tree, directory))?;
+    text.extend_from_slice(tree.name(number))
+}
+
+/// What is listed of a node: nothing of the root, and of one without a path.
+fn listed_node(alloc: Global, tree: &Tree, number: u64) -> Result<Option<ListedNode>, AllocError>
+    ensures { IfOk result (λ found. (n : FileNode) → node_of tree.now number ≡ Some n
+        → n.number ≡ number → found ≡ listed_of n) }
+{
+    let Some(_) = tree.parent(number) else {
+        return Ok(None);
+    };
+    let mut path = Vec::new(alloc);
+    spell_path(tree, number, &mut path)?;
+    Ok(Some(ListedNode {
+        number,
+        is_directory: tree.is_directory(number),
+        size: tree.size(number),
+        path: Row::from_vec(path),
+    }))
+}
+
+/// Puts a node behind others, where there is one.
+fn push_some(nodes: &mut Vec<ListedNode>, node: Option<ListedNode>) -> Result<(), AllocError>
+    ensures { OnOk result (nodes.new.items ≡ nodes.old.items ++ option_to_list node) }
+{
+    if let Some(node) = node {
+        nodes.push(node)?;
+    }
+    Ok(())
+}
+
+/// The nodes of a tree that have a path, but for the root, by rising numbers. Only want of memory
+/// makes it fail.
+pub fn list_nodes(alloc: Global, tree: &Tree) -> Result<Vec<ListedNode>, AllocError>
+    ensures { IfOk result (λ nodes. nodes.items ≡ listed tree.now) }
+{
+    let mut nodes = Vec::new(alloc);
+    let count = tree.len();
+    for place in 0..count {
+        let number = tree.number_at(place).unwrap();
+        let node = listed_node(alloc, tree, number)?;
+        push_some(&mut nodes, node)?;
+    }
+    Ok(nodes)
+}
