@@ -6,11 +6,12 @@ use thiserror::Error;
 #[derive(Clone, Copy, Debug, PartialEq, Eq, Error)]
 pub enum PathFault {
     /// No node is listed so.
-    #[error("missing")]
+    #[error("F1 Missing")]
     Missing,
     /// It is a directory.
-    #[error("directory")]
+    #[error("F2 Directory")]
     Directory,
-    #[error("memory")]
+    /// There is no memory for the list, or for the bytes.
+    #[error("F3 Memory")]
     Memory,
 }

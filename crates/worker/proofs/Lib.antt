@@ -28,3 +28,5 @@ mod FoundDiskLemmas
 mod ReleaseLemmas
 pub mod WantLemmas
 mod AnswerLemmas
+mod InspectionLemmas
+mod WishLemmas

@@ -10,3 +10,4 @@ pub mod Hearing
 pub mod LifeCalls
 pub mod Endings
 pub mod Going
+pub mod Inspecting

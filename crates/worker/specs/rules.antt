@@ -5,6 +5,7 @@ pub mod DurableCreations
 pub mod DurableFailures
 pub mod WorkFaults
 pub mod DurableValues
+pub mod Inspections
 pub mod LifeWords
 pub mod OpenWorkers
 pub mod Outlets
@@ -18,3 +19,4 @@ pub mod StoryDisks
 pub mod Surveys
 pub mod Told
 pub mod Unsynced
+pub mod Wishes

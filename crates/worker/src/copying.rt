@@ -42,7 +42,7 @@ fn copy_texts(alloc: Global, texts: &[Row<u8>]) -> Result<Row<Row<u8>>, AllocErr
 }
 
 /// The same text, in memory of its own.
-fn copy_text(alloc: Global, text: &[u8]) -> Result<Row<u8>, AllocError>
+pub(crate) fn copy_text(alloc: Global, text: &[u8]) -> Result<Row<u8>, AllocError>
     ensures copied { IfOk result (λ copy. copy ≡ text.now) }
     ensures bytes { IfOk result (λ _. AreBytes text.now) }
 {

@@ -54,7 +54,7 @@ pub(crate) fn find<D: Disk>(alloc: Global, disk: &mut D) -> Result<Found, Recove
 }
 
 /// The same, where configuration and module were read.
-fn find_linked<D: Disk>(
+pub(crate) fn find_linked<D: Disk>(
     alloc: Global,
     disk: &mut D,
     contents: Contents,

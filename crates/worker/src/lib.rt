@@ -26,6 +26,9 @@
 //! - `read_survey`: nothing is written. The disk is synced, and what it then shows decides the
 //!   result (`Surveys`). Where it stands for a worker, its generation and the numbers of the saved
 //!   process are told, and how many records lie behind it; or an error that says nothing of them.
+//! - `inspect`: nothing is written. The disk is synced, and what it then shows is told (`Inspects`):
+//!   configuration and module, the newest snapshot and the process that it has saved, what that
+//!   process waits for, and the records behind it. A disk is refused as by `read_survey`.
 //! - A recovery's error is that of the layer that has found it, under its own name
 //!   (`RecoverFault`). Want of memory may end a recovery anywhere, and then it says only what the
 //!   layers before have found (`shown`).
@@ -72,7 +75,7 @@
 //! `RecoveryCarries`, `Reopens`, `ReopensInVain`, `FindsNone`, `HasRecoveryCause`
 //! (`Recoveries.antt`); `RecoversAsShown`, `AnswersDisk`, `HoldsWorker`, `ShowsFault`, `FailsHeld`
 //! (`ShownDisks.antt`); `HeedsOutlet` (`Outlets.antt`); `Surveys`, `SurveysFrom`, `survey_of`
-//! (`Surveys.antt`);
+//! (`Surveys.antt`); `Inspects`, `IsInspected` (`Inspections.antt`); `TellsWish` (`Wishes.antt`);
 //! `SlicesOnDiskInVain`, `IsDiskCause`, `HasSliceCause` (`DurableFailures.antt`); `SliceCalls`
 //! (`SliceCalls.antt`); `CheckpointCalls`, `CheckpointFails`, `HasCheckpointCause`
 //! (`Checkpoints.antt`); `CountsInSlice`, `CountsInRecovery` (`Unsynced.antt`); `fault_of_store`
@@ -143,6 +146,8 @@ mod durable;
 mod fault;
 mod finding;
 mod found;
+mod inspecting;
+mod inspection;
 pub mod laws;
 mod recover_fault;
 mod recovering;
@@ -153,10 +158,13 @@ pub mod story;
 mod surveyed;
 mod surveying;
 mod turns;
+mod wish;
 
 pub use durable::Worker;
 pub use ephemeral_worker::SliceFault;
 pub use fault::WorkFault;
+pub use inspecting::inspect;
+pub use inspection::Inspection;
 pub use recover_fault::RecoverFault;
 pub use running::Running;
 pub use surveyed::Survey;

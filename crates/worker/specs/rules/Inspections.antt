@@ -1,0 +1,45 @@
+-- What is told of a worker's disk that is looked into (this project's own).
+use Rattle.std.specs.Prelude.{◌≡◌, ◌⊎◌, ℕ, ◌<◌, [], length, Result, Ok, Err}
+use Rattle.process.specs.rules.Values.{waiting_in}
+use Rattle.sector_disk.specs.declared.fault.DiskFault.{DiskFault}
+use Rattle.sector_disk.specs.rules.Image.{Image}
+use Rattle.sector_disk.specs.rules.Medium.{Medium}
+use Rattle.state_image.specs.rules.Image.{image}
+use Rattle.state_image.specs.rules.Saving.{saved_of}
+use Rattle.worker.specs.declared.fault.WorkFault.TheVariants.{Disk}
+use Rattle.worker.specs.declared.inspection.Inspection.{Inspection}
+use Rattle.worker.specs.declared.recover_fault.RecoverFault.{RecoverFault}
+use Rattle.worker.specs.declared.recover_fault.RecoverFault.TheVariants.{Worker}
+use Rattle.worker.specs.rules.Recoveries.{IsSettledBy, IsUnsettled}
+use Rattle.worker.specs.rules.ShownDisks.{HoldsWorker, ShowsFault}
+use Rattle.worker.specs.rules.Wishes.{TellsWish}
+
+-- What is told is what the image holds, by its newest head and by no other: configuration and
+-- module, the snapshot, the process that it has saved, and the records behind it.
+pub record IsInspected {sectors : ℕ} {disk : Image} (held : HoldsWorker sectors disk)
+    (told : Inspection) : Type 0 where
+  pub contents : told.contents ≡ held.holds.contents
+  pub generation : told.generation ≡ held.generation
+  pub image_bytes : told.image_bytes ≡ length (image held.saved)
+  pub module_is : told.process.machine.guest ≡ held.holds.module_is
+  pub saved : saved_of told.process ≡ held.saved
+  pub none_waits : waiting_in told.process ≡ []
+  pub wish : TellsWish told.process told.wish
+  pub records : told.records.items ≡ held.records
+
+-- That is told. An error says what is wrong with the image.
+abbrev pub InspectsDisk : ℕ → Image → Result Inspection RecoverFault → Type 0
+InspectsDisk sectors disk (Ok told) = (held : HoldsWorker sectors disk) × IsInspected held told
+InspectsDisk sectors disk (Err why) = ShowsFault sectors disk why
+
+-- a fault of the disk is told only where the disk has failed since
+abbrev pub BlamesDisk : Result Inspection RecoverFault → Medium → Medium → Type 0
+BlamesDisk result old new =
+    (fault : DiskFault) → result ≡ Err (Worker (Disk fault)) → old.faults < new.faults
+
+-- The disk couldn't be synced; or it was, and then it was only read. What it then shows is told.
+abbrev pub Inspects : Result Inspection RecoverFault → Medium → Medium → Type 0
+Inspects result old new =
+    IsUnsettled {O = Unit {0}} result old new tt tt
+    ⊎ (IsSettledBy old new × BlamesDisk result old new
+    × ((image : Image) → new.shows image → InspectsDisk old.sectors image result))

@@ -1,0 +1,20 @@
+//! What stands on a worker's disk, whole.
+
+use disk_layout::{Contents, Record};
+use process::Process;
+use wasi_abi::Kind;
+
+/// Configuration and module, and the newest snapshot: the process that it has saved, and the
+/// records behind it.
+#[derive(Drop)]
+pub struct Inspection {
+    pub contents: Contents,
+    pub generation: u64,
+    /// How many bytes the snapshot's image has.
+    pub image_bytes: u64,
+    /// The process as it was saved.
+    pub process: Process,
+    /// What its next step waits for.
+    pub wish: Option<Kind>,
+    pub records: Vec<Record>,
+}
