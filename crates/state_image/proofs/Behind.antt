@@ -2,7 +2,6 @@
 use Rattle.std.proofs.Common.{◌≡◌, ℕ, List, [], ◌++◌, sym, ap, ◌∙◌, append-nil}
 use Rattle.std.proofs.Common.{append_assoc}
 use Rattle.std.specs.Prelude.{Option}
-use Rattle.std.proofs.lemmas.List.{append_cancel_left}
 use Rattle.file_tree.specs.rules.Files.{Files}
 use Rattle.wasi_calls_rules.specs.Hosts.{Descriptor}
 use Rattle.state_image.specs.rules.Image.{Saved, Numbered, items_bytes, descriptor_bytes, open_from}

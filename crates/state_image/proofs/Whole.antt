@@ -2,7 +2,6 @@
 use Rattle.std.proofs.Common.{◌≡◌, ◌≢◌, ℕ, ◌+◌, ◌^◌, ◌<◌, ◌≤◌, Bool, List, [], ◌∷◌, ◌++◌, length}
 use Rattle.std.proofs.Common.{length-append, Option, Some, None, refl, sym, ap, subst, ◌∙◌, arith}
 use Rattle.std.specs.Prelude.{codes}
-use Rattle.std.proofs.lemmas.List.{append_cancel_left}
 use Rattle.wasm_syntax.specs.declared.module.Module.{Module}
 use Rattle.wasm_syntax.specs.declared.module.ExportItem.TheVariants as export
 use Rattle.wasm_semantics.specs.Validity.{module_context}
@@ -15,7 +14,7 @@ use Rattle.process_rules.specs.Processes.{Ending, HasLineNumbers}
 use Rattle.process_rules.proofs.OneStart.{entry_once, item_number}
 use Rattle.machine_slots.specs.rules.Places.{ShownFrame, MachineState}
 use Rattle.state_image.specs.rules.Image.{Saved, phase_of, ending_code, items_bytes}
-use Rattle.state_image.specs.rules.Image.{descriptor_bytes, open_from, image_mark, counts_bytes}
+use Rattle.state_image.specs.rules.Image.{descriptor_bytes, open_from, counts_bytes}
 use Rattle.state_image.specs.rules.Image.{phase_bytes, streams_bytes, machine_bytes, files_bytes}
 use Rattle.state_image.specs.rules.Image.{image}
 use Rattle.state_image.specs.rules.WellTyped.{EntryPoints, IsCalled, IsOutermost, IsAlive}
