@@ -22,7 +22,7 @@ use Rattle.disk_layout.specs.declared.fault.LayoutFault.TheVariants as layout
 use Rattle.disk_layout.specs.declared.geometry.Geometry.{Geometry}
 use Rattle.disk_layout.specs.declared.head.TheConstants.{IMAGE_VERSION}
 use Rattle.disk_layout.specs.declared.reading.contents.Contents.{Contents}
-use Rattle.disk_layout.specs.declared.record.TheConstants.{LONGEST_PAYLOAD}
+use Rattle.wasi_abi.specs.declared.version.Version.TheVariants.{One}
 use Rattle.disk_layout.specs.rules.Held.{GivesContents}
 use Rattle.disk_layout.specs.rules.Journal.{Record, scan}
 use Rattle.disk_layout.specs.rules.Sectors.{HoldsImage}
@@ -206,5 +206,5 @@ module _ (sectors : ℕ) (disk : Image) (holds : HoldsModule sectors disk) (geom
     holds = holds;
     process = restored;
     scanned = sym (subst (λ (p : Geometry). records.items
-        ≡ scan p LONGEST_PAYLOAD disk generation) restored.placed tells);
+        ≡ scan p One disk generation) restored.placed tells);
   }

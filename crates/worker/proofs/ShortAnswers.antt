@@ -22,7 +22,7 @@ use Rattle.wasi_calls_rules.specs.Hosts.{Target, Stream, Node, Descriptor, Host}
 use Rattle.wasi_calls_rules.specs.Checks.{Bytes, Halt, Refuses, Ends, Asks as Wishes, ◌>>=◌}
 use Rattle.wasi_calls_rules.specs.Checks.{Buffer, Ruling, check_or, some_or, buffers, asked}
 use Rattle.wasi_calls_rules.specs.Checks.{fitting}
-use Rattle.disk_layout.specs.declared.record.TheConstants.{LONGEST_PAYLOAD}
+use Rattle.wasi_abi.specs.declared.version.Version.TheVariants.{One}
 use Rattle.disk_layout.specs.rules.Journal.{payload_of}
 use Rattle.wasi_calls_rules.specs.Checks.{answered_by}
 use Rattle.wasi_calls_rules.specs.Small.{time_put, clock_kind, clock_time_get, random_put}
@@ -239,8 +239,8 @@ few_wanted guest p n wants =
 -- ---- an answer
 
 pub short_payload : (guest : Guest) (p : ProcessState) (k : Kind) (a : Answer)
-    → next_of guest p None ≡ Wants k → text_limit p.host.version ≤ LONGEST_PAYLOAD → Fits (text_limit p.host.version) k a
-    → length (payload_of a) ≤ LONGEST_PAYLOAD
+    → next_of guest p None ≡ Wants k → text_limit p.host.version ≤ text_limit One
+    → Fits (text_limit p.host.version) k a → length (payload_of a) ≤ text_limit One
 short_payload guest p kind.Request (answer.Request text) wants low fits =
     let short : length text ≤ text_limit p.host.version = fits.short in omega (arith, low, short)
 short_payload guest p kind.Request answer.End wants low fits = omega arith

@@ -9,11 +9,12 @@ use Rattle.wasi_calls_rules.specs.laws.Laws.{IsOfBytes}
 use Rattle.process_rules.specs.Processes.{ProcessState, Guest, host_of}
 use Rattle.process_rules.specs.Runs.{Wants, next_of}
 use Rattle.wasi_abi.specs.rules.Answers.{Fits}
+use Rattle.wasi_abi.specs.declared.version.Version.TheVariants.{One}
 use Rattle.wasi_abi.specs.rules.Versions.{text_limit}
 use Rattle.process.specs.declared.fault.ProcessFault.{ProcessFault}
 use Rattle.process.specs.rules.Values.{ProcessValue, ShowsProcess, IsProcess, waiting_in}
 use Rattle.process.specs.rules.Stops.{GivesAnswer}
-use Rattle.disk_layout.specs.rules.Journal.{Record, record_bytes}
+use Rattle.disk_layout.specs.rules.Journal.{Record, record_bytes, longest_record}
 use Rattle.journal.specs.rules.Steps.{RecordFits}
 use Rattle.worker_store.specs.declared.fault.StoreFault.{StoreFault}
 use Rattle.worker_store.specs.declared.fault.StoreFault.TheVariants as store
@@ -43,10 +44,6 @@ use Rattle.worker.specs.declared.running.Running.{Running}
 use Rattle.worker.specs.rules.DurableValues.{durable_of}
 use Rattle.worker.specs.rules.OpenWorkers.{IsOnDisk, IsOpenOn}
 use Rattle.worker.specs.rules.DurableCalls.{ComesOf, HasCauseOf, HasCauseAt, IsReplyOf}
-
--- the most bytes of a record: kind, step, length and payload
-abbrev pub longest_record : ℕ
-longest_record = 4107
 
 -- ---- within a slice
 
@@ -175,9 +172,9 @@ SettlesVainly takes old why new outlet outlet' =
 abbrev pub IsOfStoreFault : WorkFault → Type 0
 IsOfStoreFault why = (fault : StoreFault) × (why ≡ fault_of_store fault)
 
--- there is room in the journal for any record
+-- there is room in the journal for any record of version 1
 abbrev pub HasRoom : Running → Type 0
-HasRoom w = longest_record ≤ room_of w.store.geometry w.store.journal
+HasRoom w = longest_record One ≤ room_of w.store.geometry w.store.journal
 
 -- The disk has room for the answer. It may be one generation on: the question comes next.
 abbrev pub MakesRoom : Running → Running → Medium → Medium → Type 0
@@ -203,8 +200,9 @@ asks_once kind said = Asks (record { kind = kind; said = said }) ∷ []
 pub record TakesOnRecord (old : Running) (kind : Kind) (r : Record) (new : Running) : Type 0 where
   pub fits : Fits (text_limit old.process.host.host.version) kind r.answer
   pub appended : new.store ≡ with_record old.store r
-  pub record_fits : RecordFits r
-  pub room : length (record_bytes r) ≤ room_of old.store.geometry old.store.journal
+  pub record_fits : RecordFits old.store.journal.version r
+  pub room : length (record_bytes old.store.journal.version r)
+      ≤ room_of old.store.geometry old.store.journal
   pub given : GivesAnswer old.process r.answer (Ok tt) new.process
   pub some : IsProcess new.process
   pub released_same : new.process.host.released ≡ old.process.host.released

@@ -8,7 +8,7 @@ use Rattle.sector_disk.specs.rules.Image.{Image}
 use Rattle.disk_layout.specs.declared.geometry.Geometry.{Geometry}
 use Rattle.disk_layout.specs.declared.head.TheConstants.{IMAGE_VERSION}
 use Rattle.disk_layout.specs.declared.reading.contents.Contents.{Contents}
-use Rattle.disk_layout.specs.declared.record.TheConstants.{LONGEST_PAYLOAD}
+use Rattle.wasi_abi.specs.declared.version.Version.TheVariants.{One}
 use Rattle.disk_layout.specs.rules.Held.{GivesContents}
 use Rattle.disk_layout.specs.rules.Journal.{scan}
 use Rattle.disk_layout.specs.rules.Sectors.{HoldsImage}
@@ -29,7 +29,7 @@ pub record IsRestoredIn {sectors : ℕ} {disk : Image} (holds : HoldsModule sect
 pub record IsFoundIn (sectors : ℕ) (disk : Image) (found : Found) : Type 0 where
   pub holds : HoldsModule sectors disk
   pub process : IsRestoredIn holds found.geometry found.generation found.process
-  pub scanned : scan holds.contents.geometry LONGEST_PAYLOAD disk found.generation
+  pub scanned : scan holds.contents.geometry One disk found.generation
       ≡ found.records.items
 
 -- that, or what is wrong with the disk

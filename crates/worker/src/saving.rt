@@ -3,6 +3,7 @@
 ghost use Rattle.std.specs.Prelude.{◌≡◌, ◌+◌, ◌≤◌, [], false, true, IfErr, OnErr, OnOk};
 ghost use Rattle.process.specs.rules.Values.{IsProcess, waiting_in};
 ghost use Rattle.sector_disk.specs.rules.Medium.{CallsUpTo, Passes};
+ghost use Rattle.wasi_abi.specs.declared.version.Version.TheVariants.{One};
 ghost use Rattle.disk_layout.specs.rules.Places.{total_sectors};
 ghost use Rattle.journal.specs.rules.State.{state};
 ghost use Rattle.worker_store.specs.rules.Calls.{StoresNext};
@@ -47,7 +48,7 @@ pub(crate) fn save<D: Disk>(
     ensures unnumbered { OnErr result
         (store.new.journal.generation ≡ store.old.journal.generation) }
     ensures fresh { OnOk result
-        (store.new.journal ≡ state store.new.journal.generation 0 [] false) }
+        (store.new.journal ≡ state One store.new.journal.generation 0 [] false) }
     ensures calls { SaveCalls store.old process.now result (D.medium disk.old)
         (D.medium disk.new) }
     ensures cause { IfErr result (SaveFails store.old process.now (D.medium disk.old)
@@ -109,7 +110,7 @@ pub(crate) fn save_telling<D: Disk, O: Outlet>(
     ensures unnumbered { OnErr result
         (store.new.journal.generation ≡ store.old.journal.generation) }
     ensures fresh { OnOk result
-        (store.new.journal ≡ state store.new.journal.generation 0 [] false) }
+        (store.new.journal ≡ state One store.new.journal.generation 0 [] false) }
     ensures calls { SaveCalls store.old process.old result (D.medium disk.old)
         (D.medium disk.new) }
     ensures cause { IfErr result (SaveFails store.old process.old (D.medium disk.old)

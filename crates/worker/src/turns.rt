@@ -17,15 +17,12 @@ ghost use Rattle.worker.specs.StoreTurns.{HearsOrNot, PaysCalls, StoreRuns};
 use crate::fault::WorkFault;
 use crate::running::Running;
 use crate::saving::save;
-use disk_layout::{LONGEST_PAYLOAD, RECORD_HEAD_BYTES, Record};
+use disk_layout::{Record, longest_record};
 use ephemeral_worker::SliceFault;
 use record_replay::{Outlet, Source, release_waiting};
 use sector_disk::Disk;
-use wasi_abi::{Kind, NUMBERS_END, fits};
+use wasi_abi::{Kind, NUMBERS_END, Version, fits};
 use worker_store::laws::images_fit_areas;
-
-/// The most bytes of a record.
-const LONGEST_RECORD: usize = RECORD_HEAD_BYTES + LONGEST_PAYLOAD;
 
 impl Running {
     /// Puts the records on the disk, and then releases the lines that wait.
@@ -100,7 +97,7 @@ impl Running {
         ensures few { CallsUpTo (most_saving (D.medium disk.old).sectors) (D.medium disk.old)
             (D.medium disk.new) }
     {
-        if self.store.room() >= LONGEST_RECORD {
+        if self.store.room() >= longest_record(Version::One) {
             return Ok(());
         }
         images_fit_areas();

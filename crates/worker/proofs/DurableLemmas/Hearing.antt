@@ -18,8 +18,8 @@ use Rattle.process.specs.rules.Values.{ProcessValue, ShowsProcess}
 use Rattle.process.specs.rules.Stops.{CallsHost, GivesAnswer}
 use Rattle.sector_disk.specs.rules.Medium.{Medium}
 use Rattle.state_image.specs.rules.Saving.{saved_of}
-use Rattle.disk_layout.specs.rules.Journal.{record_bytes, payload_of}
-use Rattle.disk_layout.specs.declared.record.TheConstants.{LONGEST_PAYLOAD}
+use Rattle.disk_layout.specs.rules.Journal.{record_bytes, longest_record, payload_of}
+use Rattle.wasi_abi.specs.declared.version.Version.TheVariants.{One}
 use Rattle.journal.specs.rules.State.{room_of}
 use Rattle.journal.proofs.RecordLemmas.{record_of}
 use Rattle.record_replay.specs.declared.fault.SourceFault.{SourceFault}
@@ -65,7 +65,7 @@ use Rattle.worker.specs.DurableTurns.{Course, IsAskingOn, HasRoom, TurnGoes}
 use Rattle.worker.specs.DurableTurns.{TurnEnds}
 use Rattle.worker.specs.DurableTurns.{TurnFails, asks_once, TakesOnRecord, LacksRecord}
 use Rattle.worker.specs.DurableTurns.{IsNotTaken}
-use Rattle.worker.specs.DurableTurns.{IsMisfit, longest_record}
+use Rattle.worker.specs.DurableTurns.{IsMisfit}
 use Rattle.worker.proofs.ShortAnswers.{short_payload}
 use Rattle.worker.proofs.DurableLemmas.OnDisk.{IsReachedBy, reached_now, valid_module}
 use Rattle.worker.proofs.DurableLemmas.OnDisk.{runs_there}
@@ -79,11 +79,11 @@ promise_once promise p kind said fits = after promise (Asked p.steps kind said f
 abbrev pub stage_once : Stage → ProcessState → Kind → SourceSaid → Bool → Stage
 stage_once stage p kind said fits = next_stage stage (Asked p.steps kind said fits)
 
-too_full : (payload free long : ℕ) → payload ≤ LONGEST_PAYLOAD → longest_record ≤ free
+too_full : (payload free long : ℕ) → payload ≤ text_limit One → longest_record One ≤ free
     → free < long → long ≡ 11 + payload → ⊥
 too_full payload free long few room less is = omega (arith, few, room, less, is)
 
-too_long : (payload : ℕ) → payload ≤ LONGEST_PAYLOAD → LONGEST_PAYLOAD < payload → ⊥
+too_long : (payload : ℕ) → payload ≤ text_limit One → text_limit One < payload → ⊥
 too_long payload few long = omega (arith, few, long)
 
 module _ {D : Type 0} (medium : D → Medium) (c : Course) (promise : Promise) (stage : Stage)
@@ -331,12 +331,21 @@ module _ {D : Type 0} (medium : D → Medium) (c : Course) (promise : Promise) (
         needs = needs;
       }
 
-      short : length (payload_of a) ≤ LONGEST_PAYLOAD
+      short : length (payload_of a) ≤ text_limit One
       short =
           let version = reached_versions c.code c.config promise.kept p.steps p
           by_answers.reached in
-          let limit : text_limit p.host.version ≡ LONGEST_PAYLOAD = ap text_limit version in
+          let limit : text_limit p.host.version ≡ text_limit One = ap text_limit version in
           short_payload c.guest p kind a asking.wants (omega (arith, limit)) fits
+
+      -- the journal is of version 1
+      version_one : w.store.journal.version ≡ One
+      version_one =
+          let running = asking.running in
+          let is = running.on_disk in
+          let stores = is.stores in
+          let journaled = stores.journaled in
+          journaled.version
 
       -- no record is wanting but for memory
       lacks_by : (step : ℕ) (fault : StoreFault) → HasRoom w
@@ -345,10 +354,14 @@ module _ {D : Type 0} (medium : D → Medium) (c : Course) (promise : Promise) (
           (medium disk) (medium disk)
       lacks_by step store.Full room h same =
           let few = short in
-          absurd (too_full (length (payload_of a)) (room_of w.store.geometry w.store.journal)
-          (length (record_bytes (record_of step a))) few room h.1 (omega arith))
+          let free = room_of w.store.geometry w.store.journal in
+          let less : free < length (record_bytes One (record_of step a)) =
+          subst (λ v. free < length (record_bytes v (record_of step a))) version_one h.1 in
+          absurd (too_full (length (payload_of a)) free (length (record_bytes One
+          (record_of step a))) few room less (omega arith))
       lacks_by step store.TooLong room h same =
-          absurd (too_long (length (payload_of a)) short h)
+          absurd (too_long (length (payload_of a)) short
+          (subst (λ v. text_limit v < length (payload_of a)) version_one h))
       lacks_by step store.Memory room h same = (
         OfMemory,
         refl,

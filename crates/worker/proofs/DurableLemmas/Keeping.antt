@@ -65,8 +65,9 @@ module _ (old : Running) (kind : Kind) (r : Record) (limit : ℕ)
     }))
 
     -- it does
-    pub answer_taken : after ≡ with_record old.store r → RecordFits r
-        → length (record_bytes r) ≤ room_of old.store.geometry old.store.journal
+    pub answer_taken : after ≡ with_record old.store r → RecordFits old.store.journal.version r
+        → length (record_bytes old.store.journal.version r)
+        ≤ room_of old.store.geometry old.store.journal
         → GivesAnswer old.process r.answer (Ok tt) process → IsProcess process
         → process.host.released ≡ old.process.host.released
         → process.machine.guest ≡ old.process.machine.guest

@@ -11,6 +11,8 @@ use Rattle.sector_disk.specs.rules.Medium.{Medium}
 use Rattle.state_image.specs.rules.Saving.{saved_of}
 use Rattle.disk_layout.specs.declared.geometry.Geometry.{Geometry}
 use Rattle.disk_layout.specs.declared.journal_sectors.TheConstants.{PAYLOAD_SIZE}
+use Rattle.wasi_abi.specs.declared.version.Version.TheVariants.{One}
+use Rattle.disk_layout.specs.rules.Journal.{longest_record}
 use Rattle.journal.specs.rules.State.{JournalState, state}
 use Rattle.record_replay.proofs.Emitted.{released_whole}
 use Rattle.restart_theorem.specs.Lives.{Slice, Fails, Cause, OfDisk, OfBounds}
@@ -39,7 +41,7 @@ use Rattle.worker.specs.rules.OpenWorkers.{IsOnDisk}
 use Rattle.worker.specs.rules.Savings.{LeavesFrontOrNext, IsSaveFault, SaveFails}
 use Rattle.worker.specs.DurableTurns.{Course, IsAskingOn, HasRoom, MakesRoom}
 use Rattle.worker.specs.DurableTurns.{MakesNoRoom}
-use Rattle.worker.specs.DurableTurns.{TurnFails, slice_end, longest_record}
+use Rattle.worker.specs.DurableTurns.{TurnFails, slice_end}
 use Rattle.worker.proofs.SavingActLemmas.{CanSave, can_save, all_first}
 use Rattle.worker.proofs.DurableLemmas.OnDisk.{keeps_now, fewer_syncs, lowered_to}
 use Rattle.worker.proofs.DurableLemmas.Bounds.{on_disk_still, saves_within}
@@ -87,7 +89,7 @@ too_late n g events late e early = omega (arith, late, e, early)
 
 -- an empty journal has room for the longest record
 enough : (sectors used kept : ℕ) → 64 ≤ sectors → used ≡ 0 → kept ≡ 0
-    → longest_record ≤ PAYLOAD_SIZE * (sectors - used) - kept
+    → longest_record One ≤ PAYLOAD_SIZE * (sectors - used) - kept
 enough sectors used kept many none_used none_kept =
     omega (arith, many, none_used, none_kept)
 
@@ -272,7 +274,7 @@ module _ {D : Type 0} (medium : D → Medium) (w : Running) (after : WorkerStore
             early = omega (arith, later, early);
           }
 
-      room_after : after.journal ≡ state after.journal.generation 0 [] false
+      room_after : after.journal ≡ state One after.journal.generation 0 [] false
           → HasRoom (with_store w after)
       room_after fresh =
           let running = asking.running in
@@ -298,7 +300,7 @@ module _ {D : Type 0} (medium : D → Medium) (w : Running) (after : WorkerStore
       save_in_vain c promise stage p kind asking fault fails
 
   pub makes_room : StoresNext w.store after w.process (medium disk) (medium disk')
-      → after.journal ≡ state after.journal.generation 0 [] false
+      → after.journal ≡ state One after.journal.generation 0 [] false
       → MakesRoom w (with_store w after) (medium disk) (medium disk')
   makes_room stores fresh c promise stage p kind asking =
       let running = asking.running in (

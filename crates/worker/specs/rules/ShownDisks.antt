@@ -19,7 +19,7 @@ use Rattle.disk_layout.specs.declared.fault.LayoutFault.{LayoutFault}
 use Rattle.disk_layout.specs.declared.fault.LayoutFault.TheVariants as layout
 use Rattle.disk_layout.specs.declared.head.TheConstants.{IMAGE_VERSION}
 use Rattle.disk_layout.specs.declared.reading.contents.Contents.{Contents}
-use Rattle.disk_layout.specs.declared.record.TheConstants.{LONGEST_PAYLOAD}
+use Rattle.wasi_abi.specs.declared.version.Version.TheVariants.{One}
 use Rattle.disk_layout.specs.rules.Held.{GivesContents}
 use Rattle.disk_layout.specs.rules.Journal.{Record, scan}
 use Rattle.disk_layout.specs.rules.Sectors.{HoldsImage}
@@ -59,7 +59,7 @@ pub record HoldsWorker (sectors : ℕ) (disk : Image) : Type 0 where
   pub well_typed : IsWellTyped holds.module_is holds.contents.config saved
   pub newest : HoldsImage holds.contents.geometry disk generation IMAGE_VERSION (image saved)
   pub records : List Record
-  pub scanned : scan holds.contents.geometry LONGEST_PAYLOAD disk generation ≡ records
+  pub scanned : scan holds.contents.geometry One disk generation ≡ records
 
 -- ---- what is wrong with it
 
