@@ -5,7 +5,7 @@ use Rattle.wasi_abi.specs.declared.answer.Answer.{Answer}
 use Rattle.process_rules.specs.Processes.{Ending, ProcessState, Guest}
 use Rattle.process_rules.specs.Runs.{Kept, Given, Wider, IsWidening, Moves, Runs, none, step, take}
 use Rattle.process_rules.specs.Runs.{widen}
-use Rattle.process_rules.specs.Behind.{IsUpTo}
+use Rattle.process_rules.specs.Behind.{IsNarrowTo}
 use Rattle.process_rules.proofs.Growing.{runs_count}
 use Rattle.process_rules.proofs.OneProcess.{moves_once, one_or_other}
 
@@ -44,7 +44,8 @@ moved P n a n' a' q e f holds = subst (λ z. P z a' q) e (subst (λ z. P n z q) 
 
 -- Such a run widens nothing, and what is kept next widens nothing up to its end.
 up_to_end : (guest : Guest) (P : ℕ → ℕ → ProcessState → Type 0) (n a k s : ℕ) (p r : ProcessState)
-    (kept more : List Kept) → Along guest P n a p kept k r → IsUpTo more s → IsUpTo (kept ++ more) s
+    (kept more : List Kept) → Along guest P n a p kept k r → IsNarrowTo more s
+    → IsNarrowTo (kept ++ more) s
 up_to_end guest P n a k s p r kept more (last holds) up = up
 up_to_end guest P n a k s p r kept more (goes {k = k'} {q = q} holds m rest) up =
     up_to_end guest P (n + 1) a k' s q r kept more rest up
@@ -53,7 +54,8 @@ up_to_end guest P n a k s p r kept more (takes holds m rest) up = tt
 -- so no process on it is widened
 not_widened : (guest : Guest) (P : ℕ → ℕ → ProcessState → Type 0) (n a k b s : ℕ)
     (p r : ProcessState) (kept more others : List Kept) → Along guest P n a p kept k r
-    → IsUpTo more (suc r.steps) → IsWidening p s → Wider s ∷ others ≡ firsts b (kept ++ more) → ⊥
+    → IsNarrowTo more (suc r.steps) → IsWidening p s
+    → Wider s ∷ others ≡ firsts b (kept ++ more) → ⊥
 not_widened guest P n a k b s p r kept more others along up at e =
     let counted = runs_count guest p r kept k (is_run guest P n a k p r kept along) in
     let here = at.at in
@@ -61,7 +63,7 @@ not_widened guest P n a k b s p r kept more others along up at e =
     (up_to_end guest P n a k (suc r.steps) p r kept more along up) e in
     omega (arith, counted, here, late)
   where
-    next_widens : (b : ℕ) (list : List Kept) → IsUpTo list (suc r.steps)
+    next_widens : (b : ℕ) (list : List Kept) → IsNarrowTo list (suc r.steps)
         → Wider s ∷ others ≡ firsts b list → suc r.steps ≤ s
     next_widens zero list up e = absurd (cc)
     next_widens (suc b) [] up e = absurd (cc)
@@ -74,7 +76,7 @@ not_widened guest P n a k b s p r kept more others along up at e =
 -- it, where that widens nothing up to its end.
 all_known : (guest : Guest) (P : ℕ → ℕ → ProcessState → Type 0) (n a k : ℕ) (p r : ProcessState)
     (kept more prefix : List Kept) (b j : ℕ) (q : ProcessState) (why : Ending)
-    → r.ended ≡ Some why → IsUpTo more (suc r.steps) → Along guest P n a p kept k r
+    → r.ended ≡ Some why → IsNarrowTo more (suc r.steps) → Along guest P n a p kept k r
     → Runs guest p prefix j q
     → prefix ≡ firsts b (kept ++ more) → P (n + j) (a + length prefix) q
 all_known guest P n a k p r kept more prefix b j q why over up along (none {p = p'}) e =
@@ -117,7 +119,7 @@ all_known guest P n a k p r kept more prefix b j q why over up along
 -- so it is of a whole run
 pub known_from_start : (guest : Guest) (P : ℕ → ℕ → ProcessState → Type 0) (k : ℕ)
     (p r : ProcessState) (kept more prefix : List Kept) (b j : ℕ) (q : ProcessState) (why : Ending)
-    → r.ended ≡ Some why → IsUpTo more (suc r.steps) → Along guest P 0 0 p kept k r
+    → r.ended ≡ Some why → IsNarrowTo more (suc r.steps) → Along guest P 0 0 p kept k r
     → Runs guest p prefix j q
     → prefix ≡ firsts b (kept ++ more) → P j (length prefix) q
 known_from_start guest P k p r kept more prefix b j q why over up along runs e =

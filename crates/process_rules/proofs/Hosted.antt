@@ -35,7 +35,7 @@ use Rattle.process_rules.specs.Processes.{ProcessState, Guest, IsStart, host_of,
 use Rattle.process_rules.specs.Runs.{Next, On, Over, Wants, Nowhere, after_row, after_call}
 use Rattle.process_rules.specs.Runs.{after_rule, next_of, stepped, LeadsTo, Moves, Kept, widened}
 use Rattle.process_rules.specs.Runs.{Given, Wider, IsWidening, Runs, none, step, take, widen}
-use Rattle.process_rules.specs.Runs.{version_of}
+use Rattle.process_rules.specs.Runs.{version_after}
 use Rattle.process_rules.specs.laws.Laws.{ReachedAreConfigured, NodesAreFew}
 use Rattle.process_rules.specs.laws.Laws.{ReachedVersions, WidenedOnce}
 use Rattle.process_rules.specs.laws.Laws.{ReachedInputIsShort, ReachedHaveHosts}
@@ -172,7 +172,7 @@ runs_wide guest p q kept n (widen {p = p'} {kept = kept'} {n = m} at rest) wide 
 
 -- one of version 1 comes to the version to which the kept answers lead
 pub runs_version : (guest : Guest) (p q : ProcessState) (kept : List Kept) (n : ℕ)
-    → Runs guest p kept n q → p.host.version ≡ One → q.host.version ≡ version_of kept
+    → Runs guest p kept n q → p.host.version ≡ One → q.host.version ≡ version_after kept
 runs_version guest p q kept n none first = first
 runs_version guest p q kept n (step {p = p'} {q = next} {kept = kept'} {n = m} moves rest) first =
     runs_version guest next q kept' m rest (move_version guest p' next None moves ∙ first)
@@ -277,7 +277,7 @@ never_again guest p q whole front rest n steps (widen at others) wide e =
     let narrow = at.narrow in cc
 
 runs_widen_once : (guest : Guest) (p q : ProcessState) (whole front rest : List Kept) (n steps : ℕ)
-    → Runs guest p whole n q → whole ≡ front ++ Wider steps ∷ rest → version_of front ≡ One
+    → Runs guest p whole n q → whole ≡ front ++ Wider steps ∷ rest → version_after front ≡ One
 runs_widen_once guest p q whole [] rest n steps run e = refl
 runs_widen_once guest p q whole (x ∷ front) rest n steps none e = absurd (cc)
 runs_widen_once guest p q whole (x ∷ front) rest n steps

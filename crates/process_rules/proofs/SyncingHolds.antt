@@ -27,7 +27,8 @@ use Rattle.wasi_calls_rules.specs.Rows.{IsSync}
 use Rattle.process_rules.specs.Processes.{ProcessState, Guest, Exited, IsStart, host_of}
 use Rattle.process_rules.specs.Runs.{Kept, Given, Wider, On, Wants, next_of, after_rule, Runs}
 use Rattle.process_rules.specs.Runs.{Reaches}
-use Rattle.process_rules.specs.Behind.{AnswersBehindLine, IsLine, Syncs, AnswersBehindSync, IsUpTo}
+use Rattle.process_rules.specs.Behind.{AnswersBehindLine, IsLine, Syncs, AnswersBehindSync}
+use Rattle.process_rules.specs.Behind.{IsNarrowTo}
 use Rattle.process_rules.specs.laws.Examples.{at_rest}
 use Rattle.process_rules.specs.laws.BehindExamples.{syncing, sync_type, abc_and_more, abc_line}
 use Rattle.process_rules.specs.laws.BehindExamples.{OneSync, OneLine, SyncingOwes}
@@ -334,7 +335,7 @@ record IsFound (config : Settings) (guest : Guest) (n a : ℕ) (p : ProcessState
   known : IsKnown config n a p
 
 found : (config : Settings) (more : List Kept) (n b : ℕ) (p : ProcessState)
-    (up : IsUpTo more 19) (reached : Reaches syncing config (firsts b (abc_and_more more)) n p)
+    (up : IsNarrowTo more 19) (reached : Reaches syncing config (firsts b (abc_and_more more)) n p)
     → IsFound config reached.guest n (length (firsts b (abc_and_more more))) p
 found config more n b p up reached =
     let prefix : List Kept = firsts b (abc_and_more more) in
@@ -350,7 +351,7 @@ found config more n b p up reached =
     }
 
 -- what widens nothing up to the end widens nothing before
-later : (more : List Kept) (k : ℕ) → IsUpTo more 19 → k ≤ 19 → IsUpTo more k
+later : (more : List Kept) (k : ℕ) → IsNarrowTo more 19 → k ≤ 19 → IsNarrowTo more k
 later [] k up few = tt
 later (Given x ∷ more) k up few = tt
 later (Wider s ∷ more) k up few = omega (arith, up, few)
@@ -362,7 +363,7 @@ all_there more a within = omega (arith, length-take a (abc_and_more more))
 
 -- ---- the sync
 
-sync_there : (config : Settings) (more : List Kept) (up : IsUpTo more 19)
+sync_there : (config : Settings) (more : List Kept) (up : IsNarrowTo more 19)
     → AnswersBehindSync syncing config (abc_and_more more) 11 1
 sync_there config more up = record {
   within = omega arith;
@@ -374,7 +375,7 @@ sync_there config more up = record {
   syncs = syncs config;
 }
 
-no_other_sync : (config : Settings) (more : List Kept) (up : IsUpTo more 19) (k a : ℕ)
+no_other_sync : (config : Settings) (more : List Kept) (up : IsNarrowTo more 19) (k a : ℕ)
     → AnswersBehindSync syncing config (abc_and_more more) k a → (k ≡ 11) × (a ≡ 1)
 no_other_sync config more up k a behind =
     let one = found config more behind.before a behind.process up behind.reached in
@@ -383,7 +384,7 @@ no_other_sync config more up k a behind =
     let next = behind.next in
     (omega arith, sym (all_there more a behind.within) ∙ at.1)
 
-one_sync : (config : Settings) (more : List Kept) (up : IsUpTo more 19) → OneSync config more
+one_sync : (config : Settings) (more : List Kept) (up : IsNarrowTo more 19) → OneSync config more
 one_sync config more up = record {
   fails = record {
     process = at_failure config;
@@ -437,7 +438,7 @@ line_found a place lines line (inr h) is = one_there place line
     one_there (suc zero) line e = absurd (cc)
     one_there (suc (suc place)) line e = absurd (cc)
 
-behind_line : (config : Settings) (more : List Kept) (up : IsUpTo more 19)
+behind_line : (config : Settings) (more : List Kept) (up : IsNarrowTo more 19)
     → AnswersBehindLine syncing config (abc_and_more more) 1 1
 behind_line config more up = record {
   within = omega arith;
@@ -448,7 +449,7 @@ behind_line config more up = record {
   emitted = lit≤ tt;
 }
 
-of_line : (config : Settings) (more : List Kept) (up : IsUpTo more 19) (i a : ℕ)
+of_line : (config : Settings) (more : List Kept) (up : IsNarrowTo more 19) (i a : ℕ)
     (behind : AnswersBehindLine syncing config (abc_and_more more) i a)
     → OfLine behind.process.host.lines a
 of_line config more up i a behind =
@@ -456,19 +457,19 @@ of_line config more up i a behind =
     subst (OfLine behind.process.host.lines) (all_there more a behind.within)
     (few_lines (length (firsts a (abc_and_more more))) behind.process.host.lines one.known.lines)
 
-no_fewer : (config : Settings) (more : List Kept) (up : IsUpTo more 19) (a : ℕ)
+no_fewer : (config : Settings) (more : List Kept) (up : IsNarrowTo more 19) (a : ℕ)
     → AnswersBehindLine syncing config (abc_and_more more) 1 a → a ≡ 1
 no_fewer config more up a behind =
     let emitted = behind.emitted in (of_line config more up 1 a behind).1 (omega arith)
 
-no_second : (config : Settings) (more : List Kept) (up : IsUpTo more 19) (i a : ℕ)
+no_second : (config : Settings) (more : List Kept) (up : IsNarrowTo more 19) (i a : ℕ)
     → AnswersBehindLine syncing config (abc_and_more more) i a → i ≤ 1
 no_second config more up i a behind =
     let few = (of_line config more up i a behind).0 in
     let emitted = behind.emitted in
     omega arith
 
-first_line : (config : Settings) (more : List Kept) (up : IsUpTo more 19)
+first_line : (config : Settings) (more : List Kept) (up : IsNarrowTo more 19)
     → IsLine syncing config (abc_and_more more) 1 abc_line
 first_line config more up = record {
   answers = 1;
@@ -481,7 +482,8 @@ first_line config more up = record {
   is = refl;
 }
 
-no_other_line : (config : Settings) (more : List Kept) (up : IsUpTo more 19) (i : ℕ) (line : Line)
+no_other_line : (config : Settings) (more : List Kept) (up : IsNarrowTo more 19) (i : ℕ)
+    (line : Line)
     → IsLine syncing config (abc_and_more more) i line → (i ≡ 1) × (line ≡ abc_line)
 no_other_line config more up i line is =
     let one = found config more is.steps is.answers is.process up is.reached in
@@ -491,7 +493,7 @@ no_other_line config more up i line is =
     let counted = is.counted in
     (omega arith, at.1)
 
-one_line : (config : Settings) (more : List Kept) (up : IsUpTo more 19) → OneLine config more
+one_line : (config : Settings) (more : List Kept) (up : IsNarrowTo more 19) → OneLine config more
 one_line config more up = record {
   emitted = behind_line config more up;
   no_fewer = no_fewer config more up;

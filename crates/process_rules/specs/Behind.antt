@@ -17,9 +17,9 @@ use Rattle.process_rules.specs.Processes.{ProcessState, Guest}
 use Rattle.process_rules.specs.Runs.{Kept, Wider, Reaches}
 
 -- If what is kept next widens the process, then after so many steps at least.
-abbrev pub IsUpTo : List Kept → ℕ → Type 0
-IsUpTo (Wider steps ∷ kept) step = step ≤ steps
-IsUpTo _ step = Unit {0}
+abbrev pub IsNarrowTo : List Kept → ℕ → Type 0
+IsNarrowTo (Wider steps ∷ kept) step = step ≤ steps
+IsNarrowTo _ step = Unit {0}
 
 -- the first a of the kept answers, exactly, lead to a process that has emitted line i, counted from
 -- 1
@@ -29,7 +29,7 @@ pub record AnswersBehindLine (m : Module) (config : Settings) (kept : List Kept)
   pub steps : ℕ
   pub process : ProcessState
   pub reached : Reaches m config (take a kept) steps process
-  pub up_to : IsUpTo (drop a kept) steps
+  pub up_to : IsNarrowTo (drop a kept) steps
   pub emitted : i ≤ length process.host.lines
 
 -- line i, counted from 1, of what a front of the kept answers leads to
@@ -39,7 +39,7 @@ pub record IsLine (m : Module) (config : Settings) (kept : List Kept) (i : ℕ)
   pub steps : ℕ
   pub process : ProcessState
   pub reached : Reaches m config (take answers kept) steps process
-  pub up_to : IsUpTo (drop answers kept) steps
+  pub up_to : IsNarrowTo (drop answers kept) steps
   pub place : ℕ
   pub counted : i ≡ place + 1
   pub is : slice_get process.host.lines place ≡ Some line
@@ -65,6 +65,6 @@ pub record AnswersBehindSync (m : Module) (config : Settings) (kept : List Kept)
   pub before : ℕ
   pub process : ProcessState
   pub reached : Reaches m config (take a kept) before process
-  pub up_to : IsUpTo (drop a kept) k
+  pub up_to : IsNarrowTo (drop a kept) k
   pub next : k ≡ before + 1
   pub syncs : Syncs reached.guest process

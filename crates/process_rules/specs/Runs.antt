@@ -143,10 +143,10 @@ pub data Runs (guest : Guest) : ProcessState → List Kept → ℕ → ProcessSt
       → Runs guest (widened p) kept n r → Runs guest p (Wider steps ∷ kept) n r
 
 -- the version of what these lead to
-abbrev pub version_of : List Kept → Version
-version_of [] = One
-version_of (Given a ∷ kept) = version_of kept
-version_of (Wider steps ∷ kept) = Two
+abbrev pub version_after : List Kept → Version
+version_after [] = One
+version_after (Given a ∷ kept) = version_after kept
+version_after (Wider steps ∷ kept) = Two
 
 -- The module under a configuration reaches this process on these answers, all of them, in n counted
 -- steps.

@@ -34,8 +34,8 @@
 //! # Definitions to read
 //!
 //! In `specs/`: `ProcessState`, `Guest`, `IsStart`, `over`, `closed` (`Processes.antt`); `Moves`,
-//! `Runs`, `Reaches`, `next_of`, `widened`, `version_of` (`Runs.antt`); `IsLine`,
-//! `AnswersBehindLine`, `Syncs`, `AnswersBehindSync`, `IsUpTo` (`Behind.antt`); `IsOwing`,
+//! `Runs`, `Reaches`, `next_of`, `widened`, `version_after` (`Runs.antt`); `IsLine`,
+//! `AnswersBehindLine`, `Syncs`, `AnswersBehindSync`, `IsNarrowTo` (`Behind.antt`); `IsOwing`,
 //! `RunsQuietly` (`Owing.antt`). The laws and examples are in `specs/laws/`; nobody has to believe
 //! them.
 //!

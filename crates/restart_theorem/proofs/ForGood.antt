@@ -6,7 +6,7 @@ use Rattle.std.proofs.lemmas.List.{take-append-le}
 use Rattle.wasm_syntax.specs.declared.module.Module.{Module}
 use Rattle.wasi_abi.specs.rules.Configs.{Settings}
 use Rattle.process_rules.specs.Runs.{Kept, Runs}
-use Rattle.process_rules.specs.Behind.{IsUpTo, AnswersBehindSync}
+use Rattle.process_rules.specs.Behind.{IsNarrowTo, AnswersBehindSync}
 use Rattle.restart_theorem.specs.Lives.{Checkpoint, Reply, Spent, Waits, Over, Done, Fails}
 use Rattle.restart_theorem.specs.Lives.{Event, Told, Asked, Opened, Ended, kept_of_said}
 use Rattle.restart_theorem.specs.Promises.{Promise, nothing_yet, after, promised, synced_by}
@@ -64,7 +64,7 @@ IsHeld m config so_far k a = ((k ≤ so_far.synced) × AnswersBehindSync m confi
     ⊎ (a ≤ so_far.answers)
 
 behind_more : (m : Module) (config : Settings) (kept more : List Kept) (k a : ℕ)
-    → IsUpTo more k → AnswersBehindSync m config kept k a
+    → IsNarrowTo more k → AnswersBehindSync m config kept k a
     → AnswersBehindSync m config (kept ++ more) k a
 behind_more m config kept more k a up behind = record {
   within = longer a kept more behind.within;

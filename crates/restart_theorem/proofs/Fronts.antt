@@ -13,7 +13,7 @@ use Rattle.wasi_calls_rules.specs.Hosts.{Line}
 use Rattle.process_rules.specs.Processes.{ProcessState, Guest}
 use Rattle.process_rules.specs.Runs.{Kept, Given, Wider, widened, IsWidening, Moves, Runs, Reaches}
 use Rattle.process_rules.specs.Runs.{none, step, take as takes, widen}
-use Rattle.process_rules.specs.Behind.{IsUpTo, AnswersBehindLine, IsLine}
+use Rattle.process_rules.specs.Behind.{IsNarrowTo, AnswersBehindLine, IsLine}
 use Rattle.restart_theorem.specs.Lives.{SourceSaid, kept_of_said}
 use Rattle.process_rules.proofs.OneStart.{start_once}
 use Rattle.process_rules.proofs.OneProcess.{moves_once, one_or_other, never_late}
@@ -67,7 +67,7 @@ same_widening x y e = cc
 -- never.
 no_step_there : (guest : Guest) (s p q : ProcessState) (a c others : List Kept) (n steps : ℕ)
     → Moves guest s None q → Runs guest q a n p → IsWidening s steps → a ++ c ≡ Wider steps ∷ others
-    → IsUpTo c p.steps → ⊥
+    → IsNarrowTo c p.steps → ⊥
 no_step_there guest s p q [] [] others n steps m rest at e up = cc
 no_step_there guest s p q [] (Given x ∷ c) others n steps m rest at e up = cc
 no_step_there guest s p q [] (Wider t ∷ c) others n steps m rest at e up =
@@ -82,8 +82,8 @@ no_step_there guest s p q (Wider t ∷ a) c others n steps m rest at e up =
     never_late guest s q p (Wider t ∷ a) n m rest at (ap (λ z. Wider z ∷ a) same)
 
 one_leads_on : (guest : Guest) (s p q : ProcessState) (a b c d : List Kept) (n k : ℕ)
-    → Runs guest s a n p → Runs guest s b k q → a ++ c ≡ b ++ d → IsUpTo c p.steps
-    → IsUpTo d q.steps → OneLeadsOn guest p q a b
+    → Runs guest s a n p → Runs guest s b k q → a ++ c ≡ b ++ d → IsNarrowTo c p.steps
+    → IsNarrowTo d q.steps → OneLeadsOn guest p q a b
 one_leads_on guest s p q a b c d n k (none {p = p'}) right e up up' =
     inl (record { kept = b; steps = k; runs = right; front = refl })
 one_leads_on guest s p q a b c d n k (step {p = p'} {q = p''} {kept = a'} {n = n'} m rest)
@@ -136,7 +136,7 @@ reached_counts m config kept n p reached =
 pub fronts_lead_on : (m : Module) (config : Settings) (kept : List Kept) (a b n k : ℕ)
     (p q : ProcessState) → IsValid m
     → (left : Reaches m config (take a kept) n p) → Reaches m config (take b kept) k q
-    → IsUpTo (drop a kept) n → IsUpTo (drop b kept) k
+    → IsNarrowTo (drop a kept) n → IsNarrowTo (drop b kept) k
     → OneLeadsOn left.guest p q (take a kept) (take b kept)
 fronts_lead_on m config kept a b n k p q valid left right up up' =
     let same = start_once m config left.guest right.guest left.start right.start valid left.begins
@@ -147,8 +147,9 @@ fronts_lead_on m config kept a b n k p q valid left right up up' =
     (drop b kept) n k left.runs
     (subst (λ z. Runs left.guest z (take b kept) k q) (sym same.1) other)
     (take-append-drop a kept ∙ sym (take-append-drop b kept))
-    (subst (λ z. IsUpTo (drop a kept) z) (sym (reached_counts m config (take a kept) n p left)) up)
-    (subst (λ z. IsUpTo (drop b kept) z) (sym (reached_counts m config (take b kept) k q right))
+    (subst (λ z. IsNarrowTo (drop a kept) z)
+    (sym (reached_counts m config (take a kept) n p left)) up)
+    (subst (λ z. IsNarrowTo (drop b kept) z) (sym (reached_counts m config (take b kept) k q right))
     up')
 
 -- ---- lines
@@ -210,8 +211,8 @@ front_of_more : {X : Type 0} (a : ℕ) (xs ys : List X)
 front_of_more a xs ys = take-append-le (min a (length xs)) xs ys (omega arith) ∙ take_min a xs
 
 -- what widens no process before widens none in a front
-pub up_to_front : (a n k : ℕ) (kept : List Kept) → IsUpTo (drop a kept) k
-    → IsUpTo (drop a (take n kept)) k
+pub up_to_front : (a n k : ℕ) (kept : List Kept) → IsNarrowTo (drop a kept) k
+    → IsNarrowTo (drop a (take n kept)) k
 up_to_front zero zero k kept up = tt
 up_to_front (suc a) zero k kept up = tt
 up_to_front zero (suc n) k [] up = tt
@@ -222,7 +223,7 @@ up_to_front (suc a) (suc n) k (x ∷ kept) up = up_to_front a n k kept up
 
 -- nor in what is kept with more that widens none
 up_to_more : (a b k : ℕ) (kept more : List Kept) → b ≡ min a (length kept)
-    → IsUpTo (drop a kept) k → IsUpTo more k → IsUpTo (drop b (kept ++ more)) k
+    → IsNarrowTo (drop a kept) k → IsNarrowTo more k → IsNarrowTo (drop b (kept ++ more)) k
 up_to_more a zero k [] more e up up' = up'
 up_to_more a (suc b) k [] more e up up' = absurd (omega (arith, e))
 up_to_more zero zero k (Given x ∷ kept) more e up up' = tt
@@ -233,13 +234,13 @@ up_to_more (suc a) (suc b) k (x ∷ kept) more e up up' =
     up_to_more a b k kept more (omega (arith, e)) up up'
 
 pub up_to_behind : (a k : ℕ) (kept more : List Kept) → a ≤ length kept
-    → IsUpTo (drop a kept) k → IsUpTo more k → IsUpTo (drop a (kept ++ more)) k
+    → IsNarrowTo (drop a kept) k → IsNarrowTo more k → IsNarrowTo (drop a (kept ++ more)) k
 up_to_behind a k kept more within up up' =
     up_to_more a a k kept more (omega (arith, within)) up up'
 
 -- nor does what a question adds
 pub said_widens_none : (said : SourceSaid) (fits : Bool) (k : ℕ)
-    → IsUpTo (kept_of_said said fits) k
+    → IsNarrowTo (kept_of_said said fits) k
 said_widens_none (Ok (Some a)) true k = tt
 said_widens_none (Ok (Some a)) false k = tt
 said_widens_none (Ok None) fits k = tt
@@ -254,7 +255,7 @@ pub front_of_none : (n : ℕ) → take n no_answer ≡ no_answer
 front_of_none zero = refl
 front_of_none (suc n) = refl
 
-pub none_widens : (n k : ℕ) → IsUpTo (drop n no_answer) k
+pub none_widens : (n k : ℕ) → IsNarrowTo (drop n no_answer) k
 none_widens zero k = tt
 none_widens (suc n) k = tt
 
@@ -287,7 +288,7 @@ line_of_front m config kept i answers a line valid is within behind =
 
 -- and where more is kept that widens no process up to there
 pub line_of_more : (m : Module) (config : Settings) (kept more : List Kept) (i : ℕ) (line : Line)
-    → (is : IsLine m config kept i line) → IsUpTo more is.steps
+    → (is : IsLine m config kept i line) → IsNarrowTo more is.steps
     → IsLine m config (kept ++ more) i line
 line_of_more m config kept more i line is up = record {
   answers = min is.answers (length kept);

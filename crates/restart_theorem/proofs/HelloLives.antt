@@ -11,7 +11,7 @@ use Rattle.wasi_calls_rules.specs.Hosts.{Line}
 use Rattle.process_rules.specs.Processes.{ProcessState, Guest, Exited}
 use Rattle.process_rules.specs.Runs.{Kept, Wants, Runs, Reaches, next_of, LeadsTo, none, step, take}
 use Rattle.process_rules.specs.Runs.{widen}
-use Rattle.process_rules.specs.Behind.{IsUpTo, AnswersBehindLine, IsLine}
+use Rattle.process_rules.specs.Behind.{IsNarrowTo, AnswersBehindLine, IsLine}
 use Rattle.process_rules.specs.laws.Examples.{hello_end}
 use Rattle.process_rules.proofs.ExamplesValid.{hello_is_valid}
 use Rattle.process_rules.proofs.ExamplesHold.{hello_ends}
@@ -192,7 +192,7 @@ module _ (config : Settings) (some : 1 ≤ config.pages) (few : config.pages ≤
       → HoldsAll hello config so_far.kept so_far 0 steps
   holds so_far steps kept answers enough begun = record {
     within = omega arith;
-    up_to = subst (λ (l : List Kept). IsUpTo l steps) (sym kept) tt;
+    up_to = subst (λ (l : List Kept). IsNarrowTo l steps) (sym kept) tt;
     answers = omega (arith, answers);
     steps_held = enough;
     lines = λ i h. (
@@ -235,7 +235,7 @@ module _ (config : Settings) (some : 1 ≤ config.pages) (few : config.pages ≤
       steps = 8;
       process = (hello_at_end config).process;
       reached = (hello_at_end config).reached;
-      up_to = subst (λ (l : List Kept). IsUpTo l 8) (sym kept) tt;
+      up_to = subst (λ (l : List Kept). IsNarrowTo l 8) (sym kept) tt;
       place = 0;
       counted = refl;
       is = ap (λ (z : List Line). slice_get z 0) (hello_at_end config).lines;

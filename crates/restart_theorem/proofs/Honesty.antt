@@ -5,7 +5,7 @@ use Rattle.std.proofs.Common.{Some, None, Ok, refl, sym, ap, ◌∙◌, subst, a
 use Rattle.wasm_syntax.specs.declared.module.Module.{Module}
 use Rattle.wasi_abi.specs.rules.Configs.{Settings}
 use Rattle.process_rules.specs.Runs.{Kept, Given, Reaches}
-use Rattle.process_rules.specs.Behind.{IsUpTo, AnswersBehindLine}
+use Rattle.process_rules.specs.Behind.{IsNarrowTo, AnswersBehindLine}
 use Rattle.restart_theorem.specs.Lives.{Act, Slice, Checkpoint, Inputs, OfOutlet, Spent, Waits}
 use Rattle.restart_theorem.specs.Lives.{Done}
 use Rattle.restart_theorem.specs.Lives.{Fails, Event, Told, Asked, Opened, Ended, Beginning}
@@ -31,7 +31,7 @@ never same = absurd (subst IsRecovery same tt)
 -- the answers behind so many lines, from a process that has emitted as many
 behind : {m : Module} {config : Settings} (kept : List Kept) (a steps lines i : ℕ)
     → a ≤ length kept → (s : ShowsAt m config (take a kept) steps lines)
-    → IsUpTo (drop a kept) s.saved.steps → i ≤ lines → AnswersBehindLine m config kept i a
+    → IsNarrowTo (drop a kept) s.saved.steps → i ≤ lines → AnswersBehindLine m config kept i a
 behind kept a steps lines i within s up few = let e = sym s.at.shown.lines ∙ s.lines_are in record {
   within = within;
   steps = s.saved.steps;
@@ -234,7 +234,7 @@ module _ {m : Module} {config : Settings} (t : Teller m config) where
 
   retells : (so_far : Promise) (inputs : Inputs)
       → Reaches m config (take 1 so_far.kept) t.has_first.steps t.has_first.process
-      → IsUpTo (drop 1 so_far.kept) t.has_first.steps → so_far.passed ≡ 0
+      → IsNarrowTo (drop 1 so_far.kept) t.has_first.steps → so_far.passed ≡ 0
       → true ≡ first_taken inputs.takes
       → IsKept m config so_far (at_first inputs) (Told (line_one t) true)
   retells so_far inputs reached up none heard = record {

@@ -20,7 +20,7 @@ use Rattle.wasi_abi.specs.declared.version.Version.TheVariants.{One}
 use Rattle.wasi_abi.specs.rules.Versions.{text_limit, widenings}
 use Rattle.process_rules.specs.Processes.{Ending, ProcessState, Guest, Exited, Trapped, over}
 use Rattle.process_rules.specs.Processes.{host_of}
-use Rattle.process_rules.specs.Runs.{Kept, Wider, widened, Moves, Runs, version_of, Reaches}
+use Rattle.process_rules.specs.Runs.{Kept, Wider, widened, Moves, Runs, version_after, Reaches}
 use Rattle.process_rules.specs.Behind.{Syncs}
 use Rattle.process_rules.specs.Owing.{RunsQuietly}
 
@@ -65,7 +65,7 @@ RunsEmit = (guest : Guest) (p q : ProcessState) (kept : List Kept) (n : ℕ) →
 abbrev pub WidenedOnce : Type 0
 WidenedOnce =
     (m : Module) (config : Settings) (front rest : List Kept) (n steps : ℕ) (p : ProcessState)
-    → Reaches m config (front ++ Wider steps ∷ rest) n p → version_of front ≡ One
+    → Reaches m config (front ++ Wider steps ∷ rest) n p → version_after front ≡ One
 
 -- After the same steps the widened process is the other one but for the widening.
 abbrev pub WideningIsAll : Type 0
@@ -124,7 +124,7 @@ ReachedAreConfigured =
 abbrev pub ReachedVersions : Type 0
 ReachedVersions =
     (m : Module) (config : Settings) (kept : List Kept) (n : ℕ) (p : ProcessState)
-    → Reaches m config kept n p → p.host.version ≡ version_of kept
+    → Reaches m config kept n p → p.host.version ≡ version_after kept
 
 -- At most one request's text and its newline wait to be read.
 abbrev pub ReachedInputIsShort : Type 0

@@ -21,7 +21,7 @@ use Rattle.journal.specs.rules.State.{JournalState}
 use Rattle.record_replay.specs.rules.Records.{Recorded, none, given_in}
 use Rattle.record_replay.proofs.Recordings.{recorded_count, recorded_emit, recorded_join}
 use Rattle.restart_theorem.specs.Stands.{IsBlank}
-use Rattle.process_rules.specs.Behind.{IsUpTo}
+use Rattle.process_rules.specs.Behind.{IsNarrowTo}
 use Rattle.record_replay.proofs.OneRecording.{one_recorded}
 use Rattle.restart_theorem.proofs.Fronts.{none_widens, up_to_front}
 use Rattle.restart_theorem.specs.Lives.{Checkpoint, Done, Ended}
@@ -73,7 +73,7 @@ plus_none n = omega arith
 
 pub holds_grow : (m : Module) (config : Settings) (kept : List Kept) (promise : Promise)
     (held more steps later : ℕ) → HoldsAll m config kept promise held steps → held ≤ more
-    → more ≤ length kept → steps ≤ later → IsUpTo (drop more kept) later
+    → more ≤ length kept → steps ≤ later → IsNarrowTo (drop more kept) later
     → HoldsAll m config kept promise more later
 holds_grow m config kept promise held more steps later holds le within on up =
     let answers : promise.answers ≤ held = holds.answers in
@@ -171,7 +171,7 @@ stands_held_at m config promise disk holds =
 -- where records are left, an answer is kept next
 pub up_to_map : (kept front : List Kept) (all : List Record) (a b c n : ℕ) → a ≡ length front + c
     → b ≡ length front + length all → take b kept ≡ front ++ map given_in all → c < length all
-    → IsUpTo (drop a kept) n
+    → IsNarrowTo (drop a kept) n
 up_to_map [] front all a b c n e f same less = none_widens a n
 up_to_map (k ∷ kept) (x ∷ front) all zero b c n e f same less = absurd (omega (arith, e))
 up_to_map (k ∷ kept) (x ∷ front) all (suc a) zero c n e f same less = absurd (omega (arith, f))
@@ -182,7 +182,7 @@ up_to_map (k ∷ kept) [] [] a b c n e f same less = absurd (omega (arith, less)
 up_to_map (k ∷ kept) [] (r ∷ all) a zero c n e f same less = absurd (omega (arith, f))
 up_to_map (k ∷ kept) [] (r ∷ all) zero (suc b) c n e f same less =
     let first : k ≡ Given r.answer = cc in
-    subst (λ (z : Kept). IsUpTo (z ∷ kept) n) (sym first) tt
+    subst (λ (z : Kept). IsNarrowTo (z ∷ kept) n) (sym first) tt
 up_to_map (k ∷ kept) [] (r ∷ all) (suc a) (suc b) zero n e f same less = absurd (omega (arith, e))
 up_to_map (k ∷ kept) [] (r ∷ all) (suc a) (suc b) (suc c) n e f same less =
     let others : take b kept ≡ map given_in all = cc in
@@ -195,7 +195,7 @@ module _ (m : Module) (config : Settings) (promise : Promise) (point : Savepoint
     (answers : take (count_at point (records ++ pending)) promise.kept
     ≡ answers_at point (records ++ pending)) (now : ProcessState)
     (recorded : Recorded point.reached.guest last pending now)
-    (up : IsUpTo (drop (count_at point (records ++ pending)) promise.kept) now.steps) where
+    (up : IsNarrowTo (drop (count_at point (records ++ pending)) promise.kept) now.steps) where
   all_count : ℕ
   all_count = count_at point (records ++ pending)
 
@@ -206,7 +206,7 @@ module _ (m : Module) (config : Settings) (promise : Promise) (point : Savepoint
   -- where all of them are there, it is the process at hand
   all_there : (disk : Image) (at : StandsAtFront point records last pending disk)
       → length pending ≤ at.count
-      → IsUpTo (drop (count_at point (records ++ take at.count pending)) promise.kept)
+      → IsNarrowTo (drop (count_at point (records ++ take at.count pending)) promise.kept)
       at.process.steps
   all_there disk at none_left =
       let whole : take at.count pending ≡ pending = take_all at.count pending none_left in
@@ -214,9 +214,9 @@ module _ (m : Module) (config : Settings) (promise : Promise) (point : Savepoint
       one_recorded point.reached.guest last at.process now pending
       (subst (λ l. Recorded point.reached.guest last l at.process) whole at.recorded) recorded in
       subst (λ (p : ProcessState).
-      IsUpTo (drop (count_at point (records ++ take at.count pending)) promise.kept) p.steps)
+      IsNarrowTo (drop (count_at point (records ++ take at.count pending)) promise.kept) p.steps)
       (sym same)
-      (subst (λ (l : List Record). IsUpTo (drop (count_at point (records ++ l)) promise.kept)
+      (subst (λ (l : List Record). IsNarrowTo (drop (count_at point (records ++ l)) promise.kept)
       now.steps) (sym whole) up)
 
   pub front_is_held : (disk : Image) → StandsAtFront point records last pending disk
@@ -308,7 +308,7 @@ next_is_held m config promise point next records more last held saves =
       holds = holds_grow m config promise.kept promise (count_at point records)
           (count_at next []) last.steps next.process.steps held.holds (omega (arith, long))
           (omega (arith, bound)) (omega (arith, run))
-          (subst (λ n. IsUpTo (drop n promise.kept) next.process.steps) same saves.up_to);
+          (subst (λ n. IsNarrowTo (drop n promise.kept) next.process.steps) same saves.up_to);
       heard = saves.heard;
       passed = omega (arith, few, told, tells, first, later);
     }
@@ -338,7 +338,7 @@ fresh_is_held m config promise point nothing created empty no_lines =
       recorded = none;
       holds = record {
         within = omega (arith, front_length);
-        up_to = subst (λ (l : List Kept). IsUpTo (drop (length point.front + 0) l)
+        up_to = subst (λ (l : List Kept). IsNarrowTo (drop (length point.front + 0) l)
             point.process.steps) (sym none_kept)
             (none_widens (length point.front + 0) point.process.steps);
         answers = omega (arith, no_answers);
@@ -369,7 +369,7 @@ fresh_is_held m config promise point nothing created empty no_lines =
       steps = point.steps;
       process = point.process;
       reached = subst (λ l. Reaches m config l point.steps point.process) empty point.reached;
-      up_to = subst (λ (l : List Kept). IsUpTo l point.steps)
+      up_to = subst (λ (l : List Kept). IsNarrowTo l point.steps)
           (sym (ap (λ (p : Promise). p.kept) nothing)) tt;
       emitted = at_zero i (length point.process.host.lines) e;
     }
@@ -378,9 +378,9 @@ fresh_is_held m config promise point nothing created empty no_lines =
 pub first_up_to : (m : Module) (config : Settings) (promise : Promise)
     (point : Savepoint m config) (records : List Record) (last : ProcessState)
     (front : List Kept) → IsHeldAt promise point records last
-    → front ≡ answers_at point records → IsUpTo (drop (length front) promise.kept) last.steps
+    → front ≡ answers_at point records → IsNarrowTo (drop (length front) promise.kept) last.steps
 first_up_to m config promise point records last front held is =
-    subst (λ n. IsUpTo (drop n promise.kept) last.steps)
+    subst (λ n. IsNarrowTo (drop n promise.kept) last.steps)
     (sym (ap (λ l. length l) is ∙ answers_count point records)) held.holds.up_to
 
 -- what the end of a checkpoint promises
@@ -531,8 +531,9 @@ point_opens m config promise point stage held shut last =
       };
       holds = holds_grow m config promise.kept promise (n + 0) n point.process.steps
           point.saved.steps all (omega arith) (omega (arith, bound)) (omega (arith, same))
-          (subst (λ k. IsUpTo (drop n promise.kept) k) (sym same)
-          (subst (λ k. IsUpTo (drop k promise.kept) point.process.steps) (plus_none n) all.up_to));
+          (subst (λ k. IsNarrowTo (drop n promise.kept) k) (sym same)
+          (subst (λ k. IsNarrowTo (drop k promise.kept) point.process.steps) (plus_none n)
+          all.up_to));
       all_heard = held.heard;
       none_beyond = last;
     }
@@ -607,7 +608,8 @@ module _ {D : Type 0} (medium : D → Medium) where
         held = all_is_held m config promise point before records pending last now (medium old) is;
         answers = subst (λ (l : List Record). take (count_at point l) promise.kept
             ≡ answers_at point l) (sym (append-nil (records ++ pending))) is.answers;
-        up_to = subst (λ (l : List Record). IsUpTo (drop (count_at point l) promise.kept) now.steps)
+        up_to = subst (λ (l : List Record).
+            IsNarrowTo (drop (count_at point l) promise.kept) now.steps)
             (sym (append-nil (records ++ pending))) is.up_to;
       }
 

@@ -18,7 +18,7 @@ use Rattle.process_rules.specs.Processes.{ProcessState, Guest}
 use Rattle.process_rules.specs.Runs.{Kept, Given, Wider, Next, Wants, On, after_row, after_call}
 use Rattle.process_rules.specs.Runs.{after_rule, next_of, Runs, Reaches}
 use Rattle.process_rules.specs.Runs.{none as no_step, step, take as takes, widen}
-use Rattle.process_rules.specs.Behind.{IsUpTo, AnswersBehindLine, AnswersBehindSync, Syncs}
+use Rattle.process_rules.specs.Behind.{IsNarrowTo, AnswersBehindLine, AnswersBehindSync, Syncs}
 use Rattle.process_rules.specs.Owing.{RunsQuietly, none, more}
 use Rattle.process_rules.proofs.Growing.{move_counts, runs_count, start_counts}
 use Rattle.process_rules.proofs.OneStart.{start_once}
@@ -40,37 +40,38 @@ use Rattle.worker_store.proofs.LawLemmas.Carrying.{answers_count, within_of}
 
 -- ---- what is kept next
 
-nothing_up_to : (kept : List Kept) (n : ℕ) → length kept ≡ 0 → IsUpTo kept n
+nothing_up_to : (kept : List Kept) (n : ℕ) → length kept ≡ 0 → IsNarrowTo kept n
 nothing_up_to [] n e = tt
 nothing_up_to (x ∷ kept) n e = absurd (omega (arith, e))
 
-pub up_to_before : (kept : List Kept) (n k : ℕ) → k ≤ n → IsUpTo kept n → IsUpTo kept k
+pub up_to_before : (kept : List Kept) (n k : ℕ) → k ≤ n → IsNarrowTo kept n → IsNarrowTo kept k
 up_to_before [] n k le up = tt
 up_to_before (Given x ∷ kept) n k le up = tt
 up_to_before (Wider s ∷ kept) n k le up = omega (arith, le, up)
 
-up_to_part : (kept more_kept : List Kept) (n : ℕ) → IsUpTo (kept ++ more_kept) n → IsUpTo kept n
+up_to_part : (kept more_kept : List Kept) (n : ℕ) → IsNarrowTo (kept ++ more_kept) n
+    → IsNarrowTo kept n
 up_to_part [] more_kept n up = tt
 up_to_part (Given x ∷ kept) more_kept n up = tt
 up_to_part (Wider s ∷ kept) more_kept n up = up
 
-pub up_to_rest : (kept more_kept : List Kept) (n : ℕ) → IsUpTo more_kept n
-    → IsUpTo (drop (length kept) (kept ++ more_kept)) n
+pub up_to_rest : (kept more_kept : List Kept) (n : ℕ) → IsNarrowTo more_kept n
+    → IsNarrowTo (drop (length kept) (kept ++ more_kept)) n
 up_to_rest [] more_kept n up = up
 up_to_rest (x ∷ kept) more_kept n up = up_to_rest kept more_kept n up
 
 -- behind all that is kept nothing widens
-pub up_to_end : (kept : List Kept) (n : ℕ) → IsUpTo (drop (length kept) kept) n
+pub up_to_end : (kept : List Kept) (n : ℕ) → IsNarrowTo (drop (length kept) kept) n
 up_to_end [] n = tt
 up_to_end (x ∷ kept) n = up_to_end kept n
 
 pub up_to_all : (kept front : List Kept) (n : ℕ) → front ≡ kept
-    → IsUpTo (drop (length front) kept) n
+    → IsNarrowTo (drop (length front) kept) n
 up_to_all kept front n same =
-    subst (λ (l : List Kept). IsUpTo (drop (length l) kept) n) (sym same) (up_to_end kept n)
+    subst (λ (l : List Kept). IsNarrowTo (drop (length l) kept) n) (sym same) (up_to_end kept n)
 
 up_to_less : (a : ℕ) (kept more_kept : List Kept) (n : ℕ)
-    → IsUpTo (drop a (kept ++ more_kept)) n → IsUpTo (drop a kept) n
+    → IsNarrowTo (drop a (kept ++ more_kept)) n → IsNarrowTo (drop a kept) n
 up_to_less a [] more_kept n up = none_widens a n
 up_to_less zero (Given x ∷ kept) more_kept n up = tt
 up_to_less zero (Wider s ∷ kept) more_kept n up = up
@@ -84,14 +85,14 @@ same_rest (x ∷ kept) left right e =
 
 -- what leads on from a front widens what is kept next
 up_to_there : (kept more_kept : List Kept) (a b n : ℕ) → take b kept ++ more_kept ≡ take a kept
-    → IsUpTo (drop b kept) n → IsUpTo more_kept n
+    → IsNarrowTo (drop b kept) n → IsNarrowTo more_kept n
 up_to_there kept more_kept a b n e up =
     let whole : take b kept ++ (more_kept ++ drop a kept) ≡ take b kept ++ drop b kept =
     sym (append_assoc (take b kept) more_kept (drop a kept))
     ∙ ap (λ (l : List Kept). l ++ drop a kept) e ∙ take-append-drop a kept
     ∙ sym (take-append-drop b kept) in
     up_to_part more_kept (drop a kept) n
-    (subst (λ (l : List Kept). IsUpTo l n)
+    (subst (λ (l : List Kept). IsNarrowTo l n)
     (sym (same_rest (take b kept) (more_kept ++ drop a kept) (drop b kept) whole)) up)
 
 -- ---- runs
@@ -102,7 +103,7 @@ record StaysThere (p q : ProcessState) (kept : List Kept) : Type 0 where
   pub nothing : kept ≡ []
 
 no_run : (guest : Guest) (p q : ProcessState) (kept : List Kept) (n : ℕ) → n ≡ 0
-    → IsUpTo kept (suc p.steps) → Runs guest p kept n q → StaysThere p q kept
+    → IsNarrowTo kept (suc p.steps) → Runs guest p kept n q → StaysThere p q kept
 no_run guest p q kept n e up (no_step {p = p'}) = record { process = refl; nothing = refl }
 no_run guest p q kept n e up (step {p = p'} {q = next} {kept = kept'} {n = k} moves rest) =
     absurd (omega (arith, e))
@@ -121,8 +122,8 @@ record IsOne (g h : Guest) (p q : ProcessState) : Type 0 where
 one_at_step : (m : Module) (config : Settings) (kept : List Kept) (a b n : ℕ)
     (p q : ProcessState) → IsValid m → length (take b kept) ≤ length (take a kept)
     → (left : Reaches m config (take a kept) n p)
-    → (right : Reaches m config (take b kept) n q) → IsUpTo (drop a kept) n
-    → IsUpTo (drop b kept) (suc n) → IsOne left.guest right.guest p q
+    → (right : Reaches m config (take b kept) n q) → IsNarrowTo (drop a kept) n
+    → IsNarrowTo (drop b kept) (suc n) → IsOne left.guest right.guest p q
 one_at_step m config kept a b n p q valid longer left right up up' =
     let same = start_once m config left.guest right.guest left.start right.start valid left.begins
     right.begins in
@@ -144,8 +145,8 @@ one_at_step m config kept a b n p q valid longer left right up up' =
           let counted : p.steps ≡ q.steps + on.steps =
           runs_count left.guest q p on.kept on.steps on.runs in
           let none_left : on.steps ≡ 0 = omega (arith, first, second, counted) in
-          let up_there : IsUpTo on.kept (suc q.steps) =
-          subst (λ z. IsUpTo on.kept (suc z)) (sym second)
+          let up_there : IsNarrowTo on.kept (suc q.steps) =
+          subst (λ z. IsNarrowTo on.kept (suc z)) (sym second)
           (up_to_there kept on.kept a b (suc n) on.front up') in
           sym (no_run left.guest q p on.kept on.steps none_left up_there on.runs).process)
           (fronts_lead_on m config kept a b n n p q valid left right up
@@ -156,7 +157,7 @@ one_at_step m config kept a b n p q valid longer left right up up' =
 pub no_earlier : (m : Module) (config : Settings) (kept : List Kept) (a b n k : ℕ)
     (p q : ProcessState) → IsValid m → length (take a kept) < length (take b kept)
     → Reaches m config (take a kept) n p → Reaches m config (take b kept) k q
-    → IsUpTo (drop a kept) n → IsUpTo (drop b kept) k → n ≤ k
+    → IsNarrowTo (drop a kept) n → IsNarrowTo (drop b kept) k → n ≤ k
 no_earlier m config kept a b n k p q valid less left right up up' =
     let first : p.steps ≡ n = reached_counts m config (take a kept) n p left in
     let second : q.steps ≡ k = reached_counts m config (take b kept) k q right in
@@ -175,7 +176,7 @@ no_earlier m config kept a b n k p q valid less left right up up' =
 later_step : (m : Module) (config : Settings) (kept : List Kept) (a b n k : ℕ)
     (p q : ProcessState) → IsValid m → length (take a kept) < length (take b kept)
     → Reaches m config (take a kept) n p → Reaches m config (take b kept) k q
-    → IsUpTo (drop a kept) (suc n) → IsUpTo (drop b kept) k → n < k
+    → IsNarrowTo (drop a kept) (suc n) → IsNarrowTo (drop b kept) k → n < k
 later_step m config kept a b n k p q valid less left right up up' =
     let first : p.steps ≡ n = reached_counts m config (take a kept) n p left in
     let second : q.steps ≡ k = reached_counts m config (take b kept) k q right in
@@ -185,8 +186,8 @@ later_step m config kept a b n k p q valid less left right up up' =
     runs_count left.guest p q on.kept on.steps on.runs in
     let long : length (take b kept) ≡ length (take a kept) + length on.kept =
     ap (λ l. length l) (sym on.front) ∙ length-append (take a kept) on.kept in
-    let up_there : IsUpTo on.kept (suc p.steps) =
-    subst (λ z. IsUpTo on.kept (suc z)) (sym first)
+    let up_there : IsNarrowTo on.kept (suc p.steps) =
+    subst (λ z. IsNarrowTo on.kept (suc z)) (sym first)
     (up_to_there kept on.kept b a (suc n) on.front up) in
     ⊎_elim
     (λ (later : 0 < on.steps). omega (arith, first, second, counted, later))
@@ -397,7 +398,7 @@ answered_syncs_are_held m config kept held p kind a valid reached wants syncs k 
 
 -- a line stays behind as many answers where more are kept that widen nothing before
 pub line_of_more : (m : Module) (config : Settings) (kept more_kept : List Kept) (i a : ℕ)
-    → (behind : AnswersBehindLine m config kept i a) → IsUpTo more_kept behind.steps
+    → (behind : AnswersBehindLine m config kept i a) → IsNarrowTo more_kept behind.steps
     → AnswersBehindLine m config (kept ++ more_kept) i a
 line_of_more m config kept more_kept i a behind up = record {
   within = longer a (length kept) (length (kept ++ more_kept)) (length more_kept) behind.within
@@ -575,7 +576,7 @@ module _ {D : Type 0} (medium : D → Medium) where
         journaled = goes;
         held = is.held;
         answers = take_all (count_at point all) promise.kept (at_most _ _ long) ∙ on_record;
-        up_to = subst (λ n. IsUpTo (drop n promise.kept) next.steps) long
+        up_to = subst (λ n. IsNarrowTo (drop n promise.kept) next.steps) long
             (up_to_end promise.kept next.steps);
       }
     where

@@ -18,7 +18,7 @@ use Rattle.sector_disk.proofs.Moments.{leaves_weaker}
 use Rattle.disk_layout.specs.rules.Journal.{Record}
 use Rattle.record_replay.specs.rules.Records.{Recorded, given_in}
 use Rattle.record_replay.proofs.Recordings.{recorded_runs}
-use Rattle.process_rules.specs.Behind.{IsUpTo}
+use Rattle.process_rules.specs.Behind.{IsNarrowTo}
 use Rattle.restart_theorem.proofs.Fronts.{reached_counts, up_to_front}
 use Rattle.restart_theorem.specs.Lives.{Opened}
 use Rattle.restart_theorem.specs.Promises.{Promise, after, HoldsAll}
@@ -109,7 +109,7 @@ retold_is_held m config promise promise' point records last held adds =
             steps = reached.0;
             process = last;
             reached = reached.1;
-            up_to = subst (λ n. IsUpTo (drop (count_at point records) promise.kept) n)
+            up_to = subst (λ n. IsNarrowTo (drop (count_at point records) promise.kept) n)
                 (reached_counts m config (take (count_at point records) promise.kept) reached.0 last
                 reached.1) held.holds.up_to;
             emitted = few;

@@ -11,7 +11,7 @@ use Rattle.wasi_calls_rules.specs.Hosts.{Line}
 use Rattle.wasm_semantics.specs.Configuration.{Thread}
 use Rattle.wasi_calls_rules.specs.Lines.{rest_of}
 use Rattle.process_rules.specs.Processes.{ProcessState, Guest, IsStart, closed_at}
-use Rattle.process_rules.specs.Behind.{IsUpTo}
+use Rattle.process_rules.specs.Behind.{IsNarrowTo}
 use Rattle.process_rules.specs.Runs.{Runs, none}
 use Rattle.process_rules.proofs.Growing.{start_counts}
 use Rattle.record_replay.specs.rules.Calls.{Tells, all_taken}
@@ -250,7 +250,7 @@ module _ (m : Module) (config : Settings) (guest : Guest) where
         runs =
             subst (λ n. Runs guest start [] n start)
             (sym (start_counts m config guest start begins)) none;
-        up_to = subst (λ (z : Promise). IsUpTo z.kept start.steps) (sym nothing) tt;
+        up_to = subst (λ (z : Promise). IsNarrowTo z.kept start.steps) (sym nothing) tt;
         shut = refl;
         last = tt;
         emitted = omega arith;

@@ -1,6 +1,7 @@
 -- Parts of a call, one after another: what they make of what was promised, and of the disk.
 use Rattle.std.proofs.Common.{◌≡◌, ℕ, ◌+◌, ◌<◌, ◌≤◌, Bool, true, false, List, ◌++◌}
-use Rattle.std.proofs.Common.{length, take, drop, ◌⊎◌, refl, sym, ap, ◌∙◌, subst, inl, inr, ⊎_elim, arith}
+use Rattle.std.proofs.Common.{length, take, drop, ◌⊎◌, refl, sym, ap, ◌∙◌, subst, inl, inr, ⊎_elim}
+use Rattle.std.proofs.Common.{arith}
 use Rattle.std.proofs.Common.{length-append}
 use Rattle.std.specs.Prelude.{max}
 use Rattle.std.proofs.lemmas.Bool.{cases_lt}
@@ -11,7 +12,7 @@ use Rattle.wasi_abi.specs.declared.answer.Kind.{Kind}
 use Rattle.wasi_abi.specs.rules.Configs.{Settings}
 use Rattle.process_rules.specs.Processes.{ProcessState}
 use Rattle.process_rules.specs.Runs.{Kept, Reaches}
-use Rattle.process_rules.specs.Behind.{IsUpTo, AnswersBehindLine, AnswersBehindSync}
+use Rattle.process_rules.specs.Behind.{IsNarrowTo, AnswersBehindLine, AnswersBehindSync}
 use Rattle.sector_disk.specs.rules.Image.{Image}
 use Rattle.sector_disk.specs.rules.Medium.{Medium, LeavesOnly}
 use Rattle.sector_disk.proofs.Moments.{started, leaves_only}
@@ -107,7 +108,7 @@ ended_still_holds m config promise act reply n shown first image no_more held =
 
 -- No sync up to a step needs an answer that comes behind it.
 module _ (m : Module) (config : Settings) (kept more_kept : List Kept) (n : ℕ) (p : ProcessState)
-    (valid : IsValid m) (reached : Reaches m config kept n p) (up : IsUpTo more_kept n) where
+    (valid : IsValid m) (reached : Reaches m config kept n p) (up : IsNarrowTo more_kept n) where
   here_reached : Reaches m config (take (length kept) (kept ++ more_kept)) n p
   here_reached =
       subst (λ l. Reaches m config l n p)
@@ -143,7 +144,7 @@ module _ (m : Module) (config : Settings) (kept more_kept : List Kept) (n : ℕ)
 
   -- a front that has come further has all that is kept
   no_less : (a steps : ℕ) (q : ProcessState) → a ≤ length kept → n < steps
-      → Reaches m config (take a kept) steps q → IsUpTo (drop a kept) steps → a ≡ length kept
+      → Reaches m config (take a kept) steps q → IsNarrowTo (drop a kept) steps → a ≡ length kept
   no_less a steps q within late there up_there = ⊎_elim
       (λ (less : a < length kept).
       let one = length-take-le a kept within in
@@ -159,7 +160,7 @@ module _ (m : Module) (config : Settings) (kept more_kept : List Kept) (n : ℕ)
 
   -- Each line that was begun stays behind answers that are held.
   line_stays : (i held begun : ℕ) → i ≤ begun
-      → ((step : ℕ) → IsUpTo more_kept step) ⊎ (begun ≤ length p.host.lines)
+      → ((step : ℕ) → IsNarrowTo more_kept step) ⊎ (begun ≤ length p.host.lines)
       → (a : ℕ) × (a ≤ held) × AnswersBehindLine m config kept i a
       → (a : ℕ) × (a ≤ held) × AnswersBehindLine m config (kept ++ more_kept) i a
   line_stays i held begun below (inl none_widens) line = (
@@ -192,8 +193,8 @@ module _ (m : Module) (config : Settings) (kept more_kept : List Kept) (n : ℕ)
       ))
       (cases_lt n line.2.steps)
 
-  all_of_more : (first : Promise) (held steps : ℕ) → first.synced ≤ n → IsUpTo more_kept steps
-      → ((step : ℕ) → IsUpTo more_kept step) ⊎ (first.begun ≤ length p.host.lines)
+  all_of_more : (first : Promise) (held steps : ℕ) → first.synced ≤ n → IsNarrowTo more_kept steps
+      → ((step : ℕ) → IsNarrowTo more_kept step) ⊎ (first.begun ≤ length p.host.lines)
       → HoldsAll m config kept first held steps
       → HoldsAll m config (kept ++ more_kept) first held steps
   all_of_more first held steps early up_there may holds =
@@ -223,7 +224,7 @@ module _ {D : Type 0} (medium : D → Medium) where
       let held = is.held in
       let holds = held.holds in
       let counted : p.steps ≡ n = reached_counts m config promise.kept n p reached in
-      let up : IsUpTo more n = subst (λ k. IsUpTo more k) counted may.up_to in
+      let up : IsNarrowTo more n = subst (λ k. IsNarrowTo more k) counted may.up_to in
       let so_far : last.steps ≤ now.steps =
       recorded_count point.reached.guest last now pending is.journaled.recorded in
       let all = all_of_more m config promise.kept more n p valid reached up promise
@@ -524,7 +525,7 @@ module _ {D : Type 0} (medium : D → Medium) where
         };
         answers = ap (λ l. take (count_at point (records ++ pending)) l) adds.kept ∙ is.answers;
         up_to = subst (λ (l : List Kept).
-            IsUpTo (drop (count_at point (records ++ pending)) l) now.steps) (sym adds.kept)
+            IsNarrowTo (drop (count_at point (records ++ pending)) l) now.steps) (sym adds.kept)
             is.up_to;
       }
     where

@@ -1,7 +1,7 @@
 -- Acts that save a worker, and what is promised in their end.
 use Rattle.std.specs.Prelude.{◌≡◌, ◌⊎◌, ℕ, ◌≤◌, List, [], ◌++◌}
 use Rattle.process_rules.specs.Runs.{Kept}
-use Rattle.process_rules.specs.Behind.{IsUpTo}
+use Rattle.process_rules.specs.Behind.{IsNarrowTo}
 use Rattle.state_image.specs.rules.Image.{Saved}
 use Rattle.restart_theorem.specs.Lives.{Act, Slice, Checkpoint, Reply, Ended}
 use Rattle.restart_theorem.specs.Promises.{Promise, after}
@@ -18,8 +18,8 @@ keeping_more promise more = record promise { kept = promise.kept ++ more }
 -- What is kept besides may widen a process after so many steps, where that has emitted all lines
 -- that were begun.
 pub record MayBeKept (more : List Kept) (steps lines begun : ℕ) : Type 0 where
-  pub up_to : IsUpTo more steps
-  pub emitted : ((step : ℕ) → IsUpTo more step) ⊎ (begun ≤ lines)
+  pub up_to : IsNarrowTo more steps
+  pub emitted : ((step : ℕ) → IsNarrowTo more step) ⊎ (begun ≤ lines)
 
 -- An act saves this process. Once it has ended, whatever it answers, these are kept besides.
 pub record SavesWith (promise : Promise) (act : Act) (more : List Kept) (shown : Saved)

@@ -5,7 +5,7 @@ use Rattle.wasm_semantics.specs.Acceptance.{IsAccepted}
 use Rattle.wasi_abi.specs.rules.Configs.{Settings, AreSettingsWithinLimits}
 use Rattle.machine.specs.rules.Offers.{offer}
 use Rattle.process_rules.specs.Processes.{ProcessState, Guest, IsStart}
-use Rattle.process_rules.specs.Behind.{IsUpTo}
+use Rattle.process_rules.specs.Behind.{IsNarrowTo}
 use Rattle.process_rules.specs.Runs.{Kept, Runs}
 use Rattle.process.specs.rules.Values.{ProcessValue, ShowsProcess, IsProcess}
 use Rattle.state_image.specs.rules.Saving.{saved_of}
@@ -43,7 +43,7 @@ pub record IsNextOf {m : Module} {config : Settings} (point : Savepoint m config
   pub process : next.process ≡ p
   pub same : next.reached.guest ≡ point.reached.guest
   pub saves : (promise : Promise) → take (length next.front) promise.kept ≡ next.front
-      → IsUpTo (drop (length next.front) promise.kept) p.steps
+      → IsNarrowTo (drop (length next.front) promise.kept) p.steps
       → length p.host.lines ≤ promise.heard → SavesFront promise point next records more last
 
 -- There is one, wherever the records of a savepoint have led.
