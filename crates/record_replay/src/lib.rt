@@ -17,6 +17,7 @@
 //!   step further. Each line on the way, and each that waited, was released once, in order
 //!   (`replayed`). It counts the steps (`counted`). Where it is refused, all lines were released to
 //!   which it had come, up to one that the outlet refused. It says what the cause was (`stopped`).
+//! - `copy_answer` gives the same answer, in memory of its own.
 //! - `questions_follow_one_another`, `releases_follow_one_another`,
 //!   `exchanges_follow_one_another`: of any source and outlet, a list of calls leads where its
 //!   front leads, and then its rest.
@@ -70,6 +71,7 @@
 
 mod answer_list;
 mod boxed;
+mod copying;
 mod fault;
 mod laws;
 mod line_list;
@@ -81,6 +83,7 @@ mod source;
 
 pub use answer_list::AnswerList;
 pub use boxed::{AnyOutlet, AnySource};
+pub use copying::copy_answer;
 pub use fault::{OutletFault, ReplayFault, SourceFault};
 pub use laws::{
     exchanges_follow_one_another, questions_follow_one_another, records_lead_to_one_process,

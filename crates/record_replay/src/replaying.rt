@@ -6,13 +6,12 @@ ghost use Rattle.record_replay.specs.Plays.{RunsToStep};
 ghost use Rattle.record_replay.specs.rules.Replays.{Replays, ReplaysInVain};
 
 use crate::Outlet;
+use crate::copying::copy_answer;
 use crate::fault::ReplayFault;
 use crate::releasing::release_waiting;
 use disk_layout::Record;
 use process::{Process, Stop};
-use std::alloc::{AllocError, Global};
-use wasi_abi::Answer;
-use wasm_syntax::Row;
+use std::alloc::Global;
 
 /// Runs a process to where its records lead, and releases each line that it emits on the way, or
 /// that waited. It takes the step of the last record, and none behind that. Gives the process, and
@@ -102,25 +101,4 @@ fn run_to_step<O: Outlet>(
             Stop::Asks(_) | Stop::Ended(_) => return Err(ReplayFault::Diverged),
         }
     }
-}
-
-/// The same answer, in memory of its own.
-fn copy_answer(alloc: Global, answer: &Answer) -> Result<Answer, AllocError>
-    ensures { IfOk result (λ copy. copy ≡ answer.now) }
-{
-    Ok(match answer {
-        Answer::Request { text } => Answer::Request {
-            text: Row::from_vec(text.as_slice().to_vec(alloc)?),
-        },
-        Answer::End => Answer::End,
-        Answer::Realtime { nanoseconds } => Answer::Realtime {
-            nanoseconds: *nanoseconds,
-        },
-        Answer::Monotonic { nanoseconds } => Answer::Monotonic {
-            nanoseconds: *nanoseconds,
-        },
-        Answer::Random { bytes } => Answer::Random {
-            bytes: Row::from_vec(bytes.as_slice().to_vec(alloc)?),
-        },
-    })
 }

@@ -1,5 +1,5 @@
 -- Slices of a worker with a disk, one after another.
-use Rattle.std.proofs.Common.{◌≡◌, refl, sym, ◌∙◌, subst}
+use Rattle.std.proofs.Common.{◌≡◌, refl, ◌∙◌, subst}
 use Rattle.std.specs.Prelude.{Bool}
 use Rattle.process.specs.rules.Values.{ProcessValue}
 use Rattle.record_replay.specs.rules.Calls.{Giving, Taking}

@@ -10,7 +10,7 @@ use Rattle.sector_disk.specs.declared.memory.MemDisk.{MemDisk}
 use Rattle.sector_disk.specs.declared.place.Place.{Place}
 use Rattle.sector_disk.specs.rules.Image.{Image}
 use Rattle.sector_disk.specs.rules.FaultDisk.{call_counts_of}
-use Rattle.sector_disk.specs.rules.Medium.{Medium, IsAllSynced}
+use Rattle.sector_disk.specs.rules.Medium.{IsAllSynced}
 use Rattle.sector_disk.specs.rules.Memory.{memory_medium, memory_stays, MemoryState}
 use Rattle.sector_disk.specs.rules.Memory.{memory_state_of, after_cut}
 use Rattle.sector_disk.specs.rules.Trouble.{place_numbers, has_begun, call_number}

@@ -1,9 +1,9 @@
 -- Lives go on, one after another.
 use Rattle.std.proofs.Common.{◌≡◌, ℕ, ◌<◌, ◌≤◌, ◌+◌, ◌++◌, List, [], ◌∷◌, length, refl, sym, ap}
 use Rattle.std.proofs.Common.{◌∙◌}
-use Rattle.std.proofs.Common.{subst, inl, inr, arith, take, get_or, suc, ◌^◌, ◌*◌}
+use Rattle.std.proofs.Common.{subst, inl, arith, take, get_or, suc, ◌^◌, ◌*◌}
 use Prim.Native.Nat.{zero}
-use Rattle.std.specs.Prelude.{Result, Ok, Err, Option, None, map, replicate, IfOk}
+use Rattle.std.specs.Prelude.{Result, Ok, Err, Option, map, replicate, IfOk}
 use Rattle.std.proofs.lemmas.List.{length-replicate, take_all, take_more}
 use Rattle.std.proofs.Math.Nat.{le_refl}
 use Rattle.wasm_syntax.specs.declared.module.Module.{Module}

@@ -2,7 +2,6 @@
 
 mod calling;
 mod choosing;
-mod copying;
 mod cutting;
 mod fault;
 mod planning;

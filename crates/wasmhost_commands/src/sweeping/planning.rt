@@ -6,7 +6,7 @@ ghost use Rattle.wasmhost_commands.specs.rules.Sweeps.{acts_of, answers_when_ope
 ghost use Rattle.wasmhost_commands.specs.rules.Sweeps.{answers_before, answers_not_lost, cut_at};
 ghost use Rattle.wasmhost_commands.specs.rules.Sweeps.{first_stopped, kept_in, life_after, stopped_at};
 
-use crate::sweeping::copying::copy_answer;
+use record_replay::copy_answer;
 use sector_disk::Place;
 use std::alloc::{AllocError, Global};
 use wasi_abi::Answer;

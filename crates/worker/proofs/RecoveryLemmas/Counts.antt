@@ -1,5 +1,5 @@
 -- How many writes wait for a sync at once in a recovery.
-use Rattle.std.proofs.Common.{◌≡◌, ◌+◌, ◌≤◌, max, sym, ap, subst, inl, inr, arith}
+use Rattle.std.proofs.Common.{◌+◌, ◌≤◌, max, sym, subst, inl, inr, arith}
 use Rattle.std.specs.Prelude.{Result, Ok, Err}
 use Rattle.sector_disk.specs.rules.Medium.{Medium, CountsUpTo}
 use Rattle.sector_disk.proofs.CountLemmas.{counts_then}
@@ -10,7 +10,7 @@ use Rattle.worker.specs.declared.recover_fault.RecoverFault.{RecoverFault}
 use Rattle.worker.specs.rules.DurableValues.{DurableValue}
 use Rattle.worker.specs.rules.Recoveries.{IsSettledBy}
 use Rattle.worker.specs.rules.Unsynced.{CountsInSaving, CountsInRecovery}
-use Rattle.worker.specs.Revivals.{RevivesFound, WritesNext}
+use Rattle.worker.specs.Revivals.{RevivesFound}
 
 -- a settled disk, and then a commit
 saving_counts : (places : Geometry) (old mid new : Medium) → IsSettledBy old mid

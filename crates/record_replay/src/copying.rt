@@ -1,4 +1,4 @@
-//! Answers, copied.
+//! An answer, copied.
 
 ghost use Rattle.std.specs.Prelude.{◌≡◌, IfOk};
 
@@ -6,19 +6,13 @@ use std::alloc::{AllocError, Global};
 use wasi_abi::Answer;
 use wasm_syntax::Row;
 
-fn copy_bytes(alloc: Global, bytes: &[u8]) -> Result<Row<u8>, AllocError>
-    ensures { IfOk result (λ copy. copy ≡ bytes.now) }
-{
-    Ok(Row::from_vec(bytes.to_vec(alloc)?))
-}
-
-/// The same answer, in memory of its own.
-pub(super) fn copy_answer(alloc: Global, answer: &Answer) -> Result<Answer, AllocError>
+/// The same answer, in memory of its own. It fails for want of memory alone.
+pub fn copy_answer(alloc: Global, answer: &Answer) -> Result<Answer, AllocError>
     ensures { IfOk result (λ copy. copy ≡ answer.now) }
 {
     Ok(match answer {
         Answer::Request { text } => Answer::Request {
-            text: copy_bytes(alloc, text.as_slice())?,
+            text: Row::from_vec(text.as_slice().to_vec(alloc)?),
         },
         Answer::End => Answer::End,
         Answer::Realtime { nanoseconds } => Answer::Realtime {
@@ -28,7 +22,7 @@ pub(super) fn copy_answer(alloc: Global, answer: &Answer) -> Result<Answer, Allo
             nanoseconds: *nanoseconds,
         },
         Answer::Random { bytes } => Answer::Random {
-            bytes: copy_bytes(alloc, bytes.as_slice())?,
+            bytes: Row::from_vec(bytes.as_slice().to_vec(alloc)?),
         },
     })
 }
