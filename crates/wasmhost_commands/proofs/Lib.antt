@@ -1,3 +1,4 @@
+pub mod WatchingLemmas
 pub mod Told
 pub mod SeedLemmas
 pub mod ShowingLemmas

@@ -35,6 +35,10 @@
 //!   above 7 (`known`). It is 7 where the outlet has refused a line, and else only where a write of
 //!   `err` has failed (`refusal`). `laws::seven_is_a_failed_write`: what that comes to where the
 //!   lines are printed.
+//! - `Watcher`: who is told where the worker of a run stands. `serve` tells it once the worker is
+//!   recovered, and after each checkpoint of its pace (`told` of `rest_on`). Where the status is 0,
+//!   it was told of that end (`watched`). `StatusFile` is one, which replaces a small file. Its line
+//!   is `standing_line`. No clause says that the file gets it: `scripts/program-rows` shows that.
 //! - `laws::statuses_have_causes`: what each of these statuses comes from, and that a reader which
 //!   fails is told (`SaysOnDisk`). Where a number, memory or an answer was wanting, each line of
 //!   the worker was told (`HasToldItsLines`). `laws::refusals_have_reasons`: why the source of a
@@ -97,7 +101,7 @@
 //! `IsOutOfBounds`, `range_words` (`Bounds.antt`); `limit_text` (`ModuleLimits.antt`);
 //! `SaysOfInput` (`Leavings.antt`);
 //! `ShowsDisk`, `ShowsSurvey`, `survey_line` (`Showings.antt`); `open_words`, `IsOpenedFor`,
-//! `ShowsFile` (`Openings.antt`);
+//! `ShowsFile` (`Openings.antt`); `standing_line`, `WatchesEnd` (`Watchings.antt`);
 //! `ServesOnDisk`, `LivesOnDisk`, `HasOutcome`, `HasBrokenOff`, `stands_behind`
 //! (`ServedOnDisk.antt`); `BreaksOff`, `LeavesNoLine`, `TellsItsLines` (`BrokenLives.antt`);
 //! `SaysOnDisk`, `HasToldItsLines` (`DiskCauses.antt`); `HeedsRefusal` (`Refusals.antt`);
@@ -115,7 +119,8 @@
 //! Only this crate knows how lines, requests and last words are spelled, and the exit statuses
 //! (`status`). `wasmhost` calls it. It stands on `ephemeral_worker`, `worker` and `machine_loader`.
 //! Want of memory is status 5. A disk is lent to each call of a worker on it. Beside these only
-//! `open_disk` touches one, which is also the one place here that opens a file.
+//! `open_disk`, `create_file` and `create_device` touch one. They and `StatusFile` are the places
+//! here that open a file.
 //!
 //! # Choices
 //!
@@ -127,6 +132,8 @@
 //! - The last words of a worker that is over are part of what status 0 says. Those of a run that
 //!   fails are printed by derived `Display`s, which no clause knows: its status is proved, and
 //!   tests show its words.
+//! - **A watcher is told by a shared reference**, and what it was told is a ghost that only its call
+//!   makes true. So a run's clauses speak of no state of it, and a watcher can change nothing.
 //! - A run is a loop without a counter. Fuel is never 0 by its type. So a slice that has spent it
 //!   leaves fewer steps that can be counted.
 //! - **Request lines come from a trait of this project's own**, `LineReader`, with one method. Its

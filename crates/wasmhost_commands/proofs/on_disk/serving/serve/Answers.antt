@@ -3,6 +3,7 @@ use Rattle.std.proofs.Common.{refl}
 use Rattle.wasmhost_commands.specs.rules.ServedOnDisk.{disk_job}
 use Rattle.wasmhost_commands.proofs.OnDiskLemmas.{serves_none, serves_over, serves_broken, few_told}
 use Rattle.wasmhost_commands.proofs.SevenLemmas.{heeds_refusal}
+use Rattle.wasmhost_commands.proofs.WatchingLemmas.{watches_fault, watches_end}
 use Rattle.wasmhost_commands.proofs.on_disk.serving.serve.Goals as goal
 
 pub returns-in-Err-clause-serves : goal.returns-in-Err-clause-serves
@@ -57,3 +58,20 @@ pub returns-clause-known : goal.returns-clause-known
 returns-clause-known g c =
     few_told c.in-Err-go_on.fault c.tell_recovered.new.err c.say_disk_fault-in-Err-go_on.result
     c.say_disk_fault-in-Err-go_on.new.err c.say_disk_fault-in-Err-go_on.ensures
+
+pub returns-in-Err-clause-watched : goal.returns-in-Err-clause-watched
+returns-in-Err-clause-watched g c =
+    watches_fault (g.T.Watcher.is_told c.args.drive.watcher.now) c.say_disk_fault.result
+    c.say_disk_fault.new.err c.from.result c.args.err.now c.say_disk_fault.ensures
+
+pub returns-in-Ok-go_on-clause-watched : goal.returns-in-Ok-go_on-clause-watched
+returns-in-Ok-go_on-clause-watched g c =
+    watches_end (g.T.Watcher.is_told c.args.drive.watcher.now) c.say.result c.say.new.err
+    c.go_on.new.worker c.in-Ok-go_on.now c.tell_recovered.new.err
+    c.in-Ok-go_on.ensures.told.0 c.in-Ok-go_on.ensures.told.1 c.say.ensures
+
+pub returns-clause-watched : goal.returns-clause-watched
+returns-clause-watched g c =
+    watches_fault (g.T.Watcher.is_told c.args.drive.watcher.now)
+    c.say_disk_fault-in-Err-go_on.result c.say_disk_fault-in-Err-go_on.new.err
+    c.in-Err-go_on.fault c.tell_recovered.new.err c.say_disk_fault-in-Err-go_on.ensures
