@@ -3,14 +3,14 @@
 //! # Promises
 //!
 //! - `list_nodes`: the nodes that have a path, but for the root, by rising numbers. Each has its
-//!   number, whether it is a directory, its size and its path (`listed`). A node that was removed
+//!   number, whether it is a directory, its size and its path (`listing_in`). A node that was removed
 //!   isn't among them, though a descriptor may name it still.
 //! - `read_path`: the bytes of the file that is listed under a path. Or it says that no node is
 //!   listed so, or that it is a directory (`reads`).
 //!
 //! # Definitions to read
 //!
-//! In `specs/rules/`: `path_text`, `listed`, `ReadsPath` (`Listed.antt`). They speak in the words of
+//! In `specs/rules/`: `path_text`, `listing_in`, `ReadsPath` (`Listed.antt`). They speak in the words of
 //! `file_tree`.
 //!
 //! # Who may touch what

@@ -7,7 +7,7 @@ use wasmhost_commands::{CreateOrder, Order, RunOrder, StoryOrder, WordsFault, re
 /// Words, and the status of what is read: 0 for an order.
 type StatusRow = (&'static [&'static str], u8);
 
-static STATUSES: [StatusRow; 26] = [
+static STATUSES: [StatusRow; 31] = [
     (&["wasmhost"], 2),
     (&["wasmhost", "open", "a"], 2),
     (&["wasmhost", "check"], 2),
@@ -32,6 +32,11 @@ static STATUSES: [StatusRow; 26] = [
     (&["wasmhost", "run", "a.disk", "--", "b"], 2),
     (&["wasmhost", "show", "a.disk"], 0),
     (&["wasmhost", "show"], 2),
+    (&["wasmhost", "inspect", "a.disk"], 0),
+    (&["wasmhost", "inspect", "a.disk", "a"], 2),
+    (&["wasmhost", "files", "a.disk"], 0),
+    (&["wasmhost", "files", "a.disk", "a/b"], 0),
+    (&["wasmhost", "files"], 2),
     (&["wasmhost", "story", "a.story", "a.wasm"], 0),
     (&["wasmhost", "story"], 2),
     (&["wasmhost", "story", "a.story"], 2),
@@ -72,8 +77,7 @@ fn tells_orders_mistakes_and_help_apart(rt: HostRuntime) -> Result<(), Fail> {
 fn is_check_of(order: &Order<'_>, wanted: &str) -> bool {
     match order {
         Order::Check { path } => *path == wanted,
-        Order::Create(_) | Order::Run(_) | Order::Show { .. } | Order::Story(_) | Order::Sweep(_) =>
-            false,
+        _ => false,
     }
 }
 
@@ -89,11 +93,7 @@ fn reads_check(rt: HostRuntime) -> Result<(), Fail> {
 fn is_show_of(order: &Order<'_>, wanted: &str) -> bool {
     match order {
         Order::Show { path } => *path == wanted,
-        Order::Check { .. }
-        | Order::Create(_)
-        | Order::Run(_)
-        | Order::Story(_)
-        | Order::Sweep(_) => false,
+        _ => false,
     }
 }
 
@@ -169,11 +169,7 @@ fn is_created_so(alloc: Global, row: &CreateRow) -> Result<bool, WordsFault> {
     let order = read_words(alloc, row.0)?;
     let is_so = match &order {
         Order::Create(order) => is_creation(order, row),
-        Order::Check { .. }
-        | Order::Run(_)
-        | Order::Show { .. }
-        | Order::Story(_)
-        | Order::Sweep(_) => false,
+        _ => false,
     };
     drop(order);
     Ok(is_so)
@@ -248,11 +244,7 @@ fn is_run_so(alloc: Global, row: &RunRow) -> Result<bool, WordsFault> {
     let order = read_words(alloc, row.0)?;
     let is_so = match &order {
         Order::Run(order) => is_run(order, row),
-        Order::Check { .. }
-        | Order::Create(_)
-        | Order::Show { .. }
-        | Order::Story(_)
-        | Order::Sweep(_) => false,
+        _ => false,
     };
     drop(order);
     Ok(is_so)
@@ -317,11 +309,7 @@ fn is_told_so(alloc: Global, row: &StoryRow) -> Result<bool, WordsFault> {
     let order = read_words(alloc, row.0)?;
     let is_so = match &order {
         Order::Story(order) => is_story(order, row),
-        Order::Check { .. }
-        | Order::Create(_)
-        | Order::Run(_)
-        | Order::Show { .. }
-        | Order::Sweep(_) => false,
+        _ => false,
     };
     drop(order);
     Ok(is_so)

@@ -15,8 +15,8 @@
 //!   are accepted.
 //! - `story` and `sweep` hand over all bytes of a script, and a module's bytes. They read them in
 //!   this order.
-//! - `run` and `show` open the disk's file by `open_disk` and `show_file`. One host holds it at a
-//!   time. `run` also hands over the lines of the standard input, the machine's clock, and what the
+//! - `run`, `show`, `inspect` and `files` open the disk's file by `open_disk`, `show_file`,
+//!   `inspect_file` and `files_file`. One host holds it at a time. `run` also hands over the lines of the standard input, the machine's clock, and what the
 //!   words say of seed and clock. Behind it `report_input` says what is left of the lines.
 //! - Before all that it takes the numbers of standard streams that are closed (`StreamNumbers`), so
 //!   that no file which it opens gets one. No clause says so: `scripts/closed-streams` runs it.
@@ -49,10 +49,10 @@ use std::time::Clock;
 use wasmhost_commands::{
     BufferedLines, CreateOrder, Drive, LineOutlet, NewDisk, Obstacle, Order, Outside, Pace,
     Printer, RequestSource, RunOrder, Sizes, StatusFile, StoryOrder, SweepChoice, SweepOrder,
-    check_bytes, create_device, create_file, fronts_of, open_disk, prepare, read_module,
-    read_script, read_seed, read_sweep, read_words, report, report_input, report_script,
-    report_sweep_script, report_unprepared, report_unread, report_words, serve, show_file, tell,
-    tell_sweep,
+    check_bytes, create_device, create_file, files_file, fronts_of, inspect_file, open_disk,
+    prepare, read_module, read_script, read_seed, read_sweep, read_words, report, report_input,
+    report_script, report_sweep_script, report_unprepared, report_unread, report_words, serve,
+    show_file, tell, tell_sweep,
 };
 
 /// It is read to keep a number from other files. It has no bytes, and takes none from a reader.
@@ -336,6 +336,12 @@ where
         Ok(Order::Create(order)) => create(rt, alloc, &order, out, err),
         Ok(Order::Run(order)) => run(rt, alloc, &order, out, err),
         Ok(Order::Show { path }) => show_file(alloc, rt, path, &mut Printer::new(out, false), err),
+        Ok(Order::Inspect { path }) => {
+            inspect_file(alloc, rt, path, &mut Printer::new(out, false), err)
+        }
+        Ok(Order::Files { disk, path }) => {
+            files_file(alloc, rt, disk, path, &mut Printer::new(out, false), err)
+        }
         Ok(Order::Story(order)) => story(rt, alloc, &order, out, err),
         Ok(Order::Sweep(order)) => sweep(rt, alloc, &order, out, err),
         Err(fault) => report_words(alloc, &fault, &mut Printer::new(out, false), err),

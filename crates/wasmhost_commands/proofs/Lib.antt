@@ -26,3 +26,5 @@ pub mod SevenLemmas
 pub mod TakingLemmas
 pub mod FileLemmas
 pub mod OpeningLemmas
+mod SpellingLemmas
+mod InspectingLemmas

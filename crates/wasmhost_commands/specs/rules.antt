@@ -33,3 +33,7 @@ pub mod Stories
 pub mod SweepTexts
 pub mod Sweeps
 pub mod Watchings
+pub mod InspectionTexts
+pub mod Inspectings
+pub mod ProcessTexts
+pub mod LookedFiles

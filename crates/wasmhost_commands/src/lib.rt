@@ -47,6 +47,10 @@
 //! - `survey`: the survey of a worker's disk is printed, or what keeps it from that is told
 //!   (`shows`). Of a disk that stands for a worker the line is that worker's (`stands`). Nothing is
 //!   changed on the disk, but that it is synced.
+//! - `inspect_disk`: all facts of the disk are printed, one a line, or what keeps it from that is told
+//!   (`TellsDisk`). `list_files`: the files of the saved process are listed, or the bytes of one are
+//!   written (`TellsFiles`). `inspect_file` and `files_file` are these of a disk that was opened, and
+//!   nothing else is done with it (`TellsFile`, `TellsFilesOf`).
 //! - `open_disk`: where no rewrite is asked for, the disk of a file of which no call was made since
 //!   it was opened. Else each sector was written back, and synced (`IsOpenedFor`). `show_file` is
 //!   `survey` of a disk that was opened so, and nothing else is done with it (`ShowsFile`).
@@ -86,7 +90,7 @@
 //!   Of the other statuses nothing more is said. `read_sweep`: the lives that the script spells, and
 //!   which one is swept (`AreSweptLives`). `fronts_of`: the fronts that a text spells.
 //! - `laws::faultless_words_mean`, `laws::worked_examples`: words without a fault mean an order,
-//!   with numbers in their ranges; eighty-three command lines. What `--version` is told of the
+//!   with numbers in their ranges; eighty-nine command lines. What `--version` is told of the
 //!   program is `version_words` (`HasVersion`).
 //!
 //! # Definitions to read
@@ -102,6 +106,9 @@
 //! `SaysOfInput` (`Leavings.antt`);
 //! `ShowsDisk`, `ShowsSurvey`, `survey_line` (`Showings.antt`); `open_words`, `IsOpenedFor`,
 //! `ShowsFile` (`Openings.antt`); `standing_line`, `WatchesEnd` (`Watchings.antt`);
+//! `inspection_text`, `listing_text`, `TellsDisk`, `TellsFiles`
+//! (`Inspectings.antt`), with their lines in `InspectionTexts.antt` and `ProcessTexts.antt`;
+//! `TellsFile`, `TellsFilesOf` (`LookedFiles.antt`);
 //! `ServesOnDisk`, `LivesOnDisk`, `HasOutcome`, `HasBrokenOff`, `stands_behind`
 //! (`ServedOnDisk.antt`); `BreaksOff`, `LeavesNoLine`, `TellsItsLines` (`BrokenLives.antt`);
 //! `SaysOnDisk`, `HasToldItsLines` (`DiskCauses.antt`); `HeedsRefusal` (`Refusals.antt`);
@@ -224,6 +231,7 @@
 mod bounds;
 mod check;
 mod configuring;
+mod inspecting;
 pub mod laws;
 mod lines;
 mod module_bytes;
@@ -241,14 +249,15 @@ mod words;
 pub use bounds::Bound;
 pub use check::check_bytes;
 pub use configuring::Sizes;
+pub use inspecting::{inspect_disk, list_files};
 pub use lines::{
     BufferedLines, LineFault, LineOutlet, LineReader, Outside, RealTime, Request, RequestSource,
     read_request, trap_name,
 };
 pub use module_bytes::read_module;
 pub use on_disk::{
-    Drive, NewDisk, Pace, StatusFile, Watcher, create_device, create_file, create_on, open_disk,
-    report_input, report_open, report_unread, serve, show_file, survey,
+    Drive, NewDisk, Pace, StatusFile, Watcher, create_device, create_file, create_on, files_file,
+    inspect_file, open_disk, report_input, report_open, report_unread, serve, show_file, survey,
 };
 pub use preparing::{Prepared, Unprepared, prepare, report_unprepared};
 pub use printer::Printer;

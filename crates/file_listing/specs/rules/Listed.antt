@@ -32,12 +32,12 @@ abbrev pub listed_of : FileNode → Option ListedNode
 listed_of n = listed_at n n.path
 
 -- all that is listed of a tree, by rising numbers
-abbrev pub listed : Files → List ListedNode
-listed fs = filter_map listed_of fs.nodes
+abbrev pub listing_in : Files → List ListedNode
+listing_in fs = filter_map listed_of fs.nodes
 
 -- the node is listed under this path
 abbrev pub IsListedAt : Files → List ℕ → ListedNode → Type 0
-IsListedAt fs path node = Contains (listed fs) node × (node.path ≡ path)
+IsListedAt fs path node = Contains (listing_in fs) node × (node.path ≡ path)
 
 -- The bytes are those of a file that is listed under the path. Or none is listed so, or it is a
 -- directory.
@@ -45,7 +45,7 @@ abbrev pub ReadsPath : Files → List ℕ → Result (Vec ℕ Global) PathFault 
 ReadsPath fs path (Ok bytes) = (node : ListedNode) × IsListedAt fs path node
     × (node.is_directory ≡ false) × (bytes.items ≡ bytes_of_node fs node.number)
 ReadsPath fs path (Err fault.Missing) =
-    All (λ (node : ListedNode). node.path ≢ path) (listed fs)
+    All (λ (node : ListedNode). node.path ≢ path) (listing_in fs)
 ReadsPath fs path (Err fault.Directory) = (node : ListedNode) × IsListedAt fs path node
     × (node.is_directory ≡ true)
 ReadsPath fs path (Err fault.Memory) = Unit {0}

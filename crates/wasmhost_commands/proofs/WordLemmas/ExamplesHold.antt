@@ -11,6 +11,9 @@ path_examples = record {
   checks = (refl, refl, refl);
   path_like_an_option = (refl, refl, refl);
   shows = (refl, refl, refl);
+  inspects = (refl, refl, refl);
+  lists_files = (refl, refl, refl);
+  gives_a_file = (refl, refl, refl);
 }
 
 pub create_examples : CreateOrderExamples
@@ -76,6 +79,9 @@ path_mistakes = record {
   run_with_arguments = refl;
   show_of_none = refl;
   show_of_two = refl;
+  inspect_of_none = refl;
+  files_of_none = refl;
+  files_of_two = refl;
   story_of_none = refl;
   story_of_no_module = refl;
   story_of_two_modules = refl;

@@ -1,7 +1,7 @@
--- Words for which no fault is listed name one of the six commands, with what it needs.
+-- Words for which no fault is listed name one of the eight commands, with what it needs.
 use Rattle.std.proofs.Common.{◌≡◌, ◌<◌, ◌≤◌, ◌^◌, ℕ, Bool, ◌||◌, not, cond, true, false, arith}
 use Rattle.std.proofs.Common.{refl, sym, subst, List, [], ◌∷◌, Option, Some, None}
-use Rattle.std.proofs.Common.{codes, true≢false, inl, inr}
+use Rattle.std.proofs.Common.{codes, true≢false, ◌⊎◌, inl, inr}
 use Rattle.std.specs.List.{AllByRecursion as Each, find, fold}
 use Rattle.std.specs.Option.{is_some, IsSomeAnd, option_map, option_map_or}
 use Rattle.std.specs.Str.{bytes_eq}
@@ -27,7 +27,7 @@ use Rattle.wasmhost_commands.specs.rules.Commands.{create, create_in, disk_in}
 use Rattle.wasmhost_commands.specs.rules.Commands.{guest_words, meaning_below, module_in, number_or}
 use Rattle.wasmhost_commands.specs.rules.Commands.{own_words, run, run_in, script_in, show}
 use Rattle.wasmhost_commands.specs.rules.Commands.{spelled_number, story, story_in, TakesOptions}
-use Rattle.wasmhost_commands.specs.rules.Commands.{sweep, sweep_in}
+use Rattle.wasmhost_commands.specs.rules.Commands.{files, inspect, sweep, sweep_in}
 use Rattle.wasmhost_commands.specs.laws.Words.{FaultlessWordsMean, NumbersFit}
 use Rattle.wasmhost_commands.proofs.WordLemmas.Walks.{Keeps, found_each, no_first}
 use Rattle.wasmhost_commands.proofs.WordLemmas.Walks.{no_second, settled_good, some_kind, walk_good}
@@ -35,8 +35,8 @@ use Rattle.wasmhost_commands.proofs.WordLemmas.Stops.{NoHelp, walk_on}
 use Rattle.wasmhost_commands.proofs.WordLemmas.Rows.{IsGood, added_good, options_are_taken}
 use Rattle.wasmhost_commands.proofs.WordLemmas.Rows.{path_is_there}
 use Rattle.wasmhost_commands.proofs.WordLemmas.Uses.{keeps_env, keeps_help, keeps_number, keeps_path}
-use Rattle.wasmhost_commands.proofs.WordLemmas.Uses.{keeps_device, keeps_fronts, keeps_rewrite}
-use Rattle.wasmhost_commands.proofs.WordLemmas.Uses.{keeps_seed, keeps_status}
+use Rattle.wasmhost_commands.proofs.WordLemmas.Uses.{keeps_device, keeps_fronts, keeps_last}
+use Rattle.wasmhost_commands.proofs.WordLemmas.Uses.{keeps_rewrite, keeps_seed, keeps_status}
 
 -- ---- one level
 
@@ -203,46 +203,67 @@ module _ (name : Text) (words : List Text) (no_help : bytes_eq name (codes "help
               (unused, (unused, tt))
               (λ rows good e. inr (inr (inr (inl (refl, one_path (codes "DISK") rows good e))))) e,
           (
-            λ here e. below_taken _ words (
-              keeps_path 1 (codes "SCRIPT") (λ v. tt),
-              (
-                keeps_path 2 (codes "MODULE") (λ v. tt),
-                (
-                  keeps_number 3 (codes "pages") 0 (λ v is. is),
-                  (
-                    keeps_number 3 (codes "files") 0 (λ v is. is),
-                    (keeps_number 3 (codes "journal") 0 (λ v is. is), (keeps_help, tt)),
-                  ),
-                ),
-              ),
-            )
-                (unused, (unused, (unused, (unused, (unused, (unused, tt))))))
-                (λ rows good e. inr (inr (inr (inr (inl (two_paths (codes "story")
-                (codes "SCRIPT") (codes "MODULE") rows good e)))))) e,
+            λ here e. below_taken _ words (keeps_path 1 (codes "DISK") (λ v. tt), (keeps_help, tt))
+                (unused, (unused, tt))
+                (λ rows good e. inr (inr (inr (inr (inl (
+                  refl,
+                  one_path (codes "DISK") rows good
+                      e,
+                )))))) e,
             (
               λ here e. below_taken _ words (
-                keeps_path 1 (codes "SCRIPT") (λ v. tt),
-                (
-                  keeps_path 2 (codes "MODULE") (λ v. tt),
+                keeps_path 1 (codes "DISK") (λ v. tt),
+                (keeps_last 2 (codes "PATH") (λ v. tt), (keeps_help, tt)),
+              )
+                  (unused, (unused, (unused, tt)))
+                  (λ rows good e. inr (inr (inr (inr (inr (inl (
+                    refl,
+                    one_path (codes "DISK") rows
+                        good e,
+                  ))))))) e,
+              (
+                λ here e. below_taken _ words (
+                  keeps_path 1 (codes "SCRIPT") (λ v. tt),
                   (
-                    keeps_number 3 (codes "pages") 0 (λ v is. is),
+                    keeps_path 2 (codes "MODULE") (λ v. tt),
                     (
-                      keeps_number 3 (codes "files") 0 (λ v is. is),
+                      keeps_number 3 (codes "pages") 0 (λ v is. is),
                       (
-                        keeps_number 3 (codes "journal") 0 (λ v is. is),
-                        (
-                          keeps_fronts 3,
-                          (keeps_number 3 (codes "life") 1 (λ v is. is), (keeps_help, tt)),
-                        ),
+                        keeps_number 3 (codes "files") 0 (λ v is. is),
+                        (keeps_number 3 (codes "journal") 0 (λ v is. is), (keeps_help, tt)),
                       ),
                     ),
                   ),
+                )
+                    (unused, (unused, (unused, (unused, (unused, (unused, tt))))))
+                    (λ rows good e. inr (inr (inr (inr (inr (inr (inl (two_paths (codes "story")
+                    (codes "SCRIPT") (codes "MODULE") rows good e)))))))) e,
+                (
+                  λ here e. below_taken _ words (
+                    keeps_path 1 (codes "SCRIPT") (λ v. tt),
+                    (
+                      keeps_path 2 (codes "MODULE") (λ v. tt),
+                      (
+                        keeps_number 3 (codes "pages") 0 (λ v is. is),
+                        (
+                          keeps_number 3 (codes "files") 0 (λ v is. is),
+                          (
+                            keeps_number 3 (codes "journal") 0 (λ v is. is),
+                            (
+                              keeps_fronts 3,
+                              (keeps_number 3 (codes "life") 1 (λ v is. is), (keeps_help, tt)),
+                            ),
+                          ),
+                        ),
+                      ),
+                    ),
+                  )
+                      (unused, (unused, (unused, (unused, (unused, (unused, (unused, (unused, tt))))))))
+                      (λ rows good e. inr (inr (inr (inr (inr (inr (inr (two_paths (codes "sweep")
+                      (codes "SCRIPT") (codes "MODULE") rows good e)))))))) e,
+                  (λ here e. absurd (is_help (or_false (bytes_eq (codes "help") name) here)), tt),
                 ),
-              )
-                  (unused, (unused, (unused, (unused, (unused, (unused, (unused, (unused, tt))))))))
-                  (λ rows good e. inr (inr (inr (inr (inr (two_paths (codes "sweep")
-                  (codes "SCRIPT") (codes "MODULE") rows good e)))))) e,
-              (λ here e. absurd (is_help (or_false (bytes_eq (codes "help") name) here)), tt),
+              ),
             ),
           ),
         ),
@@ -354,6 +375,21 @@ paths_mean : (means : Text → Text → Meaning) (disk path : Option Text) → i
 paths_mean means None path d e has = absurd (true≢false (sym d))
 paths_mean means (Some disk) path d e has = path_means (means disk) path e (has disk)
 
+scripts_mean : (arguments : List Text) (name : Text) (rows : List Row) → TakesOptions rows
+    → ((name ≡ codes "story") × (is_some (script_in rows) ≡ true)
+    × (is_some (module_in rows) ≡ true))
+    ⊎ ((name ≡ codes "sweep") × (is_some (script_in rows) ≡ true)
+    × (is_some (module_in rows) ≡ true))
+    → IsSomeAnd (meaning_below arguments (name, rows)) NumbersFit
+scripts_mean arguments name rows taken (inl p) =
+    subst (λ (t : Text). IsSomeAnd (meaning_below arguments (t, rows)) NumbersFit)
+    (sym p.0) (paths_mean (λ d path. story (story_in rows d path)) (script_in rows)
+    (module_in rows) p.1 p.2 (λ d path. story_has_numbers rows d path taken))
+scripts_mean arguments name rows taken (inr p) =
+    subst (λ (t : Text). IsSomeAnd (meaning_below arguments (t, rows)) NumbersFit)
+    (sym p.0) (paths_mean (λ d path. sweep (sweep_in rows d path)) (script_in rows)
+    (module_in rows) p.1 p.2 (λ d path. sweep_has_numbers rows d path taken))
+
 taken_means : (arguments : List Text) (name : Text) (rows : List Row) → IsTaken (name, rows)
     → IsSomeAnd (meaning_below arguments (name, rows)) NumbersFit
 taken_means arguments name rows taken = elim taken.0 [
@@ -370,13 +406,15 @@ taken_means arguments name rows taken = elim taken.0 [
       | inr last ↦ elim last [
         | inl p ↦ subst (λ (t : Text). IsSomeAnd (meaning_below arguments (t, rows)) NumbersFit)
             (sym p.0) (path_means show (disk_in rows) p.1 (λ path. tt))
-        | inr scripts ↦ elim scripts [
+        | inr looks ↦ elim looks [
           | inl p ↦ subst (λ (t : Text). IsSomeAnd (meaning_below arguments (t, rows)) NumbersFit)
-              (sym p.0) (paths_mean (λ d path. story (story_in rows d path)) (script_in rows)
-              (module_in rows) p.1 p.2 (λ d path. story_has_numbers rows d path taken.1))
-          | inr p ↦ subst (λ (t : Text). IsSomeAnd (meaning_below arguments (t, rows)) NumbersFit)
-              (sym p.0) (paths_mean (λ d path. sweep (sweep_in rows d path)) (script_in rows)
-              (module_in rows) p.1 p.2 (λ d path. sweep_has_numbers rows d path taken.1))
+              (sym p.0) (path_means inspect (disk_in rows) p.1 (λ path. tt))
+          | inr listed ↦ elim listed [
+            | inl p ↦ subst (λ (t : Text). IsSomeAnd (meaning_below arguments (t, rows)) NumbersFit)
+                (sym p.0) (path_means (λ d. files d (first_of (codes "PATH") rows)) (disk_in rows)
+                p.1 (λ path. tt))
+            | inr scripts ↦ scripts_mean arguments name rows taken.1 scripts
+          ]
         ]
       ]
     ]

@@ -13,8 +13,8 @@ use Rattle.clap.specs.declared.error.kind.ErrorKind.TheVariants as kind
 use Rattle.clap.specs.declared.parser.matches.ValueSource.TheVariants.{CommandLine}
 use Rattle.clap.proofs.ValueTestLemmas.{accepts-Accepts}
 use Rattle.wasmhost_commands.specs.rules.CommandLine.{env_rule, number_rule, path_rule}
-use Rattle.wasmhost_commands.specs.rules.CommandLine.{device_rule, fronts_rule, rewrite_rule, seed_rule}
-use Rattle.wasmhost_commands.specs.rules.CommandLine.{status_rule}
+use Rattle.wasmhost_commands.specs.rules.CommandLine.{device_rule, fronts_rule, last_rule}
+use Rattle.wasmhost_commands.specs.rules.CommandLine.{rewrite_rule, seed_rule, status_rule}
 use Rattle.wasmhost_commands.specs.rules.Commands.{IsNumberFrom}
 use Rattle.wasmhost_commands.proofs.WordLemmas.Walks.{Keeps, no_first, no_second, some_kind}
 use Rattle.wasmhost_commands.proofs.WordLemmas.Rows.{IsGood, Passes, added_good, with_good}
@@ -60,6 +60,13 @@ pub keeps_path : (n : ℕ) (name : Text) → ((v : Text) → Passes name v)
 keeps_path n name free [] rows e good = absurd (some_kind _ _ e)
 keeps_path n name free (v ∷ []) rows e good = with_good name v rows (free v) good
 keeps_path n name free (v ∷ w ∷ vs) rows e good =
+    absurd (too_many v w vs (no_first (range_kinds 1 1 (length (v ∷ w ∷ vs))) _ e))
+
+pub keeps_last : (n : ℕ) (name : Text) → ((v : Text) → Passes name v)
+    → Keeps IsGood false (with_index n (filled (last_rule name)))
+keeps_last n name free [] rows e good = absurd (some_kind _ _ e)
+keeps_last n name free (v ∷ []) rows e good = with_good name v rows (free v) good
+keeps_last n name free (v ∷ w ∷ vs) rows e good =
     absurd (too_many v w vs (no_first (range_kinds 1 1 (length (v ∷ w ∷ vs))) _ e))
 
 pub keeps_number : (n : ℕ) (name : Text) (least : ℕ)

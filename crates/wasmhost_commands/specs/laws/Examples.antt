@@ -7,7 +7,7 @@ use Rattle.wasmhost_commands.specs.rules.CommandLine.{wasmhost}
 use Rattle.wasmhost_commands.specs.rules.Commands.{CreateMeaning, Meaning, RunMeaning, check, create}
 use Rattle.wasmhost_commands.specs.rules.Commands.{StoryMeaning, faults_in_words, meaning_in}
 use Rattle.wasmhost_commands.specs.rules.Commands.{own_words, run, show, story}
-use Rattle.wasmhost_commands.specs.rules.Commands.{SweepMeaning, sweep}
+use Rattle.wasmhost_commands.specs.rules.Commands.{SweepMeaning, files, inspect, sweep}
 
 -- the program's name, and words behind it
 abbrev pub line : List Text → List Text
@@ -81,12 +81,17 @@ abbrev pub Means : List Text → Meaning → Type 0
 Means words meaning = (faults_in_words words ≡ []) × (takes wasmhost (own_words words) ≡ true)
     × (meaning_in words ≡ Some meaning)
 
--- lines for a module's file, or for a disk that is only shown
+-- lines for a module's file, or for a disk that is only looked at
 pub record PathExamples : Type 0 where
   pub checks : Means (line (codes "check" ∷ codes "a.wasm" ∷ [])) (check (codes "a.wasm"))
   pub path_like_an_option : Means (line (codes "check" ∷ codes "--" ∷ codes "--fuel" ∷ []))
       (check (codes "--fuel"))
   pub shows : Means (line (codes "show" ∷ codes "a.disk" ∷ [])) (show (codes "a.disk"))
+  pub inspects : Means (line (codes "inspect" ∷ codes "a.disk" ∷ [])) (inspect (codes "a.disk"))
+  pub lists_files : Means (line (codes "files" ∷ codes "a.disk" ∷ []))
+      (files (codes "a.disk") None)
+  pub gives_a_file : Means (line (codes "files" ∷ codes "a.disk" ∷ codes "a/b" ∷ []))
+      (files (codes "a.disk") (Some (codes "a/b")))
 
 pub record CreateOrderExamples : Type 0 where
   pub creates : Means (create_line []) (create plain_creation)
@@ -174,6 +179,11 @@ pub record PathMistakes : Type 0 where
       (kind.UnknownArgument ∷ [])
   pub show_of_none : WordsFail (line (codes "show" ∷ [])) (kind.MissingRequiredArgument ∷ [])
   pub show_of_two : WordsFail (line (codes "show" ∷ codes "a.disk" ∷ codes "b.disk" ∷ []))
+      (kind.UnknownArgument ∷ [])
+  pub inspect_of_none : WordsFail (line (codes "inspect" ∷ [])) (kind.MissingRequiredArgument ∷ [])
+  pub files_of_none : WordsFail (line (codes "files" ∷ [])) (kind.MissingRequiredArgument ∷ [])
+  pub files_of_two : WordsFail
+      (line (codes "files" ∷ codes "a.disk" ∷ codes "a" ∷ codes "b" ∷ []))
       (kind.UnknownArgument ∷ [])
   pub story_of_none : WordsFail (line (codes "story" ∷ [])) (kind.MissingRequiredArgument ∷ [])
   pub story_of_no_module : WordsFail (line (codes "story" ∷ codes "a.story" ∷ []))

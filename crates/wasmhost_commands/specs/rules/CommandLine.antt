@@ -15,6 +15,10 @@ use Rattle.clap.specs.declared.builder.value_parser.ValueParser.TheVariants.{Uns
 abbrev pub path_rule : Text → Rule
 path_rule name = record (new_rule name) { required = true; action = Some Set }
 
+-- an argument that may be given, behind those that have to be
+abbrev pub last_rule : Text → Rule
+last_rule name = record (new_rule name) { action = Some Set }
+
 -- an option with a number from the least one to 2^64 - 1
 abbrev pub number_rule : Text → ℕ → Rule
 number_rule name least = record (new_rule name) {
@@ -103,6 +107,14 @@ run_app = with_rule (with_rule seeded_run_app rewrite_rule) status_rule
 abbrev pub show_app : App
 show_app = disk_app (codes "show")
 
+-- `inspect DISK`
+abbrev pub inspect_app : App
+inspect_app = disk_app (codes "inspect")
+
+-- `files DISK`, with PATH where it is wanted
+abbrev pub files_app : App
+files_app = with_rule (disk_app (codes "files")) (last_rule (codes "PATH"))
+
 -- a command with the arguments SCRIPT and MODULE
 abbrev pub bare_script_app : Text → App
 bare_script_app name = with_rule (with_rule (new_app name) (path_rule (codes "SCRIPT")))
@@ -141,9 +153,13 @@ half_app = with_subcommand (with_subcommand bare_app check_app.top) create_app.t
 abbrev pub disks_app : App
 disks_app = with_subcommand (with_subcommand half_app run_app.top) show_app.top
 
+-- the same, with the commands that look into a disk
+abbrev pub looks_app : App
+looks_app = with_subcommand (with_subcommand disks_app inspect_app.top) files_app.top
+
 -- the same, with the commands for scripts
 abbrev pub wasmhost : App
-wasmhost = with_subcommand (with_subcommand disks_app story_app.top) sweep_app.top
+wasmhost = with_subcommand (with_subcommand looks_app story_app.top) sweep_app.top
 
 -- ---- what the code makes of them
 

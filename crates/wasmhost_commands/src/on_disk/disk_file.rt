@@ -1,9 +1,11 @@
 //! The file of a worker's disk, opened for a command.
 
-ghost use Rattle.std.specs.Prelude.{◌≡◌, ◌≤◌, false, IfErr, IfOk, OnOk};
+ghost use Rattle.std.specs.Prelude.{◌≡◌, ◌≤◌, false, IfErr, IfOk, OnOk, option_map};
 ghost use Rattle.wasmhost_commands.specs.rules.Openings.{IsOpenedFor, SaysUnopened, ShowsFile};
+ghost use Rattle.wasmhost_commands.specs.rules.LookedFiles.{TellsFile, TellsFilesOf};
 ghost use Rattle.wasmhost_commands.specs.rules.Reports.{SaysLine, words_told};
 
+use crate::inspecting::{inspect_disk, list_files};
 use crate::on_disk::opening::report_open;
 use crate::on_disk::showing::survey;
 use crate::printer::Printer;
@@ -81,6 +83,54 @@ where
 {
     match open_disk(files, path, false, err) {
         Ok(mut disk) => survey(alloc, &mut disk, out, err),
+        Err(status) => status,
+    }
+}
+
+/// `wasmhost inspect` of the disk in a file: it is opened, and then only inspected. Returns the exit
+/// status.
+pub fn inspect_file<F, R, W, E>(
+    alloc: Global,
+    files: &R,
+    path: &str,
+    out: &mut Printer<W>,
+    err: &mut Printer<E>,
+) -> u8
+where
+    F: OpenFile + FileExt + LockFile + SizeFile + Drop,
+    R: Files<File = F>,
+    W: Write + Drop,
+    E: Write + Drop,
+    ensures tells { TellsFile F path.now out.old out.new err.old err.new result }
+    ensures known { result ≤ 7 }
+{
+    match open_disk(files, path, false, err) {
+        Ok(mut disk) => inspect_disk(alloc, &mut disk, out, err),
+        Err(status) => status,
+    }
+}
+
+/// `wasmhost files` of the disk in a file: it is opened, and then only inspected. Returns the exit
+/// status.
+pub fn files_file<F, R, W, E>(
+    alloc: Global,
+    files: &R,
+    disk: &str,
+    path: Option<&str>,
+    out: &mut Printer<W>,
+    err: &mut Printer<E>,
+) -> u8
+where
+    F: OpenFile + FileExt + LockFile + SizeFile + Drop,
+    R: Files<File = F>,
+    W: Write + Drop,
+    E: Write + Drop,
+    ensures tells { TellsFilesOf F (option_map (λ text. text.now) path.entry) disk.now out.old
+        out.new err.old err.new result }
+    ensures known { result ≤ 7 }
+{
+    match open_disk(files, disk, false, err) {
+        Ok(mut disk) => list_files(alloc, &mut disk, path, out, err),
         Err(status) => status,
     }
 }

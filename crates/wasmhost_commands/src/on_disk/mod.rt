@@ -13,7 +13,8 @@ mod showing;
 mod watching;
 
 pub use creation::create_on;
-pub use disk_file::{open_disk, show_file};
+pub use disk_file::{files_file, inspect_file, open_disk, show_file};
+pub(crate) use fault::{OnDiskFault, say_disk_fault};
 pub use leaving::report_input;
 pub use living::Pace;
 pub use making::{NewDisk, create_device, create_file};

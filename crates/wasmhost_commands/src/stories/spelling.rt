@@ -18,10 +18,10 @@ use worker::story::{LifeEnd, LifeReport, Opening};
 use worker::{RecoverFault, WorkFault};
 
 /// Digits of a digest.
-const DIGITS: usize = 64;
+pub(crate) const DIGITS: usize = 64;
 
 /// The hexadecimal digits of the SHA-256 of these bytes.
-fn digest_digits(bytes: &[u8]) -> [u8; DIGITS]
+pub(crate) fn digest_digits(bytes: &[u8]) -> [u8; DIGITS]
     ensures { result ≡ encode_lower (sha256 bytes.now) }
 {
     let digest: [u8; 32] = Sha256::digest(bytes);

@@ -9,7 +9,8 @@ ghost use Rattle.wasmhost_commands.specs.rules.CommandLine.{number_rule, paced_r
 ghost use Rattle.wasmhost_commands.specs.rules.CommandLine.{rewrite_rule, run_app, seed_rule};
 ghost use Rattle.wasmhost_commands.specs.rules.CommandLine.{script_app, seeded_run_app, show_app, status_rule};
 ghost use Rattle.wasmhost_commands.specs.rules.CommandLine.{sized_create_app, story_app, sweep_app};
-ghost use Rattle.wasmhost_commands.specs.rules.CommandLine.{wasmhost};
+ghost use Rattle.wasmhost_commands.specs.rules.CommandLine.{files_app, inspect_app, last_rule};
+ghost use Rattle.wasmhost_commands.specs.rules.CommandLine.{looks_app, wasmhost};
 ghost use Rattle.wasmhost_commands.specs.rules.CommandLine.{HasVersion, version_words};
 
 use clap::{Arg, ArgAction, Command, value_parser};
@@ -37,6 +38,13 @@ fn path_argument<'a>(alloc: Global, name: &'a str, help: &'a str) -> Arg<'a>
         .help(help)
         .required(true)
         .action(ArgAction::Set)
+}
+
+/// A path, which may be given behind others.
+fn last_argument<'a>(alloc: Global, name: &'a str, help: &'a str) -> Arg<'a>
+    ensures { IsArgument (last_rule name.entry.now) result }
+{
+    Arg::new(alloc, name).help(help).action(ArgAction::Set)
 }
 
 /// An option with any number of 64 bits.
@@ -214,6 +222,21 @@ fn show_command<'a>(alloc: Global) -> Result<Command<'a>, AllocError>
     disk_command(alloc, "show", about, WORKER_DISK)
 }
 
+fn inspect_command<'a>(alloc: Global) -> Result<Command<'a>, AllocError>
+    ensures { IfOk result (IsCommand inspect_app) }
+{
+    let about = "Say all that stands on a disk, one fact a line";
+    disk_command(alloc, "inspect", about, WORKER_DISK)
+}
+
+fn files_command<'a>(alloc: Global) -> Result<Command<'a>, AllocError>
+    ensures { IfOk result (IsCommand files_app) }
+{
+    let about = "List the files of the worker of a disk, or write one of them";
+    let path = "Path of the file to write, as it is listed";
+    disk_command(alloc, "files", about, WORKER_DISK)?.arg(last_argument(alloc, "PATH", path))
+}
+
 /// A command with the paths of a script and of a module.
 fn bare_script_command<'a>(
     alloc: Global,
@@ -291,11 +314,20 @@ fn disks_command<'a>(alloc: Global) -> Result<Command<'a>, AllocError>
         .subcommand(show_command(alloc)?)
 }
 
+/// The program, with the commands that look into a disk, too.
+fn looks_command<'a>(alloc: Global) -> Result<Command<'a>, AllocError>
+    ensures { IfOk result (IsCommand looks_app) }
+{
+    disks_command(alloc)?
+        .subcommand(inspect_command(alloc)?)?
+        .subcommand(files_command(alloc)?)
+}
+
 /// The program, with all its commands.
 pub(crate) fn command<'a>(alloc: Global) -> Result<Command<'a>, AllocError>
     ensures { IfOk result (IsCommand wasmhost) }
 {
-    disks_command(alloc)?
+    looks_command(alloc)?
         .subcommand(story_command(alloc)?)?
         .subcommand(sweep_command(alloc)?)
 }

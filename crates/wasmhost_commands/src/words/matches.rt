@@ -105,6 +105,14 @@ fn status_text_of<'a>(matches: &ArgMatches<'a>) -> Option<&'a str>
     matches.get_str("status")
 }
 
+/// The path of a file of the worker, if it is there.
+fn file_text_of<'a>(matches: &ArgMatches<'a>) -> Option<&'a str>
+    ensures { option_map (λ text. text.now) result
+        ≡ first_of (codes "PATH") (rows_of (found_of matches.now)) }
+{
+    matches.get_str("PATH")
+}
+
 /// What `--fronts` says, if it is there.
 fn fronts_text_of<'a>(matches: &ArgMatches<'a>) -> Option<&'a str>
     ensures { option_map (λ text. text.now) result
@@ -219,6 +227,13 @@ pub(crate) fn order_of<'a>(
         "run" => Ok(Order::Run(run_of(matches, path_of(matches, "DISK")))),
         "show" => Ok(Order::Show {
             path: path_of(matches, "DISK"),
+        }),
+        "inspect" => Ok(Order::Inspect {
+            path: path_of(matches, "DISK"),
+        }),
+        "files" => Ok(Order::Files {
+            disk: path_of(matches, "DISK"),
+            path: file_text_of(matches),
         }),
         "story" => {
             let script = path_of(matches, "SCRIPT");

@@ -97,13 +97,26 @@ pub struct SweepOrder<'a> {
 #[derive(Debug, Drop)]
 pub enum Order<'a> {
     /// Says whether the module in this file is accepted.
-    Check { path: &'a str },
+    Check {
+        path: &'a str,
+    },
     /// Makes a disk with a fresh worker of a module.
     Create(CreateOrder<'a>),
     /// Runs the worker of a disk, so many steps at a time.
     Run(RunOrder<'a>),
     /// Says where the worker of the disk in this file stands.
-    Show { path: &'a str },
+    Show {
+        path: &'a str,
+    },
+    /// Says all that stands on the disk in this file.
+    Inspect {
+        path: &'a str,
+    },
+    /// Lists the files of the worker of the disk in this file, or gives the bytes of one.
+    Files {
+        disk: &'a str,
+        path: Option<&'a str>,
+    },
     /// Tells the lives of a worker on a disk in memory, as a script says.
     Story(StoryOrder<'a>),
     /// Tells lives with the power cut at each call of the disk in one of them, and compares them.

@@ -1,0 +1,40 @@
+use Rattle.std.proofs.Common.{ℕ, ◌*◌, List, ◌++◌, subst, ◌∙◌}
+use Rattle.std.specs.Io.KnownBytes.{Appends}
+use Rattle.std.proofs.lemmas.Result.{on_ok_weaker}
+use Rattle.file_tree.specs.declared.limits.TheConstants.{UNIT_BYTES}
+use Rattle.wasi_calls.specs.rules.Held.{HeldHost}
+use Rattle.disk_layout.specs.rules.Journal.{Record}
+use Rattle.wasmhost_commands.specs.rules.InspectionTexts.{snapshot_facts, host_facts, record_facts}
+use Rattle.wasmhost_commands.specs.rules.ProcessTexts.{process_facts}
+use Rattle.wasmhost_commands.specs.rules.Inspectings.{contents_facts}
+use Rattle.wasmhost_commands.proofs.LineLemmas.Printed.{appends_both}
+use Rattle.wasmhost_commands.proofs.inspecting.whole.spell_inspection.Goals as goal
+
+pub returns : goal.returns
+returns g c =
+    let told = c.args.told.now in
+    let contents = contents_facts told.contents in
+    let snapshot = snapshot_facts told.generation told.image_bytes in
+    let process = process_facts told.process told.wish in
+    let host = host_facts (told.contents.config.files * UNIT_BYTES) told.process.host.host in
+    let from = g.W.Write.contents c.args.out.now in
+    let first = g.W.Write.contents c.spell_contents.new.out in
+    let second = g.W.Write.contents c.spell_snapshot.new.out in
+    let third = g.W.Write.contents c.spell_process.new.out in
+    let fourth = g.W.Write.contents c.spell_host.new.out in
+    let last = g.W.Write.contents c.spell_records.new.out in
+    on_ok_weaker c.spell_records.result (λ records.
+    appends_both from fourth last (contents ++ snapshot ++ process ++ host)
+    (record_facts told.records.items)
+    (appends_both from third fourth (contents ++ snapshot ++ process) host
+    (appends_both from second third (contents ++ snapshot) process
+    (appends_both from first second contents snapshot c.in_ok-spell_contents.ensures
+    c.in_ok-spell_snapshot.ensures) c.in_ok-spell_process.ensures)
+    (subst (λ (n : ℕ). Appends third fourth
+    (host_facts (n * UNIT_BYTES) told.process.host.host))
+    (c.from-room.ensures ∙ c.files.ensures.value)
+    (subst (λ (h : HeldHost). Appends third fourth
+    (host_facts (c.from-room.result * UNIT_BYTES) h.host)) c.host.ensures
+    c.in_ok-spell_host.ensures)))
+    (subst (λ (rs : List Record). Appends fourth last (record_facts rs)) c.as_slice.ensures.value
+    records)) c.spell_records.ensures

@@ -1,0 +1,123 @@
+-- What `wasmhost inspect` and `wasmhost files` say of a disk (this project's own).
+use Rattle.std.specs.Prelude.{◌≡◌, ◌⊎◌, ℕ, ◌*◌, true, List, ◌++◌, length, codes, Option, Some, None}
+use Rattle.std.specs.Prelude.{Result, Ok, Err, Vec, if◌then◌else◌}
+use Rattle.std.specs.declared.alloc.Global.{Global}
+use Rattle.std.specs.Fmt.{decimal}
+use Rattle.std.specs.List.{flat_map}
+use Rattle.hex.specs.Hex.{encode_lower}
+use Rattle.sha2.specs.Sha256.{sha256}
+use Rattle.sector_disk.specs.rules.Medium.{Medium}
+use Rattle.file_tree.specs.declared.limits.TheConstants.{UNIT_BYTES}
+use Rattle.file_tree.specs.rules.Files.{Files}
+use Rattle.file_listing.specs.declared.fault.PathFault.{PathFault}
+use Rattle.file_listing.specs.declared.fault.PathFault.TheVariants as fault
+use Rattle.file_listing.specs.declared.listed.ListedNode.{ListedNode}
+use Rattle.file_listing.specs.rules.Listed.{listing_in, ReadsPath}
+use Rattle.disk_layout.specs.declared.head.TheConstants.{IMAGE_VERSION}
+use Rattle.disk_layout.specs.declared.reading.contents.Contents.{Contents}
+use Rattle.disk_layout.specs.declared.superblock.TheConstants.{LAYOUT}
+use Rattle.worker.specs.declared.inspection.Inspection.{Inspection}
+use Rattle.worker.specs.declared.recover_fault.RecoverFault.{RecoverFault}
+use Rattle.worker.specs.rules.Inspections.{Inspects}
+use Rattle.wasmhost_commands.specs.rules.DiskStatuses.{told_of_opening, status_on_disk}
+use Rattle.wasmhost_commands.specs.rules.InspectionTexts.{number_fact, text_fact, settings_facts}
+use Rattle.wasmhost_commands.specs.rules.InspectionTexts.{snapshot_facts, host_facts, record_facts}
+use Rattle.wasmhost_commands.specs.rules.ProcessTexts.{process_facts}
+use Rattle.wasmhost_commands.specs.rules.Printers.{PrinterState, IsSaid, SaysText}
+
+-- ---- the facts of a disk
+
+-- the versions of the disk and of its image, and the module's length and digest
+abbrev pub module_facts : List ℕ → List ℕ
+module_facts wasm =
+    number_fact (codes "layout") LAYOUT ++ number_fact (codes "version") IMAGE_VERSION
+    ++ number_fact (codes "module") (length wasm)
+    ++ text_fact (codes "digest") (encode_lower (sha256 wasm))
+
+-- these, and the configuration
+abbrev pub contents_facts : Contents → List ℕ
+contents_facts contents = module_facts contents.wasm ++ settings_facts contents.config
+
+-- all that is told of a disk
+abbrev pub inspection_text : Inspection → List ℕ
+inspection_text told =
+    contents_facts told.contents ++ snapshot_facts told.generation told.image_bytes
+    ++ process_facts told.process told.wish
+    ++ host_facts (told.contents.config.files * UNIT_BYTES) told.process.host.host
+    ++ record_facts told.records.items
+
+-- ---- its files
+
+-- a listed node: whether it is a directory or a file, a file's size, and its path
+abbrev pub node_line : ListedNode → List ℕ
+node_line node = if node.is_directory then codes "d " ++ node.path ++ codes "\n"
+    else codes "f " ++ decimal node.size ++ codes " " ++ node.path ++ codes "\n"
+
+-- all of them, one a line
+abbrev pub listing_text : Files → List ℕ
+listing_text fs = flat_map node_line (listing_in fs)
+
+-- ---- what is said
+
+-- The text is printed, and nothing on the error output. Or there is no memory for it: that is told
+-- there, and nothing is printed.
+abbrev pub SaysOrWants : List ℕ → PrinterState → PrinterState → PrinterState → PrinterState → ℕ
+    → Type 0
+SaysOrWants text out out' err err' status =
+    (SaysText text 0 out status out' × (err' ≡ err)) ⊎ (IsSaid 5 err status err' × (out' ≡ out))
+
+-- 3 for a path that isn't that of a file, and 5 for want of memory
+abbrev pub status_of_path : PathFault → ℕ
+status_of_path fault.Memory = 5
+status_of_path other = 3
+
+-- The bytes of the file are written, and nothing on the error output. Or it is told there why none
+-- are.
+abbrev pub SaysFile : Result (Vec ℕ Global) PathFault → PrinterState → PrinterState → PrinterState
+    → PrinterState → ℕ → Type 0
+SaysFile (Ok bytes) out out' err err' status =
+    SaysText bytes.items 0 out status out' × (err' ≡ err)
+SaysFile (Err why) out out' err err' status =
+    IsSaid (status_of_path why) err status err' × (out' ≡ out)
+
+-- all files are listed, or the one at this path is written
+abbrev pub SaysFiles : Files → Option (List ℕ) → PrinterState → PrinterState → PrinterState
+    → PrinterState → ℕ → Type 0
+SaysFiles fs None out out' err err' status = SaysOrWants (listing_text fs) out out' err err' status
+SaysFiles fs (Some path) out out' err err' status =
+    (read : Result (Vec ℕ Global) PathFault) × ReadsPath fs path read
+    × SaysFile read out out' err err' status
+
+-- Of a fault of the disk the status is told on the error output, and nothing is printed.
+abbrev pub SaysRefusal : RecoverFault → PrinterState → PrinterState → PrinterState → PrinterState
+    → ℕ → Type 0
+SaysRefusal why out out' err err' status =
+    IsSaid (status_on_disk (told_of_opening why)) err status err' × (out' ≡ out)
+
+-- what is said of a disk that was inspected
+abbrev pub SaysInspected : Result Inspection RecoverFault → PrinterState → PrinterState
+    → PrinterState → PrinterState → ℕ → Type 0
+SaysInspected (Ok told) out out' err err' status =
+    SaysOrWants (inspection_text told) out out' err err' status
+SaysInspected (Err why) out out' err err' status = SaysRefusal why out out' err err' status
+
+-- what is said of its files
+abbrev pub SaysListed : Option (List ℕ) → Result Inspection RecoverFault → PrinterState
+    → PrinterState → PrinterState → PrinterState → ℕ → Type 0
+SaysListed path (Ok told) out out' err err' status =
+    SaysFiles told.process.host.host.files path out out' err err' status
+SaysListed path (Err why) out out' err err' status = SaysRefusal why out out' err err' status
+
+-- The disk was inspected, and the facts that it holds are said.
+pub record TellsDisk (disk disk' : Medium) (out out' err err' : PrinterState) (status : ℕ)
+    : Type 0 where
+  pub result : Result Inspection RecoverFault
+  pub inspects : Inspects result disk disk'
+  pub says : SaysInspected result out out' err err' status
+
+-- The disk was inspected, and the files of the saved process are said.
+pub record TellsFiles (path : Option (List ℕ)) (disk disk' : Medium)
+    (out out' err err' : PrinterState) (status : ℕ) : Type 0 where
+  pub result : Result Inspection RecoverFault
+  pub inspects : Inspects result disk disk'
+  pub says : SaysListed path result out out' err err' status

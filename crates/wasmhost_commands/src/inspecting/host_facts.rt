@@ -1,0 +1,102 @@
+//! Facts of a host: its files, and what is open.
+
+ghost use Rattle.std.specs.Prelude.{◌≡◌, OnOk, Some};
+ghost use Rattle.std.specs.Io.KnownBytes.{Appends};
+ghost use Rattle.wasi_calls.specs.Views.{target_of};
+ghost use Rattle.wasmhost_commands.specs.rules.InspectionTexts.{target_words, descriptor_fact, last_number};
+ghost use Rattle.wasmhost_commands.specs.rules.InspectionTexts.{descriptor_facts, host_facts, bytes_fact};
+
+use file_tree::Tree;
+use std::io::{self, Write};
+use wasi_calls::{Descriptor, Host, Names};
+
+/// Spells what a descriptor names.
+fn spell_target<W: Write>(out: &mut W, tree: &Tree, names: Names) -> io::Result<()>
+    ensures { OnOk result (Appends (W.contents out.old) (W.contents out.new)
+        (target_words tree.now (target_of names))) }
+{
+    match names {
+        Names::Stream(stream) => write!(out, " stream {stream}"),
+        Names::Node(node) if tree.is_directory(node) => write!(out, " directory {node}"),
+        Names::Node(node) => write!(out, " file {node}"),
+    }
+}
+
+/// Spells what an open descriptor names.
+fn spell_named<W: Write>(out: &mut W, tree: &Tree, descriptor: &Descriptor) -> io::Result<()>
+    ensures { OnOk result (Appends (W.contents out.old) (W.contents out.new)
+        (target_words tree.now descriptor.now.target)) }
+{
+    spell_target(out, tree, descriptor.names())
+}
+
+/// Spells a number at the end of a line.
+fn spell_end<W: Write>(out: &mut W, number: u64) -> io::Result<()>
+    ensures { OnOk result (Appends (W.contents out.old) (W.contents out.new)
+        (last_number number)) }
+{
+    writeln!(out, " {number}")
+}
+
+/// Spells a descriptor that is open under a number.
+fn spell_opened<W: Write>(
+    out: &mut W,
+    tree: &Tree,
+    number: usize,
+    descriptor: &Descriptor,
+) -> io::Result<()>
+    ensures { OnOk result (Appends (W.contents out.old) (W.contents out.new)
+        (descriptor_fact tree.now number (Some descriptor.now))) }
+{
+    write!(out, "descriptor {number}")?;
+    spell_named(out, tree, descriptor)?;
+    spell_end(out, descriptor.offset())
+}
+
+/// Spells what is open under a number, if anything is.
+fn spell_descriptor<W: Write>(
+    out: &mut W,
+    tree: &Tree,
+    number: usize,
+    opened: &Option<Descriptor>,
+) -> io::Result<()>
+    ensures { OnOk result (Appends (W.contents out.old) (W.contents out.new)
+        (descriptor_fact tree.now number opened.now)) }
+{
+    match opened {
+        Some(descriptor) => spell_opened(out, tree, number, descriptor),
+        None => Ok(()),
+    }
+}
+
+/// Spells all that is open.
+fn spell_descriptors<W: Write>(
+    out: &mut W,
+    tree: &Tree,
+    descriptors: &[Option<Descriptor>],
+) -> io::Result<()>
+    ensures { OnOk result (Appends (W.contents out.old) (W.contents out.new)
+        (descriptor_facts tree.now 0 descriptors.now)) }
+{
+    for (number, descriptor) in descriptors.iter().enumerate() {
+        spell_descriptor(out, tree, number, descriptor)?;
+    }
+    Ok(())
+}
+
+/// Spells how many bytes files have, and how many they may have.
+fn spell_bytes<W: Write>(out: &mut W, used: u64, room: u64) -> io::Result<()>
+    ensures { OnOk result (Appends (W.contents out.old) (W.contents out.new)
+        (bytes_fact used room)) }
+{
+    writeln!(out, "bytes {used} {room}")
+}
+
+/// Spells the files of a host, which may have so many bytes, and what is open.
+pub(super) fn spell_host<W: Write>(out: &mut W, host: &Host, room: u64) -> io::Result<()>
+    ensures { OnOk result (Appends (W.contents out.old) (W.contents out.new)
+        (host_facts room host.now.host)) }
+{
+    spell_bytes(out, host.tree().used_bytes(), room)?;
+    spell_descriptors(out, host.tree(), host.descriptors())
+}
