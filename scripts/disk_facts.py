@@ -107,7 +107,8 @@ class Facts:
         bytes_of_files = sum(len(it) for kind, it in self.nodes.values() if kind == FILE)
         yield f"bytes {bytes_of_files} {UNIT * self.files}"
         for number, kind, node, offset in self.descriptors:
-            word = {DIRECTORY: f"directory {node}", FILE: f"file {node}"}.get(kind, f"stream {kind}")
+            nodes = {DIRECTORY: f"directory {node}", FILE: f"file {node}"}
+            word = nodes.get(kind, f"stream {kind}")
             yield f"descriptor {number} {word} {offset}"
         for step, kind, payload in self.records:
             yield f"record {RECORDS[kind]} {step} {len(payload)}"
