@@ -6,14 +6,13 @@ use Rattle.std.proofs.lemmas.List.{take-append-le}
 use Rattle.wasm_syntax.specs.declared.module.Module.{Module}
 use Rattle.wasi_abi.specs.rules.Configs.{Settings}
 use Rattle.process_rules.specs.Runs.{Kept, Runs}
-use Rattle.process_rules.specs.Behind.{IsNarrowTo, AnswersBehindSync}
+use Rattle.process_rules.specs.Behind.{AnswersBehindSync}
 use Rattle.restart_theorem.specs.Lives.{Checkpoint, Reply, Spent, Waits, Over, Done, Fails}
 use Rattle.restart_theorem.specs.Lives.{Event, Told, Asked, Opened, Ended, kept_of_said}
 use Rattle.restart_theorem.specs.Promises.{Promise, nothing_yet, after, promised, synced_by}
 use Rattle.restart_theorem.specs.laws.Laws.{OpenWith, OpeningsAreForGood, CheckpointsAreForGood}
 use Rattle.restart_theorem.specs.laws.Laws.{HasReturned, SyncsAreForGood, TellBeyond}
 use Rattle.restart_theorem.specs.laws.Laws.{OpenedLinesAreToldNoMore, SavedLinesAreToldNoMore}
-use Rattle.restart_theorem.proofs.Fronts.{up_to_behind, said_widens_none}
 use Rattle.restart_theorem.proofs.Promised.{kept_of_promised, AreKeptSomewhere, all_kept}
 
 -- ---- answers and steps
@@ -64,9 +63,8 @@ IsHeld m config so_far k a = ((k ≤ so_far.synced) × AnswersBehindSync m confi
     ⊎ (a ≤ so_far.answers)
 
 behind_more : (m : Module) (config : Settings) (kept more : List Kept) (k a : ℕ)
-    → IsNarrowTo more k → AnswersBehindSync m config kept k a
-    → AnswersBehindSync m config (kept ++ more) k a
-behind_more m config kept more k a up behind = record {
+    → AnswersBehindSync m config kept k a → AnswersBehindSync m config (kept ++ more) k a
+behind_more m config kept more k a behind = record {
   within = longer a kept more behind.within;
   before = behind.before;
   process = behind.process;
@@ -78,7 +76,6 @@ behind_more m config kept more k a up behind = record {
         behind.process)
         (sym (take-append-le a kept more behind.within)) behind.reached.runs;
   };
-  up_to = up_to_behind a k kept more behind.within behind.up_to up;
   next = behind.next;
   syncs = behind.syncs;
 }
@@ -110,8 +107,7 @@ syncs_held m config so_far k a (Asked n kind said fits ∷ events) kept (inl hel
     syncs_held m config (after so_far (Asked n kind said fits)) k a events kept.1
     (inl (
       omega (arith, before),
-      behind_more m config so_far.kept (kept_of_said said fits) k a (said_widens_none said fits k)
-          held.1,
+      behind_more m config so_far.kept (kept_of_said said fits) k a held.1,
     ))
 syncs_held m config so_far k a (Asked n kind said fits ∷ events) kept (inr held) =
     syncs_held m config (after so_far (Asked n kind said fits)) k a events kept.1 (inr held)

@@ -1,6 +1,6 @@
 -- What is promised over lives: the restart theorem in the subject's words (this project's own).
 use Rattle.std.specs.Prelude.{◌≡◌, ◌⊎◌, ℕ, ◌+◌, ◌-◌, ◌≤◌, ◌<◌, max, Bool, true, false}
-use Rattle.std.specs.Prelude.{List, [], ◌∷◌, ◌++◌, length, take, drop, Option, Some, None, Ok}
+use Rattle.std.specs.Prelude.{List, [], ◌∷◌, ◌++◌, length, take, Option, Some, None, Ok}
 use Rattle.wasm_syntax.specs.declared.module.Module.{Module}
 use Rattle.wasm_syntax.specs.declared.types.FunctionType.{FunctionType}
 use Rattle.wasm_semantics.specs.Validity.{module_context, AreFunctionTypes}
@@ -14,7 +14,7 @@ use Rattle.wasm_semantics.specs.Configuration.{Configuration}
 use Rattle.wasi_calls_rules.specs.Hosts.{Host}
 use Rattle.process_rules.specs.Processes.{ProcessState, HasLineNumbers}
 use Rattle.process_rules.specs.Runs.{Kept, On, Wants, next_of, Reaches}
-use Rattle.process_rules.specs.Behind.{IsNarrowTo, AnswersBehindLine, AnswersBehindSync, IsLine}
+use Rattle.process_rules.specs.Behind.{AnswersBehindLine, AnswersBehindSync, IsLine}
 use Rattle.state_image.specs.rules.Image.{Saved, SavedShowsProcess}
 use Rattle.restart_theorem.specs.Lives.{Act, Slice, Checkpoint, SourceSaid, Inputs, Release}
 use Rattle.restart_theorem.specs.Lives.{OfBounds, Reply, Spent, Waits, Over, Done, Fails}
@@ -182,13 +182,11 @@ pub record IsInquiring (m : Module) (config : Settings) (so_far : Promise) (stag
   pub heard : question.said ≡ first_said stage.says
 
 -- A front of so many kept answers, with a process of so many steps, holds all that was promised. It
--- has as many answers and steps, and has not run past a widening that is kept next. It has the
--- answers behind each line whose release was begun, and those behind each sync of the guest that
--- returned.
+-- has as many answers and steps. It has the answers behind each line whose release was begun, and
+-- those behind each sync of the guest that returned.
 pub record HoldsAll (m : Module) (config : Settings) (kept : List Kept) (so_far : Promise)
     (held steps : ℕ) : Type 0 where
   pub within : held ≤ length kept
-  pub up_to : IsNarrowTo (drop held kept) steps
   pub answers : so_far.answers ≤ held
   pub steps_held : so_far.steps ≤ steps
   pub lines : (i : ℕ) → i ≤ so_far.begun

@@ -6,7 +6,6 @@ pub mod Shown
 mod NodesAt
 mod Fields
 mod Counts
-mod Marks
 mod Machines
 mod Named
 mod Among

@@ -1,7 +1,6 @@
 -- An act that saves a worker, as an event of a life, and what its disk holds.
 use Rattle.std.proofs.Common.{◌≡◌, ℕ, ◌+◌, ◌-◌, ◌*◌, ◌≤◌, ◌^◌, List, [], ◌∷◌, ◌++◌}
-use Rattle.std.proofs.Common.{◌⊎◌, length, Some, false, refl, sym, ap, ◌∙◌, subst, inl, inr}
-use Rattle.std.proofs.Common.{arith, take}
+use Rattle.std.proofs.Common.{length, Some, false, refl, sym, ap, ◌∙◌, subst, inl, inr, arith, take}
 use Rattle.std.proofs.lemmas.List.{append-nil}
 use Rattle.std.proofs.Math.Seq.{take-length}
 use Rattle.std.specs.Prelude.{Result, Ok, Err}
@@ -10,7 +9,6 @@ use Rattle.wasi_abi.specs.declared.numbers.TheConstants.{NUMBERS_END}
 use Rattle.wasi_abi.specs.rules.Configs.{Settings}
 use Rattle.wasi_calls_rules.specs.laws.Laws.{IsOfBytes}
 use Rattle.process_rules.specs.Processes.{ProcessState, Guest, host_of}
-use Rattle.process_rules.specs.Behind.{IsNarrowTo}
 use Rattle.process_rules.specs.Runs.{Kept, Runs, Reaches, none}
 use Rattle.process_rules.proofs.Quiet.{runs_join}
 use Rattle.process_rules.proofs.Growing.{runs_count}
@@ -30,7 +28,7 @@ use Rattle.restart_theorem.specs.Promises.{Promise, after}
 use Rattle.restart_theorem.specs.Holds.{StaysWithin}
 use Rattle.restart_theorem.specs.Exchanges.{none as no_exchange}
 use Rattle.worker_store.specs.laws.Savepoints.{Savepoint}
-use Rattle.worker_store.specs.laws.Acts.{SavesWith, MayBeKept, keeping_more}
+use Rattle.worker_store.specs.laws.Acts.{SavesWith, keeping_more}
 use Rattle.worker_store.specs.laws.CallEnds.{IsSavedAs, HasBound, ComesAtOnce, IsSavingNext}
 use Rattle.worker_store.specs.laws.Carried.{count_at, IsHeldAt}
 use Rattle.worker_store.specs.laws.Raised.{SyncsAreHeld}
@@ -41,7 +39,6 @@ use Rattle.worker_store.proofs.LawLemmas.CallEnds.{done_saves_end, failed_saves_
 use Rattle.worker_store.proofs.LawLemmas.CallEnds.{calls_leave_between}
 use Rattle.worker_store.proofs.LawLemmas.Carrying.{all_is_held, begins_carried}
 use Rattle.worker_store.proofs.LawLemmas.Raising.{all_syncs_are_held, carried_is_reached}
-use Rattle.worker_store.proofs.LawLemmas.Raising.{up_to_all}
 use Rattle.worker_store.proofs.LawLemmas.AtHand.{shown_is_saved, next_is_at_hand, same_within}
 use Rattle.worker_store.proofs.LawLemmas.Saving.{done_saves_carry, failed_saves_carry}
 use Rattle.worker_store.proofs.LawLemmas.TurnLemmas.{more_carries, syncs_of_more}
@@ -226,34 +223,17 @@ module _ {D : Type 0} (medium : D → Medium) (old new : DurableValue) (disk : D
         let heard : length p.host.lines ≤ promise.heard = opened.heard in
         let by = reached_now medium m config guest promise p p.steps promise.events old.store disk
         on in
-        let counted : p.steps ≡ on.now.steps + on.n =
-        runs_count guest on.now p [] on.n on.runs in
-        let may_be : MayBeKept more p.steps (length p.host.lines) promise.begun = record {
-          up_to = subst (λ n. IsNarrowTo more n) (shown_whole.shows.steps ∙ same_steps)
-              saves.may.up_to;
-          emitted = subst (λ n. ((step : ℕ) → IsNarrowTo more step) ⊎ (promise.begun ≤ n))
-              (shown_whole.shows.lines ∙ lines) saves.may.emitted;
-        } in
         record {
           saves = saves;
           saved = next_is.saved;
           all = can.all;
           front = next_is.saves (keeping_more promise more)
               (all_first (promise.kept ++ more) can.next.front can.all)
-              (up_to_all (promise.kept ++ more) can.next.front q.steps can.all)
               (omega (arith, lines, heard));
           carried = more_carries medium m config promise on.point old.store.journal on.records
               on.pending on.last on.now p p.steps more disk on.carried on.point.accepted.valid
-              by.reached opened.synced (come_so_far on.now.steps p.steps on.n counted) may_be;
+              by.reached opened.synced;
         }
-      where
-        come_so_far : (a b n : ℕ) → b ≡ a + n → a ≤ b
-        come_so_far a b n e = omega (arith, e)
-
-    -- what is kept besides widens the process at hand
-    up_to_now : IsNarrowTo more p.steps
-    up_to_now =
-        subst (λ n. IsNarrowTo more n) (shown_whole.shows.steps ∙ same_steps) saves.may.up_to
 
     -- at any moment it is one generation on at most
     save_bounds : StaysWithin (promise.events + 1) (medium disk) (medium disk')
@@ -280,7 +260,7 @@ module _ {D : Type 0} (medium : D → Medium) (old new : DurableValue) (disk : D
         ((saved_of new.process).steps - 1)
         (one_less (saved_of new.process).steps p.steps (shown_whole.shows.steps ∙ same_steps))
         (syncs_of_more m config promise.kept more p.steps p on.point.accepted.valid by.reached
-        up_to_now (count_at on.point on.records) on.syncs)
+        (count_at on.point on.records) on.syncs)
       where
         one_less : (n s : ℕ) → n ≡ s → n - 1 ≤ s
         one_less n s e = omega (arith, e)

@@ -2,7 +2,6 @@
 -- event. The power is cut after the first line was told, and before its record of the steps behind
 -- it.
 use Rattle.std.specs.Prelude.{◌≡◌, ℕ, true, false, List, [], ◌∷◌, codes, Some, None, Ok}
-use Rattle.wasi_abi.specs.declared.version.Version.TheVariants.{One}
 use Rattle.wasi_abi.specs.declared.answer.Kind.TheVariants as kind
 use Rattle.wasi_abi.specs.declared.answer.Answer.{Answer}
 use Rattle.wasi_abi.specs.declared.answer.Answer.TheVariants as answer
@@ -23,7 +22,6 @@ use Rattle.restart_theorem.specs.Promises.{Promise, nothing_yet, promised}
 -- what a process shows that has come to so many steps and lines; the rest counts for nothing here
 abbrev pub saved_at : ℕ → ℕ → Saved
 saved_at steps lines = record {
-  version = One;
   machine = record { frames = []; globals = []; memory = []; later = [] };
   files = record { nodes = []; next = 2 };
   descriptors = [];

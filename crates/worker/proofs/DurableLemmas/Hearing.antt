@@ -37,7 +37,6 @@ use Rattle.worker_store.specs.laws.Pieces.{IsForetold, AreDone}
 use Rattle.worker_store.specs.laws.Carried.{count_at, IsCarried}
 use Rattle.worker_store.specs.laws.Raised.{SyncsAreHeld, AreOnRecord}
 use Rattle.worker_store.specs.laws.Turns.{GoesOnFrom}
-use Rattle.restart_theorem.proofs.Fronts.{said_widens_none}
 use Rattle.worker_store.proofs.LawLemmas.AtHand.{shown_is_saved, shown_is_numbered}
 use Rattle.worker_store.proofs.LawLemmas.CallEnds.{waiting_slices_end}
 use Rattle.worker_store.proofs.LawLemmas.Carrying.{carried_keeps}
@@ -158,8 +157,7 @@ module _ {D : Type 0} (medium : D → Medium) (c : Course) (promise : Promise) (
         let is = running.on_disk in
         syncs_of_more c.code c.config promise.kept (kept_of_said said fits) p.steps p
         (valid_module medium c.code c.config c.guest promise p p.steps (promise.events + 1) w.store
-        disk is) by_answers.reached (said_widens_none said fits p.steps)
-        (count_at is.point is.records) is.syncs
+        disk is) by_answers.reached (count_at is.point is.records) is.syncs
 
     carried_once : IsCarried (promise_once promise p kind said fits) asking.running.on_disk.point
         w.store.journal asking.running.on_disk.records asking.running.on_disk.pending

@@ -1,10 +1,9 @@
 -- Room on the disk for the next answer.
 use Rattle.std.proofs.Common.{◌≡◌, ℕ, ◌+◌, ◌-◌, ◌*◌, ◌≤◌, [], length, refl}
-use Rattle.std.proofs.Common.{sym, ap, ◌∙◌, subst, inl, inr, arith, false, take, drop}
+use Rattle.std.proofs.Common.{sym, ap, ◌∙◌, subst, inl, inr, arith, false, take}
 use Rattle.std.proofs.lemmas.List.{append-nil}
 use Rattle.wasi_abi.specs.declared.answer.Kind.{Kind}
 use Rattle.wasi_abi.specs.declared.numbers.TheConstants.{NUMBERS_END}
-use Rattle.process_rules.specs.Behind.{IsNarrowTo}
 use Rattle.process_rules.specs.Processes.{ProcessState}
 use Rattle.process_rules.specs.Runs.{Runs, none}
 use Rattle.process.specs.rules.Values.{ProcessValue, IsProcess}
@@ -25,7 +24,6 @@ use Rattle.worker_store.specs.laws.CallEnds.{HasBound}
 use Rattle.worker_store.specs.laws.Carried.{count_at}
 use Rattle.worker_store.specs.laws.Raised.{AreOnRecord}
 use Rattle.worker_store.specs.laws.Turns.{GoesOnFrom}
-use Rattle.worker_store.proofs.LawLemmas.Raising.{up_to_all}
 use Rattle.worker_store.proofs.LawLemmas.Carrying.{begins_carried}
 use Rattle.worker_store.proofs.LawLemmas.Raising.{all_syncs_are_held, ended_carries}
 use Rattle.worker_store.proofs.LawLemmas.Saving.{next_held, save_carries, ends_promise_no_less}
@@ -131,11 +129,6 @@ module _ {D : Type 0} (medium : D → Medium) (w : Running) (after : WorkerStore
         let can = ready in
         all_first promise.kept can.next.front (can.all ∙ append-nil promise.kept)
 
-    -- behind all of them nothing widens
-    widens_none : IsNarrowTo (drop (length ready.next.front) promise.kept) p.steps
-    widens_none =
-        up_to_all promise.kept ready.next.front p.steps (ready.all ∙ append-nil promise.kept)
-
     -- at any moment it is one generation on at most
     save_bounds : StaysWithin (promise.events + 1) (medium disk) (medium disk')
     save_bounds =
@@ -218,8 +211,7 @@ module _ {D : Type 0} (medium : D → Medium) (w : Running) (after : WorkerStore
               is.records is.pending [] is.last is.now disk disk'
               (ends_promise_no_less promise (Slice c.fuel) (Fails why.cause) held
               (saved_of w.process)) later
-              (next_is.saves (slice_end promise c.fuel (Fails why.cause) held w) all_kept
-              widens_none heard)
+              (next_is.saves (slice_end promise c.fuel (Fails why.cause) held w) all_kept heard)
               (leaves c.code c.config point can.next is.records is.pending is.last is.now is.stores
               next_is.comes next_is.saved))
               save_bounds,
@@ -247,7 +239,7 @@ module _ {D : Type 0} (medium : D → Medium) (w : Running) (after : WorkerStore
           carried_on medium c promise disk disk' running.opened
           (save_carries medium c.code c.config promise promise is.point ready.next w.store.journal
           is.records is.pending [] is.last is.now disk disk' (same_no_more promise) is.carried
-          (next_is.saves promise all_kept widens_none heard)
+          (next_is.saves promise all_kept heard)
           (leaves c.code c.config is.point ready.next is.records is.pending is.last is.now is.stores
           next_is.comes next_is.saved))
 
@@ -273,8 +265,7 @@ module _ {D : Type 0} (medium : D → Medium) (w : Running) (after : WorkerStore
             stores = stored;
             carried = begins_carried medium c.code c.config promise next after.journal disk'
                 (next_held medium c.code c.config promise is.point next w.store.journal is.records
-                is.pending [] is.last is.now disk is.carried
-                (next_is.saves promise all_kept widens_none heard))
+                is.pending [] is.last is.now disk is.carried (next_is.saves promise all_kept heard))
                 journaled;
             on_record = all_on_record;
             n = 0;

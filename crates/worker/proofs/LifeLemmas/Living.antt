@@ -151,7 +151,6 @@ module _ (m : Module) (config : Settings) where
         stands = h.stands;
         holds = record {
           within = all.within;
-          up_to = all.up_to;
           answers = all.answers;
           steps_held = all.steps_held;
           lines = all.lines;

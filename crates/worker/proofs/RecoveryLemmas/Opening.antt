@@ -20,7 +20,6 @@ use Rattle.worker_store.specs.laws.Carried.{answers_at, count_at}
 use Rattle.worker_store.specs.laws.Recovered.{OpensAtNext}
 use Rattle.worker_store.proofs.LawLemmas.AtHand.{shown_is_saved, same_within}
 use Rattle.worker_store.proofs.LawLemmas.Carrying.{answers_count, begins_carried, first_on_record}
-use Rattle.worker_store.proofs.LawLemmas.Carrying.{first_up_to}
 use Rattle.worker_store.proofs.LawLemmas.Pieces.{ends_join}
 use Rattle.worker_store.proofs.LawLemmas.Raising.{all_syncs_are_held}
 use Rattle.worker_store.proofs.LawLemmas.Recovering.{recovery_opens}
@@ -99,8 +98,6 @@ module _ {D O : Type 0} (medium : D → Medium) (takes : Taking O) (m : Module)
         has.next found.records.items there.last mid new told.no_more told.held
         (has.is_next.saves told.made.promise'
         (first_on_record m config told.made.promise' there.point found.records.items there.last
-        has.next.front told.held has.front)
-        (first_up_to m config told.made.promise' there.point found.records.items there.last
         has.next.front told.held has.front) heard) has.is_next.saved has.leaves
         stored.journaled.stands
 

@@ -1,5 +1,5 @@
 -- Acts that save a worker, case by case.
-use Rattle.std.proofs.Common.{◌≡◌, ℕ, List, inl, ap, sym, arith}
+use Rattle.std.proofs.Common.{◌≡◌, ℕ, List, ap, sym, arith}
 use Rattle.std.proofs.lemmas.List.{append-nil}
 use Rattle.process_rules.specs.Runs.{Kept}
 use Rattle.state_image.specs.rules.Image.{Saved}
@@ -19,7 +19,6 @@ pub checkpoints_save : CheckpointsSave
 checkpoints_save promise shown = record {
   saving = tt;
   kept = λ reply held. sym (append-nil promise.kept);
-  may = record { up_to = tt; emitted = inl (λ step. tt) };
 }
 
 -- ---- what it answers

@@ -87,10 +87,9 @@ next_is_at_hand m config point records more last p n v recorded runs shows is sa
         front = refl;
         process = refl;
         same = refl;
-        saves = λ promise kept up heard. record {
+        saves = λ promise kept heard. record {
           front = refl;
           kept = kept;
-          up_to = up;
           steps = n;
           runs = runs;
           heard = same_within (saved_of v).lines (length p.host.lines) promise.heard lines heard;

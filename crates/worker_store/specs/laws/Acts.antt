@@ -1,7 +1,6 @@
 -- Acts that save a worker, and what is promised in their end.
-use Rattle.std.specs.Prelude.{◌≡◌, ◌⊎◌, ℕ, ◌≤◌, List, [], ◌++◌}
+use Rattle.std.specs.Prelude.{◌≡◌, ℕ, List, [], ◌++◌}
 use Rattle.process_rules.specs.Runs.{Kept}
-use Rattle.process_rules.specs.Behind.{IsNarrowTo}
 use Rattle.state_image.specs.rules.Image.{Saved}
 use Rattle.restart_theorem.specs.Lives.{Act, Slice, Checkpoint, Reply, Ended}
 use Rattle.restart_theorem.specs.Promises.{Promise, after}
@@ -15,19 +14,12 @@ IsSaving Checkpoint = Unit {0}
 abbrev pub keeping_more : Promise → List Kept → Promise
 keeping_more promise more = record promise { kept = promise.kept ++ more }
 
--- What is kept besides may widen a process after so many steps, where that has emitted all lines
--- that were begun.
-pub record MayBeKept (more : List Kept) (steps lines begun : ℕ) : Type 0 where
-  pub up_to : IsNarrowTo more steps
-  pub emitted : ((step : ℕ) → IsNarrowTo more step) ⊎ (begun ≤ lines)
-
 -- An act saves this process. Once it has ended, whatever it answers, these are kept besides.
 pub record SavesWith (promise : Promise) (act : Act) (more : List Kept) (shown : Saved)
     : Type 0 where
   pub saving : IsSaving act
   pub kept : (reply : Reply) (held : ℕ)
       → (after promise (Ended act reply held shown)).kept ≡ promise.kept ++ more
-  pub may : MayBeKept more shown.steps shown.lines promise.begun
 
 -- Its end promises what that of a checkpoint promises where these are kept.
 abbrev pub SavingEndsAlike : Type 0

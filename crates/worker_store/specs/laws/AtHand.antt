@@ -1,11 +1,10 @@
 -- The process at hand, as it is saved, and the savepoint that a commit makes of it.
-use Rattle.std.specs.Prelude.{◌≡◌, ℕ, ◌≤◌, List, [], ◌++◌, length, take, drop}
+use Rattle.std.specs.Prelude.{◌≡◌, ℕ, ◌≤◌, List, [], ◌++◌, length, take}
 use Rattle.wasm_syntax.specs.declared.module.Module.{Module}
 use Rattle.wasm_semantics.specs.Acceptance.{IsAccepted}
 use Rattle.wasi_abi.specs.rules.Configs.{Settings, AreSettingsWithinLimits}
 use Rattle.machine.specs.rules.Offers.{offer}
 use Rattle.process_rules.specs.Processes.{ProcessState, Guest, IsStart}
-use Rattle.process_rules.specs.Behind.{IsNarrowTo}
 use Rattle.process_rules.specs.Runs.{Kept, Runs}
 use Rattle.process.specs.rules.Values.{ProcessValue, ShowsProcess, IsProcess}
 use Rattle.state_image.specs.rules.Saving.{saved_of}
@@ -43,7 +42,6 @@ pub record IsNextOf {m : Module} {config : Settings} (point : Savepoint m config
   pub process : next.process ≡ p
   pub same : next.reached.guest ≡ point.reached.guest
   pub saves : (promise : Promise) → take (length next.front) promise.kept ≡ next.front
-      → IsNarrowTo (drop (length next.front) promise.kept) p.steps
       → length p.host.lines ≤ promise.heard → SavesFront promise point next records more last
 
 -- There is one, wherever the records of a savepoint have led.

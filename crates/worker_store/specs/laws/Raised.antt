@@ -21,7 +21,7 @@ use Rattle.restart_theorem.specs.Promises.{Promise, after, saved_by, synced_by}
 use Rattle.worker_store.specs.laws.Savepoints.{Savepoint}
 use Rattle.worker_store.specs.laws.Journaled.{IsJournaled}
 use Rattle.worker_store.specs.laws.Carried.{answers_at, count_at, IsCarried}
-use Rattle.worker_store.specs.laws.Acts.{MayBeKept, keeping_more}
+use Rattle.worker_store.specs.laws.Acts.{keeping_more}
 
 -- ---- syncs of the guest
 
@@ -93,15 +93,14 @@ AskedCarries {D} medium =
     (medium disk)
 
 -- More may be kept behind what all kept answers lead to, where all syncs that returned are behind
--- that. It may widen the process there, where that has emitted all lines that were begun.
+-- that.
 abbrev pub MoreCarries : {D : Type 0} → (D → Medium) → Type 0
 MoreCarries {D} medium =
     (m : Module) (config : Settings) (promise : Promise) (point : Savepoint m config)
     (journal : JournalState) (records pending : List Record) (last now p : ProcessState) (n : ℕ)
     (more : List Kept) (disk : D)
     → IsCarried promise point journal records pending last now (medium disk) → IsValid m
-    → Reaches m config promise.kept n p → promise.synced ≤ n → now.steps ≤ n
-    → MayBeKept more p.steps (length p.host.lines) promise.begun
+    → Reaches m config promise.kept n p → promise.synced ≤ n
     → IsCarried (keeping_more promise more) point journal records pending last now (medium disk)
 
 -- A call may end that saves nothing, a slice or what failed, where no sync that it says has
