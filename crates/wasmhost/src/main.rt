@@ -6,8 +6,8 @@
 //! - Each function that answers an exit status answers 7 at most. No clause says more of the
 //!   program.
 //!
-//! What the commands promise of bytes, disks, readers and writers is said in `wasmhost_commands`. This
-//! crate brings these to them:
+//! What the commands promise of bytes, disks, readers and writers is said in `wasmhost_commands`.
+//! This crate brings these to them:
 //!
 //! - It reads the command line, and opens the files that it names.
 //! - `check` and `create` hand over a module's bytes. `create` has the disk's file made by
@@ -16,8 +16,9 @@
 //! - `story` and `sweep` hand over all bytes of a script, and a module's bytes. They read them in
 //!   this order.
 //! - `run`, `show`, `inspect` and `files` open the disk's file by `open_disk`, `show_file`,
-//!   `inspect_file` and `files_file`. One host holds it at a time. `run` also hands over the lines of the standard input, the machine's clock, and what the
-//!   words say of seed and clock. Behind it `report_input` says what is left of the lines.
+//!   `inspect_file` and `files_file`. One host holds it at a time. `run` also hands over the lines
+//!   of the standard input, the machine's clock, and what the words say of seed and clock. Behind
+//!   it `report_input` says what is left of the lines.
 //! - Before all that it takes the numbers of standard streams that are closed (`StreamNumbers`), so
 //!   that no file which it opens gets one. No clause says so: `scripts/closed-streams` runs it.
 //! - What keeps a command from beginning is told by `report`, `report_unread` and

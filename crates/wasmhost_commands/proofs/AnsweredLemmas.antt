@@ -16,7 +16,8 @@ use Rattle.wasmhost_commands.specs.rules.Outside.{words_in}
 use Rattle.wasmhost_commands.specs.rules.Requests.{GiveUpTo}
 use Rattle.wasmhost_commands.specs.rules.Answered.{AreOfLines, AnswersComeFromTheLines}
 use Rattle.wasmhost_commands.specs.rules.ServedOnDisk.{handing}
-use Rattle.wasmhost_commands.specs.Lines.Answers.{Standing, HandsNext, HandsAnswer, Finds, LeavesFault}
+use Rattle.wasmhost_commands.specs.Lines.Answers.{Standing, HandsNext, HandsAnswer, Finds}
+use Rattle.wasmhost_commands.specs.Lines.Answers.{LeavesFault}
 use Rattle.wasmhost_commands.specs.Lines.Answers.{IsRefusedAt}
 use Rattle.wasmhost_commands.proofs.LineLemmas.Asking.{HandsOver, finds_hands}
 use Rattle.wasmhost_commands.proofs.LineLemmas.Passing.{passed_nothing, up_to_on, up_to_map}

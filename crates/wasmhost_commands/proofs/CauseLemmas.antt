@@ -23,12 +23,14 @@ use Rattle.wasmhost_commands.specs.declared.lines.fault.LineFault.TheVariants as
 use Rattle.wasmhost_commands.specs.declared.on_disk.fault.OnDiskFault.{OnDiskFault}
 use Rattle.wasmhost_commands.specs.declared.on_disk.fault.OnDiskFault.TheVariants as is_told
 use Rattle.wasmhost_commands.specs.Lines.Answers.{Standing, HandsNext, HandsAnswer, IsRefusedFor}
-use Rattle.wasmhost_commands.specs.rules.DiskStatuses.{IsToldOnDisk, told_of_opening, status_on_disk}
+use Rattle.wasmhost_commands.specs.rules.DiskStatuses.{IsToldOnDisk, told_of_opening}
+use Rattle.wasmhost_commands.specs.rules.DiskStatuses.{status_on_disk}
 use Rattle.wasmhost_commands.specs.rules.DiskStatuses.{status_of_call}
 use Rattle.wasmhost_commands.specs.rules.Hearings.{WasHeard, AsksUnless, IsOfSource}
 use Rattle.wasmhost_commands.specs.rules.Outside.{requests_in, words_of}
 use Rattle.wasmhost_commands.specs.rules.Printers.{PrinterState, IsSaid}
-use Rattle.wasmhost_commands.specs.rules.Requests.{BeginsWithOther, BeginsWithLater, BeginsWithNumber}
+use Rattle.wasmhost_commands.specs.rules.Requests.{BeginsWithOther, BeginsWithLater}
+use Rattle.wasmhost_commands.specs.rules.Requests.{BeginsWithNumber}
 use Rattle.wasmhost_commands.specs.rules.ServedOnDisk.{DiskJob, stands_behind, handing}
 use Rattle.wasmhost_commands.specs.rules.BrokenLives.{LeavesNoLine, steps_among}
 use Rattle.wasmhost_commands.specs.rules.ServedOnDisk.{LivesOnDisk, HasBrokenOff}

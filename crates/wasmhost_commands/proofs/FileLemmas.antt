@@ -9,7 +9,8 @@ use Rattle.sector_disk.specs.rules.File.{file_medium}
 use Rattle.sector_disk.specs.rules.Medium.{IsAllSynced}
 use Rattle.sector_disk.specs.rules.Rewrite.{AddsNothing}
 use Rattle.wasmhost_commands.specs.declared.telling.Obstacle.TheVariants.{Unread}
-use Rattle.wasmhost_commands.specs.rules.Openings.{IsUntouched, IsWrittenBack, IsOpenedFor, ShowsFile}
+use Rattle.wasmhost_commands.specs.rules.Openings.{IsUntouched, IsWrittenBack, IsOpenedFor}
+use Rattle.wasmhost_commands.specs.rules.Openings.{ShowsFile}
 use Rattle.wasmhost_commands.specs.rules.Openings.{SaysUnopened}
 use Rattle.wasmhost_commands.specs.rules.Printers.{PrinterState}
 use Rattle.wasmhost_commands.specs.rules.Reports.{SaysLine, words_told}

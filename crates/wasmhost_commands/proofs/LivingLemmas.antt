@@ -29,7 +29,8 @@ use Rattle.worker.specs.laws.Outcomes.{outcome_after}
 use Rattle.wasmhost_commands.specs.rules.BrokenLives.{BreaksOff, SlicesLead, steps_among}
 use Rattle.wasmhost_commands.specs.rules.Hearings.{AsksUnless, IsOfSource}
 use Rattle.wasmhost_commands.specs.rules.Paces.{round_of, IsPaced, last, more}
-use Rattle.wasmhost_commands.specs.Livings.{Scene, scene, left_after, steps_left, AreCalled, ActsLead}
+use Rattle.wasmhost_commands.specs.Livings.{Scene, scene, left_after, steps_left, AreCalled}
+use Rattle.wasmhost_commands.specs.Livings.{ActsLead}
 use Rattle.wasmhost_commands.specs.Livings.{IsRested, IsRound, IsBrokenRound, LivesAtPace}
 use Rattle.wasmhost_commands.specs.Livings.{SlicesLeadOn, BreaksOffAt}
 use Rattle.wasmhost_commands.proofs.BreakLemmas.{steps_both, slice_more, round_steps, lead_nowhere}

@@ -31,7 +31,8 @@ use Rattle.wasmhost_commands.specs.Lines.Answers.{Standing, standing}
 use Rattle.wasmhost_commands.specs.Livings.{scene, left_after, AreCalled, LivesAtPace, HasGoneOn}
 use Rattle.wasmhost_commands.specs.Livings.{BreaksOffAt}
 use Rattle.wasmhost_commands.specs.rules.BrokenLives.{BreaksOffFrom, steps_among}
-use Rattle.wasmhost_commands.specs.rules.DiskStatuses.{IsToldOnDisk, told_of_opening, status_on_disk}
+use Rattle.wasmhost_commands.specs.rules.DiskStatuses.{IsToldOnDisk, told_of_opening}
+use Rattle.wasmhost_commands.specs.rules.DiskStatuses.{status_on_disk}
 use Rattle.wasmhost_commands.specs.rules.DiskStatuses.{status_of_disk, status_of_call}
 use Rattle.wasmhost_commands.specs.rules.DiskStatuses.{status_of_recovery}
 use Rattle.wasmhost_commands.specs.rules.Statuses.{status_of_line}

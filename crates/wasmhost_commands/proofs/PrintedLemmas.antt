@@ -16,7 +16,8 @@ use Rattle.ephemeral_worker.proofs.Joining.{leads_join}
 use Rattle.worker.specs.declared.fault.WorkFault.{WorkFault}
 use Rattle.worker.specs.declared.fault.WorkFault.TheVariants as work
 use Rattle.wasmhost_commands.specs.Lines.Answers.{Standing}
-use Rattle.wasmhost_commands.specs.rules.BrokenLives.{IsBrokenAt, in_slice, in_checkpoint, BreaksOff}
+use Rattle.wasmhost_commands.specs.rules.BrokenLives.{IsBrokenAt, in_slice, in_checkpoint}
+use Rattle.wasmhost_commands.specs.rules.BrokenLives.{BreaksOff}
 use Rattle.wasmhost_commands.specs.rules.BrokenLives.{LeavesNoLine, TellsItsLines}
 use Rattle.wasmhost_commands.specs.rules.ServedOnDisk.{handing}
 

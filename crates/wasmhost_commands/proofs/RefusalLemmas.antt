@@ -20,7 +20,8 @@ use Rattle.wasmhost_commands.specs.rules.DiskCauses.{RefusalsHaveReasons}
 use Rattle.wasmhost_commands.specs.Lines.Answers.{Standing, HandsNext, HandsAnswer, LeavesFault}
 use Rattle.wasmhost_commands.specs.Lines.Answers.{IsRefusedFor}
 use Rattle.wasmhost_commands.proofs.AnsweredLemmas.{at_end, leaves_some}
-use Rattle.wasmhost_commands.proofs.LineLemmas.Asking.{HasAnswered, answered_nothing, answered_first}
+use Rattle.wasmhost_commands.proofs.LineLemmas.Asking.{HasAnswered, answered_nothing}
+use Rattle.wasmhost_commands.proofs.LineLemmas.Asking.{answered_first}
 use Rattle.wasmhost_commands.proofs.LineLemmas.Asking.{none_left, refused_for, refused_so}
 use Rattle.wasmhost_commands.proofs.LineLemmas.Passing.{behind_passed}
 

@@ -18,7 +18,8 @@ use Rattle.worker.specs.rules.RecoverFaults.{wants_memory}
 use Rattle.wasmhost_commands.specs.declared.lines.fault.LineFault.{LineFault}
 use Rattle.wasmhost_commands.specs.declared.lines.fault.LineFault.TheVariants as line
 use Rattle.wasmhost_commands.specs.declared.on_disk.fault.OnDiskFault.{OnDiskFault}
-use Rattle.wasmhost_commands.specs.rules.DiskStatuses.{IsToldOnDisk, told_of_opening, status_on_disk}
+use Rattle.wasmhost_commands.specs.rules.DiskStatuses.{IsToldOnDisk, told_of_opening}
+use Rattle.wasmhost_commands.specs.rules.DiskStatuses.{status_on_disk}
 use Rattle.wasmhost_commands.specs.rules.DiskStatuses.{status_of_call}
 use Rattle.wasmhost_commands.specs.rules.LastWords.{ended_by, last_words}
 use Rattle.wasmhost_commands.specs.rules.Printed.{SevenIsAFailedWrite}

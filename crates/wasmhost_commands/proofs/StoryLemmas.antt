@@ -7,7 +7,8 @@ use Rattle.std.specs.Io.KnownBytes.{Appends}
 use Rattle.std.proofs.lemmas.List.{append_assoc, append-nil, take_more, length-take-le}
 use Rattle.record_replay.specs.declared.line_list.NumberedLine.{NumberedLine}
 use Rattle.worker.specs.declared.story.report.LifeReport.{LifeReport}
-use Rattle.wasmhost_commands.specs.rules.Stories.{release_text, releases_text, life_text, story_text}
+use Rattle.wasmhost_commands.specs.rules.Stories.{release_text, releases_text, life_text}
+use Rattle.wasmhost_commands.specs.rules.Stories.{story_text}
 use Rattle.wasmhost_commands.proofs.LineLemmas.Printed.{appends_both}
 
 -- ---- lines

@@ -3,7 +3,8 @@
 ghost use Rattle.std.specs.Prelude.{◌≡◌, ◌↔◌, ℕ, List, IfSome, IsNone, IsTrue};
 ghost use Rattle.std.specs.List.{AllByRecursion};
 ghost use Rattle.wasi_abi.specs.rules.Configs.{IsInRange, IsShortText, settings};
-ghost use Rattle.wasmhost_commands.specs.rules.Bounds.{AreNumbersInRange, IsOutOfBounds, range_words};
+ghost use Rattle.wasmhost_commands.specs.rules.Bounds.{AreNumbersInRange, IsOutOfBounds};
+ghost use Rattle.wasmhost_commands.specs.rules.Bounds.{range_words};
 
 use crate::configuring::Sizes;
 use wasm_syntax::Row;

@@ -37,8 +37,9 @@
 //!   lines are printed.
 //! - `Watcher`: who is told where the worker of a run stands. `serve` tells it once the worker is
 //!   recovered, and after each checkpoint of its pace (`told` of `rest_on`). Where the status is 0,
-//!   it was told of that end (`watched`). `StatusFile` is one, which replaces a small file. Its line
-//!   is `standing_line`. No clause says that the file gets it: `scripts/program-rows` shows that.
+//!   it was told of that end (`watched`). `StatusFile` is one, which replaces a small file. Its
+//!   line is `standing_line`. No clause says that the file gets it: `scripts/program-rows` shows
+//!   that.
 //! - `laws::statuses_have_causes`: what each of these statuses comes from, and that a reader which
 //!   fails is told (`SaysOnDisk`). Where a number, memory or an answer was wanting, each line of
 //!   the worker was told (`HasToldItsLines`). `laws::refusals_have_reasons`: why the source of a
@@ -47,10 +48,10 @@
 //! - `survey`: the survey of a worker's disk is printed, or what keeps it from that is told
 //!   (`shows`). Of a disk that stands for a worker the line is that worker's (`stands`). Nothing is
 //!   changed on the disk, but that it is synced.
-//! - `inspect_disk`: all facts of the disk are printed, one a line, or what keeps it from that is told
-//!   (`TellsDisk`). `list_files`: the files of the saved process are listed, or the bytes of one are
-//!   written (`TellsFiles`). `inspect_file` and `files_file` are these of a disk that was opened, and
-//!   nothing else is done with it (`TellsFile`, `TellsFilesOf`).
+//! - `inspect_disk`: all facts of the disk are printed, one a line, or what keeps it from that is
+//!   told (`TellsDisk`). `list_files`: the files of the saved process are listed, or the bytes of
+//!   one are written (`TellsFiles`). `inspect_file` and `files_file` are these of a disk that was
+//!   opened, and nothing else is done with it (`TellsFile`, `TellsFilesOf`).
 //! - `open_disk`: where no rewrite is asked for, the disk of a file of which no call was made since
 //!   it was opened. Else each sector was written back, and synced (`IsOpenedFor`). `show_file` is
 //!   `survey` of a disk that was opened so, and nothing else is done with it (`ShowsFile`).
@@ -81,14 +82,15 @@
 //! - `tell`: status 0 says that a whole story was printed. It is of lives that go on as one that
 //!   was never stopped, with what the script put into each. What the other statuses say is said too
 //!   (`TellsStory`). `report_script` tells a fault of a script.
-//! - `tell_sweep`: status 0 says that the lives of a script, which nothing befalls, were run without
-//!   a cut, and then with the power cut at each call of one of them, for each front (`cuts_to`).
-//!   Each cut's lives are told as those of a story are (`TellsLives`). Its last life was opened, and
-//!   handed out all answers that were not kept (`cut_at`). Over all its lives each number has one
-//!   text, none is missing, and the first are those without a cut (`IsCutRun`). The printed line
-//!   says how many cuts and lines these are (`IsSweepDone`). 7 comes just where a write has failed.
-//!   Of the other statuses nothing more is said. `read_sweep`: the lives that the script spells, and
-//!   which one is swept (`AreSweptLives`). `fronts_of`: the fronts that a text spells.
+//! - `tell_sweep`: status 0 says that the lives of a script, which nothing befalls, were run
+//!   without a cut, and then with the power cut at each call of one of them, for each front
+//!   (`cuts_to`). Each cut's lives are told as those of a story are (`TellsLives`). Its last life
+//!   was opened, and handed out all answers that were not kept (`cut_at`). Over all its lives each
+//!   number has one text, none is missing, and the first are those without a cut (`IsCutRun`). The
+//!   printed line says how many cuts and lines these are (`IsSweepDone`). 7 comes just where a
+//!   write has failed. Of the other statuses nothing more is said. `read_sweep`: the lives that the
+//!   script spells, and which one is swept (`AreSweptLives`). `fronts_of`: the fronts that a text
+//!   spells.
 //! - `laws::faultless_words_mean`, `laws::worked_examples`: words without a fault mean an order,
 //!   with numbers in their ranges; eighty-nine command lines. What `--version` is told of the
 //!   program is `version_words` (`HasVersion`).
@@ -139,8 +141,8 @@
 //! - The last words of a worker that is over are part of what status 0 says. Those of a run that
 //!   fails are printed by derived `Display`s, which no clause knows: its status is proved, and
 //!   tests show its words.
-//! - **A watcher is told by a shared reference**, and what it was told is a ghost that only its call
-//!   makes true. So a run's clauses speak of no state of it, and a watcher can change nothing.
+//! - **A watcher is told by a shared reference**, and what it was told is a ghost that only its
+//!   call makes true. So a run's clauses speak of no state of it, and a watcher can change nothing.
 //! - A run is a loop without a counter. Fuel is never 0 by its type. So a slice that has spent it
 //!   leaves fewer steps that can be counted.
 //! - **Request lines come from a trait of this project's own**, `LineReader`, with one method. Its

@@ -17,7 +17,8 @@ use Rattle.wasmhost_commands.specs.rules.Outside.{ComesFrom, ComeFrom, request_i
 use Rattle.wasmhost_commands.specs.rules.Outside.{words_in, words_of}
 use Rattle.wasmhost_commands.specs.rules.Requests.{GiveUpTo, BeginsWithOther, BeginsWithNumber}
 use Rattle.wasmhost_commands.specs.Lines.Reads.{AreSome}
-use Rattle.wasmhost_commands.specs.Lines.Answers.{Standing, HandsNext, HandsAnswer, TakesOther, Finds}
+use Rattle.wasmhost_commands.specs.Lines.Answers.{Standing, HandsNext, HandsAnswer, TakesOther}
+use Rattle.wasmhost_commands.specs.Lines.Answers.{Finds}
 use Rattle.wasmhost_commands.specs.Lines.Answers.{IsNext, MissesNext, IsRefusedFor, IsRefusedAt}
 use Rattle.wasmhost_commands.specs.Lines.Answers.{IsClockless, IsWordless, LeavesFault}
 use Rattle.wasmhost_commands.proofs.LineLemmas.Passing.{passed_nothing, up_to_on}

@@ -13,7 +13,8 @@ use Rattle.wasmhost_commands.specs.rules.Scripts.{said_by, SpellsLife, AreLivesO
 use Rattle.wasmhost_commands.specs.laws.Drafts.{empty_life, draft_start, lives_so_far, put_in}
 use Rattle.wasmhost_commands.specs.laws.Drafts.{put_line}
 use Rattle.wasmhost_commands.specs.laws.Drafts.{put_texts, with_life}
-use Rattle.wasmhost_commands.proofs.ScriptLemmas.Drafts.{IsFull, AreFull, IsOnto, put_all_in, step_on}
+use Rattle.wasmhost_commands.proofs.ScriptLemmas.Drafts.{IsFull, AreFull, IsOnto, put_all_in}
+use Rattle.wasmhost_commands.proofs.ScriptLemmas.Drafts.{step_on}
 use Rattle.wasmhost_commands.proofs.ScriptLemmas.Drafts.{put_one, puts_all}
 
 abbrev pub begun : List PlannedLife → PlannedLife → Draft

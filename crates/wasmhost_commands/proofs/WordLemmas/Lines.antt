@@ -34,7 +34,8 @@ use Rattle.wasmhost_commands.proofs.WordLemmas.Walks.{no_second, settled_good, s
 use Rattle.wasmhost_commands.proofs.WordLemmas.Stops.{NoHelp, walk_on}
 use Rattle.wasmhost_commands.proofs.WordLemmas.Rows.{IsGood, added_good, options_are_taken}
 use Rattle.wasmhost_commands.proofs.WordLemmas.Rows.{path_is_there}
-use Rattle.wasmhost_commands.proofs.WordLemmas.Uses.{keeps_env, keeps_help, keeps_number, keeps_path}
+use Rattle.wasmhost_commands.proofs.WordLemmas.Uses.{keeps_env, keeps_help, keeps_number}
+use Rattle.wasmhost_commands.proofs.WordLemmas.Uses.{keeps_path}
 use Rattle.wasmhost_commands.proofs.WordLemmas.Uses.{keeps_device, keeps_fronts, keeps_last}
 use Rattle.wasmhost_commands.proofs.WordLemmas.Uses.{keeps_rewrite, keeps_seed, keeps_status}
 

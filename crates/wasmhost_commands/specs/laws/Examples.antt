@@ -4,7 +4,8 @@ use Rattle.clap.specs.Words.{Text, takes}
 use Rattle.clap.specs.Kinds.{Kinds}
 use Rattle.clap.specs.declared.error.ErrorKind.TheVariants as kind
 use Rattle.wasmhost_commands.specs.rules.CommandLine.{wasmhost}
-use Rattle.wasmhost_commands.specs.rules.Commands.{CreateMeaning, Meaning, RunMeaning, check, create}
+use Rattle.wasmhost_commands.specs.rules.Commands.{CreateMeaning, Meaning, RunMeaning, check}
+use Rattle.wasmhost_commands.specs.rules.Commands.{create}
 use Rattle.wasmhost_commands.specs.rules.Commands.{StoryMeaning, faults_in_words, meaning_in}
 use Rattle.wasmhost_commands.specs.rules.Commands.{own_words, run, show, story}
 use Rattle.wasmhost_commands.specs.rules.Commands.{SweepMeaning, files, inspect, sweep}

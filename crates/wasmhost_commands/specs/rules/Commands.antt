@@ -18,7 +18,8 @@ use Rattle.wasmhost_commands.specs.declared.words.RunOrder.{RunOrder}
 use Rattle.wasmhost_commands.specs.declared.words.StoryOrder.{StoryOrder}
 use Rattle.wasmhost_commands.specs.declared.words.SweepOrder.{SweepOrder}
 use Rattle.wasmhost_commands.specs.declared.words.Order.{Order}
-use Rattle.wasmhost_commands.specs.declared.words.Order.TheVariants.{Check, Create, Run, Show, Story}
+use Rattle.wasmhost_commands.specs.declared.words.Order.TheVariants.{Check, Create, Run, Show}
+use Rattle.wasmhost_commands.specs.declared.words.Order.TheVariants.{Story}
 use Rattle.wasmhost_commands.specs.declared.words.Order.TheVariants.{Sweep, Inspect, Files}
 use Rattle.wasmhost_commands.specs.declared.words.WordsFault.{WordsFault}
 use Rattle.wasmhost_commands.specs.declared.words.WordsFault.TheVariants as fault
@@ -85,8 +86,8 @@ pub record StoryMeaning : Type 0 where
   pub files : ℕ
   pub journal : ℕ
 
--- What a sweep says: the paths of the script and of the module, its sizes, the fronts as a text, and
--- the number of the swept life.
+-- What a sweep says: the paths of the script and of the module, its sizes, the fronts as a text,
+-- and the number of the swept life.
 pub record SweepMeaning : Type 0 where
   pub script : Text
   pub «module» : Text

@@ -47,8 +47,8 @@ status_of_call (work.Work fault) = status_of_work fault
 status_of_call (work.Disk fault) = 4
 status_of_call (work.Store fault) = 3
 
--- A recovery that fails, but for a fault of the disk. What stands on the disk is refused, or a layer
--- wants memory, or the outlet has refused a line that is told once more.
+-- A recovery that fails, but for a fault of the disk. What stands on the disk is refused, or a
+-- layer wants memory, or the outlet has refused a line that is told once more.
 abbrev pub status_of_recovery : RecoverFault → ℕ
 status_of_recovery (recover.Worker fault) = status_of_call fault
 status_of_recovery (recover.Replay replay.Diverged) = 3

@@ -20,7 +20,8 @@ use Rattle.wasmhost_commands.specs.declared.lines.outside.Outside.{Outside}
 use Rattle.wasmhost_commands.specs.declared.on_disk.fault.OnDiskFault.{OnDiskFault}
 use Rattle.wasmhost_commands.specs.Lines.Answers.{Standing, standing, HandsNext}
 use Rattle.wasmhost_commands.specs.rules.BrokenLives.{BreaksOffFrom, steps_among}
-use Rattle.wasmhost_commands.specs.rules.DiskStatuses.{IsToldOnDisk, told_of_opening, status_on_disk}
+use Rattle.wasmhost_commands.specs.rules.DiskStatuses.{IsToldOnDisk, told_of_opening}
+use Rattle.wasmhost_commands.specs.rules.DiskStatuses.{status_on_disk}
 use Rattle.worker.specs.laws.Outcomes.{life_outcome}
 use Rattle.wasmhost_commands.specs.rules.Hearings.{AsksUnless, IsOfSource}
 use Rattle.wasmhost_commands.specs.rules.Paces.{IsPaced}

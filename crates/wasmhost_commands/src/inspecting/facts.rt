@@ -3,7 +3,8 @@
 ghost use Rattle.std.specs.Prelude.{◌≡◌, OnOk};
 ghost use Rattle.std.specs.Io.KnownBytes.{Appends};
 ghost use Rattle.std.specs.List.{flat_map};
-ghost use Rattle.wasmhost_commands.specs.rules.InspectionTexts.{number_fact, text_fact, settings_facts};
+ghost use Rattle.wasmhost_commands.specs.rules.InspectionTexts.{number_fact, text_fact};
+ghost use Rattle.wasmhost_commands.specs.rules.InspectionTexts.{settings_facts};
 ghost use Rattle.wasmhost_commands.specs.rules.InspectionTexts.{snapshot_facts};
 
 use std::io::{self, Write};

@@ -4,7 +4,8 @@ ghost use Rattle.std.specs.Prelude.{◌≡◌, ◌≤◌, IfOk, OnOk, Some, None
 ghost use Rattle.std.specs.List.{flat_map};
 ghost use Rattle.std.specs.Io.KnownBytes.{Appends};
 ghost use Rattle.wasmhost_commands.specs.rules.Inspectings.{SaysFile, SaysFiles, TellsFiles};
-ghost use Rattle.wasmhost_commands.specs.rules.Inspectings.{listing_text, node_line, status_of_path};
+ghost use Rattle.wasmhost_commands.specs.rules.Inspectings.{listing_text, node_line};
+ghost use Rattle.wasmhost_commands.specs.rules.Inspectings.{status_of_path};
 ghost use Rattle.wasmhost_commands.specs.rules.Printers.{IsSaid};
 
 use crate::on_disk::{OnDiskFault, say_disk_fault};

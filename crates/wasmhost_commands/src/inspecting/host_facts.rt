@@ -3,8 +3,10 @@
 ghost use Rattle.std.specs.Prelude.{◌≡◌, OnOk, Some};
 ghost use Rattle.std.specs.Io.KnownBytes.{Appends};
 ghost use Rattle.wasi_calls.specs.Views.{target_of};
-ghost use Rattle.wasmhost_commands.specs.rules.InspectionTexts.{target_words, descriptor_fact, last_number};
-ghost use Rattle.wasmhost_commands.specs.rules.InspectionTexts.{descriptor_facts, host_facts, bytes_fact};
+ghost use Rattle.wasmhost_commands.specs.rules.InspectionTexts.{target_words, descriptor_fact};
+ghost use Rattle.wasmhost_commands.specs.rules.InspectionTexts.{last_number};
+ghost use Rattle.wasmhost_commands.specs.rules.InspectionTexts.{descriptor_facts, host_facts};
+ghost use Rattle.wasmhost_commands.specs.rules.InspectionTexts.{bytes_fact};
 
 use file_tree::Tree;
 use std::io::{self, Write};

@@ -6,7 +6,8 @@ ghost use Rattle.std.specs.List.{flat_map};
 ghost use Rattle.process.specs.rules.Values.{ending_of};
 ghost use Rattle.wasi_abi.specs.declared.answer.Kind.TheVariants.{Random};
 ghost use Rattle.wasmhost_commands.specs.rules.ProcessTexts.{progress_facts, wish_fact, frame_fact};
-ghost use Rattle.wasmhost_commands.specs.rules.ProcessTexts.{machine_facts, process_facts, state_fact};
+ghost use Rattle.wasmhost_commands.specs.rules.ProcessTexts.{machine_facts, process_facts};
+ghost use Rattle.wasmhost_commands.specs.rules.ProcessTexts.{state_fact};
 
 use crate::inspecting::facts::spell_number;
 use crate::lines::trap_name;

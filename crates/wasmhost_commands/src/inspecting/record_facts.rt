@@ -3,7 +3,8 @@
 ghost use Rattle.std.specs.Prelude.{◌≡◌, OnOk, length};
 ghost use Rattle.std.specs.Io.KnownBytes.{Appends};
 ghost use Rattle.disk_layout.specs.rules.Journal.{payload_of};
-ghost use Rattle.wasmhost_commands.specs.rules.InspectionTexts.{answer_word, record_fact, record_facts};
+ghost use Rattle.wasmhost_commands.specs.rules.InspectionTexts.{answer_word, record_fact};
+ghost use Rattle.wasmhost_commands.specs.rules.InspectionTexts.{record_facts};
 
 use disk_layout::Record;
 use std::io::{self, Write};

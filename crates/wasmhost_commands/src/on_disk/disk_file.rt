@@ -87,8 +87,8 @@ where
     }
 }
 
-/// `wasmhost inspect` of the disk in a file: it is opened, and then only inspected. Returns the exit
-/// status.
+/// `wasmhost inspect` of the disk in a file: it is opened, and then only inspected. Returns the
+/// exit status.
 pub fn inspect_file<F, R, W, E>(
     alloc: Global,
     files: &R,

@@ -2,7 +2,8 @@
 
 ghost use Rattle.std.specs.Prelude.{◌≡◌, ◌≤◌};
 ghost use Rattle.std.specs.Io.Buffered.{reader_buffer};
-ghost use Rattle.wasmhost_commands.specs.rules.Leavings.{SaysLeft, SaysOfInput, left_line, place_line};
+ghost use Rattle.wasmhost_commands.specs.rules.Leavings.{SaysLeft, SaysOfInput, left_line};
+ghost use Rattle.wasmhost_commands.specs.rules.Leavings.{place_line};
 ghost use Rattle.wasmhost_commands.specs.rules.Printers.{SaysText};
 
 use crate::lines::{BufferedLines, RealTime, RequestSource, count_later};

@@ -7,7 +7,8 @@ ghost use Rattle.ephemeral_worker.specs.declared.now.Now.TheVariants.{Spent};
 ghost use Rattle.wasmhost_commands.specs.rules.DiskStatuses.{IsToldOnDisk};
 ghost use Rattle.wasmhost_commands.specs.rules.Printers.{IsPrinted, TellsPerson};
 ghost use Rattle.wasmhost_commands.specs.rules.Refusals.{HeedsRefusal};
-ghost use Rattle.wasmhost_commands.specs.rules.ServedOnDisk.{ServesOnDisk, disk_job, recovered_line};
+ghost use Rattle.wasmhost_commands.specs.rules.ServedOnDisk.{ServesOnDisk, disk_job};
+ghost use Rattle.wasmhost_commands.specs.rules.ServedOnDisk.{recovered_line};
 ghost use Rattle.wasmhost_commands.specs.rules.Watchings.{WatchesEnd};
 ghost use Rattle.wasmhost_commands.specs.Livings.{HasGoneOn};
 
@@ -90,8 +91,8 @@ fn tell_recovered<E: Write + Drop>(err: &mut Printer<E>, worker: &Worker)
 
 /// The worker on a disk goes on: it is recovered, and then runs slices at this pace until it is
 /// over, with a checkpoint behind the last one. Its lines go to the outlet, last words to `err`.
-/// Where that is a terminal, a line before the first slice says how it was recovered. The watcher is
-/// told where the worker stands: then, behind each checkpoint, and at its end.
+/// Where that is a terminal, a line before the first slice says how it was recovered. The watcher
+/// is told where the worker stands: then, behind each checkpoint, and at its end.
 /// Request lines that it has taken are passed over, and random bytes are those of the seed's stream
 /// of its generation. Answers the exit status: 0 where the worker has ended, trapped or waits at
 /// the end of the lines, 3 for a disk that shows no worker that can go on and where a number is at

@@ -3,7 +3,8 @@
 ghost use Rattle.std.specs.Prelude.{◌≡◌};
 ghost use Rattle.std.specs.List.{list_all};
 ghost use Rattle.std.specs.Char.{is_ascii_digit};
-ghost use Rattle.wasmhost_commands.specs.rules.Scripts.{number_spelled, count_spelled, front_spelled};
+ghost use Rattle.wasmhost_commands.specs.rules.Scripts.{number_spelled, count_spelled};
+ghost use Rattle.wasmhost_commands.specs.rules.Scripts.{front_spelled};
 ghost use Rattle.wasmhost_commands.specs.rules.Scripts.{place_spelled};
 
 use crate::stories::pieces::split_once;

@@ -1,7 +1,8 @@
 //! `wasmhost story`.
 
 ghost use Rattle.std.specs.Prelude.{◌≡◌, ◌≤◌, ℕ, true, IfOk, OnErr, OnOk};
-ghost use Rattle.wasmhost_commands.specs.declared.stories.fault.ScriptFault.TheVariants.{Line, Memory};
+ghost use Rattle.wasmhost_commands.specs.declared.stories.fault.ScriptFault.TheVariants.{Line};
+ghost use Rattle.wasmhost_commands.specs.declared.stories.fault.ScriptFault.TheVariants.{Memory};
 ghost use Rattle.wasmhost_commands.specs.rules.Printers.{IsPrinted, IsSaid, SaysText};
 ghost use Rattle.wasmhost_commands.specs.rules.Stories.{SaysLives, TellsStory, script_line};
 ghost use Rattle.wasmhost_commands.specs.rules.Stories.{story_text};

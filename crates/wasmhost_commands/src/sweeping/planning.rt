@@ -2,9 +2,11 @@
 
 ghost use Rattle.std.specs.Prelude.{◌≡◌, ◌++◌, ◌-◌, IfOk, OnOk, drop, take};
 ghost use Rattle.std.specs.List.{flat_map};
-ghost use Rattle.wasmhost_commands.specs.rules.Sweeps.{acts_of, answers_when_opened, answers_at_first};
+ghost use Rattle.wasmhost_commands.specs.rules.Sweeps.{acts_of, answers_when_opened};
+ghost use Rattle.wasmhost_commands.specs.rules.Sweeps.{answers_at_first};
 ghost use Rattle.wasmhost_commands.specs.rules.Sweeps.{answers_before, answers_not_lost, cut_at};
-ghost use Rattle.wasmhost_commands.specs.rules.Sweeps.{first_stopped, kept_in, life_after, stopped_at};
+ghost use Rattle.wasmhost_commands.specs.rules.Sweeps.{first_stopped, kept_in, life_after};
+ghost use Rattle.wasmhost_commands.specs.rules.Sweeps.{stopped_at};
 
 use record_replay::copy_answer;
 use sector_disk::Place;

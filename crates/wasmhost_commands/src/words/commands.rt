@@ -3,11 +3,14 @@
 ghost use Rattle.std.specs.Prelude.{IfOk, codes};
 ghost use Rattle.wasmhost_commands.specs.rules.CommandLine.{IsArgument, IsCommand, bare_app};
 ghost use Rattle.wasmhost_commands.specs.rules.CommandLine.{bare_create_app, bare_script_app};
-ghost use Rattle.wasmhost_commands.specs.rules.CommandLine.{check_app, create_app, device_rule, disk_app};
-ghost use Rattle.wasmhost_commands.specs.rules.CommandLine.{disks_app, env_rule, fronts_rule, half_app};
+ghost use Rattle.wasmhost_commands.specs.rules.CommandLine.{check_app, create_app, device_rule};
+ghost use Rattle.wasmhost_commands.specs.rules.CommandLine.{disk_app};
+ghost use Rattle.wasmhost_commands.specs.rules.CommandLine.{disks_app, env_rule, fronts_rule};
+ghost use Rattle.wasmhost_commands.specs.rules.CommandLine.{half_app};
 ghost use Rattle.wasmhost_commands.specs.rules.CommandLine.{number_rule, paced_run_app, path_rule};
 ghost use Rattle.wasmhost_commands.specs.rules.CommandLine.{rewrite_rule, run_app, seed_rule};
-ghost use Rattle.wasmhost_commands.specs.rules.CommandLine.{script_app, seeded_run_app, show_app, status_rule};
+ghost use Rattle.wasmhost_commands.specs.rules.CommandLine.{script_app, seeded_run_app, show_app};
+ghost use Rattle.wasmhost_commands.specs.rules.CommandLine.{status_rule};
 ghost use Rattle.wasmhost_commands.specs.rules.CommandLine.{sized_create_app, story_app, sweep_app};
 ghost use Rattle.wasmhost_commands.specs.rules.CommandLine.{files_app, inspect_app, last_rule};
 ghost use Rattle.wasmhost_commands.specs.rules.CommandLine.{looks_app, wasmhost};

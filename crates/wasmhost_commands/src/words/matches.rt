@@ -7,7 +7,8 @@ ghost use Rattle.wasmhost_commands.specs.rules.Texts.{texts_in};
 ghost use Rattle.wasmhost_commands.specs.rules.Commands.{IsTaken, TakesFlag, TakesNumber};
 ghost use Rattle.wasmhost_commands.specs.rules.Commands.{TakesOptions, create_in, create_said};
 ghost use Rattle.wasmhost_commands.specs.rules.Commands.{environment_in, flag_in, meaning_below};
-ghost use Rattle.wasmhost_commands.specs.rules.Commands.{meaning_of, number_given, number_or, run_in};
+ghost use Rattle.wasmhost_commands.specs.rules.Commands.{meaning_of, number_given, number_or};
+ghost use Rattle.wasmhost_commands.specs.rules.Commands.{run_in};
 ghost use Rattle.wasmhost_commands.specs.rules.Commands.{run_said, story_in, story_said};
 ghost use Rattle.wasmhost_commands.specs.rules.Commands.{sweep_in, sweep_said};
 

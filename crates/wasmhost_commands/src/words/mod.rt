@@ -1,7 +1,8 @@
 //! The command line: words in, an order out, or the fault that is told instead (`read_words`).
 
 ghost use Rattle.std.specs.Prelude.{◌≡◌, map};
-ghost use Rattle.wasmhost_commands.specs.rules.Commands.{IsParse, IsReading, IsStatusOf, IsWordsFault};
+ghost use Rattle.wasmhost_commands.specs.rules.Commands.{IsParse, IsReading, IsStatusOf};
+ghost use Rattle.wasmhost_commands.specs.rules.Commands.{IsWordsFault};
 ghost use Rattle.wasmhost_commands.specs.declared.words.WordsFault.TheVariants as fault;
 
 mod commands;

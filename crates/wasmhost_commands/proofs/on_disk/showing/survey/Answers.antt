@@ -1,5 +1,6 @@
 use Rattle.std.proofs.Common.{refl}
-use Rattle.wasmhost_commands.proofs.ShowingLemmas.{shows_survey, shows_fault, shows_known, shows_each}
+use Rattle.wasmhost_commands.proofs.ShowingLemmas.{shows_survey, shows_fault, shows_known}
+use Rattle.wasmhost_commands.proofs.ShowingLemmas.{shows_each}
 use Rattle.wasmhost_commands.proofs.on_disk.showing.survey.Goals as goal
 
 pub returns-in-Ok : goal.returns-in-Ok

@@ -1,4 +1,5 @@
-use Rattle.wasmhost_commands.proofs.ScriptLemmas.Reading.{begun_putting, all_put, next_put, stops_at}
+use Rattle.wasmhost_commands.proofs.ScriptLemmas.Reading.{begun_putting, all_put, next_put}
+use Rattle.wasmhost_commands.proofs.ScriptLemmas.Reading.{stops_at}
 use Rattle.wasmhost_commands.proofs.ScriptLemmas.Reading.{came, came_none, nothing_left}
 use Rattle.wasmhost_commands.proofs.stories.script.put_lines.Goals as goal
 

@@ -2,7 +2,8 @@ use Rattle.std.proofs.Common.{sym, ap, ◌∙◌, Some}
 use Rattle.std.proofs.Common.{subst, ◌≡◌, ◌++◌}
 use Rattle.std.specs.Prelude.{option_copied, option_map}
 use Rattle.wasmhost_commands.specs.rules.Scripts.{fronts_between}
-use Rattle.wasmhost_commands.proofs.ScriptLemmas.Lines.{no_front, last_front, next_front, some_shorter}
+use Rattle.wasmhost_commands.proofs.ScriptLemmas.Lines.{no_front, last_front, next_front}
+use Rattle.wasmhost_commands.proofs.ScriptLemmas.Lines.{some_shorter}
 use Rattle.wasmhost_commands.proofs.stories.words.read_fronts.Goals as goal
 
 pub returns-in_default : goal.returns-in_default

@@ -3,7 +3,8 @@ use Rattle.std.specs.Option.{unwrap_or}
 use Rattle.std.specs.Str.Parse.{ParsesUnsigned, ExplainsUnsignedError, HasUnsignedDigitsIfOk}
 use Rattle.clap.specs.Words.{found_of, rows_of}
 use Rattle.wasmhost_commands.specs.rules.Commands.{number_or}
-use Rattle.wasmhost_commands.proofs.WordLemmas.Meets.{number_is_positive, number_is_read, number_or_is}
+use Rattle.wasmhost_commands.proofs.WordLemmas.Meets.{number_is_positive, number_is_read}
+use Rattle.wasmhost_commands.proofs.WordLemmas.Meets.{number_or_is}
 use Rattle.wasmhost_commands.proofs.words.matches.positive_or_else.Goals as goal
 
 pub unreachable-requires : goal.unreachable-requires
