@@ -11,7 +11,7 @@ use crate::call_stories::{
 };
 use guest_memory::Memory;
 use std::alloc::{AllocError, Global};
-use wasi_abi::{Answer, Call, Config, Errno};
+use wasi_abi::{Answer, Call, Config, Errno, Version};
 use wasi_calls::{CallOutcome, Host, call, lines_begun};
 use wasm_syntax::{Row, ValueType};
 
@@ -57,7 +57,7 @@ fn config(alloc: Global) -> Result<Config, CallStop> {
 
 fn host(alloc: Global) -> Result<Host, CallStop> {
     let config = config(alloc)?;
-    Ok(Host::new(alloc, config, 4_096)?)
+    Ok(Host::new(alloc, config, Version::One)?)
 }
 
 fn page(alloc: Global) -> Result<Memory, CallStop> {
