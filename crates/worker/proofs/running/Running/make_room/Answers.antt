@@ -17,9 +17,9 @@ returns-clause-made g c =
     c.images_fit_areas.ensures c.requires.shown c.in_ok-save.ensures.any_moment
     c.in_ok-save.ensures.durable c.in_ok-save.ensures.fresh
 
-pub returns-then-room-ge-longest_record-clause-made :
-    goal.returns-then-room-ge-longest_record-clause-made
-returns-then-room-ge-longest_record-clause-made g c =
+pub returns-then-room-longest_record-clause-made :
+    goal.returns-then-room-longest_record-clause-made
+returns-then-room-longest_record-clause-made g c =
     has_room g.D.Disk.medium c.args.self.now c.args.disk.now
     (let test = c.if-room-ge-longest_record.true in let is = c.room.ensures in
     let long = c.longest_record.ensures in omega arith)
@@ -29,9 +29,9 @@ returns-in_err-save-clause-failed g c =
     let p = err_from_is_err_and c.from_residual.result c.from_residual.ensures.1 in
     rw (p.1, p.2) (c.in_err-save.field-0.0, refl)
 
-pub returns-then-room-ge-longest_record-clause-runs :
-    goal.returns-then-room-ge-longest_record-clause-runs
-returns-then-room-ge-longest_record-clause-runs g c =
+pub returns-then-room-longest_record-clause-runs :
+    goal.returns-then-room-longest_record-clause-runs
+returns-then-room-longest_record-clause-runs g c =
     goes_none c.args.self.now.store (g.D.Disk.medium c.args.disk.now)
 
 pub returns-in_err-save-clause-runs : goal.returns-in_err-save-clause-runs
