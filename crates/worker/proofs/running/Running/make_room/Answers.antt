@@ -21,7 +21,7 @@ pub returns-then-room-longest_record-clause-made :
     goal.returns-then-room-longest_record-clause-made
 returns-then-room-longest_record-clause-made g c =
     has_room g.D.Disk.medium c.args.self.now c.args.disk.now
-    (let test = c.if-room-ge-longest_record.true in let is = c.room.ensures in
+    (let test = c.if-room-longest_record.true in let is = c.room.ensures in
     let long = c.longest_record.ensures in omega arith)
 
 pub returns-in_err-save-clause-failed : goal.returns-in_err-save-clause-failed
