@@ -13,11 +13,11 @@ PROGRAM := $(or $(wildcard wasmhost),crates/wasmhost/out/wasmhost)
 DOCS := README.md docs/COMMANDS.md docs/DEPLOYMENT.md docs/FORMATS.md docs/WORKERS.md
 UNIT := wasmhost@.service
 
-# Tells the story of a worker whose power is cut twice. It proves nothing.
+# Runs the story of a worker whose power is cut twice. It proves nothing.
 demo:
 	@scripts/demo
 
-# Proves all that the program stands on, and builds it.
+# Proves all crates of the program, and builds it.
 build:
 	@scripts/build
 

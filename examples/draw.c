@@ -1,5 +1,5 @@
 // Draws lots: its arguments are words, and two persons get one of them each by chance. Who draws
-// is told by the variable NAME.
+// comes from the variable NAME.
 //
 //     draw.wasm --env NAME=Ada -- red green blue
 //

@@ -6,7 +6,7 @@
 //     hide AT LEN         puts a dot to each byte of a part
 //     turn AT LEN BY      turns the letters of a part, each as far as BY says
 //
-// What stands behind a change is moved by `memmove`, and a part is hidden by `memset`. README.md
+// What comes after a change is moved by `memmove`, and a part is hidden by `memset`. README.md
 // has the line that builds it: there each of these calls is one instruction.
 
 #include <ctype.h>

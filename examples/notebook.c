@@ -15,7 +15,7 @@
 
 enum { LINE = 4096, ROOM = 65536 };
 
-// All notes, each with a newline behind it.
+// All notes, each with a newline after it.
 static char notes[ROOM];
 
 // Reads the file, and answers its length. Where there is none there are no notes.
@@ -58,7 +58,7 @@ static int replace_notes(size_t length) {
     return write_all(file, notes, length) && rename("notes.new", "notes") == 0;
 }
 
-// The place behind the end of a note.
+// The place after the end of a note.
 static size_t end_of(size_t start, size_t length) {
     while (start < length && notes[start] != '\n') {
         start++;

@@ -8,7 +8,7 @@ from host_model import PARAMETERS, UNIT, integer
 # Units of 65,536 bytes that the program gives to all files.
 FILE_UNITS = 16
 
-# Where the printer keeps a result, its iovec, the count that it is told, and its digits.
+# Where the printer keeps a result, its iovec, the count that it is given, and its digits.
 RECORD, IOVEC, WRITTEN, DIGITS = PRINTER[0], PRINTER[0] + 16, PRINTER[0] + 24, PRINTER[0] + 512
 
 # What the sum of memory is multiplied with at each word, and the bytes in a row of memory.
@@ -46,8 +46,9 @@ def constant(value, is_long):
 class Writer:
     """Writes the module of a sequence.
 
-    It keeps two globals for each step, the error and the sum, and prints a line for each at the end.
-    A plain module prints behind each call what it shows. One that dumps prints its memory at the end.
+    It keeps two globals for each step, the error and the sum, and prints a line for each at the
+    end. A plain module prints after each call what it shows. One that dumps prints its memory at
+    the end.
     """
 
     def __init__(self, sequence, is_plain=False, dumps=False):
@@ -66,7 +67,8 @@ class Writer:
         return wasm.function_body([wasm.I32, wasm.I64], looped(turn) + local(1))
 
     def printer(self):
-        """Prints bytes as a line. Parameters: address, count. Locals: end of the digits, a digit."""
+        """Prints bytes as a line. Parameters: address, count. Locals: end of the digits, a
+        digit."""
         def digit(value, offset):
             code = local(2) + value + wasm.LOCAL_TEE + wasm.unsigned(3) + wasm.i32(ord("0")) + wasm.I32_ADD
             code += local(3) + wasm.i32(9) + wasm.I32_GT_U + wasm.i32(ord("a") - ord("9") - 1) + wasm.I32_MUL
@@ -103,7 +105,7 @@ class Writer:
         return wasm.i32(at) + wasm.i32(length) + self.call(self.printing)
 
     def made(self, place, step):
-        """A step, and what is kept or shown behind it."""
+        """A step, and what is kept or shown after it."""
         if self.is_plain:
             code = stored(RECORD, self.called(step)) + self.printed(RECORD, 4)
             return code + b"".join(self.printed(*it) for it in step.shown)

@@ -12,7 +12,7 @@ from host_model import (
     ALL_RIGHTS, APPEND, CHARACTER_DEVICE, CREATE, DIRECTORY, DIRECTORY_RIGHTS, DESCRIPTORS, FILE_RIGHTS, FILE_SIZE,
     IOVECS, MOVED, NODES, PREOPENED, REGULAR_FILE, UNIT, WRITE, Host, Outside, Parked, bit)
 
-# Where a sequence keeps what. The printer's part is used behind the last call.
+# Where a sequence keeps what. The printer's part is used after the last call.
 CELLS, PRINTER, COUNTER = (0, 512), (512, 8192), 544
 TEXTS, ARRAYS, BUFFERS = (8192, 24576), (24576, 40960), (40960, 65536)
 
@@ -52,7 +52,7 @@ SOME_TEXTS = [b"", b"-", b"--", b"--seed", b"a", b"red", b"two words", b"=", b"\
 class Step:
     """A call with its arguments, made once or several times, and the memory that it is about.
 
-    A call with a counter is told the turn by two letters at `COUNTER`, and is made each time anew.
+    A call with a counter is given the turn by two letters at `COUNTER`, and is made each time anew.
     """
 
     name: str
@@ -99,8 +99,8 @@ def make(host, step):
 
 
 class Player:
-    """Chooses a sequence. A plain one has no arguments that only this profile gives a meaning. One that
-    is closed asks for no texts, clocks and random bytes."""
+    """Chooses a sequence. A plain one has no arguments that only this profile gives a meaning. One
+    that is closed asks for no texts, clocks and random bytes."""
 
     def __init__(self, seed, file_units, without=(), has_requests=False, is_plain=False, is_closed=False):
         self.random = random.Random(seed)
@@ -118,7 +118,7 @@ class Player:
             self.lay(at, self.random.choice([self.random.randbytes(64), b"some words\n" * 9, b"x" * 64]))
 
     def some_texts(self, most, prefix):
-        """At most so many texts behind a prefix, and seldom the longest that may be."""
+        """At most so many texts after a prefix, and seldom the longest that may be."""
         count = most if self.odd(8) else self.random.randrange(5)
         longest = b"x" * (TEXT_LENGTH - len(prefix))
         return [prefix + self.random.choice([*SOME_TEXTS, longest]) for _ in range(count)]
@@ -135,7 +135,8 @@ class Player:
         self.host.put(at, data)
 
     def odd(self, one_in):
-        """Whether to choose something odd. A wild call has several odd arguments, a calm one none."""
+        """Whether to choose something odd. A wild call has several odd arguments, a calm one
+        none."""
         share = max(2, one_in // 4) if self.is_wild else one_in
         return self.random.randrange(share) == 0 and not self.is_plain and not self.is_calm
 
@@ -148,7 +149,7 @@ class Player:
             self.sequence.steps.pop()
 
     def played(self, count):
-        """A sequence of about so many calls, and some behind them that look at everything."""
+        """A sequence of about so many calls, and some after them that look at everything."""
         if self.odd(6):
             self.fill(self.fill_directory)
         self.is_calm = True
@@ -171,7 +172,8 @@ class Player:
             self.take(Step(name, arguments, shown=self.shown))
 
     def is_left_out(self, name, arguments):
-        """Closing the printer's stream, reading requests where there are none, and what isn't plain."""
+        """Closing the printer's stream, reading requests where there are none, and what isn't
+        plain."""
         if name == "fd_close":
             return arguments[0] == self.sequence.reporter
         if name == "fd_read" and arguments[0] == 0:
@@ -179,8 +181,8 @@ class Player:
         return self.is_plain and self.is_own(name, arguments)
 
     def is_own(self, name, arguments):
-        """Whether hosts differ in a call: at the root's descriptor, at a `pwrite` that appends, and where
-        a descriptor's directory gets another path."""
+        """Whether hosts differ in a call: at the root's descriptor, at a `pwrite` that appends, and
+        where a descriptor's directory gets another path."""
         if name in ("fd_datasync", "fd_fdstat_set_flags"):
             return self.host.descriptors[arguments[0]].kind() == DIRECTORY
         if name == "fd_pwrite":
@@ -246,7 +248,7 @@ class Player:
     # What calls take.
 
     def show(self, at, length):
-        """Notes memory that a plain run shows behind the call."""
+        """Notes memory that a plain run shows after the call."""
         self.shown.append((at, length))
         return at
 
@@ -300,8 +302,8 @@ class Player:
             text + b"/x", b"a/../" + text, text + b"/../.."])
 
     def path(self, fd, kind, is_new=False, is_open=False):
-        """Address and length of a path for a descriptor: to a node of a kind, to one that some descriptor
-        stands for, or to none yet."""
+        """Address and length of a path for a descriptor: to a node of a kind, to one that some
+        descriptor stands for, or to none yet."""
         it = self.host.descriptors.get(fd)
         start = it.node if it and it.kind() == DIRECTORY else self.host.root
         known = self.known(start)
@@ -423,7 +425,7 @@ class Player:
         return [fd, self.offset(fd)]
 
     def shown_buffers(self, iovs, count, ret):
-        """Notes the buffers and the count of a read. The count may lie over the first buffer."""
+        """Notes the buffers and the count of a read. The count may be over the first buffer."""
         inside = min(count, 8, max(0, self.size - iovs) // 8)
         pairs = list(struct.iter_unpack("<II", self.host.memory[iovs : iovs + 8 * inside]))
         if self.is_plain:

@@ -33,7 +33,7 @@ class Fields:
         return int.from_bytes(self.take(length), "little")
 
     def sized(self, length):
-        """Bytes behind their length, which has so many."""
+        """Bytes after their length, which has so many."""
         return self.take(self.number(length))
 
 

@@ -12,7 +12,7 @@ AREA, AREA_PER_UNIT = 2_048, 128
 # The defaults of `create`.
 PAGES, FILES, JOURNAL = 16, 16, 256
 
-# Bytes of records in a sector of the journal, and where its stamp stands.
+# Bytes of records in a sector of the journal, and where its stamp is.
 PAYLOAD, STAMP = 494, 496
 
 # A page of memory, and phases of a process.
@@ -26,7 +26,7 @@ REQUEST, END, REALTIME, MONOTONIC, RANDOM = range(1, 6)
 ROOT = os.path.join(os.path.dirname(os.path.abspath(__file__)), "..")
 ROW = re.compile(r"^ {6,}([0-9a-f]+) {2}(.+)$", re.MULTILINE)
 
-# Where fields of the super and of a head stand.
+# Where fields of the super and of a head are.
 LAYOUT, MODULE_SECTORS, AREA_SECTORS, JOURNAL_SECTORS, DIGEST, LAST_MARK = 8, 20, 24, 28, 32, 504
 HEAD_VERSION, IMAGE_LENGTH, IMAGE_DIGEST = 8, 16, 24
 
@@ -37,12 +37,12 @@ def sectors(length):
 
 
 def padded(data, count=1):
-    """Bytes with zeros behind them, so many sectors in all."""
+    """Bytes with zeros after them, so many sectors in all."""
     return data + bytes(count * SECTOR - len(data))
 
 
 def texts(items):
-    """A count, and each text behind its length."""
+    """A count, and each text after its length."""
     return struct.pack("<I", len(items)) + b"".join(
         struct.pack("<H", len(it)) + it for it in items)
 
@@ -146,7 +146,7 @@ def trapped_image(steps, number):
 
 
 def echo_memory(texts_taken, text_read=None):
-    """The memory of `echo` behind texts that it has written back, and one that it has just read."""
+    """The memory of `echo` after texts that it has written back, and one that it has just read."""
     # The iovec of the reads, that of the writes, and the two counts that the calls put.
     memory = bytearray(PAGE)
     memory[:12] = struct.pack("<III", 64, 4_096, 64)
@@ -160,7 +160,7 @@ def echo_memory(texts_taken, text_read=None):
 
 
 def echo_process(steps, answers, lines, position, slots, memory):
-    """The image of `echo` somewhere in its `_start`, its function 2, behind so many requests."""
+    """The image of `echo` somewhere in its `_start`, its function 2, after so many requests."""
     counts = steps, answers, answers, lines, 0
     return image(counts, (RUNNING, 0, 0), [(2, position, slots)], memory)
 
@@ -169,8 +169,8 @@ def echo_image(texts_taken=None):
     """The image of `echo` with one page: a fresh one, or one that has written back some texts and
     asks for the next.
 
-    Then its frame stands at the call of `fd_read`, the opcode 5, with four arguments. It asks for
-    the first time behind 5 steps, and 22 steps later for each next text.
+    Then its frame is at the call of `fd_read`, the opcode 5, with four arguments. It asks for
+    the first time after 5 steps, and 22 steps later for each next text.
     """
     if texts_taken is None:
         return echo_process(0, 0, 0, 0, (), echo_memory([]))
@@ -180,7 +180,7 @@ def echo_image(texts_taken=None):
 
 
 def echo_image_behind(texts_taken, text_read):
-    """The image of `echo` right behind the step that has read one more text. The answer of that
+    """The image of `echo` right after the step that has read one more text. The answer of that
     call, 0, is the one slot of its frame."""
     count = len(texts_taken)
     memory = echo_memory(texts_taken, text_read)

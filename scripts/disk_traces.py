@@ -9,8 +9,8 @@ from guest_runs import ended
 
 SECTOR = 512
 
-# A read of a sector, a write of one, a sync, bytes that were told on the standard output, or one of
-# the first three calls that has failed, by its name.
+# A read of a sector, a write of one, a sync, bytes that were printed on the standard output, or one
+# of the first three calls that has failed, by its name.
 Read = collections.namedtuple("Read", "at")
 Write = collections.namedtuple("Write", "at data")
 SYNC = "sync"

@@ -89,7 +89,7 @@ class Row:
 
 @dataclass
 class Scene:
-    """Rows in one process. The results are told on the stream `reporter`.
+    """Rows in one process. The results are printed on the stream `reporter`.
 
     `requests` are the texts of request lines, and `left` the lines that the end of the process
     emits. Where nothing is given from outside, the clocks are the machine's.

@@ -1,5 +1,5 @@
 """Disks that are changed at random: any sector, and fields of the super, of heads, of records and
-of images. The digests are mended after that, or left."""
+of images. The digests are fixed after that, or left."""
 import hashlib
 import struct
 
@@ -29,7 +29,7 @@ def written(rng, data, at, length):
 
 
 class ImagePlaces(disk_reader.Reader):
-    """Reads an image, and notes where its numbers and items stand, and where its memory does."""
+    """Reads an image, and notes where its numbers and items are, and where its memory is."""
 
     def __init__(self, data):
         super().__init__(data, b"I1 NotAnImage")
@@ -131,7 +131,7 @@ class DiskMutator:
             "journal": self.journal, "records": self.records, "file": self.file}
 
     def changed(self, rng):
-        """Some worker, the kind of a change, whether digests are mended, and the bytes."""
+        """Some worker, the kind of a change, whether digests are fixed, and the bytes."""
         worker, what = rng.choice(self.workers), rng.choice(list(self.acts))
         disk = bytearray(worker.disk)
         # An act changes the disk, or answers another one.

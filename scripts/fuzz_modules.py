@@ -155,7 +155,7 @@ class Section:
 
     def edited(self, begin, end, data, is_mended=True):
         """The bytes of this section with others in a place. The length of the function that this
-        place lies in is mended."""
+        place is in is fixed."""
         items = self.places.items
         changed = self.data[:begin] + data + self.data[end:]
         if self.kind != CODE or not is_mended or not items:
@@ -247,7 +247,7 @@ class Mutator:
         return section.edited(begin, begin + 1, bytes([opcode]))
 
     def item(self, rng, section):
-        """A section with an item less, twice, or in the place of another. Its count is mended or
+        """A section with an item less, twice, or in the place of another. Its count is fixed or
         not."""
         items = section.places.items
         if not items:

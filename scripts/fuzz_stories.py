@@ -13,7 +13,7 @@ ENDED = re.compile(rb"life (\d+) ended (.*)")
 # Texts of requests that guests of the repository know.
 TEXTS = ["hello", "again", "", "5", "-20", "add milk", "list", "drop 1", "clear", "x" * 600]
 
-# Steps of a slice, fronts of a write, and the calls of a life in which it may be cut.
+# Steps of a slice, prefixes of a write, and the calls of a life in which it may be cut.
 STEPS = [0, 1, 7, 20, 42, 100, 400, 2_000, 20_000]
 FRONTS, CALLS = [0, 1, 8, 255, 495, 500, 504, 511, 512], 700
 

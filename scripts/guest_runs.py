@@ -33,7 +33,7 @@ ECHO = bytes.fromhex(
 
 
 def scratch():
-    """A new folder for disks, which is removed behind its `with`. It lies in memory if it can."""
+    """A new folder for disks, which is removed after its `with`. It is in memory if it can."""
     can = os.access(IN_MEMORY, os.W_OK) and shutil.disk_usage(IN_MEMORY).free >= FREE
     return tempfile.TemporaryDirectory(dir=IN_MEMORY if can else None)
 
@@ -52,7 +52,7 @@ def printed(lines):
 
 
 def creation_words(outside):
-    """The words of a creation, behind disk and module, that give a process its texts."""
+    """The words of a creation, after disk and module, that give a process its texts."""
     if outside is None:
         return []
     words = [word for entry in outside.environment for word in ("--env", entry)]
@@ -60,7 +60,7 @@ def creation_words(outside):
 
 
 def life_words(outside):
-    """The words of a run, behind the disk, that give a process a time and a seed."""
+    """The words of a run, after the disk, that give a process a time and a seed."""
     if outside is None:
         return []
     return ["--clock", str(outside.clock), "--seed", outside.seed.hex()]
@@ -75,13 +75,13 @@ def ended(words, given=b"", seconds=SECONDS, **environment):
 
 
 def wanting(found):
-    """The name under which a command has ended in its own want of memory, or none."""
+    """The name under which a command has ended by being out of memory, or none."""
     words = WANT_OF_MEMORY.fullmatch(found[2]) if found[0] == NO_MEMORY else None
     return words and words[1]
 
 
 def wants_memory(found):
-    """Whether a command has ended in its own want of memory."""
+    """Whether a command has ended by being out of memory."""
     return wanting(found) is not None
 
 

@@ -120,7 +120,7 @@ class Node:
 
 
 class Descriptor:
-    """What a descriptor number stands for. A stream has no node."""
+    """What a descriptor number means. A stream has no node."""
 
     def __init__(self, node, base, inheriting, flags=0):
         self.node, self.base, self.inheriting, self.flags, self.offset = node, base, inheriting, flags, 0
@@ -162,7 +162,7 @@ def parts_of(text):
 
 
 def walk(start, parts):
-    """The directory that a path leads to, and the name behind it, or none for a self path."""
+    """The directory that a path leads to, and the name after it, or none for a self path."""
     leaf = parts[-1] if parts and parts[-1] != b".." else None
     behind = [start]
     for part in parts if leaf is None else parts[:-1]:
@@ -215,12 +215,12 @@ class Host:
     # Descriptors and rights.
 
     def opened(self, fd):
-        """What an open descriptor stands for."""
+        """What an open descriptor means."""
         demand(fd in self.descriptors, BADF)
         return self.descriptors[fd]
 
     def checked(self, fd, refuse, *rights):
-        """What a descriptor of a fitting kind and with some rights stands for."""
+        """What a descriptor of a fitting kind and with some rights means."""
         it = self.opened(fd)
         if refuse:
             refuse(it)
@@ -292,7 +292,7 @@ class Host:
             del self.nodes[node.number]
 
     def resize(self, file, size):
-        """Cuts a file, or puts zeros behind it."""
+        """Cuts a file, or puts zeros after it."""
         demand(size <= FILE_SIZE, FBIG)
         others = sum(len(node.content) for node in self.nodes.values() if node is not file)
         demand(others + size <= self.room, NOSPC)
@@ -300,7 +300,7 @@ class Host:
         file.content.extend(bytes(size - len(file.content)))
 
     def overwrite(self, file, offset, data):
-        """Writes some bytes into a file, which grows where they end behind it."""
+        """Writes some bytes into a file, which grows where they end past it."""
         if data:
             self.resize(file, max(len(file.content), offset + len(data)))
             file.content[offset : offset + len(data)] = data
@@ -598,7 +598,7 @@ class Host:
         new.entries[new_name] = node
 
     def is_within(self, directory, node):
-        """Whether a directory is a node or lies below it."""
+        """Whether a directory is a node or is below it."""
         return directory is node or any(self.is_within(directory, it) for it in node.entries.values())
 
     def sched_yield(self):

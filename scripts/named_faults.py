@@ -3,7 +3,7 @@ import re
 
 from disk_form import read
 
-# A row of the table of faults, and a fault in it. Want of memory has no letter of its own.
+# A row of the table of faults, and a fault in it. Being out of memory has no letter of its own.
 ROW = re.compile(r"^\| (`.*`) \| (\d) \|", re.MULTILINE)
 FAULT = re.compile(r"`([A-Z]\d \w+)`")
 

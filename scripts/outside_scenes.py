@@ -14,8 +14,9 @@ MEMORY, WORD = 65_536, 1 << 32
 # The most random bytes that one call gives.
 MOST = 4_096
 
-# The first 64 bytes that ChaCha20 gives for the key of zeros, in stream 2. That is the stream of the
-# first run of a worker. `openssl enc -chacha20 -iv 00000000000000000200000000000000` has the same.
+# The first 64 bytes that ChaCha20 gives for the key of zeros, in stream 2. That is the stream of
+# the first run of a worker. `openssl enc -chacha20 -iv 00000000000000000200000000000000` has the
+# same.
 ZEROS = bytes.fromhex(
     "d0c5b9b744287072 8d812f034c635e81 92b02c311c794763 3ee40f1f04bf1812"
     "3672a895a95cc2d4 45d09465426062b2 3f1319d65a573da4 30e4e47a9f8d121c")
@@ -42,7 +43,7 @@ def tells_time(clock, nanoseconds, precision=0):
 
 
 def is_out_of_memory(call, *arguments):
-    """A range ends behind the end of memory."""
+    """A range ends past the end of memory."""
     return Row(call, list(arguments), FAULT)
 
 

@@ -1,6 +1,6 @@
 // Refuses one allocation of a program that it is preloaded into: the call whose number, from 1 on,
 // the environment variable REFUSED_ALLOCATION holds, among all calls of the functions below. That
-// call returns as for want of memory. Where ALLOCATIONS names a file, the number of all those
+// call returns as if out of memory. Where ALLOCATIONS names a file, the number of all those
 // calls is written to it when the program ends.
 //
 //     cc -shared -fPIC -O2 -o refuse_allocation.so refuse_allocation.c

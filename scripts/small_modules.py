@@ -85,11 +85,11 @@ REFUSED = [
     (small(memories=pages(257)), "L6 TooManyPages", None),
 ]
 
-# Modules with instructions of edition 2.0 that exit with 0, and behind how many steps.
+# Modules with instructions of edition 2.0 that exit with 0, and after how many steps.
 EXITS = [
     (small(wasm.i32(128) + b"\xc0" + wasm.DROP), 3),
     (small(wasm.i32(0) * 3 + wasm.MEMORY_COPY), 4),
-    # The number behind the prefix in three bytes, and in five.
+    # The number after the prefix in three bytes, and in five.
     (small(wasm.i32(0) * 3 + b"\xfc\x8a\x80\x00\x00\x00"), 4),
     (small(wasm.i32(0) * 3 + b"\xfc\x8b\x80\x80\x80\x00\x00"), 4),
 ]
@@ -148,7 +148,7 @@ ACCEPTED = [
     calls_from_table(b"", elements=[behind(0) + wasm.vector([wasm.unsigned(0)])]),
 ]
 
-# The traps by their numbers, from 1 on: the name, a module that comes to it, and behind how many
+# The traps by their numbers, from 1 on: the name, a module that comes to it, and after how many
 # steps. The one that traps counts.
 TRAPS = [
     ("unreachable", small(wasm.UNREACHABLE), 1),
@@ -190,7 +190,7 @@ def asks():
 
 
 def memory_of_asks(text=None):
-    """The memory of that module behind its line, or at its start."""
+    """The memory of that module after its line, or at its start."""
     memory = bytearray(65_536)
     memory[:8] = struct.pack("<II", TIMES, NEWLINE + 1 - TIMES)
     memory[NEWLINE] = ord("\n")
@@ -200,8 +200,8 @@ def memory_of_asks(text=None):
     return bytes(memory)
 
 
-# Where `flood` has the number of bytes that its first call wrote, with a newline behind it, and
-# where the bytes of that call begin. Both calls name theirs by an iovec, at 0 and behind that.
+# Where `flood` has the number of bytes that its first call wrote, with a newline after it, and
+# where the bytes of that call begin. Both calls name theirs by an iovec, at 0 and after that.
 TOLD, FLOOD = 16, 64
 
 
@@ -214,7 +214,7 @@ def flood_memory(count):
 
 def flood(count):
     """A module that writes so many newlines by one call, in its step 5. Then it writes what that
-    call told it, four bytes and a newline, in step 11, and asks for a request behind step 16."""
+    call gave it, four bytes and a newline, in step 11, and asks for a request after step 16."""
     def call(number, *arguments):
         return b"".join(map(wasm.i32, arguments)) + wasm.CALL + wasm.unsigned(number) + wasm.DROP
 

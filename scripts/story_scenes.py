@@ -1,4 +1,5 @@
-"""Scripts of `wasmhost story` and `wasmhost sweep`, each with what is printed of it, for `program-rows`.
+"""Scripts of `wasmhost story` and `wasmhost sweep`, each with what is printed of it, for
+`program-rows`.
 
 All of it was worked out by hand from docs/COMMANDS.md and docs/FORMATS.md. Images are those of
 `disk_form.py`.
@@ -38,7 +39,7 @@ def fresh(life, generation):
 
 
 def behind(life, generation, texts, text):
-    """The line of a life of `echo` that begins behind the step which has read a text, and before
+    """The line of a life of `echo` that begins after the step which has read a text, and before
     that it has written back others."""
     count = len(texts)
     counts = 6 + 22 * count, count + 1, count
@@ -46,7 +47,7 @@ def behind(life, generation, texts, text):
 
 
 def refused(script, err, module="echo.wasm", words=(), status=3):
-    """A story that isn't told. Of some faults a second line says more."""
+    """A story that isn't run. Of some faults a second line says more."""
     return Story(script, module, tuple(words), status, "", f"failed {err}\n")
 
 
@@ -54,7 +55,7 @@ CREATED = "life 1 created\n"
 
 # A life of `echo` makes 206 calls until its worker is created: 2 look for one, 2 clear the super,
 # 68 write contents, heads and journal, 130 the image, 2 its head, and 2 the super. The next one
-# writes the record of `hello`, which ends at byte 505 of its sector. The one behind it is the sync.
+# writes the record of `hello`, which ends at byte 505 of its sector. The one after it is the sync.
 HELLO, RECORD = "life\nrequest hello\nslice 20\n", 207
 
 LIVES = [
@@ -69,7 +70,7 @@ LIVES = [
               20, 1, 1, 20, (0,), form.echo_memory([b"hello"])))),
     Story("life\nend\nslice 99\ncheckpoint\nlife\n",
           out=CREATED + recovered(2, 3, (11, 1, 0), form.echo_image_at_end())),
-    # Two requests are replayed, and of the first one the line is told again.
+    # Two requests are replayed, and of the first one the line is printed again.
     Story("life\nrequest hello\nrequest world\nslice 42\nlife\n",
           out=CREATED + "1 o hello\n2 o world\n" + behind(2, 2, [b"hello"], b"world")
           + "1 o hello\n"),
@@ -85,13 +86,13 @@ CUTS = [
           out=CREATED + behind(2, 2, [], b"hello")),
     # Of a write without a number all is left.
     Story(f"{HELLO}stop {RECORD + 1} 0\nlife\n", out=CREATED + behind(2, 2, [], b"hello")),
-    # Lives that aren't opened. The first is cut at its first call, the second in the sync behind
+    # Lives that aren't opened. The first is cut at its first call, the second in the sync after
     # the super, and the third in the write of the super.
     Story("life\nstop 1 0\nlife\n", out="life 1 not opened\nlife 2 created\n"),
     Story("life\nstop 206 0\nlife\n", out="life 1 not opened\n" + fresh(2, 2)),
     Story("life\nstop 205 511\nlife\n", out="life 1 not opened\nlife 2 created\n"),
-    # One that is cut as it commits has told a line again by then. Its recovery makes 137 calls
-    # before the commit, or up to 198 if it reads all of the journal, and 129 reads behind that.
+    # One that is cut as it commits has printed a line again by then. Its recovery makes 137 calls
+    # before the commit, or up to 198 if it reads all of the journal, and 129 reads after that.
     Story("life\nrequest hello\nrequest world\nslice 42\nlife\nstop 230 0\nlife\n",
           out=CREATED + "1 o hello\n2 o world\nlife 2 not opened\n1 o hello\n"
           + behind(3, 2, [b"hello"], b"world") + "1 o hello\n"),
@@ -113,7 +114,7 @@ ANSWERS = [
           out=CREATED + "life 1 ended N2 Source\n" + recovered(2, 2, (0, 0, 0), FIRST)),
 ]
 
-# Calls of the disk that fail, and lines that are refused. The first checkpoint behind a creation
+# Calls of the disk that fail, and lines that are refused. The first checkpoint after a creation
 # makes 134 calls, and the sync of its head is the last of them.
 TROUBLES = [
     Story(f"{HELLO}refuse 1\nlife\nslice 14\n",
@@ -121,7 +122,7 @@ TROUBLES = [
           + "1 o hello\n"),
     Story("life\ncheckpoint\nfail 340 0\nlife\n",
           out=CREATED + "life 1 ended N1 Disk\n" + fresh(2, 3)),
-    # A write that fails leaves its front, and the next life finds that.
+    # A write that fails leaves its prefix, and the next life finds that.
     Story(f"{HELLO}fail {RECORD} 504\nlife\n",
           out=CREATED + "life 1 ended N1 Disk\n" + fresh(2, 2)),
     Story(f"{HELLO}fail {RECORD} 505\nlife\n",
@@ -130,13 +131,13 @@ TROUBLES = [
     Story(f"{HELLO}fail {RECORD} 504\nstop {RECORD} 505\nlife\n",
           out=CREATED + behind(2, 2, [], b"hello")),
     Story("life\nfail 1 0\nlife\n", out="life 1 not opened\nlife 2 created\n"),
-    # The second line that the life tells is that of its slice: its recovery has told one.
+    # The second line that the life prints is that of its slice: its recovery has printed one.
     Story("life\nrequest hello\nrequest world\nslice 42\nlife\nrefuse 2\nslice 14\n",
           out=CREATED + "1 o hello\n2 o world\n" + behind(2, 2, [b"hello"], b"world")
           + "1 o hello\n2 o world\nlife 2 ended N3 Outlet\n"),
 ]
 
-# With a journal of 64 sectors `echo` is saved behind 56 answers, as it asks for the next one. With
+# With a journal of 64 sectors `echo` is saved after 56 answers, as it asks for the next one. With
 # one more it isn't, and the next life computes all of them again.
 MANY = "life\n" + "request b\n" * 56 + "slice 2000\nlife\n"
 TOLD = [f"{number} o b\n" for number in range(1, 57)]
@@ -161,8 +162,8 @@ SIZES = [
 ]
 
 # One call writes 65,536 bytes at most, and each of them may be a line. So many come from one step,
-# and all of them are told before the next one. A line that is refused ends the life, and the next
-# one begins again at line 1.
+# and all of them are printed before the next one. A line that is refused ends the life, and the
+# next one begins again at line 1.
 MOST = 65_536
 FLOODED = [f"{number} o \n" for number in range(1, MOST + 1)]
 FLOOD = form.image((0,) * 5, (form.RUNNING, 0, 0), [(2, 0, ())], flood_memory(MOST + 1))

@@ -1,11 +1,11 @@
-"""What a worker has told over several runs, for `kill-runs` and `cut-disks`.
+"""What a worker has printed over several runs, for `kill-runs` and `cut-disks`.
 
-Each line number has one text. No run leaves a number out: it begins at one that was told before, or
-at the next one, and goes on from there.
+Each line number has one text. No run leaves a number out: it begins at one that was printed before,
+or at the next one, and goes on from there.
 """
 from guest_runs import printed
 
-# What stands in place of a request whose answer was told: it was taken, so nobody reads it again.
+# What is in place of a request whose answer was printed: it was taken, so nobody reads it again.
 TAKEN = b"this was taken before"
 
 
@@ -15,7 +15,8 @@ def given_again(requests, count):
 
 
 class Told:
-    """The right lines of a worker, each with its stream, and how many of them were told so far."""
+    """The right lines of a worker, each with its stream, and how many of them were printed so
+    far."""
 
     def __init__(self, lines):
         self.rows = [row + b"\n" for row in printed(lines).split(b"\n")[:-1]]
@@ -41,7 +42,7 @@ class Told:
         return None
 
     def row(self, place):
-        """The right line of a place, with its newline, or nothing behind the last."""
+        """The right line of a place, with its newline, or nothing after the last."""
         return self.rows[place] if place < len(self.rows) else b""
 
     def first(self, row):

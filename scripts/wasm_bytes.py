@@ -48,12 +48,12 @@ NO_FORMS += i32(0) * MANY_OPERANDS + DROP * MANY_OPERANDS + END
 
 
 def vector(items):
-    """Encoded items behind their count."""
+    """Encoded items after their count."""
     return unsigned(len(items)) + b"".join(items)
 
 
 def sized(body):
-    """Bytes behind their length."""
+    """Bytes after their length."""
     return unsigned(len(body)) + body
 
 

@@ -9,7 +9,7 @@ WITH_TWO = [0x11, *range(0x28, 0x3F)]
 NUMBERS = {**dict.fromkeys(WITH_ONE, 1), **dict.fromkeys(WITH_TWO, 2)}
 BRANCH_TABLE = wasm.BR_TABLE[0]
 
-# The prefix, and how many zero bytes follow the number behind it.
+# The prefix, and how many zero bytes follow the number after it.
 PREFIX, ZEROS = wasm.MEMORY_COPY[0], {10: 2, 11: 1}
 
 

@@ -1,4 +1,4 @@
-;; Writes back what it reads from descriptor 0, behind eight random letters and a space, until it
+;; Writes back what it reads from descriptor 0, after eight random letters and a space, until it
 ;; reads nothing. So a request that was answered twice from different random bytes would have two
 ;; texts. `wat2wasm stamp.wat` (wabt 1.0.32) gives exactly the bytes of stamp.wasm.
 (module
