@@ -61,8 +61,10 @@ class Writer:
 
     def summed(self):
         """From nothing: the sum of the memory's words. Locals: place, sum."""
-        turn = local(1) + wasm.i64(FACTOR) + wasm.I64_MUL + local(0) + wasm.LOAD_64 + wasm.unsigned(0)
-        turn += wasm.I64_ADD + kept(1) + local(0) + wasm.i32(8) + wasm.I32_ADD + wasm.LOCAL_TEE + wasm.unsigned(0)
+        turn = (local(1) + wasm.i64(FACTOR) + wasm.I64_MUL + local(0)
+                + wasm.LOAD_64 + wasm.unsigned(0))
+        turn += (wasm.I64_ADD + kept(1) + local(0) + wasm.i32(8) + wasm.I32_ADD
+                 + wasm.LOCAL_TEE + wasm.unsigned(0))
         turn += wasm.i32(self.sequence.pages * UNIT) + wasm.I32_LT_U
         return wasm.function_body([wasm.I32, wasm.I64], looped(turn) + local(1))
 
@@ -70,17 +72,22 @@ class Writer:
         """Prints bytes as a line. Parameters: address, count. Locals: end of the digits, a
         digit."""
         def digit(value, offset):
-            code = local(2) + value + wasm.LOCAL_TEE + wasm.unsigned(3) + wasm.i32(ord("0")) + wasm.I32_ADD
-            code += local(3) + wasm.i32(9) + wasm.I32_GT_U + wasm.i32(ord("a") - ord("9") - 1) + wasm.I32_MUL
+            code = (local(2) + value + wasm.LOCAL_TEE + wasm.unsigned(3)
+                    + wasm.i32(ord("0")) + wasm.I32_ADD)
+            code += (local(3) + wasm.i32(9) + wasm.I32_GT_U
+                     + wasm.i32(ord("a") - ord("9") - 1) + wasm.I32_MUL)
             return code + wasm.I32_ADD + wasm.STORE_8 + wasm.unsigned(offset)
 
         byte = local(0) + wasm.LOAD_8 + wasm.unsigned(0)
-        turn = digit(byte + wasm.i32(4) + wasm.I32_SHR_U, 0) + digit(byte + wasm.i32(15) + wasm.I32_AND, 1)
+        turn = (digit(byte + wasm.i32(4) + wasm.I32_SHR_U, 0)
+                + digit(byte + wasm.i32(15) + wasm.I32_AND, 1))
         for number, step in [(2, 2), (0, 1)]:
             turn += local(number) + wasm.i32(step) + wasm.I32_ADD + kept(number)
         turn += local(1) + wasm.i32(1) + wasm.I32_SUB + wasm.LOCAL_TEE + wasm.unsigned(1)
-        code = wasm.i32(DIGITS) + kept(2) + local(1) + wasm.IF + bytes([wasm.EMPTY]) + looped(turn) + wasm.END
-        code += local(2) + wasm.i32(ord("\n")) + wasm.STORE_8 + wasm.unsigned(0) + stored(IOVEC, wasm.i32(DIGITS))
+        code = (wasm.i32(DIGITS) + kept(2) + local(1) + wasm.IF
+                + bytes([wasm.EMPTY]) + looped(turn) + wasm.END)
+        code += (local(2) + wasm.i32(ord("\n")) + wasm.STORE_8 + wasm.unsigned(0)
+                 + stored(IOVEC, wasm.i32(DIGITS)))
         code += stored(IOVEC + 4, local(2) + wasm.i32(DIGITS - 1) + wasm.I32_SUB)
         code += b"".join(wasm.i32(it) for it in (self.sequence.reporter, IOVEC, 1, WRITTEN))
         code += self.call(self.calls.index("fd_write")) + wasm.DROP
@@ -89,7 +96,8 @@ class Writer:
     def called(self, step):
         """Makes the calls of a step, and leaves its error. Locals: turn, errors so far."""
         kinds = [it.endswith(":l") for it in PARAMETERS[step.name].split()]
-        code = b"".join(constant(*it) for it in zip(step.arguments, kinds)) + self.call(self.calls.index(step.name))
+        code = (b"".join(constant(*it) for it in zip(step.arguments, kinds))
+                + self.call(self.calls.index(step.name)))
         if step.times == 1:
             return code
         turn = b""
@@ -98,8 +106,10 @@ class Writer:
             first = local(0) + wasm.i32(5) + wasm.I32_SHR_U + wasm.i32(0x4141) + wasm.I32_ADD
             turn = stored(COUNTER, first + second + wasm.I32_ADD, wasm.STORE_16)
         turn += local(1) + wasm.i32(33) + wasm.I32_MUL + code + wasm.I32_ADD + kept(1)
-        turn += local(0) + wasm.i32(1) + wasm.I32_ADD + wasm.LOCAL_TEE + wasm.unsigned(0) + wasm.i32(step.times)
-        return (wasm.i32(0) + kept(0) + wasm.i32(0) + kept(1) + looped(turn + wasm.I32_LT_U)) + local(1)
+        turn += (local(0) + wasm.i32(1) + wasm.I32_ADD + wasm.LOCAL_TEE
+                 + wasm.unsigned(0) + wasm.i32(step.times))
+        return ((wasm.i32(0) + kept(0) + wasm.i32(0) + kept(1) + looped(turn + wasm.I32_LT_U))
+                + local(1))
 
     def printed(self, at, length):
         return wasm.i32(at) + wasm.i32(length) + self.call(self.printing)
@@ -117,7 +127,8 @@ class Writer:
     def reported(self, place):
         """Prints what was kept of a step."""
         error, total = [wasm.GLOBAL_GET + wasm.unsigned(2 * place + it) for it in (0, 1)]
-        return stored(RECORD, error) + stored(RECORD + 4, total, wasm.STORE_64) + self.printed(RECORD, 12)
+        return (stored(RECORD, error) + stored(RECORD + 4, total, wasm.STORE_64)
+                + self.printed(RECORD, 12))
 
     def dumped(self):
         """Prints all rows of memory. Locals: place."""
@@ -131,7 +142,8 @@ class Writer:
         if self.dumps:
             codes += [self.printed(0, 0), self.dumped()]
         elif not self.is_plain:
-            codes += [self.printed(0, 0)] + [self.reported(place) for place in range(len(self.sequence.steps))]
+            codes += ([self.printed(0, 0)]
+                      + [self.reported(place) for place in range(len(self.sequence.steps))])
         bodies = [b"".join(codes[at : at + STEPS]) for at in range(0, len(codes), STEPS)]
         return [wasm.function_body([wasm.I32, wasm.I32], body) for body in bodies]
 
@@ -143,16 +155,21 @@ class Writer:
         parts, nothing = self.parts(), len(types) - 1
         start = b"".join(self.call(self.printing + 1 + place) for place in range(len(parts)))
         bodies = [self.summed(), self.printer(), *parts, wasm.function_body([], start)]
-        zeros = [bytes([wasm.I32, 1]) + wasm.i32(0) + wasm.END, bytes([wasm.I64, 1]) + wasm.i64(0) + wasm.END]
+        zeros = [bytes([wasm.I32, 1]) + wasm.i32(0) + wasm.END,
+                 bytes([wasm.I64, 1]) + wasm.i64(0) + wasm.END]
         return wasm.module_bytes([
             (1, [wasm.function_type(*it) for it in types]),
-            (2, [wasm.imported_function(name.encode(), number) for number, name in enumerate(self.calls)]),
-            (3, [wasm.unsigned(min(self.summing + place, nothing)) for place in range(len(bodies))]),
+            (2, [wasm.imported_function(name.encode(), number)
+                 for number, name in enumerate(self.calls)]),
+            (3, [wasm.unsigned(min(self.summing + place, nothing))
+                 for place in range(len(bodies))]),
             (5, [b"\x00" + wasm.unsigned(self.sequence.pages)]),
             (6, zeros * len(self.sequence.steps)),
-            (7, [wasm.exported(b"memory", 2, 0), wasm.exported(b"_start", 0, self.printing + 1 + len(parts))]),
+            (7, [wasm.exported(b"memory", 2, 0),
+                 wasm.exported(b"_start", 0, self.printing + 1 + len(parts))]),
             (10, bodies),
-            (11, [b"\x00" + wasm.i32(at) + wasm.END + wasm.sized(data) for at, data in self.sequence.data]),
+            (11, [b"\x00" + wasm.i32(at) + wasm.END + wasm.sized(data)
+                  for at, data in self.sequence.data]),
         ])
 
 

@@ -9,43 +9,47 @@ import struct
 from dataclasses import dataclass, field
 
 from host_model import (
-    ALL_RIGHTS, APPEND, CHARACTER_DEVICE, CREATE, DIRECTORY, DIRECTORY_RIGHTS, DESCRIPTORS, FILE_RIGHTS, FILE_SIZE,
-    IOVECS, MOVED, NODES, PREOPENED, REGULAR_FILE, UNIT, WRITE, Host, Outside, Parked, bit)
+    ALL_RIGHTS, APPEND, CHARACTER_DEVICE, CREATE, DIRECTORY, DIRECTORY_RIGHTS, DESCRIPTORS,
+    FILE_RIGHTS, FILE_SIZE, IOVECS, MOVED, NODES, PREOPENED, REGULAR_FILE, UNIT, WRITE, Host,
+    Outside, Parked, bit)
 
 # Where a sequence keeps what. The printer's part is used after the last call.
 CELLS, PRINTER, COUNTER = (0, 512), (512, 8192), 544
 TEXTS, ARRAYS, BUFFERS = (8192, 24576), (24576, 40960), (40960, 65536)
 
 WEIGHTS = {
-    "path_open": 20, "fd_write": 12, "fd_read": 10, "fd_pread": 9, "fd_pwrite": 10, "fd_seek": 8, "fd_close": 6,
-    "path_rename": 10, "path_create_directory": 8, "path_unlink_file": 6, "path_remove_directory": 6,
-    "path_filestat_get": 5, "fd_readdir": 5, "fd_filestat_get": 4, "fd_filestat_set_size": 4, "fd_tell": 3,
-    "fd_fdstat_get": 3, "fd_fdstat_set_flags": 4, "fd_sync": 3, "fd_datasync": 3, "fd_prestat_get": 2,
-    "fd_prestat_dir_name": 3, "sched_yield": 1}
+    "path_open": 20, "fd_write": 12, "fd_read": 10, "fd_pread": 9, "fd_pwrite": 10, "fd_seek": 8,
+    "fd_close": 6, "path_rename": 10, "path_create_directory": 8, "path_unlink_file": 6,
+    "path_remove_directory": 6, "path_filestat_get": 5, "fd_readdir": 5, "fd_filestat_get": 4,
+    "fd_filestat_set_size": 4, "fd_tell": 3, "fd_fdstat_get": 3, "fd_fdstat_set_flags": 4,
+    "fd_sync": 3, "fd_datasync": 3, "fd_prestat_get": 2, "fd_prestat_dir_name": 3, "sched_yield": 1}
 
 # What these calls answer hangs on the words that a run is given.
 OUTSIDE_WEIGHTS = {
-    "args_get": 2, "args_sizes_get": 2, "environ_get": 2, "environ_sizes_get": 2, "clock_res_get": 2,
-    "clock_time_get": 3, "random_get": 6}
+    "args_get": 2, "args_sizes_get": 2, "environ_get": 2, "environ_sizes_get": 2,
+    "clock_res_get": 2, "clock_time_get": 3, "random_get": 6}
 
-NAMES = [b"a", b"b", b"c", b"d", b"ab", b"a.b", b"..a", b"...", b"B", b" ", b"\xc3\xa9", b"\xf0\x9f\x8e\xb2"]
+NAMES = [b"a", b"b", b"c", b"d", b"ab", b"a.b", b"..a", b"...", b"B",
+         b" ", b"\xc3\xa9", b"\xf0\x9f\x8e\xb2"]
 PLAIN_NAMES = [b"a", b"b", b"c", b"d", b"ab", b"long name"]
 LONGEST, TOO_LONG = b"n" * 255, b"n" * 256
 
 ODD_PATHS = [
-    b"", b"/", b"/a", b"//a/b", b".", b"./", b"..", b"../a", b"a/..", b"a/../..", b"./../a", b"a/./../b/", b"a//",
-    b"\xff", b"a/\xff", b"/\xff", b"\xff\0", b"\xc0\x80", b"\xed\xa0\x80", b"\xe2\x82", b"\xf4\x90\x80\x80",
-    b"\xef\xbf\xbf", b"a\0", b"\0", b"/\0", b"a/\0/b", LONGEST, TOO_LONG, b"a/" + TOO_LONG, b"/" + TOO_LONG,
-    TOO_LONG + b"/..", LONGEST + b"/" + LONGEST, b"missing/..", b"missing/../..", b"a/b/c/d/e"]
+    b"", b"/", b"/a", b"//a/b", b".", b"./", b"..", b"../a", b"a/..", b"a/../..", b"./../a",
+    b"a/./../b/", b"a//", b"\xff", b"a/\xff", b"/\xff", b"\xff\0", b"\xc0\x80", b"\xed\xa0\x80",
+    b"\xe2\x82", b"\xf4\x90\x80\x80", b"\xef\xbf\xbf", b"a\0", b"\0", b"/\0", b"a/\0/b", LONGEST,
+    TOO_LONG, b"a/" + TOO_LONG, b"/" + TOO_LONG, TOO_LONG + b"/..", LONGEST + b"/" + LONGEST,
+    b"missing/..", b"missing/../..", b"a/b/c/d/e"]
 LONG_PATHS = [
-    b"./" * 2048, b"./" * 2048 + b"/", b"./" * 2047 + b"/a", b"./" * 2048 + b"a", b"/" * 4097, b"\xff" * 4097,
-    (LONGEST + b"/") * 16, TOO_LONG * 16, b"\xff" + b"\0" * 4095]
+    b"./" * 2048, b"./" * 2048 + b"/", b"./" * 2047 + b"/a", b"./" * 2048 + b"a", b"/" * 4097,
+    b"\xff" * 4097, (LONGEST + b"/") * 16, TOO_LONG * 16, b"\xff" + b"\0" * 4095]
 
 WORD, LONG = (1 << 32) - 1, (1 << 64) - 1
 
 # How many texts a process has at most, its name among them, and how long each may be.
 TEXT_COUNT, TEXT_LENGTH = 64, 1024
-SOME_TEXTS = [b"", b"-", b"--", b"--seed", b"a", b"red", b"two words", b"=", b"\n", b"\xf0\x9f\x8e\xb2"]
+SOME_TEXTS = [b"", b"-", b"--", b"--seed", b"a", b"red", b"two words",
+              b"=", b"\n", b"\xf0\x9f\x8e\xb2"]
 
 
 @dataclass
@@ -102,20 +106,24 @@ class Player:
     """Chooses a sequence. A plain one has no arguments that only this profile gives a meaning. One
     that is closed asks for no texts, clocks and random bytes."""
 
-    def __init__(self, seed, file_units, without=(), has_requests=False, is_plain=False, is_closed=False):
+    def __init__(self, seed, file_units, without=(), has_requests=False,
+                 is_plain=False, is_closed=False):
         self.random = random.Random(seed)
-        self.is_plain, self.has_requests, self.is_wild, self.is_calm = is_plain, has_requests, False, False
+        self.is_plain, self.has_requests = is_plain, has_requests
+        self.is_wild, self.is_calm = False, False
         weights = WEIGHTS if is_closed else WEIGHTS | OUTSIDE_WEIGHTS
         self.calls = {name: weight for name, weight in weights.items() if name not in without}
         requests = [b"hello", b"", b"x" * 300, b"\xff\0", None] if has_requests else []
         reporter = 2 if self.odd(8) else 1
         outside = None if is_closed else self.outside()
-        self.sequence = Sequence(self.random.choice([1, 1, 1, 2]), [], [], reporter, requests, outside)
+        self.sequence = Sequence(self.random.choice([1, 1, 1, 2]),
+                                 [], [], reporter, requests, outside)
         self.host = self.sequence.fresh(file_units)
         self.size, self.texts = self.sequence.pages * UNIT, {}
         self.next_text, self.next_array, self.shown = TEXTS[0], ARRAYS[0], []
         for at in range(*BUFFERS, 4096):
-            self.lay(at, self.random.choice([self.random.randbytes(64), b"some words\n" * 9, b"x" * 64]))
+            texts = [self.random.randbytes(64), b"some words\n" * 9, b"x" * 64]
+            self.lay(at, self.random.choice(texts))
 
     def some_texts(self, most, prefix):
         """At most so many texts after a prefix, and seldom the longest that may be."""
@@ -125,8 +133,10 @@ class Player:
 
     def outside(self):
         """What a run is given by its words."""
-        arguments, environment = self.some_texts(TEXT_COUNT - 1, b""), self.some_texts(TEXT_COUNT, b"NAME=")
-        clock = self.random.choice([0, 1, (1 << 63) - 1, 1 << 63, LONG, self.random.getrandbits(61)])
+        arguments = self.some_texts(TEXT_COUNT - 1, b"")
+        environment = self.some_texts(TEXT_COUNT, b"NAME=")
+        clock = self.random.choice([0, 1, (1 << 63) - 1, 1 << 63,
+                                    LONG, self.random.getrandbits(61)])
         return Outside(arguments, environment, clock, self.random.randbytes(32))
 
     def lay(self, at, data):
@@ -153,12 +163,14 @@ class Player:
         if self.odd(6):
             self.fill(self.fill_directory)
         self.is_calm = True
-        for name in self.random.choices(["path_create_directory", "path_open", "path_open", "fd_write"], k=12):
+        names = ["path_create_directory", "path_open", "path_open", "fd_write"]
+        for name in self.random.choices(names, k=12):
             self.play(name)
         self.is_calm = False
         while len(self.sequence.steps) < count:
             if self.odd(60):
-                self.fill(self.random.choice([self.fill_directory, self.fill_descriptors, self.fill_file]))
+                self.fill(self.random.choice([self.fill_directory,
+                                              self.fill_descriptors, self.fill_file]))
             self.play(self.random.choices(list(self.calls), list(self.calls.values()))[0])
         self.look()
         return self.sequence
@@ -209,7 +221,8 @@ class Player:
         left = DESCRIPTORS - len(self.host.descriptors)
         times = left + self.random.choice([-20, -1, 0, 1, 3])
         at, length = self.lay_text(self.random.choice([b".", b"a", b"new"]))
-        oflags, base = self.random.choice([0, 0, CREATE]), self.random.choice([FILE_RIGHTS, FILE_RIGHTS & ~bit(WRITE)])
+        oflags = self.random.choice([0, 0, CREATE])
+        base = self.random.choice([FILE_RIGHTS, FILE_RIGHTS & ~bit(WRITE)])
         return Step("path_open", [PREOPENED, 0, at, length, oflags, base, 0, 0, 0], times)
 
     def fill_file(self):
@@ -236,7 +249,8 @@ class Player:
         """Lists a directory, if a descriptor is left for it."""
         free = min(set(range(DESCRIPTORS)) - {0, 1, 2} - set(self.host.descriptors), default=None)
         if free:
-            self.look_by("path_open", [PREOPENED, 0, *self.lay_text(text), 2, DIRECTORY_RIGHTS & ~1, 0, 0, 64])
+            self.look_by("path_open",
+                         [PREOPENED, 0, *self.lay_text(text), 2, DIRECTORY_RIGHTS & ~1, 0, 0, 64])
             self.look_by("fd_readdir", [free, BUFFERS[0], 1200, 0, 64])
             self.look_by("fd_close", [free])
 
@@ -255,8 +269,10 @@ class Player:
     def place(self, width):
         """An address that hardly any call should be given for so many bytes."""
         return WORD & self.random.choice([
-            self.size - width, self.size - width + 1, self.size - 1, self.size, self.size + 1, 1 << 31, WORD,
-            -width, self.random.randrange(self.size), self.random.randrange(*ARRAYS), self.next_text - 3])
+            self.size - width, self.size - width + 1, self.size - 1,
+            self.size, self.size + 1, 1 << 31, WORD,
+            -width, self.random.randrange(self.size),
+            self.random.randrange(*ARRAYS), self.next_text - 3])
 
     def cell(self, width):
         """Where a result goes."""
@@ -267,12 +283,15 @@ class Player:
         fitting = [number for number, it in self.host.descriptors.items() if it.kind() == kind]
         if self.odd(8) or not fitting:
             closed = self.random.randrange(4, DESCRIPTORS)
-            among = list(self.host.descriptors) if self.odd(2) else [0, 1, 2, closed, 63, 64, 1 << 31, WORD]
+            among = (list(self.host.descriptors) if self.odd(2)
+                     else [0, 1, 2, closed, 63, 64, 1 << 31, WORD])
             return PREOPENED if self.is_plain else self.random.choice(among)
-        removed = [number for number in fitting if number > 2 and not self.host.descriptors[number].node.is_named]
+        removed = [number for number in fitting if number > 2
+                   and not self.host.descriptors[number].node.is_named]
         if removed and self.odd(4):
             return self.random.choice(removed)
-        return PREOPENED if kind == DIRECTORY and self.random.randrange(2) else self.random.choice(fitting)
+        return (PREOPENED if kind == DIRECTORY and self.random.randrange(2)
+                else self.random.choice(fitting))
 
     def known(self, start):
         """The paths below a directory, with their nodes."""
@@ -298,7 +317,8 @@ class Player:
     def detour(self, text):
         """Another spelling of a path, or of one near it."""
         return self.random.choice([
-            text + b"/", text + b"/.", b"./" + text, text.replace(b"/", b"//"), text + b"/..", text + b"/../" + text,
+            text + b"/", text + b"/.", b"./" + text, text.replace(b"/", b"//"),
+            text + b"/..", text + b"/../" + text,
             text + b"/x", b"a/../" + text, text + b"/../.."])
 
     def path(self, fd, kind, is_new=False, is_open=False):
@@ -310,14 +330,16 @@ class Player:
         fitting = [text for text, node in known if node.kind() == kind or self.odd(10)]
         if is_open:
             nodes = [it.node for it in self.host.descriptors.values()]
-            fitting = [text for text, node in known if node in nodes and not node.entries] or fitting
+            fitting = ([text for text, node in known if node in nodes and not node.entries]
+                       or fitting)
         if self.odd(10):
             return self.odd_path()
         if fitting and self.random.random() < (0.2 if is_new else 0.85):
             text = self.random.choice(fitting)
         else:
             within = [b""] + [text + b"/" for text, node in known if node.is_directory]
-            text = self.random.choice(within) + self.random.choice(PLAIN_NAMES if self.is_plain else NAMES)
+            text = (self.random.choice(within)
+                    + self.random.choice(PLAIN_NAMES if self.is_plain else NAMES))
         return self.lay_text(self.detour(text) if self.odd(6) else text)
 
     def odd_path(self):
@@ -333,9 +355,11 @@ class Player:
         own = it.inheriting if it else ALL_RIGHTS
         if self.odd(10):
             odd_bit = bit(self.random.choice([7, 28, 29, 63]))
-            return self.random.choice([0, own, ALL_RIGHTS, LONG, usual | odd_bit, odd_bit, FILE_RIGHTS])
+            return self.random.choice([0, own, ALL_RIGHTS, LONG,
+                                       usual | odd_bit, odd_bit, FILE_RIGHTS])
         if self.odd(3):
-            return usual & own & self.random.choice([~bit(self.random.randrange(27)), self.random.getrandbits(27)])
+            return usual & own & self.random.choice([~bit(self.random.randrange(27)),
+                                                     self.random.getrandbits(27)])
         return usual & own
 
     def lay_array(self, pairs):
@@ -350,14 +374,16 @@ class Player:
     def iovecs(self):
         """Address and count of an iovec array."""
         if self.is_plain:
-            return self.lay_array([(self.random.randrange(50000, 60000), self.random.randrange(1, 200))]), 1
+            return self.lay_array([(self.random.randrange(50000, 60000),
+                                    self.random.randrange(1, 200))]), 1
         if self.odd(12):
             return self.odd_iovecs()
         if self.odd(30):
             return self.lay_array([(BUFFERS[0], 24000)] * 3), 3
         most = self.random.choice([0, 1, 5, 20, 100, 1000, 5000])
         count = self.random.choice([0, 1, 1, 2, 2, 3, 6])
-        pairs = [(self.random.randrange(*BUFFERS), self.random.randint(0, most)) for _ in range(count)]
+        pairs = [(self.random.randrange(*BUFFERS), self.random.randint(0, most))
+                 for _ in range(count)]
         if pairs and self.odd(6):
             pairs[self.random.randrange(len(pairs))] = self.odd_pair()
         return self.lay_array(pairs), len(pairs)
@@ -365,13 +391,16 @@ class Player:
     def odd_pair(self):
         """A buffer that is out of memory, at its end, long, or over something else."""
         length = self.random.choice([0, 1, 8, 40000, self.size, self.size + 1, 1 << 31, WORD])
-        return self.random.choice([self.place(length), 0, self.next_array, self.next_array + 4]), length
+        return self.random.choice([self.place(length), 0,
+                                   self.next_array, self.next_array + 4]), length
 
     def odd_iovecs(self):
         count = self.random.choice([0, 1, IOVECS, IOVECS + 1, 1 << 29, (1 << 29) + 1, WORD])
         if count in (IOVECS, IOVECS + 1) and self.next_array == ARRAYS[0]:
-            return self.lay_array([(BUFFERS[0] + place, place % 3) for place in range(count)]), count
-        return self.random.choice([self.place(8 * count & WORD), ARRAYS[0], self.next_array - 8]), count
+            return self.lay_array([(BUFFERS[0] + place, place % 3)
+                                   for place in range(count)]), count
+        return self.random.choice([self.place(8 * count & WORD),
+                                   ARRAYS[0], self.next_array - 8]), count
 
     def offset(self, fd):
         """A place in a file, most often near its end or a limit."""
@@ -468,19 +497,25 @@ class Player:
         fd, buffer, length, cookie = self.descriptor(DIRECTORY), BUFFERS[0], 1500, 0
         if not self.is_plain:
             buffer = self.random.randrange(*BUFFERS)
-            length = self.random.choice([0, 1, 23, 24, 25, 30, 60, 300, self.size - buffer, self.random.randrange(200)])
-            buffer, length = (self.place(length), length) if self.odd(12) else (buffer, min(length, self.size - buffer))
+            length = self.random.choice([0, 1, 23, 24, 25, 30, 60, 300,
+                                         self.size - buffer, self.random.randrange(200)])
+            if self.odd(12):
+                buffer = self.place(length)
+            else:
+                length = min(length, self.size - buffer)
             cookie = self.random.choice([0, 0, 0, 1, 2, 3, 5, 1023, 1 << 32, 1 << 63, LONG])
         ret = buffer + self.random.randrange(-3, 30) & WORD if self.odd(12) else self.cell(4)
         return [fd, self.show(buffer, length), length, cookie, self.show(ret, 4)]
 
     def fd_seek(self):
         fd, whence = self.descriptor(REGULAR_FILE), self.random.randrange(3)
-        it, delta = self.host.descriptors.get(fd), self.random.choice([0, 1, 3, 10, -1, -2, -10, 1000])
+        it = self.host.descriptors.get(fd)
+        delta = self.random.choice([0, 1, 3, 10, -1, -2, -10, 1000])
         now = [0, it.offset, len(it.node.content)][whence] if it and it.node else 0
         if self.odd(4):
             near = self.random.choice([-1, 0, 1])
-            delta = self.random.choice([near - now, (1 << 63) - 1 + near - now, (1 << 63) - 1, -(1 << 63), 1 << 40])
+            delta = self.random.choice([near - now, (1 << 63) - 1 + near - now,
+                                        (1 << 63) - 1, -(1 << 63), 1 << 40])
         whence = self.random.choice([3, 4, 256, 258, WORD]) if self.odd(12) else whence
         return [fd, delta & LONG, whence, self.show(self.cell(8), 8)]
 
@@ -498,11 +533,13 @@ class Player:
         ret = self.cell(64)
         if self.is_plain:
             start = self.host.descriptors[fd].node
-            self.shown_stat(dict(self.known(start)).get(bytes(self.host.memory[at : at + length])), ret)
+            text = bytes(self.host.memory[at : at + length])
+            self.shown_stat(dict(self.known(start)).get(text), ret)
         return [fd, flags, at, length, ret]
 
     def path_open(self):
-        fd, kind = self.descriptor(DIRECTORY), self.random.choice([REGULAR_FILE, REGULAR_FILE, DIRECTORY])
+        fd = self.descriptor(DIRECTORY)
+        kind = self.random.choice([REGULAR_FILE, REGULAR_FILE, DIRECTORY])
         oflags = self.random.choice([0, 0, 0, 1, 1, 1, 5, 9, 8, 4, 13])
         if kind == DIRECTORY:
             oflags = self.random.choice([0, 2, 2])
@@ -532,7 +569,8 @@ class Player:
         if self.random.randrange(2):
             both[1] = both[0]
         source, is_new = self.path(both[0], kind), self.random.randrange(2) == 0
-        target = self.path(both[1], REGULAR_FILE + DIRECTORY - kind if self.odd(4) else kind, is_new)
+        target = self.path(both[1],
+                           REGULAR_FILE + DIRECTORY - kind if self.odd(4) else kind, is_new)
         if self.odd(6):
             text = bytes(self.host.memory[source[0] : sum(source)])[:600]
             target = self.lay_text(text + self.random.choice([b"", b"/", b"/a", b"/b/c"]))
@@ -554,7 +592,8 @@ class Player:
 
     def clock(self):
         """The number of a clock."""
-        return self.random.choice([2, 3, 256, 1 << 31, WORD]) if self.odd(6) else self.random.randrange(2)
+        return (self.random.choice([2, 3, 256, 1 << 31, WORD])
+                if self.odd(6) else self.random.randrange(2))
 
     def clock_res_get(self):
         return [self.clock(), self.cell(8)]

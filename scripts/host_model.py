@@ -123,7 +123,8 @@ class Descriptor:
     """What a descriptor number means. A stream has no node."""
 
     def __init__(self, node, base, inheriting, flags=0):
-        self.node, self.base, self.inheriting, self.flags, self.offset = node, base, inheriting, flags, 0
+        self.node, self.base, self.inheriting = node, base, inheriting
+        self.flags, self.offset = flags, 0
 
     def kind(self):
         """The number of its file type."""
@@ -527,7 +528,8 @@ class Host:
         self.put(ret, self.stat(node))
 
     def path_open(self, fd, dirflags, path, length, oflags, base, inheriting, fdflags, ret):
-        needed = [OPEN] + [CREATE_FILE] * bool(oflags & CREATE) + [TRUNCATE] * bool(oflags & TRUNCATES)
+        needed = ([OPEN] + [CREATE_FILE] * bool(oflags & CREATE)
+                  + [TRUNCATE] * bool(oflags & TRUNCATES))
         it = self.checked(fd, refuse_unless_directory, *needed)
         demand((base | inheriting) & ~it.inheriting == 0, NOTCAPABLE)
         demand(dirflags <= 1 and oflags <= 15 and fdflags <= 31, INVAL)
@@ -599,7 +601,8 @@ class Host:
 
     def is_within(self, directory, node):
         """Whether a directory is a node or is below it."""
-        return directory is node or any(self.is_within(directory, it) for it in node.entries.values())
+        return (directory is node
+                or any(self.is_within(directory, it) for it in node.entries.values()))
 
     def sched_yield(self):
         """Nothing happens."""

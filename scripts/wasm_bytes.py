@@ -28,7 +28,8 @@ def unsigned(value):
 def signed(value):
     """The shortest LEB128 form of an integer."""
     is_last = -64 <= value < 64
-    return bytes([value & 0x7F | (0 if is_last else 0x80)]) + (b"" if is_last else signed(value >> 7))
+    return (bytes([value & 0x7F | (0 if is_last else 0x80)])
+            + (b"" if is_last else signed(value >> 7)))
 
 
 def i32(value):
@@ -64,7 +65,8 @@ def section(number, items):
 
 def function_type(takes, gives):
     """A function type, from the value types of parameters and results."""
-    return b"\x60" + vector([bytes([kind]) for kind in takes]) + vector([bytes([kind]) for kind in gives])
+    return (b"\x60" + vector([bytes([kind]) for kind in takes])
+            + vector([bytes([kind]) for kind in gives]))
 
 
 def function_body(kinds, code):
@@ -84,4 +86,5 @@ def exported(name, kind, number):
 
 def module_bytes(sections):
     """A module of sections, given as pairs of id and items. Empty ones are left out."""
-    return b"\0asm\x01\0\0\0" + b"".join(section(number, items) for number, items in sections if items)
+    return (b"\0asm\x01\0\0\0"
+            + b"".join(section(number, items) for number, items in sections if items))
