@@ -15,11 +15,11 @@ UNIT := wasmhost@.service
 
 # Runs the story of a worker whose power is cut twice. It proves nothing.
 demo:
-	@scripts/demo
+	@scripts/make/demo
 
 # Proves all crates of the program, and builds it.
 build:
-	@scripts/build
+	@scripts/make/build
 
 # Proves every crate from nothing, tries the must-fail edits, and runs the tests and the program.
 test:
@@ -41,4 +41,4 @@ install: $(PROGRAM)
 
 # Packs the built program, documents and examples in out/wasmhost-VERSION.tar.gz.
 dist: $(PROGRAM)
-	@scripts/dist
+	@scripts/make/dist

@@ -39,7 +39,7 @@ fn is_read_back(alloc: Global) -> Result<bool, LayoutFault> {
     Ok(is_the_worker(&contents) && is_spelled_again(alloc, &contents.config)?)
 }
 
-/// `scripts/refused-allocations` refuses each allocation in turn, and then this ends in want of
+/// `scripts/runs/refused-allocations` refuses each allocation in turn, and then this ends out of
 /// memory.
 #[test]
 fn a_worker_is_read_back(rt: HostRuntime) -> Result<(), LayoutFault> {
@@ -92,7 +92,7 @@ fn is_environment(alloc: Global) -> Result<bool, AllocError> {
     }
 }
 
-/// `scripts/refused-allocations` refuses each allocation in turn, and then this ends in want of
+/// `scripts/runs/refused-allocations` refuses each allocation in turn, and then this ends out of
 /// memory.
 #[test]
 fn bytes_of_a_configuration(rt: HostRuntime) -> Result<(), AllocError> {

@@ -494,7 +494,7 @@ fn is_run_so(alloc: Global, run: &Run) -> Result<bool, DiskFault> {
     Ok(counts == run.1 && cut_leaves(alloc, &disk.into_inner(), &[7, 0], &image)?)
 }
 
-/// `scripts/refused-allocations` refuses each allocation in turn, and then this ends in want of
+/// `scripts/runs/refused-allocations` refuses each allocation in turn, and then this ends out of
 /// memory.
 #[test]
 fn a_run_is_settled_by_its_sync(rt: HostRuntime) -> Result<(), DiskFault> {

@@ -1,5 +1,5 @@
-//! Disks in files of the operating system. `scripts/file-calls` looks at the system calls that the
-//! tests here make, and has some of them fail.
+//! Disks in files of the operating system. `scripts/runs/file-calls` looks at the system calls of
+//! the tests here, and has some of them fail.
 
 use crate::disks::{ZEROS, holds, prints};
 use sector_disk::{Disk, DiskFault, FileDisk, LockFile, NewFiles, OpenCause, OpenFault, SizeFile};

@@ -227,7 +227,7 @@ fn are_bytes_so<D: Disk>(alloc: Global, disk: &mut D) -> Result<bool, JournalFau
     Ok(write_again(alloc, disk)? && is_written_so && hold(disk, &WRITTEN_AGAIN))
 }
 
-/// `scripts/refused-allocations` refuses each allocation in turn, and then this ends in want of
+/// `scripts/runs/refused-allocations` refuses each allocation in turn, and then this ends out of
 /// memory.
 #[test]
 fn records_of_two_barriers_byte_by_byte(rt: HostRuntime) -> Result<(), JournalFault> {
@@ -296,7 +296,7 @@ fn write_and_scan<D: Disk>(
     scan_count(alloc, disk, generation)
 }
 
-/// `scripts/refused-allocations` refuses each allocation in turn, and then this ends in want of
+/// `scripts/runs/refused-allocations` refuses each allocation in turn, and then this ends out of
 /// memory.
 #[test]
 fn appended_and_scanned(rt: HostRuntime) -> Result<(), JournalFault> {

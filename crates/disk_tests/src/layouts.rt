@@ -174,7 +174,7 @@ fn is_full_read(alloc: Global) -> Result<bool, LayoutFault> {
     )
 }
 
-/// `scripts/refused-allocations` refuses each allocation in turn, and then this ends in want of
+/// `scripts/runs/refused-allocations` refuses each allocation in turn, and then this ends out of
 /// memory.
 #[test]
 fn a_super_leads_to_what_stands_behind_it(rt: HostRuntime) -> Result<(), LayoutFault> {
@@ -209,7 +209,7 @@ fn is_spelled(alloc: Global, want: &[u8]) -> Result<bool, AllocError> {
     }
 }
 
-/// `scripts/refused-allocations` refuses each allocation in turn, and then this ends in want of
+/// `scripts/runs/refused-allocations` refuses each allocation in turn, and then this ends out of
 /// memory.
 #[test]
 fn a_configuration_byte_by_byte(rt: HostRuntime) -> Result<(), AllocError> {

@@ -4,7 +4,7 @@
 //! their lives (`stories`).
 //!
 //! Each test is a table of rows whose expected values come from outside. Those that take memory
-//! return their error, so that `scripts/refused-allocations` can refuse each allocation in turn.
+//! return their error, so that `scripts/runs/refused-allocations` refuses each allocation in turn.
 #![tactic(auto)]
 
 #[cfg(test)]

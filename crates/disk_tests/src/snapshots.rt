@@ -519,7 +519,7 @@ fn is_written_and_found<D: Disk>(alloc: Global, disk: &mut D) -> Result<bool, Sn
     Ok(leads_to_long(alloc, &mut Snapshots::new(), disk)? && is_found(alloc, disk, &Newest::New)?)
 }
 
-/// `scripts/refused-allocations` refuses each allocation in turn, and then this ends in want of
+/// `scripts/runs/refused-allocations` refuses each allocation in turn, and then this ends out of
 /// memory.
 #[test]
 fn the_newest_head_leads_to_its_image(rt: HostRuntime) -> Result<(), SnapshotFault> {

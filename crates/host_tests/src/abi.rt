@@ -267,7 +267,7 @@ fn is_kept_so(alloc: Global, kept: &Kept) -> Result<bool, AllocError> {
     }
 }
 
-/// `scripts/refused-allocations` refuses each allocation in turn, and then this ends in that.
+/// `scripts/runs/refused-allocations` refuses each allocation in turn, and then this ends in that.
 #[test]
 fn what_is_kept_takes_memory(rt: HostRuntime) -> Result<(), AllocError> {
     for (place, kept) in KEPT.iter().enumerate() {

@@ -371,7 +371,7 @@ static IMAGES: [Row; 6] = [
     ),
 ];
 
-/// `scripts/refused-allocations` refuses each allocation in turn, and then this ends in want of
+/// `scripts/runs/refused-allocations` refuses each allocation in turn, and then this ends out of
 /// memory.
 #[test]
 fn images_come_back_with_memory(rt: HostRuntime) -> Result<(), ImageStop> {

@@ -109,7 +109,7 @@ fn are_in_order(alloc: Global) -> Result<bool, AllocError> {
     )
 }
 
-/// `scripts/refused-allocations` refuses each allocation in turn, and then this ends in that.
+/// `scripts/runs/refused-allocations` refuses each allocation in turn, and then this ends in that.
 #[test]
 fn answers_are_handed_out_in_order(rt: HostRuntime) -> Result<(), AllocError> {
     assert!(rt; are_in_order(rt.alloc())?);

@@ -293,7 +293,7 @@ fn count_told(alloc: Global, steps: &[Step]) -> Result<usize, AllocError> {
     count
 }
 
-/// `scripts/refused-allocations` refuses each allocation in turn, and then this ends in that.
+/// `scripts/runs/refused-allocations` refuses each allocation in turn, and then this ends in that.
 #[test]
 fn changes_with_memory(rt: HostRuntime) -> Result<(), AllocError> {
     for (name, steps) in &STORIES {

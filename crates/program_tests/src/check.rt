@@ -347,7 +347,7 @@ fn accept_small(alloc: Global) -> Result<(), Refused> {
     }
 }
 
-/// `scripts/refused-allocations` refuses each allocation in turn, and then the status is that
+/// `scripts/runs/refused-allocations` refuses each allocation in turn, and then the status is that
 /// of want of memory.
 #[test]
 fn small_module(rt: HostRuntime) -> Result<(), Fail> {

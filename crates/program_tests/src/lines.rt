@@ -117,7 +117,7 @@ fn prints_and_flushes(rt: HostRuntime) -> Result<(), Fail> {
     Ok(())
 }
 
-/// `scripts/refused-allocations` refuses each allocation in turn: the outlet takes memory
+/// `scripts/runs/refused-allocations` refuses each allocation in turn: the outlet takes memory
 /// once, and its longest line takes none.
 #[test]
 fn prints_with_memory(rt: HostRuntime) -> Result<(), LineFault> {
@@ -295,7 +295,7 @@ fn answer_to(alloc: Global, line: &[u8]) -> (bool, Option<LineFault>) {
     (is_answered, fault)
 }
 
-/// `scripts/refused-allocations` refuses each allocation in turn, and then the fault is want
+/// `scripts/runs/refused-allocations` refuses each allocation in turn, and then the fault is want
 /// of memory.
 #[test]
 fn answers_with_memory(rt: HostRuntime) -> Result<(), LineFault> {

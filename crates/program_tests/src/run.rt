@@ -297,8 +297,8 @@ fn zeros(alloc: Global) -> Result<MemDisk, Refused> {
     }
 }
 
-/// `scripts/refused-allocations` refuses each allocation of the creation and of the whole run in
-/// turn, and then it ends in the named want of memory.
+/// `scripts/runs/refused-allocations` refuses each allocation of the creation and of the whole run
+/// in turn, and then it ends out of memory, by that name.
 #[test]
 fn whole_run(rt: HostRuntime) -> Result<(), Refused> {
     let mut disk = zeros(rt.alloc())?;

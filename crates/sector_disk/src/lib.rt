@@ -21,7 +21,7 @@
 //!   gives a disk of so many sectors on a block device that has them (`device`, `room`). All begin
 //!   with an empty log (`fresh`), and answer Ok only with the file's lock (`locked`). No clause
 //!   says that `create` fills the file with zeros, and then syncs it and the folder that has its
-//!   entry (`folder_of`). `scripts/file-calls` shows that.
+//!   entry (`folder_of`). `scripts/runs/file-calls` shows that.
 //! - `OpenFault` says why they failed: another host has the file (`busy`), or what the operating
 //!   system said of the path (`open_cause`).
 //! - `rewrite` writes each sector of a disk back as it reads it, and syncs. At no moment does it
@@ -72,7 +72,7 @@
 //!   the end, and hands its place on: the length that the system tells of a block device is 0.
 //!   `create` makes a file as long by it (`is_resized_to`). That the file is then filled and synced
 //!   could be said so too, but not that it is in this order. So that is left to
-//!   `scripts/file-calls`.
+//!   `scripts/runs/file-calls`.
 //! - **A device is taken only where one is asked for**, since what it holds is lost. A call of its
 //!   own does so, and it refuses a path that isn't a block device. Only a handle that was found to
 //!   be one, and that has the lock, is filled (`fill_device`). A device has a length and a name
@@ -88,7 +88,7 @@
 //!   folder.
 //! - **The kit finishes what is cut short.** `write_all_at` and `read_exact_at` go on after a short
 //!   call. They, `sync_data` and `try_lock` call again after an interrupt. No clause says so: it is
-//!   read in the kit's code, and seen by `scripts/file-calls`.
+//!   read in the kit's code, and seen by `scripts/runs/file-calls`.
 //! - A file of another length than whole sectors is opened as far as they go, and its last bytes
 //!   stay as they are. An empty one is a disk of no sectors.
 #![tactic(auto)]

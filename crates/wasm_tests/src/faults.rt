@@ -65,7 +65,7 @@ fn is_printed_so(alloc: Global, fault: &Fault, text: &str) -> Result<bool, Alloc
     }
 }
 
-/// `scripts/refused-allocations` refuses each allocation in turn, and then this ends in that.
+/// `scripts/runs/refused-allocations` refuses each allocation in turn, and then this ends in that.
 #[test]
 fn are_printed_by_their_names(rt: HostRuntime) -> Result<(), AllocError> {
     for (fault, text) in &FAULTS {

@@ -203,7 +203,7 @@ fn count_told(alloc: Global, story: &Story) -> Result<Option<usize>, MemoryFault
     Ok(Some(count_seen(&mut memory, story.3)))
 }
 
-/// `scripts/refused-allocations` refuses each allocation in turn, and then this ends in want of
+/// `scripts/runs/refused-allocations` refuses each allocation in turn, and then this ends out of
 /// memory.
 #[test]
 fn memory_is_held_within_its_limit(rt: HostRuntime) -> Result<(), MemoryFault> {

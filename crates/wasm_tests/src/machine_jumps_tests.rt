@@ -328,7 +328,7 @@ fn leads_so(alloc: Global, row: &Row) -> Result<bool, Refused> {
     Ok(table.jump(row.2, row.3) == row.4)
 }
 
-/// `scripts/refused-allocations` refuses each allocation in turn, and then this ends in want of
+/// `scripts/runs/refused-allocations` refuses each allocation in turn, and then this ends out of
 /// memory.
 #[test]
 fn jumps_lead_where_the_standard_says(rt: HostRuntime) -> Result<(), Refused> {

@@ -467,7 +467,7 @@ fn asks_first(alloc: Global) -> Result<bool, Refused> {
     Ok(comes_to(alloc, echo.as_slice(), &outcome)?)
 }
 
-/// `scripts/refused-allocations` refuses each allocation in turn, and then this ends in want of
+/// `scripts/runs/refused-allocations` refuses each allocation in turn, and then this ends out of
 /// memory.
 #[test]
 fn machines_begin_and_call(rt: HostRuntime) -> Result<(), Refused> {

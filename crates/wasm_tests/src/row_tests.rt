@@ -25,7 +25,7 @@ fn are_words_held(alloc: Global) -> Result<bool, AllocError> {
     Ok(was_empty && slots.as_slice() == [0, 0, 7].as_slice())
 }
 
-/// `scripts/refused-allocations` refuses each allocation in turn, and then this ends in that.
+/// `scripts/runs/refused-allocations` refuses each allocation in turn, and then this ends in that.
 #[test]
 fn rows_and_slots_hold_what_is_pushed(rt: HostRuntime) -> Result<(), AllocError> {
     assert!(rt; is_pushed(rt.alloc())?);

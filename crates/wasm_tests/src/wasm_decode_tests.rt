@@ -712,7 +712,7 @@ static SIZES: [Long; 3] = [
     ("", "", "00", 2_097_153, "", "", Past(Bytes, 2_097_152)),
 ];
 
-/// `scripts/refused-allocations` refuses each allocation in turn, and then this ends in want of
+/// `scripts/runs/refused-allocations` refuses each allocation in turn, and then this ends out of
 /// memory.
 #[test]
 fn modules_are_read(rt: HostRuntime) -> Result<(), Refused> {

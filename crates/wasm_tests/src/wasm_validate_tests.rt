@@ -477,7 +477,7 @@ fn functions_read(alloc: Global, bytes: &[u8]) -> Result<usize, FrontFault> {
     Ok(count)
 }
 
-/// `scripts/refused-allocations` refuses each allocation in turn, and then this ends in want of
+/// `scripts/runs/refused-allocations` refuses each allocation in turn, and then this ends out of
 /// memory.
 #[test]
 fn modules_are_valid_or_not(rt: HostRuntime) -> Result<(), Refused> {

@@ -20,7 +20,7 @@
 //!   of the standard input, the machine's clock, and what the words say of seed and clock. Behind
 //!   it `report_input` says what is left of the lines.
 //! - Before all that it takes the numbers of standard streams that are closed (`StreamNumbers`), so
-//!   that no file which it opens gets one. No clause says so: `scripts/closed-streams` runs it.
+//!   that no file that it opens gets one. No clause says so: `scripts/runs/closed-streams` does.
 //! - What keeps a command from beginning is told by `report`, `report_unread` and
 //!   `report_unprepared`, and a fault of the words by `report_words`.
 //! - Each command is handed fresh printers, of which no write has failed. That of the error output

@@ -38,8 +38,8 @@
 //! - `Watcher`: who is told where the worker of a run stands. `serve` tells it once the worker is
 //!   recovered, and after each checkpoint of its pace (`told` of `rest_on`). Where the status is 0,
 //!   it was told of that end (`watched`). `StatusFile` is one, which replaces a small file. Its
-//!   line is `standing_line`. No clause says that the file gets it: `scripts/program-rows` shows
-//!   that.
+//!   line is `standing_line`. No clause says that the file gets it:
+//!   `scripts/runs/program-rows` shows that.
 //! - `laws::statuses_have_causes`: what each of these statuses comes from, and that a reader which
 //!   fails is told (`SaysOnDisk`). Where a number, memory or an answer was wanting, each line of
 //!   the worker was told (`HasToldItsLines`). `laws::refusals_have_reasons`: why the source of a
@@ -219,7 +219,7 @@
 //! - **`C1 Range` prints its bounds.** `configure` looks for what is out of them before it asks
 //!   `Config::new`, which answers only that something is. That both have the same bounds is proved.
 //! - **A refused line's number is counted by the reader of lines**, and printed after the run. That
-//!   it is the number of that line no clause says: `scripts/disk-rows` has rows of it. What is
+//!   it is the number of that line no clause says: `scripts/runs/disk-rows` has rows of it. What is
 //!   printed of requests that nobody took is a function of the bytes that were read ahead
 //!   (`SaysLeft`). Reading on could wait for ever, so nothing more is read.
 //! - **`--pages -1` prints a tip of `clap`, to write `-- -1`**, which is of no use here: it can't

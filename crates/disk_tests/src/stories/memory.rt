@@ -41,8 +41,8 @@ fn are_both_told(alloc: Global) -> Result<bool, Halt> {
     is_told_with_memory(&report)
 }
 
-/// `scripts/refused-allocations` refuses each allocation in turn. Then there is no report, or one
-/// of the lives has ended by want of memory, and the other one as it should.
+/// `scripts/runs/refused-allocations` refuses each allocation in turn. Then there is no report, or
+/// one of the lives has ended out of memory, and the other one as it should.
 #[test]
 fn a_story_with_memory(rt: HostRuntime) -> Result<(), Halt> {
     assert!(rt; are_both_told(rt.alloc())?);

@@ -2,7 +2,7 @@
 //! that meet no stop. A sweep stops a life, and lets its disk fail, at each call.
 //!
 //! Want of memory inside of a life is told in its report. So one test alone looks for it there, for
-//! `scripts/refused-allocations`.
+//! `scripts/runs/refused-allocations`.
 
 mod cuts;
 mod lives;

@@ -1,5 +1,5 @@
-//! A worker with 16 pages, whose calls take long enough to be measured. `scripts/durable-cost`
-//! counts what they cost.
+//! A worker with 16 pages, whose calls take long enough to be measured.
+//! `scripts/measure/durable-cost` counts what they cost.
 
 use crate::guests::{SPIN, blank};
 use crate::halt::Halt;

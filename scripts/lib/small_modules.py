@@ -1,0 +1,228 @@
+"""Small modules: some that are refused, each with its fault, and some that trap. They are spelled
+by the grammar of the first standard, and by no code."""
+import struct
+
+from lib import wasm_bytes as wasm
+
+# The sections of a module, in order.
+SECTIONS = {"types": 1, "imports": 2, "functions": 3, "tables": 4, "memories": 5, "globals": 6,
+            "exports": 7, "elements": 9, "bodies": 10, "data": 11}
+
+NOTHING, TAKES_ONE = wasm.function_type([], []), wasm.function_type([wasm.I32], [])
+START, MEMORY = wasm.exported(b"_start", 0, 0), wasm.exported(b"memory", 2, 0)
+
+I32_DIV_S, I32_LOAD = b"\x6d", b"\x28"
+
+
+def pages(count):
+    """A memory that begins with so many pages."""
+    return [b"\x00" + wasm.unsigned(count)]
+
+
+def behind(place):
+    """Where a segment of the table or of the memory begins."""
+    return b"\x00" + wasm.i32(place) + wasm.END
+
+
+def small(code=b"", **parts):
+    """The least accepted module with a code as its `_start`, and with other items in some of its
+    sections."""
+    items = {"types": [NOTHING], "functions": [wasm.unsigned(0)], "memories": pages(1),
+             "exports": [START, MEMORY], "bodies": [wasm.function_body([], code)], **parts}
+    return wasm.module_bytes([(it, items.get(name, [])) for name, it in SECTIONS.items()])
+
+
+# The least accepted module: 50 bytes, whose `_start` does nothing.
+LEAST = bytes.fromhex(
+    "0061736d01000000 010401600000 03020100 0503010001"
+    "071302065f737461727400 00066d656d6f72790200 0a040102000b")
+assert small() == LEAST
+
+
+def imports(name):
+    """A module that imports a call without parameters and results."""
+    start = wasm.exported(b"_start", 0, 1)
+    return small(imports=[wasm.imported_function(name, 0)], exports=[start, MEMORY])
+
+
+def calls_from_table(code, **parts):
+    """A module with a table of one place, and a code that calls from it."""
+    return small(code, tables=[b"\x70\x00\x01"], **parts)
+
+
+def called(place, kind):
+    """Calls the function of a place of the table, of a type."""
+    return wasm.i32(place) + wasm.CALL_INDIRECT + wasm.unsigned(kind) + b"\x00"
+
+
+# Modules with what `check` says of them: the fault, and its place if it has one.
+REFUSED = [
+    (b"", "B1 Malformed", 0),
+    # More types than the bytes of their section.
+    (b"\0asm\x01\0\0\0" + bytes.fromhex("0105ffffffff0f"), "B1 Malformed", 15),
+    # Instructions that came later: a null reference, and two that name a segment or a table.
+    (small(b"\xd0\x70" + wasm.DROP), "B1 Malformed", 49),
+    (small(wasm.i32(0) * 3 + b"\xfc\x08\x00\x00"), "B1 Malformed", 56),
+    (small(wasm.i32(0) * 3 + b"\xfc\x8c\x80\x00\x00\x00"), "B1 Malformed", 56),
+    # A count of data segments, which came later too.
+    (LEAST[:44] + b"\x0c\x01\x00" + LEAST[44:], "B1 Malformed", 44),
+    (small(bodies=[wasm.sized(b"\x01\x01\x7d" + wasm.END)]), "B2 Float", 50),
+    (small(wasm.i32(1) + wasm.IF + bytes([wasm.I32]) + wasm.i32(1) + wasm.END + wasm.DROP),
+     "V1 Typing", None),
+    (small(wasm.CALL + wasm.unsigned(1)), "V2 Index", None),
+    (small(wasm.i32(0) * 3 + wasm.MEMORY_COPY, memories=[], exports=[START]), "V2 Index", None),
+    (small(wasm.i32(0) * 3 + wasm.MEMORY_FILL, memories=[], exports=[START]), "V2 Index", None),
+    (small(wasm.i32(0) + I32_LOAD + b"\x03\x00" + wasm.DROP), "V3 Limits", None),
+    (small(exports=[START, MEMORY, MEMORY]), "V4 DuplicateExport", None),
+    (small(exports=[MEMORY]), "L1 NoStart", None),
+    (small(types=[TAKES_ONE]), "L1 NoStart", None),
+    (small(exports=[START]), "L2 NoMemory", None),
+    (imports(b"sock_accept"), "L3 UnknownImport", None),
+    (imports(b"fd_close"), "L4 ImportType", None),
+    (small(data=[behind(65_536) + wasm.sized(b"a")]), "L5 InitRange", None),
+    (calls_from_table(b"", elements=[behind(1) + wasm.vector([wasm.unsigned(0)])]),
+     "L5 InitRange", None),
+    (small(memories=pages(257)), "L6 TooManyPages", None),
+]
+
+# Modules with instructions of edition 2.0 that exit with 0, and after how many steps.
+EXITS = [
+    (small(wasm.i32(128) + b"\xc0" + wasm.DROP), 3),
+    (small(wasm.i32(0) * 3 + wasm.MEMORY_COPY), 4),
+    # The number after the prefix in three bytes, and in five.
+    (small(wasm.i32(0) * 3 + b"\xfc\x8a\x80\x00\x00\x00"), 4),
+    (small(wasm.i32(0) * 3 + b"\xfc\x8b\x80\x80\x80\x00\x00"), 4),
+]
+
+A_GLOBAL = bytes([wasm.I32]) + b"\x00" + wasm.i32(0) + wasm.END
+
+
+def table(entries):
+    """A table that begins with so many entries."""
+    return [b"\x70\x00" + wasm.unsigned(entries)]
+
+
+def locals_of(count):
+    """A body that declares so many locals in one run, and does nothing."""
+    return wasm.sized(b"\x01" + wasm.unsigned(count) + bytes([wasm.I32]) + wasm.END)
+
+
+# Modules that pass a limit by one (`B3 Limit`), with what there are too many of, and where that is
+# seen: at the count that is too great. Imported functions and instructions aren't counted before
+# they are read. There it is the kind of the import, or the opcode, that is one too many. Places are
+# counted along the module: LEAST has a header of 8 bytes, and sections of 6, 4, 5, 21 and 6.
+PAST = [
+    # The section's id, a size of two bytes, the count, the entry's size of two bytes, no locals,
+    # and 4,096 instructions. The `end` is the one too many.
+    (small(wasm.NOP * 4_096),
+     "4096 instructions in one expression", 44 + 1 + 2 + 1 + 2 + 1 + 4_096),
+    # The id, a size of two bytes, the count, the first type in three bytes, and `60`.
+    (small(types=[NOTHING, wasm.function_type([wasm.I32] * 257, [])]),
+     "256 parameters in one type", 8 + 1 + 2 + 1 + 3 + 1),
+    # The id and a size of two bytes.
+    (small(functions=[wasm.unsigned(0)] * 4_097), "4096 functions", 14 + 1 + 2),
+    # The id, a size of three bytes, the count in two, 4,096 imports of 34 bytes, and two names of
+    # 23 and 9 bytes.
+    (small(imports=[wasm.imported_function(b"fd_close", 0)] * 4_097),
+     "4096 functions", 14 + 1 + 3 + 2 + 4_096 * 34 + 23 + 9),
+    # The id, the size, the count, the entry's size, and how many runs of locals there are.
+    (small(bodies=[locals_of(257)]), "256 locals in one function", 44 + 1 + 1 + 1 + 1 + 1),
+    # The id, the size, the count, and two bytes: the type, and that there is no maximum.
+    (small(tables=table(4_097)), "4096 entries in a new table", 18 + 1 + 1 + 1 + 2),
+    # The id and a size of two bytes.
+    (small(globals=[A_GLOBAL] * 1_025), "1024 globals", 23 + 1 + 2),
+]
+
+# Modules at limits, which are accepted.
+ACCEPTED = [
+    LEAST,
+    small(wasm.NOP * 4_095),
+    *(module for module, _ in EXITS),
+    small(types=[NOTHING, wasm.function_type([wasm.I32] * 256, [])]),
+    small(functions=[wasm.unsigned(0)] * 4_096, bodies=[wasm.function_body([], b"")] * 4_096),
+    small(bodies=[locals_of(256)]),
+    small(tables=table(4_096)),
+    small(globals=[A_GLOBAL] * 1_024),
+    small(memories=pages(256)),
+    small(data=[behind(65_535) + wasm.sized(b"a")]),
+    calls_from_table(b"", elements=[behind(0) + wasm.vector([wasm.unsigned(0)])]),
+]
+
+# The traps by their numbers, from 1 on: the name, a module that comes to it, and after how many
+# steps. The one that traps counts.
+TRAPS = [
+    ("unreachable", small(wasm.UNREACHABLE), 1),
+    ("integer divide by zero", small(wasm.i32(1) + wasm.i32(0) + I32_DIV_S + wasm.DROP), 3),
+    ("integer overflow", small(wasm.i32(-(1 << 31)) + wasm.i32(-1) + I32_DIV_S + wasm.DROP), 3),
+    ("out of bounds memory access", small(wasm.i32(-1) + I32_LOAD + b"\x02\x01" + wasm.DROP), 2),
+    ("undefined element", calls_from_table(called(1, 0)), 2),
+    ("uninitialized element", calls_from_table(called(0, 0)), 2),
+    ("indirect call type mismatch", calls_from_table(
+        wasm.i32(0) + called(0, 1), types=[NOTHING, TAKES_ONE],
+        elements=[behind(0) + wasm.vector([wasm.unsigned(0)])]), 3),
+    # The call that would make frame 513.
+    ("stack exhausted", small(wasm.CALL + wasm.unsigned(0)), 512),
+]
+
+# Where `ASKS` keeps its times, its random bytes and their newline, and the count of what it wrote.
+TIMES, BYTES, NEWLINE, WRITTEN = 100, 116, 121, 24
+
+
+def asks():
+    """A module that looks at both clocks, draws five random bytes, and writes all that as a line:
+    its three answers in 4, 9 and 13 steps, the line in 19, and 20 in all."""
+    def call(number, *arguments):
+        return b"".join(arguments) + wasm.CALL + wasm.unsigned(number) + wasm.DROP
+
+    code = call(0, wasm.i32(0), wasm.i64(0), wasm.i32(TIMES))
+    code += call(0, wasm.i32(1), wasm.i64(0), wasm.i32(TIMES + 8))
+    code += call(1, wasm.i32(BYTES), wasm.i32(5))
+    code += call(2, wasm.i32(1), wasm.i32(0), wasm.i32(1), wasm.i32(WRITTEN))
+    kinds = [[wasm.I32, wasm.I64, wasm.I32], [wasm.I32] * 2, [wasm.I32] * 4]
+    names = [b"clock_time_get", b"random_get", b"fd_write"]
+    iovec = struct.pack("<II", TIMES, NEWLINE + 1 - TIMES)
+    return small(
+        types=[NOTHING, *(wasm.function_type(it, [wasm.I32]) for it in kinds)],
+        imports=[wasm.imported_function(*it) for it in zip(names, (1, 2, 3))],
+        exports=[wasm.exported(b"_start", 0, 3), MEMORY],
+        bodies=[wasm.function_body([], code)],
+        data=[behind(0) + wasm.sized(iovec), behind(NEWLINE) + wasm.sized(b"\n")])
+
+
+def memory_of_asks(text=None):
+    """The memory of that module after its line, or at its start."""
+    memory = bytearray(65_536)
+    memory[:8] = struct.pack("<II", TIMES, NEWLINE + 1 - TIMES)
+    memory[NEWLINE] = ord("\n")
+    if text is not None:
+        memory[WRITTEN : WRITTEN + 4] = struct.pack("<I", len(text) + 1)
+        memory[TIMES:NEWLINE] = text
+    return bytes(memory)
+
+
+# Where `flood` has the number of bytes that its first call wrote, with a newline after it, and
+# where the bytes of that call begin. Both calls name theirs by an iovec, at 0 and after that.
+TOLD, FLOOD = 16, 64
+
+
+def flood_memory(count):
+    """The two pages of memory with which `flood` begins."""
+    first = struct.pack("<5I", FLOOD, count, TOLD, 5, 0) + b"\n"
+    memory = first + bytes(32 - len(first)) + struct.pack("<II", 40, 8) + bytes(24)
+    return memory + b"\n" * count + bytes(2 * 65_536 - FLOOD - count)
+
+
+def flood(count):
+    """A module that writes so many newlines by one call, in its step 5. Then it writes what that
+    call gave it, four bytes and a newline, in step 11, and asks for a request after step 16."""
+    def call(number, *arguments):
+        return b"".join(map(wasm.i32, arguments)) + wasm.CALL + wasm.unsigned(number) + wasm.DROP
+
+    code = call(0, 1, 0, 1, TOLD) + call(0, 1, 8, 1, 24) + call(1, 0, 32, 1, 28)
+    names = [b"fd_write", b"fd_read"]
+    return small(
+        types=[NOTHING, wasm.function_type([wasm.I32] * 4, [wasm.I32])],
+        imports=[wasm.imported_function(name, 1) for name in names], memories=pages(2),
+        exports=[wasm.exported(b"_start", 0, 2), MEMORY],
+        bodies=[wasm.function_body([], code)],
+        data=[behind(0) + wasm.sized(flood_memory(count)[: FLOOD + count])])

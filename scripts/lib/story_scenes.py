@@ -1,0 +1,241 @@
+"""Scripts of `wasmhost story` and `wasmhost sweep`, each with what is printed of it, for
+`program-rows`.
+
+All of it was worked out by hand from docs/COMMANDS.md and docs/FORMATS.md. Images are those of
+`disk_form.py`.
+"""
+import hashlib
+from dataclasses import dataclass
+
+from model import disk_form as form
+from model.disk_form import echo_image, echo_image_behind
+from lib.small_modules import flood_memory, memory_of_asks
+
+
+@dataclass
+class Story:
+    """A script and a module, further words, and how the command has to end."""
+
+    script: str
+    module: str = "echo.wasm"
+    words: tuple = ()
+    status: int = 0
+    out: str = ""
+    err: str = ""
+    command: str = "story"
+
+
+def recovered(life, generation, counts, image):
+    """The line of a life that goes on, with its steps, answers and lines."""
+    steps, answers, lines = counts
+    digest = hashlib.sha256(image).hexdigest()
+    return (f"life {life} recovered generation {generation} steps {steps} answers {answers} "
+            f"lines {lines} image {digest}\n")
+
+
+def fresh(life, generation):
+    """The line of a life of `echo` that begins at the start."""
+    return recovered(life, generation, (0, 0, 0), echo_image())
+
+
+def behind(life, generation, texts, text):
+    """The line of a life of `echo` that begins after the step which has read a text, and before
+    that it has written back others."""
+    count = len(texts)
+    counts = 6 + 22 * count, count + 1, count
+    return recovered(life, generation, counts, echo_image_behind(texts, text))
+
+
+def refused(script, err, module="echo.wasm", words=(), status=3):
+    """A story that isn't run. Of some faults a second line says more."""
+    return Story(script, module, tuple(words), status, "", f"failed {err}\n")
+
+
+CREATED = "life 1 created\n"
+
+# A life of `echo` makes 206 calls until its worker is created: 2 look for one, 2 clear the super,
+# 68 write contents, heads and journal, 130 the image, 2 its head, and 2 the super. The next one
+# writes the record of `hello`, which ends at byte 505 of its sector. The one after it is the sync.
+HELLO, RECORD = "life\nrequest hello\nslice 20\n", 207
+
+LIVES = [
+    Story(""),
+    Story("life", out=CREATED),
+    Story(HELLO + "life\n", out=CREATED + "1 o hello\n" + behind(2, 2, [], b"hello")),
+    # Answers and acts are two lists, and the last line may lack its newline.
+    Story("life\nslice 20\nrequest hello\nlife\nslice 14",
+          out=CREATED + "1 o hello\n" + behind(2, 2, [], b"hello") + "1 o hello\n"),
+    Story(HELLO + "checkpoint\nlife\nslice 0\n",
+          out=CREATED + "1 o hello\n" + recovered(2, 3, (20, 1, 1), form.echo_process(
+              20, 1, 1, 20, (0,), form.echo_memory([b"hello"])))),
+    Story("life\nend\nslice 99\ncheckpoint\nlife\n",
+          out=CREATED + recovered(2, 3, (11, 1, 0), form.echo_image_at_end())),
+    # Two requests are replayed, and of the first one the line is printed again.
+    Story("life\nrequest hello\nrequest world\nslice 42\nlife\n",
+          out=CREATED + "1 o hello\n2 o world\n" + behind(2, 2, [b"hello"], b"world")
+          + "1 o hello\n"),
+]
+
+CUTS = [
+    Story(f"{HELLO}stop {RECORD} 504\nlife\nrequest world\nslice 20\n",
+          out=CREATED + fresh(2, 2) + "1 o world\n"),
+    Story(f"{HELLO}stop {RECORD} 505\nlife\nrequest world\nslice 20\n",
+          out=CREATED + behind(2, 2, [], b"hello") + "1 o hello\n"),
+    Story(f"{HELLO}stop {RECORD + 1} 0\ntears 504\nlife\n", out=CREATED + fresh(2, 2)),
+    Story(f"{HELLO}tears 505\nstop {RECORD + 1} 0\nlife\n",
+          out=CREATED + behind(2, 2, [], b"hello")),
+    # Of a write without a number all is left.
+    Story(f"{HELLO}stop {RECORD + 1} 0\nlife\n", out=CREATED + behind(2, 2, [], b"hello")),
+    # Lives that aren't opened. The first is cut at its first call, the second in the sync after
+    # the super, and the third in the write of the super.
+    Story("life\nstop 1 0\nlife\n", out="life 1 not opened\nlife 2 created\n"),
+    Story("life\nstop 206 0\nlife\n", out="life 1 not opened\n" + fresh(2, 2)),
+    Story("life\nstop 205 511\nlife\n", out="life 1 not opened\nlife 2 created\n"),
+    # One that is cut as it commits has printed a line again by then. Its recovery makes 137 calls
+    # before the commit, or up to 198 if it reads all of the journal, and 129 reads after that.
+    Story("life\nrequest hello\nrequest world\nslice 42\nlife\nstop 230 0\nlife\n",
+          out=CREATED + "1 o hello\n2 o world\nlife 2 not opened\n1 o hello\n"
+          + behind(3, 2, [b"hello"], b"world") + "1 o hello\n"),
+]
+
+# What the worker that asks for times and random bytes is given, in letters.
+REALTIME, MONOTONIC, RANDOM = b"REALTIME", b"MONOTONE", b"JklmN"
+TIMES = [int.from_bytes(it, "little") for it in (REALTIME, MONOTONIC)]
+ASKED = REALTIME + MONOTONIC + RANDOM
+FIRST = form.image((0,) * 5, (form.RUNNING, 0, 0), [(3, 0, ())], memory_of_asks())
+LAST = form.image((20, 3, 0, 1, TIMES[1]), (form.EXITED, 0, 0), [], memory_of_asks(ASKED))
+
+ANSWERS = [
+    Story(f"life\nrealtime {TIMES[0]}\nmonotonic 00{TIMES[1]}\nrandom 4A6b6C6d4e\nslice 99\n"
+          "checkpoint\nlife\nslice 1\n", "asks.wasm",
+          out=f"{CREATED}1 o {ASKED.decode()}\n" + recovered(2, 3, (20, 3, 1), LAST)),
+    # An answer that doesn't fit ends its life.
+    Story("life\nmonotonic 1\nslice 9\nlife\nslice 9\n", "asks.wasm",
+          out=CREATED + "life 1 ended N2 Source\n" + recovered(2, 2, (0, 0, 0), FIRST)),
+]
+
+# Calls of the disk that fail, and lines that are refused. The first checkpoint after a creation
+# makes 134 calls, and the sync of its head is the last of them.
+TROUBLES = [
+    Story(f"{HELLO}refuse 1\nlife\nslice 14\n",
+          out=CREATED + "1 o hello\nlife 1 ended N3 Outlet\n" + behind(2, 2, [], b"hello")
+          + "1 o hello\n"),
+    Story("life\ncheckpoint\nfail 340 0\nlife\n",
+          out=CREATED + "life 1 ended N1 Disk\n" + fresh(2, 3)),
+    # A write that fails leaves its prefix, and the next life finds that.
+    Story(f"{HELLO}fail {RECORD} 504\nlife\n",
+          out=CREATED + "life 1 ended N1 Disk\n" + fresh(2, 2)),
+    Story(f"{HELLO}fail {RECORD} 505\nlife\n",
+          out=CREATED + "life 1 ended N1 Disk\n" + behind(2, 2, [], b"hello")),
+    # Where one call is to be cut and to fail, it is cut.
+    Story(f"{HELLO}fail {RECORD} 504\nstop {RECORD} 505\nlife\n",
+          out=CREATED + behind(2, 2, [], b"hello")),
+    Story("life\nfail 1 0\nlife\n", out="life 1 not opened\nlife 2 created\n"),
+    # The second line that the life prints is that of its slice: its recovery has printed one.
+    Story("life\nrequest hello\nrequest world\nslice 42\nlife\nrefuse 2\nslice 14\n",
+          out=CREATED + "1 o hello\n2 o world\n" + behind(2, 2, [b"hello"], b"world")
+          + "1 o hello\n2 o world\nlife 2 ended N3 Outlet\n"),
+]
+
+# With a journal of 64 sectors `echo` is saved after 56 answers, as it asks for the next one. With
+# one more it isn't, and the next life computes all of them again.
+MANY = "life\n" + "request b\n" * 56 + "slice 2000\nlife\n"
+TOLD = [f"{number} o b\n" for number in range(1, 57)]
+SAVED = recovered(2, 3, (1_237, 56, 56), echo_image([b"b"] * 56))
+REPLAYED = behind(2, 2, [b"b"] * 55, b"b") + "".join(TOLD[:55])
+
+SIZES = [
+    Story(MANY, out=CREATED + "".join(TOLD) + SAVED),
+    Story(MANY, words=("--journal", "64"), out=CREATED + "".join(TOLD) + SAVED),
+    Story(MANY, words=("--journal", "65"), out=CREATED + "".join(TOLD) + REPLAYED),
+    # A page is no unit of files, and has another range.
+    refused("life\n", "L6 TooManyPages", "two_pages.wasm"),
+    refused("life\n", "L6 TooManyPages", "two_pages.wasm", ["--files", "2"]),
+    Story("life\n", "two_pages.wasm", ("--pages", "2"), out=CREATED),
+    Story("life\n", words=("--pages", "65", "--files", "1"), out=CREATED),
+    Story("life\n", words=("--pages", "1", "--files", "64"), out=CREATED),
+    *(refused("life\n", f"C1 Range\n{option} is from {bounds}", words=[option, number])
+      for option, number, bounds in [
+          ("--pages", "0", "1 to 256"), ("--pages", "257", "1 to 256"),
+          ("--files", "0", "1 to 64"), ("--files", "65", "1 to 64"),
+          ("--journal", "63", "64 to 65536"), ("--journal", "65537", "64 to 65536")]),
+]
+
+# One call writes 65,536 bytes at most, and each of them may be a line. So many come from one step,
+# and all of them are printed before the next one. A line that is refused ends the life, and the
+# next one begins again at line 1.
+MOST = 65_536
+FLOODED = [f"{number} o \n" for number in range(1, MOST + 1)]
+FLOOD = form.image((0,) * 5, (form.RUNNING, 0, 0), [(2, 0, ())], flood_memory(MOST + 1))
+AGAIN = recovered(2, 2, (0, 0, 0), FLOOD)
+
+
+def floods(script, out):
+    """A story of the guest that has one newline too many for one call."""
+    return Story(script, "flood.wasm", ("--pages", "2"), out=CREATED + out)
+
+
+FLOODS = [
+    floods("life\nslice 4\nlife\n", AGAIN),
+    floods("life\nslice 5\nlife\n", "".join(FLOODED) + AGAIN),
+    floods("life\nslice 11\nrefuse 40000\nlife\nslice 11\n",
+           "".join(FLOODED[:40_000]) + "life 1 ended N3 Outlet\n" + AGAIN + "".join(FLOODED)
+           + f"{MOST + 1} o \0\0\1\0\n"),
+]
+
+# Each form of a faulty line is in `program_tests`. Here it is the order of faults that counts.
+FAULTS = [
+    refused("life\nslice 20\nhello\n", "script line 3", status=2),
+    refused("slice 20\nlife\n", "script line 1", status=2),
+    refused("life\n\n", "script line 2", status=2),
+    refused("life\nstop 0 0\n", "script line 2", "missing.wasm", status=2),
+    refused("life\nfail 0 0\n", "script line 2", status=2),
+    refused("life\nrefuse 0\n", "script line 2", status=2),
+    refused("life\nfail 1 0\nfail 2 0\n", "script line 3", status=2),
+    refused("life\nrefuse 1\nrefuse 2\n", "script line 3", status=2),
+    refused("life\nend\nend 1", "script line 3", "/dev/null", ["--pages", "0"], 2),
+    refused("life\n", "K2 Io\nmissing.wasm: no such file or directory", "missing.wasm",
+            ["--pages", "0"], 4),
+    refused("life\n", "K2 Io\n.: is a directory", ".", status=4),
+    refused("life\n", "C1 Range\n--journal is from 64 to 65536", "/dev/null", ["--journal", "0"]),
+    refused("life\n", "B1 Malformed", "/dev/null"),
+    refused("", "B1 Malformed", "/dev/null"),
+]
+
+
+def swept(script, calls, lines, module="echo.wasm", words=("--fronts", "0,512"), fronts=2):
+    """A sweep of so many calls, all of which agree."""
+    name = "line" if lines == 1 else "lines"
+    out = f"swept {calls * fronts:,} cuts: {lines} {name}, each told with one text\n"
+    return Story(script, module, tuple(words), out=out, command="sweep")
+
+
+def unswept(script, err, module="echo.wasm", words=(), status=2):
+    """A sweep that isn't begun."""
+    return Story(script, module, tuple(words), status, "", f"{err}\n", "sweep")
+
+
+# A creation makes 206 calls, a line a write and a sync, and the first checkpoint 134 calls.
+TWO = "life\nrequest hello\nrequest again\nslice 42\ncheckpoint\n"
+SWEPT = [
+    swept("life\n", 206, 0, words=(), fronts=5),
+    swept(HELLO, 206 + 2, 1, words=("--fronts", "505"), fronts=1),
+    swept(TWO, 206 + 2 + 2 + 134, 2),
+    # The first of two lives, whose second request the second one has.
+    swept(HELLO + "life\nrequest again\nslice 42\n", 206 + 2, 2,
+          words=("--life", "1", "--fronts", "505"), fronts=1),
+    # Times and random bytes that were not kept are handed out again.
+    swept(f"life\nrealtime {TIMES[0]}\nmonotonic {TIMES[1]}\nrandom 4a6b6c6d4e\nslice 99\n",
+          206 + 2, 1, "asks.wasm", ("--fronts", "0"), 1),
+    *(unswept(f"{HELLO}{line}\n", "failed script line 4", "missing.wasm")
+      for line in ["stop 1 0", "fail 1 0", "refuse 1", "tears 1", "hello"]),
+    unswept("", "error: the script has no such life", "missing.wasm"),
+    unswept(HELLO, "error: the script has no such life", words=("--life", "2")),
+    *(unswept("life\nstop 1 0\n", "error: fronts are numbers from 0 to 512", "missing.wasm",
+              ("--fronts", fronts)) for fronts in ["", "513", "0,", "0 1", "a"]),
+    unswept(HELLO, "failed K2 Io\nmissing.wasm: no such file or directory", "missing.wasm",
+            status=4),
+    unswept(HELLO, "failed B1 Malformed", "/dev/null", status=3),
+]
+
+STORIES = LIVES + CUTS + ANSWERS + TROUBLES + SIZES + FLOODS + FAULTS + SWEPT

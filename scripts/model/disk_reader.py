@@ -1,0 +1,173 @@
+"""Reads the bytes of a worker's disk as docs/FORMATS.md says, by none of the program's code.
+
+`judged` says by which fault a disk is refused, or what `show` prints of it. It doesn't say whether
+the module and the image are accepted: those two rows of the table are left to the program.
+"""
+import hashlib
+import struct
+from dataclasses import dataclass, field
+
+from model.disk_form import (
+    AREA, AREA_PER_UNIT, END, MONOTONIC, PAYLOAD, RANDOM, REALTIME, SECTOR, dumped_disks, sectors)
+
+# The ranges of a configuration's numbers, and the most texts of a list and bytes of a text.
+RANGES = [range(1, 257), range(1, 65), range(64, 65_537)]
+TEXTS, TEXT = 64, 1_024
+
+# The longest payload of a record, and the bytes before it.
+PAYLOAD_OF_RECORD, BEFORE_PAYLOAD = 4_096, 11
+
+
+# What `show` prints.
+SHOWN = b"generation %d steps %d answers %d lines %d records %d\n"
+
+
+class Refused(Exception):
+    """What a disk is refused for."""
+
+
+def demand(holds, fault):
+    """Refuses the disk where something doesn't hold."""
+    if not holds:
+        raise Refused(fault)
+
+
+@dataclass
+class Judged:
+    """What is known of a disk: the first fault that isn't one of the module or of the image, the
+    contents if they have the right digest and form, the image if it is whole, and what `show`
+    prints if both are accepted. A fault that comes before those of the module leaves no contents.
+    """
+
+    fault: bytes = None
+    contents: bytes = None
+    image: bytes = None
+    generation: int = 0
+    steps: int = 0
+    lines: int = 0
+    records: list = field(default_factory=list)
+    shown: bytes = b""
+
+
+class Reader:
+    """Reads fields of some bytes. One that isn't there refuses the disk."""
+
+    def __init__(self, data, fault):
+        self.data, self.fault, self.place = data, fault, 0
+
+    def bytes(self, length):
+        """The next bytes."""
+        demand(self.place + length <= len(self.data), self.fault)
+        self.place += length
+        return self.data[self.place - length : self.place]
+
+    def number(self, length):
+        """The next number, of so many bytes."""
+        return int.from_bytes(self.bytes(length), "little")
+
+
+def texts(reader, is_right):
+    """Reads the texts of a configuration."""
+    count = reader.number(4)
+    demand(count <= TEXTS, reader.fault)
+    for _ in range(count):
+        length = reader.number(2)
+        demand(length <= TEXT, reader.fault)
+        text = reader.bytes(length)
+        demand(0 not in text and is_right(text), reader.fault)
+
+
+def configured(data):
+    """The pages, the file units and the journal's sectors of a configuration."""
+    reader = Reader(data, b"Y4 Damaged")
+    numbers = [reader.number(4) for _ in RANGES]
+    demand(all(it in among for it, among in zip(numbers, RANGES)), reader.fault)
+    texts(reader, lambda text: True)
+    texts(reader, lambda text: text.find(b"=") > 0)
+    demand(reader.place == len(data), reader.fault)
+    return numbers
+
+
+def head(disk, area):
+    """The generation of the head of an area, or none if it isn't complete."""
+    data = disk[(1 + area) * SECTOR : (2 + area) * SECTOR]
+    generation, place = struct.unpack_from("<QQ", data, 496)
+    is_complete = data[:8] == b"DWAREA.." and place == 1 and generation and generation % 2 == area
+    return generation if is_complete else None
+
+
+def scanned(journal, generation):
+    """The bytes of the records of a generation."""
+    data = b""
+    for number in range(len(journal) // SECTOR):
+        sector = journal[number * SECTOR : (number + 1) * SECTOR]
+        length, = struct.unpack_from("<H", sector)
+        belongs = struct.unpack_from("<QQ", sector, 496) == (generation, number + 1)
+        if not (belongs and 1 <= length <= PAYLOAD):
+            break
+        data += sector[2 : 2 + length]
+    return data
+
+
+def records(data):
+    """The records of some bytes up to the first that is none: step, kind and payload of each."""
+    place, found = 0, []
+    while place + BEFORE_PAYLOAD <= len(data):
+        kind, step, length = struct.unpack_from("<BQH", data, place)
+        lengths = {END: [0], REALTIME: [8], MONOTONIC: [8]}.get(kind, range(PAYLOAD_OF_RECORD + 1))
+        payload = data[place + BEFORE_PAYLOAD :][:length]
+        if not 1 <= kind <= RANDOM or length not in lengths or len(payload) < length:
+            break
+        place += BEFORE_PAYLOAD + length
+        found.append((step, kind, payload))
+    return found
+
+
+def judge(disk, found):
+    """Reads a disk in the order of the last table but two of docs/FORMATS.md."""
+    total, first = len(disk) // SECTOR, disk[:SECTOR]
+    is_worker = total and first[:8] == b"DWORKER!" and first[504:] == b"!REKROWD"
+    demand(is_worker, b"Y1 NotAWorker")
+    layout, before, module, content, area, journal = struct.unpack_from("<6I", first, 8)
+    demand(layout == 1, b"Y2 Version")
+    demand(content == sectors(before + module), b"Y4 Damaged")
+    demand(total >= 3 + content, b"Y3 TooSmall")
+    contents = bytes(disk[3 * SECTOR : 3 * SECTOR + before + module])
+    demand(hashlib.sha256(contents).digest() == first[32:64], b"Y4 Damaged")
+    pages, files, wanted = configured(contents[:before])
+    demand((area, journal) == (AREA + AREA_PER_UNIT * (pages + files), wanted), b"Y4 Damaged")
+    end = 3 + content + 2 * area
+    demand(total >= end + journal, b"Y3 TooSmall")
+    found.contents = contents
+    generations = [it for it in (head(disk, 0), head(disk, 1)) if it]
+    demand(generations, b"S2 Damaged")
+    found.generation = max(generations)
+    number = found.generation % 2
+    version, length, digest = struct.unpack_from("<IxxxxQ32s", disk, (1 + number) * SECTOR + 8)
+    demand(version == 1, b"Y2 Version")
+    demand(length <= area * SECTOR, b"S2 Damaged")
+    at = (3 + content + number * area) * SECTOR
+    image = bytes(disk[at : at + length])
+    demand(hashlib.sha256(image).digest() == digest, b"S2 Damaged")
+    kept = scanned(disk[end * SECTOR : (end + journal) * SECTOR], found.generation)
+    found.image, found.records = image, records(kept)
+
+
+def judged(disk):
+    """What has to be found on a disk of some bytes."""
+    found = Judged()
+    try:
+        judge(disk, found)
+    except Refused as why:
+        found.fault = why.args[0]
+        return found
+    if len(found.image) >= 40:
+        found.steps, answers, _, found.lines = struct.unpack_from("<4Q", found.image, 8)
+        row = found.generation, found.steps, answers, found.lines, len(found.records)
+        found.shown = SHOWN % row
+    return found
+
+
+# The two disks that docs/FORMATS.md has in hex.
+for _disk, _counts in zip(dumped_disks(), [(1, 0, 0, 0, 0), (3, 27, 1, 1, 0)], strict=True):
+    assert judged(_disk).shown == SHOWN % _counts, "a disk of docs/FORMATS.md is read wrongly"
