@@ -1,4 +1,3 @@
-pub mod ByForms
 pub mod Codes
 pub mod Pauses
 pub mod Turns
