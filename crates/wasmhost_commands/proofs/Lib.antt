@@ -28,3 +28,5 @@ pub mod FileLemmas
 pub mod OpeningLemmas
 mod SpellingLemmas
 mod InspectingLemmas
+mod ValueLemmas
+mod PlainLemmas
