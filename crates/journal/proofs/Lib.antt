@@ -3,4 +3,3 @@ pub mod RunLemmas
 pub mod RecordLemmas
 mod BarrierLemmas
 mod ExampleLemmas
-mod FilledLemmas

@@ -1,4 +1,3 @@
-pub mod Filled
 pub mod Packed
 pub mod State
 pub mod Steps

@@ -7,7 +7,7 @@ use wasmhost_commands::{CreateOrder, Order, RunOrder, StoryOrder, WordsFault, re
 /// Words, and the status of what is read: 0 for an order.
 type StatusRow = (&'static [&'static str], u8);
 
-static STATUSES: [StatusRow; 33] = [
+static STATUSES: [StatusRow; 31] = [
     (&["wasmhost"], 2),
     (&["wasmhost", "open", "a"], 2),
     (&["wasmhost", "check"], 2),
@@ -34,8 +34,6 @@ static STATUSES: [StatusRow; 33] = [
     (&["wasmhost", "show"], 2),
     (&["wasmhost", "inspect", "a.disk"], 0),
     (&["wasmhost", "inspect", "a.disk", "a"], 2),
-    (&["wasmhost", "inspect", "a.disk", "--json"], 0),
-    (&["wasmhost", "show", "a.disk", "--json"], 2),
     (&["wasmhost", "files", "a.disk"], 0),
     (&["wasmhost", "files", "a.disk", "a/b"], 0),
     (&["wasmhost", "files"], 2),

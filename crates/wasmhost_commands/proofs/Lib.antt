@@ -28,5 +28,3 @@ pub mod FileLemmas
 pub mod OpeningLemmas
 mod SpellingLemmas
 mod InspectingLemmas
-mod ValueLemmas
-mod PlainLemmas

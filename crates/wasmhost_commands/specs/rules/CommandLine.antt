@@ -67,13 +67,6 @@ device_rule = record (new_rule (codes "device")) {
   action = Some SetTrue;
 }
 
--- the flag `--json`
-abbrev pub json_rule : Rule
-json_rule = record (new_rule (codes "json")) {
-  long = Some (codes "json");
-  action = Some SetTrue;
-}
-
 -- ---- commands
 
 -- a command with the argument DISK
@@ -114,9 +107,9 @@ run_app = with_rule (with_rule seeded_run_app rewrite_rule) status_rule
 abbrev pub show_app : App
 show_app = disk_app (codes "show")
 
--- `inspect DISK`, with `--json` where it is wanted
+-- `inspect DISK`
 abbrev pub inspect_app : App
-inspect_app = with_rule (disk_app (codes "inspect")) json_rule
+inspect_app = disk_app (codes "inspect")
 
 -- `files DISK`, with PATH where it is wanted
 abbrev pub files_app : App
