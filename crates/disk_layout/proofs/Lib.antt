@@ -1,6 +1,6 @@
 pub mod FieldLemmas
 pub mod HeadLemmas
-pub mod LongRecordLemmas
+mod LongRecordLemmas
 mod TextLemmas
 pub mod ContentsLemmas
 pub mod ReadLemmas

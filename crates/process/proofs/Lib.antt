@@ -12,4 +12,3 @@ pub mod Starting
 pub mod Waiting
 pub mod Giving
 pub mod PartsTested
-pub mod Widening

@@ -14,4 +14,3 @@ pub mod MemoryKept
 pub mod Hosted
 pub mod Counted
 pub mod ReachedTyped
-pub mod WideningHolds

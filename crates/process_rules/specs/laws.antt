@@ -1,4 +1,3 @@
 pub mod Examples
 pub mod BehindExamples
 pub mod Laws
-pub mod WideningExamples

@@ -2,7 +2,6 @@ pub mod Examples
 pub mod ImageExamples
 pub mod ImageOrder
 pub mod Laws
-pub mod Marks
 pub mod Phases
 pub mod Reading
 pub mod Refusals

@@ -1,5 +1,4 @@
 pub mod Livings
-pub mod ComingUp
 pub mod Lines
 pub mod laws
 pub mod rules

@@ -24,7 +24,6 @@ pub mod Leavings
 pub mod MadeFiles
 pub mod ModuleLimits
 pub mod ServedOnDisk
-pub mod Upgradings
 pub mod Showings
 pub mod Statuses
 pub mod Texts

@@ -11,4 +11,3 @@ pub mod LifeCalls
 pub mod Endings
 pub mod Going
 pub mod Inspecting
-pub mod Upgrading

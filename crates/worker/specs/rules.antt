@@ -19,5 +19,4 @@ pub mod StoryDisks
 pub mod Surveys
 pub mod Told
 pub mod Unsynced
-pub mod Upgrades
 pub mod Wishes

@@ -64,7 +64,6 @@ fn worker_of(
                 alloc,
                 process,
                 store,
-                is_abreast: true,
             },
             replayed: 0,
             has_failed: false,

@@ -129,7 +129,6 @@ fn open_again<D: Disk>(
                 alloc,
                 process,
                 store,
-                is_abreast: false,
             },
             replayed,
             has_failed: false,

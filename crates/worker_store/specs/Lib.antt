@@ -2,4 +2,3 @@ pub mod rules
 pub mod laws
 pub mod Filling
 pub mod AreaSinks
-pub mod Judging
