@@ -95,7 +95,7 @@ class Worker:
         found = disk_reader.judged(disk)
         assert found.fault is None, f"{module.name}: {found.fault}"
         self.contents, self.generation, self.steps = found.contents, found.generation, found.steps
-        self.records, self.image = found.records, found.image
+        self.records, self.image, self.version = found.records, found.image, found.version
         self.places = ImagePlaces(found.image)
         # The digests of images that are accepted.
         self.images = {self.digest(area) for area in (0, 1) if disk_reader.head(disk, area)}
@@ -290,7 +290,8 @@ class DiskMutator:
         for _ in range(rng.choice([0, 1, 3, 60])):
             step += rng.choice([6, 22, 22, 22, 0, 1])
             found.append(some_record(rng, step))
-        data = b"".join(record(step % (1 << 64), kind, payload) for step, kind, payload in found)
+        data = b"".join(record(step % (1 << 64), kind, payload, worker.version)
+                        for step, kind, payload in found)
         cut = rng.choice([form.PAYLOAD, form.PAYLOAD, 100])
         for place, at in enumerate(range(0, min(len(data), 64 * cut), cut), 1):
             worker.form.keep(disk, worker.generation, place, data[at : at + cut])

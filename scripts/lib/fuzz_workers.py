@@ -5,7 +5,7 @@ import subprocess
 from dataclasses import dataclass
 
 from lib import wasm_bytes as wasm
-from model.disk_form import ROOT, Form, read
+from model.disk_form import LEAST_JOURNAL_OF_TWO, ROOT, Form, read
 from lib.fuzz_disks import Worker
 from lib.fuzz_modules import Module
 from lib.guest_runs import ECHO, ended, request_lines
@@ -73,12 +73,17 @@ def asked(name):
 @dataclass
 class Past:
     """What a worker has lived through: its module, its pages, the inputs of its runs, and the
-    arguments that it was created with."""
+    arguments that it was created with. Where it was upgraded then, the inputs of its later runs."""
 
     name: str
     runs: tuple = ()
     pages: int = 1
     words: tuple = ()
+    later: tuple = None
+
+    def journal(self):
+        """The sectors of its journal."""
+        return 64 if self.later is None else LEAST_JOURNAL_OF_TWO
 
 
 PAIR = request_lines([b"a", b"b"])
@@ -95,18 +100,15 @@ PASTS = [
     Past("notebook.wasm", (NOTES,), 3), Past("notebook.wasm", (NOTES + NO_REQUEST,), 3),
     Past("total-c.wasm", (request_lines([b"5", b"7"]) + NO_REQUEST,), 2),
     Past("draw.wasm", (NO_ROOM,), 2, (b"red", b"blue")),
+    Past("echo", later=()), Past("echo", (PAIR,), later=(LONG + NO_REQUEST,)),
+    Past("nested", (request_lines([b"a"]),), later=(PAIR + NO_REQUEST,)),
+    Past("notebook.wasm", (NOTES,), 3, later=()),
 ]
 
 
-def built(program, folder, past, module):
-    """The form and the bytes of the disk of a worker after its past."""
-    path, disk = os.path.join(folder, "module"), os.path.join(folder, "disk")
-    with open(path, "wb") as file:
-        file.write(module)
-    sizes = ["--pages", str(past.pages), "--files", "1", "--journal", "64"]
-    made = ended([program, "create", disk, path, *sizes, "--", *past.words])
-    assert made[0] == 0, (past, made)
-    for given in past.runs:
+def live(program, disk, runs):
+    """Runs a worker with each of these inputs."""
+    for given in runs:
         words = [program, "run", disk, "--clock", "5"]
         if given is NO_ROOM:
             with open("/dev/full", "wb") as full:
@@ -114,10 +116,25 @@ def built(program, folder, past, module):
                                stdin=subprocess.DEVNULL, check=False)
         else:
             ended(words, given)
+
+
+def built(program, folder, past, module):
+    """The form and the bytes of the disk of a worker after its past."""
+    path, disk = os.path.join(folder, "module"), os.path.join(folder, "disk")
+    with open(path, "wb") as file:
+        file.write(module)
+    sizes = ["--pages", str(past.pages), "--files", "1", "--journal", str(past.journal())]
+    made = ended([program, "create", disk, path, *sizes, "--", *past.words])
+    assert made[0] == 0, (past, made)
+    live(program, disk, past.runs)
+    if past.later is not None:
+        made = ended([program, "upgrade", disk])
+        assert made[0] == 0, (past, made)
+        live(program, disk, past.later)
     with open(disk, "rb") as file:
         data = file.read()
     os.remove(disk)
-    return Form(module, past.pages, 1, 64, past.words), data
+    return Form(module, past.pages, 1, past.journal(), past.words), data
 
 
 def right_ends(words, data, given):

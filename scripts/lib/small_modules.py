@@ -226,3 +226,29 @@ def flood(count):
         exports=[wasm.exported(b"_start", 0, 2), MEMORY],
         bodies=[wasm.function_body([], code)],
         data=[behind(0) + wasm.sized(flood_memory(count)[: FLOOD + count])])
+
+
+# Where `draws` has the letter that it prints, with its newline, and its random bytes.
+LETTER, DRAWN = 16, 64
+
+
+def memory_of_draws(letter=b"\0"):
+    """The memory of `draws` with its letter, behind its line, or at its start."""
+    memory = struct.pack("<III", LETTER, 2, 2 if letter != b"\0" else 0) + bytes(4)
+    memory += letter + b"\n"
+    return memory + bytes(65_536 - len(memory))
+
+
+def draws(length):
+    """A module that draws so many random bytes, in its step 4, and prints the letter of the error
+    of that call, `0` behind so many. It does so in step 12, and ends with step 14."""
+    code = wasm.i32(LETTER) + wasm.i32(DRAWN) + wasm.i32(length) + wasm.CALL + wasm.unsigned(0)
+    code += wasm.i32(ord("0")) + wasm.I32_ADD + wasm.STORE_8 + b"\x00"
+    code += b"".join(map(wasm.i32, (1, 0, 1, 8))) + wasm.CALL + wasm.unsigned(1) + wasm.DROP
+    kinds = [wasm.function_type([wasm.I32] * count, [wasm.I32]) for count in (2, 4)]
+    return small(
+        types=[NOTHING, *kinds],
+        imports=[wasm.imported_function(*it) for it in ((b"random_get", 1), (b"fd_write", 2))],
+        exports=[wasm.exported(b"_start", 0, 2), MEMORY],
+        bodies=[wasm.function_body([], code)],
+        data=[behind(0) + wasm.sized(memory_of_draws()[: LETTER + 2])])

@@ -43,7 +43,8 @@ class Facts:
     def __init__(self, disk):
         found = judged(disk)
         assert found.fault is None, found.fault
-        self.generation, self.records, self.image = found.generation, found.records, found.image
+        self.generation, self.version = found.generation, found.version
+        self.records, self.image = found.records, found.image
         before, = struct.unpack_from("<I", disk, 12)
         self.module = found.contents[before:]
         config = Fields(found.contents[:before])
@@ -89,7 +90,7 @@ class Facts:
     def told(self, waits):
         """What `inspect` prints."""
         yield "layout 1"
-        yield "version 1"
+        yield f"version {self.version}"
         yield f"module {len(self.module)}"
         yield f"digest {hashlib.sha256(self.module).hexdigest()}"
         yield from (f"pages {self.pages}", f"files {self.files}", f"journal {self.journal}")

@@ -22,6 +22,12 @@ RUNNING, EXITED, TRAPPED = 1, 2, 3
 # Kinds of records.
 REQUEST, END, REALTIME, MONOTONIC, RANDOM = range(1, 6)
 
+# Versions of a process, the sectors of a journal that takes the longest record of version 2, and
+# the length of a record's payload in each.
+ONE, TWO = 1, 2
+LEAST_JOURNAL_OF_TWO = 133
+LENGTHS = {ONE: "H", TWO: "I"}
+
 # Where the repository begins, and a row of a hex dump: a place, and the bytes there.
 ROOT = os.path.join(os.path.dirname(os.path.abspath(__file__)), "..", "..")
 ROW = re.compile(r"^ {6,}([0-9a-f]+) {2}(.+)$", re.MULTILINE)
@@ -72,10 +78,11 @@ class Form:
         return fields + bytes(LAST_MARK - len(fields)) + b"!REKROWD"
 
     def commit(self, disk, generation, image):
-        """Writes an image and its head into the bytes of a disk."""
+        """Writes an image and its head, of one version, into the bytes of a disk."""
         area = generation % 2
         put(disk, self.areas[area], padded(image, sectors(len(image))))
-        put(disk, 1 + area, head(generation, image))
+        version = TWO if image.startswith(b"DWIMAGE2") else ONE
+        put(disk, 1 + area, head(generation, image, version))
 
     def keep(self, disk, generation, place, records):
         """Writes the bytes of records into a sector of the journal."""
@@ -95,15 +102,16 @@ def put(disk, sector, data):
     disk[sector * SECTOR : sector * SECTOR + len(data)] = data
 
 
-def head(generation, image):
+def head(generation, image, version=ONE):
     """The head of an image."""
-    fields = b"DWAREA.." + struct.pack("<IxxxxQ", 1, len(image)) + hashlib.sha256(image).digest()
+    fields = b"DWAREA.." + struct.pack("<IxxxxQ", version, len(image))
+    fields += hashlib.sha256(image).digest()
     return fields + bytes(STAMP - len(fields)) + struct.pack("<QQ", generation, 1)
 
 
-def record(step, kind, payload=b""):
+def record(step, kind, payload=b"", version=ONE):
     """The record of an answer that a step has taken."""
-    return struct.pack("<BQH", kind, step, len(payload)) + payload
+    return struct.pack(f"<BQ{LENGTHS[version]}", kind, step, len(payload)) + payload
 
 
 def journal_sector(generation, place, records):
@@ -118,11 +126,11 @@ def stream(number, rights):
     return struct.pack("<IBQQHQQ", number, number, 0, 0, 0, rights, 0)
 
 
-def image(counts, state, frames, memory):
+def image(counts, state, frames, memory, version=ONE):
     """The image of a process without globals, files and unfinished lines, which has read all of
     its requests. Its counts are steps, answers, requests, lines and the last monotonic time. Its
     state is a phase, the code of its end, and whether the requests are at their end."""
-    data = b"DWIMAGE1" + struct.pack("<5QBIB", *counts, *state)
+    data = b"DWIMAGE%d" % version + struct.pack("<5QBIB", *counts, *state)
     data += struct.pack("<5I", 0, 0, 0, 0, len(frames))
     for function, position, slots in frames:
         data += struct.pack(f"<3I{len(slots)}Q", function, position, len(slots), *slots)
@@ -159,13 +167,16 @@ def echo_memory(texts_taken, text_read=None):
     return bytes(memory)
 
 
-def echo_process(steps, answers, lines, position, slots, memory):
-    """The image of `echo` somewhere in its `_start`, its function 2, after so many requests."""
-    counts = steps, answers, answers, lines, 0
-    return image(counts, (RUNNING, 0, 0), [(2, position, slots)], memory)
+def echo_process(counts, frame, memory, version=ONE):
+    """The image of `echo` somewhere in its `_start`, its function 2. Its counts are steps, requests
+    and lines. In version 2 its widening counts as an answer."""
+    steps, requests, lines = counts
+    answers = requests + (version == TWO)
+    return image((steps, answers, requests, lines, 0), (RUNNING, 0, 0), [(2, *frame)], memory,
+                 version)
 
 
-def echo_image(texts_taken=None):
+def echo_image(texts_taken=None, version=ONE):
     """The image of `echo` with one page: a fresh one, or one that has written back some texts and
     asks for the next.
 
@@ -173,10 +184,10 @@ def echo_image(texts_taken=None):
     the first time after 5 steps, and 22 steps later for each next text.
     """
     if texts_taken is None:
-        return echo_process(0, 0, 0, 0, (), echo_memory([]))
+        return echo_process((0, 0, 0), (0, ()), echo_memory([]), version)
     count = len(texts_taken)
     memory = echo_memory(texts_taken)
-    return echo_process(5 + 22 * count, count, count, 5, (0, 0, 1, 16), memory)
+    return echo_process((5 + 22 * count, count, count), (5, (0, 0, 1, 16)), memory, version)
 
 
 def echo_image_behind(texts_taken, text_read):
@@ -184,7 +195,7 @@ def echo_image_behind(texts_taken, text_read):
     call, 0, is the one slot of its frame."""
     count = len(texts_taken)
     memory = echo_memory(texts_taken, text_read)
-    return echo_process(6 + 22 * count, count + 1, count, 6, (0,), memory)
+    return echo_process((6 + 22 * count, count + 1, count), (6, (0,)), memory)
 
 
 def echo_image_at_end():
@@ -200,20 +211,26 @@ def read(*names):
 
 
 def dumped_disks():
-    """The two disks that docs/FORMATS.md has in hex: a worker of `echo` as it is created, and after
-    a run that takes the request `hello`."""
+    """The disks that docs/FORMATS.md has in hex: a worker of `echo` as it is created, and after a
+    run that takes the request `hello`; and one that was upgraded before such a run."""
     small = Form(read("examples", "echo.wasm"), 1, 1, 64)
     first = small.created(echo_image())
     second = bytearray(first)
     small.commit(second, 2, echo_image())
     small.commit(second, 3, echo_image([b"hello"]))
     small.keep(second, 2, 1, record(6, REQUEST, b"hello"))
-    return bytes(first), bytes(second)
+    roomy = Form(small.module, 1, 1, LEAST_JOURNAL_OF_TWO)
+    third = roomy.created(echo_image())
+    for generation, texts_taken, version in [
+            (2, None, ONE), (3, [], TWO), (4, [], TWO), (5, [b"hello"], TWO)]:
+        roomy.commit(third, generation, echo_image(texts_taken, version))
+    roomy.keep(third, 4, 1, record(6, REQUEST, b"hello", TWO))
+    return bytes(first), bytes(second), bytes(third)
 
 
 def dumped_rows():
-    """The rows that docs/FORMATS.md has of these two disks: places, and the bytes there."""
-    sections = read("docs", "FORMATS.md").decode().split("\n## ")[-2:]
+    """The rows that docs/FORMATS.md has of these disks: places, and the bytes there."""
+    sections = read("docs", "FORMATS.md").decode().split("\n## ")[-3:]
     return [[(int(at, 16), bytes.fromhex(row)) for at, row in ROW.findall(it)] for it in sections]
 
 

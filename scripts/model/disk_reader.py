@@ -8,18 +8,23 @@ import struct
 from dataclasses import dataclass, field
 
 from model.disk_form import (
-    AREA, AREA_PER_UNIT, END, MONOTONIC, PAYLOAD, RANDOM, REALTIME, SECTOR, dumped_disks, sectors)
+    AREA, AREA_PER_UNIT, END, LEAST_JOURNAL_OF_TWO, MONOTONIC, ONE, PAYLOAD, RANDOM, REALTIME,
+    SECTOR, TWO, dumped_disks, sectors)
 
 # The ranges of a configuration's numbers, and the most texts of a list and bytes of a text.
 RANGES = [range(1, 257), range(1, 65), range(64, 65_537)]
 TEXTS, TEXT = 64, 1_024
 
-# The longest payload of a record, and the bytes before it.
-PAYLOAD_OF_RECORD, BEFORE_PAYLOAD = 4_096, 11
+# By version: the longest payload of a record, the form of what stands before it, the fewest sectors
+# of a journal, and the mark of an image.
+PAYLOADS = {ONE: 4_096, TWO: 65_536}
+BEFORE_PAYLOAD = {ONE: struct.Struct("<BQH"), TWO: struct.Struct("<BQI")}
+JOURNALS = {ONE: 64, TWO: LEAST_JOURNAL_OF_TWO}
+MARKS = {ONE: b"DWIMAGE1", TWO: b"DWIMAGE2"}
 
 
 # What `show` prints.
-SHOWN = b"generation %d steps %d answers %d lines %d records %d\n"
+SHOWN = b"generation %d steps %d answers %d lines %d records %d version %d\n"
 
 
 class Refused(Exception):
@@ -43,6 +48,7 @@ class Judged:
     contents: bytes = None
     image: bytes = None
     generation: int = 0
+    version: int = 0
     steps: int = 0
     lines: int = 0
     records: list = field(default_factory=list)
@@ -109,22 +115,22 @@ def scanned(journal, generation):
     return data
 
 
-def records(data):
+def records(version, data):
     """The records of some bytes up to the first that is none: step, kind and payload of each."""
-    place, found = 0, []
-    while place + BEFORE_PAYLOAD <= len(data):
-        kind, step, length = struct.unpack_from("<BQH", data, place)
-        lengths = {END: [0], REALTIME: [8], MONOTONIC: [8]}.get(kind, range(PAYLOAD_OF_RECORD + 1))
-        payload = data[place + BEFORE_PAYLOAD :][:length]
+    place, found, before = 0, [], BEFORE_PAYLOAD[version]
+    while place + before.size <= len(data):
+        kind, step, length = before.unpack_from(data, place)
+        lengths = {END: [0], REALTIME: [8], MONOTONIC: [8]}.get(kind, range(PAYLOADS[version] + 1))
+        payload = data[place + before.size :][:length]
         if not 1 <= kind <= RANDOM or length not in lengths or len(payload) < length:
             break
-        place += BEFORE_PAYLOAD + length
+        place += before.size + length
         found.append((step, kind, payload))
     return found
 
 
 def judge(disk, found):
-    """Reads a disk in the order of the last table but two of docs/FORMATS.md."""
+    """Reads a disk in the order in which docs/FORMATS.md says it is judged."""
     total, first = len(disk) // SECTOR, disk[:SECTOR]
     is_worker = total and first[:8] == b"DWORKER!" and first[504:] == b"!REKROWD"
     demand(is_worker, b"Y1 NotAWorker")
@@ -144,13 +150,16 @@ def judge(disk, found):
     found.generation = max(generations)
     number = found.generation % 2
     version, length, digest = struct.unpack_from("<IxxxxQ32s", disk, (1 + number) * SECTOR + 8)
-    demand(version == 1, b"Y2 Version")
+    demand(version in MARKS, b"Y2 Version")
+    demand(journal >= JOURNALS[version], b"Y4 Damaged")
     demand(length <= area * SECTOR, b"S2 Damaged")
     at = (3 + content + number * area) * SECTOR
     image = bytes(disk[at : at + length])
     demand(hashlib.sha256(image).digest() == digest, b"S2 Damaged")
+    others = [mark for it, mark in MARKS.items() if it != version]
+    demand(not image.startswith(tuple(others)), b"Y4 Damaged")
     kept = scanned(disk[end * SECTOR : (end + journal) * SECTOR], found.generation)
-    found.image, found.records = image, records(kept)
+    found.version, found.image, found.records = version, image, records(version, kept)
 
 
 def judged(disk):
@@ -164,10 +173,11 @@ def judged(disk):
     if len(found.image) >= 40:
         found.steps, answers, _, found.lines = struct.unpack_from("<4Q", found.image, 8)
         row = found.generation, found.steps, answers, found.lines, len(found.records)
-        found.shown = SHOWN % row
+        found.shown = SHOWN % (*row, found.version)
     return found
 
 
-# The two disks that docs/FORMATS.md has in hex.
-for _disk, _counts in zip(dumped_disks(), [(1, 0, 0, 0, 0), (3, 27, 1, 1, 0)], strict=True):
+# The disks that docs/FORMATS.md has in hex.
+_COUNTS = [(1, 0, 0, 0, 0, ONE), (3, 27, 1, 1, 0, ONE), (5, 27, 2, 1, 0, TWO)]
+for _disk, _counts in zip(dumped_disks(), _COUNTS, strict=True):
     assert judged(_disk).shown == SHOWN % _counts, "a disk of docs/FORMATS.md is read wrongly"

@@ -1,6 +1,6 @@
 pub mod FieldLemmas
 pub mod HeadLemmas
-mod LongRecordLemmas
+pub mod LongRecordLemmas
 mod TextLemmas
 pub mod ContentsLemmas
 pub mod ReadLemmas

@@ -1,13 +1,13 @@
 -- Records of texts at the limit of each version, and one byte over it.
 use Rattle.std.proofs.Common.{◌≡◌, ℕ, ◌<◌, ◌≤◌, Bool, leb, Some, None, option_map, List, ◌++◌}
-use Rattle.std.proofs.Common.{length, take, refl, ap, ◌∙◌, arith}
+use Rattle.std.proofs.Common.{length, take, refl, ap, ◌∙◌, arith, lit≤}
 use Rattle.std.proofs.lemmas.Bool.{cond-true, le-leb, lt-leb}
 use Rattle.std.proofs.lemmas.List.{take_all}
 use Rattle.wasi_abi.specs.declared.answer.Answer.TheVariants as answer
 use Rattle.wasi_abi.specs.declared.version.Version.TheVariants.{One, Two}
-use Rattle.disk_layout.specs.rules.Journal.{answer_if, answer_of, record_at}
+use Rattle.disk_layout.specs.rules.Journal.{answer_if, answer_of, record_at, TakesRecords}
 use Rattle.disk_layout.specs.laws.RecordExamples.{RecordExamples, at_258, front_of_long}
-use Rattle.disk_layout.specs.laws.RecordExamples.{wide_front_of}
+use Rattle.disk_layout.specs.laws.RecordExamples.{wide_front_of, JournalsHaveRoom}
 
 taken : (limit len : ℕ) (text : List ℕ) → length text ≡ len → len ≤ limit
     → option_map at_258 (answer_of limit 1 (take len text)) ≡ Some (at_258 (answer.Request text))
@@ -63,6 +63,15 @@ too_long_in_two text long =
     (le-leb 65550 (length (wide_front_of 1 1 0 1 ++ text)) (omega (arith, long)))
     ∙ refused 65536 65537 text long (omega arith)
 
+-- ---- journals that take them
+
+pub journals_have_room : JournalsHaveRoom
+journals_have_room One sectors many takes = omega (arith, many)
+journals_have_room Two sectors many takes = takes
+
+too_few : TakesRecords Two 132 → ⊥
+too_few takes = omega (arith, takes)
+
 pub record_examples : RecordExamples
 record_examples = record {
   request = refl;
@@ -92,4 +101,6 @@ record_examples = record {
   long_in_two = long_in_two;
   longest_in_two = longest_in_two;
   too_long_in_two = too_long_in_two;
+  takes_wide = lit≤ tt;
+  too_few_for_wide = too_few;
 }

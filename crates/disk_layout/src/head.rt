@@ -1,17 +1,15 @@
 // The heads of the two areas.
 
 ghost use Rattle.std.specs.Prelude.{◌≡◌, ◌↔◌, ◌+◌, ◌<◌, ◌^◌, IsTrue};
-ghost use Rattle.disk_layout.specs.rules.Sectors.{head_bytes, head_of, IsComplete};
+ghost use Rattle.disk_layout.specs.rules.Sectors.{head_bytes, head_of, IsComplete, IsOfNumber};
 
 use crate::fields::{DIGEST_BYTES, digest_from, put, put_u32, put_u64, u32_from, u64_from};
 use crate::stamp::{GENERATION_AT, PLACE_AT, Stamp};
 use sector_disk::SECTOR_SIZE;
+use wasi_abi::Version;
 
 /// With it a head begins.
 pub const HEAD_MARK: [u8; 8] = *b"DWAREA..";
-
-/// The version of an image that is known.
-pub const IMAGE_VERSION: u32 = 1;
 
 /// Where the version of a head's image stands.
 pub const VERSION_AT: usize = 8;
@@ -59,6 +57,17 @@ impl Head {
             length_in_bytes: u64_from(sector, IMAGE_LENGTH_AT),
             digest: digest_from(sector, IMAGE_DIGEST_AT),
             generation: u64_from(sector, GENERATION_AT),
+        }
+    }
+
+    /// The version that it names, if one is known.
+    pub fn known_version(&self) -> Option<Version>
+        ensures { IsOfNumber self.now.version result }
+    {
+        match self.version {
+            1 => Some(Version::One),
+            2 => Some(Version::Two),
+            _ => None,
         }
     }
 

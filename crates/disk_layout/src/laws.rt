@@ -3,6 +3,7 @@
 ghost use Rattle.disk_layout.specs.rules.Contents.{HoldsWhatIsWritten};
 ghost use Rattle.disk_layout.specs.laws.Examples.{LayoutExamples};
 ghost use Rattle.disk_layout.specs.laws.RecordExamples.{RecordExamples, JournalExamples};
+ghost use Rattle.disk_layout.specs.laws.RecordExamples.{JournalsHaveRoom};
 ghost use Rattle.disk_layout.specs.laws.SectorExamples.{SectorExamples};
 ghost use Rattle.disk_layout.specs.laws.Heads.{WrittenIsComplete, HeadExamples};
 ghost use Rattle.disk_layout.specs.laws.Numbers.{LayoutNumbers};
@@ -21,6 +22,11 @@ pub fn worked_examples()
 /// What each number of the layout is, and each mark.
 pub fn layout_numbers_are()
     ensures { LayoutNumbers }
+{}
+
+/// A journal that takes the records of a version has room for the longest one.
+pub fn journals_have_room()
+    ensures { JournalsHaveRoom }
 {}
 
 /// What a sector shows where a write of a later generation over it is torn.

@@ -7,9 +7,11 @@
 //!   `journal_place` and `total_sectors` are those of heads, areas, journal, and the whole.
 //! - `Super`, `Head`, `Stamp`, `journal_sector`, `record_head`, `short_length`, `wide_length` and
 //!   `clock_bytes` are laid out byte by byte as defined. Their readers give the fields that the
-//!   definitions read: `read`, `shown_at`, `is_complete`, `is_of`, `used_length`,
+//!   definitions read: `read`, `known_version`, `shown_at`, `is_complete`, `is_of`, `used_length`,
 //!   `payload_length`, `record_step`, `clock_from`, `u16_from` and `u32_from`. `digest_of` is the
 //!   SHA-256 of configuration and module.
+//! - `takes_records` says whether a journal takes the longest record of a version. One that does
+//!   has room for it (`laws::journals_have_room`).
 //! - `write_super`, `write_contents`: a cut at any moment leaves of each sector some front, and
 //!   all others as they were (`any_moment`). An error says that the disk failed, or had no room
 //!   for the writes (`cause`). There are never more unsynced writes than before and these
@@ -30,14 +32,14 @@
 //! # Definitions to read
 //!
 //! In `specs/rules/`: `geometry_of`, `config_bytes` (`Places.antt`); `super_bytes`, `head_bytes`,
-//! `HasWorker`, `IsNewest`, `HoldsImage` (`Sectors.antt`); `record_bytes`, `scan`
+//! `HasWorker`, `IsNewest`, `HoldsImage` (`Sectors.antt`); `record_bytes`, `TakesRecords`, `scan`
 //! (`Journal.antt`); `contents_sectors` (`Contents.antt`); `FindsStored` (`Stored.antt`);
 //! `GivesContents` (`Held.antt`); `SpellsConfig` (`Spelled.antt`).
 //!
 //! # Who may touch what
 //!
 //! The marks, and the places of fields in supers, heads and stamps, are known here alone, each as
-//! one constant, as `IMAGE_VERSION` and `PAYLOAD_SIZE`. `journal`, `snapshot` and `worker_store`
+//! one constant, as `HEAD_MARK` and `PAYLOAD_SIZE`. `journal`, `snapshot` and `worker_store`
 //! use it, and `record_replay` its `Record`. `restart_theorem` cites the definitions. It stands on
 //! `sector_disk` and `wasi_abi`. Reading back and `config_bytes_of` take memory. Whatever fails, a
 //! read leaves the disk unwritten.
@@ -85,13 +87,13 @@ pub use contents::write_contents;
 pub use fault::LayoutFault;
 pub use fields::{DIGEST_BYTES, u16_from, u32_from};
 pub use geometry::{Geometry, MODULE_PLACE};
-pub use head::{Head, IMAGE_VERSION};
+pub use head::Head;
 pub use journal_sectors::{PAYLOAD_AT, PAYLOAD_SIZE, is_of, journal_sector, used_length};
 pub use reading::{Contents, config_from, read_contents};
 pub use record::{END_KIND, MONOTONIC_KIND, RANDOM_KIND, REALTIME_KIND, REQUEST_KIND, Record};
 pub use record_fields::{
     clock_bytes, clock_from, longest_record, payload_length, record_head, record_head_bytes,
-    record_step, short_length, wide_length,
+    record_step, short_length, takes_records, wide_length,
 };
 pub use stamp::Stamp;
 pub use stored::{Stored, digest_of, read_super, write_super};

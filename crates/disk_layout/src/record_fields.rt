@@ -1,12 +1,13 @@
 // The fields of a record, byte by byte.
 
-ghost use Rattle.std.specs.Prelude.{◌≡◌, ◌∷◌, ◌<◌, ◌≤◌, ◌^◌, length};
+ghost use Rattle.std.specs.Prelude.{◌≡◌, ◌↔◌, ◌∷◌, ◌<◌, ◌≤◌, ◌^◌, IsTrue, length};
 ghost use Rattle.guest_memory.specs.rules.Bytes.{number_of};
 ghost use Rattle.wasi_abi.specs.rules.Layouts.{u16_bytes, u32_bytes, u64_bytes, u64_at};
 ghost use Rattle.disk_layout.specs.declared.record_fields.TheConstants.{STEP_AT, PAYLOAD_LENGTH_AT};
 ghost use Rattle.disk_layout.specs.rules.Journal.{longest_record, payload_length};
-ghost use Rattle.disk_layout.specs.rules.Journal.{record_head_bytes};
+ghost use Rattle.disk_layout.specs.rules.Journal.{record_head_bytes, TakesRecords};
 
+use crate::PAYLOAD_SIZE;
 use crate::fields::{put_u16, put_u32, put_u64, u16_from, u32_from, u64_from};
 use wasi_abi::Version;
 
@@ -30,6 +31,16 @@ pub fn longest_record(version: Version) -> usize
     ensures { result ≡ longest_record version }
 {
     record_head_bytes(version) + version.text_limit()
+}
+
+/// Whether a journal of so many sectors takes the longest record of this version.
+pub fn takes_records(version: Version, sectors: u32) -> bool
+    ensures { IsTrue result ↔ TakesRecords version sectors }
+{
+    match version {
+        Version::One => true,
+        Version::Two => longest_record(Version::Two) <= PAYLOAD_SIZE * sectors as usize,
+    }
 }
 
 /// What stands before the length of a record's payload: its kind and its step.

@@ -36,7 +36,7 @@ module _ (v : Version) where
   length-spelled : (r : Record) → length (spelled_length r) ≡ length_bytes v
   length-spelled r = length-bytes_of (length_bytes v) (length (payload_of r.answer))
 
-  length-record : (r : Record) → length (record_bytes v r) ≡ record_head_bytes v
+  pub length-record : (r : Record) → length (record_bytes v r) ≡ record_head_bytes v
       + length (payload_of r.answer)
   length-record r =
       let field = length-spelled r in

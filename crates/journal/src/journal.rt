@@ -84,6 +84,14 @@ impl Journal {
         }
     }
 
+    /// The version of its records.
+    pub fn version(&self) -> Version
+        ensures { result ≡ self.now.version }
+    {
+        let Journal { version, .. } = self;
+        *version
+    }
+
     pub fn generation(&self) -> u64
         ensures { result ≡ self.now.generation }
     {

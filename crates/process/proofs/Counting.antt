@@ -3,8 +3,9 @@ use Rattle.std.proofs.Common.{◌≡◌, inl, inr, ℕ, suc, ◌+◌, ◌<◌, �
 use Rattle.std.proofs.Common.{[], Option, Some, None, refl, sym, ap, ◌∙◌, subst, arith}
 use Rattle.std.specs.Prelude.{Result, Ok, Err}
 use Rattle.wasi_abi.specs.declared.answer.Answer.{Answer}
-use Rattle.wasi_calls_rules.specs.Hosts.{Line}
-use Rattle.wasi_calls.specs.rules.Held.{HeldHost}
+use Rattle.wasi_abi.specs.declared.version.Version.{Version}
+use Rattle.wasi_calls_rules.specs.Hosts.{Line, Host}
+use Rattle.wasi_calls.specs.rules.Held.{HeldHost, ShowsHost}
 use Rattle.machine.specs.rules.Values.{MachineValue}
 use Rattle.process_rules.specs.Processes.{ProcessState, Guest}
 use Rattle.process_rules.specs.Runs.{Next, On, Over, Wants, Nowhere, next_of, taken, request_taken}
@@ -12,6 +13,7 @@ use Rattle.process_rules.specs.Runs.{stepped, LeadsTo, Moves}
 use Rattle.process_rules.specs.Owing.{RunsQuietly, none, more}
 use Rattle.process_rules.proofs.Counted.{closed_answers, closed_requests}
 use Rattle.process_rules.proofs.Growing.{move_counts}
+use Rattle.process_rules.proofs.Hosted.{move_version}
 use Rattle.process.specs.declared.stop.ProcessEnd.{ProcessEnd}
 use Rattle.process.specs.declared.stop.Stop.{Stop}
 use Rattle.process.specs.declared.stop.Stop.TheVariants as stop
@@ -29,6 +31,7 @@ pub record Counted (p q : ProcessState) (n : ℕ) : Type 0 where
   pub steps : q.steps ≡ p.steps + n
   pub answers : q.answers ≡ p.answers
   pub requests : q.requests ≡ p.requests
+  pub version : q.host.version ≡ p.host.version
 
 leads_answers : (guest : Guest) (next : Next) (given : Option Answer) (p q : ProcessState)
     → LeadsTo guest next given p q → q.answers ≡ p.answers + taken given
@@ -71,6 +74,7 @@ move_counted guest p q moves =
       steps = by.steps;
       answers = omega (arith, answers);
       requests = omega (arith, requests);
+      version = move_version guest p q None moves;
     }
 
 counted_on : (p m q : ProcessState) (n k : ℕ) → Counted p m n → Counted m q k → Counted p q (n + k)
@@ -80,8 +84,8 @@ counted_on p m q n k a b =
     record {
       steps = omega (arith, x, y);
       answers = b.answers ∙ a.answers;
-      requests = b.requests
-          ∙ a.requests;
+      requests = b.requests ∙ a.requests;
+      version = b.version ∙ a.version;
     }
 
 runs_counted : (guest : Guest) (p q : ProcessState) (n : ℕ) → RunsQuietly guest p n q
@@ -90,6 +94,7 @@ runs_counted guest p q n (none {p = p'}) = record {
   steps = omega arith;
   answers = refl;
   requests = refl;
+  version = refl;
 }
 runs_counted guest p q n (more {n = k} {p = p'} {q = m} {r = q'} move rest) =
     let all = counted_on p' m q 1 k (move_counted guest p' m move.moves)
@@ -132,6 +137,14 @@ module _ (guest : Guest) (p q : ProcessState) (fuel n : ℕ) (waiting : List Lin
 
 -- ---- what the process then shows
 
+-- where the process that is shown has kept its version, so has the host that shows it
+pub shown_version : (old held : HeldHost) (p q : ProcessState) → ShowsHost old p.host
+    → ShowsHost held q.host → q.host.version ≡ p.host.version
+    → held.host.version ≡ old.host.version
+shown_version old held p q a b same =
+    let version : Host → Version = λ h. h.version in
+    sym (ap version b.is) ∙ same ∙ ap version a.is
+
 pub parts_of : (v : ProcessValue) (guest : Guest) (p : ProcessState) → ShowsProcess v guest p
     → ShowsParts v.machine v.host guest p
 parts_of v guest p s = record {
@@ -166,6 +179,11 @@ module _ (old : ProcessValue) (machine : MachineValue) (held : HeldHost) (guest 
         ended = sym come.ended;
         closed = k.closed;
       }
+
+  pub same_version : held.host.version ≡ old.host.host.version
+  same_version =
+      let counted = comes_counted guest p come.process fuel n held.host.lines s come.comes in
+      shown_version old.host held p come.process shows.host come.shows.host counted.version
 
   abbrev quiet : ComesOn guest p come.process n held.host.lines → ComesQuietly after guest p
   quiet h = record {

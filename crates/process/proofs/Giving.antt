@@ -9,7 +9,9 @@ use Rattle.wasi_calls.specs.rules.Held.{HeldHost}
 use Rattle.machine.specs.rules.Values.{MachineValue}
 use Rattle.process_rules.specs.Processes.{ProcessState, Guest}
 use Rattle.process_rules.specs.Runs.{request_taken, Moves, IsWanted}
+use Rattle.wasi_abi.specs.rules.Versions.{widenings}
 use Rattle.process_rules.proofs.Counted.{one_request}
+use Rattle.process_rules.proofs.Hosted.{move_version}
 use Rattle.process.specs.declared.calling.Called.TheVariants as called
 use Rattle.process.specs.declared.fault.ProcessFault.{ProcessFault}
 use Rattle.process.specs.declared.fault.ProcessFault.TheVariants as fault
@@ -19,7 +21,7 @@ use Rattle.process.specs.rules.Values.{waiting_in}
 use Rattle.process.specs.rules.Stops.{CallsHost, EndsNot, TakesAnswer, GivesFor}
 use Rattle.process.specs.Parts.{ShowsParts, IsAtCall, HasFewLines}
 use Rattle.process.specs.Callings.{MakesCall, AnswersFor}
-use Rattle.process.proofs.Counting.{counted_by}
+use Rattle.process.proofs.Counting.{counted_by, shown_version}
 
 calls_host : (guest : Guest) (p : ProcessState) (c : Call) (arguments : List ℕ)
     → IsAtCall guest p.configuration c arguments → EndsNot guest p → CallsHost guest p
@@ -119,16 +121,20 @@ module _ (m new : MachineValue) (h held : HeldHost) (steps answers requests : �
         }
 
     pub is_process_given : steps + 1 < 2 ^ 63
-        → answers ≤ steps → requests ≤ answers → HasFewLines held → IsProcess given
+        → answers ≤ steps + widenings h.host.version → requests ≤ answers → HasFewLines held
+        → IsProcess given
     is_process_given few_steps few_answers few_requests few_lines =
         let t = takes_answer in
         let one : request_taken (Some answer) ≤ 1 = one_request answer in
+        let same = ap widenings
+        (shown_version h held p t.process shows.host t.shows.host
+        (move_version guest p t.process (Some answer) t.moves)) in
         record {
           guest = guest;
           process = t.process;
           shows = t.shows;
           few_steps = few_steps;
-          few_answers = omega (arith, few_answers);
+          few_answers = omega (arith, few_answers, same);
           few_requests = omega (arith, few_requests, counts, one);
           few_lines = few_lines;
         }

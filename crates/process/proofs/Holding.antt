@@ -1,5 +1,5 @@
 -- A call of the host leaves a machine the memory that it should have.
-use Rattle.std.proofs.Common.{◌≡◌, ℕ, ◌*◌, ◌≤◌, length, sym, ap, ◌∙◌, subst}
+use Rattle.std.proofs.Common.{◌≡◌, ◌*◌, ◌≤◌, length, sym, ap, ◌∙◌, subst}
 use Rattle.wasm_syntax.specs.declared.module.Module.{Module}
 use Rattle.guest_memory.specs.rules.Bytes.{page_size}
 use Rattle.wasi_calls.specs.rules.Calls.{IsAsLarge}

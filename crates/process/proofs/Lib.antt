@@ -12,3 +12,4 @@ pub mod Starting
 pub mod Waiting
 pub mod Giving
 pub mod PartsTested
+pub mod Widening

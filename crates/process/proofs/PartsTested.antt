@@ -46,7 +46,7 @@ tells_not false E tells = (λ e over. both_ways false refl (tells.1 over), λ no
 module _ (machine : MachineValue) (held : HeldHost) (steps answers requests : ℕ)
     (ended : Option ProcessEnd) where
   pub from_parts : (some : ShowsSome machine) → HasLinkableGuest machine
-      → AreCounted steps answers requests → HasFewLines held
+      → AreCounted held.host.version steps answers requests → HasFewLines held
       → (ended ≡ None → IsEnded some.configuration → ⊥)
       → IsProcess (process_of machine held steps answers requests ended)
   from_parts some linked counted few stays =
@@ -78,7 +78,7 @@ module _ (machine : MachineValue) (held : HeldHost) (steps answers requests : �
       }
 
   pub is_counted : IsProcess (process_of machine held steps answers requests ended)
-      → AreCounted steps answers requests
+      → AreCounted held.host.version steps answers requests
   is_counted is = record {
     few_steps = is.few_steps;
     few_answers = is.few_answers;

@@ -16,7 +16,9 @@
 //!   waiting call with it, as one step, and runs nothing else. After an error nothing has changed.
 //! - `advance` and `give` keep the machine's module (`guest`).
 //! - `released` takes the first lines off that wait, and changes nothing else.
-//! - `steps`, `answers`, `requests`, `lines`, `waiting`, `memory`, `machine`, `host` and
+//! - `widen` puts a process of version 1 into version 2: it shows what it showed, widened. That
+//!   takes no memory.
+//! - `steps`, `answers`, `requests`, `lines`, `waiting`, `version`, `memory`, `machine`, `host` and
 //!   `reached_end` say what it holds. Steps are below 2^63, and lines below 2^63 - 2, unfinished
 //!   ones counted. `P3 StepsSpent` is told where the next step would go beyond.
 //! - `laws::lines_run_out_by_calls_alone`: of all steps, a call alone that is done may add a line
@@ -24,9 +26,9 @@
 //!
 //! # Definitions to read
 //!
-//! In `specs/rules/`: `ProcessValue`, `ShowsProcess`, `IsProcess`, `HasStarted`, `HasReleased`
-//! (`Values.antt`); `AdvancesProcess`, `StopsFor`, `FailsFor`, `GivesAnswer`, `IsBeyond`
-//! (`Stops.antt`); `process_from`, `HasLinkableGuest` (`Restored.antt`). A process of the rules is
+//! In `specs/rules/`: `ProcessValue`, `ShowsProcess`, `IsProcess`, `HasStarted`, `HasReleased`,
+//! `HasWidened` (`Values.antt`); `AdvancesProcess`, `StopsFor`, `FailsFor`, `GivesAnswer`,
+//! `IsBeyond` (`Stops.antt`); `process_from`, `HasLinkableGuest` (`Restored.antt`). A process of the rules is
 //! `ProcessState` of `process_rules`. All other files of `specs/` are about the parts of one step.
 //!
 //! # Who may touch what

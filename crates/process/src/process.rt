@@ -49,7 +49,8 @@ impl Model for Process {
 
 impl Process {
     ghost use Rattle.machine.specs.rules.Values.{memory_of};
-    ghost use Rattle.process.specs.rules.Values.{IsProcess, HasStarted, HasReleased};
+    ghost use Rattle.wasi_abi.specs.declared.version.Version.TheVariants.{One};
+    ghost use Rattle.process.specs.rules.Values.{IsProcess, HasStarted, HasReleased, HasWidened};
     ghost use Rattle.process.specs.rules.Values.{ending_of, lines_in, waiting_in};
 
     /// The process of a module that begins. All memory that its machine needs is taken here. The
@@ -131,6 +132,22 @@ impl Process {
         ensures { option_map ending_of result ≡ self.now.ended }
     {
         self.ended
+    }
+
+    /// The version, which says how long requests and random bytes may be.
+    pub fn version(&self) -> Version
+        ensures { result ≡ self.now.host.host.version }
+    {
+        self.host.version()
+    }
+
+    /// It is of version 2 from now on, which counts as an answer.
+    pub fn widen(&mut self)
+        requires { self.old.host.host.version ≡ One }
+        ensures { HasWidened self.old self.new }
+    {
+        self.host.widen();
+        self.answers += 1;
     }
 
     /// The guest's memory.

@@ -35,12 +35,16 @@ pub struct ProcessParts {
     pub ended: Option<ProcessEnd>,
 }
 
-/// Whether steps can be counted, no more answers were taken than steps, and no more requests than
-/// answers.
-fn are_counted(steps: u64, answers: u64, requests: u64) -> bool
-    ensures { IsTrue result ↔ AreCounted steps answers requests }
+/// Whether steps can be counted, no more answers were taken than steps, but for the widening, and
+/// no more requests than answers.
+fn are_counted(parts: &ProcessParts) -> bool
+    ensures { IsTrue result ↔ AreCounted parts.now.host.host.version parts.now.steps
+        parts.now.answers parts.now.requests }
 {
-    steps < NUMBERS_END && answers <= steps && requests <= answers
+    let widenings = parts.host.version().widenings();
+    parts.steps < NUMBERS_END
+        && parts.answers <= parts.steps + widenings
+        && parts.requests <= parts.answers
 }
 
 /// Whether the lines can be numbered, unfinished ones counted.
@@ -72,7 +76,7 @@ fn is_process(parts: &ProcessParts) -> bool
     requires linked { HasLinkableGuest parts.now.machine }
     ensures { IsTrue result ↔ IsProcess (process_from parts.now) }
 {
-    if !are_counted(parts.steps, parts.answers, parts.requests) {
+    if !are_counted(parts) {
         return false;
     }
     if !has_few_lines(&parts.host) {

@@ -1,9 +1,12 @@
 -- A run with what is known of each process on it. What the same answers lead to is one of these.
 use Rattle.std.proofs.Common.{◌≡◌, ℕ, zero, suc, ◌+◌, List, [], ◌∷◌, ◌++◌, length, take as firsts}
-use Rattle.std.proofs.Common.{Some, None, refl, subst, arith}
+use Rattle.std.proofs.Common.{Some, None, refl, ◌≤◌, subst, arith}
 use Rattle.wasi_abi.specs.declared.answer.Answer.{Answer}
 use Rattle.process_rules.specs.Processes.{Ending, ProcessState, Guest}
-use Rattle.process_rules.specs.Runs.{Kept, Given, Moves, Runs, none, step, take}
+use Rattle.process_rules.specs.Runs.{Kept, Given, Wider, IsWidening, Moves, Runs, none, step, take}
+use Rattle.process_rules.specs.Runs.{widen}
+use Rattle.process_rules.specs.Behind.{IsNarrowTo}
+use Rattle.process_rules.proofs.Growing.{runs_count}
 use Rattle.process_rules.proofs.OneProcess.{moves_once, one_or_other}
 
 -- From the process after n steps and a answers, a run on these answers. P is known of each process
@@ -39,35 +42,66 @@ moved P n a n' a' q e f holds = subst (λ z. P z a' q) e (subst (λ z. P n z q) 
 
 -- ---- what is known of all that the same answers lead to
 
+-- Such a run widens nothing, and what is kept next widens nothing up to its end.
+up_to_end : (guest : Guest) (P : ℕ → ℕ → ProcessState → Type 0) (n a k s : ℕ) (p r : ProcessState)
+    (kept more : List Kept) → Along guest P n a p kept k r → IsNarrowTo more s
+    → IsNarrowTo (kept ++ more) s
+up_to_end guest P n a k s p r kept more (last holds) up = up
+up_to_end guest P n a k s p r kept more (goes {k = k'} {q = q} holds m rest) up =
+    up_to_end guest P (n + 1) a k' s q r kept more rest up
+up_to_end guest P n a k s p r kept more (takes holds m rest) up = tt
+
+-- so no process on it is widened
+not_widened : (guest : Guest) (P : ℕ → ℕ → ProcessState → Type 0) (n a k b s : ℕ)
+    (p r : ProcessState) (kept more others : List Kept) → Along guest P n a p kept k r
+    → IsNarrowTo more (suc r.steps) → IsWidening p s
+    → Wider s ∷ others ≡ firsts b (kept ++ more) → ⊥
+not_widened guest P n a k b s p r kept more others along up at e =
+    let counted = runs_count guest p r kept k (is_run guest P n a k p r kept along) in
+    let here = at.at in
+    let late = next_widens b (kept ++ more)
+    (up_to_end guest P n a k (suc r.steps) p r kept more along up) e in
+    omega (arith, counted, here, late)
+  where
+    next_widens : (b : ℕ) (list : List Kept) → IsNarrowTo list (suc r.steps)
+        → Wider s ∷ others ≡ firsts b list → suc r.steps ≤ s
+    next_widens zero list up e = absurd (cc)
+    next_widens (suc b) [] up e = absurd (cc)
+    next_widens (suc b) (Given x ∷ list) up e = absurd (cc)
+    next_widens (suc b) (Wider t ∷ list) up e =
+        let same : t ≡ s = cc in
+        subst (λ z. suc r.steps ≤ z) same up
+
 -- It ends, so any process that some of its answers lead to, and of what was kept after them, is on
--- it.
+-- it, where that widens nothing up to its end.
 all_known : (guest : Guest) (P : ℕ → ℕ → ProcessState → Type 0) (n a k : ℕ) (p r : ProcessState)
     (kept more prefix : List Kept) (b j : ℕ) (q : ProcessState) (why : Ending)
-    → r.ended ≡ Some why → Along guest P n a p kept k r → Runs guest p prefix j q
+    → r.ended ≡ Some why → IsNarrowTo more (suc r.steps) → Along guest P n a p kept k r
+    → Runs guest p prefix j q
     → prefix ≡ firsts b (kept ++ more) → P (n + j) (a + length prefix) q
-all_known guest P n a k p r kept more prefix b j q why over along (none {p = p'}) e =
+all_known guest P n a k p r kept more prefix b j q why over up along (none {p = p'}) e =
     moved P n a (n + 0) (a + 0) p' (omega arith) (omega arith)
     (first_known guest P n a k p' r kept along)
-all_known guest P n a k p r kept more prefix b j q why over (last holds) (step m rest) e =
+all_known guest P n a k p r kept more prefix b j q why over up (last holds) (step m rest) e =
     absurd (let running = m.running in cc)
-all_known guest P n a k p r kept more prefix b j q why over (last holds) (take m rest) e =
+all_known guest P n a k p r kept more prefix b j q why over up (last holds) (take m rest) e =
     absurd (let running = m.running in cc)
-all_known guest P n a k p r kept more prefix b j q why over
+all_known guest P n a k p r kept more prefix b j q why over up
     (goes {k = k'} {p = p'} {q = q'} holds m rest)
     (step {q = r'} {kept = prefix'} {n = j'} m' rest') e =
     let same : r' ≡ q' = moves_once guest p' r' q' None m' m in
     moved P ((n + 1) + j') (a + length prefix') (n + suc j') (a + length prefix') q (omega arith)
     refl
-    (all_known guest P (n + 1) a k' q' r kept more prefix' b j' q why over rest
+    (all_known guest P (n + 1) a k' q' r kept more prefix' b j' q why over up rest
     (subst (λ z. Runs guest z prefix' j' q) same rest') e)
-all_known guest P n a k p r kept more prefix b j q why over (goes {p = p'} {q = q'} holds m rest)
+all_known guest P n a k p r kept more prefix b j q why over up (goes {p = p'} {q = q'} holds m rest)
     (take {q = r'} {a = x} m' rest') e = absurd (one_or_other guest p' q' r' x m m')
-all_known guest P n a k p r kept more prefix b j q why over
+all_known guest P n a k p r kept more prefix b j q why over up
     (takes {p = p'} {q = q'} {x = x} holds m rest) (step {q = r'} m' rest') e =
     absurd (one_or_other guest p' r' q' x m' m)
-all_known guest P n a k p r kept more prefix zero j q why over (takes holds m rest)
+all_known guest P n a k p r kept more prefix zero j q why over up (takes holds m rest)
     (take m' rest') e = absurd (cc)
-all_known guest P n a k p r kept more prefix (suc b) j q why over
+all_known guest P n a k p r kept more prefix (suc b) j q why over up
     (takes {k = k'} {p = p'} {q = q'} {x = x} {kept = kept'} holds m rest)
     (take {q = r'} {a = y} {kept = prefix'} {n = j'} m' rest') e =
     let one : y ≡ x = cc in
@@ -76,14 +110,18 @@ all_known guest P n a k p r kept more prefix (suc b) j q why over
     let same : r' ≡ q' = moves_once guest p' r' q' (Some x) moves m in
     moved P ((n + 1) + j') ((a + 1) + length prefix') (n + suc j') (a + suc (length prefix')) q
     (omega arith) (omega arith)
-    (all_known guest P (n + 1) (a + 1) k' q' r kept' more prefix' b j' q why over rest
+    (all_known guest P (n + 1) (a + 1) k' q' r kept' more prefix' b j' q why over up rest
     (subst (λ z. Runs guest z prefix' j' q) same rest') others)
+all_known guest P n a k p r kept more prefix b j q why over up along
+    (widen {p = p'} {steps = s} {kept = others} at rest) e =
+    absurd (not_widened guest P n a k b s p' r kept more others along up at e)
 
 -- so it is of a whole run
 pub known_from_start : (guest : Guest) (P : ℕ → ℕ → ProcessState → Type 0) (k : ℕ)
     (p r : ProcessState) (kept more prefix : List Kept) (b j : ℕ) (q : ProcessState) (why : Ending)
-    → r.ended ≡ Some why → Along guest P 0 0 p kept k r → Runs guest p prefix j q
+    → r.ended ≡ Some why → IsNarrowTo more (suc r.steps) → Along guest P 0 0 p kept k r
+    → Runs guest p prefix j q
     → prefix ≡ firsts b (kept ++ more) → P j (length prefix) q
-known_from_start guest P k p r kept more prefix b j q why over along runs e =
+known_from_start guest P k p r kept more prefix b j q why over up along runs e =
     moved P (0 + j) (0 + length prefix) j (length prefix) q (omega arith) (omega arith)
-    (all_known guest P 0 0 k p r kept more prefix b j q why over along runs e)
+    (all_known guest P 0 0 k p r kept more prefix b j q why over up along runs e)

@@ -1,6 +1,6 @@
 -- What is reached counts its steps and its answers, and has ended where its program has.
 use Rattle.std.proofs.Common.{◌≡◌, ℕ, suc, ◌+◌, ◌≤◌, List, [], ◌∷◌, length, Option, Some, None}
-use Rattle.std.proofs.Common.{refl, sym, subst, arith}
+use Rattle.std.proofs.Common.{refl, sym, ap, subst, arith}
 use Rattle.std.specs.Prelude.{Ok, Err, reverse, map, slice_get}
 use Rattle.wasm_syntax.specs.declared.value.Value.{Value}
 use Rattle.wasm_syntax.specs.declared.module.Module.{Module}
@@ -12,16 +12,18 @@ use Rattle.wasi_abi.specs.declared.answer.Answer.{Answer}
 use Rattle.wasi_abi.specs.declared.answer.Answer.TheVariants as answer
 use Rattle.wasi_abi.specs.declared.call.Call.{Call}
 use Rattle.wasi_abi.specs.rules.Configs.{Settings}
+use Rattle.wasi_abi.specs.rules.Versions.{widenings}
 use Rattle.wasi_calls_rules.specs.Hosts.{Host}
 use Rattle.wasi_calls_rules.specs.Checks.{Refuses, Ends, Asks as Wishes, Ruling}
 use Rattle.wasi_calls_rules.specs.Rows.{row}
-use Rattle.process_rules.specs.Processes.{ProcessState, Guest, IsStart, closed_at}
+use Rattle.process_rules.specs.Processes.{Ending, ProcessState, Guest, IsStart, closed_at}
 use Rattle.process_rules.specs.Runs.{Next, On, Over, Wants, Nowhere, after_row, after_call}
 use Rattle.process_rules.specs.Runs.{after_rule, next_of, taken, request_taken, stepped, LeadsTo}
-use Rattle.process_rules.specs.Runs.{Moves, Kept, Runs, none, step, take}
+use Rattle.process_rules.specs.Runs.{Moves, Kept, widened, IsWidening, Runs, none, step, take}
+use Rattle.process_rules.specs.Runs.{widen}
 use Rattle.process_rules.specs.laws.Laws.{ReachedAreCounted, IsClosed, ReachedAreClosed}
 use Rattle.process_rules.proofs.Growing.{move_counts, runs_count, start_counts}
-use Rattle.process_rules.proofs.Hosted.{beginning}
+use Rattle.process_rules.proofs.Hosted.{beginning, move_version}
 
 -- ---- where a process ends
 
@@ -131,7 +133,7 @@ one_request (answer.Random bytes) = omega arith
 -- a process that has taken so many answers
 record HasTaken (k : ℕ) (p : ProcessState) : Type 0 where
   answers : p.answers ≡ k
-  few_answers : p.answers ≤ p.steps
+  few_answers : p.answers ≤ p.steps + widenings p.host.version
   few_requests : p.requests ≤ p.answers
   closed : IsClosedHere p
 
@@ -140,9 +142,10 @@ none_taken : (guest : Guest) (k : ℕ) (p q : ProcessState) → Moves guest p No
 none_taken guest k p q moves t =
     let on = move_counted guest p q None moves in
     let counted = move_counts guest p q None moves in
+    let kept_version = ap widenings (move_version guest p q None moves) in
     record {
       answers = omega (arith, on.answers, t.answers);
-      few_answers = omega (arith, on.answers, counted, t.few_answers);
+      few_answers = omega (arith, on.answers, counted, kept_version, t.few_answers);
       few_requests = omega (arith, on.answers, on.requests, t.few_requests);
       closed = on.closed;
     }
@@ -153,11 +156,28 @@ one_taken guest k p q a moves t =
     let on = move_counted guest p q (Some a) moves in
     let counted = move_counts guest p q (Some a) moves in
     let one = one_request a in
+    let kept_version = ap widenings (move_version guest p q (Some a) moves) in
     record {
       answers = omega (arith, on.answers, t.answers);
-      few_answers = omega (arith, on.answers, counted, t.few_answers);
+      few_answers = omega (arith, on.answers, counted, kept_version, t.few_answers);
       few_requests = omega (arith, on.answers, on.requests, t.few_requests, one);
       closed = on.closed;
+    }
+
+closed_still : (ending : Option Ending) (p : ProcessState) → IsClosed ending p
+    → IsClosed ending (widened p)
+closed_still None p closed = closed
+closed_still (Some why) p closed = closed
+
+widening_taken : (k s : ℕ) (p : ProcessState) → IsWidening p s → HasTaken k p
+    → HasTaken (k + 1) (widened p)
+widening_taken k s p at t =
+    let narrow : widenings p.host.version ≡ 0 = ap widenings at.narrow in
+    record {
+      answers = omega (arith, t.answers);
+      few_answers = omega (arith, narrow, t.few_answers);
+      few_requests = omega (arith, t.few_requests);
+      closed = closed_still p.ended p t.closed;
     }
 
 runs_taken : (guest : Guest) (k : ℕ) (p q : ProcessState) (kept : List Kept) (n : ℕ)
@@ -172,6 +192,10 @@ runs_taken guest k p q kept n
     let whole : k + 1 + length kept' ≡ k + suc (length kept') = omega arith in
     subst (λ j. HasTaken j q) whole
     (runs_taken guest (k + 1) next q kept' n' rest (one_taken guest k p' next a moves t))
+runs_taken guest k p q kept n (widen {p = p'} {steps = s} {kept = kept'} {n = n'} at rest) t =
+    let whole : k + 1 + length kept' ≡ k + suc (length kept') = omega arith in
+    subst (λ j. HasTaken j q) whole
+    (runs_taken guest (k + 1) (widened p') q kept' n' rest (widening_taken k s p' at t))
 
 -- ---- the beginning
 

@@ -1,7 +1,7 @@
 -- The worked example `echo` holds: the answers, step by step.
 use Rattle.std.proofs.Common.{◌≡◌, ◌≢◌, inl, ℕ, ◌+◌, ◌==◌, true, false, List, [], ◌∷◌, ◌++◌}
 use Rattle.std.proofs.Common.{replicate, codes, Option, Some, None, refl, sym, ap, subst, lit≤, suc}
-use Rattle.std.proofs.Common.{arith}
+use Rattle.std.proofs.Common.{arith, ◌<◌, length}
 use Rattle.wasm_syntax.specs.declared.value.Value.{Value}
 use Rattle.wasm_syntax.specs.declared.instruction.Instruction.{Instruction}
 use Rattle.wasm_syntax.specs.declared.instruction.Instruction.TheVariants as instr
@@ -13,11 +13,12 @@ use Rattle.wasm_semantics.specs.laws.Examples.{v}
 use Rattle.wasm_semantics.specs.Instantiation.{filled_memory, empty_memory}
 use Rattle.wasm_semantics.specs.Steps.{rule, loop_label, IsSettled, here, on}
 use Rattle.wasm_semantics.specs.Validity.{memories_of}
+use Rattle.wasi_abi.specs.declared.answer.Kind.{Kind}
 use Rattle.wasi_abi.specs.declared.answer.Kind.TheVariants as kind
 use Rattle.wasi_abi.specs.declared.answer.Answer.{Answer}
 use Rattle.wasi_abi.specs.declared.answer.Answer.TheVariants as answer
 use Rattle.wasi_abi.specs.declared.call.Call.TheVariants as call
-use Rattle.wasi_abi.specs.rules.Answers.{IsRequestText}
+use Rattle.wasi_abi.specs.rules.Answers.{Fits, IsRequestText}
 use Rattle.wasi_abi.specs.rules.Configs.{Settings}
 use Rattle.wasi_calls_rules.specs.Hosts as host
 use Rattle.wasi_calls_rules.specs.Checks.{Bytes}
@@ -25,9 +26,12 @@ use Rattle.wasi_abi.specs.declared.version.Version.TheVariants.{One}
 use Rattle.wasi_abi.specs.rules.Versions.{text_limit}
 use Rattle.process_rules.specs.Processes.{ProcessState, Guest, Exited, IsStart, host_of, closed}
 use Rattle.process_rules.specs.Runs.{On, Wants, next_of, after_rule, stepped, IsWanted, LeadsTo}
-use Rattle.process_rules.specs.Runs.{Moves, Given, Runs, Reaches, none, step, take}
+use Rattle.process_rules.specs.Runs.{Moves, Given, Wider, widened, Runs, Reaches, none, step, take}
+use Rattle.process_rules.specs.Runs.{widen}
 use Rattle.process_rules.specs.laws.Examples.{ComesTo, at_rest, abc_and_end, echo_memory, echo_end}
 use Rattle.process_rules.specs.laws.Examples.{EchoEnds}
+use Rattle.process_rules.specs.laws.WideningExamples.{EchoWantsMore}
+use Rattle.process_rules.proofs.Quiet.{runs_join}
 use Rattle.process_rules.proofs.Ended.{comes}
 use Rattle.process_rules.proofs.EchoValid.{load_there, store_there, again, copying, testing, round}
 use Rattle.process_rules.proofs.EchoValid.{looping, echo_spells, echo_is_valid}
@@ -377,6 +381,52 @@ echo_asks config = record {
   one_line = refl;
   wants_end = (kind.Request, wants_last config, tt);
 }
+
+-- ---- widened where it asks
+
+wants_wide : (config : Settings)
+    → next_of (guest_of config) (widened (at_read 5 0 (host_of config) first_memory)) None
+    ≡ Wants kind.Request
+unfolding first_memory
+wants_wide config = refl
+
+-- what version 1 wants is short
+wants_short : (config : Settings) (text : List ℕ) → 4096 < length text
+    → IsWanted (guest_of config) (at_read 5 0 (host_of config) first_memory)
+    (Some (answer.Request text)) → ⊥
+wants_short config text long wanted =
+    let first = wants_first config in
+    let asked : wanted.0 ≡ kind.Request =
+    let there = wanted.1 in cc in
+    let fits : IsRequestText 4096 text =
+    subst (λ (k : Kind). Fits 4096 k (answer.Request text)) asked wanted.2 in
+    let short = fits.short in
+    omega (arith, long, short)
+
+pub echo_wants_more : (config : Settings) → EchoWantsMore config
+unfolding echo_asks
+echo_wants_more config =
+    let start : ProcessState = after 0 0 (host_of config) (blank around first_memory) in
+    let asking : ProcessState = at_read 5 0 (host_of config) first_memory in
+    let five : Runs (guest_of config) start [] 5 asking = (echo_asks config).to_asking in
+    record {
+      asking = asking;
+      reached = record {
+        guest = guest_of config;
+        start = start;
+        begins = begins config;
+        runs = five;
+      };
+      too_long = wants_short config;
+      wide = record {
+        guest = guest_of config;
+        start = start;
+        begins = begins config;
+        runs = runs_join (guest_of config) start asking (widened asking) [] (Wider 5 ∷ []) 5 0
+            five (widen (record { narrow = refl; at = refl }) none);
+      };
+      wanted = λ text fits. (kind.Request, wants_wide config, fits);
+    }
 
 pub echo_ends : (config : Settings) → EchoEnds config
 echo_ends config =

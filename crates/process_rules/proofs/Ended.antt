@@ -1,13 +1,13 @@
 -- A process that has ended takes no further step.
-use Rattle.std.proofs.Common.{◌≡◌, ℕ, ◌≤◌, List, Some, None, sym, subst, arith}
+use Rattle.std.proofs.Common.{◌≡◌, ℕ, ◌≤◌, List, Some, None, refl, sym, subst, arith}
 use Rattle.wasm_syntax.specs.declared.module.Module.{Module}
 use Rattle.wasm_semantics.specs.Validity.{IsValid}
 use Rattle.wasi_abi.specs.rules.Configs.{Settings}
 use Rattle.process_rules.specs.Processes.{ProcessState, Guest, Ending}
-use Rattle.process_rules.specs.Runs.{Kept, Runs, none, step, take, Reaches}
+use Rattle.process_rules.specs.Runs.{Kept, widened, Runs, none, step, take, widen, Reaches}
 use Rattle.process_rules.specs.laws.Examples.{ComesTo}
 use Rattle.process_rules.proofs.OneStart.{start_once}
-use Rattle.process_rules.proofs.OneProcess.{moves_once, one_or_other, one_process}
+use Rattle.process_rules.proofs.OneProcess.{moves_once, one_or_other, never_late, one_process}
 
 none_longer : (guest : Guest) (p q r : ProcessState) (why : Ending) (kept : List Kept) (n k : ℕ)
     → q.ended ≡ Some why → Runs guest p kept n q → Runs guest p kept k r → k ≤ n
@@ -34,6 +34,15 @@ none_longer guest p q r why kept n k over
     none_longer guest q' q r why kept' n' k' over rest
     (subst (λ z. Runs guest z kept' k' r) same rest') in
     omega (arith, shorter)
+none_longer guest p q r why kept n k over
+    (step {p = p'} {q = q'} {kept = kept'} {n = n'} m rest) (widen at others) =
+    absurd (never_late guest p' q' q kept' n' m rest at refl)
+none_longer guest p q r why kept n k over (widen at rest)
+    (step {p = p'} {q = r'} {kept = kept'} {n = k'} m' rest') =
+    absurd (never_late guest p' r' r kept' k' m' rest' at refl)
+none_longer guest p q r why kept n k over (widen {p = p'} {kept = kept'} {n = n'} at rest)
+    (widen {n = k'} at' rest') =
+    none_longer guest (widened p') q r why kept' n' k' over rest rest'
 
 no_more : (m : Module) (config : Settings) (kept : List Kept) (n k : ℕ) (why : Ending)
     (p other : ProcessState) → IsValid m → p.ended ≡ Some why

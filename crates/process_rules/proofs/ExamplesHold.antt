@@ -30,7 +30,7 @@ use Rattle.process_rules.proofs.ExamplesValid.{hello_spells, hello_is_valid, alo
 
 -- ---- hello
 
-abbrev hi_line : Line
+abbrev pub hi_line : Line
 hi_line = record { stream = 1; text = codes "hi" }
 
 -- the memory of `hello` at its start: its one segment, and zeros
@@ -52,14 +52,14 @@ written : (config : Settings)
 unfolding first_memory last_memory
 written config = refl
 
-abbrev guest_of : Settings → Guest
+abbrev pub guest_of : Settings → Guest
 guest_of config = record {
   program = record hello_program { most_pages = config.pages };
   calls = call.FdWrite ∷ call.ProcExit ∷ [];
 }
 
 -- inside of `_start` after n steps
-abbrev after : Settings → ℕ → Bytes → List Line → List Value → Sequence → ProcessState
+abbrev pub after : Settings → ℕ → Bytes → List Line → List Value → Sequence → ProcessState
 after config n memory lines values rest = record {
   configuration = in_hello (record { memory = memory; globals = []; table = [] }) values rest;
   host = record (host_of config) { lines = lines };
@@ -69,13 +69,13 @@ after config n memory lines values rest = record {
   ended = None;
 }
 
-abbrev first : Settings → ProcessState
+abbrev pub first : Settings → ProcessState
 first config = after config 0 first_memory [] [] hello_sequence
 
-abbrev last : Settings → Bytes → ProcessState
+abbrev pub last : Settings → Bytes → ProcessState
 last config memory = record (hello_end config) { configuration = at_rest memory }
 
-begins : (config : Settings) → IsStart hello config (guest_of config) (first config)
+pub begins : (config : Settings) → IsStart hello config (guest_of config) (first config)
 begins config = record {
   entry = 2;
   first = (first config).configuration;
@@ -96,8 +96,8 @@ begins config = record {
 }
 
 -- a constant in front of another instruction is a step
-constant : (config : Settings) (n : ℕ) (memory : Bytes) (lines : List Line) (values : List Value)
-    (x : ℕ) (i : Instruction) (rest : Sequence)
+pub constant : (config : Settings) (n : ℕ) (memory : Bytes) (lines : List Line)
+    (values : List Value) (x : ℕ) (i : Instruction) (rest : Sequence)
     → Moves (guest_of config) (after config n memory lines values
     (Plain (const_32 x) (Plain i rest))) None (after config (n + 1) memory lines (v x
     ∷ values) (Plain i rest))
@@ -107,7 +107,7 @@ constant config n memory lines values x i rest = record {
   leads = (_, here refl, refl);
 }
 
-writes : (config : Settings)
+pub writes : (config : Settings)
     → Moves (guest_of config) (after config 4 first_memory [] (v 16 ∷ v 1 ∷ v 0 ∷ v 1
     ∷ []) (Plain (instr.Call 0) rest_behind_call)) None (after config 5 last_memory (hi_line
     ∷ []) (v 0 ∷ []) rest_behind_call)
@@ -117,18 +117,19 @@ writes config = record {
   leads = rw (written config) (_, here refl, refl);
 }
 
-drops : (config : Settings)
+pub drops : (config : Settings)
     → Moves (guest_of config) (after config 5 last_memory (hi_line ∷ []) (v 0
     ∷ []) rest_behind_call) None (after config 6 last_memory (hi_line
     ∷ []) [] (Plain (const_32 7) (Plain (instr.Call 1) Stop)))
 drops config = record { running = refl; wanted = tt; leads = (_, here refl, refl) }
 
-exits : (config : Settings)
+pub exits : (config : Settings)
     → Moves (guest_of config) (after config 7 last_memory (hi_line ∷ []) (v 7
     ∷ []) (Plain (instr.Call 1) Stop)) None (last config last_memory)
 exits config = record { running = refl; wanted = tt; leads = refl }
 
-eight : (config : Settings) → Runs (guest_of config) (first config) [] 8 (last config last_memory)
+pub eight : (config : Settings)
+    → Runs (guest_of config) (first config) [] 8 (last config last_memory)
 eight config =
     step (constant config 0 first_memory [] _ 1 _ _)
     (step (constant config 1 first_memory [] _ 0 _ _)
@@ -142,7 +143,7 @@ pub all_memory : last_memory ≡ hello_memory
 unfolding last_memory
 all_memory = refl
 
-hello_reaches : (config : Settings) → Reaches hello config [] 8 (last config last_memory)
+pub hello_reaches : (config : Settings) → Reaches hello config [] 8 (last config last_memory)
 hello_reaches config = record {
   guest = guest_of config;
   start = first config;

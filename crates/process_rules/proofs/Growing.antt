@@ -20,6 +20,7 @@ use Rattle.wasi_calls_rules.proofs.EmitsLines.{emits_none, rows_emit}
 use Rattle.process_rules.specs.Processes.{ProcessState, Guest, IsStart, closed, closed_at}
 use Rattle.process_rules.specs.Runs.{Next, On, Over, Wants, Nowhere, after_row, after_call}
 use Rattle.process_rules.specs.Runs.{after_rule, next_of, stepped, LeadsTo, Moves, none, step, take}
+use Rattle.process_rules.specs.Runs.{widened, widen}
 use Rattle.process_rules.specs.laws.Laws.{RunsCount, RunsEmit}
 
 pub emits_on : (g h k : Host) → Emits g h → Emits h k → Emits g k
@@ -135,6 +136,8 @@ runs_count guest p q kept n (take {p = p'} {q = next} {a = a} {kept = kept'} {n 
     let first = move_counts guest p' next (Some a) moves in
     let others = runs_count guest next q kept' m rest in
     omega arith
+runs_count guest p q kept n (widen {p = p'} {kept = kept'} {n = m} at rest) =
+    runs_count guest (widened p') q kept' m rest
 
 pub runs_emit : RunsEmit
 runs_emit guest p q kept n (none {p = p'}) = emits_none p'.host p'.host refl
@@ -144,3 +147,6 @@ runs_emit guest p q kept n (step {p = p'} {q = next} {kept = kept'} {n = m} move
 runs_emit guest p q kept n (take {p = p'} {q = next} {a = a} {kept = kept'} {n = m} moves rest) =
     emits_on p'.host next.host q.host (move_emits guest p' next (Some a) moves)
     (runs_emit guest next q kept' m rest)
+runs_emit guest p q kept n (widen {p = p'} {kept = kept'} {n = m} at rest) =
+    emits_on p'.host (widened p').host q.host (emits_none p'.host (widened p').host refl)
+    (runs_emit guest (widened p') q kept' m rest)

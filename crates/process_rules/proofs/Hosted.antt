@@ -1,5 +1,5 @@
 -- What is reached has a host, of bytes, configured as at the beginning, with few nodes.
-use Rattle.std.proofs.Common.{◌≡◌, ℕ, ◌+◌, ◌≤◌, List, [], ◌∷◌, Option, Some, None, refl, sym}
+use Rattle.std.proofs.Common.{◌≡◌, ℕ, ◌+◌, ◌≤◌, List, [], ◌∷◌, ◌++◌, Option, Some, None, refl, sym}
 use Rattle.std.proofs.Common.{ap, subst, ◌∙◌, ◌*◌, arith}
 use Rattle.std.specs.Prelude.{Ok, Err, reverse, map, slice_get}
 use Rattle.wasm_syntax.specs.declared.value.Value.{Value}
@@ -12,9 +12,10 @@ use Rattle.wasm_semantics.specs.Configuration.{Asks, Stuck}
 use Rattle.wasm_semantics.specs.Steps.{rule}
 use Rattle.wasi_abi.specs.declared.answer.Answer.{Answer}
 use Rattle.wasi_abi.specs.declared.call.Call.{Call}
-use Rattle.wasi_abi.specs.declared.version.Version.TheVariants.{One}
+use Rattle.wasi_abi.specs.declared.version.Version.TheVariants.{One, Two}
 use Rattle.wasi_abi.specs.rules.Answers.{AreBytes}
 use Rattle.wasi_abi.specs.rules.Configs.{Settings}
+use Rattle.wasi_abi.specs.rules.Versions.{text_limit}
 use Rattle.file_tree.specs.declared.limits.TheConstants.{UNIT_BYTES}
 use Rattle.wasi_calls_rules.specs.Hosts.{Host, IsHost}
 use Rattle.wasi_calls_rules.specs.Checks.{Refuses, Ends, Asks as Wishes, Done, Ruling}
@@ -29,13 +30,14 @@ use Rattle.wasi_calls_rules.proofs.HostBytes.{rows_keep_hosts_of_bytes}
 use Rattle.wasi_calls_rules.proofs.ShortInput.{rows_keep_input_short}
 use Rattle.wasi_calls_rules.proofs.KeepsHosts.{rows_keep_hosts}
 use Rattle.wasi_calls_rules.proofs.KeptLines.{nothing_unfinished}
-use Rattle.wasi_calls_rules.proofs.FirstHosts.{first_is_host}
+use Rattle.wasi_calls_rules.proofs.FirstHosts.{first_is_host, of_any_version}
 use Rattle.process_rules.specs.Processes.{ProcessState, Guest, IsStart, host_of, closed_at}
 use Rattle.process_rules.specs.Runs.{Next, On, Over, Wants, Nowhere, after_row, after_call}
-use Rattle.process_rules.specs.Runs.{after_rule}
-use Rattle.process_rules.specs.Runs.{next_of, stepped, LeadsTo, Moves, Kept, Runs, none, step, take}
+use Rattle.process_rules.specs.Runs.{after_rule, next_of, stepped, LeadsTo, Moves, Kept, widened}
+use Rattle.process_rules.specs.Runs.{Given, Wider, IsWidening, Runs, none, step, take, widen}
+use Rattle.process_rules.specs.Runs.{version_after}
 use Rattle.process_rules.specs.laws.Laws.{ReachedAreConfigured, NodesAreFew}
-use Rattle.process_rules.specs.laws.Laws.{ReachedVersions}
+use Rattle.process_rules.specs.laws.Laws.{ReachedVersions, WidenedOnce}
 use Rattle.process_rules.specs.laws.Laws.{ReachedInputIsShort, ReachedHaveHosts}
 use Rattle.process_rules.proofs.MemoryKept.{GoesToBytes, rule_bytes, settled_store}
 use Rattle.process_rules.proofs.MemoryKept.{begins_with_bytes}
@@ -130,6 +132,10 @@ move_follows guest p q given moves =
     (rule_follows guest (rule guest.program p.configuration) given p.configuration p.host)
     moves.leads
 
+pub move_version : (guest : Guest) (p q : ProcessState) (given : Option Answer)
+    → Moves guest p given q → q.host.version ≡ p.host.version
+move_version guest p q given moves = (move_follows guest p q given moves).version
+
 configured_on : (g h k : Host) → IsConfiguredAs g h → IsConfiguredAs h k → IsConfiguredAs g k
 configured_on g h k a b = record {
   room = b.room ∙ a.room;
@@ -147,15 +153,34 @@ runs_configured guest p q kept n
     (take {p = p'} {q = next} {a = a} {kept = kept'} {n = m} moves rest) =
     configured_on p'.host next.host q.host (move_follows guest p' next (Some a) moves).configured
     (runs_configured guest next q kept' m rest)
+runs_configured guest p q kept n (widen {p = p'} {kept = kept'} {n = m} at rest) =
+    configured_on p'.host (widened p').host q.host
+    (record { room = refl; arguments = refl; environment = refl })
+    (runs_configured guest (widened p') q kept' m rest)
 
-runs_version : (guest : Guest) (p q : ProcessState) (kept : List Kept) (n : ℕ)
-    → Runs guest p kept n q → q.host.version ≡ p.host.version
-runs_version guest p q kept n none = refl
-runs_version guest p q kept n (step {p = p'} {q = next} {kept = kept'} {n = m} moves rest) =
-    runs_version guest next q kept' m rest ∙ (move_follows guest p' next None moves).version
+-- a widened process stays in version 2
+pub runs_wide : (guest : Guest) (p q : ProcessState) (kept : List Kept) (n : ℕ)
+    → Runs guest p kept n q → p.host.version ≡ Two → q.host.version ≡ Two
+runs_wide guest p q kept n none wide = wide
+runs_wide guest p q kept n (step {p = p'} {q = next} {kept = kept'} {n = m} moves rest) wide =
+    runs_wide guest next q kept' m rest (move_version guest p' next None moves ∙ wide)
+runs_wide guest p q kept n
+    (take {p = p'} {q = next} {a = a} {kept = kept'} {n = m} moves rest) wide =
+    runs_wide guest next q kept' m rest (move_version guest p' next (Some a) moves ∙ wide)
+runs_wide guest p q kept n (widen {p = p'} {kept = kept'} {n = m} at rest) wide =
+    runs_wide guest (widened p') q kept' m rest refl
+
+-- one of version 1 comes to the version to which the kept answers lead
+pub runs_version : (guest : Guest) (p q : ProcessState) (kept : List Kept) (n : ℕ)
+    → Runs guest p kept n q → p.host.version ≡ One → q.host.version ≡ version_after kept
+runs_version guest p q kept n none first = first
+runs_version guest p q kept n (step {p = p'} {q = next} {kept = kept'} {n = m} moves rest) first =
+    runs_version guest next q kept' m rest (move_version guest p' next None moves ∙ first)
 runs_version guest p q kept n
-    (take {p = p'} {q = next} {a = a} {kept = kept'} {n = m} moves rest) =
-    runs_version guest next q kept' m rest ∙ (move_follows guest p' next (Some a) moves).version
+    (take {p = p'} {q = next} {a = a} {kept = kept'} {n = m} moves rest) first =
+    runs_version guest next q kept' m rest (move_version guest p' next (Some a) moves ∙ first)
+runs_version guest p q kept n (widen {p = p'} {kept = kept'} {n = m} at rest) first =
+    runs_wide guest (widened p') q kept' m rest refl
 
 runs_nodes : (guest : Guest) (p q : ProcessState) (kept : List Kept) (n : ℕ) → Runs guest p kept n q
     → q.host.files.next ≤ p.host.files.next + n
@@ -168,6 +193,15 @@ runs_nodes guest p q kept n (take {p = p'} {q = next} {a = a} {kept = kept'} {n 
     let one = (move_follows guest p' next (Some a) moves).nodes.most in
     let others = runs_nodes guest next q kept' m rest in
     omega (arith, one, others)
+runs_nodes guest p q kept n (widen {p = p'} {kept = kept'} {n = m} at rest) =
+    runs_nodes guest (widened p') q kept' m rest
+
+-- version 2 has room for what version 1 had
+widening_short : (s : ℕ) (p : ProcessState) → IsWidening p s → HasShortInput p.host
+    → HasShortInput (widened p).host
+widening_short s p at short =
+    let narrow : text_limit p.host.version ≡ 4096 = ap text_limit at.narrow in
+    omega (arith, narrow, short)
 
 runs_input : (guest : Guest) (p q : ProcessState) (kept : List Kept) (n : ℕ) → Runs guest p kept n q
     → HasShortInput p.host → HasShortInput q.host
@@ -177,6 +211,8 @@ runs_input guest p q kept n (step {p = p'} {q = next} {kept = kept'} {n = m} mov
 runs_input guest p q kept n (take {p = p'} {q = next} {a = a} {kept = kept'} {n = m} moves rest)
     short =
     runs_input guest next q kept' m rest ((move_follows guest p' next (Some a) moves).input short)
+runs_input guest p q kept n (widen {p = p'} {steps = s} {kept = kept'} {n = m} at rest) short =
+    runs_input guest (widened p') q kept' m rest (widening_short s p' at short)
 
 -- the process before its first step
 abbrev pub beginning : (c : Configuration) → Settings → ProcessState
@@ -217,7 +253,50 @@ reached_are_configured m config kept n p r =
 pub reached_versions : ReachedVersions
 reached_versions m config kept n p r =
     runs_version r.guest r.start p kept n r.runs
-    ∙ (start_follows m config r.guest r.start r.begins).version
+    (start_follows m config r.guest r.start r.begins).version
+
+-- a widened process is widened no more
+never_again : (guest : Guest) (p q : ProcessState) (whole front rest : List Kept) (n steps : ℕ)
+    → Runs guest p whole n q → p.host.version ≡ Two → whole ≡ front ++ Wider steps ∷ rest → ⊥
+never_again guest p q whole front rest n steps none wide e = nothing_else front e
+  where
+    nothing_else : (front : List Kept) → [] ≡ front ++ Wider steps ∷ rest → ⊥
+    nothing_else [] e = cc
+    nothing_else (x ∷ front) e = cc
+never_again guest p q whole front rest n steps
+    (step {p = p'} {q = next} {kept = whole'} {n = m} moves others) wide e =
+    never_again guest next q whole' front rest m steps others
+    (move_version guest p' next None moves ∙ wide) e
+never_again guest p q whole [] rest n steps (take moves others) wide e = cc
+never_again guest p q whole (x ∷ front) rest n steps
+    (take {p = p'} {q = next} {a = a} {kept = whole'} {n = m} moves others) wide e =
+    let behind : whole' ≡ front ++ Wider steps ∷ rest = cc in
+    never_again guest next q whole' front rest m steps others
+    (move_version guest p' next (Some a) moves ∙ wide) behind
+never_again guest p q whole front rest n steps (widen at others) wide e =
+    let narrow = at.narrow in cc
+
+runs_widen_once : (guest : Guest) (p q : ProcessState) (whole front rest : List Kept) (n steps : ℕ)
+    → Runs guest p whole n q → whole ≡ front ++ Wider steps ∷ rest → version_after front ≡ One
+runs_widen_once guest p q whole [] rest n steps run e = refl
+runs_widen_once guest p q whole (x ∷ front) rest n steps none e = absurd (cc)
+runs_widen_once guest p q whole (x ∷ front) rest n steps
+    (step {q = next} {kept = whole'} {n = m} moves others) e =
+    runs_widen_once guest next q whole' (x ∷ front) rest m steps others e
+runs_widen_once guest p q whole (Wider s ∷ front) rest n steps (take moves others) e = absurd (cc)
+runs_widen_once guest p q whole (Given x ∷ front) rest n steps
+    (take {q = next} {kept = whole'} {n = m} moves others) e =
+    let behind : whole' ≡ front ++ Wider steps ∷ rest = cc in
+    runs_widen_once guest next q whole' front rest m steps others behind
+runs_widen_once guest p q whole (Given x ∷ front) rest n steps (widen at others) e = absurd (cc)
+runs_widen_once guest p q whole (Wider s ∷ front) rest n steps
+    (widen {p = p'} {kept = whole'} {n = m} at others) e =
+    let behind : whole' ≡ front ++ Wider steps ∷ rest = cc in
+    absurd (never_again guest (widened p') q whole' front rest m steps others refl behind)
+
+pub widened_once : WidenedOnce
+widened_once m config front rest n steps p r =
+    runs_widen_once r.guest r.start p (front ++ Wider steps ∷ rest) front rest n steps r.runs refl
 
 pub nodes_are_few : NodesAreFew
 nodes_are_few m config kept n p r =
@@ -330,6 +409,18 @@ move_holds guest p q given moves k =
     (rule_holds guest (rule guest.program p.configuration) given p.configuration p.host
     (rule_bytes guest.program p.configuration k.memory_bytes) k) moves.leads
 
+pub widened_holds : (p : ProcessState) → ProcessHolds p → ProcessHolds (widened p)
+widened_holds p k = record {
+  memory_bytes = k.memory_bytes;
+  of_bytes = record {
+    files = k.of_bytes.files;
+    unread = k.of_bytes.unread;
+    arguments = k.of_bytes.arguments;
+    environment = k.of_bytes.environment;
+  };
+  host = of_any_version p.host Two k.host;
+}
+
 runs_hold : (guest : Guest) (p q : ProcessState) (kept : List Kept) (n : ℕ) → Runs guest p kept n q
     → ProcessHolds p → ProcessHolds q
 runs_hold guest p q kept n none k = k
@@ -337,6 +428,8 @@ runs_hold guest p q kept n (step {p = p'} {q = next} {kept = kept'} {n = m} move
     runs_hold guest next q kept' m rest (move_holds guest p' next None moves k)
 runs_hold guest p q kept n (take {p = p'} {q = next} {a = a} {kept = kept'} {n = m} moves rest) k =
     runs_hold guest next q kept' m rest (move_holds guest p' next (Some a) moves k)
+runs_hold guest p q kept n (widen {p = p'} {kept = kept'} {n = m} at rest) k =
+    runs_hold guest (widened p') q kept' m rest (widened_holds p' k)
 
 pub start_holds : (m : Module) (config : Settings) (guest : Guest) (p : ProcessState) → IsValid m
     → IsOfBytes (host_of config) → IsStart m config guest p → ProcessHolds p

@@ -14,3 +14,4 @@ pub mod MemoryKept
 pub mod Hosted
 pub mod Counted
 pub mod ReachedTyped
+pub mod WideningHolds

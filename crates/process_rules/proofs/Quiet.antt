@@ -9,8 +9,8 @@ use Rattle.wasm_semantics.specs.Steps.{more as more_steps, Advances}
 use Rattle.wasi_calls_rules.specs.Hosts.{Host}
 use Rattle.process_rules.specs.Processes.{Ending, ProcessState, Guest, Exited, Trapped, over}
 use Rattle.process_rules.specs.Processes.{closed, closed_at}
-use Rattle.process_rules.specs.Runs.{Given, after_rule, stepped, LeadsTo, Moves, Runs}
-use Rattle.process_rules.specs.Runs.{none as no_run, step, take}
+use Rattle.process_rules.specs.Runs.{Given, widened, after_rule, stepped, LeadsTo, Moves}
+use Rattle.process_rules.specs.Runs.{Runs, none as no_run, step, take, widen}
 use Rattle.process_rules.specs.Behind.{Syncs}
 use Rattle.process_rules.specs.Owing.{MovesQuietly, RunsQuietly, none, more}
 use Rattle.process_rules.specs.laws.Laws.{RunsJoin, QuietRunsJoin, QuietRunsAreRuns, RulesAreQuiet}
@@ -31,6 +31,8 @@ runs_join guest p q r front rest n k
     let same : suc (m + k) ≡ suc m + k = omega arith in
     subst (λ z. Runs guest p' ((Given answer ∷ kept) ++ rest) z r) same
     (take moves (runs_join guest next q r kept rest m k a b))
+runs_join guest p q r front rest n k (widen {p = p'} {steps = s} {kept = kept} {n = m} at a) b =
+    widen at (runs_join guest (widened p') q r kept rest m k a b)
 
 pub quiet_runs_join : QuietRunsJoin
 quiet_runs_join guest p q r n k (none {p = p'}) b =

@@ -44,10 +44,11 @@ use Rattle.process_rules.specs.Processes.{closed_at}
 use Rattle.process_rules.specs.Runs.{Next, On, Over, Wants, Nowhere, given_by, after_row}
 use Rattle.process_rules.specs.Runs.{after_call}
 use Rattle.process_rules.specs.Runs.{after_rule, next_of, stepped, LeadsTo, Moves, Kept, Runs, none}
-use Rattle.process_rules.specs.Runs.{step, take}
+use Rattle.process_rules.specs.Runs.{step, take, widened, widen}
 use Rattle.process_rules.specs.laws.Laws.{OffersCalls, IsSmallEnding, IsTypedProcess}
 use Rattle.process_rules.specs.laws.Laws.{ReachedAreTyped}
-use Rattle.process_rules.proofs.Hosted.{Holds, ProcessHolds, move_holds, start_holds, beginning}
+use Rattle.process_rules.proofs.Hosted.{Holds, ProcessHolds, move_holds, widened_holds, start_holds}
+use Rattle.process_rules.proofs.Hosted.{beginning}
 use Rattle.process_rules.proofs.OneStart.{entry_once, item_number}
 
 -- ---- the types of the calls
@@ -283,6 +284,9 @@ module _ (c : Context) (guest : Guest) (typed : IsTypedProgram c guest.program)
       t =
       runs_typed next q kept' k rest (move_holds guest p' next (Some a) moves holds)
       (move_typed p' next (Some a) moves holds t)
+  runs_typed p q kept n (widen {p = p'} {kept = kept'} {n = k} at rest) holds t =
+      runs_typed (widened p') q kept' k rest (widened_holds p' holds)
+      (record { typed = t.typed; settled = t.settled; ended = t.ended })
 
 -- ---- the beginning
 

@@ -25,8 +25,10 @@ use Rattle.wasi_calls_rules.specs.Hosts.{Line}
 use Rattle.wasi_calls_rules.specs.Checks.{Bytes}
 use Rattle.wasi_calls_rules.specs.Rows.{IsSync}
 use Rattle.process_rules.specs.Processes.{ProcessState, Guest, Exited, IsStart, host_of}
-use Rattle.process_rules.specs.Runs.{Kept, Given, On, Wants, next_of, after_rule, Runs, Reaches}
+use Rattle.process_rules.specs.Runs.{Kept, Given, Wider, On, Wants, next_of, after_rule, Runs}
+use Rattle.process_rules.specs.Runs.{Reaches}
 use Rattle.process_rules.specs.Behind.{AnswersBehindLine, IsLine, Syncs, AnswersBehindSync}
+use Rattle.process_rules.specs.Behind.{IsNarrowTo}
 use Rattle.process_rules.specs.laws.Examples.{at_rest}
 use Rattle.process_rules.specs.laws.BehindExamples.{syncing, sync_type, abc_and_more, abc_line}
 use Rattle.process_rules.specs.laws.BehindExamples.{OneSync, OneLine, SyncingOwes}
@@ -333,9 +335,9 @@ record IsFound (config : Settings) (guest : Guest) (n a : ℕ) (p : ProcessState
   known : IsKnown config n a p
 
 found : (config : Settings) (more : List Kept) (n b : ℕ) (p : ProcessState)
-    (reached : Reaches syncing config (firsts b (abc_and_more more)) n p)
+    (up : IsNarrowTo more 19) (reached : Reaches syncing config (firsts b (abc_and_more more)) n p)
     → IsFound config reached.guest n (length (firsts b (abc_and_more more))) p
-found config more n b p reached =
+found config more n b p up reached =
     let prefix : List Kept = firsts b (abc_and_more more) in
     let same = start_once syncing config reached.guest (guest_of config) reached.start
     (started config) syncing_is_valid reached.begins (begins config) in
@@ -344,9 +346,15 @@ found config more n b p reached =
     record {
       same = same.0;
       known = known_from_start (guest_of config) (IsKnown config) 18 (started config)
-          (at_end config) (Given abc ∷ []) more prefix b n p (Exited 0) refl (whole config)
+          (at_end config) (Given abc ∷ []) more prefix b n p (Exited 0) refl up (whole config)
           (subst (λ z. Runs (guest_of config) z prefix n p) same.1 by_guest) refl;
     }
+
+-- what widens nothing up to the end widens nothing before
+later : (more : List Kept) (k : ℕ) → IsNarrowTo more 19 → k ≤ 19 → IsNarrowTo more k
+later [] k up few = tt
+later (Given x ∷ more) k up few = tt
+later (Wider s ∷ more) k up few = omega (arith, up, few)
 
 -- so many answers as are there
 all_there : (more : List Kept) (a : ℕ) → a ≤ length (abc_and_more more)
@@ -355,28 +363,29 @@ all_there more a within = omega (arith, length-take a (abc_and_more more))
 
 -- ---- the sync
 
-sync_there : (config : Settings) (more : List Kept)
+sync_there : (config : Settings) (more : List Kept) (up : IsNarrowTo more 19)
     → AnswersBehindSync syncing config (abc_and_more more) 11 1
-sync_there config more = record {
+sync_there config more up = record {
   within = omega arith;
   before = 10;
   process = at_sync config;
   reached = reaches config 10 (at_sync config) (to_sync config (last (sync_known config)));
   next = refl;
+  up_to = later more 11 up (omega arith);
   syncs = syncs config;
 }
 
-no_other_sync : (config : Settings) (more : List Kept) (k a : ℕ)
+no_other_sync : (config : Settings) (more : List Kept) (up : IsNarrowTo more 19) (k a : ℕ)
     → AnswersBehindSync syncing config (abc_and_more more) k a → (k ≡ 11) × (a ≡ 1)
-no_other_sync config more k a behind =
-    let one = found config more behind.before a behind.process behind.reached in
+no_other_sync config more up k a behind =
+    let one = found config more behind.before a behind.process up behind.reached in
     let at = one.known.sync (subst (λ g. Syncs g behind.process) one.same behind.syncs) in
     let before = at.0 in
     let next = behind.next in
     (omega arith, sym (all_there more a behind.within) ∙ at.1)
 
-one_sync : (config : Settings) (more : List Kept) → OneSync config more
-one_sync config more = record {
+one_sync : (config : Settings) (more : List Kept) (up : IsNarrowTo more 19) → OneSync config more
+one_sync config more up = record {
   fails = record {
     process = at_failure config;
     reached = reaches config 7 (at_failure config) (to_failure config
@@ -394,8 +403,8 @@ one_sync config more = record {
     asks = refl;
     gives = succeeds config;
   };
-  synced = sync_there config more;
-  no_other = no_other_sync config more;
+  synced = sync_there config more up;
+  no_other = no_other_sync config more up;
 }
 
 -- ---- the line
@@ -429,66 +438,69 @@ line_found a place lines line (inr h) is = one_there place line
     one_there (suc zero) line e = absurd (cc)
     one_there (suc (suc place)) line e = absurd (cc)
 
-behind_line : (config : Settings) (more : List Kept)
+behind_line : (config : Settings) (more : List Kept) (up : IsNarrowTo more 19)
     → AnswersBehindLine syncing config (abc_and_more more) 1 1
-behind_line config more = record {
+behind_line config more up = record {
   within = omega arith;
   steps = 18;
   process = at_end config;
   reached = reaches config 18 (at_end config) (whole config);
+  up_to = later more 18 up (omega arith);
   emitted = lit≤ tt;
 }
 
-of_line : (config : Settings) (more : List Kept) (i a : ℕ)
+of_line : (config : Settings) (more : List Kept) (up : IsNarrowTo more 19) (i a : ℕ)
     (behind : AnswersBehindLine syncing config (abc_and_more more) i a)
     → OfLine behind.process.host.lines a
-of_line config more i a behind =
-    let one = found config more behind.steps a behind.process behind.reached in
+of_line config more up i a behind =
+    let one = found config more behind.steps a behind.process up behind.reached in
     subst (OfLine behind.process.host.lines) (all_there more a behind.within)
     (few_lines (length (firsts a (abc_and_more more))) behind.process.host.lines one.known.lines)
 
-no_fewer : (config : Settings) (more : List Kept) (a : ℕ)
+no_fewer : (config : Settings) (more : List Kept) (up : IsNarrowTo more 19) (a : ℕ)
     → AnswersBehindLine syncing config (abc_and_more more) 1 a → a ≡ 1
-no_fewer config more a behind =
-    let emitted = behind.emitted in (of_line config more 1 a behind).1 (omega arith)
+no_fewer config more up a behind =
+    let emitted = behind.emitted in (of_line config more up 1 a behind).1 (omega arith)
 
-no_second : (config : Settings) (more : List Kept) (i a : ℕ)
+no_second : (config : Settings) (more : List Kept) (up : IsNarrowTo more 19) (i a : ℕ)
     → AnswersBehindLine syncing config (abc_and_more more) i a → i ≤ 1
-no_second config more i a behind =
-    let few = (of_line config more i a behind).0 in
+no_second config more up i a behind =
+    let few = (of_line config more up i a behind).0 in
     let emitted = behind.emitted in
     omega arith
 
-first_line : (config : Settings) (more : List Kept)
+first_line : (config : Settings) (more : List Kept) (up : IsNarrowTo more 19)
     → IsLine syncing config (abc_and_more more) 1 abc_line
-first_line config more = record {
+first_line config more up = record {
   answers = 1;
   steps = 18;
   process = at_end config;
   reached = reaches config 18 (at_end config) (whole config);
+  up_to = later more 18 up (omega arith);
   place = 0;
   counted = refl;
   is = refl;
 }
 
-no_other_line : (config : Settings) (more : List Kept) (i : ℕ) (line : Line)
+no_other_line : (config : Settings) (more : List Kept) (up : IsNarrowTo more 19) (i : ℕ)
+    (line : Line)
     → IsLine syncing config (abc_and_more more) i line → (i ≡ 1) × (line ≡ abc_line)
-no_other_line config more i line is =
-    let one = found config more is.steps is.answers is.process is.reached in
+no_other_line config more up i line is =
+    let one = found config more is.steps is.answers is.process up is.reached in
     let at = line_found (length (firsts is.answers (abc_and_more more))) is.place
     is.process.host.lines line one.known.lines is.is in
     let place = at.0 in
     let counted = is.counted in
     (omega arith, at.1)
 
-one_line : (config : Settings) (more : List Kept) → OneLine config more
-one_line config more = record {
-  emitted = behind_line config more;
-  no_fewer = no_fewer config more;
-  no_second = no_second config more;
-  is_line = first_line config more;
-  no_other = no_other_line config more;
+one_line : (config : Settings) (more : List Kept) (up : IsNarrowTo more 19) → OneLine config more
+one_line config more up = record {
+  emitted = behind_line config more up;
+  no_fewer = no_fewer config more up;
+  no_second = no_second config more up;
+  is_line = first_line config more up;
+  no_other = no_other_line config more up;
 }
 
-pub syncing_owes : (config : Settings) (more : List Kept) → SyncingOwes config more
-syncing_owes config more = record { sync = one_sync config more; line = one_line config more }
+pub syncing_owes : (config : Settings) → SyncingOwes config
+syncing_owes config more up = (one_sync config more up, one_line config more up)

@@ -1,6 +1,7 @@
 -- The answers behind a line and behind a guest sync (this project's own). Demands are stated by
 -- covering: so many answers are enough for a line to be emitted, or for a sync to be made.
-use Rattle.std.specs.Prelude.{◌≡◌, ℕ, ◌+◌, ◌≤◌, List, length, take, Some, None, Ok, slice_get}
+use Rattle.std.specs.Prelude.{◌≡◌, ℕ, ◌+◌, ◌≤◌, List, ◌∷◌, length, take, drop, Some, None, Ok}
+use Rattle.std.specs.Prelude.{slice_get}
 use Rattle.std.specs.Prelude.{reverse, map}
 use Rattle.wasm_syntax.specs.declared.value.Value.{Value}
 use Rattle.wasm_syntax.specs.declared.module.Module.{Module}
@@ -13,7 +14,12 @@ use Rattle.wasi_calls_rules.specs.Hosts.{Line}
 use Rattle.wasi_calls_rules.specs.Checks.{Done}
 use Rattle.wasi_calls_rules.specs.Rows.{row, IsSync}
 use Rattle.process_rules.specs.Processes.{ProcessState, Guest}
-use Rattle.process_rules.specs.Runs.{Kept, Reaches}
+use Rattle.process_rules.specs.Runs.{Kept, Wider, Reaches}
+
+-- If what is kept next widens the process, then after so many steps at least.
+abbrev pub IsNarrowTo : List Kept → ℕ → Type 0
+IsNarrowTo (Wider steps ∷ kept) step = step ≤ steps
+IsNarrowTo _ step = Unit {0}
 
 -- the first a of the kept answers, exactly, lead to a process that has emitted line i, counted from
 -- 1
@@ -23,6 +29,7 @@ pub record AnswersBehindLine (m : Module) (config : Settings) (kept : List Kept)
   pub steps : ℕ
   pub process : ProcessState
   pub reached : Reaches m config (take a kept) steps process
+  pub up_to : IsNarrowTo (drop a kept) steps
   pub emitted : i ≤ length process.host.lines
 
 -- line i, counted from 1, of what a front of the kept answers leads to
@@ -32,6 +39,7 @@ pub record IsLine (m : Module) (config : Settings) (kept : List Kept) (i : ℕ)
   pub steps : ℕ
   pub process : ProcessState
   pub reached : Reaches m config (take answers kept) steps process
+  pub up_to : IsNarrowTo (drop answers kept) steps
   pub place : ℕ
   pub counted : i ≡ place + 1
   pub is : slice_get process.host.lines place ≡ Some line
@@ -57,5 +65,6 @@ pub record AnswersBehindSync (m : Module) (config : Settings) (kept : List Kept)
   pub before : ℕ
   pub process : ProcessState
   pub reached : Reaches m config (take a kept) before process
+  pub up_to : IsNarrowTo (drop a kept) k
   pub next : k ≡ before + 1
   pub syncs : Syncs reached.guest process

@@ -16,6 +16,8 @@ use Rattle.wasi_abi.specs.declared.call.Call.TheVariants as call
 use Rattle.wasi_abi.specs.rules.Configs.{Settings}
 use Rattle.wasi_abi.specs.rules.Numbers.{errno_number}
 use Rattle.wasi_abi.specs.rules.Answers.{Fits}
+use Rattle.wasi_abi.specs.declared.version.Version.{Version}
+use Rattle.wasi_abi.specs.declared.version.Version.TheVariants.{One, Two}
 use Rattle.wasi_abi.specs.rules.Versions.{text_limit}
 use Rattle.wasi_calls_rules.specs.Hosts.{Host}
 use Rattle.wasi_calls_rules.specs.Checks.{Refuses, Ends, Asks as Wishes, Ruling}
@@ -116,17 +118,35 @@ pub record Moves (guest : Guest) (p : ProcessState) (given : Option Answer) (q :
 
 -- ---- runs
 
--- what is kept of the outside: its answers
+-- what is kept of the outside: its answers, and that the process was widened after so many steps
 pub data Kept : Type 0 where
   Given : Answer → Kept
+  Wider : (steps : ℕ) → Kept
 
--- so many counted steps, which took exactly these answers, in order
+-- The same process in version 2. That it was widened counts among the answers that it has taken.
+abbrev pub widened : ProcessState → ProcessState
+widened p = record p { host = record p.host { version = Two }; answers = p.answers + 1 }
+
+-- A process of version 1 that has taken so many steps is widened. One that has ended may be.
+pub record IsWidening (p : ProcessState) (steps : ℕ) : Type 0 where
+  pub narrow : p.host.version ≡ One
+  pub at : steps ≡ p.steps
+
+-- so many counted steps, which took exactly these answers, in order; a widening is no step
 pub data Runs (guest : Guest) : ProcessState → List Kept → ℕ → ProcessState → Type 0 where
   none : {p : ProcessState} → Runs guest p [] 0 p
   step : {p q r : ProcessState} {kept : List Kept} {n : ℕ} → Moves guest p None q
       → Runs guest q kept n r → Runs guest p kept (suc n) r
   take : {p q r : ProcessState} {a : Answer} {kept : List Kept} {n : ℕ} → Moves guest p (Some a) q
       → Runs guest q kept n r → Runs guest p (Given a ∷ kept) (suc n) r
+  widen : {p r : ProcessState} {steps : ℕ} {kept : List Kept} {n : ℕ} → IsWidening p steps
+      → Runs guest (widened p) kept n r → Runs guest p (Wider steps ∷ kept) n r
+
+-- the version of what these lead to
+abbrev pub version_after : List Kept → Version
+version_after [] = One
+version_after (Given a ∷ kept) = version_after kept
+version_after (Wider steps ∷ kept) = Two
 
 -- The module under a configuration reaches this process on these answers, all of them, in n counted
 -- steps.

@@ -1,3 +1,4 @@
 pub mod Examples
 pub mod BehindExamples
 pub mod Laws
+pub mod WideningExamples

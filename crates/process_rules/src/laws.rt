@@ -3,6 +3,7 @@
 ghost use Rattle.std.specs.Prelude.{List};
 ghost use Rattle.process_rules.specs.laws.Laws.{OneProcess, OneProcessRun, RunsJoin, RunsCount};
 ghost use Rattle.process_rules.specs.laws.Laws.{RunsEmit, QuietRunsJoin, QuietRunsAreRuns};
+ghost use Rattle.process_rules.specs.laws.Laws.{WideningIsAll, WidenedOnce};
 ghost use Rattle.process_rules.specs.laws.Laws.{RulesAreQuiet, LastRuleEnds, TrapEnds};
 ghost use Rattle.process_rules.specs.laws.Laws.{ReachedAreConfigured, NodesAreFew};
 ghost use Rattle.process_rules.specs.laws.Laws.{ReachedVersions, ReachedInputIsShort};
@@ -13,6 +14,7 @@ ghost use Rattle.wasi_abi.specs.rules.Configs.{Settings};
 ghost use Rattle.process_rules.specs.Runs.{Kept};
 ghost use Rattle.process_rules.specs.laws.Examples.{HelloEnds, EchoEnds, IdleEnds, TrappingEnds};
 ghost use Rattle.process_rules.specs.laws.BehindExamples.{SyncingOwes};
+ghost use Rattle.process_rules.specs.laws.WideningExamples.{HelloIsWidened, EchoWantsMore};
 
 /// The same answers lead to the same process.
 pub fn one_process_is_reached()
@@ -33,6 +35,13 @@ pub fn runs_join()
 pub fn runs_count_and_emit()
     ensures count { RunsCount }
     ensures emit { RunsEmit }
+{}
+
+/// After the same steps a widened process is the other one but for the widening. None is widened
+/// twice.
+pub fn widening_is_all()
+    ensures all { WideningIsAll }
+    ensures once { WidenedOnce }
 {}
 
 /// So are steps after which nothing is owed, which are a run without answers that emits no line.
@@ -56,8 +65,9 @@ pub fn trap_ends()
     ensures { TrapEnds }
 {}
 
-/// A reached process is configured as at the beginning. It has few nodes: one a step at most,
-/// beside the root and the number that comes next. At most one request waits to be read.
+/// A reached process is configured as at the beginning, and has the version to which its kept
+/// answers lead. It has few nodes: one a step at most, beside the root and the number that comes
+/// next. At most one request waits to be read.
 pub fn reached_hosts_are_bounded()
     ensures configured { ReachedAreConfigured }
     ensures versions { ReachedVersions }
@@ -65,7 +75,8 @@ pub fn reached_hosts_are_bounded()
     ensures input { ReachedInputIsShort }
 {}
 
-/// A reached process has counted its steps and its answers. It has ended exactly where its program
+/// A reached process has counted its steps and its answers: one a step at most, and its widening.
+/// It has ended exactly where its program
 /// has come to its end, and has then no unfinished line.
 pub fn reached_processes_are_counted()
     ensures counted { ReachedAreCounted }
@@ -91,5 +102,12 @@ pub fn worked_examples()
     ensures echo { (config : Settings) → EchoEnds config }
     ensures idle { (config : Settings) → IdleEnds config }
     ensures trapping { (config : Settings) → TrappingEnds config }
-    ensures syncing { (config : Settings) (more : List Kept) → SyncingOwes config more }
+    ensures syncing { (config : Settings) → SyncingOwes config }
+{}
+
+/// So do those that are widened on the way, and at the end. A request that was too long is wanted
+/// then.
+pub fn worked_widenings()
+    ensures hello { (config : Settings) → HelloIsWidened config }
+    ensures echo { (config : Settings) → EchoWantsMore config }
 {}

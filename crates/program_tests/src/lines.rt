@@ -5,19 +5,19 @@ use std::alloc::{AllocError, Global};
 use std::io::{self, BufRead, ErrorKind, Read, Write};
 use std::test::Fail;
 use std::time::{Clock, Duration};
-use wasi_abi::{Answer, Kind};
+use wasi_abi::{Answer, Kind, Version};
 use wasmhost_commands::{
     BufferedLines, LineFault, LineOutlet, Outside, Request, RequestSource, read_request, seeded,
 };
 
 /// Whether a line is the request of this number, with a text.
 fn reads_text(line: &[u8], number: u64, text: &[u8]) -> bool {
-    read_request(line) == Some(Request::Text { number, text })
+    read_request(Version::One.text_limit(), line) == Some(Request::Text { number, text })
 }
 
 #[test]
 fn reads_both_forms(rt: HostRuntime) -> Result<(), Fail> {
-    assert!(rt; read_request(b"7 e") == Some(Request::End { number: 7 }));
+    assert!(rt; read_request(0, b"7 e") == Some(Request::End { number: 7 }));
     assert!(rt; reads_text(b"7 r ", 7, b""));
     assert!(rt;
         reads_text(
@@ -44,7 +44,7 @@ static OTHER_FORMS: [&[u8]; 9] = [
 #[test]
 fn refuses_other_forms(rt: HostRuntime) -> Result<(), Fail> {
     for line in &OTHER_FORMS {
-        assert!(rt; read_request(line).is_none(), "{line:?}");
+        assert!(rt; read_request(65_536, line).is_none(), "{line:?}");
     }
     Ok(())
 }
@@ -321,6 +321,19 @@ fn long_input(
     Ok(input)
 }
 
+/// A worker's version, the length of a text, and whether a line with it is a request line there.
+static LIMITS: [(Version, usize, bool); 4] = [
+    (Version::One, 4_096, true),
+    (Version::One, 4_097, false),
+    (Version::Two, 65_536, true),
+    (Version::Two, 65_537, false),
+];
+
+fn is_read_so(alloc: Global, row: &(Version, usize, bool)) -> Result<bool, AllocError> {
+    let line = long_input(alloc, b"7 r ", row.1, b"")?;
+    Ok(read_request(row.0.text_limit(), line.as_slice()).is_some() == row.2)
+}
+
 /// The length of a request's text, and the fault.
 static LENGTHS: [(usize, Option<LineFault>); 3] = [(4096, None), (4097, FORM), (5000, FORM)];
 
@@ -334,6 +347,9 @@ fn answers_so(alloc: Global, row: &(usize, Option<LineFault>)) -> Result<bool, A
 fn refuses_a_longer_text(rt: HostRuntime) -> Result<(), Fail> {
     for row in &LENGTHS {
         assert!(rt; answers_so(rt.alloc(), row)?, "{row:?}");
+    }
+    for row in &LIMITS {
+        assert!(rt; is_read_so(rt.alloc(), row)?, "{row:?}");
     }
     Ok(())
 }

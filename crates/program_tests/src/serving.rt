@@ -109,7 +109,7 @@ static AHEAD: Run = (
 
 /// What stands on the disk behind both runs: each of them saves as it opens and as it ends.
 const BEHIND: Shown = Shown {
-    out: "generation 5 steps 49 answers 2 lines 2 records 0\n",
+    out: "generation 5 steps 49 answers 2 lines 2 records 0 version 1\n",
     err: "",
     status: 0,
 };

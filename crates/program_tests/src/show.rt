@@ -159,7 +159,7 @@ static COURSES: [Course; 5] = [
         is_saved: false,
         is_recovered: false,
         shown: Shown {
-            out: "generation 1 steps 0 answers 0 lines 0 records 0\n",
+            out: "generation 1 steps 0 answers 0 lines 0 records 0 version 1\n",
             err: "",
             status: 0,
         },
@@ -169,7 +169,7 @@ static COURSES: [Course; 5] = [
         is_saved: false,
         is_recovered: false,
         shown: Shown {
-            out: "generation 1 steps 0 answers 0 lines 0 records 1\n",
+            out: "generation 1 steps 0 answers 0 lines 0 records 1 version 1\n",
             err: "",
             status: 0,
         },
@@ -179,7 +179,7 @@ static COURSES: [Course; 5] = [
         is_saved: false,
         is_recovered: true,
         shown: Shown {
-            out: "generation 2 steps 6 answers 1 lines 0 records 0\n",
+            out: "generation 2 steps 6 answers 1 lines 0 records 0 version 1\n",
             err: "",
             status: 0,
         },
@@ -189,7 +189,7 @@ static COURSES: [Course; 5] = [
         is_saved: true,
         is_recovered: false,
         shown: Shown {
-            out: "generation 2 steps 20 answers 1 lines 1 records 0\n",
+            out: "generation 2 steps 20 answers 1 lines 1 records 0 version 1\n",
             err: "",
             status: 0,
         },
@@ -199,7 +199,7 @@ static COURSES: [Course; 5] = [
         is_saved: true,
         is_recovered: true,
         shown: Shown {
-            out: "generation 3 steps 20 answers 1 lines 1 records 0\n",
+            out: "generation 3 steps 20 answers 1 lines 1 records 0 version 1\n",
             err: "",
             status: 0,
         },

@@ -7,7 +7,7 @@ use wasmhost_commands::{CreateOrder, Order, RunOrder, StoryOrder, WordsFault, re
 /// Words, and the status of what is read: 0 for an order.
 type StatusRow = (&'static [&'static str], u8);
 
-static STATUSES: [StatusRow; 31] = [
+static STATUSES: [StatusRow; 33] = [
     (&["wasmhost"], 2),
     (&["wasmhost", "open", "a"], 2),
     (&["wasmhost", "check"], 2),
@@ -37,6 +37,8 @@ static STATUSES: [StatusRow; 31] = [
     (&["wasmhost", "files", "a.disk"], 0),
     (&["wasmhost", "files", "a.disk", "a/b"], 0),
     (&["wasmhost", "files"], 2),
+    (&["wasmhost", "upgrade", "a.disk"], 0),
+    (&["wasmhost", "upgrade"], 2),
     (&["wasmhost", "story", "a.story", "a.wasm"], 0),
     (&["wasmhost", "story"], 2),
     (&["wasmhost", "story", "a.story"], 2),

@@ -1,9 +1,9 @@
 -- Runs without answers, and where a longer one goes on from.
-use Rattle.std.proofs.Common.{◌≡◌, ℕ, suc, ◌+◌, List, [], None, Some, subst, arith}
+use Rattle.std.proofs.Common.{◌≡◌, ℕ, suc, ◌+◌, List, [], None, Some, refl, subst, arith}
 use Rattle.wasi_abi.specs.declared.answer.Answer.{Answer}
 use Rattle.process_rules.specs.Processes.{ProcessState, Guest}
-use Rattle.process_rules.specs.Runs.{Moves, Kept, Runs, none, step, take}
-use Rattle.process_rules.proofs.OneProcess.{runs_once, one_or_other}
+use Rattle.process_rules.specs.Runs.{Moves, Kept, widened, Runs, none, step, take, widen}
+use Rattle.process_rules.proofs.OneProcess.{runs_once, one_or_other, never_late}
 use Rattle.process_rules.proofs.Quiet.{runs_join, quiet_runs_are_runs}
 use Rattle.process.specs.rules.Values.{ProcessValue}
 use Rattle.process.specs.rules.Stops.{ComesQuietly, ComesOwing}
@@ -53,6 +53,13 @@ goes_on guest p q r kept n m k
     let same : r' ≡ q' = one_taken guest p' r' q' answer b a in
     goes_on guest q' q r kept' n' m' k rest (subst (λ z. Runs guest z kept' m' r) same rest')
     (omega (arith, e))
+goes_on guest p q r kept n m k (step {p = p'} {q = q'} {kept = kept'} {n = n'} a rest)
+    (widen at others) e = absurd (never_late guest p' q' q kept' n' a rest at refl)
+goes_on guest p q r kept n m k (widen at others)
+    (step {p = p'} {q = r'} {kept = kept'} {n = m'} b rest') e =
+    absurd (never_late guest p' r' r kept' m' b rest' at refl)
+goes_on guest p q r kept n m k (widen {p = p'} {kept = kept'} at rest) (widen at' rest') e =
+    goes_on guest (widened p') q r kept' n m k rest rest' e
 
 pub first_moves : (guest : Guest) (q r : ProcessState) (k : ℕ) → Runs guest q [] (suc k) r
     → (to : ProcessState) × Moves guest q None to

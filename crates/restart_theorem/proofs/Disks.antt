@@ -9,15 +9,19 @@ use Rattle.sha2.proofs.Facts256.{length-sha256}
 use Rattle.wasi_abi.specs.rules.Layouts.{padding}
 use Rattle.wasm_syntax.specs.declared.module.Module.{Module}
 use Rattle.wasi_abi.specs.rules.Configs.{Settings}
+use Rattle.wasi_abi.specs.rules.Versions.{version_number}
 use Rattle.process_rules.specs.Runs.{Kept, Runs}
 use Rattle.process_rules.proofs.Growing.{move_counts, runs_count, start_counts}
+use Rattle.process_rules.proofs.Hosted.{reached_versions}
 use Rattle.process_rules.proofs.Quiet.{runs_join}
+use Rattle.state_image.specs.rules.Image.{image}
 use Rattle.sector_disk.specs.rules.Image.{Image, sector_at}
 use Rattle.disk_layout.specs.rules.Places.{Geometry, geometry_of, config_bytes, head_place}
 use Rattle.disk_layout.specs.rules.Places.{journal_place, total_sectors}
 use Rattle.disk_layout.specs.declared.superblock.TheConstants.{SUPER_END_MARK}
 use Rattle.disk_layout.specs.rules.Sectors.{IsMarked, super_bytes, stamp_of, shown_generation}
-use Rattle.disk_layout.specs.rules.Journal.{is_of, payloads_from}
+use Rattle.disk_layout.specs.rules.Sectors.{HoldsImage}
+use Rattle.disk_layout.specs.rules.Journal.{is_of, payloads_from, scan}
 use Rattle.disk_layout.specs.declared.fault.LayoutFault.{LayoutFault}
 use Rattle.disk_layout.specs.declared.reading.contents.Contents.{Contents}
 use Rattle.disk_layout.specs.rules.Held.{GivesContents}
@@ -32,6 +36,7 @@ use Rattle.restart_theorem.specs.laws.Disks.{StandsForWhatIsReached, RecordsAsce
 use Rattle.restart_theorem.specs.laws.Disks.{BlankStandsForNone, NoLaterImage, NoLaterPayload}
 use Rattle.restart_theorem.specs.laws.Disks.{OneGeneration, tiny, tiny_disk, DiskExamples}
 use Rattle.restart_theorem.specs.laws.Disks.{OneSpelledWorker, StandsWithin, BlankIsWithin}
+use Rattle.restart_theorem.specs.laws.Disks.{HeadsTellWidenings}
 
 -- ---- what is reached
 
@@ -66,8 +71,15 @@ records_ascend guest p q records (more {p = p'} {q = before} {r = after} {s = la
     let taken : after.steps ≡ before.steps + 1 = move_counts guest before after (Some a) moves in
     (omega (arith, counted, taken), records_ascend guest after last rest recorded)
 
+pub heads_tell_widenings : HeadsTellWidenings
+heads_tell_widenings disk m config kept n stands =
+    let shown = stands.shown in
+    shown.version ∙ reached_versions m config stands.front stands.steps stands.process
+    stands.reached
+
 pub stands_by_its_parts : StandsByItsParts
 stands_by_its_parts disk m config kept n stands =
+    let version = heads_tell_widenings disk m config kept n stands in
     let accepted = stands.accepted in
     let limits = accepted.limits in
     let settings = stands.settings in
@@ -78,8 +90,10 @@ stands_by_its_parts disk m config kept n stands =
       size = limits.size;
       pages = range.pages;
       worker = stands.worker;
-      image = stands.holds;
-      records = sym stands.scanned;
+      image = subst (λ v. HoldsImage (geometry_of config (length stands.wasm)) disk
+          stands.generation (version_number v) (image stands.saved)) version stands.holds;
+      records = sym (subst (λ v. scan (geometry_of config (length stands.wasm)) v disk
+          stands.generation ≡ stands.records) version stands.scanned);
       kept_answers = stands.rest;
       steps = subst (λ k. k < 2 ^ 63) (sym stands.at_step) numbers.steps;
     }
@@ -125,9 +139,9 @@ no_later_image geometry shape disk g h version bytes shows holds =
 
 pub one_generation : OneGeneration
 one_generation disk m other config settings kept others n k left right =
-    let up = no_later_image _ _ disk right.generation left.generation 1 _ right.none_later
+    let up = no_later_image _ _ disk right.generation left.generation _ _ right.none_later
     left.holds in
-    let down = no_later_image _ _ disk left.generation right.generation 1 _ left.none_later
+    let down = no_later_image _ _ disk left.generation right.generation _ _ left.none_later
     right.holds in
     omega (arith, up, down)
 

@@ -1,7 +1,6 @@
 -- What is no life of `echo`.
 use Rattle.std.proofs.Common.{◌≡◌, inl, inr, ℕ, zero, suc, ◌+◌, ◌≤◌, List, [], length}
 use Rattle.std.proofs.Common.{None, refl, sym, ap, ◌∙◌, subst, arith, length-append}
-use Rattle.std.specs.Prelude.{take as firsts}
 use Rattle.std.proofs.lemmas.Option.{slice_get_within}
 use Rattle.wasm_syntax.specs.laws.Examples.{echo}
 use Rattle.wasi_abi.specs.rules.Configs.{Settings}
@@ -10,14 +9,14 @@ use Rattle.wasi_abi.specs.declared.answer.Kind.TheVariants as kind
 use Rattle.wasi_calls_rules.specs.Hosts.{Line}
 use Rattle.process_rules.specs.Processes.{ProcessState, Guest}
 use Rattle.process_rules.specs.Runs.{Kept, Wants, Runs, Reaches, next_of, LeadsTo, none, step}
-use Rattle.process_rules.specs.Runs.{take}
+use Rattle.process_rules.specs.Runs.{take, widen}
 use Rattle.process_rules.specs.Behind.{AnswersBehindLine, IsLine}
 use Rattle.process_rules.proofs.EchoValid.{echo_is_valid}
 use Rattle.process_rules.proofs.EchoHolds.{EchoAsks, echo_asks}
 use Rattle.process_rules.proofs.Growing.{runs_emit}
 use Rattle.process_rules.proofs.OneStart.{start_once}
 use Rattle.restart_theorem.specs.laws.WholeLives.{EchoRefusals}
-use Rattle.restart_theorem.proofs.Fronts.{OneLeadsOn, fronts_lead_on}
+use Rattle.restart_theorem.proofs.Fronts.{OneLeadsOn, fronts_lead_on, front_of_none}
 
 abbrev reaches_asking : (config : Settings) → Reaches echo config [] 5 (echo_asks config).asking
 reaches_asking config = let asks = echo_asks config in record {
@@ -38,13 +37,14 @@ stays_asking guest p q wish kept n (step {p = p'} {q = q'} m rest) e asks =
     absurd (rw asks at stopped)
 stays_asking guest p q wish kept n (take {p = p'} m rest) e asks =
     absurd (let none_taken = e in cc)
+stays_asking guest p q wish kept n (widen at rest) e asks = absurd (let none_taken = e in cc)
 
 -- so before its first answer `echo` tells nothing
 no_line_unasked : (config : Settings) (n : ℕ) (p : ProcessState) → Reaches echo config [] n p
     → length p.host.lines ≡ 0
 no_line_unasked config n p reached = go
     (fronts_lead_on echo config [] 0 0 5 n asks.asking p echo_is_valid
-    (reaches_asking config) reached)
+    (reaches_asking config) reached tt tt)
   where
     asks : EchoAsks config
     asks = echo_asks config
@@ -67,7 +67,7 @@ asks_a_request : (config : Settings) (n : ℕ) (p : ProcessState) (wish : Kind)
     → wish ≡ kind.Request
 asks_a_request config n p wish reached wanted =
     go (fronts_lead_on echo config [] 0 0 n 5 p asks.asking echo_is_valid reached
-    (reaches_asking config))
+    (reaches_asking config) tt tt)
   where
     asks : EchoAsks config
     asks = echo_asks config
@@ -92,9 +92,6 @@ asks_a_request config n p wish reached wanted =
     go (inr on) = is_request (stays_asking reached.guest asks.asking p kind.Request on.kept on.steps
         on.runs on.front asks_here)
 
-abbrev no_answer : List Kept
-no_answer = []
-
 -- a line that is told before any answer
 unasked_line : (config : Settings) (i : ℕ) (line : Line) → IsLine echo config [] i line → ⊥
 unasked_line config i line is =
@@ -104,10 +101,6 @@ unasked_line config i line is =
     let there = slice_get_within is.process.host.lines is.place line is.is in
     let no_lines = no_line_unasked config is.steps is.process reached in
     omega (arith, there, no_lines)
-  where
-    front_of_none : (n : ℕ) → firsts n no_answer ≡ no_answer
-    front_of_none zero = refl
-    front_of_none (suc n) = refl
 
 -- a line behind no answer
 behind_none : (config : Settings) (kept : List Kept) (a : ℕ) → a ≤ 0

@@ -11,6 +11,12 @@ lives_examples = record {
   first_two = refl;
   misfit = refl;
   none_there = refl;
+  widened = refl;
+  widened_once = refl;
+  widened_in_vain = refl;
+  not_widened = refl;
+  saved_alone = refl;
+  narrow_again = refl;
 }
 
 pub promise_examples : PromiseExamples
@@ -20,6 +26,8 @@ promise_examples = record {
   after_a_failed_slice = refl;
   after_a_failed_checkpoint = refl;
   after_a_checkpoint = refl;
+  after_an_upgrade = refl;
+  after_a_failed_upgrade = refl;
   after_another_slice = refl;
   after_opening = refl;
   after_opening_further = refl;
@@ -48,6 +56,11 @@ course_examples = record {
   told_beyond = λ h. (let late : 24 ≤ 23 = h.1 in omega (arith, late));
   told_before = λ h. (let early : 3 ≤ 2 = h.0 in omega (arith, early));
   told_by_a_checkpoint = λ h. h;
+  told_by_an_upgrade = λ h. h;
+  abreast_at_a_question = refl;
+  abreast_at_the_end = refl;
+  not_abreast_after_a_slice = refl;
+  not_abreast_when_opened = refl;
   asked_within = ((omega arith, omega arith), (omega arith, omega arith));
   asked_without_fuel = λ h. (let late : 24 ≤ 23 = h.1.1 in omega (arith, late));
   stopped = (tt, omega arith);

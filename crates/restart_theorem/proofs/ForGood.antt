@@ -1,11 +1,8 @@
 -- What a restart has at least stays so in all later lives.
 use Rattle.std.proofs.Common.{◌⊎◌, inl, inr, ℕ, ◌<◌, ◌≤◌, List, [], ◌∷◌, ◌++◌, sym, subst, arith}
-use Rattle.std.proofs.Common.{length-append}
-use Rattle.std.specs.Prelude.{length, max}
-use Rattle.std.proofs.lemmas.List.{take-append-le}
+use Rattle.std.specs.Prelude.{max}
 use Rattle.wasm_syntax.specs.declared.module.Module.{Module}
 use Rattle.wasi_abi.specs.rules.Configs.{Settings}
-use Rattle.process_rules.specs.Runs.{Kept, Runs}
 use Rattle.process_rules.specs.Behind.{AnswersBehindSync}
 use Rattle.restart_theorem.specs.Lives.{Checkpoint, Reply, Spent, Waits, Over, Done, Fails}
 use Rattle.restart_theorem.specs.Lives.{Event, Told, Asked, Opened, Ended, kept_of_said}
@@ -13,6 +10,8 @@ use Rattle.restart_theorem.specs.Promises.{Promise, nothing_yet, after, promised
 use Rattle.restart_theorem.specs.laws.Laws.{OpenWith, OpeningsAreForGood, CheckpointsAreForGood}
 use Rattle.restart_theorem.specs.laws.Laws.{HasReturned, SyncsAreForGood, TellBeyond}
 use Rattle.restart_theorem.specs.laws.Laws.{OpenedLinesAreToldNoMore, SavedLinesAreToldNoMore}
+use Rattle.restart_theorem.proofs.Fronts.{said_widens_none}
+use Rattle.restart_theorem.proofs.Widenings.{behind_more, sync_at_end}
 use Rattle.restart_theorem.proofs.Promised.{kept_of_promised, AreKeptSomewhere, all_kept}
 
 -- ---- answers and steps
@@ -39,7 +38,7 @@ opens_with m config so_far a n (Ended act reply held shown ∷ events) kept h k 
 
 -- ---- lines
 
-tells_beyond : (m : Module) (config : Settings) (so_far : Promise) (n : ℕ) (events : List Event)
+pub tells_beyond : (m : Module) (config : Settings) (so_far : Promise) (n : ℕ) (events : List Event)
     → AreKeptSomewhere m config so_far events → n ≤ so_far.passed → TellBeyond n events
 tells_beyond m config so_far n [] kept h = tt
 tells_beyond m config so_far n (Told r t ∷ events) kept h =
@@ -61,27 +60,6 @@ tells_beyond m config so_far n (Ended act reply held shown ∷ events) kept h =
 abbrev IsHeld : Module → Settings → Promise → ℕ → ℕ → Type 0
 IsHeld m config so_far k a = ((k ≤ so_far.synced) × AnswersBehindSync m config so_far.kept k a)
     ⊎ (a ≤ so_far.answers)
-
-behind_more : (m : Module) (config : Settings) (kept more : List Kept) (k a : ℕ)
-    → AnswersBehindSync m config kept k a → AnswersBehindSync m config (kept ++ more) k a
-behind_more m config kept more k a behind = record {
-  within = longer a kept more behind.within;
-  before = behind.before;
-  process = behind.process;
-  reached = record {
-    guest = behind.reached.guest;
-    start = behind.reached.start;
-    begins = behind.reached.begins;
-    runs = subst (λ z. Runs behind.reached.guest behind.reached.start z behind.before
-        behind.process)
-        (sym (take-append-le a kept more behind.within)) behind.reached.runs;
-  };
-  next = behind.next;
-  syncs = behind.syncs;
-}
-  where
-    longer : (a : ℕ) (xs ys : List Kept) → a ≤ length xs → a ≤ length (xs ++ ys)
-    longer a xs ys h = rw (length-append xs ys) (omega (arith, h))
 
 syncs_held : (m : Module) (config : Settings) (so_far : Promise) (k a : ℕ) (events : List Event)
     → AreKeptSomewhere m config so_far events → IsHeld m config so_far k a → OpenWith a 0 events
@@ -107,14 +85,21 @@ syncs_held m config so_far k a (Asked n kind said fits ∷ events) kept (inl hel
     syncs_held m config (after so_far (Asked n kind said fits)) k a events kept.1
     (inl (
       omega (arith, before),
-      behind_more m config so_far.kept (kept_of_said said fits) k a held.1,
+      behind_more m config so_far.kept (kept_of_said said fits) k a (said_widens_none said fits k)
+          held.1,
     ))
 syncs_held m config so_far k a (Asked n kind said fits ∷ events) kept (inr held) =
     syncs_held m config (after so_far (Asked n kind said fits)) k a events kept.1 (inr held)
 syncs_held m config so_far k a (Ended act reply count shown ∷ events) kept (inl held) =
     let before : k ≤ so_far.synced = held.0 in
     syncs_held m config (after so_far (Ended act reply count shown)) k a events kept.1
-    (inl (omega (arith, before), held.1))
+    (inl (
+      omega (arith, before),
+      sync_at_end m config so_far.kept act shown k a
+          (λ differs.
+          (let early = (kept.0.kept.widens differs).syncs in omega (arith, early, before)))
+          held.1,
+    ))
 syncs_held m config so_far k a (Ended act reply count shown ∷ events) kept (inr held) =
     syncs_held m config (after so_far (Ended act reply count shown)) k a events kept.1
     (inr (omega (arith, held)))
@@ -122,8 +107,8 @@ syncs_held m config so_far k a (Ended act reply count shown ∷ events) kept (in
 -- ---- in the middle of the lives
 
 -- that the later events keep what is promised after this one
-later_kept : (m : Module) (config : Settings) (so_far : Promise) (earlier : List Event) (e : Event)
-    (later : List Event) → AreKeptSomewhere m config so_far (earlier ++ e ∷ later)
+pub later_kept : (m : Module) (config : Settings) (so_far : Promise) (earlier : List Event)
+    (e : Event) (later : List Event) → AreKeptSomewhere m config so_far (earlier ++ e ∷ later)
     → AreKeptSomewhere m config (after (promised so_far earlier) e) later
 later_kept m config so_far [] e later kept = kept.1
 later_kept m config so_far (d ∷ earlier) e later kept =
@@ -173,6 +158,13 @@ returned_by (Over why) k steps synced h = omega (arith, h)
 returned_by Done k steps synced h = omega (arith, h)
 returned_by (Fails cause) k steps synced h = omega (arith, h)
 
+returned_within : (reply : Reply) (k steps : ℕ) → HasReturned reply k steps → k ≤ steps
+returned_within Spent k steps h = h
+returned_within Waits k steps h = h
+returned_within (Over why) k steps h = h
+returned_within Done k steps h = h
+returned_within (Fails cause) k steps h = omega (arith, h)
+
 pub syncs_for_good : SyncsAreForGood
 syncs_for_good m config inputs lives earlier later act reply held shown k a goes split returned
     behind =
@@ -184,4 +176,8 @@ syncs_for_good m config inputs lives earlier later act reply held shown k a goes
     (later_kept m config nothing_yet earlier (Ended act reply held shown) later
     (subst (λ z. AreKeptSomewhere m config nothing_yet z) split
     (all_kept m config inputs lives goes)))
-    (inl (returned_by reply k shown.steps so_far.synced returned, there))
+    (inl (
+      returned_by reply k shown.steps so_far.synced returned,
+      sync_at_end m config so_far.kept act shown k a
+          (λ differs. returned_within reply k shown.steps returned) there,
+    ))

@@ -10,7 +10,8 @@ use Rattle.wasi_abi.specs.declared.answer.Kind.{Kind}
 use Rattle.wasi_calls_rules.specs.Hosts.{Line}
 use Rattle.process_rules.specs.Processes.{ProcessState, Guest, Exited}
 use Rattle.process_rules.specs.Runs.{Kept, Wants, Runs, Reaches, next_of, LeadsTo, none, step, take}
-use Rattle.process_rules.specs.Behind.{AnswersBehindLine, IsLine}
+use Rattle.process_rules.specs.Runs.{widen}
+use Rattle.process_rules.specs.Behind.{IsNarrowTo, AnswersBehindLine, IsLine}
 use Rattle.process_rules.specs.laws.Examples.{hello_end}
 use Rattle.process_rules.proofs.ExamplesValid.{hello_is_valid}
 use Rattle.process_rules.proofs.ExamplesHold.{hello_ends}
@@ -25,21 +26,22 @@ use Rattle.restart_theorem.specs.laws.Refused.{in_peace, creation_begun}
 use Rattle.restart_theorem.specs.laws.WholeLives.{hi_told, hello_first, hello_last, cut_inputs}
 use Rattle.restart_theorem.specs.laws.WholeLives.{cut_life, last_inputs, last_life, ended_inputs}
 use Rattle.restart_theorem.specs.laws.WholeLives.{ended_life, HelloLives}
-use Rattle.restart_theorem.proofs.Fronts.{OneLeadsOn, fronts_lead_on, one_line}
+use Rattle.restart_theorem.proofs.Fronts.{OneLeadsOn, fronts_lead_on, one_line, front_of_none}
+use Rattle.restart_theorem.proofs.Fronts.{none_widens}
 use Rattle.restart_theorem.proofs.Honesty.{never}
 use Rattle.restart_theorem.proofs.HelloShown.{at_first_step, at_last_step}
 
 -- ---- the process at the end
 
-record HelloEnd (config : Settings) : Type 0 where
-  process : ProcessState
-  reached : Reaches hello config [] 8 process
-  lines : process.host.lines ≡ hi_told.line ∷ []
-  over : process.ended ≡ Some (Exited 7)
-  rests : IsEnded process.configuration
-  no_other : (other : ProcessState) → Reaches hello config [] 8 other → other ≡ process
+pub record HelloEnd (config : Settings) : Type 0 where
+  pub process : ProcessState
+  pub reached : Reaches hello config [] 8 process
+  pub lines : process.host.lines ≡ hi_told.line ∷ []
+  pub over : process.ended ≡ Some (Exited 7)
+  pub rests : IsEnded process.configuration
+  pub no_other : (other : ProcessState) → Reaches hello config [] 8 other → other ≡ process
 
-hello_at_end : (config : Settings) → HelloEnd config
+pub hello_at_end : (config : Settings) → HelloEnd config
 hello_at_end config =
     let ends = hello_ends config in
     record {
@@ -59,6 +61,7 @@ hi_is_line config =
       steps = 8;
       process = end.process;
       reached = end.reached;
+      up_to = tt;
       place = 0;
       counted = refl;
       is = ap (λ (z : List Line). slice_get z 0) end.lines;
@@ -73,6 +76,7 @@ hi_behind config i h =
       steps = 8;
       process = end.process;
       reached = end.reached;
+      up_to = tt;
       emitted = omega (arith, n, h);
     }
 
@@ -80,10 +84,11 @@ hi_behind config i h =
 
 -- behind the end there is nothing
 end_stays : (guest : Guest) (p q : ProcessState) (kept : List Kept) (n : ℕ) → Runs guest p kept n q
-    → p.ended ≡ Some (Exited 7) → q ≡ p
-end_stays guest p q kept n (none {p = p'}) over = refl
-end_stays guest p q kept n (step {p = p'} m rest) over = absurd (let running = m.running in cc)
-end_stays guest p q kept n (take {p = p'} m rest) over = absurd (let running = m.running in cc)
+    → kept ≡ [] → p.ended ≡ Some (Exited 7) → q ≡ p
+end_stays guest p q kept n (none {p = p'}) e over = refl
+end_stays guest p q kept n (step {p = p'} m rest) e over = absurd (let running = m.running in cc)
+end_stays guest p q kept n (take {p = p'} m rest) e over = absurd (let running = m.running in cc)
+end_stays guest p q kept n (widen at rest) e over = absurd (let nothing = e in cc)
 
 wants_nothing : (guest : Guest) (p : ProcessState) (kind : Kind) → IsEnded p.configuration
     → next_of guest p None ≡ Wants kind → ⊥
@@ -103,11 +108,13 @@ wants_none guest p q kind kept n (step {p = p'} {q = q'} m rest) e rests wants =
     let stopped : LeadsTo guest (next_of guest p' None) None p' q' = m.leads in
     (rw wants at stopped)
 wants_none guest p q kind kept n (take {p = p'} m rest) e rests wants = cc
+wants_none guest p q kind kept n (widen at rest) e rests wants = cc
 
 asks_nothing : (config : Settings) (n : ℕ) (p : ProcessState) (kind : Kind)
     → (reached : Reaches hello config [] n p) → next_of reached.guest p None ≡ Wants kind → ⊥
 asks_nothing config n p kind reached wants =
-    go (fronts_lead_on hello config [] 0 0 n 8 p end.process hello_is_valid reached end.reached)
+    go (fronts_lead_on hello config [] 0 0 n 8 p end.process hello_is_valid reached end.reached tt
+    tt)
   where
     end : HelloEnd config
     end = hello_at_end config
@@ -118,7 +125,7 @@ asks_nothing config n p kind reached wants =
     go (inr on) =
         wants_nothing reached.guest p kind
         (subst (λ z. IsEnded z.configuration)
-        (sym (end_stays reached.guest end.process p on.kept on.steps on.runs end.over))
+        (sym (end_stays reached.guest end.process p on.kept on.steps on.runs on.front end.over))
         end.rests) wants
 
 -- no process of `hello` has a second line
@@ -126,7 +133,7 @@ one_line_at_most : (config : Settings) (answers n : ℕ) (p : ProcessState)
     → Reaches hello config (firsts answers []) n p → length p.host.lines ≤ 1
 one_line_at_most config answers n p reached =
     go (fronts_lead_on hello config [] answers 0 n 8 p end.process hello_is_valid reached
-    end.reached)
+    end.reached (none_widens answers n) tt)
   where
     end : HelloEnd config
     end = hello_at_end config
@@ -143,7 +150,8 @@ one_line_at_most config answers n p reached =
     go (inr on) =
         let same : length p.host.lines ≡ length end.process.host.lines =
         ap (λ (z : ProcessState). length z.host.lines)
-        (end_stays reached.guest end.process p on.kept on.steps on.runs end.over) in
+        (end_stays reached.guest end.process p on.kept on.steps on.runs
+        (on.front ∙ front_of_none answers) end.over) in
         omega (arith, same, end_lines)
 
 no_second_line : (config : Settings) (line : Line) → IsLine hello config [] 2 line → ⊥
@@ -184,6 +192,7 @@ module _ (config : Settings) (some : 1 ≤ config.pages) (few : config.pages ≤
       → HoldsAll hello config so_far.kept so_far 0 steps
   holds so_far steps kept answers enough begun = record {
     within = omega arith;
+    up_to = subst (λ (l : List Kept). IsNarrowTo l steps) (sym kept) tt;
     answers = omega (arith, answers);
     steps_held = enough;
     lines = λ i h. (
@@ -199,7 +208,7 @@ module _ (config : Settings) (some : 1 ≤ config.pages) (few : config.pages ≤
   }
 
   -- it begins where nothing was promised but its line
-  begins : (so_far : Promise) (inputs : Inputs) → so_far.kept ≡ [] → so_far.answers ≡ 0
+  pub begins : (so_far : Promise) (inputs : Inputs) → so_far.kept ≡ [] → so_far.answers ≡ 0
       → so_far.steps ≤ 0 → so_far.begun ≤ 1 → so_far.was_created ≡ true
       → IsKept hello config so_far (at_first inputs) (Opened 0 hello_first)
   begins so_far inputs kept answers steps begun created = record {
@@ -212,19 +221,21 @@ module _ (config : Settings) (some : 1 ≤ config.pages) (few : config.pages ≤
   }
 
   -- a slice of a hundred steps, and more
-  abbrev given : Option ℕ → List Act → Inputs
+  abbrev pub given : Option ℕ → List Act → Inputs
   given stop acts = record (in_peace [] (Slice 100 ∷ acts)) { stop = stop }
 
   -- it tells its line
-  tells : (so_far : Promise) (stop : Option ℕ) (acts : List Act) → so_far.passed ≡ 0
+  pub tells : (so_far : Promise) (stop : Option ℕ) (acts : List Act) → so_far.kept ≡ []
+      → so_far.passed ≡ 0
       → IsKept hello config so_far (next_stage (at_first (given stop acts)) (Opened 0 hello_first))
       (Told hi_told true)
-  tells so_far stop acts passed = record {
+  tells so_far stop acts kept passed = record {
     is_line = record {
       answers = 0;
       steps = 8;
       process = (hello_at_end config).process;
       reached = (hello_at_end config).reached;
+      up_to = subst (λ (l : List Kept). IsNarrowTo l 8) (sym kept) tt;
       place = 0;
       counted = refl;
       is = ap (λ (z : List Line). slice_get z 0) (hello_at_end config).lines;
@@ -240,7 +251,7 @@ module _ (config : Settings) (some : 1 ≤ config.pages) (few : config.pages ≤
   lives_cut = record {
     kept = (
       begins creation_begun cut_inputs refl refl (omega arith) (omega arith) refl,
-      (tells (after creation_begun (Opened 0 hello_first)) (Some 30) [] refl, tt),
+      (tells (after creation_begun (Opened 0 hello_first)) (Some 30) [] refl refl, tt),
     );
     ends = (tt, omega arith);
     begins = λ creates. (refl, (refl, refl));
@@ -249,11 +260,11 @@ module _ (config : Settings) (some : 1 ≤ config.pages) (few : config.pages ≤
   abbrev behind_cut : Promise
   behind_cut = promised_by nothing_yet cut_life
 
-  abbrev ended_event : ℕ → Event
+  abbrev pub ended_event : ℕ → Event
   ended_event fuel = Ended (Slice fuel) (Over (Exited 7)) 0 hello_last
 
   -- it has ended, and its line was told
-  ends_slice : (so_far : Promise) (stage : Stage) (fuel : ℕ) (acts : List Act)
+  pub ends_slice : (so_far : Promise) (stage : Stage) (fuel : ℕ) (acts : List Act)
       → so_far.kept ≡ [] → stage.acts ≡ Slice fuel ∷ acts → stage.phase ≡ Open → stage.step ≤ 8
       → 8 ≤ stage.step + fuel → stage.line ≡ Some 1
       → IsKept hello config so_far stage (ended_event fuel)
@@ -269,6 +280,7 @@ module _ (config : Settings) (some : 1 ≤ config.pages) (few : config.pages ≤
       record { all_taken = sym (ap length kept); all_told = told },
     );
     bound = tt;
+    widens = λ differs. absurd (differs refl);
   }
 
   lives_on : IsLived hello config behind_cut last_inputs last_life
@@ -281,7 +293,7 @@ module _ (config : Settings) (some : 1 ≤ config.pages) (few : config.pages ≤
         kept = (
           begins behind_cut last_inputs refl refl (omega arith) (omega arith) refl,
           (
-            tells opened None (Checkpoint ∷ []) refl,
+            tells opened None (Checkpoint ∷ []) refl refl,
             (
               ends_slice told told_stage 100 (Checkpoint ∷ []) refl refl refl (omega arith)
                   (omega arith) refl,
@@ -293,6 +305,7 @@ module _ (config : Settings) (some : 1 ≤ config.pages) (few : config.pages ≤
                   onward = omega arith;
                   reply = (refl, refl, record { all_taken = refl; all_told = refl });
                   bound = tt;
+                  widens = λ differs. absurd (differs refl);
                 },
                 tt,
               ),

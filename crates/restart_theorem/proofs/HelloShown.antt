@@ -4,6 +4,7 @@ use Rattle.std.proofs.Common.{replicate, refl, sym, subst, lit≤, arith}
 use Rattle.std.proofs.lemmas.List.{length-replicate}
 use Rattle.wasm_syntax.specs.laws.Examples.{hello}
 use Rattle.wasm_semantics.specs.Typed.{IsTyped}
+use Rattle.wasi_abi.specs.declared.version.Version.TheVariants.{One}
 use Rattle.wasi_abi.specs.rules.Answers.{AreBytes}
 use Rattle.wasi_abi.specs.rules.Configs.{Settings}
 use Rattle.process_rules.specs.Processes.{ProcessState, Guest}
@@ -80,6 +81,7 @@ module _ (config : Settings) (some : 1 ≤ config.pages) (few : config.pages ≤
 
   abbrev saved_last : List ℕ → Saved
   saved_last memory = record hello_last {
+    version = One;
     machine = record { frames = []; globals = []; memory = memory; later = [] };
   }
 
@@ -89,6 +91,7 @@ module _ (config : Settings) (some : 1 ≤ config.pages) (few : config.pages ≤
   last_shown : SavedShowsProcess context (program_under config) [] (saved_last last_memory)
       (end_with last_memory)
   last_shown = record {
+    version = refl;
     machine = record {
       typed = last_typed;
       settled = refl;

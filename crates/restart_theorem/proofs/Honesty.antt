@@ -1,12 +1,15 @@
 -- Honest stories keep all promises.
-use Rattle.std.proofs.Common.{◌≡◌, ◌≤◌, ℕ, Bool, true, false, List, [], ◌∷◌, length, take, max}
+use Rattle.std.proofs.Common.{◌≡◌, ◌≤◌, ℕ, Bool, true, false, List, [], ◌∷◌, length, take, drop}
+use Rattle.std.proofs.Common.{max}
 use Rattle.std.proofs.Common.{Some, None, Ok, refl, sym, ap, ◌∙◌, subst, arith}
 use Rattle.wasm_syntax.specs.declared.module.Module.{Module}
 use Rattle.wasi_abi.specs.rules.Configs.{Settings}
 use Rattle.process_rules.specs.Runs.{Kept, Given, Reaches}
-use Rattle.process_rules.specs.Behind.{AnswersBehindLine}
-use Rattle.restart_theorem.specs.Lives.{Act, Slice, Checkpoint, Inputs, OfOutlet, Spent, Waits, Done}
-use Rattle.restart_theorem.specs.Lives.{Fails, Event, Told, Asked, Opened, Ended, Beginning, Recovers}
+use Rattle.process_rules.specs.Behind.{IsNarrowTo, AnswersBehindLine}
+use Rattle.restart_theorem.specs.Lives.{Act, Slice, Checkpoint, Inputs, OfOutlet, Spent, Waits}
+use Rattle.restart_theorem.specs.Lives.{Done}
+use Rattle.restart_theorem.specs.Lives.{Fails, Event, Told, Asked, Opened, Ended, Beginning}
+use Rattle.restart_theorem.specs.Lives.{Recovers}
 use Rattle.restart_theorem.specs.Lives.{Creates}
 use Rattle.restart_theorem.specs.Courses.{Stage, NoneThere, at_first, next_stage, first_taken}
 use Rattle.restart_theorem.specs.Promises.{Promise, nothing_yet, after, promised_by, IsAt, HoldsAll}
@@ -26,14 +29,15 @@ pub never : {X : Type 0} → Recovers ≡ Creates → X
 never same = absurd (subst IsRecovery same tt)
 
 -- the answers behind so many lines, from a process that has emitted as many
-behind : {m : Module} {config : Settings} (kept : List Kept) (a steps lines i : ℕ)
-    → a ≤ length kept → (s : ShowsAt m config (take a kept) steps lines) → i ≤ lines
-    → AnswersBehindLine m config kept i a
-behind kept a steps lines i within s few = let e = sym s.at.shown.lines ∙ s.lines_are in record {
+pub behind : {m : Module} {config : Settings} (kept : List Kept) (a steps lines i : ℕ)
+    → a ≤ length kept → (s : ShowsAt m config (take a kept) steps lines)
+    → IsNarrowTo (drop a kept) s.saved.steps → i ≤ lines → AnswersBehindLine m config kept i a
+behind kept a steps lines i within s up few = let e = sym s.at.shown.lines ∙ s.lines_are in record {
   within = within;
   steps = s.saved.steps;
   process = s.at.process;
   reached = s.at.reached;
+  up_to = up;
   emitted = omega (arith, e, few);
 }
 
@@ -44,25 +48,26 @@ module _ {m : Module} {config : Settings} (t : Teller m config) where
   abbrev kept_both : List Kept
   kept_both = Given t.hello ∷ Given t.world ∷ []
 
-  some : {n k : ℕ} → n ≡ k → Some n ≡ Some k
+  pub some : {n k : ℕ} → n ≡ k → Some n ≡ Some k
   some same = ap (λ (n : ℕ). Some n) same
 
   -- ---- the first life
 
-  abbrev opened_first : Event
+  abbrev pub opened_first : Event
   opened_first = Opened 0 t.fresh.saved
 
   -- the first opening, whatever is put into the life
-  opens : (inputs : Inputs) → IsKept m config creation_begun (at_first inputs) opened_first
+  pub opens : (inputs : Inputs) → IsKept m config creation_begun (at_first inputs) opened_first
   opens inputs = let none = t.fresh.lines_are in record {
     shut = refl;
     created = refl;
     at = t.fresh.at;
     holds = record {
       within = omega arith;
+      up_to = tt;
       answers = omega arith;
       steps_held = omega arith;
-      lines = λ i few. (0, omega arith, behind [] 0 0 0 i (omega arith) t.fresh few);
+      lines = λ i few. (0, omega arith, behind [] 0 0 0 i (omega arith) t.fresh tt few);
       syncs = λ k a few b. b.within;
     };
     all_heard = omega (arith, none);
@@ -116,6 +121,7 @@ module _ {m : Module} {config : Settings} (t : Teller m config) where
             steps = t.has_first.steps;
             process = t.has_first.process;
             reached = t.has_first.reached;
+            up_to = tt;
             place = 0;
             counted = refl;
             is = t.has_first.is;
@@ -163,6 +169,7 @@ module _ {m : Module} {config : Settings} (t : Teller m config) where
             steps = t.has_second.steps;
             process = t.has_second.process;
             reached = t.has_second.reached;
+            up_to = tt;
             place = 1;
             counted = refl;
             is = t.has_second.is;
@@ -199,6 +206,7 @@ module _ {m : Module} {config : Settings} (t : Teller m config) where
             record { all_taken = refl; all_told = some (sym t.later.lines_are) },
           );
           bound = tt;
+          widens = λ differs. absurd (differs refl);
         }
 
     abbrev sliced : Promise
@@ -212,12 +220,13 @@ module _ {m : Module} {config : Settings} (t : Teller m config) where
       → so_far.begun ≡ 2 → HoldsAll m config kept_both so_far 2 steps
   holds so_far steps answers many two = record {
     within = omega arith;
+    up_to = tt;
     answers = answers;
     steps_held = many;
     lines = λ i few. (
       2,
       omega arith,
-      behind kept_both 2 42 2 i (omega arith) t.later (omega (arith, few, two)),
+      behind kept_both 2 42 2 i (omega arith) t.later tt (omega (arith, few, two)),
     );
     syncs = λ k a few b. b.within;
   }
@@ -226,14 +235,16 @@ module _ {m : Module} {config : Settings} (t : Teller m config) where
 
   retells : (so_far : Promise) (inputs : Inputs)
       → Reaches m config (take 1 so_far.kept) t.has_first.steps t.has_first.process
-      → so_far.passed ≡ 0 → true ≡ first_taken inputs.takes
+      → IsNarrowTo (drop 1 so_far.kept) t.has_first.steps → so_far.passed ≡ 0
+      → true ≡ first_taken inputs.takes
       → IsKept m config so_far (at_first inputs) (Told (line_one t) true)
-  retells so_far inputs reached none heard = record {
+  retells so_far inputs reached up none heard = record {
     is_line = record {
       answers = 1;
       steps = t.has_first.steps;
       process = t.has_first.process;
       reached = reached;
+      up_to = up;
       place = 0;
       counted = refl;
       is = t.has_first.is;
@@ -289,7 +300,7 @@ module _ {m : Module} {config : Settings} (t : Teller m config) where
       let so_far : Promise = after then_promised (Told (line_one t) true) in
       record {
         kept = (
-          retells then_promised (nothing_to_do t) t.has_first.reached none_passed refl,
+          retells then_promised (nothing_to_do t) t.has_first.reached tt none_passed refl,
           (
             reopens so_far (nothing_to_do t) t.replayed.at
                 (holds so_far t.replayed.saved.steps (omega arith) few_steps refl) (omega arith)
@@ -342,7 +353,7 @@ module _ {m : Module} {config : Settings} (t : Teller m config) where
 
   cut_short : IsLived m config then_promised stopped_at_20 (cut_recovery t)
   cut_short = record {
-    kept = (retells then_promised stopped_at_20 t.has_first.reached none_passed refl, tt);
+    kept = (retells then_promised stopped_at_20 t.has_first.reached tt none_passed refl, tt);
     ends = (tt, omega arith);
     begins = λ creates. never creates;
   }
@@ -355,7 +366,7 @@ module _ {m : Module} {config : Settings} (t : Teller m config) where
       let so_far : Promise = after behind_want (Told (line_one t) true) in
       record {
         kept = (
-          retells behind_want (nothing_to_do t) t.has_first.reached none_passed refl,
+          retells behind_want (nothing_to_do t) t.has_first.reached tt none_passed refl,
           (
             reopens so_far (nothing_to_do t) t.replayed.at
                 (holds so_far t.replayed.saved.steps (omega arith) few_steps refl) (omega arith)
@@ -390,6 +401,7 @@ module _ {m : Module} {config : Settings} (t : Teller m config) where
       record { all_taken = refl; all_told = some (sym t.later.lines_are) },
     );
     bound = tt;
+    widens = λ differs. absurd (differs refl);
   }
 
   works_and_saves : IsLived m config nothing_yet (given [] one_checkpoint) (saving_life t)
@@ -460,6 +472,7 @@ module _ {m : Module} {config : Settings} (t : Teller m config) where
         onward = omega (arith, e, f);
         reply = (refl, omega (arith, e, f), omega (arith, l));
         bound = tt;
+        widens = λ differs. absurd (differs refl);
       }
 
   refuses : IsLived m config nothing_yet refusing_inputs (refused_life t)
@@ -491,10 +504,11 @@ module _ {m : Module} {config : Settings} (t : Teller m config) where
         at = t.answered.at;
         holds = record {
           within = omega arith;
+          up_to = tt;
           answers = omega arith;
           steps_held = omega (arith, e);
           lines = λ i few.
-              (1, omega arith, behind kept_one 1 17 1 i (omega arith) t.emitted few);
+              (1, omega arith, behind kept_one 1 17 1 i (omega arith) t.emitted tt few);
           syncs = λ k a few b. b.within;
         };
         all_heard = omega (arith, none);
@@ -520,6 +534,7 @@ module _ {m : Module} {config : Settings} (t : Teller m config) where
           steps = t.has_first.steps;
           process = t.has_first.process;
           reached = t.has_first.reached;
+          up_to = tt;
           place = 0;
           counted = refl;
           is = t.has_first.is;
@@ -569,6 +584,7 @@ module _ {m : Module} {config : Settings} (t : Teller m config) where
           record { all_taken = refl; all_told = some (sym t.asking.lines_are) },
         );
         bound = tt;
+        widens = λ differs. absurd (differs refl);
       }
 
   told_again_story : GoesOn m config (refusing_inputs ∷ telling_inputs ∷ [])

@@ -19,6 +19,7 @@ use Rattle.wasi_calls.proofs.FewLines.{ended_kept}
 use Rattle.process_rules.specs.Processes.{ProcessState, Guest, HasLineNumbers, closed_at}
 use Rattle.process_rules.specs.Runs.{Next, On, Over, Wants, Nowhere, after_row, after_call}
 use Rattle.process_rules.specs.Runs.{after_rule, next_of, stepped, LeadsTo, Moves, none, step, take}
+use Rattle.process_rules.specs.Runs.{widened, widen}
 use Rattle.process_rules.proofs.Growing.{move_counts}
 use Rattle.record_replay.specs.rules.Records.{none as no_record, more as more_records}
 use Rattle.restart_theorem.specs.Stands.{IsNumbered}
@@ -119,6 +120,10 @@ runs_keep_numbers guest p q kept n
     (take {p = p'} {q = next} {a = a} {kept = kept'} {n = k} moves rest) has =
     move_keeps_numbers guest p' next (Some a) moves
     (runs_keep_numbers guest next q kept' k rest has)
+runs_keep_numbers guest p q kept n (widen {p = p'} {kept = kept'} {n = k} at rest) has =
+    let before : IsNumbered (widened p') =
+    runs_keep_numbers guest (widened p') q kept' k rest has in
+    record { steps = before.steps; lines = before.lines }
 
 pub records_keep_numbers : RecordsKeepNumbers
 records_keep_numbers guest p q records (no_record {p = p'}) has = has

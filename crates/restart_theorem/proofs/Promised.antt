@@ -12,7 +12,8 @@ use Rattle.restart_theorem.specs.Promises.{Promise, nothing_yet, after, promised
 use Rattle.restart_theorem.specs.Promises.{promised_by, IsKept, AreKept, GoOn}
 use Rattle.restart_theorem.specs.laws.Laws.{HasOneText, HaveOneText, PromisesAreOfKept}
 use Rattle.restart_theorem.specs.laws.Laws.{NoNumberHasTwoTexts, CallsJoin}
-use Rattle.restart_theorem.proofs.Fronts.{one_line, line_of_front, line_of_more}
+use Rattle.restart_theorem.proofs.Fronts.{one_line, line_of_front, line_of_more, said_widens_none}
+use Rattle.restart_theorem.proofs.Widenings.{line_at_end}
 
 pub kept_of_promised : (so_far : Promise) (events : List Event)
     → (promised so_far events).kept ≡ kept_after so_far.kept events
@@ -133,13 +134,17 @@ module _ (m : Module) (config : Settings) where
   )
   agrees so_far (Asked n k said fits ∷ events) r valid kept was is =
       agrees (after so_far (Asked n k said fits)) events r valid kept.1 was
-      (line_of_more m config so_far.kept (kept_of_said said fits) r.number r.line is)
+      (line_of_more m config so_far.kept (kept_of_said said fits) r.number r.line is
+      (said_widens_none said fits is.steps))
   agrees so_far (Opened held shown ∷ events) r valid kept was is =
       let enough = kept.0.kept.holds.lines r.number was in
       agrees (after so_far (Opened held shown)) events r valid kept.1 was
       (line_of_front m config so_far.kept r.number held enough.0 r.line valid is enough.1 enough.2)
   agrees so_far (Ended act reply held shown ∷ events) r valid kept was is =
-      agrees (after so_far (Ended act reply held shown)) events r valid kept.1 was is
+      agrees (after so_far (Ended act reply held shown)) events r valid kept.1 was
+      (line_at_end m config
+      (record so_far { was_created = kept.0.was_created; events = kept.0.events }) kept.0.stage act
+      reply held shown r.number r.line valid kept.0.kept was is)
 
   one_text : (so_far : Promise) (events : List Event) → IsValid m
       → AreKeptSomewhere m config so_far events → HaveOneText (told_in events)

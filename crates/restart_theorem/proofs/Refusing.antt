@@ -1,6 +1,6 @@
 -- Why the restart theorem refuses workers that nobody wants.
 use Rattle.std.proofs.Common.{◌≡◌, ◌≤◌, ℕ, ◌+◌, ◌^◌, Bool, true, false, List, [], ◌∷◌, length}
-use Rattle.std.proofs.Common.{Option}
+use Rattle.std.proofs.Common.{⊎_elim, Option}
 use Rattle.std.proofs.Common.{Some, None, Ok, Err, refl, sym, ap, ◌∙◌, subst, arith}
 use Rattle.std.proofs.lemmas.Option.{same_Some}
 use Rattle.wasm_syntax.specs.declared.module.Module.{Module}
@@ -10,8 +10,9 @@ use Rattle.wasi_calls_rules.specs.Hosts.{Line}
 use Rattle.process_rules.specs.Runs.{Kept, Reaches}
 use Rattle.process_rules.proofs.OneProcess.{one_process}
 use Rattle.state_image.specs.rules.Image.{Saved}
-use Rattle.restart_theorem.specs.Lives.{Act, Slice, Checkpoint, SourceSaid, Cause, OfDisk, OfSource}
-use Rattle.restart_theorem.specs.Lives.{OfAnswer, OfOutlet, OfMemory, OfBounds, Reply, Spent}
+use Rattle.restart_theorem.specs.Lives.{Act, Slice, Checkpoint, Upgrade, SourceSaid, Cause, OfDisk}
+use Rattle.restart_theorem.specs.Lives.{OfSource, OfAnswer, OfOutlet, OfMemory, OfBounds, OfJournal}
+use Rattle.restart_theorem.specs.Lives.{OfLines, Reply, Spent, kept_by_end}
 use Rattle.restart_theorem.specs.Lives.{Waits, Over, Done, Fails, Event, Told, Asked, Opened, Ended}
 use Rattle.restart_theorem.specs.Lives.{End, Finished, Stopped, Failed, Life, told_lines}
 use Rattle.restart_theorem.specs.Courses.{Phase, Shut, Open, NoneThere, Closed, Stage, at_first}
@@ -19,12 +20,13 @@ use Rattle.restart_theorem.specs.Courses.{next_stage, stage_after, ComesAfter, I
 use Rattle.restart_theorem.specs.Courses.{IsAskedIn}
 use Rattle.restart_theorem.specs.Courses.{MayFail, MayEnd}
 use Rattle.restart_theorem.specs.Promises.{Promise, after, nothing_yet, fuel_of, IsKept, IsAt}
-use Rattle.restart_theorem.specs.Promises.{promised, as_begun, IsReply, IsOneOf}
+use Rattle.restart_theorem.specs.Promises.{promised, as_begun, MayPlead, IsReply, IsOneOf}
 use Rattle.restart_theorem.specs.laws.Laws.{HaveOneText}
 use Rattle.restart_theorem.specs.laws.Refused.{in_peace, created_life, recovered_life, first_line}
-use Rattle.restart_theorem.specs.laws.Refused.{IsFromOutside, source, answer, outlet, RefusedEvents}
+use Rattle.restart_theorem.specs.laws.Refused.{IsFromOutside, source, misfit, outlet, RefusedEvents}
 use Rattle.restart_theorem.specs.laws.Refused.{RefusedWorkers, creation_begun}
 use Rattle.restart_theorem.proofs.Promised.{no_two_texts}
+use Rattle.restart_theorem.proofs.Pleas.{fails_or_open}
 
 -- ---- what differs
 
@@ -74,47 +76,91 @@ module _ (m : Module) (config : Settings) (so_far : Promise) (stage : Stage) whe
   closed cause (Opened held shown) is kept = shut_is (sym is ∙ kept.shut)
   closed cause (Ended act reply held shown) is kept = no_end act reply held shown kept.reply
     where
+      kept_then : Act → Saved → List Kept
+      kept_then act shown = kept_by_end act shown so_far.kept
+
+      no_plea : (kept : List Kept) (act : Act) (other : Cause)
+          → MayPlead config kept stage act other → ⊥
+      no_plea kept act other may =
+          ⊎_elim
+          (λ (fails : MayFail stage.phase other). subst (λ (q : Phase). MayFail q other) is fails)
+          (λ (opened : stage.phase ≡ Open). open_is (sym is ∙ opened))
+          (fails_or_open config kept stage act other may)
+
       no_end : (act : Act) (reply : Reply) (held : ℕ) (shown : Saved)
-          → IsReply so_far stage held shown act reply → ⊥
+          → IsReply config (kept_then act shown) stage held shown act reply → ⊥
       no_end (Slice fuel) Spent held shown ends = open_is (sym is ∙ ends.0)
       no_end (Slice fuel) Waits held shown ends = none_is (sym is ∙ ends.0)
       no_end (Slice fuel) (Over why) held shown ends = open_is (sym is ∙ ends.0)
       no_end (Slice fuel) Done held shown ends = ends
       no_end (Slice fuel) (Fails other) held shown ends =
-          subst (λ (q : Phase). MayFail q other) is ends.0
+          no_plea (kept_then (Slice fuel) shown) (Slice fuel) other ends.0
       no_end Checkpoint Spent held shown ends = ends
       no_end Checkpoint Waits held shown ends = ends
       no_end Checkpoint (Over why) held shown ends = ends
       no_end Checkpoint Done held shown ends = open_is (sym is ∙ ends.0)
       no_end Checkpoint (Fails other) held shown ends =
-          subst (λ (q : Phase). MayFail q other) is ends.0
+          no_plea (kept_then Checkpoint shown) Checkpoint other ends.0
+      no_end Upgrade Spent held shown ends = ends
+      no_end Upgrade Waits held shown ends = ends
+      no_end Upgrade (Over why) held shown ends = ends
+      no_end Upgrade Done held shown ends = open_is (sym is ∙ ends.0)
+      no_end Upgrade (Fails other) held shown ends =
+          no_plea (kept_then Upgrade shown) Upgrade other ends.0
 
-  within_fuel : (act : Act) (reply : Reply) (held : ℕ) (shown : Saved)
-      → IsReply so_far stage held shown act reply → shown.steps ≤ stage.step + fuel_of act
-  within_fuel (Slice fuel) Spent held shown ends = let e = ends.1 in omega (arith, e)
-  within_fuel (Slice fuel) Waits held shown ends = let e = ends.1 in omega (arith, e)
-  within_fuel (Slice fuel) (Over why) held shown ends = ends.1
-  within_fuel (Slice fuel) Done held shown ends = absurd ends
-  within_fuel (Slice fuel) (Fails other) held shown ends = ends.1
-  within_fuel Checkpoint Spent held shown ends = absurd ends
-  within_fuel Checkpoint Waits held shown ends = absurd ends
-  within_fuel Checkpoint (Over why) held shown ends = absurd ends
-  within_fuel Checkpoint Done held shown ends = let e = ends.1 in omega (arith, e)
-  within_fuel Checkpoint (Fails other) held shown ends = ends.1
+  pub within_fuel : (kept : List Kept) (act : Act) (reply : Reply) (held : ℕ) (shown : Saved)
+      → IsReply config kept stage held shown act reply → shown.steps ≤ stage.step + fuel_of act
+  within_fuel kept (Slice fuel) Spent held shown ends = let e = ends.1 in omega (arith, e)
+  within_fuel kept (Slice fuel) Waits held shown ends = let e = ends.1 in omega (arith, e)
+  within_fuel kept (Slice fuel) (Over why) held shown ends = ends.1
+  within_fuel kept (Slice fuel) Done held shown ends = absurd ends
+  within_fuel kept (Slice fuel) (Fails other) held shown ends = ends.1
+  within_fuel kept Checkpoint Spent held shown ends = absurd ends
+  within_fuel kept Checkpoint Waits held shown ends = absurd ends
+  within_fuel kept Checkpoint (Over why) held shown ends = absurd ends
+  within_fuel kept Checkpoint Done held shown ends = let e = ends.1 in omega (arith, e)
+  within_fuel kept Checkpoint (Fails other) held shown ends = ends.1
+  within_fuel kept Upgrade Spent held shown ends = absurd ends
+  within_fuel kept Upgrade Waits held shown ends = absurd ends
+  within_fuel kept Upgrade (Over why) held shown ends = absurd ends
+  within_fuel kept Upgrade Done held shown ends = let e = ends.1 in omega (arith, e)
+  within_fuel kept Upgrade (Fails other) held shown ends = ends.1
 
-  among : (act : Act) (cause : Cause) (held : ℕ) (shown : Saved)
-      → IsReply so_far stage held shown act (Fails cause) → IsOneOf stage.line shown.lines
-  among (Slice fuel) cause held shown ends = ends.2
-  among Checkpoint cause held shown ends = ends.2
+  among : (kept : List Kept) (act : Act) (cause : Cause) (held : ℕ) (shown : Saved)
+      → IsReply config kept stage held shown act (Fails cause) → IsOneOf stage.line shown.lines
+  among kept (Slice fuel) cause held shown ends = ends.2
+  among kept Checkpoint cause held shown ends = ends.2
+  among kept Upgrade cause held shown ends = ends.2
 
   -- an error from outside, in a call that nobody has failed
   no_cause : (cause : Cause) → IsFromOutside cause → MayFail Open cause → ⊥
   no_cause OfSource source may = may
-  no_cause OfAnswer answer may = may
+  no_cause OfAnswer misfit may = may
   no_cause OfOutlet outlet may = may
   no_cause OfDisk outside may = elim outside [ ]
   no_cause OfMemory outside may = elim outside [ ]
   no_cause OfBounds outside may = elim outside [ ]
+  no_cause OfJournal outside may = elim outside [ ]
+  no_cause OfLines outside may = elim outside [ ]
+
+  -- nor in an upgrade
+  no_outside : (kept : List Kept) (act : Act) (cause : Cause) → IsFromOutside cause
+      → stage.phase ≡ Open → MayPlead config kept stage act cause → ⊥
+  no_outside kept (Slice fuel) cause outside is may =
+      no_cause cause outside (subst (λ (q : Phase). MayFail q cause) is may)
+  no_outside kept Checkpoint cause outside is may =
+      no_cause cause outside (subst (λ (q : Phase). MayFail q cause) is may)
+  no_outside kept Upgrade OfSource source is may =
+      subst (λ (q : Phase). MayFail q OfSource) is may
+  no_outside kept Upgrade OfAnswer misfit is may =
+      subst (λ (q : Phase). MayFail q OfAnswer) is may
+  no_outside kept Upgrade OfOutlet outlet is may =
+      subst (λ (q : Phase). MayFail q OfOutlet) is may
+  no_outside kept Upgrade OfDisk outside is may = elim outside [ ]
+  no_outside kept Upgrade OfMemory outside is may = elim outside [ ]
+  no_outside kept Upgrade OfBounds outside is may = elim outside [ ]
+  no_outside kept Upgrade OfJournal outside is may = elim outside [ ]
+  no_outside kept Upgrade OfLines outside is may = elim outside [ ]
 
   pub refused_events : RefusedEvents m config so_far stage
   refused_events = record {
@@ -146,16 +192,18 @@ module _ (m : Module) (config : Settings) (so_far : Promise) (stage : Stage) whe
         (let none = kept.none_skipped in omega (arith, none, h));
     tells_a_saved_line = λ r t h kept.
         (let passed = kept.not_passed in omega (arith, passed, h));
-    ends_with_more_than_was_kept = λ act reply held shown h kept.
+    ends_with_more_than_is_kept = λ act reply held shown h kept.
         (let within = kept.within in omega (arith, within, h));
     takes_back_a_step = λ act reply held shown h kept.
         (let onward = kept.onward in omega (arith, onward, h));
     runs_past_its_fuel = λ act reply held shown h kept.
-        (let few = within_fuel act reply held shown kept.reply in omega (arith, few, h));
+        (let few = within_fuel (kept_by_end act shown so_far.kept) act reply held shown kept.reply
+        in
+        omega (arith, few, h));
     ends_before_its_lines = λ act cause last held shown is h kept.
         (let few : last ≤ shown.lines =
-        subst (λ (l : Option ℕ). IsOneOf l shown.lines) is (among act cause held shown kept.reply)
-        in
+        subst (λ (l : Option ℕ). IsOneOf l shown.lines) is
+        (among (kept_by_end act shown so_far.kept) act cause held shown kept.reply) in
         omega (arith, few, h));
     leaves_an_answer_behind = λ fuel held shown h kept.
         (let all = kept.reply.3.all_taken in omega (arith, all, h));
@@ -164,14 +212,16 @@ module _ (m : Module) (config : Settings) (so_far : Promise) (stage : Stage) whe
         same_Some last shown.lines (sym is ∙ kept.reply.3.all_told) in
         omega (arith, all, h));
     fails_without_a_cause = λ act cause held shown is outside kept.
-        no_cause cause outside
-        (subst (λ (q : Phase). MayFail q cause) is (fails act cause held shown kept.reply));
+        no_outside (kept_by_end act shown so_far.kept) act cause outside is
+        (fails (kept_by_end act shown so_far.kept) act cause held shown kept.reply);
   }
     where
-      fails : (act : Act) (cause : Cause) (held : ℕ) (shown : Saved)
-          → IsReply so_far stage held shown act (Fails cause) → MayFail stage.phase cause
-      fails (Slice fuel) cause held shown ends = ends.0
-      fails Checkpoint cause held shown ends = ends.0
+      fails : (kept : List Kept) (act : Act) (cause : Cause) (held : ℕ) (shown : Saved)
+          → IsReply config kept stage held shown act (Fails cause)
+          → MayPlead config kept stage act cause
+      fails kept (Slice fuel) cause held shown ends = ends.0
+      fails kept Checkpoint cause held shown ends = ends.0
+      fails kept Upgrade cause held shown ends = ends.0
 
 -- ---- lives
 
@@ -188,6 +238,8 @@ module _ (m : Module) (config : Settings) where
   shut_ends says acts calls (Failed OfMemory) may = refl
   shut_ends says acts calls (Failed OfBounds) may = let e : 2 ^ 63 ≤ 1 = may.0 in
       absurd (omega (arith, e))
+  shut_ends says acts calls (Failed OfJournal) may = absurd may.0
+  shut_ends says acts calls (Failed OfLines) may = absurd may.0
 
   -- an open life in peace ends when all is done
   undone_ends : (act : Act) (acts : List Act) (says : List SourceSaid) (calls : ℕ) (first : Saved)

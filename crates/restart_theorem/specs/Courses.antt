@@ -2,10 +2,10 @@
 use Rattle.std.specs.Prelude.{◌≡◌, ℕ, ◌+◌, ◌<◌, ◌≤◌, Bool, true, false, List, [], ◌∷◌}
 use Rattle.std.specs.Prelude.{Option, Some, None, Ok, Err}
 use Rattle.wasi_abi.specs.declared.numbers.TheConstants.{NUMBERS_END}
-use Rattle.restart_theorem.specs.Lives.{Act, Slice, Checkpoint, SourceSaid, Inputs}
+use Rattle.restart_theorem.specs.Lives.{Act, Slice, Checkpoint, Upgrade, SourceSaid, Inputs}
 use Rattle.restart_theorem.specs.Lives.{Cause, OfDisk, OfSource, OfAnswer, OfOutlet, OfMemory}
 use Rattle.restart_theorem.specs.Lives.{OfBounds}
-use Rattle.restart_theorem.specs.Lives.{Reply, Fails, Event, Told, Asked, Opened, Ended}
+use Rattle.restart_theorem.specs.Lives.{Reply, Over, Fails, Event, Told, Asked, Opened, Ended}
 use Rattle.restart_theorem.specs.Lives.{End, Finished, Stopped, Failed}
 
 -- what a life is doing
@@ -33,6 +33,9 @@ pub record Stage : Type 0 where
   pub step : ℕ
   -- the number of the last line told in this life, or with which it opened
   pub line : Option ℕ
+  -- whether it has asked since it opened, or its process has ended: then an upgrade may not refuse
+  -- for lines that earlier lives may have told
+  pub is_abreast : Bool
 
 -- where a life begins
 abbrev pub at_first : Inputs → Stage
@@ -43,6 +46,7 @@ at_first inputs = record {
   acts = inputs.acts;
   step = 0;
   line = None;
+  is_abreast = false;
 }
 
 -- ---- one event
@@ -84,6 +88,11 @@ abbrev pub phase_ended : Reply → Phase
 phase_ended (Fails cause) = Closed cause
 phase_ended _ = Open
 
+-- whether a life is abreast of earlier ones after a call that has answered so
+abbrev pub abreast_by : Reply → Bool → Bool
+abreast_by (Over why) is_abreast = true
+abreast_by _ is_abreast = is_abreast
+
 -- where a life stands after an event
 abbrev pub next_stage : Stage → Event → Stage
 next_stage stage (Told r is_taken) = record stage {
@@ -94,16 +103,19 @@ next_stage stage (Told r is_taken) = record stage {
 next_stage stage (Asked steps kind said fits) = record stage {
   phase = phase_asked steps said fits;
   says = without_first stage.says;
+  is_abreast = true;
 }
 next_stage stage (Opened held shown) = record stage {
   phase = Open;
   step = shown.steps;
   line = Some shown.lines;
+  is_abreast = false;
 }
 next_stage stage (Ended act reply held shown) = record stage {
   phase = phase_ended reply;
   acts = without_first stage.acts;
   step = shown.steps;
+  is_abreast = abreast_by reply stage.is_abreast;
 }
 
 -- where it stands after these
@@ -117,6 +129,7 @@ stage_after stage (e ∷ events) = stage_after (next_stage stage e) events
 abbrev pub IsWithinSlice : List Act → ℕ → ℕ → Type 0
 IsWithinSlice (Slice fuel ∷ acts) step steps = (step ≤ steps) × (steps ≤ step + fuel)
 IsWithinSlice (Checkpoint ∷ acts) step steps = ⊥
+IsWithinSlice (Upgrade ∷ acts) step steps = ⊥
 IsWithinSlice [] step steps = ⊥
 
 -- A line is told in a recovery, or in a slice that has come to its step.

@@ -4,18 +4,21 @@ use Rattle.std.specs.Prelude.{ℕ, Bool, true, false, List, [], ◌∷◌, ◌++
 use Rattle.std.specs.Prelude.{Option, Some, None, Result, Ok, Err}
 use Rattle.wasi_abi.specs.declared.answer.Kind.{Kind}
 use Rattle.wasi_abi.specs.declared.answer.Answer.{Answer}
+use Rattle.wasi_abi.specs.declared.version.Version.{Version}
+use Rattle.wasi_abi.specs.declared.version.Version.TheVariants.{One, Two}
 use Rattle.wasi_calls_rules.specs.Hosts.{Line}
 use Rattle.process_rules.specs.Processes.{Ending}
-use Rattle.process_rules.specs.Runs.{Kept, Given}
+use Rattle.process_rules.specs.Runs.{Kept, Given, Wider, version_after}
 use Rattle.record_replay.specs.declared.fault.SourceFault.{SourceFault}
 use Rattle.state_image.specs.rules.Image.{Saved}
 
 -- ---- what is put into a life
 
--- the calls of a worker that is open
+-- The calls of a worker that is open. An upgrade saves it as one of version 2.
 pub data Act : Type 0 where
   Slice : (fuel : ℕ) → Act
   Checkpoint : Act
+  Upgrade : Act
 
 -- what a source says to a question: an answer, that it has none now, or a fault
 abbrev pub SourceSaid : Type 0
@@ -51,9 +54,13 @@ pub data Cause : Type 0 where
   OfMemory : Cause
   -- a number would reach its end
   OfBounds : Cause
+  -- the journal can't take each record of version 2
+  OfJournal : Cause
+  -- lines beyond the process may have been told
+  OfLines : Cause
 
 -- What a call answers. A slice says that its steps are taken, that an answer isn't there, or that
--- the process has ended. A checkpoint says that it is done.
+-- the process has ended. A checkpoint and an upgrade say that they are done.
 pub data Reply : Type 0 where
   Spent : Reply
   Waits : Reply
@@ -106,6 +113,18 @@ kept_of_said (Ok (Some a)) false = []
 kept_of_said (Ok None) fits = []
 kept_of_said (Err e) fits = []
 
+-- what is kept once a process of the one version is shown in the other, after so many steps
+abbrev pub kept_by_widening : Version → Version → ℕ → List Kept → List Kept
+kept_by_widening One Two steps kept = kept ++ Wider steps ∷ []
+kept_by_widening before now steps kept = kept
+
+-- What is kept once a call has ended. Only an upgrade adds to it: that the process which it shows
+-- was widened, whether or not the call failed then.
+abbrev pub kept_by_end : Act → Saved → List Kept → List Kept
+kept_by_end Upgrade shown kept =
+    kept_by_widening (version_after kept) shown.version shown.steps kept
+kept_by_end act shown kept = kept
+
 -- what is kept after these events; a life that opens goes on from those that it holds
 abbrev pub kept_after : List Kept → List Event → List Kept
 kept_after kept [] = kept
@@ -113,7 +132,8 @@ kept_after kept (Told r is_taken ∷ events) = kept_after kept events
 kept_after kept (Asked steps kind said fits ∷ events) =
     kept_after (kept ++ kept_of_said said fits) events
 kept_after kept (Opened held shown ∷ events) = kept_after (take held kept) events
-kept_after kept (Ended act reply held shown ∷ events) = kept_after kept events
+kept_after kept (Ended act reply held shown ∷ events) =
+    kept_after (kept_by_end act shown kept) events
 
 -- the kept answers: those that the lives so far stand on
 abbrev pub kept_answers : List Life → List Kept

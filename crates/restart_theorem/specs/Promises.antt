@@ -1,6 +1,6 @@
 -- What is promised over lives: the restart theorem in the subject's words (this project's own).
-use Rattle.std.specs.Prelude.{◌≡◌, ◌⊎◌, ℕ, ◌+◌, ◌-◌, ◌≤◌, ◌<◌, max, Bool, true, false}
-use Rattle.std.specs.Prelude.{List, [], ◌∷◌, ◌++◌, length, take, Option, Some, None, Ok}
+use Rattle.std.specs.Prelude.{◌≡◌, ◌≢◌, ◌⊎◌, ℕ, ◌+◌, ◌-◌, ◌≤◌, ◌<◌, max, Bool, true, false}
+use Rattle.std.specs.Prelude.{List, [], ◌∷◌, ◌++◌, length, take, drop, Option, Some, None, Ok}
 use Rattle.wasm_syntax.specs.declared.module.Module.{Module}
 use Rattle.wasm_syntax.specs.declared.types.FunctionType.{FunctionType}
 use Rattle.wasm_semantics.specs.Validity.{module_context, AreFunctionTypes}
@@ -9,18 +9,21 @@ use Rattle.wasi_abi.specs.declared.answer.Kind.{Kind}
 use Rattle.wasi_abi.specs.declared.answer.Answer.{Answer}
 use Rattle.wasi_abi.specs.rules.Answers.{Fits}
 use Rattle.wasi_abi.specs.rules.Configs.{Settings}
+use Rattle.wasi_abi.specs.declared.version.Version.TheVariants.{One, Two}
 use Rattle.wasi_abi.specs.rules.Versions.{text_limit}
 use Rattle.wasm_semantics.specs.Configuration.{Configuration}
 use Rattle.wasi_calls_rules.specs.Hosts.{Host}
 use Rattle.process_rules.specs.Processes.{ProcessState, HasLineNumbers}
-use Rattle.process_rules.specs.Runs.{Kept, On, Wants, next_of, Reaches}
-use Rattle.process_rules.specs.Behind.{AnswersBehindLine, AnswersBehindSync, IsLine}
+use Rattle.process_rules.specs.Runs.{Kept, On, Wants, next_of, version_after, Reaches}
+use Rattle.process_rules.specs.Behind.{IsNarrowTo, AnswersBehindLine, AnswersBehindSync, IsLine}
+use Rattle.disk_layout.specs.rules.Journal.{TakesRecords}
 use Rattle.state_image.specs.rules.Image.{Saved, SavedShowsProcess}
-use Rattle.restart_theorem.specs.Lives.{Act, Slice, Checkpoint, SourceSaid, Inputs, Release}
+use Rattle.restart_theorem.specs.Lives.{Act, Slice, Checkpoint, Upgrade, SourceSaid, Inputs}
+use Rattle.restart_theorem.specs.Lives.{Release, Cause, OfJournal, OfLines}
 use Rattle.restart_theorem.specs.Lives.{OfBounds, Reply, Spent, Waits, Over, Done, Fails}
 use Rattle.restart_theorem.specs.Lives.{Event, Told, Asked, Opened, Ended, Beginning, Recovers}
 use Rattle.restart_theorem.specs.Lives.{Creates, Life}
-use Rattle.restart_theorem.specs.Lives.{kept_of_said}
+use Rattle.restart_theorem.specs.Lives.{kept_of_said, kept_by_end}
 use Rattle.restart_theorem.specs.Courses.{Stage, Shut, Open, NoneThere, at_first, next_stage}
 use Rattle.restart_theorem.specs.Courses.{stage_after, first_said, first_taken, IsToldIn, IsAskedIn}
 use Rattle.restart_theorem.specs.Courses.{ComesAfter, IsLast, IsNextAct, MayFail, MayEnd}
@@ -68,9 +71,11 @@ abbrev pub synced_by : Reply → ℕ → ℕ
 synced_by (Fails cause) steps = steps - 1
 synced_by _ steps = steps
 
--- how much of this count a call makes sure of for good: a checkpoint that is done all of it
+-- how much of this count a call makes sure of for good: a checkpoint or an upgrade that is done all
+-- of it
 abbrev pub saved_by : Act → Reply → ℕ → ℕ
 saved_by Checkpoint Done count = count
+saved_by Upgrade Done count = count
 saved_by _ reply count = 0
 
 -- the number of a line that the outlet took
@@ -102,6 +107,7 @@ after so_far (Opened held shown) = record so_far {
   events = so_far.events + 1;
 }
 after so_far (Ended act reply held shown) = record so_far {
+  kept = kept_by_end act shown so_far.kept;
   answers = max (saved_by act reply held) so_far.answers;
   steps = max (saved_by act reply shown.steps) so_far.steps;
   passed = max (saved_by act reply shown.lines) so_far.passed;
@@ -182,11 +188,13 @@ pub record IsInquiring (m : Module) (config : Settings) (so_far : Promise) (stag
   pub heard : question.said ≡ first_said stage.says
 
 -- A front of so many kept answers, with a process of so many steps, holds all that was promised. It
--- has as many answers and steps. It has the answers behind each line whose release was begun, and
--- those behind each sync of the guest that returned.
+-- has as many answers and steps, and has not run past a widening that is kept next. It has the
+-- answers behind each line whose release was begun, and those behind each sync of the guest that
+-- returned.
 pub record HoldsAll (m : Module) (config : Settings) (kept : List Kept) (so_far : Promise)
     (held steps : ℕ) : Type 0 where
   pub within : held ≤ length kept
+  pub up_to : IsNarrowTo (drop held kept) steps
   pub answers : so_far.answers ≤ held
   pub steps_held : so_far.steps ≤ steps
   pub lines : (i : ℕ) → i ≤ so_far.begun
@@ -208,8 +216,8 @@ pub record IsOpening (m : Module) (config : Settings) (so_far : Promise) (stage 
 -- ---- ends of calls
 
 -- all kept answers were taken, and each line was told, once in this life and none beyond
-pub record IsCaughtUp (so_far : Promise) (stage : Stage) (held : ℕ) (shown : Saved) : Type 0 where
-  pub all_taken : held ≡ length so_far.kept
+pub record IsCaughtUp (kept : List Kept) (stage : Stage) (held : ℕ) (shown : Saved) : Type 0 where
+  pub all_taken : held ≡ length kept
   pub all_told : stage.line ≡ Some shown.lines
 
 -- The last line that was told, if there is one, is among the first so many.
@@ -221,26 +229,42 @@ IsOneOf (Some last) lines = last ≤ lines
 abbrev pub fuel_of : Act → ℕ
 fuel_of (Slice fuel) = fuel
 fuel_of Checkpoint = 0
+fuel_of Upgrade = 0
+
+-- Why an act may fail. An upgrade, and nothing else, may also say that the journal can't take each
+-- record of version 2. Or it may say of a worker of version 1 that lines beyond it may have been
+-- told: until the life has asked, or the process has ended.
+abbrev pub MayPlead : Settings → List Kept → Stage → Act → Cause → Type 0
+MayPlead config kept stage Upgrade OfJournal =
+    (stage.phase ≡ Open) × (TakesRecords Two config.journal → ⊥)
+MayPlead config kept stage Upgrade OfLines =
+    (stage.phase ≡ Open) × (version_after kept ≡ One) × (stage.is_abreast ≡ false)
+MayPlead config kept stage act cause = MayFail stage.phase cause
 
 -- A slice says that its steps are taken after exactly its fuel. It says that an answer isn't there
 -- where the source has just said so, and that the process has ended where it has. A checkpoint
--- takes no step. An error has a cause, and the process then has emitted each line that was told.
-abbrev pub IsReply : Promise → Stage → ℕ → Saved → Act → Reply → Type 0
-IsReply so_far stage held shown (Slice fuel) Spent =
+-- takes no step, and nor does an upgrade, which shows version 2 where it is done. An error has a
+-- cause, and the process then has emitted each line that was told. These are the answers kept in
+-- the end.
+abbrev pub IsReply : Settings → List Kept → Stage → ℕ → Saved → Act → Reply → Type 0
+IsReply config kept stage held shown (Slice fuel) Spent =
     (stage.phase ≡ Open) × (shown.steps ≡ stage.step + fuel) × (shown.ended ≡ None)
-    × IsCaughtUp so_far stage held shown
-IsReply so_far stage held shown (Slice fuel) Waits =
+    × IsCaughtUp kept stage held shown
+IsReply config kept stage held shown (Slice fuel) Waits =
     (stage.phase ≡ NoneThere shown.steps) × (shown.steps < stage.step + fuel)
-    × (shown.ended ≡ None) × IsCaughtUp so_far stage held shown
-IsReply so_far stage held shown (Slice fuel) (Over why) =
+    × (shown.ended ≡ None) × IsCaughtUp kept stage held shown
+IsReply config kept stage held shown (Slice fuel) (Over why) =
     (stage.phase ≡ Open) × (shown.steps ≤ stage.step + fuel) × (shown.ended ≡ Some why)
-    × IsCaughtUp so_far stage held shown
-IsReply so_far stage held shown Checkpoint Done =
-    (stage.phase ≡ Open) × (shown.steps ≡ stage.step) × IsCaughtUp so_far stage held shown
-IsReply so_far stage held shown act (Fails cause) =
-    MayFail stage.phase cause × (shown.steps ≤ stage.step + fuel_of act)
+    × IsCaughtUp kept stage held shown
+IsReply config kept stage held shown Checkpoint Done =
+    (stage.phase ≡ Open) × (shown.steps ≡ stage.step) × IsCaughtUp kept stage held shown
+IsReply config kept stage held shown Upgrade Done =
+    (stage.phase ≡ Open) × (shown.steps ≡ stage.step) × (shown.version ≡ Two)
+    × IsCaughtUp kept stage held shown
+IsReply config kept stage held shown act (Fails cause) =
+    MayPlead config kept stage act cause × (shown.steps ≤ stage.step + fuel_of act)
     × IsOneOf stage.line shown.lines
-IsReply so_far stage held shown _ _ = ⊥
+IsReply config kept stage held shown _ _ = ⊥
 
 -- the next step of this process leads to a host whose lines have no numbers below their end
 pub record HasLastLines {m : Module} {config : Settings} {kept : List Kept} {steps : ℕ}
@@ -259,6 +283,14 @@ IsAtBound so_far at (Fails OfBounds) = (NUMBERS_END ≤ at.process.steps + 1)
     ⊎ (NUMBERS_END ≤ so_far.events + 1) ⊎ HasLastLines at
 IsAtBound so_far at _ = Unit {0}
 
+-- What has to be so where a call widens the process that it shows. No line beyond it was ever told,
+-- and no guest sync beyond it has returned: later lives may not come to them again. The journal
+-- takes each record of version 2.
+pub record MayWiden (config : Settings) (so_far : Promise) (shown : Saved) : Type 0 where
+  pub lines : so_far.begun ≤ shown.lines
+  pub syncs : so_far.synced ≤ shown.steps
+  pub room : TakesRecords Two config.journal
+
 -- a call that ends
 pub record CallEnd : Type 0 where
   pub act : Act
@@ -266,16 +298,21 @@ pub record CallEnd : Type 0 where
   pub held : ℕ
   pub shown : Saved
 
--- The next act ends with a process that a front of the kept answers leads to, and takes no step
--- back.
+-- what is kept once it has ended
+abbrev pub kept_then : Promise → CallEnd → List Kept
+kept_then so_far end = kept_by_end end.act end.shown so_far.kept
+
+-- The next act ends with a process that a front of the answers leads to that are kept then, and
+-- takes no step back. It has widened that process only where it may.
 pub record IsEnding (m : Module) (config : Settings) (so_far : Promise) (stage : Stage)
     (end : CallEnd) : Type 0 where
   pub is_next : IsNextAct end.act stage.acts
-  pub within : end.held ≤ length so_far.kept
-  pub at : IsAt m config (take end.held so_far.kept) end.shown.steps end.shown
+  pub within : end.held ≤ length (kept_then so_far end)
+  pub at : IsAt m config (take end.held (kept_then so_far end)) end.shown.steps end.shown
   pub onward : stage.step ≤ end.shown.steps
-  pub reply : IsReply so_far stage end.held end.shown end.act end.reply
+  pub reply : IsReply config (kept_then so_far end) stage end.held end.shown end.act end.reply
   pub bound : IsAtBound so_far at end.reply
+  pub widens : kept_then so_far end ≢ so_far.kept → MayWiden config so_far end.shown
 
 -- ---- lives
 

@@ -5,7 +5,7 @@ use Rattle.wasm_syntax.specs.declared.types.FunctionType.{FunctionType}
 use Rattle.wasm_semantics.specs.Acceptance.{IsAccepted}
 use Rattle.wasm_semantics.specs.Validity.{AreFunctionTypes, module_context}
 use Rattle.wasi_abi.specs.rules.Configs.{Settings, AreSettingsWithinLimits}
-use Rattle.wasi_abi.specs.declared.version.Version.TheVariants.{One}
+use Rattle.wasi_abi.specs.rules.Versions.{version_number}
 use Rattle.machine.specs.rules.Offers.{offer}
 use Rattle.process_rules.specs.Processes.{ProcessState, HasLineNumbers}
 use Rattle.process_rules.specs.Runs.{Kept, Reaches}
@@ -13,9 +13,9 @@ use Rattle.state_image.specs.rules.Image.{Saved, SavedShowsProcess, image}
 use Rattle.sector_disk.specs.rules.Image.{Image, sector_at}
 use Rattle.disk_layout.specs.rules.Places.{Geometry, geometry_of, journal_place}
 use Rattle.disk_layout.specs.rules.Sectors.{HasMarks, HasWorker, HoldsImage, shown_generation}
-use Rattle.disk_layout.specs.rules.Journal.{Record, scan}
+use Rattle.disk_layout.specs.rules.Journal.{Record, TakesRecords, scan}
 use Rattle.record_replay.specs.rules.Records.{Recorded, given_in}
-use Rattle.disk_layout.specs.declared.head.TheConstants.{IMAGE_VERSION, HEAD_STAMP_PLACE}
+use Rattle.disk_layout.specs.declared.head.TheConstants.{HEAD_STAMP_PLACE}
 
 -- no head and no journal sector shows a later generation
 pub record ShowsNoneLater (geometry : Geometry) (disk : Image) (g : ℕ) : Type 0 where
@@ -32,8 +32,9 @@ pub record IsNumbered (p : ProcessState) : Type 0 where
 -- On the disk stand a configuration within its limits, and bytes that are accepted as the module.
 -- The newest complete head names an image there, of a process to which the module comes on the
 -- first of the kept answers. All others are the records of the journal of that generation, one by
--- one, each at its step. Step n is that of the last record, or, if there are no records, of the
--- image. Up to there all numbers are below their ends.
+-- one, each at its step. Head, image and records are of the version of that process, and the
+-- journal takes the longest record of it. Step n is that of the last record, or, if there are no
+-- records, of the image. Up to there all numbers are below their ends.
 pub record StandsFor (disk : Image) (m : Module) (config : Settings) (kept : List Kept) (n : ℕ)
     : Type 0 where
   pub wasm : List ℕ
@@ -42,8 +43,8 @@ pub record StandsFor (disk : Image) (m : Module) (config : Settings) (kept : Lis
   pub worker : HasWorker config wasm disk
   pub generation : ℕ
   pub saved : Saved
-  pub holds : HoldsImage (geometry_of config (length wasm)) disk generation IMAGE_VERSION
-      (image saved)
+  pub holds : HoldsImage (geometry_of config (length wasm)) disk generation
+      (version_number saved.version) (image saved)
   pub front : List Kept
   pub steps : ℕ
   pub process : ProcessState
@@ -54,13 +55,14 @@ pub record StandsFor (disk : Image) (m : Module) (config : Settings) (kept : Lis
   pub shown : SavedShowsProcess (module_context m functions) reached.guest.program table saved
       process
   pub records : List Record
-  pub scanned : scan (geometry_of config (length wasm)) One disk generation ≡ records
+  pub scanned : scan (geometry_of config (length wasm)) saved.version disk generation ≡ records
   pub rest : kept ≡ front ++ map given_in records
   pub last : ProcessState
   pub recorded : Recorded reached.guest process records last
   pub numbers : IsNumbered last
   pub at_step : n ≡ last.steps
   pub none_later : ShowsNoneLater (geometry_of config (length wasm)) disk generation
+  pub room : TakesRecords saved.version config.journal
 
 -- there is no worker on the disk: a mark of the super is missing
 abbrev pub IsBlank : Image → Type 0

@@ -4,4 +4,5 @@ pub mod Found
 pub mod Honest
 pub mod Laws
 pub mod Refused
+pub mod Upgrades
 pub mod WholeLives

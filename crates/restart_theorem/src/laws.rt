@@ -2,24 +2,34 @@
 
 ghost use Rattle.wasm_syntax.specs.declared.module.Module.{Module};
 ghost use Rattle.wasi_abi.specs.rules.Configs.{Settings};
-ghost use Rattle.restart_theorem.specs.laws.Laws.{PromisesAreOfKept, NoNumberHasTwoTexts, CallsJoin};
+ghost use Rattle.restart_theorem.specs.laws.Laws.{PromisesAreOfKept, NoNumberHasTwoTexts};
+ghost use Rattle.restart_theorem.specs.laws.Laws.{CallsJoin};
 ghost use Rattle.restart_theorem.specs.laws.Laws.{OpeningsAreForGood, CheckpointsAreForGood};
 ghost use Rattle.restart_theorem.specs.laws.Laws.{SyncsAreForGood};
-ghost use Rattle.restart_theorem.specs.laws.Laws.{OpenedLinesAreToldNoMore, SavedLinesAreToldNoMore};
+ghost use Rattle.restart_theorem.specs.laws.Laws.{OpenedLinesAreToldNoMore};
+ghost use Rattle.restart_theorem.specs.laws.Laws.{SavedLinesAreToldNoMore};
+ghost use Rattle.restart_theorem.specs.laws.Upgrades.{OnlyUpgradesWiden, EndsWidenOnce};
+ghost use Rattle.restart_theorem.specs.laws.Upgrades.{UpgradesAreForGood, WideOpeningsAreForGood};
+ghost use Rattle.restart_theorem.specs.laws.Upgrades.{UpgradedStayWide, UpgradedLinesAreToldNoMore};
 ghost use Rattle.restart_theorem.specs.laws.Found.{FoundWasLeft, FoundIsAsLong, FoundIsSettled};
 ghost use Rattle.restart_theorem.specs.laws.Found.{NoWorkerComes};
 ghost use Rattle.restart_theorem.specs.laws.Found.{NextLifeFindsIt, NextLifeIsWithin, LivesGoOn};
 ghost use Rattle.restart_theorem.specs.laws.Disks.{StandsForWhatIsReached, RecordsAscend};
 ghost use Rattle.restart_theorem.specs.laws.Disks.{StandsByItsParts, BlankStandsForNone};
+ghost use Rattle.restart_theorem.specs.laws.Disks.{HeadsTellWidenings};
 ghost use Rattle.restart_theorem.specs.laws.Disks.{RunsKeepNumbers, RecordsKeepNumbers};
 ghost use Rattle.restart_theorem.specs.laws.Disks.{SavedAreNumbered};
 ghost use Rattle.restart_theorem.specs.laws.Disks.{NoLaterImage, NoLaterPayload, OneGeneration};
 ghost use Rattle.restart_theorem.specs.laws.Disks.{OneSpelledWorker, StandsWithin, BlankIsWithin};
 ghost use Rattle.restart_theorem.specs.laws.Disks.{DiskExamples};
-ghost use Rattle.restart_theorem.specs.laws.Examples.{LivesExamples, PromiseExamples, CourseExamples};
+ghost use Rattle.restart_theorem.specs.laws.Examples.{LivesExamples, PromiseExamples};
+ghost use Rattle.restart_theorem.specs.laws.Examples.{CourseExamples};
 ghost use Rattle.restart_theorem.specs.laws.Honest.{Teller, HonestStories};
+ghost use Rattle.restart_theorem.specs.laws.Honest.{Upgraded, HonestUpgrades};
 ghost use Rattle.restart_theorem.specs.laws.Refused.{RefusedEvents, RefusedWorkers};
-ghost use Rattle.restart_theorem.specs.laws.WholeLives.{HelloLives, EchoRefusals};
+ghost use Rattle.restart_theorem.specs.laws.Refused.{RefusedUpgrades, RefusedUpgraders};
+ghost use Rattle.restart_theorem.specs.laws.WholeLives.{HelloLives, HelloUpgrades};
+ghost use Rattle.restart_theorem.specs.laws.WholeLives.{EchoRefusals};
 ghost use Rattle.restart_theorem.specs.Promises.{Promise};
 ghost use Rattle.restart_theorem.specs.Courses.{Stage};
 
@@ -49,6 +59,23 @@ pub fn passed_lines_are_told_no_more()
     ensures checkpoints { SavedLinesAreToldNoMore }
 {}
 
+/// No opening, slice or checkpoint widens a process. Where a call has widened it, its end adds one
+/// widening to what is kept, and the process is the same but for that.
+pub fn only_upgrades_widen()
+    ensures only { OnlyUpgradesWiden }
+    ensures once { EndsWidenOnce }
+{}
+
+/// Once an upgrade is done, or a life has opened in version 2, each later life opens in version 2
+/// with all that was taken then. No later call shows version 1 unless it fails. The lines of an
+/// upgraded process are told no more.
+pub fn upgrades_are_for_good()
+    ensures done { UpgradesAreForGood }
+    ensures opened { WideOpeningsAreForGood }
+    ensures calls { UpgradedStayWide }
+    ensures lines { UpgradedLinesAreToldNoMore }
+{}
+
 /// What calls keep one after another they keep together.
 pub fn calls_join()
     ensures { CallsJoin }
@@ -70,11 +97,12 @@ pub fn lives_go_on<D: Disk>()
 {}
 
 /// A disk stands for what the module reaches, by an image and by records in the order of their
-/// steps.
+/// steps. Both are of the version to which the answers of the image lead, and the head says so.
 pub fn disks_stand_for_what_is_reached()
     ensures reached { StandsForWhatIsReached }
     ensures in_order { RecordsAscend }
     ensures parts { StandsByItsParts }
+    ensures versions { HeadsTellWidenings }
 {}
 
 /// All that leads to where a disk stands has numbers below their ends.
@@ -108,10 +136,24 @@ pub fn refused_workers()
     ensures { (m : Module) (config : Settings) → RefusedWorkers m config }
 {}
 
+/// Upgrades that nobody wants are refused, wherever a life stands and in whole lives. So are
+/// slices, checkpoints, openings and questions that take the wrong version.
+pub fn refused_upgrades()
+    ensures events { (m : Module) (config : Settings) (so_far : Promise) (stage : Stage)
+        → RefusedUpgrades m config so_far stage }
+    ensures lives { (m : Module) (config : Settings) → RefusedUpgraders m config }
+{}
+
 /// Honest stories are satisfied. They have a restart from the journal, one behind a checkpoint, one
 /// behind a recovery that was cut, and a refused line told again.
 pub fn honest_stories()
     ensures { (m : Module) (config : Settings) (t : Teller m config) → HonestStories t }
+{}
+
+/// So are those with an upgrade that is done, or cut before its head is on the disk, or after it.
+pub fn honest_upgrades()
+    ensures { (m : Module) (config : Settings) (t : Teller m config) (u : Upgraded t)
+        → HonestUpgrades t u }
 {}
 
 /// Two lives with a cut between them, what events promise, and where a life stands behind them.
@@ -121,9 +163,11 @@ pub fn worked_examples()
     ensures courses { CourseExamples }
 {}
 
-/// Lives of a module that writes a line go on, from its beginning to its end. Others don't.
+/// Lives of a module that writes a line go on, from its beginning to its end, and so do those that
+/// upgrade it before its first step, or after its last one. Others don't.
 pub fn hello_goes_on()
-    ensures { (config : Settings) → HelloLives config }
+    ensures lives { (config : Settings) → HelloLives config }
+    ensures upgrades { (config : Settings) → HelloUpgrades config }
 {}
 
 /// Events that are none of a module that tells what it is asked.

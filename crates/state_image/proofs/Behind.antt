@@ -2,13 +2,13 @@
 use Rattle.std.proofs.Common.{◌≡◌, ℕ, List, [], ◌++◌, sym, ap, ◌∙◌, append-nil}
 use Rattle.std.proofs.Common.{append_assoc}
 use Rattle.std.specs.Prelude.{Option}
-use Rattle.std.proofs.lemmas.List.{append_cancel_left}
 use Rattle.file_tree.specs.rules.Files.{Files}
 use Rattle.wasi_calls_rules.specs.Hosts.{Descriptor}
 use Rattle.state_image.specs.rules.Image.{Saved, Numbered, items_bytes, descriptor_bytes, open_from}
 use Rattle.state_image.specs.rules.Image.{image_mark, counts_bytes, phase_bytes, streams_bytes}
 use Rattle.state_image.specs.rules.Image.{machine_bytes, files_bytes, image}
 use Rattle.state_image.specs.restoring.Processes.{progress_before}
+use Rattle.state_image.proofs.Marks.{same_version}
 use Rattle.state_image.proofs.Fields.{items_field}
 use Rattle.state_image.proofs.Counts.{same_counts, same_phase, same_streams}
 use Rattle.state_image.proofs.Machines.{same_machine}
@@ -36,7 +36,7 @@ machine_before s rest =
 pub image_before : (s : Saved) (rest : List ℕ)
     → image s ++ rest ≡ progress_before s (machine_before s rest)
 image_before s rest =
-    seven_before image_mark (counts_bytes s) (phase_bytes s) (streams_bytes s)
+    seven_before (image_mark s.version) (counts_bytes s) (phase_bytes s) (streams_bytes s)
     (machine_bytes s.machine) (files_bytes s.files) (from_descriptors s) rest
 
 -- ---- descriptors
@@ -67,13 +67,14 @@ descriptors_told s t rest a b files e =
 pub told_behind : (s t : Saved) (rest : List ℕ) → IsWithin s → IsWithin t
     → image s ≡ image t ++ rest → SameParts s t × ([] ≡ rest)
 told_behind s t rest a b e =
-    let whole : image_mark ++ from_counts s
-    ≡ image_mark ++ (counts_bytes t ++ (phase_bytes t ++ (streams_bytes t
+    let whole : image_mark s.version ++ from_counts s
+    ≡ image_mark t.version ++ (counts_bytes t ++ (phase_bytes t ++ (streams_bytes t
     ++ machine_before t rest))) =
     e ∙ image_before t rest in
+    let mark = same_version s.version t.version _ _ whole in
     let counts = same_counts s t (from_phase s)
     (phase_bytes t ++ (streams_bytes t ++ machine_before t rest)) a.counts b.counts
-    (append_cancel_left image_mark _ _ whole) in
+    mark.1 in
     let phase = same_phase s t (from_streams s) (streams_bytes t ++ machine_before t rest) a.code
     b.code counts.1 in
     let streams = same_streams s t (from_machine s) (machine_before t rest) a.streams b.streams
@@ -85,6 +86,7 @@ told_behind s t rest a b e =
     let files = same_files s.files t.files a.files b.files names.0 in
     let descriptors = descriptors_told s t rest a b files names.1 in
     let parts : SameParts s t = record {
+      version = mark.0;
       counts = counts.0;
       phase = phase.0;
       streams = streams.0;

@@ -1,10 +1,22 @@
 -- The examples of images hold.
-use Rattle.std.proofs.Common.{refl}
-use Rattle.state_image.specs.laws.ImageExamples.{ImagesOnExamples}
+use Rattle.std.proofs.Common.{◌≡◌, ◌≢◌, ℕ, refl, ap, arith}
+use Rattle.wasi_abi.specs.declared.version.Version.{Version}
+use Rattle.wasi_abi.specs.declared.version.Version.TheVariants.{One, Two}
+use Rattle.state_image.specs.rules.Image.{image_mark}
+use Rattle.state_image.specs.laws.ImageExamples.{mark_with, ImagesOnExamples}
+use Rattle.state_image.proofs.Marks.{digit_of}
+
+no_third : (version : Version) → mark_with 51 ≢ image_mark version
+no_third One e = let digits : ◌≡◌ {A = ℕ} 51 49 = ap digit_of e in absurd (omega (arith, digits))
+no_third Two e = let digits : ◌≡◌ {A = ℕ} 51 50 = ap digit_of e in absurd (omega (arith, digits))
 
 pub images : ImagesOnExamples
 images = record {
   whole = refl;
+  whole_in_two = refl;
+  mark_of_one = refl;
+  mark_of_two = refl;
+  no_mark_of_three = no_third;
   in_start_function = refl;
   exited = refl;
   unreachable = refl;

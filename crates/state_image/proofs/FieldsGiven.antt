@@ -1,12 +1,11 @@
 -- Bytes that begin with those of a field lead its reader to this field, and to what is behind it.
 -- `gives` of `ReadLemmas` says so of each field that tells its value; they stand here, and in
--- `Fields`, `Machines` and `Named`. Parts of a process, nodes and descriptors have lemmas of their
+-- `Fields`, `Marks`, `Machines` and `Named`. Parts of a process, nodes and descriptors have lemmas of their
 -- own.
 use Rattle.std.proofs.Common.{◌≡◌, ℕ, Bool, List, [], ◌∷◌, ◌++◌, length, refl, sym, ap, ◌∙◌}
 use Rattle.std.proofs.Common.{append_assoc, arith}
 use Rattle.std.specs.Prelude.{Option, Some, None}
 use Rattle.std.specs.List.{flat_map}
-use Rattle.std.proofs.lemmas.List.{append_cancel_left}
 use Rattle.wasi_abi.specs.rules.Layouts.{u16_bytes, u32_bytes, u64_bytes}
 use Rattle.wasi_abi.specs.rules.Numbers.{directory_type, regular_file}
 use Rattle.file_tree.specs.rules.Files.{Files, FileNode}
@@ -16,7 +15,7 @@ use Rattle.state_image.specs.declared.reading.progress.ReadPhase.{ReadPhase}
 use Rattle.state_image.specs.declared.reading.progress.ReadPhase.TheVariants as read
 use Rattle.state_image.specs.declared.reading.progress.ReadEnd.{ReadEnd}
 use Rattle.state_image.specs.declared.reading.descriptors.ReadDescriptor.{ReadDescriptor}
-use Rattle.state_image.specs.rules.Image.{Saved, image_mark, phase_of, memory_bytes}
+use Rattle.state_image.specs.rules.Image.{Saved, phase_of, memory_bytes}
 use Rattle.state_image.specs.rules.Image.{counts_bytes, phase_bytes, streams_bytes, entry_bytes}
 use Rattle.state_image.specs.rules.Image.{node_bytes, Numbered, descriptor_bytes}
 use Rattle.state_image.specs.rules.Ranges.{IsIn, IsWhole, FitsCounts, FitsCode, FitsStreams}
@@ -37,12 +36,6 @@ use Rattle.state_image.proofs.FrontReads.{from_kind, from_node, from_offset, fro
 use Rattle.state_image.proofs.FrontReads.{from_inheriting, content_in}
 
 -- ---- fields that tell their values
-
-pub mark_field : Tells (Unit {0}) (λ mark. Unit {0}) (λ mark. image_mark)
-mark_field = record { front = told } where
-  told : (x y : Unit {0}) (rest other : List ℕ) → Unit {0} → Unit {0}
-      → image_mark ++ rest ≡ image_mark ++ other → (x ≡ y) × (rest ≡ other)
-  told x y rest other p q e = (refl, append_cancel_left image_mark rest other e)
 
 pub memory_field : Tells (List ℕ) IsWhole memory_bytes
 memory_field = record { front = same_memory }

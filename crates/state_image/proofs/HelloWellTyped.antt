@@ -14,7 +14,9 @@ use Rattle.wasm_semantics.specs.Typed.{IsTyped}
 use Rattle.wasm_semantics.specs.laws.Examples.{program_of_hello, hello_sequence, in_hello}
 use Rattle.wasm_semantics.proofs.Soundness.Beginning.{programs_typed}
 use Rattle.wasi_abi.specs.declared.call.Call.TheVariants as call
+use Rattle.wasi_abi.specs.declared.version.Version.TheVariants.{Two}
 use Rattle.wasi_abi.specs.rules.Configs.{Settings}
+use Rattle.wasi_calls_rules.specs.Hosts.{Host, IsHost}
 use Rattle.process_rules.specs.Processes.{ProcessState, Guest, IsStart, host_of}
 use Rattle.process_rules.proofs.ExamplesValid.{hello_spells, hello_is_valid, functions}
 use Rattle.process_rules.proofs.ExamplesHold.{filled, first_memory}
@@ -23,6 +25,7 @@ use Rattle.state_image.specs.rules.Image.{SavedShowsProcess}
 use Rattle.state_image.specs.rules.WellTyped.{IsWellTyped}
 use Rattle.state_image.specs.laws.Examples.{fresh_process}
 use Rattle.state_image.specs.laws.WellTypedExamples.{hello_first_memory, HelloBeginsWellTyped}
+use Rattle.state_image.specs.laws.WellTypedExamples.{widened_process, HelloIsWellTypedInTwo}
 use Rattle.wasi_calls_rules.proofs.FirstHosts.{first_is_host}
 
 -- ---- memory
@@ -200,6 +203,7 @@ pub first_shown : (config : Settings) → 1 ≤ config.pages → config.pages �
     → SavedShowsProcess context (program_under config) [] (fresh_process first_memory)
     (first_of config)
 first_shown config some few = record {
+  version = refl;
   machine = shows config some few;
   files = refl;
   descriptors = refl;
@@ -230,7 +234,7 @@ well_typed config some few = record {
   process = first_of config;
   shown = first_shown config some few;
   host = first_is_host _ _ _ _;
-  configured = record { room = refl; version = refl; arguments = refl; environment = refl };
+  configured = record { room = refl; arguments = refl; environment = refl };
   outermost = refl;
   alive = λ e. absurd cc;
   steps = omega arith;
@@ -252,3 +256,91 @@ pub hello_begins_well_typed : HelloBeginsWellTyped
 hello_begins_well_typed config some few =
     subst (λ (m : List ℕ). IsWellTyped hello config (fresh_process m)) is_first
     (well_typed config some few)
+
+-- ---- and so it is in version 2
+
+-- the host with these unread bytes, widened
+widened_host : Settings → List ℕ → Host
+widened_host config unread = record (host_of config) { version = Two; unread = unread }
+
+widened_of : Settings → List ℕ → ProcessState
+widened_of config unread = record (first_of config)
+    { host = widened_host config unread; answers = 1 }
+
+widened_is_host : (config : Settings) (unread : List ℕ) → AllByRecursion IsByte unread
+    → IsHost (widened_host config unread)
+unfolding widened_host
+widened_is_host config unread are =
+    let is : IsHost (host_of config) = first_is_host _ _ _ _ in
+    record {
+      files = is.files;
+      within = is.within;
+      places = is.places;
+      descriptors = is.descriptors;
+      streams = is.streams;
+      root = is.root;
+      unread = are;
+      last_monotonic = is.last_monotonic;
+      first = is.first;
+      second = is.second;
+      open_nodes = is.open_nodes;
+    }
+
+widened_shown : (config : Settings) (unread : List ℕ) → 1 ≤ config.pages → config.pages ≤ 2 ^ 16
+    → SavedShowsProcess context (program_under config) [] (widened_process first_memory unread)
+    (widened_of config unread)
+unfolding widened_of widened_host
+widened_shown config unread some few = record {
+  version = refl;
+  machine = shows config some few;
+  files = refl;
+  descriptors = refl;
+  unread = refl;
+  input_ended = refl;
+  last_monotonic = refl;
+  first = refl;
+  second = refl;
+  steps = refl;
+  answers = refl;
+  requests = refl;
+  lines = refl;
+  ended = refl;
+}
+
+well_typed_in_two : (config : Settings) (unread : List ℕ) → 1 ≤ config.pages
+    → config.pages ≤ 2 ^ 16 → AllByRecursion IsByte unread → length unread ≤ 65537
+    → IsWellTyped hello config (widened_process first_memory unread)
+unfolding begins widened_of widened_host
+well_typed_in_two config unread some few are short =
+    record {
+      valid = hello_is_valid;
+      guest = guest_of config;
+      start = first_of config;
+      begins = begins config;
+      functions = functions;
+      function_types = (refl, (refl, (refl, tt)));
+      process = widened_of config unread;
+      shown = widened_shown config unread some few;
+      host = widened_is_host config unread are;
+      configured = record { room = refl; arguments = refl; environment = refl };
+      outermost = refl;
+      alive = λ e. absurd cc;
+      steps = omega arith;
+      lines = omega arith;
+      answers = omega arith;
+      requests = omega arith;
+      bounds = record {
+        code = omega arith;
+        globals = omega arith;
+        places = (record { function = lit< tt; position = lit< tt }, tt);
+        slots = omega arith;
+        memory = omega (arith, one_page_long);
+      };
+      unread = omega (arith, short);
+      next = omega arith;
+    }
+
+pub hello_in_two : HelloIsWellTypedInTwo
+hello_in_two config unread some few are short =
+    subst (λ (m : List ℕ). IsWellTyped hello config (widened_process m unread)) is_first
+    (well_typed_in_two config unread some few are short)

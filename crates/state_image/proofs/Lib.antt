@@ -6,6 +6,7 @@ pub mod Shown
 mod NodesAt
 mod Fields
 mod Counts
+pub mod Marks
 mod Machines
 mod Named
 mod Among

@@ -33,7 +33,7 @@ use Rattle.wasi_calls_rules.specs.Rows.{row}
 use Rattle.process_rules.specs.Processes.{ProcessState, Guest, IsStart, closed_at}
 use Rattle.process_rules.specs.Runs.{Next, On, Over, Wants, Nowhere, after_row, after_call}
 use Rattle.process_rules.specs.Runs.{after_rule, next_of, stepped, LeadsTo, Moves, Kept, Runs, none}
-use Rattle.process_rules.specs.Runs.{step, take, Reaches}
+use Rattle.process_rules.specs.Runs.{step, take, widen, widened, Reaches}
 use Rattle.process_rules.proofs.Hosted.{beginning}
 use Rattle.process_rules.proofs.MemoryKept.{settled_store}
 use Rattle.state_image.specs.rules.WellTyped.{EntryPoints, IsCalled, IsOutermost}
@@ -333,6 +333,8 @@ module _ (b : EntryPoints) where
     runs_well guest p q kept n
         (take {p = p'} {q = next} {a = a} {kept = kept'} {n = m} moves rest) k =
         runs_well guest next q kept' m rest (move_well guest p' next (Some a) moves k)
+    runs_well guest p q kept n (widen {p = p'} {kept = kept'} {n = m} at rest) k =
+        runs_well guest (widened p') q kept' m rest k
 
   -- ---- places
 

@@ -21,14 +21,13 @@ use Rattle.machine.specs.rules.Offers.{offer}
 use Rattle.machine.proofs.InstanceLemmas.Offered.{no_entry}
 use Rattle.wasi_abi.specs.rules.Configs.{Settings}
 use Rattle.file_tree.specs.rules.Files.{Files}
-use Rattle.wasi_abi.specs.rules.Versions.{text_limit}
-use Rattle.wasi_calls_rules.specs.declared.limits.TheConstants.{TEXT_BYTES}
+use Rattle.wasi_abi.specs.rules.Versions.{text_limit, widenings}
 use Rattle.process_rules.specs.Processes.{Ending, Exited, Trapped, ProcessState, Guest}
 use Rattle.process_rules.specs.Processes.{IsStart}
 use Rattle.process_rules.specs.laws.Laws.{IsClosed, IsSmallEnding}
 use Rattle.process_rules.proofs.Counted.{reached_are_counted, reached_are_closed}
 use Rattle.process_rules.proofs.Hosted.{reached_are_configured, nodes_are_few, reached_have_hosts}
-use Rattle.process_rules.proofs.Hosted.{reached_input_is_short, reached_versions}
+use Rattle.process_rules.proofs.Hosted.{reached_input_is_short}
 use Rattle.process_rules.proofs.ReachedTyped.{reached_are_typed}
 use Rattle.process.proofs.Lines.{all_shown}
 use Rattle.process.proofs.Named.{offers_calls}
@@ -141,8 +140,6 @@ reached_is_well_typed bytes m config functions kept n p table s accepted few tex
     sym shown.machine.same_table ∙ called.same_table in
     let closed = reached_are_closed m config kept n p reached in
     let input = reached_input_is_short m config kept n p reached in
-    let limit : text_limit p.host.version ≡ TEXT_BYTES =
-    ap text_limit (reached_versions m config kept n p reached) in
     record {
       valid = accepted.valid;
       guest = reached.guest;
@@ -155,7 +152,6 @@ reached_is_well_typed bytes m config functions kept n p table s accepted few tex
       host = (reached_have_hosts m config kept n p accepted.valid texts reached).host;
       configured = record {
         room = as_before.room;
-        version = reached_versions m config kept n p reached;
         arguments = as_before.arguments;
         environment = as_before.environment;
       };
@@ -168,11 +164,17 @@ reached_is_well_typed bytes m config functions kept n p table s accepted few tex
           (alive c program table s p shown p.ended closed);
       steps = omega (arith, shown.steps, counted.steps, small);
       lines = lines;
-      answers = omega (arith, shown.steps, shown.answers, counted.few_answers);
+      answers = omega (
+        arith,
+        shown.steps,
+        shown.answers,
+        counted.few_answers,
+        ap widenings shown.version,
+      );
       requests = omega (arith, shown.answers, shown.requests, counted.few_requests);
       bounds = within_bounds bytes m config functions program table s p accepted programs types
           reached.guest reached.start b refl shown typed.ended;
-      unread = omega (arith, ap length shown.unread, input, limit);
+      unread = omega (arith, ap length shown.unread, input, ap text_limit shown.version);
       next = omega (
         arith,
         shown.steps,

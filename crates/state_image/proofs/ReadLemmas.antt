@@ -10,7 +10,7 @@ use Rattle.guest_memory.specs.rules.Bytes.{IsByte, number_of, bytes_of}
 use Rattle.guest_memory.proofs.ByteLemmas.{length-bytes_of, bytes_of-number_of}
 use Rattle.state_image.specs.rules.Ranges.{IsIn}
 use Rattle.state_image.specs.rules.Reading.{HasField, LacksField, ReadsField}
-use Rattle.state_image.proofs.Fields.{Tells, same_front}
+use Rattle.state_image.proofs.Fields.{Tells}
 
 -- ---- what was read is what is in front
 
@@ -80,16 +80,6 @@ none_of get within lacks = record {
   none = λ z rest inside e. lacks.none (get z) rest (within z inside) e;
   passed = lacks.passed;
   is = lacks.is;
-}
-
--- as many other bytes as these have
-pub no_other : (these b : List ℕ) {old new : List ℕ}
-    → HasField (λ (b : List ℕ). b) (λ b. length b ≡ length these) b old new → (b ≡ these → ⊥)
-    → LacksField (λ (mark : Unit {0}). these) (λ mark. Unit {0}) old new
-no_other these b {old} {new} has other = record {
-  none = λ mark rest u e. other (same_front ℕ b these new rest has.in_range (sym has.is ∙ e)).0;
-  passed = b;
-  is = has.is;
 }
 
 -- ---- numbers

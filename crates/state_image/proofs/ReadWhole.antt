@@ -172,8 +172,9 @@ module _ (linked : MachineValue) (config : Settings)
           ++ items_bytes (descriptor_bytes w.process.host.files) (open_from 0 ds))
           w.shown.descriptors
 
-      told_host : IsToldHost config p.counts p.end (texts_of p.streams) w.process.host
+      told_host : IsToldHost config p w.process.host
       told_host = record {
+        version = sym w.shown.version ∙ told.0.version;
         configured = w.configured;
         unread = sym w.shown.unread ∙ ap (λ (r : StreamTexts). r.unread) told.0.streams;
         input_ended = sym w.shown.input_ended ∙ ap (λ (r : ReadEnd). r.input_ended) told.0.end;
@@ -184,7 +185,7 @@ module _ (linked : MachineValue) (config : Settings)
       }
 
       pub no_host : ((h : Host) (rest : List ℕ) → IsHost h → h.files.next < 2 ^ 64
-          → IsToldHost config p.counts p.end (texts_of p.streams) h
+          → IsToldHost config p h
           → behind ≢ host_bytes h ++ rest) → ⊥
       no_host refused =
           let small = (is_within linked.guest config s w).next in
@@ -196,7 +197,7 @@ module _ (linked : MachineValue) (config : Settings)
 
   module _ (v : MachineValue) (behind new : List ℕ) (held : HeldHost)
       (read : IsReadMachine linked p.end.phase mid behind v) (shows : ShowsSome v)
-      (host : IsRestoredHost config p.counts p.end (texts_of p.streams) held behind new) where
+      (host : IsRestoredHost config p held behind new) where
     abbrev t : Saved
     t = saved_of (process_behind p v held)
 
@@ -206,6 +207,7 @@ module _ (linked : MachineValue) (config : Settings)
         let none : length held.host.lines ≡ 0 = ap (λ (ls : List Line). length ls) host.waiting in
         let released : held.released ≡ p.counts.lines = host.released in
         record {
+          version = host.told.version;
           counts = counts_again p.counts t.lines t.last_monotonic (omega (arith, none, released))
               host.told.last_monotonic;
           end = end_again p.end (read_phase t.ended t.machine.later) t.input_ended

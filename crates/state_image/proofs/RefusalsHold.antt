@@ -9,6 +9,7 @@ use Rattle.wasm_syntax.specs.declared.module.Module.{Module}
 use Rattle.wasm_syntax.specs.laws.Examples.{hello}
 use Rattle.wasm_semantics.specs.Validity.{memories_of}
 use Rattle.wasm_semantics.specs.Instantiation.{least_pages_of}
+use Rattle.wasi_abi.specs.rules.Versions.{text_limit, widenings}
 use Rattle.wasi_abi.specs.rules.Answers.{IsNoNewline, AreBytes}
 use Rattle.wasi_abi.specs.rules.Configs.{Settings}
 use Rattle.file_tree.specs.rules.Files.{Name, Path, Directory, File, FileNode, Files}
@@ -39,7 +40,8 @@ counts_refused config = record {
   many_steps = λ m s w e.
       (let steps : s.steps < 2 ^ 63 = w.steps in absurd (omega (arith, steps, e)));
   many_lines = λ m s w e. lines m s w e;
-  more_answers = λ m s w e. absurd (omega (arith, w.answers, e));
+  more_answers = λ m s w e. absurd (omega (arith, w.answers, ap widenings e.0, e.1));
+  many_answers_in_two = λ m s w e. absurd (omega (arith, w.answers, ap widenings e.0, e.1));
   more_requests = λ m s w e. absurd (omega (arith, w.requests, e));
   many_numbers = λ m s w e. absurd (omega (arith, w.next, e));
 } where
@@ -79,8 +81,8 @@ not_two b (x ∷ y ∷ later) f e h = h
 
 pub streams_refused : (config : Settings) → RefusesStreams config
 streams_refused config = record {
-  much_unread = λ m s w e.
-      (let unread : length s.unread ≤ 4097 = w.unread in absurd (omega (arith, unread, e)));
+  much_unread = λ m s w e. absurd (omega (arith, w.unread, ap text_limit e.0, e.1));
+  much_unread_in_two = λ m s w e. absurd (omega (arith, w.unread, ap text_limit e.0, e.1));
   no_byte = λ m s w e. no_byte m s w e;
   long_line = λ m s w e. long m s w e;
   newline_in_line = λ m s w e. newline m s w e;

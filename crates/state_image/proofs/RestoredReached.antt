@@ -1,7 +1,7 @@
 -- A process that is restored shows the one that was reached and saved.
 use Rattle.std.proofs.Common.{◌≡◌, ℕ, List, Option, sym, subst, ◌∙◌}
 use Rattle.wasm_semantics.specs.Validity.{module_context}
-use Rattle.process_rules.proofs.Hosted.{reached_are_configured, reached_versions}
+use Rattle.process_rules.proofs.Hosted.{reached_are_configured}
 use Rattle.state_image.specs.rules.Image.{Saved, SavedShowsProcess}
 use Rattle.state_image.specs.rules.Restored.{SavedShowsIn}
 use Rattle.state_image.specs.rules.Saving.{saved_of}
@@ -30,7 +30,6 @@ restored_shows_reached bytes m config functions kept n p table s v accepted few 
           reached.guest.program t s p) same_table shown;
       configured = record {
         room = as_before.room;
-        version = reached_versions m config kept n p reached;
         arguments = as_before.arguments;
         environment = as_before.environment;
       };

@@ -184,7 +184,7 @@ module _ (linked : MachineValue) (config : Settings)
       arguments = shown.configured.arguments ∙ sym configured.arguments;
       environment = shown.configured.environment ∙ sym configured.environment;
       room = shown.configured.room ∙ sym configured.room;
-      version = shown.configured.version ∙ sym configured.version;
+      version = sym shown.shown.version;
     }
 
     shows_host : ShowsHost v.host p.host
@@ -421,6 +421,7 @@ module _ (linked : MachineValue) (config : Settings)
         is_start.begins.store.table (saved_of v) a_process
     unfolding a_process
     process_shown = record {
+      version = refl;
       machine = machine_shown;
       files = refl;
       descriptors = refl;
@@ -462,7 +463,6 @@ module _ (linked : MachineValue) (config : Settings)
     unfolding a_process
     is_configured = record {
       room = from.configured.room;
-      version = from.configured.version;
       arguments = from.configured.arguments;
       environment = from.configured.environment;
     }

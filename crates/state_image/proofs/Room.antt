@@ -30,6 +30,7 @@ use Rattle.state_image.specs.rules.Image.{files_bytes, target_bytes, Numbered, o
 use Rattle.state_image.specs.rules.Image.{descriptor_bytes, image_mark, counts_bytes, phase_bytes}
 use Rattle.state_image.specs.rules.Image.{streams_bytes, machine_bytes, image}
 use Rattle.state_image.specs.rules.WellTyped.{slots_in, IsWellTyped}
+use Rattle.state_image.proofs.Marks.{mark_length, short_texts}
 use Rattle.state_image.proofs.Among.{IsAmong, among_all}
 use Rattle.state_image.proofs.PathsTold.{own_path}
 use Rattle.state_image.proofs.Places.{few_open}
@@ -288,8 +289,8 @@ counts_long s = refl
 phase_long : (s : Saved) → length (phase_bytes s) ≡ 6
 phase_long s = refl
 
-streams_long : (s : Saved) → length s.unread ≤ 4097 → length s.first ≤ 4096
-    → length s.second ≤ 4096 → length (streams_bytes s) ≤ 12301
+streams_long : (s : Saved) → length s.unread ≤ 65537 → length s.first ≤ 4096
+    → length s.second ≤ 4096 → length (streams_bytes s) ≤ 73741
 streams_long s unread first second =
     omega (
       arith,
@@ -324,7 +325,7 @@ pub has_room : (m : Module) (config : Settings) (s : Saved) → IsWellTyped m co
     → length (image s) ≤ 1048576 + 65536 * (config.pages + config.files)
 has_room m config s w =
     let within = is_within m config s w in
-    let unread : length s.unread ≤ 4097 = w.unread in
+    let unread : length s.unread ≤ 65537 = omega (arith, w.unread, short_texts s.version) in
     let first : length w.process.host.first ≤ 4096 = w.host.first.short in
     let second : length w.process.host.second ≤ 4096 = w.host.second.short in
     let streams = streams_long s unread (omega (arith, first, ap length w.shown.first))
@@ -336,8 +337,9 @@ has_room m config s w =
     let places = items_bytes (descriptor_bytes s.files) (open_from 0 s.descriptors) in
     omega (
       arith,
-      parts_long image_mark (counts_bytes s) (phase_bytes s) (streams_bytes s)
+      parts_long (image_mark s.version) (counts_bytes s) (phase_bytes s) (streams_bytes s)
           (machine_bytes s.machine) (files_bytes s.files) places,
+      mark_length s.version,
       counts_long s,
       phase_long s,
       streams,

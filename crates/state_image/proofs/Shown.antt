@@ -14,6 +14,7 @@ saves_shown v guest p shows =
       inside.functions,
       inside.is.types,
       record {
+        version = sym (ap (λ (h : Host). h.version) held.is);
         machine = inside.shows;
         files = sym (ap (λ (h : Host). h.files) held.is);
         descriptors = sym (ap (λ (h : Host). h.descriptors) held.is);

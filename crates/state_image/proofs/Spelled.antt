@@ -5,6 +5,8 @@ use Rattle.std.proofs.Common.{sym, subst, arith}
 use Rattle.std.specs.List.{AllByRecursion, flat_map}
 use Rattle.wasm_syntax.specs.declared.module.Module.{Module}
 use Rattle.guest_memory.specs.rules.Bytes.{IsByte, bytes_of, page_size}
+use Rattle.wasi_abi.specs.declared.version.Version.{Version}
+use Rattle.wasi_abi.specs.declared.version.Version.TheVariants.{One, Two}
 use Rattle.wasi_abi.specs.rules.Layouts.{u64_bytes}
 use Rattle.wasi_abi.specs.rules.Numbers.{directory_type, regular_file}
 use Rattle.wasi_abi.specs.rules.Configs.{Settings}
@@ -160,8 +162,23 @@ descriptor fs d h =
 
 -- ---- the whole
 
-mark : Spelled image_mark
-mark = record {
+mark : (v : Version) → Spelled (image_mark v)
+mark One = record {
+  each = (
+    omega arith,
+    (
+      omega arith,
+      (
+        omega arith,
+        (
+          omega arith,
+          (omega arith, (omega arith, (omega arith, (omega arith, tt)))),
+        ),
+      ),
+    ),
+  );
+}
+mark Two = record {
   each = (
     omega arith,
     (
@@ -194,6 +211,6 @@ is_of_bytes m config s w =
     let opened = items Numbered IsNumberedIn (descriptor_bytes s.files) (descriptor s.files)
     (open_from 0 s.descriptors) (open_in s.descriptors within.places).each in
     let whole : Spelled (image s) =
-    joined mark (joined (counts s) (joined (phase s) (joined (streams s unread first second)
+    joined (mark s.version) (joined (counts s) (joined (phase s) (joined (streams s unread first second)
     (joined (machine s.machine memory) (joined (files s.files within.files) opened))))) in
     whole.each

@@ -2,10 +2,10 @@
 use Rattle.std.proofs.Common.{◌≡◌, ◌≢◌, ℕ, ◌+◌, ◌^◌, ◌<◌, ◌≤◌, Bool, List, [], ◌∷◌, ◌++◌, length}
 use Rattle.std.proofs.Common.{length-append, Option, Some, None, refl, sym, ap, subst, ◌∙◌, arith}
 use Rattle.std.specs.Prelude.{codes}
-use Rattle.std.proofs.lemmas.List.{append_cancel_left}
 use Rattle.wasm_syntax.specs.declared.module.Module.{Module}
 use Rattle.wasm_syntax.specs.declared.module.ExportItem.TheVariants as export
 use Rattle.wasm_semantics.specs.Validity.{module_context}
+use Rattle.wasi_abi.specs.declared.version.Version.{Version}
 use Rattle.wasi_abi.specs.rules.Configs.{Settings}
 use Rattle.file_tree.specs.rules.Files.{Files, IsFiles}
 use Rattle.wasi_calls_rules.specs.Hosts.{Host, Descriptor}
@@ -14,7 +14,7 @@ use Rattle.process_rules.specs.Processes.{Ending, HasLineNumbers}
 use Rattle.process_rules.proofs.OneStart.{entry_once, item_number}
 use Rattle.machine_slots.specs.rules.Places.{ShownFrame, MachineState}
 use Rattle.state_image.specs.rules.Image.{Saved, phase_of, ending_code, items_bytes}
-use Rattle.state_image.specs.rules.Image.{descriptor_bytes, open_from, image_mark, counts_bytes}
+use Rattle.state_image.specs.rules.Image.{descriptor_bytes, open_from, counts_bytes}
 use Rattle.state_image.specs.rules.Image.{phase_bytes, streams_bytes, machine_bytes, files_bytes}
 use Rattle.state_image.specs.rules.Image.{image}
 use Rattle.state_image.specs.rules.WellTyped.{EntryPoints, IsCalled, IsOutermost, IsAlive}
@@ -22,6 +22,7 @@ use Rattle.state_image.specs.rules.WellTyped.{IsWellTyped}
 use Rattle.state_image.specs.rules.Ranges.{IsIn, FitsCounts, FitsStreams, HasMachine}
 use Rattle.state_image.proofs.Counts.{SameCounts, same_counts, SamePhase, same_phase}
 use Rattle.state_image.proofs.Counts.{SameStreams, same_streams}
+use Rattle.state_image.proofs.Marks.{few_widenings, short_texts, same_version}
 use Rattle.state_image.proofs.Machines.{SameMachine, same_machine}
 use Rattle.state_image.proofs.Named.{same_files_named}
 use Rattle.state_image.proofs.PathsTold.{same_files}
@@ -53,8 +54,8 @@ counts_within m config s w =
     let time : w.process.host.last_monotonic < 2 ^ 64 = w.host.last_monotonic in
     record {
       steps = omega (arith, steps);
-      answers = omega (arith, steps, w.answers);
-      requests = omega (arith, steps, w.answers, w.requests);
+      answers = omega (arith, steps, w.answers, few_widenings s.version);
+      requests = omega (arith, steps, w.answers, w.requests, few_widenings s.version);
       lines = subst (IsIn 8) (sym w.shown.lines) (lines_within w.process.host w.lines);
       last_monotonic = omega (arith, time, w.shown.last_monotonic);
     }
@@ -62,7 +63,7 @@ counts_within m config s w =
 streams_within : (m : Module) (config : Settings) (s : Saved) → IsWellTyped m config s
     → FitsStreams s
 streams_within m config s w =
-    let unread : length s.unread ≤ 4097 = w.unread in
+    let unread : length s.unread ≤ 65537 = omega (arith, w.unread, short_texts s.version) in
     let first : length w.process.host.first ≤ 4096 = w.host.first.short in
     let second : length w.process.host.second ≤ 4096 = w.host.second.short in
     record {
@@ -145,6 +146,7 @@ from_counts s = counts_bytes s ++ from_phase s
 
 -- what the image tells of two processes
 pub record SameParts (s t : Saved) : Type 0 where
+  pub version : s.version ≡ t.version
   pub counts : SameCounts s t
   pub phase : SamePhase s t
   pub streams : SameStreams s t
@@ -162,9 +164,9 @@ same_descriptors s t a b files e =
     same_open s.files s.descriptors t.descriptors [] [] a.places b.places
     (ap (λ (bytes : List ℕ). bytes ++ []) here)
 
-same_parts : (s t : Saved) → IsWithin s → IsWithin t → from_counts s ≡ from_counts t
-    → SameParts s t
-same_parts s t a b e =
+same_parts : (s t : Saved) → IsWithin s → IsWithin t → s.version ≡ t.version
+    → from_counts s ≡ from_counts t → SameParts s t
+same_parts s t a b version e =
     let counts = same_counts s t (from_phase s) (from_phase t) a.counts b.counts e in
     let phase = same_phase s t (from_streams s) (from_streams t) a.code b.code counts.1 in
     let streams = same_streams s t (from_machine s) (from_machine t) a.streams b.streams phase.1 in
@@ -174,6 +176,7 @@ same_parts s t a b e =
     (files_within s.files a.files a.next) (files_within t.files b.files b.next) machine.1 in
     let files = same_files s.files t.files a.files b.files names.0 in
     record {
+      version = version;
       counts = counts.0;
       phase = phase.0;
       streams = streams.0;
@@ -199,6 +202,7 @@ whole_machine m n h later =
 -- a process with the counts and the end of another one
 with_counts : Saved → MachineState → Files → List (Option Descriptor) → ℕ → ℕ → ℕ → ℕ → ℕ → Saved
 with_counts s machine files descriptors steps answers requests lines last_monotonic = record {
+  version = s.version;
   machine = machine;
   files = files;
   descriptors = descriptors;
@@ -214,8 +218,9 @@ with_counts s machine files descriptors steps answers requests lines last_monoto
   ended = s.ended;
 }
 
-with_streams : Saved → List ℕ → Bool → List ℕ → List ℕ → Option Ending → Saved
-with_streams s unread input_ended first second ended = record {
+with_streams : Saved → Version → List ℕ → Bool → List ℕ → List ℕ → Option Ending → Saved
+with_streams s version unread input_ended first second ended = record {
+  version = version;
   machine = s.machine;
   files = s.files;
   descriptors = s.descriptors;
@@ -234,16 +239,16 @@ with_streams s unread input_ended first second ended = record {
 pub whole_process : (s t : Saved) → SameParts s t → s.machine ≡ t.machine → s ≡ t
 unfolding with_counts with_streams
 whole_process s t h machine =
-    let files = h.files in let descriptors = h.descriptors in
+    let version = h.version in let files = h.files in let descriptors = h.descriptors in
     let steps = h.counts.steps in let answers = h.counts.answers in let requests =
     h.counts.requests in
     let lines = h.counts.lines in let time = h.counts.last_monotonic in
     let unread = h.streams.unread in let first = h.streams.first in let second =
     h.streams.second in
     let input = h.phase.input_ended in let ended = h.phase.ended in
-    let streams : with_streams s s.unread s.input_ended s.first s.second s.ended ≡ with_streams s
-    t.unread t.input_ended t.first t.second t.ended =
-    rw (unread, input, first, second, ended) refl in
+    let streams : with_streams s s.version s.unread s.input_ended s.first s.second s.ended ≡ with_streams s
+    t.version t.unread t.input_ended t.first t.second t.ended =
+    rw (version, unread, input, first, second, ended) refl in
     let counts : with_counts t s.machine s.files s.descriptors s.steps s.answers s.requests s.lines
     s.last_monotonic
     ≡ with_counts t t.machine t.files t.descriptors t.steps t.answers t.requests t.lines
@@ -254,8 +259,8 @@ whole_process s t h machine =
 pub told_apart : (m : Module) (config : Settings) (s t : Saved) → IsWellTyped m config s
     → IsWellTyped m config t → image s ≡ image t → s ≡ t
 told_apart m config s t w v e =
-    let same = same_parts s t (is_within m config s w) (is_within m config t v)
-    (append_cancel_left image_mark (from_counts s) (from_counts t) e) in
+    let mark = same_version s.version t.version (from_counts s) (from_counts t) e in
+    let same = same_parts s t (is_within m config s w) (is_within m config t v) mark.0 mark.1 in
     let entries : w.begins.entry ≡ v.begins.entry =
     item_number w.begins.entry v.begins.entry
     (entry_once m.exports (codes "_start") (export.Function w.begins.entry)

@@ -31,7 +31,7 @@ image_read s bytes h =
     h.phase ∙ ap (λ (left : List ℕ). phase_bytes s ++ left) streams in
     let counts : h.after_mark ≡ from_counts s =
     h.counts ∙ ap (λ (left : List ℕ). counts_bytes s ++ left) phase in
-    h.mark ∙ ap (λ (left : List ℕ). image_mark ++ left) counts
+    h.mark ∙ ap (λ (left : List ℕ). image_mark s.version ++ left) counts
 
 -- and its image has the fields in this order
 pub image_in_order : (s : Saved) (bytes : List ℕ) → bytes ≡ image s → IsInOrder s bytes

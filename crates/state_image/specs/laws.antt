@@ -2,6 +2,7 @@ pub mod Examples
 pub mod ImageExamples
 pub mod ImageOrder
 pub mod Laws
+pub mod Marks
 pub mod Phases
 pub mod Reading
 pub mod Refusals

@@ -6,6 +6,7 @@ ghost use Rattle.wasi_abi.specs.rules.Configs.{Settings};
 ghost use Rattle.state_image.specs.laws.Refusals.{RefusesCounts, RefusesStreams, RefusesMachines};
 ghost use Rattle.state_image.specs.laws.Refusals.{RefusesFiles, RefusesDescriptors};
 ghost use Rattle.state_image.specs.laws.WellTypedExamples.{HelloBeginsWellTyped};
+ghost use Rattle.state_image.specs.laws.WellTypedExamples.{HelloIsWellTypedInTwo};
 ghost use Rattle.state_image.specs.laws.Reading.{NodesAreRead, DescriptorsAreRead};
 ghost use Rattle.state_image.specs.laws.Reading.{PartsAreOfProcesses};
 ghost use Rattle.state_image.specs.laws.ImageOrder.{ImagesAreInOrder, LeadsItsReader};
@@ -45,9 +46,11 @@ pub fn images_on_examples()
     ensures { ImagesOnExamples }
 {}
 
-/// The process that `hello` begins as is well typed.
+/// The process that `hello` begins as is well typed, in version 2 too. There it may have as many
+/// unread bytes as a request has.
 pub fn hello_begins_well_typed()
-    ensures { HelloBeginsWellTyped }
+    ensures first { HelloBeginsWellTyped }
+    ensures widened { HelloIsWellTypedInTwo }
 {}
 
 /// What no well-typed process has, clause by clause.
@@ -87,7 +90,7 @@ pub fn what_is_read_in_steps()
 
 /// Bytes that begin with those of a field lead its reader to this field, and to what is behind it.
 pub fn fields_lead_their_readers()
-    ensures mark { LeadsItsReader (λ (mark : Unit {0}). image_mark) (λ mark. Unit {0}) }
+    ensures mark { LeadsItsReader image_mark (λ version. Unit {0}) }
     ensures counts { LeadsPartReader counts_of counts_bytes FitsCounts }
     ensures phase { LeadsPartReader read_end_of phase_bytes FitsCode }
     ensures streams { LeadsPartReader streams_of streams_bytes FitsStreams }

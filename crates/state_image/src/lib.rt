@@ -1,4 +1,4 @@
-//! The image of a process as bytes, version 1, and which images are accepted (this project's own).
+//! The image of a process as bytes, and which images are accepted (this project's own).
 //! The code writes images, and makes processes of them again.
 //!
 //! # Promises
@@ -48,13 +48,14 @@
 //!   memory and files. That is what an area of the worker's disk has. It is of bytes.
 //! - `laws::a_fresh_image_has_its_size`: the image of a process that has just begun, with one page
 //!   of memory and an empty file system, has 65,811 bytes.
-//! - `laws::images_on_examples`: the whole image of a small process, byte by byte, and phases and
-//!   codes of others.
+//! - `laws::images_on_examples`: the whole image of a small process in both versions, byte by byte,
+//!   both marks, and phases and codes of others.
 //! - `laws::reached_processes_are_well_typed`: every process that an accepted module reaches is
 //!   well typed, and so is what is saved of the code's process that shows it. So their images are
 //!   accepted ones, and no two of them have one image.
 //! - `laws::hello_begins_well_typed`: the process that `hello` begins as is well typed, under any
-//!   configuration with a page.
+//!   configuration with a page. So it is once it was widened, with as many unread bytes as a request
+//!   of version 2 has.
 //! - `laws::others_are_refused`: what no well-typed process has: counts, streams, memories, files
 //!   and descriptors just beyond what is allowed.
 //!
@@ -119,9 +120,8 @@
 //! - **An image names the position at which a frame of the machine is.** What the frame shows fixes
 //!   that position (`shapes_tell_positions`), also in the two parts of one `if`. So image and
 //!   process determine each other to the byte.
-//! - **An image has no limit on texts.** The limit is a field of the host, and an accepted image of
-//!   version 1 is that of a host with 4,096 (`IsConfigured`). A wider version would have it as a
-//!   field of its own. Its number is in the head beside the image.
+//! - **The mark tells the version.** The version says how long texts may be (`text_limit`), so an
+//!   image has no field for that. All behind the mark is spelled alike in both versions.
 #![tactic(auto)]
 
 mod byte_sink;
@@ -133,4 +133,4 @@ mod writing;
 
 pub use byte_sink::ByteSink;
 pub use sink::Sink;
-pub use writing::{IMAGE_MARK, write_image, write_image_to};
+pub use writing::{image_mark, write_image, write_image_to};

@@ -13,7 +13,8 @@
 //! - `fits` is true exactly where an answer is one to what was asked (`Fits`).
 //! - `Config::new` answers Ok exactly within the limits (`ok`), and else `C1 Range` (`range`) or
 //!   `C2 Text` (`text`). A `Config` is within its limits by its type (`within`).
-//! - A `Version` has its number, the limit of its texts and the bytes of a length (`Version`).
+//! - A `Version` has its number, the limit of its texts, the bytes of a length, and the answers
+//!   that nobody gave (`Version`).
 //! - Ten calls that do nothing ensure laws. Rights, sets of rights, errors and calls have numbers
 //!   and names of their own (`rights_have_their_bits`, `sets_have_their_rights`,
 //!   `errors_are_no_success`, `calls_differ`). Layouts have their sizes and bytes
@@ -26,7 +27,8 @@
 //!
 //! In `specs/rules/`: `errno_number`, the rights and sets of rights (`Numbers.antt`);
 //! `fdstat_bytes` and its kin (`Layouts.antt`); `name_of`, `parameters_of`, `result_types`
-//! (`Calls.antt`); `Fits` (`Answers.antt`); `text_limit` and its kin (`Versions.antt`); `Settings`, `AreSettingsWithinLimits` (`Configs.antt`).
+//! (`Calls.antt`); `Fits` (`Answers.antt`); `text_limit` and its kin (`Versions.antt`); `Settings`,
+//! `AreSettingsWithinLimits` (`Configs.antt`).
 //!
 //! # Who may touch what
 //!

@@ -2,6 +2,7 @@
 
 ghost use Rattle.std.specs.Prelude.{◌≡◌};
 ghost use Rattle.wasi_abi.specs.rules.Versions.{length_bytes, text_limit, version_number};
+ghost use Rattle.wasi_abi.specs.rules.Versions.{widenings};
 
 /// A worker is made in version 1.
 #[derive(Clone, Copy, Debug, PartialEq, Eq)]
@@ -38,6 +39,16 @@ impl Version {
         match self {
             Version::One => 2,
             Version::Two => 4,
+        }
+    }
+
+    /// The answers that a process has taken and nobody gave: that it was widened counts as one.
+    pub fn widenings(self) -> u64
+        ensures { result ≡ widenings self }
+    {
+        match self {
+            Version::One => 0,
+            Version::Two => 1,
         }
     }
 }

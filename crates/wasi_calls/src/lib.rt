@@ -19,8 +19,8 @@
 //!   rules have a host with these parts (`is`, `refused`), or tells that there is no memory.
 //! - `Descriptor::from_numbers` is the descriptor of these numbers (`made`), exactly where each is
 //!   within its bounds (`there`).
-//! - `Host::release` takes lines off, and `Host::end` emits what is not finished (`changed`). Both
-//!   go on showing the rules' host (`shown`).
+//! - `Host::release` takes lines off, `Host::end` emits what is not finished, and `Host::widen`
+//!   sets the version (`changed`). They go on showing the rules' host (`shown`).
 //! - `tree`, `descriptors`, `unread`, `has_input_ended`, `last_monotonic`, `first` and `second` of
 //!   `Host`, and the getters of `Descriptor`, are what the rules' host has.
 //! - `Host::unfinished_lines`: how many lines an end would emit beside those that wait.

@@ -1,4 +1,4 @@
--- What a process begins with is a host.
+-- What a process begins with is a host, and so is a host in another version.
 use Rattle.std.proofs.Common.{◌≡◌, ℕ, zero, suc, ◌≤◌, List, [], refl, ap, ◌∙◌, arith}
 use Rattle.std.proofs.Common.{replicate, inl, inr, true}
 use Rattle.std.specs.Prelude.{Option, Some, None, IfSome, slice_get}
@@ -10,7 +10,7 @@ use Rattle.wasi_abi.specs.rules.Numbers.{directory_rights, all_rights, input_rig
 use Rattle.wasi_abi.specs.rules.Numbers.{output_rights, are_within}
 use Rattle.wasi_calls_rules.specs.Hosts.{Stream, Node, Descriptor, stream, stream_rights}
 use Rattle.wasi_calls_rules.specs.Hosts.{first_descriptors, first_host, IsDescriptor, IsStreamAt}
-use Rattle.wasi_calls_rules.specs.Hosts.{IsRemoved, IsHost}
+use Rattle.wasi_calls_rules.specs.Hosts.{IsRemoved, Host, IsHost}
 use Rattle.wasi_calls_rules.proofs.KeptLines.{nothing_unfinished}
 
 pub fresh_is_files : IsFiles fresh
@@ -102,4 +102,20 @@ first_is_host room version arguments environment = record {
   first = nothing_unfinished;
   second = nothing_unfinished;
   open_nodes = λ k gone. absurd (kept k gone);
+}
+
+pub of_any_version : (h : Host) (version : Version) → IsHost h
+    → IsHost (record h { version = version })
+of_any_version h version is = record {
+  files = is.files;
+  within = is.within;
+  places = is.places;
+  descriptors = is.descriptors;
+  streams = is.streams;
+  root = is.root;
+  unread = is.unread;
+  last_monotonic = is.last_monotonic;
+  first = is.first;
+  second = is.second;
+  open_nodes = is.open_nodes;
 }

@@ -15,8 +15,9 @@
 //!   are accepted.
 //! - `story` and `sweep` hand over all bytes of a script, and a module's bytes. They read them in
 //!   this order.
-//! - `run`, `show`, `inspect` and `files` open the disk's file by `open_disk`, `show_file`,
-//!   `inspect_file` and `files_file`. One host holds it at a time. `run` also hands over the lines
+//! - `run`, `upgrade`, `show`, `inspect` and `files` open the disk's file by `open_disk`,
+//!   `show_file`, `inspect_file` and `files_file`. One host holds it at a time. `run` also hands
+//!   over the lines
 //!   of the standard input, the machine's clock, and what the words say of seed and clock. Behind
 //!   it `report_input` says what is left of the lines.
 //! - Before all that it takes the numbers of standard streams that are closed (`StreamNumbers`), so
@@ -52,8 +53,8 @@ use wasmhost_commands::{
     Printer, RequestSource, RunOrder, Sizes, StatusFile, StoryOrder, SweepChoice, SweepOrder,
     check_bytes, create_device, create_file, files_file, fronts_of, inspect_file, open_disk,
     prepare, read_module, read_script, read_seed, read_sweep, read_words, report, report_input,
-    report_script, report_sweep_script, report_unprepared, report_unread, report_words, serve,
-    show_file, tell, tell_sweep,
+    report_script, report_sweep_script, report_unprepared, report_unread, report_words,
+    say_upgraded, serve, show_file, tell, tell_sweep, upgrade_worker,
 };
 
 /// It is read to keep a number from other files. It has no bytes, and takes none from a reader.
@@ -219,6 +220,31 @@ fn run<R: Files<File = File> + Input + Clock, W: Write + Drop, E: Write + Drop>(
     report_input(&source, status, err)
 }
 
+/// Brings the worker of a disk to version 2, and says so after its lines.
+fn upgrade<R: Files<File = File>, W: Write + Drop, E: Write + Drop>(
+    rt: &R,
+    alloc: Global,
+    path: &str,
+    out: &mut W,
+    err: &mut Printer<E>,
+) -> u8
+    ensures { result ≤ 7 }
+{
+    let mut disk = match open_disk(rt, path, false, err) {
+        Ok(disk) => disk,
+        Err(status) => return status,
+    };
+    let Ok(mut outlet) = LineOutlet::new(alloc, &mut *out) else {
+        return report(err, Obstacle::Memory);
+    };
+    let upgraded = upgrade_worker(alloc, &mut disk, &mut outlet, err);
+    drop(outlet);
+    match upgraded {
+        Ok(upgraded) => say_upgraded(&mut Printer::new(out, false), upgraded),
+        Err(status) => status,
+    }
+}
+
 /// Tells that the module of a story can't be read, but first what is wrong with the script.
 fn report_module<E: Write + Drop>(
     alloc: Global,
@@ -343,6 +369,7 @@ where
         Ok(Order::Files { disk, path }) => {
             files_file(alloc, rt, disk, path, &mut Printer::new(out, false), err)
         }
+        Ok(Order::Upgrade { path }) => upgrade(rt, alloc, path, out, err),
         Ok(Order::Story(order)) => story(rt, alloc, &order, out, err),
         Ok(Order::Sweep(order)) => sweep(rt, alloc, &order, out, err),
         Err(fault) => report_words(alloc, &fault, &mut Printer::new(out, false), err),

@@ -24,14 +24,15 @@ use Rattle.wasmhost_commands.proofs.LineLemmas.Passing.{passed_nothing, up_to_on
 use Rattle.wasmhost_commands.proofs.LineLemmas.Passing.{behind_passed}
 
 -- of no answers, the lines ask nothing
-some_rest : (lines : Option (List ℕ)) (n : ℕ) → GiveUpTo n lines [] (λ _. ⊤)
-some_rest lines n = up_to_map n lines [] (λ rest. lines ≡ Some rest) (λ _. ⊤) (λ rest e. tt)
-    (passed_nothing n lines)
+some_rest : (lines : Option (List ℕ)) (limit n : ℕ) → GiveUpTo limit n lines [] (λ _. ⊤)
+some_rest lines limit n =
+    up_to_map limit n lines [] (λ rest. lines ≡ Some rest) (λ _. ⊤) (λ rest e. tt)
+    (passed_nothing limit n lines)
 
 -- where it stands when it has given nothing
 nothing : (s t : Standing) → t.taken ≡ s.taken → t.place ≡ s.place → AreOfLines s [] t
 nothing s t taken place = record {
-  requests = some_rest s.unread s.taken;
+  requests = some_rest s.unread s.limit s.taken;
   others = tt;
   taken = let e = taken in omega (arith, e);
   drawn = let e = place in omega (arith, e);
@@ -63,7 +64,7 @@ module _ (why : LineFault) where
           let h : HandsNext ask.kind s (Err fault) u =
           subst (λ r. HandsNext ask.kind s r u) e hands in
           let stays : LeavesFault ask.kind s u (Some why) =
-          subst (LeavesFault ask.kind s u) is h.4 in
+          subst (LeavesFault ask.kind s u) is h.5 in
           let others = more stays.0 in (
             subst (λ r. handed_by r ++ handed asks ≡ []) (sym e) others.0,
             others.1 ∙ h.2,
@@ -72,18 +73,20 @@ module _ (why : LineFault) where
 
 -- a question that is answered
 answered_first : (s u t : Standing) (a : Answer) (kept : List Kept) → HandsOver s u a
-    → u.outside ≡ s.outside → u.stream ≡ s.stream → AreOfLines u kept t
+    → u.outside ≡ s.outside → u.limit ≡ s.limit → u.stream ≡ s.stream → AreOfLines u kept t
     → AreOfLines s (Given a ∷ kept) t
-answered_first s u t a kept one same stream others =
+answered_first s u t a kept one same limit stream others =
     let count = one.counted in
     let counts = others.taken in
     let place = one.drawn in
     let places = others.drawn in
     let long = length-append (request_in a) (requests_in kept) in
     record {
-      requests = up_to_on s.taken s.unread u.unread (request_in a) (requests_in kept) (λ _. ⊤)
-          one.given (subst (λ n. GiveUpTo n u.unread (requests_in kept) (λ _. ⊤)) count
-          others.requests);
+      requests = up_to_on s.limit s.taken s.unread u.unread (request_in a) (requests_in kept)
+          (λ _. ⊤) one.given
+          (subst (λ n. GiveUpTo s.limit n u.unread (requests_in kept) (λ _. ⊤)) count
+          (subst (λ n. GiveUpTo n u.taken u.unread (requests_in kept) (λ _. ⊤)) limit
+          others.requests));
       others = (
         one.comes,
         subst (λ o. ComeFrom o s.stream (s.place + words_in a) kept) same
@@ -96,15 +99,17 @@ answered_first s u t a kept one same stream others =
 
 -- the lines have come to their end
 ended_first : (s u t : Standing) (kept : List Kept) → u.outside ≡ s.outside
-    → u.stream ≡ s.stream → u.place ≡ s.place → u.taken ≡ s.taken
-    → GiveUpTo s.taken s.unread [] (λ rest. u.unread ≡ Some rest) → AreOfLines u kept t
+    → u.limit ≡ s.limit → u.stream ≡ s.stream → u.place ≡ s.place → u.taken ≡ s.taken
+    → GiveUpTo s.limit s.taken s.unread [] (λ rest. u.unread ≡ Some rest) → AreOfLines u kept t
     → AreOfLines s kept t
-ended_first s u t kept same stream place taken passed others =
+ended_first s u t kept same limit stream place taken passed others =
     let counts = others.taken in
     let places = others.drawn in
     record {
-      requests = behind_passed s.taken s.unread u.unread (requests_in kept) (λ _. ⊤) passed
-          (subst (λ n. GiveUpTo n u.unread (requests_in kept) (λ _. ⊤)) taken others.requests);
+      requests = behind_passed s.limit s.taken s.unread u.unread (requests_in kept) (λ _. ⊤) passed
+          (subst (λ n. GiveUpTo s.limit n u.unread (requests_in kept) (λ _. ⊤)) taken
+          (subst (λ n. GiveUpTo n u.taken u.unread (requests_in kept) (λ _. ⊤)) limit
+          others.requests));
       others = subst (λ o. ComeFrom o s.stream s.place kept) same
           (subst (λ v. ComeFrom u.outside v s.place kept) stream
           (subst (λ k. ComeFrom u.outside u.stream k kept) place others.others));
@@ -115,13 +120,13 @@ ended_first s u t kept same stream place taken passed others =
 -- what is left where no request comes
 abbrev pub IsAtEnd : Standing → Standing → Type 0
 IsAtEnd s u = (u.place ≡ s.place) × (u.taken ≡ s.taken)
-    × GiveUpTo s.taken s.unread [] (λ rest. u.unread ≡ Some rest)
+    × GiveUpTo s.limit s.taken s.unread [] (λ rest. u.unread ≡ Some rest)
 
 pub at_end : (kind : Kind) (s u : Standing) → Finds kind s None u → IsAtEnd s u
 at_end kinds.Request s u found = (
   found.0,
   found.1.0,
-  up_to_map s.taken s.unread [] (λ rest. (rest ≡ []) × (u.unread ≡ Some rest))
+  up_to_map s.limit s.taken s.unread [] (λ rest. (rest ≡ []) × (u.unread ≡ Some rest))
       (λ rest. u.unread ≡ Some rest) (λ rest h. h.1) found.1.1,
 )
 at_end kinds.Realtime s u found = absurd found
@@ -166,16 +171,17 @@ answers_are_of_lines (ask ∷ asks) s t leads =
         subst (λ r. HandsNext ask.kind s r u) e hands in
         subst (λ r. AreOfLines s (handed_by r ++ handed asks) t) (sym e)
         (answered_first s u t a (handed asks) (finds_hands ask.kind s u a h.finds) h.same
-        h.same_stream more)
+        h.same_limit h.same_stream more)
     by_said more (Ok None) e hands =
         let h : HandsAnswer ask.kind s None u =
         subst (λ r. HandsNext ask.kind s r u) e hands in
         let here = at_end ask.kind s u h.finds in
         subst (λ r. AreOfLines s (handed_by r ++ handed asks) t) (sym e)
-        (ended_first s u t (handed asks) h.same h.same_stream here.0 here.1 here.2 more)
+        (ended_first s u t (handed asks) h.same h.same_limit h.same_stream here.0 here.1 here.2
+        more)
     by_said more (Err fault) e hands =
         let h : HandsNext ask.kind s (Err fault) u =
         subst (λ r. HandsNext ask.kind s r u) e hands in
         subst (λ r. AreOfLines s (handed_by r ++ handed asks) t) (sym e)
-        (refused_first s u t asks u.fault refl (leaves_some ask.kind s u s.fault h.4) h.2 h.3
+        (refused_first s u t asks u.fault refl (leaves_some ask.kind s u s.fault h.5) h.2 h.3
         leads.2)

@@ -21,7 +21,7 @@ use Rattle.worker.specs.declared.fault.WorkFault.{WorkFault}
 use Rattle.worker.specs.declared.fault.WorkFault.TheVariants as work
 use Rattle.worker.specs.rules.DurableValues.{DurableValue, without_disk}
 use Rattle.worker.specs.rules.DurableFailures.{SlicesOnDiskInVain}
-use Rattle.worker.specs.rules.LifeWords.{Act, Slice, Checkpoint}
+use Rattle.worker.specs.rules.LifeWords.{Act, Slice, Checkpoint, Upgrade}
 use Rattle.wasmhost_commands.specs.rules.BrokenLives.{steps_among, in_slice, in_checkpoint}
 use Rattle.wasmhost_commands.specs.rules.BrokenLives.{SlicesLead, BreaksOff, BreaksOffFrom}
 use Rattle.wasmhost_commands.specs.rules.Paces.{round_of}
@@ -35,6 +35,7 @@ steps_both (Slice fuel ∷ acts) ys =
     let all : fuel + steps_among (acts ++ ys) ≡ (fuel + steps_among acts) + steps_among ys =
     omega (arith, e) in all
 steps_both (Checkpoint ∷ acts) ys = steps_both acts ys
+steps_both (Upgrade ∷ acts) ys = steps_both acts ys
 
 -- one slice more
 pub slice_more : (fuel n : ℕ) → steps_among (replicate (n + 1) (Slice fuel))

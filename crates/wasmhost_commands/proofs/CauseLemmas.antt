@@ -50,8 +50,8 @@ use Rattle.wasmhost_commands.proofs.RefusalLemmas.{refusals_have_reasons}
 
 module _ (old : Standing) (asks : List Ask) (failed' : Bool) where
   abbrev IsFor : Kind → LineFault → Type 0
-  IsFor kind why = IsRefusedFor kind old.outside (old.place + words_of (handed asks)) old.taken
-      old.unread (requests_in (handed asks)) old.failed failed' why
+  IsFor kind why = IsRefusedFor kind old.outside old.limit (old.place + words_of (handed asks))
+      old.taken old.unread (requests_in (handed asks)) old.failed failed' why
 
   lacks_read : (kind : Kind) → IsRefusedAmong asks kind → IsFor kind line.Read
       → LacksAnswerAt old asks failed'
@@ -76,15 +76,15 @@ module _ (old : Standing) (asks : List Ask) (failed' : Bool) where
 
   -- the next line of a reader can't be taken
   abbrev IsBad : List ℕ → Type 0
-  IsBad rest = BeginsWithOther rest
-      ⊎ BeginsWithLater (old.taken + length (requests_in (handed asks))) rest
+  IsBad rest = BeginsWithOther old.limit rest
+      ⊎ BeginsWithLater old.limit (old.taken + length (requests_in (handed asks))) rest
 
   meets_other : (kind : Kind) → IsRefusedAmong asks kind → IsFor kind line.Form
       → MeetsBadLineAt old asks failed'
   meets_other kinds.Request r h = (
     r,
-    up_to_map old.taken old.unread (requests_in (handed asks)) BeginsWithOther IsBad
-        (λ rest is. inl is) h.0,
+    up_to_map old.limit old.taken old.unread (requests_in (handed asks))
+        (BeginsWithOther old.limit) IsBad (λ rest is. inl is) h.0,
     h.1,
   )
   meets_other kinds.Realtime r h = absurd h.0
@@ -99,8 +99,8 @@ module _ (old : Standing) (asks : List Ask) (failed' : Bool) where
       let later : (old.taken + length (requests_in (handed asks))) + 1 < number =
       omega (arith, next, beyond) in (
         r,
-        up_to_map old.taken old.unread (requests_in (handed asks)) (BeginsWithNumber number)
-            IsBad (λ rest is. inr (number, later, is)) h.2,
+        up_to_map old.limit old.taken old.unread (requests_in (handed asks))
+            (BeginsWithNumber old.limit number) IsBad (λ rest is. inr (number, later, is)) h.2,
         h.3,
       )
   meets_later number wanted kinds.Realtime r h = absurd h.0
@@ -297,6 +297,8 @@ module _ {D O : Type 0} (medium : D → Medium) (takes : Taking O) where
           seven (inl (f IsOutletFault IsOfOutlet tt))
       by_opening (recover.Worker (work.Store why)) f steady =
           three (f IsStuck IsAtItsEnd tt) steady
+      by_opening (recover.Worker (work.Upgrade why)) f steady =
+          three (f IsStuck IsAtItsEnd tt) steady
       by_opening (recover.Worker (work.Disk disk.Memory)) f steady =
           five (inl (f IsWanting IsOfMemory tt))
       by_opening (recover.Worker (work.Disk disk.Range)) f steady =
@@ -338,6 +340,8 @@ module _ {D O : Type 0} (medium : D → Medium) (takes : Taking O) where
           → ((why ≡ work.Work slice.Source → ⊥) → IsSteady)
           → Says (status_of_call why)
       by_calling (work.Store why) f steady =
+          three (f IsStuck IsAtItsEnd tt) (steady (λ e. absurd (cc)))
+      by_calling (work.Upgrade why) f steady =
           three (f IsStuck IsAtItsEnd tt) (steady (λ e. absurd (cc)))
       by_calling (work.Disk why) f steady = four (inl (f IsFailing IsUnanswering tt))
       by_calling (work.Work slice.Source) f steady = four (inl (f IsFailing IsUnanswering tt))

@@ -51,6 +51,7 @@ module _ (bytes : List ℕ) (config : Settings) (old new : Medium) where
   not_seven (work.Work (slice.Refused why)) refused = λ is. omega (arith, is)
   not_seven (work.Disk fault) refused = λ is. omega (arith, is)
   not_seven (work.Store fault) refused = λ is. omega (arith, is)
+  not_seven (work.Upgrade fault) refused = λ is. omega (arith, is)
 
   pub refused_heeded : (why : WorkFault) → IsNotCreatedOn bytes config old new why
       → (told : OnDiskFault) → told ≡ told_of_call why → (out err : PrinterState) (status : ℕ)

@@ -149,6 +149,7 @@ module _ (guest : Guest) (p : ProcessState) (exchanges : List Exchange) (steps :
   cause_heard fuel (work.Disk why) h = inl (disk_heard h.1)
   cause_heard fuel (work.Store why) h =
       inl (store_heard (stops_at_store guest p fuel exchanges steps q why h))
+  cause_heard fuel (work.Upgrade why) h = absurd h
 
 module _ {S O : Type 0} (gives : Giving S) (takes : Taking O) (fuel : ℕ) (s t : S) (o p : O) where
   pub slice_hears : (old new : WorkerValue) (why : Now) → IsProcess old.process

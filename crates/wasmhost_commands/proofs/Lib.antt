@@ -8,6 +8,7 @@ pub mod HearingLemmas
 pub mod BreakLemmas
 pub mod PrintedLemmas
 pub mod LivingLemmas
+pub mod UpgradingLemmas
 pub mod ReleasedLemmas
 pub mod ShownLemmas
 pub mod OnDiskLemmas

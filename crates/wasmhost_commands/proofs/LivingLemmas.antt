@@ -59,7 +59,7 @@ fewer_left gives takes old new fuel s t o p is some slices =
     fewer n a b h k = omega arith
 
 -- one more of the same, in front of the rest
-turned : {X : Type 0} (n : ℕ) (x : X) (rest : List X)
+pub turned : {X : Type 0} (n : ℕ) (x : X) (rest : List X)
     → replicate n x ++ (x ∷ rest) ≡ replicate (n + 1) x ++ rest
 turned n x rest = sym (append_assoc (replicate n x) (x ∷ []) rest)
     ∙ ap (λ z. z ++ rest) (replicate_more n x)
@@ -115,7 +115,7 @@ module _ {D S O : Type 0} (medium : D → Medium) (gives : Giving S) (takes : Ta
       (leads : ActsLead medium gives takes (replicate n (Slice fuel)) from now.Spent
       (scene w disk source outlet)) where
     -- a slice more
-    slices_lead : (said : Now)
+    pub slices_lead : (said : Now)
         → SliceCarries gives takes w fuel (Ok said) w' (medium disk) (medium disk') source source'
         outlet outlet'
         → ActsLead medium gives takes (replicate (n + 1) (Slice fuel)) from said

@@ -53,13 +53,13 @@ use Rattle.wasmhost_commands.proofs.ShownLemmas.{broken_so}
 
 -- where a source stands that goes on behind the requests that a worker has taken
 module _ {R : Type 0} (unread : R → Option (List ℕ)) (failed : R → Bool) where
-  pub is_behind : {outside outside' : Outside} {stream stream' taken taken' place : ℕ}
-      {reader reader' : R} {found : Option LineFault} → outside ≡ outside' → stream ≡ stream'
-      → taken ≡ taken' → place ≡ 0 → reader ≡ reader' → found ≡ None
-      → standing outside stream taken place (unread reader) (failed reader) found
-      ≡ standing outside' stream' taken' 0 (unread reader') (failed reader') None
-  is_behind same first behind start is unspoilt =
-      rw (same, first, behind, start, is, unspoilt) refl
+  pub is_behind : {outside outside' : Outside} {limit limit' stream stream' taken taken' place : ℕ}
+      {reader reader' : R} {found : Option LineFault} → outside ≡ outside' → limit ≡ limit'
+      → stream ≡ stream' → taken ≡ taken' → place ≡ 0 → reader ≡ reader' → found ≡ None
+      → standing outside limit stream taken place (unread reader) (failed reader) found
+      ≡ standing outside' limit' stream' taken' 0 (unread reader') (failed reader') None
+  is_behind same long first behind start is unspoilt =
+      rw (same, long, first, behind, start, is, unspoilt) refl
 
 module _ {D S O : Type 0} (medium : D → Medium) (stands : S → Standing) (takes : Taking O) where
   -- where it has failed, seen by where its source stands
@@ -155,7 +155,7 @@ module _ {D O : Type 0} (medium : D → Medium) (takes : Taking O) where
       record { settled = settled.0; synced = settled.1; read = alone.0; same = alone.1 }
 
   -- a worker that isn't opened
-  opens_none : (why : RecoverFault) (found last : D) (o p : O)
+  pub opens_none : (why : RecoverFault) (found last : D) (o p : O)
       → Recovers medium takes (Err why) found last o p
       → RecoveryCarries takes (Err why) (medium found) (medium last) o p
       → HeedsOutlet takes (IsOutletFault why) o p
@@ -236,6 +236,7 @@ few_of_call (work.Work slice.Failed) = lit≤ tt
 few_of_call (work.Work (slice.Refused why)) = lit≤ tt
 few_of_call (work.Disk fault) = lit≤ tt
 few_of_call (work.Store fault) = lit≤ tt
+few_of_call (work.Upgrade fault) = lit≤ tt
 
 few_of_disk : (fault : DiskFault) → status_of_disk fault ≤ 7
 few_of_disk disk.Range = lit≤ tt

@@ -75,6 +75,7 @@ module _ (guest : Guest) (p : ProcessState) (exchanges : List Exchange) (steps :
   told_before fuel (work.Disk why) none (in_slice h) = absurd none
   told_before fuel (work.Store why) none (in_slice h) =
       told_up_to None (none guest p fuel exchanges steps q h).4
+  told_before fuel (work.Upgrade why) none (in_slice h) = absurd none
 
 module _ (guest : Guest) (p : ProcessState) where
   -- slices before it told all as well

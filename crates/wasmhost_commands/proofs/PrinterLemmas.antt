@@ -23,6 +23,13 @@ prints_six a b c d e f g p q r s t u h i j k l m =
     prints_both a f g (p ++ q ++ r ++ s ++ t) u
     (prints_both a e f (p ++ q ++ r ++ s) t (prints_four a b c d e p q r s h i j k) l) m
 
+pub prints_seven : (a b c d e f g h : PrinterState) (p q r s t u v : List ℕ) → IsPrinted a b p
+    → IsPrinted b c q → IsPrinted c d r → IsPrinted d e s → IsPrinted e f t → IsPrinted f g u
+    → IsPrinted g h v → IsPrinted a h (p ++ q ++ r ++ s ++ t ++ u ++ v)
+prints_seven a b c d e f g h p q r s t u v i j k l m n o =
+    prints_both a g h (p ++ q ++ r ++ s ++ t ++ u) v
+    (prints_six a b c d e f g p q r s t u i j k l m n) o
+
 -- a name with a number, where that is this one
 pub names_as : (old new : PrinterState) (name : List ℕ) (m n : ℕ) → m ≡ n
     → IsPrinted old new (named_number name m) → IsPrinted old new (named_number name n)

@@ -38,16 +38,19 @@ ended_before kind s v u more hands others =
       unspoilt = others.unspoilt;
       steady = others.steady ∙ hands.steady;
       same = others.same ∙ hands.same;
+      same_limit = others.same_limit ∙ hands.same_limit;
       same_stream = others.same_stream ∙ hands.same_stream;
       counted = omega (arith, count, counts);
       drawn = omega (arith, place, places);
       come = subst (λ o. ComeFrom o s.stream s.place more) hands.same
           (subst (λ v'. ComeFrom v.outside v' s.place more) hands.same_stream
           (subst (λ k. ComeFrom v.outside v.stream k more) place others.come));
-      given = behind_passed s.taken s.unread v.unread (requests_in more)
+      given = behind_passed s.limit s.taken s.unread v.unread (requests_in more)
           (λ rest. u.unread ≡ Some rest) here.2
-          (subst (λ n. GiveUpTo n v.unread (requests_in more) (λ rest. u.unread ≡ Some rest)) count
-          others.given);
+          (subst (λ n. GiveUpTo s.limit n v.unread (requests_in more)
+          (λ rest. u.unread ≡ Some rest)) count
+          (subst (λ n. GiveUpTo n v.taken v.unread (requests_in more)
+          (λ rest. u.unread ≡ Some rest)) hands.same_limit others.given));
     }
 
 -- a source with a fault keeps it, and answers nothing more
@@ -75,7 +78,7 @@ stays_refused why (ask ∷ asks) s t is leads =
         let h : HandsNext ask.kind s (Err fault) u =
         subst (λ r. HandsNext ask.kind s r u) e hands in
         let stays : LeavesFault ask.kind s u (Some why) =
-        subst (LeavesFault ask.kind s u) is h.4 in
+        subst (LeavesFault ask.kind s u) is h.5 in
         let others = more stays.0 in (
           subst (λ r. handed_by r ++ handed asks ≡ []) (sym e) others.0,
           others.1,
@@ -203,8 +206,8 @@ reason_of : (s t : Standing) (asks : List Ask) (why : LineFault)
 reason_of s t asks why r = record {
   kind = r.kind;
   asked = r.asked;
-  reason = subst (λ f. IsRefusedFor r.kind s.outside (s.place + words_of (handed asks)) s.taken
-      s.unread (requests_in (handed asks)) s.failed f why) (sym r.steady)
+  reason = subst (λ f. IsRefusedFor r.kind s.outside s.limit (s.place + words_of (handed asks))
+      s.taken s.unread (requests_in (handed asks)) s.failed f why) (sym r.steady)
       (refused_for s r.between r.after (handed asks) r.before r.kind r.fault why r.left r.hands);
 }
 
@@ -235,7 +238,7 @@ heard_so_far (ask ∷ asks) s u none leads =
     by_said more (Err fault) e hands =
         let h : HandsNext ask.kind s (Err fault) v =
         subst (λ r. HandsNext ask.kind s r v) e hands in
-        absurd (by_left v.fault refl (leaves_some ask.kind s v s.fault h.4))
+        absurd (by_left v.fault refl (leaves_some ask.kind s v s.fault h.5))
       where
         by_left : (left : Option LineFault) → v.fault ≡ left → IsSomeAnd v.fault (λ _. ⊤) → ⊥
         by_left None is some =

@@ -46,6 +46,7 @@ seven_of_call (work.Work slice.Failed) = inr ((λ told. told), λ e. omega (arit
 seven_of_call (work.Work (slice.Refused why)) = inr ((λ told. told), λ e. omega (arith, e))
 seven_of_call (work.Disk why) = inr ((λ told. told), λ e. omega (arith, e))
 seven_of_call (work.Store why) = inr ((λ told. told), λ e. omega (arith, e))
+seven_of_call (work.Upgrade why) = inr ((λ told. told), λ e. omega (arith, e))
 
 -- want of memory and a refusal aren't
 not_by_want : (want : Bool) → ◌≢◌ {A = ℕ} (if want then 5 else 3) 7
@@ -86,6 +87,7 @@ seven_of_opening (recover.Worker (work.Work slice.Failed)) =
 seven_of_opening (recover.Worker (work.Work (slice.Refused why))) =
     seven_of_call (work.Work (slice.Refused why))
 seven_of_opening (recover.Worker (work.Store why)) = seven_of_call (work.Store why)
+seven_of_opening (recover.Worker (work.Upgrade why)) = seven_of_call (work.Upgrade why)
 
 -- no fault of a request line is
 line_is_other : (why : LineFault) → status_of_line why ≢ 7

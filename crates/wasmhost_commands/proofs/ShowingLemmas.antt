@@ -44,6 +44,7 @@ status_of_nothing old new (recover.Worker (work.Disk disk.Cut)) says failed =
     inl (refl, failed disk.Cut refl)
 status_of_nothing old new (recover.Worker (work.Work why)) says failed = absurd says
 status_of_nothing old new (recover.Worker (work.Store why)) says failed = absurd says
+status_of_nothing old new (recover.Worker (work.Upgrade why)) says failed = absurd says
 status_of_nothing old new (recover.Replay why) says failed = absurd says
 status_of_nothing old new (recover.Layout why) says failed =
     inr (status_of_want (recover.Layout why) says)

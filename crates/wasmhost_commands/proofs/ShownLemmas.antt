@@ -9,7 +9,7 @@ use Rattle.worker.specs.declared.recover_fault.RecoverFault.{RecoverFault}
 use Rattle.worker.specs.rules.DurableValues.{DurableValue}
 use Rattle.worker.specs.rules.LifeWords.{Act}
 use Rattle.worker.specs.laws.OneLife.{CallsInOrder, no_more, sliced, slice_failed, saved}
-use Rattle.worker.specs.laws.OneLife.{saving_failed}
+use Rattle.worker.specs.laws.OneLife.{saving_failed, was_upgraded, upgrade_failed}
 use Rattle.worker.specs.laws.Outcomes.{outcome_after}
 use Rattle.process.specs.rules.Values.{ProcessValue}
 use Rattle.worker.specs.declared.fault.WorkFault.{WorkFault}
@@ -71,6 +71,11 @@ module _ {S T O : Type 0} (stands : S → T) (gives : Giving T) (takes : Taking 
         saved carries (calls_so others w' mid last s t o p left more)
     calls_so acts w disk last s t o p left (saving_failed carries cause) =
         saving_failed carries cause
+    calls_so acts w disk last s t o p left
+        (was_upgraded {acts = others} {w' = w'} {disk' = mid} carries more) =
+        was_upgraded carries (calls_so others w' mid last s t o p left more)
+    calls_so acts w disk last s t o p left (upgrade_failed carries cause) =
+        upgrade_failed carries cause
 
     -- they say the same
     pub outcome_so : (before : Now) (acts : List Act) (w : DurableValue) (disk last : D) (s t : S)
@@ -88,3 +93,7 @@ module _ {S T O : Type 0} (stands : S → T) (gives : Giving T) (takes : Taking 
         (saved {acts = others} {w' = w'} {disk' = mid} carries more) =
         outcome_so before others w' mid last s t o p left more
     outcome_so before acts w disk last s t o p left (saving_failed carries cause) = refl
+    outcome_so before acts w disk last s t o p left
+        (was_upgraded {acts = others} {w' = w'} {disk' = mid} carries more) =
+        outcome_so before others w' mid last s t o p left more
+    outcome_so before acts w disk last s t o p left (upgrade_failed carries cause) = refl

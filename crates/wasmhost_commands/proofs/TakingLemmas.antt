@@ -44,6 +44,7 @@ saving_is_other w old new (work.Work slice.Failed) cause told = told
 saving_is_other w old new (work.Work (slice.Refused why)) cause told = told
 saving_is_other w old new (work.Disk why) cause told = told
 saving_is_other w old new (work.Store why) cause told = told
+saving_is_other w old new (work.Upgrade why) cause told = told
 
 -- The releases among these calls are of some lines, each of which was taken.
 record AllTaken (exchanges : List Exchange) : Type 0 where
@@ -146,6 +147,7 @@ module _ {O : Type 0} (takes : Taking O) where
         heeds (work.Store why) (λ told. told)
         (at_store guest p exchanges steps q
         (stops_at_store guest p fuel exchanges steps q why h))
+    heeds_cause fuel (work.Upgrade why) h = absurd h
 
 module _ {S O : Type 0} (gives : Giving S) (takes : Taking O) (fuel : ℕ) (s t : S) (o p : O) where
   pub slice_takes : (old new : WorkerValue) (why : Now) → IsProcess old.process

@@ -32,6 +32,7 @@ some_of_call (work.Work slice.Failed) = lit≤ tt
 some_of_call (work.Work (slice.Refused why)) = lit≤ tt
 some_of_call (work.Disk fault) = lit≤ tt
 some_of_call (work.Store fault) = lit≤ tt
+some_of_call (work.Upgrade fault) = lit≤ tt
 
 some_of_disk : (fault : DiskFault) → 1 ≤ status_of_disk fault
 some_of_disk disk.Range = lit≤ tt

@@ -1,4 +1,5 @@
 pub mod Livings
+pub mod ComingUp
 pub mod Lines
 pub mod laws
 pub mod rules

@@ -24,6 +24,7 @@ pub mod Leavings
 pub mod MadeFiles
 pub mod ModuleLimits
 pub mod ServedOnDisk
+pub mod Upgradings
 pub mod Showings
 pub mod Statuses
 pub mod Texts

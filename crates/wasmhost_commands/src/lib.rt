@@ -25,9 +25,10 @@
 //!   outlet it is lent. Where the worker was recovered, all that was done of the disk, the source
 //!   and the outlet are the calls of one life, in order: slices of its fuel, and checkpoints at its
 //!   pace (`IsPaced`). The source begins behind the requests that the worker has taken, and at the
-//!   first word of the seed's stream of its generation (`stands_behind`). It refuses no question,
-//!   unless the error is its own (`AsksUnless`), and the outlet no line, unless the error is the
-//!   outlet's (`HeedsOutlet` of `worker`). Where `err` is a terminal, its first line says
+//!   first word of the seed's stream of its generation, and takes texts as long as the worker's
+//!   version has them (`stands_behind`). It refuses no question, unless the error is its own
+//!   (`AsksUnless`), and the outlet no line, unless the error is the outlet's (`HeedsOutlet` of
+//!   `worker`). Where `err` is a terminal, its first line says
 //!   how the worker was recovered (`recovered_line`). `laws::lives_on_disk_go_on`: such calls are a
 //!   life that goes on from all that was promised. The last words are those of what its last slice
 //!   has answered (`HasOutcome`). Where a call fails, lines wait only as its own clause says
@@ -59,7 +60,8 @@
 //!   It answers clocks with the fixed time, or with that of its `RealTime` clock, to the nanosecond
 //!   (`IsRealTime`). It answers wishes for random bytes with the next words of its stream. It says
 //!   why it refuses. A failed read it tells only of a reader that has failed.
-//! - `read_request`: what one line says, where it is a request line (`spelled`, `found`).
+//! - `read_request`: what one line says, where it is a request line with a text of at most so many
+//!   bytes (`spelled`, `found`).
 //!   `trap_name`: how last words call a trap.
 //! - `read_seed`, `seeded`: which texts are seeds, and which bytes a seed gives (`seeded_bytes`).
 //! - `report_input`: behind a run, at which line of its input a refused one stands, and how many
@@ -92,7 +94,7 @@
 //!   script spells, and which one is swept (`AreSweptLives`). `fronts_of`: the fronts that a text
 //!   spells.
 //! - `laws::faultless_words_mean`, `laws::worked_examples`: words without a fault mean an order,
-//!   with numbers in their ranges; eighty-nine command lines. What `--version` is told of the
+//!   with numbers in their ranges; ninety-three command lines. What `--version` is told of the
 //!   program is `version_words` (`HasVersion`).
 //!
 //! # Definitions to read
@@ -258,8 +260,9 @@ pub use lines::{
 };
 pub use module_bytes::read_module;
 pub use on_disk::{
-    Drive, NewDisk, Pace, StatusFile, Watcher, create_device, create_file, create_on, files_file,
-    inspect_file, open_disk, report_input, report_open, report_unread, serve, show_file, survey,
+    Drive, NewDisk, Pace, StatusFile, Upgraded, Watcher, create_device, create_file, create_on,
+    files_file, inspect_file, open_disk, report_input, report_open, report_unread, say_upgraded,
+    serve, show_file, survey, upgrade_worker,
 };
 pub use preparing::{Prepared, Unprepared, prepare, report_unprepared};
 pub use printer::Printer;

@@ -6,17 +6,18 @@ use Rattle.std.proofs.lemmas.List.{drop_all}
 use Rattle.std.specs.Prelude.{Result, Ok, Err, map}
 use Rattle.sector_disk.specs.rules.Medium.{Medium}
 use Rattle.record_replay.specs.rules.Calls.{Giving, Taking}
-use Rattle.restart_theorem.specs.Lives.{Act, Checkpoint}
+use Rattle.restart_theorem.specs.Lives.{Act, Checkpoint, Upgrade}
 use Rattle.restart_theorem.specs.Lives.{Slice}
 use Rattle.ephemeral_worker.specs.declared.now.Now.{Now}
 use Rattle.worker.specs.declared.fault.WorkFault.{WorkFault}
 use Rattle.worker.specs.declared.recover_fault.RecoverFault.{RecoverFault}
 use Rattle.worker.specs.declared.recover_fault.RecoverFault.TheVariants as recover
 use Rattle.worker.specs.rules.Checkpoints.{CheckpointFails}
-use Rattle.worker.specs.rules.DurableCalls.{SliceCarries, CheckpointCarries}
+use Rattle.worker.specs.rules.DurableCalls.{SliceCarries, CheckpointCarries, UpgradeCarries}
+use Rattle.worker.specs.rules.Upgrades.{UpgradeFails}
 use Rattle.worker.specs.rules.DurableValues.{DurableValue}
 use Rattle.worker.specs.laws.OneLife.{CallsInOrder, no_more, sliced, slice_failed, saved}
-use Rattle.worker.specs.laws.OneLife.{saving_failed}
+use Rattle.worker.specs.laws.OneLife.{saving_failed, was_upgraded, upgrade_failed}
 use Rattle.worker.specs.declared.story.life.PlannedAct.{PlannedAct}
 use Rattle.worker.specs.rules.Planned.{act_of}
 use Rattle.worker.specs.LifeCalls.{DoesAct}
@@ -49,6 +50,18 @@ module _ {D S O : Type 0} (medium : D → Medium) (gives : Giving S) (takes : Ta
       → CheckpointFails w (medium disk) (medium disk') why
       → DoesAct medium gives takes Checkpoint w disk source outlet (Err why) w' disk' source outlet
   saving_fails why source outlet carries fails = λ acts. saving_failed carries fails
+
+  pub upgrade_is_done : (source : S) (outlet : O)
+      → UpgradeCarries w (Ok tt) w' (medium disk) (medium disk')
+      → DoesAct medium gives takes Upgrade w disk source outlet (Ok tt) w' disk' source outlet
+  upgrade_is_done source outlet carries =
+      λ acts left last source_last outlet_last rest. was_upgraded carries rest
+
+  pub upgrade_fails : (why : WorkFault) (source : S) (outlet : O)
+      → UpgradeCarries w (Err why) w' (medium disk) (medium disk')
+      → UpgradeFails w w'.process (medium disk) (medium disk') why
+      → DoesAct medium gives takes Upgrade w disk source outlet (Err why) w' disk' source outlet
+  upgrade_fails why source outlet carries fails = λ acts. upgrade_failed carries fails
 
 -- ---- a list of them
 

@@ -2,6 +2,9 @@
 use Rattle.std.proofs.Common.{◌≡◌, inl, inr, ℕ, ◌+◌, List, refl, sym, ap, ◌∙◌, subst}
 use Rattle.std.proofs.Common.{◌*◌, ◌<◌, length, false}
 use Rattle.std.specs.Prelude.{Result, Ok, Err, IfErr}
+use Rattle.wasi_abi.specs.declared.version.Version.{Version}
+use Rattle.wasi_calls_rules.specs.Hosts.{Host}
+use Rattle.process_rules.specs.Processes.{ProcessState, Guest}
 use Rattle.process.specs.rules.Values.{ProcessValue, ShowsProcess}
 use Rattle.state_image.specs.rules.Image.{image}
 use Rattle.state_image.specs.rules.Saving.{saved_of}
@@ -10,8 +13,7 @@ use Rattle.sector_disk.specs.rules.Image.{Image}
 use Rattle.sector_disk.specs.rules.Medium.{CallsUpTo, Medium, SyncsMedium}
 use Rattle.sector_disk.specs.declared.sector.TheConstants.{SECTOR_SIZE}
 use Rattle.disk_layout.specs.declared.geometry.Geometry.{Geometry}
-use Rattle.disk_layout.specs.declared.head.TheConstants.{IMAGE_VERSION}
-use Rattle.disk_layout.specs.rules.Sectors.{HoldsImage}
+use Rattle.worker_store.specs.rules.AnyDisk.{NamesImage}
 use Rattle.disk_layout.specs.rules.Stored.{OnlyReads}
 use Rattle.record_replay.specs.declared.fault.ReplayFault.{ReplayFault}
 use Rattle.record_replay.specs.rules.Calls.{Taking}
@@ -39,6 +41,12 @@ use Rattle.worker.proofs.RecoveryLemmas.Results.{settled_by, reads_none, sync_fa
 
 -- ---- the worker that the disk holds
 
+-- a process has the version of the one that it shows
+pub shown_version : (v : ProcessValue) (guest : Guest) (p : ProcessState) → ShowsProcess v guest p
+    → v.host.host.version ≡ p.host.version
+shown_version v guest p shows =
+    let host = shows.host in sym (ap (λ (h : Host). h.version) host.is)
+
 module _ (sectors : ℕ) (disk : Image) (found : Found) (at : IsFoundIn sectors disk found) where
   abbrev pub held_in : HoldsWorker sectors disk
   held_in = record {
@@ -46,8 +54,8 @@ module _ (sectors : ℕ) (disk : Image) (found : Found) (at : IsFoundIn sectors 
     generation = found.generation;
     saved = saved_of found.process;
     well_typed = at.process.restored.well_typed;
-    newest = subst (λ (b : List ℕ). HoldsImage at.holds.contents.geometry disk found.generation
-        IMAGE_VERSION b) at.process.restored.is at.process.newest;
+    newest = subst (λ (b : List ℕ). NamesImage at.holds.contents.geometry disk found.generation
+        (saved_of found.process).version b) at.process.restored.is at.process.newest;
     records = found.records.items;
     scanned = at.scanned;
   }
@@ -72,7 +80,12 @@ module _ (sectors : ℕ) (disk : Image) (found : Found) (at : IsFoundIn sectors 
       released_is found.process (saved_of found.process) restored.none_waits refl
 
   pub surveyed : SurveysDisk sectors disk (Ok (numbers_of_found found))
-  surveyed = (held_in, refl)
+  surveyed = (
+    held_in,
+    ap (λ (v : Version). record (numbers_of_found found) { version = v })
+        (shown_version found.process held_in.well_typed.guest held_in.well_typed.process
+        shows_saved),
+  )
 
   module _ {O : Type 0} (takes : Taking O) (outlet outlet' : O) where
     -- it has come to its last process
@@ -91,8 +104,9 @@ module _ (sectors : ℕ) (disk : Image) (found : Found) (at : IsFoundIn sectors 
     pub revives_held : (w : DurableValue) (mid new : Medium)
         → IsReplayed takes found w.process w.replayed outlet outlet'
         → OpensStore found.geometry found.generation w.process w.store mid new
-        → w.has_failed ≡ false → RevivesHeld takes held_in w outlet outlet'
-    revives_held w mid new replayed opens works =
+        → w.has_failed ≡ false → w.is_abreast ≡ false
+        → RevivesHeld takes held_in w outlet outlet'
+    revives_held w mid new replayed opens works behind =
         let ends = ends_held w.process w.replayed replayed in
         let restored = at.process.restored in
         record {
@@ -103,6 +117,7 @@ module _ (sectors : ℕ) (disk : Image) (found : Found) (at : IsFoundIn sectors 
           generation = opens.numbered;
           counted = replayed.counted;
           unfailed = works;
+          behind = behind;
           told = ends.told;
         }
 
@@ -216,7 +231,7 @@ module _ {D O : Type 0} (medium : D → Medium) (takes : Taking O) (found : Foun
   answers_so sectors disk at (Ok w) revives = (
     held_in sectors disk found at,
     revives_held sectors disk found at takes outlet outlet' w (medium mid) (medium new)
-        revives.0 revives.1 revives.2,
+        revives.0 revives.1 revives.2 revives.3,
   )
   answers_so sectors disk at (Err why) (inl stops) = inr (
     held_in sectors disk found at,

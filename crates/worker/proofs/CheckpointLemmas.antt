@@ -29,6 +29,7 @@ use Rattle.worker.specs.rules.Savings.{LeavesFrontOrNext, SaveFails, SaveCalls}
 use Rattle.worker.specs.rules.CallCounts.{most_saving}
 use Rattle.worker.specs.rules.Checkpoints.{CheckpointFails, CheckpointCalls, IsSavedIn}
 use Rattle.worker.proofs.SavingActLemmas.{SavesShown, saving_done, saving_fault, saving_fails}
+use Rattle.worker.proofs.DurableLemmas.OnDisk.{room_now}
 
 -- ---- an open worker
 
@@ -47,8 +48,11 @@ checkpoint_saves_shown running replayed flag flag' after_store disk is m config 
         shows = opened.shows;
         module_is = opened.module_is;
         none_waits = opened.none_waits;
+        room = room_now m config guest promise p p.steps promise.events running.store disk
+            opened.on_disk running.process opened.shows;
       },
       checkpoints_save promise (saved_of running.process),
+      λ differs. absurd (differs refl),
     )
 
 -- how its disk is left
@@ -66,7 +70,7 @@ module _ {D : Type 0} (medium : D → Medium) (running : Running) (replayed : �
       saving_done medium Checkpoint (durable_of running replayed flag)
       (durable_of (record running { store = after_store }) replayed flag) disk disk' fit
       (checkpoint_saves_shown running replayed flag flag after_store (medium disk) is) leaves few
-      works stores
+      tt works refl stores
 
   pub fault_carries : (fault : StoreFault)
       → SaveFails running.store running.process (medium disk) (medium disk') fault

@@ -305,6 +305,7 @@ module _ {D : Type 0} (medium : D → Medium) (bytes : List ℕ) (config : Setti
           generation = is_stored.journaled.generation ∙ of_first.generation;
           none_replayed = refl;
           unfailed = refl;
+          abreast = refl;
           geometry = is_stored.geometry
               ∙ ap (λ (wasm : List ℕ). geometry_of config (length wasm)) of_first.wasm;
           contents = λ image left. let at = is_stored.journaled.stands image left in
@@ -373,6 +374,7 @@ module _ {D : Type 0} (medium : D → Medium) (bytes : List ℕ) (config : Setti
         let lines : length start.host.lines ≡ 0 =
         no_lines begun.spelled config guest start begins in
         let none_passed : promise.passed ≡ 0 = ap (λ (z : Promise). z.passed) nothing in
+        let none_begun : promise.begun ≡ 0 = ap (λ (z : Promise). z.begun) nothing in
         let counted : (saved_of v).steps ≡ start.steps = saved.shows.steps in
         let no_steps : start.steps ≡ 0 =
         start_counts begun.spelled config guest start begins in
@@ -414,6 +416,10 @@ module _ {D : Type 0} (medium : D → Medium) (bytes : List ℕ) (config : Setti
               early = omega (arith, numbered);
             };
             synced = same_within (saved_of v).steps start.steps start.steps counted (omega arith);
+            abreast = record {
+              none_beyond = λ here. none_within promise.begun (length start.host.lines) none_begun;
+              says_so = λ abreast. refl;
+            };
           };
           leaves = λ blank. done_leaves promise old nothing created blank leaves few;
         }

@@ -1,5 +1,5 @@
 -- What is found on any disk, step by step.
-use Rattle.std.proofs.Common.{◌≡◌, ◌≢◌, inl, inr, ℕ, List, refl, sym, subst}
+use Rattle.std.proofs.Common.{◌≡◌, ◌≢◌, ◌∙◌, inl, inr, ℕ, List, refl, sym, subst}
 use Rattle.std.specs.Prelude.{Ok, Err, Vec}
 use Rattle.std.specs.declared.alloc.Global.{Global}
 use Rattle.wasm_syntax.specs.declared.module.Module.{Module}
@@ -13,28 +13,28 @@ use Rattle.machine_loader.specs.rules.Acceptance.{IsTold}
 use Rattle.process.specs.rules.Values.{ProcessValue}
 use Rattle.state_image.specs.declared.restoring.fault.RestoreFault.{RestoreFault}
 use Rattle.state_image.specs.declared.restoring.fault.RestoreFault.TheVariants as restore
-use Rattle.state_image.specs.rules.Image.{Saved, image}
+use Rattle.state_image.specs.rules.Image.{Saved, IsMarkedOtherwise, image}
+use Rattle.state_image.proofs.Marks.{marked_as}
 use Rattle.state_image.specs.rules.Restored.{IsRestored}
 use Rattle.state_image.specs.rules.Saving.{saved_of}
 use Rattle.state_image.specs.rules.WellTyped.{IsWellTyped}
 use Rattle.sector_disk.specs.rules.Image.{Image}
 use Rattle.disk_layout.specs.declared.fault.LayoutFault.TheVariants as layout
 use Rattle.disk_layout.specs.declared.geometry.Geometry.{Geometry}
-use Rattle.disk_layout.specs.declared.head.TheConstants.{IMAGE_VERSION}
 use Rattle.disk_layout.specs.declared.reading.contents.Contents.{Contents}
-use Rattle.wasi_abi.specs.declared.version.Version.TheVariants.{One}
+use Rattle.wasi_abi.specs.declared.version.Version.{Version}
 use Rattle.disk_layout.specs.rules.Held.{GivesContents}
 use Rattle.disk_layout.specs.rules.Journal.{Record, scan}
-use Rattle.disk_layout.specs.rules.Sectors.{HoldsImage}
 use Rattle.journal.specs.declared.fault.JournalFault.TheVariants as journal
 use Rattle.snapshot.specs.declared.fault.SnapshotFault.TheVariants as snapshot
 use Rattle.worker_store.specs.declared.read_fault.ReadFault.{ReadFault}
 use Rattle.worker_store.specs.declared.read_fault.ReadFault.TheVariants as read
 use Rattle.worker_store.specs.rules.AnyDisk.{TellsContents, TellsNewest, TellsRecords}
+use Rattle.worker_store.specs.rules.AnyDisk.{NamesImage}
 use Rattle.worker.specs.declared.recover_fault.RecoverFault.{RecoverFault}
 use Rattle.worker.specs.declared.recover_fault.RecoverFault.TheVariants as recover
 use Rattle.worker.specs.rules.RecoverFaults.{fault_of_read}
-use Rattle.worker.specs.rules.ShownDisks.{HoldsModule, ShowsFault}
+use Rattle.worker.specs.rules.ShownDisks.{HoldsModule, HoldsNamedImage, ShowsFault}
 use Rattle.worker.specs.FoundDisks.{IsMachineIn, IsRestoredIn, IsFoundIn}
 use Rattle.worker.proofs.RestoringLemmas.{unrestored}
 
@@ -46,7 +46,7 @@ module _ (sectors : ℕ) (disk : Image) where
   unread (read.Layout layout.NotAWorker) tells = tells
   unread (read.Layout layout.Version) tells = inl tells
   unread (read.Layout layout.TooSmall) tells = tells
-  unread (read.Layout layout.Damaged) tells = tells
+  unread (read.Layout layout.Damaged) tells = inl tells
   unread (read.Layout layout.Memory) tells = tells
   unread (read.Layout (layout.Disk fault)) tells = absurd tells
   unread (read.Disk fault) tells = tt
@@ -107,6 +107,7 @@ module _ (sectors : ℕ) (disk : Image) (holds : HoldsModule sectors disk) (geom
       → TellsNewest holds.contents.geometry disk (Err fault)
       → ShowsFault sectors disk (fault_of_read fault)
   no_newest (read.Layout layout.Version) tells = inr (holds, tells)
+  no_newest (read.Layout layout.Damaged) tells = inr (record { holds = holds; odds = tells })
   no_newest (read.Snapshot snapshot.Damaged) tells = record { holds = holds; none = tells }
   no_newest (read.Snapshot snapshot.Memory) tells = (holds, tells)
   no_newest (read.Disk fault) tells = tt
@@ -121,12 +122,28 @@ module _ (sectors : ℕ) (disk : Image) (holds : HoldsModule sectors disk) (geom
 
 module _ (sectors : ℕ) (disk : Image) (holds : HoldsModule sectors disk) (geometry : Geometry)
     (config : Settings) (machine : MachineValue)
-    (is_machine : IsMachineIn holds geometry config machine) (generation : ℕ) (bytes : List ℕ)
-    (newest : HoldsImage geometry disk generation IMAGE_VERSION bytes) (read : List ℕ)
-    (same : read ≡ bytes) where
-  named : HoldsImage holds.contents.geometry disk generation IMAGE_VERSION bytes
-  named = subst (λ (p : Geometry). HoldsImage p disk generation IMAGE_VERSION bytes)
+    (is_machine : IsMachineIn holds geometry config machine) (generation : ℕ) (version : Version)
+    (bytes : List ℕ) (newest : NamesImage geometry disk generation version bytes)
+    (marked : IsMarkedOtherwise version bytes → ⊥) (read : List ℕ) (same : read ≡ bytes) where
+  named : NamesImage holds.contents.geometry disk generation version bytes
+  named = subst (λ (p : Geometry). NamesImage p disk generation version bytes)
       is_machine.placed newest
+
+  abbrev named_image : HoldsNamedImage sectors disk
+  named_image = record {
+    holds = holds;
+    generation = generation;
+    version = version;
+    bytes = bytes;
+    newest = named;
+    marked = marked;
+  }
+
+  -- the process that was made of it is of its version
+  its_version : (v : ProcessValue) → bytes ≡ image (saved_of v) → (saved_of v).version ≡ version
+  its_version v is =
+      marked_as version (saved_of v)
+      (λ other. marked (subst (λ (b : List ℕ). IsMarkedOtherwise version b) (sym is) other))
 
   -- its process was made again
   pub restored_in : (v : ProcessValue) → IsRestored machine.guest config read v
@@ -134,7 +151,8 @@ module _ (sectors : ℕ) (disk : Image) (holds : HoldsModule sectors disk) (geom
   restored_in v restored = record {
     placed = is_machine.placed;
     bytes = bytes;
-    newest = named;
+    newest = subst (λ w. NamesImage holds.contents.geometry disk generation w bytes)
+        (sym (its_version v (sym same ∙ restored.is))) named;
     restored = subst (λ (z : Module). IsRestored z holds.contents.config bytes v)
         is_machine.linked
         (subst (λ (s : Settings). IsRestored machine.guest s bytes v) is_machine.configured
@@ -145,16 +163,9 @@ module _ (sectors : ℕ) (disk : Image) (holds : HoldsModule sectors disk) (geom
       → (unrestored fault ≡ Err restore.NotAnImage → (s : Saved)
       → IsWellTyped holds.module_is holds.contents.config s → bytes ≢ image s)
       → ShowsFault sectors disk (recover.Image fault)
-  no_process restore.NotAnImage other =
-      record {
-        holds = holds;
-        generation = generation;
-        bytes = bytes;
-        newest = named;
-        other = other refl;
-      }
-  no_process restore.Memory other =
-      record { holds = holds; generation = generation; bytes = bytes; newest = named }
+  unfolding named_image
+  no_process restore.NotAnImage other = record { named = named_image; other = other refl }
+  no_process restore.Memory other = named_image
 
   pub process_unmade : (fault : RestoreFault) (e : RecoverFault) → e ≡ recover.Image fault
       → (unrestored fault ≡ Err restore.NotAnImage → (s : Saved)
@@ -174,7 +185,10 @@ module _ (sectors : ℕ) (disk : Image) (holds : HoldsModule sectors disk) (geom
 module _ (sectors : ℕ) (disk : Image) (holds : HoldsModule sectors disk) (geometry : Geometry)
     (generation : ℕ) (process : ProcessValue)
     (restored : IsRestoredIn holds geometry generation process) where
-  no_records : (fault : ReadFault) → TellsRecords geometry generation disk (Err fault)
+  abbrev version : Version
+  version = (saved_of process).version
+
+  no_records : (fault : ReadFault) → TellsRecords geometry version generation disk (Err fault)
       → ShowsFault sectors disk (fault_of_read fault)
   no_records (read.Journal journal.Memory) tells =
       let again = restored.restored in
@@ -183,19 +197,19 @@ module _ (sectors : ℕ) (disk : Image) (holds : HoldsModule sectors disk) (geom
         generation = generation;
         saved = saved_of process;
         well_typed = again.well_typed;
-        newest = subst (λ (b : List ℕ). HoldsImage holds.contents.geometry disk generation
-            IMAGE_VERSION b) again.is restored.newest;
+        newest = subst (λ (b : List ℕ). NamesImage holds.contents.geometry disk generation
+            version b) again.is restored.newest;
       }
   no_records (read.Disk fault) tells = tt
   no_records other tells = absurd tells
 
   pub records_unread : (fault : ReadFault) (e : RecoverFault) → e ≡ fault_of_read fault
-      → TellsRecords geometry generation disk (Err fault) → ShowsFault sectors disk e
+      → TellsRecords geometry version generation disk (Err fault) → ShowsFault sectors disk e
   records_unread fault e is tells =
       subst (λ (f : RecoverFault). ShowsFault sectors disk f) (sym is) (no_records fault tells)
 
   pub all_found : (records : Vec Record Global)
-      → TellsRecords geometry generation disk (Ok records)
+      → TellsRecords geometry version generation disk (Ok records)
       → IsFoundIn sectors disk (record {
         geometry = geometry;
         generation = generation;
@@ -206,5 +220,5 @@ module _ (sectors : ℕ) (disk : Image) (holds : HoldsModule sectors disk) (geom
     holds = holds;
     process = restored;
     scanned = sym (subst (λ (p : Geometry). records.items
-        ≡ scan p One disk generation) restored.placed tells);
+        ≡ scan p version disk generation) restored.placed tells);
   }

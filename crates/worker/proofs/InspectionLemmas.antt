@@ -1,6 +1,6 @@
 -- What a look into a disk tells, by what was found there.
 use Rattle.std.proofs.Common.{◌≡◌, inl, inr, ℕ, ◌*◌, ◌<◌, ◌≤◌, refl, sym, ap, subst, arith, ◌∙◌}
-use Rattle.std.specs.Prelude.{length, Option, Result, Ok, Err, IfErr}
+use Rattle.std.specs.Prelude.{List, length, Option, Result, Ok, Err, IfErr}
 use Rattle.wasi_abi.specs.declared.answer.Kind.{Kind}
 use Rattle.sector_disk.specs.declared.fault.DiskFault.{DiskFault}
 use Rattle.sector_disk.specs.rules.Image.{Image}
@@ -11,7 +11,8 @@ use Rattle.disk_layout.specs.rules.Held.{GivesContents}
 use Rattle.disk_layout.specs.rules.Stored.{OnlyReads}
 use Rattle.disk_layout.proofs.ReadingLemmas.HeldLemmas.{one_answer}
 use Rattle.state_image.specs.declared.restoring.fault.RestoreFault.TheVariants.{Memory}
-use Rattle.state_image.specs.rules.Image.{image}
+use Rattle.state_image.specs.rules.Image.{IsMarkedOtherwise, image}
+use Rattle.state_image.proofs.Marks.{own_mark}
 use Rattle.state_image.specs.rules.Saving.{saved_of}
 use Rattle.worker.specs.declared.fault.WorkFault.TheVariants.{Disk}
 use Rattle.worker.specs.declared.found.Found.{Found}
@@ -66,12 +67,18 @@ module _ (sectors : ℕ) (disk : Image) (contents : Contents) (found : Found)
   )
   found_is_told (Err why) is =
       let holds = at.holds in
+      let restored = at.process.restored in
       subst (λ (e : RecoverFault). ShowsFault sectors disk e) (sym is)
       (record {
         holds = holds;
         generation = found.generation;
+        version = (saved_of found.process).version;
         bytes = at.process.bytes;
         newest = at.process.newest;
+        marked = λ other.
+            own_mark (saved_of found.process)
+            (subst (λ (b : List ℕ). IsMarkedOtherwise (saved_of found.process).version b)
+            restored.is other);
       })
 
 -- want of memory has no cause but itself

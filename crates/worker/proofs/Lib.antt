@@ -6,8 +6,15 @@ mod TurnCounts
 mod StoreTurnLemmas
 mod ShortAnswers
 mod DurableLemmas
+mod AbreastLemmas
 mod SavingActLemmas
 mod CheckpointLemmas
+mod WideningLemmas
+mod SavingInTwoLemmas
+mod UpgradeTestLemmas
+mod UpgradeViews
+mod UpgradeLemmas
+mod MigrationLemmas
 mod RecoveryLemmas
 mod CreationLemmas
 mod FindingLemmas

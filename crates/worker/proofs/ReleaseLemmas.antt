@@ -65,13 +65,26 @@ module _ {O : Type 0} (takes : Taking O) (old new : ProcessValue) (o p : O)
 
 -- what holds of a worker holds of it behind a release of nothing
 pub process_back : (P : DurableValue → Type 0) (process process' : ProcessValue)
-    (store : WorkerStore) (replayed : ℕ) (failed : Bool) → process' ≡ process
-    → P (record { process = process; store = store; replayed = replayed; has_failed = failed })
-    → P (record { process = process'; store = store; replayed = replayed; has_failed = failed })
-process_back P process process' store replayed failed same holds =
+    (store : WorkerStore) (abreast : Bool) (replayed : ℕ) (failed : Bool) → process' ≡ process
+    → P (record {
+      process = process;
+      store = store;
+      is_abreast = abreast;
+      replayed = replayed;
+      has_failed = failed;
+    })
+    → P (record {
+      process = process';
+      store = store;
+      is_abreast = abreast;
+      replayed = replayed;
+      has_failed = failed;
+    })
+process_back P process process' store abreast replayed failed same holds =
     subst (λ (v : ProcessValue). P (record {
       process = v;
       store = store;
+      is_abreast = abreast;
       replayed = replayed;
       has_failed = failed;
     })) (sym same) holds

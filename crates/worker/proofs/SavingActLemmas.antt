@@ -1,14 +1,17 @@
 -- An act that saves a worker, as an event of a life, and what its disk holds.
-use Rattle.std.proofs.Common.{◌≡◌, ℕ, ◌+◌, ◌-◌, ◌*◌, ◌≤◌, ◌^◌, List, [], ◌∷◌, ◌++◌}
-use Rattle.std.proofs.Common.{length, Some, false, refl, sym, ap, ◌∙◌, subst, inl, inr, arith, take}
+use Rattle.std.proofs.Common.{◌≡◌, ◌≢◌, ℕ, ◌+◌, ◌-◌, ◌*◌, ◌≤◌, ◌^◌, List, [], ◌∷◌, ◌++◌}
+use Rattle.std.proofs.Common.{◌⊎◌, length, Some, false, refl, sym, ap, ◌∙◌, subst, inl, inr}
+use Rattle.std.proofs.Common.{arith, take}
 use Rattle.std.proofs.lemmas.List.{append-nil}
 use Rattle.std.proofs.Math.Seq.{take-length}
 use Rattle.std.specs.Prelude.{Result, Ok, Err}
 use Rattle.wasm_syntax.specs.declared.module.Module.{Module}
 use Rattle.wasi_abi.specs.declared.numbers.TheConstants.{NUMBERS_END}
+use Rattle.wasi_abi.specs.declared.version.Version.TheVariants.{Two}
 use Rattle.wasi_abi.specs.rules.Configs.{Settings}
 use Rattle.wasi_calls_rules.specs.laws.Laws.{IsOfBytes}
 use Rattle.process_rules.specs.Processes.{ProcessState, Guest, host_of}
+use Rattle.process_rules.specs.Behind.{IsNarrowTo}
 use Rattle.process_rules.specs.Runs.{Kept, Runs, Reaches, none}
 use Rattle.process_rules.proofs.Quiet.{runs_join}
 use Rattle.process_rules.proofs.Growing.{runs_count}
@@ -20,25 +23,26 @@ use Rattle.state_image.proofs.ReachedWellTyped.{saved_is_well_typed}
 use Rattle.sector_disk.specs.declared.sector.TheConstants.{SECTOR_SIZE}
 use Rattle.sector_disk.specs.rules.Medium.{Medium, CallsUpTo}
 use Rattle.disk_layout.specs.declared.geometry.Geometry.{Geometry}
-use Rattle.disk_layout.specs.rules.Journal.{Record}
+use Rattle.disk_layout.specs.rules.Journal.{Record, TakesRecords}
 use Rattle.restart_theorem.specs.Lives.{Act, Checkpoint, Reply, Done, Fails, Cause, OfDisk}
-use Rattle.restart_theorem.specs.Lives.{OfBounds, Ended}
+use Rattle.restart_theorem.specs.Lives.{OfBounds, Ended, kept_by_end}
 use Rattle.restart_theorem.specs.Courses.{Stage, Open, MayFail, next_stage}
-use Rattle.restart_theorem.specs.Promises.{Promise, after}
+use Rattle.restart_theorem.specs.Promises.{Promise, after, MayPlead}
 use Rattle.restart_theorem.specs.Holds.{StaysWithin}
 use Rattle.restart_theorem.specs.Exchanges.{none as no_exchange}
 use Rattle.worker_store.specs.laws.Savepoints.{Savepoint}
-use Rattle.worker_store.specs.laws.Acts.{SavesWith, keeping_more}
+use Rattle.worker_store.specs.laws.Acts.{SavesWith, ShowsItsVersion, MayBeKept, keeping_more}
 use Rattle.worker_store.specs.laws.CallEnds.{IsSavedAs, HasBound, ComesAtOnce, IsSavingNext}
 use Rattle.worker_store.specs.laws.Carried.{count_at, IsHeldAt}
 use Rattle.worker_store.specs.laws.Raised.{SyncsAreHeld}
 use Rattle.worker_store.specs.laws.AtHand.{IsNextOf}
 use Rattle.worker_store.specs.laws.Saves.{IsSavingAt, IsSavedBy}
-use Rattle.worker_store.proofs.LawLemmas.Acts.{saving_ends_alike}
+use Rattle.worker_store.proofs.LawLemmas.Acts.{saving_ends_alike, acts_may_fail}
 use Rattle.worker_store.proofs.LawLemmas.CallEnds.{done_saves_end, failed_saves_end, saved_runs}
 use Rattle.worker_store.proofs.LawLemmas.CallEnds.{calls_leave_between}
 use Rattle.worker_store.proofs.LawLemmas.Carrying.{all_is_held, begins_carried}
 use Rattle.worker_store.proofs.LawLemmas.Raising.{all_syncs_are_held, carried_is_reached}
+use Rattle.worker_store.proofs.LawLemmas.Raising.{up_to_all}
 use Rattle.worker_store.proofs.LawLemmas.AtHand.{shown_is_saved, next_is_at_hand, same_within}
 use Rattle.worker_store.proofs.LawLemmas.Saving.{done_saves_carry, failed_saves_carry}
 use Rattle.worker_store.proofs.LawLemmas.TurnLemmas.{more_carries, syncs_of_more}
@@ -70,14 +74,16 @@ all_first kept front all = subst (λ l. take (length front) l ≡ front) all (ta
 
 -- ---- a worker on its disk
 
--- The process that is saved of a worker at p: that has come to it by these. No line waits in it.
-pub record SavesProcess (m : Module) (guest : Guest) (p : ProcessState) (more : List Kept)
-    (q : ProcessState) (v : ProcessValue) : Type 0 where
+-- The process that is saved of a worker at p: that has come to it by these. No line waits in it, and
+-- the journal takes the records of its version.
+pub record SavesProcess (m : Module) (config : Settings) (guest : Guest) (p : ProcessState)
+    (more : List Kept) (q : ProcessState) (v : ProcessValue) : Type 0 where
   pub comes : ComesAtOnce guest p more q
   pub is_process : IsProcess v
   pub shows : ShowsProcess v guest q
   pub module_is : v.machine.guest ≡ m
   pub none_waits : waiting_in v ≡ []
+  pub room : TakesRecords (saved_of v).version config.journal
 
 -- It can be saved: the next savepoint is of it, and has all kept answers and these. Its image fits
 -- into its area.
@@ -98,9 +104,10 @@ module _ {D : Type 0} (medium : D → Medium) where
       → (on : IsOnDisk m config guest promise p step latest before (medium disk))
       → Runs guest p more k q → ShowsProcess v guest q → IsProcess v → v.machine.guest ≡ m
       → IsOfBytes (host_of config) → ImagesFitAreas
+      → TakesRecords (saved_of v).version config.journal
       → CanSave m config guest promise p step latest before (medium disk) on more q v
   can_save m config guest promise p step latest before disk more k q v on comes shows is same texts
-      fit =
+      fit room =
       let point : Savepoint m config = on.point in
       let all : List Record = on.records ++ on.pending in
       let held = all_is_held m config promise point before.journal on.records on.pending on.last
@@ -114,7 +121,7 @@ module _ {D : Type 0} (medium : D → Medium) where
       let runs : Runs point.reached.guest on.now more (on.n + k) q =
       runs_join point.reached.guest on.now p q [] more on.n k here on_to in
       let found = next_is_at_hand m config point all more on.now q (on.n + k) v held.recorded runs
-      shown is same in
+      shown is same room in
       let at_p = carried_is_reached medium m config promise point before.journal on.records
       on.pending on.last on.now p on.n disk on.carried on.on_record here in
       let reached : Reaches m config promise.kept p.steps p = at_p.0 in
@@ -152,13 +159,14 @@ module _ {D : Type 0} (medium : D → Medium) (old new : DurableValue) (disk : D
     (fit : ImagesFitAreas) (m : Module) (config : Settings) (guest : Guest) (promise : Promise)
     (stage : Stage) (p : ProcessState)
     (opened : IsOpenOn m config guest promise stage p old (medium disk)) (more : List Kept)
-    (q : ProcessState) (is : SavesProcess m guest p more q new.process) where
+    (q : ProcessState) (is : SavesProcess m config guest p more q new.process) where
   ready : CanSave m config guest promise p p.steps promise.events old.store (medium disk)
       opened.on_disk more q new.process
   ready =
       let comes = is.comes in
       can_save medium m config guest promise p p.steps promise.events old.store disk more 0 q
       new.process opened.on_disk comes.runs is.shows is.is_process is.module_is opened.texts fit
+      is.room
 
   shown_whole : IsSavedAs m config guest q (saved_of new.process)
   shown_whole = shown_is_saved m config guest new.process q is.shows is.module_is
@@ -192,7 +200,9 @@ module _ {D : Type 0} (medium : D → Medium) (old new : DurableValue) (disk : D
       faulted store.Failed h = absurd h
 
   module _ (act : Act) (saves : SavesWith promise act more (saved_of new.process))
-      (acts : List Act) (next_act : stage.acts ≡ act ∷ acts) (disk' : D)
+      (room : kept_by_end act (saved_of new.process) promise.kept ≢ promise.kept
+      → TakesRecords Two config.journal) (acts : List Act) (next_act : stage.acts ≡ act ∷ acts)
+      (disk' : D)
       (leaves : LeavesFrontOrNext old.store new.process (medium disk) (medium disk'))
       (few : CallsUpTo (most_saving (medium disk).sectors) (medium disk) (medium disk')) where
     -- how many are kept in the end
@@ -208,6 +218,8 @@ module _ {D : Type 0} (medium : D → Medium) (old new : DurableValue) (disk : D
       saves = saves;
       acts = acts;
       is_next = next_act;
+      synced = opened.synced;
+      room = room;
     }
 
     saving_at : (let on = opened.on_disk in
@@ -223,17 +235,34 @@ module _ {D : Type 0} (medium : D → Medium) (old new : DurableValue) (disk : D
         let heard : length p.host.lines ≤ promise.heard = opened.heard in
         let by = reached_now medium m config guest promise p p.steps promise.events old.store disk
         on in
+        let counted : p.steps ≡ on.now.steps + on.n =
+        runs_count guest on.now p [] on.n on.runs in
+        let may_be : MayBeKept more p.steps (length p.host.lines) promise.begun = record {
+          up_to = subst (λ n. IsNarrowTo more n) (shown_whole.shows.steps ∙ same_steps)
+              saves.may.up_to;
+          emitted = subst (λ n. ((step : ℕ) → IsNarrowTo more step) ⊎ (promise.begun ≤ n))
+              (shown_whole.shows.lines ∙ lines) saves.may.emitted;
+        } in
         record {
           saves = saves;
           saved = next_is.saved;
           all = can.all;
           front = next_is.saves (keeping_more promise more)
               (all_first (promise.kept ++ more) can.next.front can.all)
+              (up_to_all (promise.kept ++ more) can.next.front q.steps can.all)
               (omega (arith, lines, heard));
           carried = more_carries medium m config promise on.point old.store.journal on.records
               on.pending on.last on.now p p.steps more disk on.carried on.point.accepted.valid
-              by.reached opened.synced;
+              by.reached opened.synced (come_so_far on.now.steps p.steps on.n counted) may_be;
         }
+      where
+        come_so_far : (a b n : ℕ) → b ≡ a + n → a ≤ b
+        come_so_far a b n e = omega (arith, e)
+
+    -- what is kept besides widens the process at hand
+    up_to_now : IsNarrowTo more p.steps
+    up_to_now =
+        subst (λ n. IsNarrowTo more n) (shown_whole.shows.steps ∙ same_steps) saves.may.up_to
 
     -- at any moment it is one generation on at most
     save_bounds : StaysWithin (promise.events + 1) (medium disk) (medium disk')
@@ -260,16 +289,17 @@ module _ {D : Type 0} (medium : D → Medium) (old new : DurableValue) (disk : D
         ((saved_of new.process).steps - 1)
         (one_less (saved_of new.process).steps p.steps (shown_whole.shows.steps ∙ same_steps))
         (syncs_of_more m config promise.kept more p.steps p on.point.accepted.valid by.reached
-        (count_at on.point on.records) on.syncs)
+        up_to_now (count_at on.point on.records) on.syncs)
       where
         one_less : (n s : ℕ) → n ≡ s → n - 1 ≤ s
         one_less n s e = omega (arith, e)
 
-    pub save_failed : (cause : Cause) → MayFail Open cause
+    -- it fails for a cause that it may plead
+    pub save_pleaded : (cause : Cause) → MayPlead config (promise.kept ++ more) stage act cause
         → HasBound m config guest promise q cause
         → CallCarries m config guest promise stage act (Fails cause) new (medium disk)
         (medium disk') []
-    save_failed cause may bound =
+    save_pleaded cause pleads bound =
         let on = opened.on_disk in
         let can = ready in
         let next_is = can.is_next in
@@ -279,7 +309,7 @@ module _ {D : Type 0} (medium : D → Medium) (old new : DurableValue) (disk : D
           held = held_then;
           kept = (
             failed_saves_end m config guest promise stage act more p q (saved_of new.process) cause
-                saving_next may bound,
+                saving_next pleads bound,
             tt,
           );
           carried = failed_saves_carry medium m config promise act more (saved_of new.process) cause
@@ -293,7 +323,17 @@ module _ {D : Type 0} (medium : D → Medium) (old new : DurableValue) (disk : D
           goes_on = λ opens. absurd (cc);
         }
 
-    module _ (works : new.has_failed ≡ false)
+    pub save_failed : (cause : Cause) → MayFail Open cause
+        → HasBound m config guest promise q cause
+        → CallCarries m config guest promise stage act (Fails cause) new (medium disk)
+        (medium disk') []
+    save_failed cause may bound =
+        let between = opened.between in
+        save_pleaded cause
+        (acts_may_fail config (promise.kept ++ more) stage act cause between.is_open may) bound
+
+    module _ (version : ShowsItsVersion act (saved_of new.process))
+        (works : new.has_failed ≡ false) (says : new.is_abreast ≡ old.is_abreast)
         (stores : StoresNext old.store new.store new.process (medium disk) (medium disk')) where
       -- what is promised then is what a checkpoint promises where these are kept
       abbrev more_then : Promise
@@ -384,6 +424,14 @@ module _ {D : Type 0} (medium : D → Medium) (old new : DurableValue) (disk : D
             on_disk = saved_on;
             synced = max_within (saved_of new.process).steps promise.synced q.steps
                 (same_within _ _ _ steps (omega arith)) (omega (arith, synced, on));
+            abreast = record {
+              none_beyond = λ here. (
+                  let so_far = opened.abreast in
+                  let few : promise.begun ≤ length p.host.lines =
+                  so_far.none_beyond (sym says ∙ here) in
+                  omega (arith, few, told));
+              says_so = λ abreast. (let so_far = opened.abreast in says ∙ so_far.says_so abreast);
+            };
           }
 
       pub save_done : CallCarries m config guest promise stage act Done new (medium disk)
@@ -396,7 +444,7 @@ module _ {D : Type 0} (medium : D → Medium) (old new : DurableValue) (disk : D
             held = held_then;
             kept = (
               done_saves_end m config guest promise stage act more p q (saved_of new.process)
-                  saving_next,
+                  saving_next version,
               tt,
             );
             carried = there.carries;
@@ -420,8 +468,10 @@ abbrev pub SavesShown : Act → DurableValue → DurableValue → Medium → Typ
 SavesShown act old new disk =
     (m : Module) (config : Settings) (guest : Guest) (promise : Promise) (stage : Stage)
     (p : ProcessState) → IsOpenOn m config guest promise stage p old disk
-    → (more : List Kept) × (q : ProcessState) × SavesProcess m guest p more q new.process
+    → (more : List Kept) × (q : ProcessState) × SavesProcess m config guest p more q new.process
     × SavesWith promise act more (saved_of new.process)
+    × (kept_by_end act (saved_of new.process) promise.kept ≢ promise.kept
+    → TakesRecords Two config.journal)
 
 -- the act keeps it
 abbrev pub SavingCarries : Act → DurableValue → Result (Unit {0}) WorkFault → DurableValue
@@ -437,15 +487,16 @@ module _ {D : Type 0} (medium : D → Medium) (act : Act) (old new : DurableValu
     (fit : ImagesFitAreas) (saves : SavesShown act old new (medium disk))
     (leaves : LeavesFrontOrNext old.store new.process (medium disk) (medium disk'))
     (few : CallsUpTo (most_saving (medium disk).sectors) (medium disk) (medium disk')) where
-  pub saving_done : new.has_failed ≡ false
+  pub saving_done : ShowsItsVersion act (saved_of new.process) → new.has_failed ≡ false
+      → new.is_abreast ≡ old.is_abreast
       → StoresNext old.store new.store new.process (medium disk) (medium disk')
       → SavingCarries act old (Ok tt) new (medium disk) (medium disk')
-  saving_done works stores m config guest promise stage p acts opened next_act =
+  saving_done version works says stores m config guest promise stage p acts opened next_act =
       let is = saves m config guest promise stage p opened in (
         Done,
         refl,
         save_done medium old new disk fit m config guest promise stage p opened is.0 is.1 is.2
-            act is.3 acts next_act disk' leaves few works stores,
+            act is.3 is.4 acts next_act disk' leaves few version works says stores,
       )
 
   pub saving_fault : (fault : StoreFault)
@@ -471,7 +522,7 @@ module _ {D : Type 0} (medium : D → Medium) (act : Act) (old new : DurableValu
       failed cause may bound =
           let is = saves m config guest promise stage p opened in
           save_failed medium old new disk fit m config guest promise stage p opened is.0 is.1
-          is.2 act is.3 acts next_act disk' leaves few cause may (bound is.1)
+          is.2 act is.3 is.4 acts next_act disk' leaves few cause may (bound is.1)
 
       carries : (fault : StoreFault)
           → IsCheckpointFault old (medium disk) (medium disk') (fault_of_store fault)

@@ -1,5 +1,5 @@
 -- An answer that fits what a process wants is short enough for a record.
-use Rattle.std.proofs.Common.{◌≡◌, ℕ, ◌≤◌, List, [], ◌∷◌, length, refl, ap, subst, arith}
+use Rattle.std.proofs.Common.{◌≡◌, ℕ, ◌≤◌, List, [], ◌∷◌, length, refl, ap, subst, arith, lit≤}
 use Rattle.std.specs.Prelude.{Bool, true, false, if◌then◌else◌, nat_le, Option, Some, None, Ok}
 use Rattle.std.specs.Prelude.{Result, Err, ◌==◌, slice_get, reverse, map}
 use Rattle.std.proofs.lemmas.Bool.{leb-true}
@@ -22,7 +22,8 @@ use Rattle.wasi_calls_rules.specs.Hosts.{Target, Stream, Node, Descriptor, Host}
 use Rattle.wasi_calls_rules.specs.Checks.{Bytes, Halt, Refuses, Ends, Asks as Wishes, ◌>>=◌}
 use Rattle.wasi_calls_rules.specs.Checks.{Buffer, Ruling, check_or, some_or, buffers, asked}
 use Rattle.wasi_calls_rules.specs.Checks.{fitting}
-use Rattle.wasi_abi.specs.declared.version.Version.TheVariants.{One}
+use Rattle.wasi_abi.specs.declared.version.Version.{Version}
+use Rattle.wasi_abi.specs.declared.version.Version.TheVariants.{One, Two}
 use Rattle.disk_layout.specs.rules.Journal.{payload_of}
 use Rattle.wasi_calls_rules.specs.Checks.{answered_by}
 use Rattle.wasi_calls_rules.specs.Small.{time_put, clock_kind, clock_time_get, random_put}
@@ -238,16 +239,20 @@ few_wanted guest p n wants =
 
 -- ---- an answer
 
+-- a time is shorter than any text may be
+short_time : (v : Version) → 8 ≤ text_limit v
+short_time One = lit≤ tt
+short_time Two = lit≤ tt
+
 pub short_payload : (guest : Guest) (p : ProcessState) (k : Kind) (a : Answer)
-    → next_of guest p None ≡ Wants k → text_limit p.host.version ≤ text_limit One
-    → Fits (text_limit p.host.version) k a → length (payload_of a) ≤ text_limit One
-short_payload guest p kind.Request (answer.Request text) wants low fits =
-    let short : length text ≤ text_limit p.host.version = fits.short in omega (arith, low, short)
-short_payload guest p kind.Request answer.End wants low fits = omega arith
-short_payload guest p kind.Realtime (answer.Realtime n) wants low fits = omega arith
-short_payload guest p kind.Monotonic (answer.Monotonic n) wants low fits = omega arith
-short_payload guest p (kind.Random n) (answer.Random bytes) wants low fits =
+    → next_of guest p None ≡ Wants k → Fits (text_limit p.host.version) k a
+    → length (payload_of a) ≤ text_limit p.host.version
+short_payload guest p kind.Request (answer.Request text) wants fits = fits.short
+short_payload guest p kind.Request answer.End wants fits = omega arith
+short_payload guest p kind.Realtime (answer.Realtime n) wants fits = short_time p.host.version
+short_payload guest p kind.Monotonic (answer.Monotonic n) wants fits = short_time p.host.version
+short_payload guest p (kind.Random n) (answer.Random bytes) wants fits =
     let few = few_wanted guest p n wants in
     let count : length bytes ≡ n = fits.count in
-    omega (arith, low, few, count)
-short_payload guest p _ _ wants low fits = absurd fits
+    omega (arith, few, count)
+short_payload guest p _ _ wants fits = absurd fits

@@ -29,7 +29,7 @@ use Rattle.worker_store.specs.rules.Stores.{with_stored}
 use Rattle.ephemeral_worker.specs.declared.fault.SliceFault.TheVariants as slice
 use Rattle.ephemeral_worker.specs.rules.Refusals.{slice_fault}
 use Rattle.worker.specs.declared.fault.WorkFault.{WorkFault}
-use Rattle.worker.specs.declared.fault.WorkFault.TheVariants.{Work, Disk, Store}
+use Rattle.worker.specs.declared.fault.WorkFault.TheVariants.{Work, Disk, Store, Upgrade}
 use Rattle.worker.specs.rules.DurableFailures.{LacksRoom}
 use Rattle.worker.specs.rules.WorkFaults.{fault_of_store}
 use Rattle.worker.specs.rules.Savings.{HasSaveCause}
@@ -107,6 +107,7 @@ module _ (a b : WorkerStore) (d e : Medium) (one : StoreGoes a b d e) where
     caused_since (Store (store.Disk why)) cause = cause
     caused_since (Store store.Memory) cause = cause
     caused_since (Store store.Failed) cause = cause
+    caused_since (Upgrade why) cause = cause
 
   pub goes_join : (c : WorkerStore) (f : Medium) → StoreGoes b c e f → StoreGoes a c d f
   goes_join c f two = record {
@@ -350,7 +351,8 @@ module _ {D : Type 0} (medium : D → Medium) (old new : WorkerStore) (disk disk
 module _ (old new : WorkerStore) (process : ProcessValue) (disk disk' : Medium)
     (passes : Passes disk disk' (λ image. Unit {0}))
     (counts : CountsUpTo (disk.unsynced + old.geometry.area_sectors + 1) disk disk') where
-  commit_goes : new ≡ begun_store old.geometry (old.journal.generation + 1)
+  commit_goes : new
+      ≡ begun_store old.geometry (saved_of process).version (old.journal.generation + 1)
       → IsAllSynced disk'
       → CommitCalls {T = Unit {0}} old.geometry (old.journal.generation + 1) process (Ok tt) disk
       disk' → StoreGoes old new disk disk'
@@ -417,7 +419,8 @@ module _ (old new : WorkerStore) (process : ProcessValue) (disk disk' : Medium)
     (counts : CountsUpTo (disk.unsynced + old.geometry.area_sectors + 1) disk disk')
     (same : new.geometry ≡ old.geometry) where
   pub commit_runs : (result : Said)
-      → OnOk result (new ≡ begun_store old.geometry (old.journal.generation + 1))
+      → OnOk result (new
+      ≡ begun_store old.geometry (saved_of process).version (old.journal.generation + 1))
       → OnErr result (new.journal ≡ old.journal) → OnOk result (IsAllSynced disk')
       → IfErr result (λ e. CommitFails old process disk disk' e)
       → CommitCalls old.geometry (old.journal.generation + 1) process result disk disk'
@@ -522,6 +525,7 @@ heard_cause old (Store (store.Layout fault)) disk cause = cause
 heard_cause old (Store (store.Disk fault)) disk cause = cause
 heard_cause old (Store store.Memory) disk cause = cause
 heard_cause old (Store store.Failed) disk cause = cause
+heard_cause old (Upgrade fault) disk cause = cause
 
 pub hears_runs : {T : Type 0} (old new : WorkerStore) (result : Result T WorkFault)
     (disk : Medium) → HearsOrNot result old new → StoreRuns result old new disk disk

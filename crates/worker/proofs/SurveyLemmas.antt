@@ -4,6 +4,7 @@ use Rattle.std.proofs.Common.{◌*◌}
 use Rattle.std.proofs.Common.{subst, arith}
 use Rattle.std.specs.Prelude.{Result, Ok, Err}
 use Rattle.wasm_syntax.specs.declared.module.Module.{Module}
+use Rattle.wasi_abi.specs.declared.version.Version.{Version}
 use Rattle.wasi_abi.specs.rules.Configs.{Settings}
 use Rattle.process_rules.specs.Runs.{Kept}
 use Rattle.state_image.specs.rules.Image.{Saved}
@@ -26,7 +27,7 @@ use Rattle.worker.specs.rules.Surveys.{Surveys, survey_of}
 use Rattle.worker.specs.Findings.{FindsWorker, FindsOne, IsFoundAt, numbers_of_found}
 use Rattle.worker.specs.Findings.{HasSearchCause}
 use Rattle.worker.specs.FoundDisks.{FindsIn}
-use Rattle.worker.proofs.AnswerLemmas.{found_there, surveyed}
+use Rattle.worker.proofs.AnswerLemmas.{found_there, surveyed, shown_version}
 use Rattle.worker.proofs.RecoveryLemmas.Results.{settled_by, sync_faulted}
 
 -- ---- the disk couldn't be synced
@@ -60,13 +61,23 @@ numbers_are wasm stands found at =
     ap (λ (s : Saved). s.answers) at.saved in
     let lines = ap (λ (s : Saved). s.lines) at.saved in
     let records = ap (λ (l : List Record). length l) at.records_are in
-    numbers_same generation steps answers lines records
+    let version = shown_version found.process (point_of stands).reached.guest stands.process
+    at.shows in
+    numbers_same generation steps answers lines records version
   where
-    numbers_same : {g g' s s' a a' l l' r r' : ℕ} → g ≡ g' → s ≡ s' → a ≡ a' → l ≡ l' → r ≡ r'
+    numbers_same : {g g' s s' a a' l l' r r' : ℕ} {v v' : Version} → g ≡ g' → s ≡ s' → a ≡ a'
+        → l ≡ l' → r ≡ r' → v ≡ v'
         → ◌≡◌ {A = Survey}
-        (record { generation = g; steps = s; answers = a; lines = l; records = r })
-        (record { generation = g'; steps = s'; answers = a'; lines = l'; records = r' })
-    numbers_same e f h i j = rw (e, f, h, i, j) refl
+        (record { generation = g; steps = s; answers = a; lines = l; records = r; version = v })
+        (record {
+          generation = g';
+          steps = s';
+          answers = a';
+          lines = l';
+          records = r';
+          version = v';
+        })
+    numbers_same e f h i j k = rw (e, f, h, i, j, k) refl
 
 module _ {T : Type 0} (old sync new : Medium) (done : T)
     (syncs : SyncsMedium {T = T} (Ok done) old sync) (reads : OnlyReads sync new)

@@ -9,7 +9,6 @@ use Rattle.wasi_calls_rules.specs.laws.Laws.{IsOfBytes}
 use Rattle.process_rules.specs.Processes.{ProcessState, Guest, host_of}
 use Rattle.process_rules.specs.Runs.{Wants, next_of}
 use Rattle.wasi_abi.specs.rules.Answers.{Fits}
-use Rattle.wasi_abi.specs.declared.version.Version.TheVariants.{One}
 use Rattle.wasi_abi.specs.rules.Versions.{text_limit}
 use Rattle.process.specs.declared.fault.ProcessFault.{ProcessFault}
 use Rattle.process.specs.rules.Values.{ProcessValue, ShowsProcess, IsProcess, waiting_in}
@@ -42,7 +41,7 @@ use Rattle.worker.specs.rules.WorkFaults.{fault_of_store}
 use Rattle.ephemeral_worker.specs.rules.Refusals.{slice_fault}
 use Rattle.worker.specs.declared.running.Running.{Running}
 use Rattle.worker.specs.rules.DurableValues.{durable_of}
-use Rattle.worker.specs.rules.OpenWorkers.{IsOnDisk, IsOpenOn}
+use Rattle.worker.specs.rules.OpenWorkers.{IsOnDisk, IsAbreast, IsOpenOn}
 use Rattle.worker.specs.rules.DurableCalls.{ComesOf, HasCauseOf, HasCauseAt, IsReplyOf}
 
 -- ---- within a slice
@@ -67,6 +66,7 @@ pub record IsRunningOn (c : Course) (promise : Promise) (stage : Stage) (p : Pro
   pub began : stage.step ≡ c.first
   pub on_disk : IsOnDisk c.code c.config c.guest promise p step latest w.store disk
   pub synced : promise.synced ≤ p.steps
+  pub abreast : IsAbreast promise stage p w.is_abreast
 
 -- between two turns
 abbrev pub IsBetweenTurns : Course → Promise → Stage → ProcessState → Running → Medium → Type 0
@@ -172,9 +172,9 @@ SettlesVainly takes old why new outlet outlet' =
 abbrev pub IsOfStoreFault : WorkFault → Type 0
 IsOfStoreFault why = (fault : StoreFault) × (why ≡ fault_of_store fault)
 
--- there is room in the journal for any record of version 1
+-- there is room in the journal for any record of its version
 abbrev pub HasRoom : Running → Type 0
-HasRoom w = longest_record One ≤ room_of w.store.geometry w.store.journal
+HasRoom w = longest_record w.store.journal.version ≤ room_of w.store.geometry w.store.journal
 
 -- The disk has room for the answer. It may be one generation on: the question comes next.
 abbrev pub MakesRoom : Running → Running → Medium → Medium → Type 0
@@ -205,6 +205,7 @@ pub record TakesOnRecord (old : Running) (kind : Kind) (r : Record) (new : Runni
       ≤ room_of old.store.geometry old.store.journal
   pub given : GivesAnswer old.process r.answer (Ok tt) new.process
   pub some : IsProcess new.process
+  pub abreast_same : new.is_abreast ≡ old.is_abreast
   pub released_same : new.process.host.released ≡ old.process.host.released
   pub guest_same : new.process.machine.guest ≡ old.process.machine.guest
 

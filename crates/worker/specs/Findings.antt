@@ -13,7 +13,7 @@ use Rattle.disk_layout.specs.declared.geometry.Geometry.{Geometry}
 use Rattle.disk_layout.specs.declared.reading.contents.Contents.{Contents}
 use Rattle.disk_layout.specs.rules.Journal.{Record}
 use Rattle.disk_layout.specs.rules.Places.{total_sectors}
-use Rattle.snapshot.specs.declared.newest.Snapshot.{Snapshot}
+use Rattle.worker_store.specs.declared.newest.NewestImage.{NewestImage}
 use Rattle.state_image.specs.rules.Image.{image}
 use Rattle.state_image.specs.rules.Saving.{saved_of}
 use Rattle.worker_store.specs.laws.Savepoints.{Savepoint, places, StandsAtPoint}
@@ -39,7 +39,7 @@ pub record IsFoundAt {m : Module} {config : Settings} (wasm : List ℕ) (point :
   pub none_waits : waiting_in found.process ≡ []
   pub texts : IsOfBytes (host_of config)
 
--- the numbers of its process, and how many records there are
+-- the numbers of its process, its version, and how many records there are
 abbrev pub numbers_of_found : Found → Survey
 numbers_of_found found = record {
   generation = found.generation;
@@ -47,6 +47,7 @@ numbers_of_found found = record {
   answers = found.process.answers;
   lines = lines_in found.process;
   records = length found.records.items;
+  version = found.process.host.host.version;
 }
 
 -- that, or an error that says nothing of what stands on the disk
@@ -105,14 +106,14 @@ FindsLinked geometry config machine disk result =
     (last : ProcessState) → StandsAtPoint point records last disk
     → IsLinkedAt point geometry config machine → FindsPoint point.wasm point records result
 
--- its snapshot was read
+-- its image was read
 pub record IsSnapshotOf {m : Module} {config : Settings} (point : Savepoint m config)
-    (snapshot : Snapshot) : Type 0 where
+    (snapshot : NewestImage) : Type 0 where
   pub generation : snapshot.generation ≡ point.generation
   pub bytes : snapshot.image.items ≡ image point.saved
 
 -- what stands there then
-abbrev pub FindsSnapshot : Geometry → Settings → MachineValue → Snapshot → Image
+abbrev pub FindsSnapshot : Geometry → Settings → MachineValue → NewestImage → Image
     → Result Found RecoverFault → Type 0
 FindsSnapshot geometry config machine snapshot disk result =
     (m : Module) (settings : Settings) (point : Savepoint m settings) (records : List Record)

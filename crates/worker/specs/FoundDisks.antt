@@ -6,13 +6,12 @@ use Rattle.process.specs.rules.Values.{ProcessValue}
 use Rattle.state_image.specs.rules.Restored.{IsRestored}
 use Rattle.sector_disk.specs.rules.Image.{Image}
 use Rattle.disk_layout.specs.declared.geometry.Geometry.{Geometry}
-use Rattle.disk_layout.specs.declared.head.TheConstants.{IMAGE_VERSION}
 use Rattle.disk_layout.specs.declared.reading.contents.Contents.{Contents}
-use Rattle.wasi_abi.specs.declared.version.Version.TheVariants.{One}
 use Rattle.disk_layout.specs.rules.Held.{GivesContents}
 use Rattle.disk_layout.specs.rules.Journal.{scan}
-use Rattle.disk_layout.specs.rules.Sectors.{HoldsImage}
-use Rattle.snapshot.specs.declared.newest.Snapshot.{Snapshot}
+use Rattle.state_image.specs.rules.Saving.{saved_of}
+use Rattle.worker_store.specs.declared.newest.NewestImage.{NewestImage}
+use Rattle.worker_store.specs.rules.AnyDisk.{NamesImage, TellsNewest}
 use Rattle.worker.specs.declared.found.Found.{Found}
 use Rattle.worker.specs.declared.recover_fault.RecoverFault.{RecoverFault}
 use Rattle.worker.specs.rules.ShownDisks.{HoldsModule, ShowsFault}
@@ -22,14 +21,14 @@ pub record IsRestoredIn {sectors : ℕ} {disk : Image} (holds : HoldsModule sect
     (geometry : Geometry) (generation : ℕ) (process : ProcessValue) : Type 0 where
   pub placed : geometry ≡ holds.contents.geometry
   pub bytes : List ℕ
-  pub newest : HoldsImage holds.contents.geometry disk generation IMAGE_VERSION bytes
+  pub newest : NamesImage holds.contents.geometry disk generation (saved_of process).version bytes
   pub restored : IsRestored holds.module_is holds.contents.config bytes process
 
--- That was found, and the records of its generation.
+-- That was found, and the records of its generation, of the version of the process.
 pub record IsFoundIn (sectors : ℕ) (disk : Image) (found : Found) : Type 0 where
   pub holds : HoldsModule sectors disk
   pub process : IsRestoredIn holds found.geometry found.generation found.process
-  pub scanned : scan holds.contents.geometry One disk found.generation
+  pub scanned : scan holds.contents.geometry (saved_of found.process).version disk found.generation
       ≡ found.records.items
 
 -- that, or what is wrong with the disk
@@ -57,13 +56,12 @@ FindsLinkedIn geometry config machine disk result =
     (sectors : ℕ) (holds : HoldsModule sectors disk) → IsMachineIn holds geometry config machine
     → FindsIn sectors disk result
 
--- the snapshot was read too
-abbrev pub FindsSnapshotIn : Geometry → Settings → MachineValue → Snapshot → Image
+-- the newest image was read too
+abbrev pub FindsSnapshotIn : Geometry → Settings → MachineValue → NewestImage → Image
     → Result Found RecoverFault → Type 0
 FindsSnapshotIn geometry config machine snapshot disk result =
     (sectors : ℕ) (holds : HoldsModule sectors disk) → IsMachineIn holds geometry config machine
-    → HoldsImage geometry disk snapshot.generation IMAGE_VERSION snapshot.image.items
-    → FindsIn sectors disk result
+    → TellsNewest geometry disk (Ok snapshot) → FindsIn sectors disk result
 
 -- its process was made again
 abbrev pub FindsRecordsIn : Geometry → ℕ → ProcessValue → Image → Result Found RecoverFault

@@ -1,5 +1,5 @@
 -- The worker of a process for which a disk was laid out.
-use Rattle.std.specs.Prelude.{false, Result, Ok, Err}
+use Rattle.std.specs.Prelude.{true, false, Result, Ok, Err}
 use Rattle.process.specs.rules.Values.{ProcessValue}
 use Rattle.worker_store.specs.declared.fault.StoreFault.{StoreFault}
 use Rattle.worker_store.specs.declared.store.WorkerStore.{WorkerStore}
@@ -9,7 +9,13 @@ use Rattle.worker.specs.rules.DurableValues.{DurableValue}
 
 -- of this process and this store
 abbrev pub fresh_of : ProcessValue → WorkerStore → DurableValue
-fresh_of v store = record { process = v; store = store; replayed = 0; has_failed = false }
+fresh_of v store = record {
+  process = v;
+  store = store;
+  is_abreast = true;
+  replayed = 0;
+  has_failed = false;
+}
 
 -- of what laying it out has answered
 abbrev pub worker_laid : ProcessValue → Result WorkerStore StoreFault

@@ -11,3 +11,4 @@ pub mod LifeCalls
 pub mod Endings
 pub mod Going
 pub mod Inspecting
+pub mod Upgrading

@@ -11,6 +11,7 @@ use Rattle.worker_store.specs.declared.fault.StoreFault.{StoreFault}
 use Rattle.worker_store.specs.declared.store.WorkerStore.{WorkerStore}
 use Rattle.worker_store.specs.rules.Calls.{LeavesPointOrNext, StoresAgain, ReopeningFails}
 use Rattle.worker_store.specs.rules.Calls.{CommitCalls}
+use Rattle.state_image.specs.rules.Saving.{saved_of}
 use Rattle.worker_store.specs.rules.Stores.{begun_store}
 use Rattle.worker.specs.declared.found.Found.{Found}
 use Rattle.worker.specs.declared.recover_fault.RecoverFault.{RecoverFault}
@@ -35,7 +36,7 @@ pub record OpensStore (geometry : Geometry) (generation : ℕ) (v : ProcessValue
     (store : WorkerStore) (mid new : Medium) : Type 0 where
   pub writes : WritesNext geometry generation v mid new
   pub stores : StoresAgain geometry (generation + 1) v store mid new
-  pub begun : store ≡ begun_store geometry (generation + 1)
+  pub begun : store ≡ begun_store geometry (saved_of v).version (generation + 1)
   pub numbered : store.journal.generation ≡ generation + 1
   pub placed : store.geometry ≡ geometry
   pub calls : CommitCalls {T = WorkerStore} geometry (generation + 1) v (Ok store) mid new
@@ -60,6 +61,7 @@ pub record IsOpenedAs (v : ProcessValue) (count : ℕ) (w : DurableValue) : Type
   pub process : w.process ≡ v
   pub replayed : w.replayed ≡ count
   pub unfailed : w.has_failed ≡ false
+  pub behind : w.is_abreast ≡ false
 
 abbrev pub OpensAgain : Geometry → ℕ → ProcessValue → ℕ → Result DurableValue RecoverFault
     → Medium → Medium → Type 0
@@ -100,7 +102,7 @@ abbrev pub RevivesFound : {D O : Type 0} → (D → Medium) → Taking O → Fou
 RevivesFound medium takes found (Ok w) mid new outlet outlet' =
     IsReplayed takes found w.process w.replayed outlet outlet'
     × OpensStore found.geometry found.generation w.process w.store (medium mid) (medium new)
-    × (w.has_failed ≡ false)
+    × (w.has_failed ≡ false) × (w.is_abreast ≡ false)
 RevivesFound medium takes found (Err why) mid new outlet outlet' =
     StopsInVain takes found why mid new outlet outlet'
     ⊎ ReplaysForNothing takes found why (medium mid) (medium new) outlet outlet'

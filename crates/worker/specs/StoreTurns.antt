@@ -9,7 +9,7 @@ use Rattle.worker_store.specs.declared.store.WorkerStore.{WorkerStore}
 use Rattle.worker_store.specs.rules.Stores.{IsOfStore, IsUnfailed}
 use Rattle.ephemeral_worker.specs.declared.fault.SliceFault.TheVariants as slice
 use Rattle.worker.specs.declared.fault.WorkFault.{WorkFault}
-use Rattle.worker.specs.declared.fault.WorkFault.TheVariants.{Work, Disk, Store}
+use Rattle.worker.specs.declared.fault.WorkFault.TheVariants.{Work, Disk, Store, Upgrade}
 use Rattle.worker.specs.rules.DurableFailures.{LacksRoom}
 use Rattle.worker.specs.rules.WorkFaults.{fault_of_store}
 use Rattle.worker.specs.rules.SliceCalls.{AreSliceCalls, AreLastCalls}
@@ -36,6 +36,7 @@ HasTurnCause old disk disk' (Store store.Full) = Unit {0}
 HasTurnCause old disk disk' (Store store.TooLong) = Unit {0}
 HasTurnCause old disk disk' (Store store.TooBig) = Unit {0}
 HasTurnCause old disk disk' (Store other) = ⊥
+HasTurnCause old disk disk' (Upgrade fault) = ⊥
 
 -- it has failed: behind these calls of the disk others were begun
 pub record StoreStops (old new : WorkerStore) (why : WorkFault) (disk disk' : Medium) : Type 0
@@ -71,6 +72,7 @@ HasHearingCause old (Work other) = Unit {0}
 HasHearingCause old (Store store.Full) = Unit {0}
 HasHearingCause old (Store store.TooLong) = Unit {0}
 HasHearingCause old (Store other) = ⊥
+HasHearingCause old (Upgrade fault) = ⊥
 
 -- an answer is heard, without a call of the disk
 pub record StoreHears (old new : WorkerStore) : Type 0 where

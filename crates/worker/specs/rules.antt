@@ -19,4 +19,5 @@ pub mod StoryDisks
 pub mod Surveys
 pub mod Told
 pub mod Unsynced
+pub mod Upgrades
 pub mod Wishes

@@ -64,6 +64,7 @@ fn worker_of(
                 alloc,
                 process,
                 store,
+                is_abreast: true,
             },
             replayed: 0,
             has_failed: false,

@@ -6,6 +6,7 @@ ghost use Rattle.ephemeral_worker.specs.declared.fault.SliceFault.TheVariants as
 ghost use Rattle.ephemeral_worker.specs.rules.Refusals.{slice_fault};
 ghost use Rattle.worker.specs.rules.WorkFaults.{fault_of_store};
 
+use crate::upgrade_fault::UpgradeFault;
 use ephemeral_worker::SliceFault;
 use process::ProcessFault;
 use record_replay::OutletFault;
@@ -13,7 +14,8 @@ use sector_disk::DiskFault;
 use thiserror::Error;
 use worker_store::StoreFault;
 
-/// What a worker without a disk says, what its disk says, or what the store refuses.
+/// What a worker without a disk says, what its disk says, what the store refuses, or why it isn't
+/// upgraded.
 #[derive(Clone, Copy, Debug, PartialEq, Eq, Error)]
 pub enum WorkFault {
     #[error("{0}")]
@@ -23,6 +25,8 @@ pub enum WorkFault {
     /// Neither want of memory nor a fault of the disk.
     #[error("{0}")]
     Store(StoreFault),
+    #[error("{0}")]
+    Upgrade(UpgradeFault),
 }
 
 impl From<SliceFault> for WorkFault {

@@ -23,18 +23,18 @@ use machine::Machine;
 use machine_loader::accept;
 use process::Process;
 use sector_disk::Disk;
-use snapshot::Snapshot;
 use state_image::laws::{reached_processes_are_well_typed, restored_processes_are_the_saved};
 use state_image::restoring::restore_into;
 use std::alloc::Global;
 use wasi_abi::Config;
 use wasm_syntax::Row;
-use worker_store::{read_newest, read_records, read_worker};
+use worker_store::{NewestImage, read_newest, read_records, read_worker};
 
 /// The process that was saved last, made again, and the records behind it. It only reads: what is
 /// found is what stands on the image that the disk shows. What is wrong is found in one order.
 /// First come the super, the configuration and the module, and whether the module is accepted. Then
-/// come the newest head and its image, whether that is the image of a process, and the records.
+/// come the newest head, its version, the journal for it, its image and the mark of that, whether it
+/// is the image of a process, and the records, which are of the version of that process.
 pub(crate) fn find<D: Disk>(alloc: Global, disk: &mut D) -> Result<Found, RecoverFault>
     ensures reads { OnlyReads (D.medium disk.old) (D.medium disk.new) }
     ensures finds { FindsOne (D.medium disk.old).sectors (D.medium disk.new) result }
@@ -109,14 +109,14 @@ fn find_saved<D: Disk>(
     }
 }
 
-/// The same, where the newest snapshot was read too.
+/// The same, where the newest image was read too.
 fn find_process<D: Disk>(
     alloc: Global,
     disk: &mut D,
     geometry: &Geometry,
     config: Config,
     machine: Machine,
-    snapshot: Snapshot,
+    snapshot: NewestImage,
 ) -> Result<Found, RecoverFault>
     requires room { total_sectors geometry.now ≤ (D.medium disk.old).sectors }
     requires begun { HasBegun config.pages machine.guest machine }
@@ -162,7 +162,7 @@ fn find_records<D: Disk>(
     ensures asks { CallsUpTo geometry.now.journal_sectors (D.medium disk.old) (D.medium disk.new) }
 {
     is_process(&process);
-    match read_records(alloc, disk, geometry, generation) {
+    match read_records(alloc, disk, geometry, process.version(), generation) {
         Ok(records) => Ok(Found {
             geometry: *geometry,
             generation,

@@ -2,6 +2,7 @@
 
 ghost use Rattle.worker.specs.laws.Adding.{SlicesOnDiskAdd};
 ghost use Rattle.worker.specs.laws.Bounds.{OpenWorkersKeepBounds, StayingKeepsBounds};
+ghost use Rattle.worker.specs.laws.Bounds.{OpenWorkersHaveOneVersion};
 ghost use Rattle.worker.specs.laws.OneLife.{CallsMakeLives, AnythingComesTrue};
 ghost use Rattle.worker.specs.laws.Replies.{LivesEndAsSaid};
 ghost use Rattle.worker.specs.laws.Uncut.{LivesGoOnUncut};
@@ -14,6 +15,11 @@ use sector_disk::Disk;
 pub fn open_workers_keep_bounds<D: Disk>()
     ensures keeps { OpenWorkersKeepBounds D.medium }
     ensures stays { StayingKeepsBounds D.medium }
+{}
+
+/// Process, journal and savepoint of an open worker are of one version.
+pub fn open_workers_have_one_version<D: Disk>()
+    ensures { OpenWorkersHaveOneVersion D.medium }
 {}
 
 /// The calls of one life, each as its clause says, make a life that goes on from all that was

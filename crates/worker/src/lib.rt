@@ -20,12 +20,15 @@
 //!   all that was promised before. After Ok the worker is open on the disk, which has room for it
 //!   (`room`).
 //! - Whatever stands on the disk, the result of `Worker::recover` is what its newest head
-//!   and all behind it say. What is refused there is left as it is (`shown`).
+//!   and all behind it say. What is refused there is left as it is (`shown`). The head tells the
+//!   version of the image and of the records. A head at odds with the journal or with its image is
+//!   refused.
 //! - Whatever stands on the disk, where the outlet refuses a line a recovery releases no other one,
 //!   and says so. It says so of nothing else (`heeds`).
 //! - `read_survey`: nothing is written. The disk is synced, and what it then shows decides the
-//!   result (`Surveys`). Where it stands for a worker, its generation and the numbers of the saved
-//!   process are told, and how many records lie behind it; or an error that says nothing of them.
+//!   result (`Surveys`). Where it stands for a worker, its generation and the numbers and the version
+//!   of the saved process are told, and how many records lie behind it; or an error that says
+//!   nothing of them.
 //! - `inspect`: nothing is written. The disk is synced, and what it then shows is told (`Inspects`):
 //!   configuration and module, the newest snapshot and the process that it has saved, what that
 //!   process waits for, and the records behind it. A disk is refused as by `read_survey`.
@@ -49,20 +52,30 @@
 //!   (`carries`), and after its Ok no later life comes behind it (`saved`). Its calls of the disk
 //!   are told (`calls`), and each error has its cause (`cause`). After an error the generation is
 //!   as it was (`unsaved`).
-//! - Whatever stands on the disk, a slice, a checkpoint and a recovery answer a fault of the disk
-//!   only for its cause, and `Failed` only of a worker that had failed before (`on_any_disk`).
-//! - At no moment of a slice, a checkpoint or a recovery are there more unsynced writes than before
-//!   and the journal's, or an area's and its head's. In a creation there are no more than before
-//!   and one, or than `most_unsynced` of `disk_layout` (`counts`).
+//! - `Worker::upgrade` is the same, and the process is saved in version 2 (`done`). A cut at any
+//!   moment leaves a disk that stands for a worker of the one version or of the other. Up to the end
+//!   of the barrier it is version 1, and holds all that was promised. From then on it is version 1
+//!   with all answers, or version 2 (`migrates`), and after Ok version 2 alone (`ends`). It is
+//!   refused before anything is asked of the disk where the journal is too small (`too_small`). So
+//!   is a worker of version 1 beyond whose process an earlier life may have told lines
+//!   (`not_caught_up`). Whatever was promised is kept (`carries`).
+//! - Whatever stands on the disk, a slice, a checkpoint, an upgrade and a recovery answer a fault of
+//!   the disk only for its cause, and `Failed` only of a worker that had failed before
+//!   (`on_any_disk`).
+//! - At no moment of these are there more unsynced writes than before and the journal's, or an
+//!   area's and its head's. In a creation there are no more than before and one, or than
+//!   `most_unsynced` of `disk_layout` (`counts`).
 //! - No image that a cut leaves is of a later generation than as much has happened. The disk has
 //!   all sectors of its worker (`carries`, and `laws::open_workers_keep_bounds`).
+//! - Process, journal and savepoint of an open worker are of one version
+//!   (`laws::open_workers_have_one_version`).
 //! - `laws::calls_make_lives`: the calls of one life make one that goes on from all that was
 //!   promised. `laws::uncut_lives_go_on`: where the power isn't cut in it, its outlet has taken
 //!   each line, or it ended by one that was refused. `laws::lives_end_as_said`: where no call has
 //!   failed either, it has ended or waits as its last slice says.
 //! - After an error no call does anything (`fails`, `refused`): each answers `Failed`.
-//! - A recovery, a creation and a checkpoint begin few calls of the disk (`asks`), and so does a
-//!   slice before each of its exchanges and its end (`carries`).
+//! - A recovery, a creation, a checkpoint and an upgrade begin few calls of the disk (`asks`), and
+//!   so does a slice before each of its exchanges and its end (`carries`).
 //! - `story` (module `story`) runs any list of lives on one disk in memory, and tells them
 //!   (`TellsLives`). Behind each comes a cut of the power, or an error.
 //!
@@ -78,7 +91,9 @@
 //! (`Surveys.antt`); `Inspects`, `IsInspected` (`Inspections.antt`); `TellsWish` (`Wishes.antt`);
 //! `SlicesOnDiskInVain`, `IsDiskCause`, `HasSliceCause` (`DurableFailures.antt`); `SliceCalls`
 //! (`SliceCalls.antt`); `CheckpointCalls`, `CheckpointFails`, `HasCheckpointCause`
-//! (`Checkpoints.antt`); `CountsInSlice`, `CountsInRecovery` (`Unsynced.antt`); `fault_of_store`
+//! (`Checkpoints.antt`); `IsUpgradedIn`, `UpgradeCalls`, `UpgradeFails`, `HasUpgradeCause`,
+//! `StandsInOne`, `LeadsInOne`, `StandsInTwo`, `Migrates`, `EndsInTwo` (`Upgrades.antt`);
+//! `CountsInSlice`, `CountsInRecovery` (`Unsynced.antt`); `fault_of_store`
 //! (`WorkFaults.antt`); `fault_of_read`, `wants_memory`, `LayerWantsMemory`, `IsOfItsLayer`
 //! (`RecoverFaults.antt`);
 //! `most_calls`, `CallsForEvents` (`CallCounts.antt`); `inputs_of` (`Planned.antt`), `TellsLives`
@@ -106,6 +121,12 @@
 //!   the disk, or a next generation that is too big.
 //! - **A checkpoint is handed the outlet**: a barrier, the release of each line that waits, and a
 //!   commit. No line waits between two calls, so it releases none.
+//! - **An upgrade never changes a line that was told.** In version 2 a call for random bytes may
+//!   succeed that failed in version 1. So a worker that was recovered before the end of an earlier
+//!   life might tell a line once more with another text. It is upgraded only once it has asked, or
+//!   has ended: then no line beyond its process was ever told.
+//! - **An upgrade widens the process after its barrier, and before its commit**, once the next
+//!   generation is known to have a number. So what it then shows is what its disk may hold.
 //! - **What a cut leaves has bounds** (`IsBounded`). Its generation is at most as much as has
 //!   happened, and the disk has all its sectors. Each call keeps them. So a recovery is refused for
 //!   the number of a generation only where so much has happened, and never for too few sectors.
@@ -158,6 +179,9 @@ pub mod story;
 mod surveyed;
 mod surveying;
 mod turns;
+mod upgrade_fault;
+mod upgrades;
+mod widening;
 mod wish;
 
 pub use durable::Worker;
@@ -169,4 +193,5 @@ pub use recover_fault::RecoverFault;
 pub use running::Running;
 pub use surveyed::Survey;
 pub use surveying::read_survey;
+pub use upgrade_fault::UpgradeFault;
 pub use worker_store::StoreFault;

@@ -129,6 +129,7 @@ fn open_again<D: Disk>(
                 alloc,
                 process,
                 store,
+                is_abreast: false,
             },
             replayed,
             has_failed: false,

@@ -3,7 +3,7 @@
 ghost use Rattle.std.specs.Prelude.{◌≡◌, ◌+◌, ◌≤◌, [], false, true, IfErr, OnErr, OnOk};
 ghost use Rattle.process.specs.rules.Values.{IsProcess, waiting_in};
 ghost use Rattle.sector_disk.specs.rules.Medium.{CallsUpTo, Passes};
-ghost use Rattle.wasi_abi.specs.declared.version.Version.TheVariants.{One};
+ghost use Rattle.state_image.specs.rules.Saving.{saved_of};
 ghost use Rattle.disk_layout.specs.rules.Places.{total_sectors};
 ghost use Rattle.journal.specs.rules.State.{state};
 ghost use Rattle.worker_store.specs.rules.Calls.{StoresNext};
@@ -48,7 +48,8 @@ pub(crate) fn save<D: Disk>(
     ensures unnumbered { OnErr result
         (store.new.journal.generation ≡ store.old.journal.generation) }
     ensures fresh { OnOk result
-        (store.new.journal ≡ state One store.new.journal.generation 0 [] false) }
+        (store.new.journal ≡ state (saved_of process.now).version store.new.journal.generation 0 []
+        false) }
     ensures calls { SaveCalls store.old process.now result (D.medium disk.old)
         (D.medium disk.new) }
     ensures cause { IfErr result (SaveFails store.old process.now (D.medium disk.old)
@@ -71,7 +72,7 @@ pub(crate) fn save<D: Disk>(
 }
 
 /// Releases each line that waits, in order. None does, so none is refused.
-fn release_none<O: Outlet>(process: &mut Process, outlet: &mut O)
+pub(crate) fn release_none<O: Outlet>(process: &mut Process, outlet: &mut O)
     requires { waiting_in process.old ≡ [] }
     ensures same { process.new ≡ process.old }
     ensures quiet { outlet.new ≡ outlet.old }
@@ -110,7 +111,8 @@ pub(crate) fn save_telling<D: Disk, O: Outlet>(
     ensures unnumbered { OnErr result
         (store.new.journal.generation ≡ store.old.journal.generation) }
     ensures fresh { OnOk result
-        (store.new.journal ≡ state One store.new.journal.generation 0 [] false) }
+        (store.new.journal ≡ state (saved_of process.old).version store.new.journal.generation 0 []
+        false) }
     ensures calls { SaveCalls store.old process.old result (D.medium disk.old)
         (D.medium disk.new) }
     ensures cause { IfErr result (SaveFails store.old process.old (D.medium disk.old)

@@ -45,7 +45,10 @@ impl Running {
             let left = fuel - (self.process.steps() - first);
             match self.process.advance(left)? {
                 Stop::Owes => self.settle(disk, outlet)?,
-                Stop::Ended(how) => return Ok(Now::Ended(how)),
+                Stop::Ended(how) => {
+                    self.is_abreast = true;
+                    return Ok(Now::Ended(how));
+                }
                 Stop::Spent => return Ok(Now::Spent),
                 Stop::Asks(kind) => {
                     if !self.ask(kind, disk, source)? {

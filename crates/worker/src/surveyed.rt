@@ -1,5 +1,7 @@
 //! What stands on a worker's disk, in numbers.
 
+use wasi_abi::Version;
+
 /// The process that was saved last, in numbers, and how many records lie behind it.
 #[derive(Clone, Copy, Debug, PartialEq, Eq)]
 pub struct Survey {
@@ -11,4 +13,6 @@ pub struct Survey {
     /// Lines that it has emitted.
     pub lines: u64,
     pub records: u64,
+    /// The version of the saved process, which is that of the newest head.
+    pub version: Version,
 }

@@ -21,6 +21,7 @@ fn numbers_of(found: &Found) -> Survey
         answers: found.process.answers(),
         lines: found.process.lines(),
         records: found.records.as_slice().len() as u64,
+        version: found.process.host().version(),
     }
 }
 

@@ -21,7 +21,7 @@ use disk_layout::{Record, longest_record};
 use ephemeral_worker::SliceFault;
 use record_replay::{Outlet, Source, release_waiting};
 use sector_disk::Disk;
-use wasi_abi::{Kind, NUMBERS_END, Version, fits};
+use wasi_abi::{Kind, NUMBERS_END, fits};
 use worker_store::laws::images_fit_areas;
 
 impl Running {
@@ -53,7 +53,8 @@ impl Running {
     }
 
     /// Asks the source once, and gives the process the answer, where there is one. Whether there
-    /// was. Before that there is room for any answer on the disk.
+    /// was. Before that there is room for any answer on the disk. A process that asks has emitted
+    /// each line that was ever told.
     pub(crate) fn ask<D: Disk, S: Source>(
         &mut self,
         kind: Kind,
@@ -77,6 +78,7 @@ impl Running {
     {
         let step = self.process.steps() + 1;
         self.make_room(disk)?;
+        self.is_abreast = true;
         self.hear(kind, step, source)
     }
 
@@ -97,7 +99,8 @@ impl Running {
         ensures few { CallsUpTo (most_saving (D.medium disk.old).sectors) (D.medium disk.old)
             (D.medium disk.new) }
     {
-        if self.store.room() >= longest_record(Version::One) {
+        let version = self.store.version();
+        if self.store.room() >= longest_record(version) {
             return Ok(());
         }
         images_fit_areas();

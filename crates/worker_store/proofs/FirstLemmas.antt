@@ -5,7 +5,6 @@ use Rattle.std.proofs.Common.{subst, inl, arith, append_assoc, false}
 use Rattle.std.specs.Prelude.{Result, Ok}
 use Rattle.sha2.specs.Sha256.{sha256}
 use Rattle.wasm_syntax.specs.declared.module.Module.{Module}
-use Rattle.wasi_abi.specs.declared.version.Version.TheVariants.{One}
 use Rattle.wasi_abi.specs.rules.Configs.{Settings}
 use Rattle.process.specs.rules.Values.{ProcessValue}
 use Rattle.sector_disk.specs.declared.disk_call.DiskCall.{DiskCall}
@@ -16,7 +15,7 @@ use Rattle.sector_disk.specs.rules.Run.{IsTornRun, IsWrittenRun}
 use Rattle.sector_disk.proofs.CallLemmas.{begun_first, begun_then}
 use Rattle.sector_disk.proofs.Moments.{leaves_only, leaves_weaker, started}
 use Rattle.disk_layout.specs.declared.geometry.Geometry.{Geometry}
-use Rattle.disk_layout.specs.declared.head.TheConstants.{IMAGE_VERSION}
+use Rattle.wasi_abi.specs.rules.Versions.{version_number}
 use Rattle.disk_layout.specs.rules.Places.{area_place, config_bytes, geometry_of, rounded_up}
 use Rattle.disk_layout.specs.rules.Places.{total_sectors}
 use Rattle.disk_layout.specs.rules.Sectors.{super_bytes}
@@ -24,7 +23,7 @@ use Rattle.journal.specs.rules.State.{state}
 use Rattle.snapshot.specs.declared.writing.Writing.TheVariants.{Whole}
 use Rattle.snapshot.specs.rules.Calls.{MakesStoresAndHead, with_head}
 use Rattle.snapshot.specs.rules.Steps.{Commits, Replaces}
-use Rattle.state_image.specs.rules.Image.{image}
+use Rattle.state_image.specs.rules.Image.{Saved, image}
 use Rattle.state_image.specs.rules.Saving.{saved_of}
 use Rattle.restart_theorem.specs.Stands.{IsBlank}
 use Rattle.worker_store.specs.laws.Savepoints.{Savepoint, places}
@@ -76,26 +75,32 @@ module _ (m : Module) (settings : Settings) (point : Savepoint m settings) (conf
       ∙ ap (λ w. sha256 (config_bytes settings ++ w)) (sym first.wasm))
 
   awaits_super : (a b : Medium) → LeavesAll a (AwaitsHead settings wasm)
-      → Follows (Replaces geometry 1 IMAGE_VERSION (image (saved_of process))) a.may_leave
+      → Follows (Replaces geometry 1 (version_number (saved_of process).version)
+      (image (saved_of process))) a.may_leave
       b.may_leave → LeavesAll b (AwaitsSuper point)
   awaits_super a b all follows =
       step_in_the_end a b
-      (Replaces (places point) point.generation IMAGE_VERSION (image point.saved))
+      (Replaces (places point) point.generation (version_number point.saved.version)
+      (image point.saved))
       (AwaitsHead settings point.wasm) (AwaitsSuper point)
       (subst (λ w. LeavesAll a (AwaitsHead settings w)) (sym first.wasm) all)
       (λ x y awaits replaces.
       first_commit_awaits_super m settings point x y first.generation first.numbers awaits replaces)
       (subst (λ (g : Geometry). Follows
-      (Replaces g point.generation IMAGE_VERSION (image point.saved)) a.may_leave b.may_leave) place
-      (subst (λ n. Follows (Replaces geometry n IMAGE_VERSION (image point.saved)) a.may_leave
+      (Replaces g point.generation (version_number point.saved.version)
+      (image point.saved)) a.may_leave b.may_leave) place
+      (subst (λ n. Follows (Replaces geometry n (version_number point.saved.version)
+      (image point.saved)) a.may_leave
       b.may_leave) (sym first.generation)
-      (subst (λ s. Follows (Replaces geometry 1 IMAGE_VERSION (image s)) a.may_leave b.may_leave)
+      (subst (λ s. Follows (Replaces geometry 1 (version_number s.version)
+      (image s)) a.may_leave b.may_leave)
       (sym first.saved) follows)))
 
   -- while the super is written, and once it is
   pub super_leaves : (a b c d : Medium) → digest ≡ sha256 (config ++ wasm)
       → (LeavesAll a IsBlank → LeavesOnly a c IsBlank) → LeavesAll b (AwaitsHead settings wasm)
-      → Follows (Replaces geometry 1 IMAGE_VERSION (image (saved_of process))) b.may_leave
+      → Follows (Replaces geometry 1 (version_number (saved_of process).version)
+      (image (saved_of process))) b.may_leave
       c.may_leave
       → LeavesOnly c d (After (IsTornRun 0 (super_bytes geometry digest ∷ []) 1) c.may_leave)
       → LeavesAll a IsBlank → LeavesOnly a d (λ disk. IsBlank disk ⊎ BeginsAtPoint point disk)
@@ -112,7 +117,8 @@ module _ (m : Module) (settings : Settings) (point : Savepoint m settings) (conf
 
   pub super_stands : (b c d : Medium) → digest ≡ sha256 (config ++ wasm)
       → LeavesAll b (AwaitsHead settings wasm)
-      → Follows (Replaces geometry 1 IMAGE_VERSION (image (saved_of process))) b.may_leave
+      → Follows (Replaces geometry 1 (version_number (saved_of process).version)
+      (image (saved_of process))) b.may_leave
       c.may_leave
       → Follows (IsWrittenRun 0 (super_bytes geometry digest ∷ []) 1) c.shows d.may_leave
       → LeavesAll d (BeginsAtPoint point)
@@ -185,7 +191,8 @@ module _ (geometry : Geometry) (count : ℕ) where
 
 pub first_stored : {D : Type 0} (medium : D → Medium) (settings : Settings) (wasm : List ℕ)
     (process : ProcessValue) (store : WorkerStore) (new : D) → store.has_failed ≡ false
-    → store.geometry ≡ geometry_of settings (length wasm) → store.journal ≡ state One 1 0 [] false
+    → store.geometry ≡ geometry_of settings (length wasm)
+    → store.journal ≡ state (saved_of process).version 1 0 [] false
     → total_sectors store.geometry ≤ (medium new).sectors
     → IsAllSynced (medium new)
     → ((m : Module) (point : Savepoint m settings) → IsFirstPoint wasm process point
@@ -195,7 +202,8 @@ first_stored medium settings wasm process store new works placed fresh sectors s
     point
     first =
     begun_stored medium m settings point store new 1 (sym first.generation) (omega arith) works
-    (placed ∙ ap (λ w. geometry_of settings (length w)) (sym first.wasm)) fresh sectors settled
+    (placed ∙ ap (λ w. geometry_of settings (length w)) (sym first.wasm))
+    (fresh ∙ ap (λ (s : Saved). state s.version 1 0 [] false) (sym first.saved)) sectors settled
     (begins m point first) first.numbers
 
 -- where no call was made

@@ -6,19 +6,25 @@ use Rattle.sector_disk.specs.rules.Image.{Image}
 use Rattle.disk_layout.specs.declared.fault.LayoutFault.TheVariants as layout
 use Rattle.disk_layout.specs.declared.geometry.Geometry.{Geometry}
 use Rattle.disk_layout.specs.declared.head.Head.{Head}
-use Rattle.disk_layout.specs.declared.head.TheConstants.{IMAGE_VERSION}
+use Rattle.wasi_abi.specs.declared.version.Version.{Version}
+use Rattle.wasi_abi.specs.rules.Versions.{version_number}
+use Rattle.wasi_abi.proofs.VersionLemmas.{own_number}
 use Rattle.disk_layout.specs.rules.Sectors.{IsNewest, HoldsImage}
-use Rattle.disk_layout.specs.rules.Journal.{Record}
+use Rattle.disk_layout.specs.rules.Journal.{Record, TakesRecords}
 use Rattle.process_rules.specs.Processes.{ProcessState}
 use Rattle.wasi_abi.specs.rules.Configs.{Settings}
 use Rattle.wasm_syntax.specs.declared.module.Module.{Module}
-use Rattle.snapshot.specs.declared.newest.Snapshot.{Snapshot}
 use Rattle.snapshot.specs.declared.fault.SnapshotFault.{SnapshotFault}
 use Rattle.snapshot.specs.declared.fault.SnapshotFault.TheVariants as snapshot
 use Rattle.snapshot.specs.rules.Heads.{FindsHead, HasNone}
-use Rattle.state_image.specs.rules.Image.{image}
+use Rattle.state_image.specs.rules.Image.{image, IsMarkedOtherwise}
+use Rattle.state_image.proofs.Marks.{own_mark}
 use Rattle.snapshot.specs.rules.Newest.{NamesBytes, ReadsImage}
+use Rattle.snapshot.proofs.LawLemmas.{shows_one}
 use Rattle.snapshot.proofs.ReadLemmas.{named_holds}
+use Rattle.std.specs.Prelude.{Vec}
+use Rattle.std.specs.declared.alloc.Global.{Global}
+use Rattle.worker_store.specs.declared.newest.NewestImage.{NewestImage}
 use Rattle.worker_store.specs.declared.read_fault.ReadFault.{ReadFault}
 use Rattle.worker_store.specs.declared.read_fault.ReadFault.TheVariants as read
 use Rattle.worker_store.specs.laws.Readings.{FindsSaved}
@@ -27,8 +33,10 @@ use Rattle.worker_store.specs.rules.Readings.{ReadsNewest}
 use Rattle.worker_store.proofs.LawLemmas.Reading.{finds_newest_point, finds_the_point}
 use Rattle.worker_store.proofs.LawLemmas.Reading.{reads_undamaged}
 use Rattle.worker_store.specs.rules.ReadFaults.{read_of_snapshot}
-use Rattle.worker_store.specs.rules.AnyDisk.{TellsNewest, HasOtherVersion}
-use Rattle.worker_store.specs.rules.AnyDisk.{LacksItsImage}
+use Rattle.worker_store.specs.Judging.{JudgesMark}
+use Rattle.worker_store.specs.rules.AnyDisk.{TellsNewest, HasOtherVersion, NamesVersion}
+use Rattle.worker_store.specs.rules.AnyDisk.{LacksItsImage, HasShortJournal, HasOtherMark}
+use Rattle.worker_store.specs.rules.AnyDisk.{NamesImage}
 
 -- ---- the newest head
 
@@ -37,33 +45,76 @@ module _ (geometry : Geometry) (disk : Image) (found : Option Head) (head : Head
   newest : IsNewest disk head.generation head
   newest = subst (λ (o : Option Head). FindsHead disk o) is finds
 
-  pub other_version : (head.version ≡ IMAGE_VERSION → ⊥) → HasOtherVersion disk
+  pub other_version : ((v : Version) → head.version ≡ version_number v → ⊥)
+      → HasOtherVersion disk
   other_version other = record { head = head; newest = newest; other = other }
 
-  -- of the known version
-  module _ (known : head.version ≡ IMAGE_VERSION) where
-    pub names_it : (bytes : List ℕ) → NamesBytes geometry disk head bytes
-        → HoldsImage geometry disk head.generation IMAGE_VERSION bytes
-    names_it bytes names =
-        subst (λ v. HoldsImage geometry disk head.generation v bytes) known
-        (named_holds geometry disk head bytes newest names)
+  -- of this version
+  module _ (version : Version) (known : head.version ≡ version_number version) where
+    its_version : NamesVersion version disk head
+    its_version = record { newest = newest; known = known }
 
-    unread_image : (fault : SnapshotFault) → (fault ≡ snapshot.Failed → ⊥)
-        → ReadsImage geometry disk head (Err fault)
-        → TellsNewest geometry disk (Err (read_of_snapshot fault))
-    unread_image snapshot.TooBig works reads = absurd reads
-    unread_image snapshot.Damaged works reads =
-        inr (record { head = head; newest = newest; known = known; lacks = reads })
-    unread_image (snapshot.Disk fault) works reads = tt
-    unread_image snapshot.Memory works reads = record { head = head; newest = newest; known = known }
-    unread_image snapshot.Failed works reads = works refl
+    pub short_journal : (TakesRecords version geometry.journal_sectors → ⊥)
+        → TellsNewest geometry disk (Err (read.Layout layout.Damaged))
+    short_journal short = inl (record {
+      version = version;
+      head = head;
+      is = its_version;
+      short = short;
+    })
 
-    pub image_wrong : (fault : SnapshotFault) (e : ReadFault) → e ≡ read_of_snapshot fault
-        → (fault ≡ snapshot.Failed → ⊥) → ReadsImage geometry disk head (Err fault)
-        → TellsNewest geometry disk (Err e)
-    image_wrong fault e same works reads =
-        subst (λ (f : ReadFault). TellsNewest geometry disk (Err f)) (sym same)
-        (unread_image fault works reads)
+    -- of which the journal takes the longest record
+    module _ (room : TakesRecords version geometry.journal_sectors) where
+      names_it : (bytes : List ℕ) → NamesBytes geometry disk head bytes
+          → NamesImage geometry disk head.generation version bytes
+      names_it bytes names = record {
+        holds = subst (λ v. HoldsImage geometry disk head.generation v bytes) known
+            (named_holds geometry disk head bytes newest names);
+        room = room;
+      }
+
+      pub judged : (bytes : Vec ℕ Global) → NamesBytes geometry disk head bytes.items
+          → (result : Result NewestImage ReadFault)
+          → JudgesMark version head.generation bytes result → TellsNewest geometry disk result
+      judged bytes names (Ok found) judges =
+          subst (λ (f : NewestImage). TellsNewest geometry disk (Ok f)) (sym judges.0)
+          (names_it bytes.items names, judges.1)
+      judged bytes names (Err why) judges =
+          subst (λ (f : ReadFault). TellsNewest geometry disk (Err f)) (sym judges.0)
+          (inr (record {
+            generation = head.generation;
+            version = version;
+            bytes = bytes.items;
+            named = names_it bytes.items names;
+            other = judges.1;
+          }))
+
+      unread_image : (fault : SnapshotFault) → (fault ≡ snapshot.Failed → ⊥)
+          → ReadsImage geometry disk head (Err fault)
+          → TellsNewest geometry disk (Err (read_of_snapshot fault))
+      unread_image snapshot.TooBig works reads = absurd reads
+      unread_image snapshot.Damaged works reads = inr (record {
+        version = version;
+        head = head;
+        is = its_version;
+        room = room;
+        lacks = reads;
+      })
+      unread_image (snapshot.Disk fault) works reads = tt
+      unread_image snapshot.Memory works reads = record {
+        version = version;
+        head = head;
+        is = its_version;
+        room = room;
+      }
+      unread_image snapshot.Failed works reads = works refl
+
+      pub image_wrong : (fault : SnapshotFault) (e : ReadFault) → e ≡ read_of_snapshot fault
+          → (fault ≡ snapshot.Failed → ⊥) → ReadsImage geometry disk head (Err fault)
+          → TellsNewest geometry disk (Err e)
+      image_wrong fault e same works reads =
+          subst (λ (f : ReadFault). TellsNewest geometry disk (Err f)) (sym same)
+          (unread_image fault works reads)
 
 -- ---- where a savepoint stands
 
@@ -73,27 +124,40 @@ module _ (geometry : Geometry) (disk : Image) (m : Module) (config : Settings)
   saved : FindsSaved point disk
   saved = finds_newest_point m config point records last disk at
 
-  its_snapshot : (s : Snapshot) → TellsNewest geometry disk (Ok s)
-      → (s.generation ≡ point.generation) × (s.image.items ≡ image point.saved)
-  its_snapshot s tells =
-      let there = saved in
-      let found = there.found s
-      (subst (λ v. HoldsImage (places point) disk s.generation v s.image.items) (sym tells.0)
-      (subst (λ (p : Geometry). HoldsImage p disk s.generation IMAGE_VERSION s.image.items) placed
-      tells.1)) in
-      (found.0, found.2)
+  -- an image that is named is that of the savepoint
+  its_image : (generation : ℕ) (version : Version) (bytes : List ℕ)
+      → NamesImage geometry disk generation version bytes
+      → (generation ≡ point.generation) × (version ≡ point.saved.version)
+      × (bytes ≡ image point.saved)
+  its_image generation version bytes names =
+      let holds = at.holds in
+      let found = shows_one.same (places point) disk generation point.generation
+      (version_number version) (version_number point.saved.version) bytes (image point.saved)
+      (subst (λ (p : Geometry). HoldsImage p disk generation (version_number version) bytes)
+      placed names.holds) holds in
+      (found.0, own_number version point.saved.version found.1, found.2)
+
+  its_snapshot : (s : NewestImage) → TellsNewest geometry disk (Ok s)
+      → (s.generation ≡ point.generation) × (s.version ≡ point.saved.version)
+      × (s.image.items ≡ image point.saved)
+  its_snapshot s tells = its_image s.generation s.version s.image.items tells.0
+
+  -- the newest head is of the version of the savepoint
+  head_version : (head : Head) → IsNewest disk head.generation head
+      → head.version ≡ version_number point.saved.version
+  head_version head newest =
+      let there = finds_the_point m config point records last disk (Some head) at newest in
+      let is = there.1 in
+      let same : head ≡ there.0 = cc in
+      ap (λ (h : Head). h.version) same ∙ there.3
 
   not_another : HasOtherVersion disk → ⊥
-  not_another tells =
-      let there = finds_the_point m config point records last disk (Some tells.head) at
-      tells.newest in
-      let is = there.1 in
-      let same : tells.head ≡ there.0 = cc in
-      tells.other (ap (λ (h : Head). h.version) same ∙ there.3)
+  not_another tells = tells.other point.saved.version (head_version tells.head tells.newest)
 
   not_lacking : LacksItsImage geometry disk → ⊥
   not_lacking tells =
-      reads_undamaged m config point records last disk tells.head at tells.newest
+      let is = tells.is in
+      reads_undamaged m config point records last disk tells.head at is.newest
       (subst (λ (p : Geometry). (bytes : List ℕ) → NamesBytes p disk tells.head bytes → ⊥) placed
       tells.lacks)
 
@@ -101,8 +165,28 @@ module _ (geometry : Geometry) (disk : Image) (m : Module) (config : Settings)
   not_damaged (inl none) = let there = saved in there.some none
   not_damaged (inr lacks) = not_lacking lacks
 
+  not_short : HasShortJournal geometry disk → ⊥
+  not_short tells =
+      let is = tells.is in
+      let version : tells.version ≡ point.saved.version =
+      own_number tells.version point.saved.version
+      (sym is.known ∙ head_version tells.head is.newest) in
+      tells.short (subst (λ v. TakesRecords v geometry.journal_sectors) (sym version)
+      (subst (λ (p : Geometry). TakesRecords point.saved.version p.journal_sectors) (sym placed)
+      point.room))
+
+  not_marked : HasOtherMark geometry disk → ⊥
+  not_marked tells =
+      let found = its_image tells.generation tells.version tells.bytes tells.named in
+      own_mark point.saved (subst (λ v. IsMarkedOtherwise v (image point.saved)) found.1
+      (subst (λ b. IsMarkedOtherwise tells.version b) found.2 tells.other))
+
+  not_at_odds : HasShortJournal geometry disk ⊎ HasOtherMark geometry disk → ⊥
+  not_at_odds (inl short) = not_short short
+  not_at_odds (inr marked) = not_marked marked
+
 -- what is told there is what was saved
-pub reads_newest : (geometry : Geometry) (disk : Image) (result : Result Snapshot ReadFault)
+pub reads_newest : (geometry : Geometry) (disk : Image) (result : Result NewestImage ReadFault)
     → TellsNewest geometry disk result → ReadsNewest geometry disk result
 reads_newest geometry disk (Ok s) tells =
     λ m config point records last at placed.
@@ -110,6 +194,9 @@ reads_newest geometry disk (Ok s) tells =
 reads_newest geometry disk (Err (read.Layout layout.Version)) tells =
     λ m config point records last at placed.
     not_another geometry disk m config point records last at placed tells
+reads_newest geometry disk (Err (read.Layout layout.Damaged)) tells =
+    λ m config point records last at placed.
+    not_at_odds geometry disk m config point records last at placed tells
 reads_newest geometry disk (Err (read.Snapshot snapshot.Damaged)) tells =
     λ m config point records last at placed.
     not_damaged geometry disk m config point records last at placed tells

@@ -4,6 +4,10 @@ use Rattle.std.proofs.Common.{ap}
 use Rattle.std.proofs.Common.{◌∙◌, sym, subst, arith}
 use Rattle.std.specs.Prelude.{Result, Ok, Err, IsErr}
 use Rattle.std.proofs.lemmas.Bool.{false≢true}
+use Rattle.wasi_abi.specs.declared.version.Version.{Version}
+use Rattle.wasi_abi.specs.rules.Versions.{version_number}
+use Rattle.process.specs.rules.Values.{ProcessValue}
+use Rattle.state_image.specs.rules.Saving.{saved_of}
 use Rattle.sector_disk.specs.rules.Medium.{Medium, After, Follows, LeavesOnly, CountsUpTo}
 use Rattle.sector_disk.proofs.CountLemmas.{counts_more}
 use Rattle.disk_layout.specs.declared.geometry.Geometry.{Geometry}
@@ -68,6 +72,14 @@ module _ {T U E F : Type 0} (geometry : Geometry) (writing : Writing) (count n g
       subst (λ k. MakesStoresAndHead (stores writing (area_place geometry k) count) k r old new)
       same
       (made.0, made.1, record { all = makes.all; begun = makes.begun })
+
+-- an image that was begun by a number is one of the version that has it, which is a process's
+pub begun_as : (v : Version) (number : ℕ) (process : ProcessValue) → number ≡ version_number v
+    → v ≡ process.host.host.version → (g : ℕ) (writing : Writing) (s : Snapshots)
+    → IsBegun g number writing s
+    → IsBegun g (version_number (saved_of process).version) writing s
+begun_as v number process numbered version g writing s begun =
+    subst (λ k. IsBegun g k writing s) (numbered ∙ ap version_number version) begun
 
 module _ (geometry : Geometry) (g v : ℕ) (writing : Writing) (bytes : List ℕ) (b w : Snapshots)
     (old mid : Medium) (begun : IsBegun g v writing b)

@@ -6,18 +6,17 @@ use Rattle.std.proofs.lemmas.List.{length-append}
 use Rattle.sector_disk.specs.rules.Image.{Image}
 use Rattle.sector_disk.specs.rules.Medium.{Medium, After, Follows, IsAllSynced, LeavesOnly}
 use Rattle.disk_layout.specs.declared.geometry.Geometry.{Geometry}
-use Rattle.disk_layout.specs.declared.head.TheConstants.{IMAGE_VERSION}
+use Rattle.wasi_abi.specs.rules.Versions.{version_number}
 use Rattle.disk_layout.specs.rules.Places.{total_sectors}
 use Rattle.disk_layout.specs.rules.Journal.{Record, record_bytes}
 use Rattle.journal.specs.rules.State.{JournalState, state}
 use Rattle.journal.specs.rules.Steps.{AppendsFront, RecordsStand, IsOn}
 use Rattle.snapshot.specs.rules.Steps.{Commits, Replaces}
 use Rattle.process.specs.rules.Values.{ProcessValue}
-use Rattle.state_image.specs.rules.Image.{image}
+use Rattle.state_image.specs.rules.Image.{Saved, image}
 use Rattle.state_image.specs.rules.Saving.{saved_of}
 use Rattle.disk_layout.specs.rules.Places.{geometry_of}
 use Rattle.wasm_syntax.specs.declared.module.Module.{Module}
-use Rattle.wasi_abi.specs.declared.version.Version.TheVariants.{One}
 use Rattle.wasi_abi.specs.rules.Configs.{Settings}
 use Rattle.restart_theorem.specs.Stands.{IsNumbered}
 use Rattle.worker_store.specs.laws.Commits.{BeginsAtPoint}
@@ -130,15 +129,15 @@ module _ {D : Type 0} (medium : D → Medium) where
   pub begun_stored : (m : Module) (config : Settings) (point : Savepoint m config)
       (store : WorkerStore)
       (new : D) (g : ℕ) → g ≡ point.generation → g < 2 ^ 63 → store.has_failed ≡ false
-      → store.geometry ≡ places point → store.journal ≡ state One g 0 [] false
+      → store.geometry ≡ places point → store.journal ≡ state point.saved.version g 0 [] false
       → total_sectors store.geometry ≤ (medium new).sectors → IsAllSynced (medium new)
       → LeavesAll (medium new) (BeginsAtPoint point) → IsNumbered point.process
       → IsStoreOf point store [] [] point.process point.process (medium new)
   begun_stored m config point store new g numbered early works placed e sectors settled begins
       numbers =
       let below : point.generation < 2 ^ 63 = subst (λ k. k < 2 ^ 63) numbered early in
-      let fresh : store.journal ≡ state One point.generation 0 [] false =
-      e ∙ ap (λ k. state One k 0 [] false) numbered in
+      let fresh : store.journal ≡ state point.saved.version point.generation 0 [] false =
+      e ∙ ap (λ k. state point.saved.version k 0 [] false) numbered in
       let none = ap (λ (j : JournalState). length j.kept) e in
       record {
         works = works;
@@ -157,7 +156,8 @@ module _ {D : Type 0} (medium : D → Medium) where
   module _ (before : WorkerStore) (process : ProcessValue) (old new : D) (n : ℕ)
       (counts : before.journal.generation < 2 ^ 63 → n ≡ before.journal.generation + 1) where
     pub commit_leaves : LeavesOnly (medium old) (medium new)
-        (After (Commits before.geometry n IMAGE_VERSION (image (saved_of process)))
+        (After (Commits before.geometry n (version_number (saved_of process).version)
+        (image (saved_of process)))
         (medium old).may_leave) → LeavesOneOfTwo before process (medium old) (medium new)
     commit_leaves leaves m config point next records pending last now is is_next saved =
         let journaled = is.journaled in
@@ -168,19 +168,21 @@ module _ {D : Type 0} (medium : D → Medium) where
         commit_at_any_moment medium m config point next records last old new journaled.stands
         is_next
         (subst (λ (g : Geometry). LeavesOnly (medium old) (medium new)
-        (After (Commits g next.generation IMAGE_VERSION (image next.saved))
+        (After (Commits g next.generation (version_number next.saved.version) (image next.saved))
         (medium old).may_leave)) is.geometry
         (subst (λ k. LeavesOnly (medium old) (medium new)
-        (After (Commits before.geometry k IMAGE_VERSION (image next.saved))
+        (After (Commits before.geometry k (version_number next.saved.version) (image next.saved))
         (medium old).may_leave)) same
         (subst (λ s. LeavesOnly (medium old) (medium new)
-        (After (Commits before.geometry n IMAGE_VERSION (image s))
+        (After (Commits before.geometry n (version_number s.version) (image s))
         (medium old).may_leave)) (sym saved) leaves)))
 
-    pub commit_stores : (after : WorkerStore) → after.journal ≡ state One n 0 [] false
+    pub commit_stores : (after : WorkerStore)
+        → after.journal ≡ state (saved_of process).version n 0 [] false
         → after.geometry ≡ before.geometry → after.has_failed ≡ false
         → (medium new).sectors ≡ (medium old).sectors
-        → Follows (Replaces before.geometry n IMAGE_VERSION (image (saved_of process)))
+        → Follows (Replaces before.geometry n (version_number (saved_of process).version)
+        (image (saved_of process)))
         (medium old).may_leave (medium new).may_leave
         → IsAllSynced (medium new) → n < 2 ^ 63
         → StoresNext before after process (medium old) (medium new)
@@ -196,69 +198,79 @@ module _ {D : Type 0} (medium : D → Medium) where
         let begins = commit_in_the_end medium m config point next records last old new
         journaled.stands is_next
         (subst (λ (g : Geometry).
-        Follows (Replaces g next.generation IMAGE_VERSION (image next.saved))
+        Follows (Replaces g next.generation (version_number next.saved.version) (image next.saved))
         (medium old).may_leave (medium new).may_leave) is.geometry
-        (subst (λ k. Follows (Replaces before.geometry k IMAGE_VERSION (image next.saved))
+        (subst (λ k. Follows (Replaces before.geometry k (version_number next.saved.version)
+        (image next.saved))
         (medium old).may_leave (medium new).may_leave) numbered
-        (subst (λ s. Follows (Replaces before.geometry n IMAGE_VERSION (image s))
+        (subst (λ s. Follows (Replaces before.geometry n (version_number s.version) (image s))
         (medium old).may_leave (medium new).may_leave) (sym saved) done))) in
         let room = is.sectors in
         let where_it_is = same ∙ is.geometry in
-        begun_stored m config next after new n numbered early works (where_it_is ∙ place) e
+        begun_stored m config next after new n numbered early works (where_it_is ∙ place)
+        (e ∙ ap (λ (s : Saved). state s.version n 0 [] false) (sym saved))
         (subst (λ (g : Geometry). total_sectors g ≤ (medium new).sectors) (sym where_it_is)
         (omega (arith, room, sectors))) settled begins is_next.numbers
 
   -- what a commit leaves of a disk that stands for a worker, and what it leaves after Ok
   module _ (geometry : Geometry) (g : ℕ) (process : ProcessValue) (old new : D) where
     pub reopening_leaves : LeavesOnly (medium old) (medium new)
-        (After (Commits geometry g IMAGE_VERSION (image (saved_of process)))
+        (After (Commits geometry g (version_number (saved_of process).version)
+        (image (saved_of process)))
         (medium old).may_leave) → LeavesBeforeOrNext geometry g process (medium old) (medium new)
     reopening_leaves leaves m config next kept n again all =
         commit_keeps_at_any_moment medium m config next kept n old new all
         (subst (λ (p : Geometry). LeavesOnly (medium old) (medium new)
-        (After (Commits p next.generation IMAGE_VERSION (image next.saved))
+        (After (Commits p next.generation (version_number next.saved.version) (image next.saved))
         (medium old).may_leave)) again.placed
         (subst (λ k. LeavesOnly (medium old) (medium new)
-        (After (Commits geometry k IMAGE_VERSION (image next.saved)) (medium old).may_leave))
+        (After (Commits geometry k (version_number next.saved.version)
+        (image next.saved)) (medium old).may_leave))
         (sym again.generation)
         (subst (λ s. LeavesOnly (medium old) (medium new)
-        (After (Commits geometry g IMAGE_VERSION (image s)) (medium old).may_leave))
+        (After (Commits geometry g (version_number s.version) (image s)) (medium old).may_leave))
         (sym again.saved) leaves)))
 
     pub reopening_leaves_point : LeavesOnly (medium old) (medium new)
-        (After (Commits geometry g IMAGE_VERSION (image (saved_of process)))
+        (After (Commits geometry g (version_number (saved_of process).version)
+        (image (saved_of process)))
         (medium old).may_leave) → LeavesPointOrNext geometry g process (medium old) (medium new)
     reopening_leaves_point leaves m config point next records last again comes all =
         let placed : geometry ≡ places point =
         again.placed ∙ ap (λ w. geometry_of config (length w)) comes.wasm in
         commit_at_any_moment medium m config point next records last old new all comes
         (subst (λ (p : Geometry). LeavesOnly (medium old) (medium new)
-        (After (Commits p next.generation IMAGE_VERSION (image next.saved))
+        (After (Commits p next.generation (version_number next.saved.version) (image next.saved))
         (medium old).may_leave)) placed
         (subst (λ k. LeavesOnly (medium old) (medium new)
-        (After (Commits geometry k IMAGE_VERSION (image next.saved)) (medium old).may_leave))
+        (After (Commits geometry k (version_number next.saved.version)
+        (image next.saved)) (medium old).may_leave))
         (sym again.generation)
         (subst (λ s. LeavesOnly (medium old) (medium new)
-        (After (Commits geometry g IMAGE_VERSION (image s)) (medium old).may_leave))
+        (After (Commits geometry g (version_number s.version) (image s)) (medium old).may_leave))
         (sym again.saved) leaves)))
 
-    pub reopening_stores : (store : WorkerStore) → store.journal ≡ state One g 0 [] false
+    pub reopening_stores : (store : WorkerStore)
+        → store.journal ≡ state (saved_of process).version g 0 [] false
         → store.geometry ≡ geometry → store.has_failed ≡ false
         → total_sectors geometry ≤ (medium new).sectors
-        → Follows (Replaces geometry g IMAGE_VERSION (image (saved_of process)))
+        → Follows (Replaces geometry g (version_number (saved_of process).version)
+        (image (saved_of process)))
         (medium old).may_leave (medium new).may_leave
         → IsAllSynced (medium new) → g < 2 ^ 63
         → StoresAgain geometry g process store (medium old) (medium new)
     reopening_stores store e same works sectors done settled early m config next kept n again all =
         let begins = commit_keeps_in_the_end medium m config next kept n old new all
         (subst (λ (p : Geometry).
-        Follows (Replaces p next.generation IMAGE_VERSION (image next.saved))
+        Follows (Replaces p next.generation (version_number next.saved.version) (image next.saved))
         (medium old).may_leave (medium new).may_leave) again.placed
-        (subst (λ k. Follows (Replaces geometry k IMAGE_VERSION (image next.saved))
+        (subst (λ k. Follows (Replaces geometry k (version_number next.saved.version)
+        (image next.saved))
         (medium old).may_leave (medium new).may_leave) (sym again.generation)
-        (subst (λ s. Follows (Replaces geometry g IMAGE_VERSION (image s))
+        (subst (λ s. Follows (Replaces geometry g (version_number s.version) (image s))
         (medium old).may_leave (medium new).may_leave) (sym again.saved) done))) in
         begun_stored m config next store new g (sym again.generation) early works
-        (same ∙ again.placed) e
+        (same ∙ again.placed)
+        (e ∙ ap (λ (s : Saved). state s.version g 0 [] false) (sym again.saved))
         (subst (λ (p : Geometry). total_sectors p ≤ (medium new).sectors) (sym same) sectors)
         settled begins again.numbers

@@ -2,3 +2,4 @@ pub mod rules
 pub mod laws
 pub mod Filling
 pub mod AreaSinks
+pub mod Judging

@@ -28,7 +28,7 @@ use process::Process;
 use sector_disk::Disk;
 use snapshot::Writing;
 use std::alloc::Global;
-use wasi_abi::{Config, Version};
+use wasi_abi::Config;
 
 /// Lays a disk out for a worker of this configuration and the bytes of this module, that begins as
 /// this process. A disk with too few sectors is refused before anything is written, and so is want
@@ -55,7 +55,8 @@ pub fn lay_out<D: Disk>(
     ensures durable { IfOk result (λ store. StoresFirst config.now wasm.now process.now store
         (D.medium disk.new)) }
     ensures begun { IfOk result (λ store.
-        store ≡ begun_store (geometry_of config.now (length wasm.now)) 1) }
+        store ≡ begun_store (geometry_of config.now (length wasm.now))
+        (saved_of process.now).version 1) }
     ensures calls { MakesCalls (creation_calls (geometry_of config.now (length wasm.now))
         (length (image (saved_of process.now)))) result (D.medium disk.old) (D.medium disk.new) }
     ensures too_small { (D.medium disk.old).sectors
@@ -83,7 +84,7 @@ pub fn lay_out<D: Disk>(
     lay_worker(disk, &geometry, config.as_slice(), wasm, process)?;
     Ok(WorkerStore {
         geometry,
-        journal: Journal::fresh(alloc, Version::One, 1),
+        journal: Journal::fresh(alloc, process.version(), 1),
         has_failed: false,
     })
 }

@@ -44,7 +44,7 @@ pub fn slices_ask_questions()
         → OtherAnswersBreak m config guest }
 {}
 
-/// Each way in which a slice or a checkpoint is over keeps what was promised.
+/// Each way in which a slice, or an act that saves, is over keeps what was promised.
 pub fn calls_end()
     ensures spent { (m : Module) (config : Settings) (guest : Guest)
         → SpentSlicesEnd m config guest }

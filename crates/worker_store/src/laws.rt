@@ -42,8 +42,9 @@ ghost use Rattle.worker_store.specs.laws.Raised.{MovedSyncsAreHeld};
 ghost use Rattle.worker_store.specs.laws.Raised.{ToldCarries, AskedCarries, EndedCarries};
 ghost use Rattle.worker_store.specs.laws.Raised.{MoreCarries, AppendCarries, CarriedIsReached};
 ghost use Rattle.worker_store.specs.laws.AtHand.{ShownIsSaved, ShownIsNumbered, NextIsAtHand};
-ghost use Rattle.worker_store.specs.laws.AtHand.{FirstIsAtHand};
-ghost use Rattle.worker_store.specs.laws.Acts.{CheckpointsSave, SavingEndsAlike};
+ghost use Rattle.worker_store.specs.laws.AtHand.{FirstIsAtHand, VersionStays};
+ghost use Rattle.worker_store.specs.laws.Acts.{CheckpointsSave, SavingEndsAlike, ActsMayFail};
+ghost use Rattle.worker_store.specs.laws.Acts.{UpgradesWiden, UpgradesSave};
 ghost use Rattle.worker_store.specs.laws.Saves.{SaveAtAnyMoment, SaveCarries, DoneSavesCarry};
 ghost use Rattle.worker_store.specs.laws.Saves.{FailedSavesCarry, EndsPromiseNoLess};
 ghost use Rattle.worker_store.specs.laws.Anew.{CreationOpens};
@@ -202,11 +203,13 @@ pub fn events_carry_promises<D: Disk>()
     ensures reached { CarriedIsReached D.medium }
 {}
 
-/// What is saved of the process at hand is each process that it shows. It is a savepoint of the
-/// next generation, and one that begins is a first savepoint.
+/// What is saved of the process at hand is each process that it shows, and of the version of the
+/// last savepoint where nothing else was kept. It is a savepoint of the next generation, and one
+/// that begins is a first savepoint.
 pub fn processes_are_savepoints()
     ensures saved { ShownIsSaved }
     ensures numbered { ShownIsNumbered }
+    ensures version { VersionStays }
     ensures next { NextIsAtHand }
     ensures first { FirstIsAtHand }
 {}
@@ -217,6 +220,9 @@ pub fn saves_carry_promises<D: Disk>()
     ensures moment { SaveAtAnyMoment D.medium }
     ensures carries { SaveCarries D.medium }
     ensures checkpoint { CheckpointsSave }
+    ensures upgrade { UpgradesSave }
+    ensures widening { UpgradesWiden }
+    ensures pleads { ActsMayFail }
     ensures alike { SavingEndsAlike }
     ensures done { DoneSavesCarry D.medium }
     ensures failed { FailedSavesCarry D.medium }

@@ -22,10 +22,11 @@
 //!   before any (`too_small`), and so is want of memory told (`memory`).
 //! - `read_worker`, `read_newest`, `read_records`: of a disk that stands at a savepoint they give
 //!   what it stands by (`gives`, `finds`, `scans`). Of any other one they give what stands there,
-//!   or tell what is wrong with it, the version of the newest head before its image (`tells`). They
-//!   only read (`reads`). That there is no worker is said by `read_worker` alone, only where a mark
-//!   of one is missing, and always there (`marks`, `own`). An error is that of the layer that has
-//!   found it, or of the disk, which has failed then (`cause`).
+//!   or tell what is wrong with it, in one order: the newest head, its version, the journal for that
+//!   version, the image, and its mark (`tells`). They only read (`reads`). That there is no worker
+//!   is said by `read_worker` alone, only where a mark of one is missing, and always there
+//!   (`marks`, `own`). An error is that of the layer that has found it, or of the disk, which has
+//!   failed then (`cause`).
 //! - `WorkerStore::reopen` commits the next generation on whatever stands for the worker. A cut at
 //!   any moment leaves what stands for the same answers, or the new snapshot (`any_moment`,
 //!   `durable`).
@@ -127,6 +128,7 @@ pub mod events;
 mod fault;
 mod filling;
 pub mod laws;
+mod newest;
 mod read_fault;
 mod reading;
 mod saving;
@@ -136,6 +138,7 @@ mod zeros;
 
 pub use creation::lay_out;
 pub use fault::StoreFault;
+pub use newest::NewestImage;
 pub use read_fault::ReadFault;
 pub use reading::{read_newest, read_records, read_worker};
 pub use store::WorkerStore;

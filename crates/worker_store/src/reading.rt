@@ -9,12 +9,15 @@ ghost use Rattle.worker_store.specs.rules.AnyDisk.{TellsContents, TellsNewest, T
 ghost use Rattle.worker_store.specs.rules.Readings.{ReadsContents, ReadsNewest, ReadsRecords};
 ghost use Rattle.worker_store.specs.rules.Readings.{DeniesWorker, TellsMarks};
 ghost use Rattle.worker_store.specs.rules.ReadFaults.{HasReadCause};
+ghost use Rattle.worker_store.specs.Judging.{JudgesMark};
 
+use crate::newest::NewestImage;
 use crate::read_fault::ReadFault;
-use disk_layout::{Contents, Geometry, IMAGE_VERSION, LayoutFault, Record, read_contents};
+use disk_layout::{Contents, Geometry, LayoutFault, Record, read_contents, takes_records};
 use journal::Journal;
 use sector_disk::Disk;
-use snapshot::{Snapshot, SnapshotFault, Snapshots};
+use snapshot::{SnapshotFault, Snapshots};
+use state_image::reading::is_marked_otherwise;
 use std::alloc::Global;
 use wasi_abi::Version;
 
@@ -37,15 +40,21 @@ pub fn read_worker<D: Disk>(alloc: Global, disk: &mut D) -> Result<Contents, Rea
     }
 }
 
-/// The newest snapshot of the worker: what its newest complete head names. It is `Damaged` where no
-/// head is complete. The version of that head is judged before its image: where it isn't known it
-/// is `Layout` with `Version`, and else `Damaged` where the area doesn't hold the image that the
-/// head names. It never says that there is no worker.
+/// The newest image of the worker: what its newest complete head names. What is wrong is found in
+/// this order:
+///
+/// - `Snapshot` with `Damaged` where no head is complete
+/// - `Layout` with `Version` where the version of the newest one isn't known
+/// - `Layout` with `Damaged` where the journal doesn't take the longest record of that version
+/// - `Snapshot` with `Damaged` where the area doesn't hold the image that the head names
+/// - `Layout` with `Damaged` where the image has the mark of another version than the head
+///
+/// It never says that there is no worker.
 pub fn read_newest<D: Disk>(
     alloc: Global,
     disk: &mut D,
     geometry: &Geometry,
-) -> Result<Snapshot, ReadFault>
+) -> Result<NewestImage, ReadFault>
     requires { total_sectors geometry.now ≤ (D.medium disk.old).sectors }
     ensures reads { OnlyReads (D.medium disk.old) (D.medium disk.new) }
     ensures tells { (image : Image) → (D.medium disk.new).shows image
@@ -65,37 +74,52 @@ pub fn read_newest<D: Disk>(
     let Some(head) = found else {
         return Err(ReadFault::Snapshot(SnapshotFault::Damaged));
     };
-    if head.version != IMAGE_VERSION {
+    let Some(version) = head.known_version() else {
         return Err(ReadFault::Layout(LayoutFault::Version));
+    };
+    if !takes_records(version, geometry.journal_sectors) {
+        return Err(ReadFault::Layout(LayoutFault::Damaged));
     }
     match snapshots.image_of(alloc, disk, geometry, &head) {
-        Ok(image) => Ok(Snapshot {
-            version: head.version,
-            generation: head.generation,
-            image,
-        }),
+        Ok(image) => judge_mark(version, head.generation, image),
         Err(fault) => Err(ReadFault::from(fault)),
     }
 }
 
-/// The records of a generation, in the order of their steps. It never says that there is no worker.
+/// The image of a head of this version, unless it has the mark of another one.
+fn judge_mark(version: Version, generation: u64, image: Vec<u8>) -> Result<NewestImage, ReadFault>
+    ensures { JudgesMark version generation image result }
+{
+    if is_marked_otherwise(version, image.as_slice()) {
+        return Err(ReadFault::Layout(LayoutFault::Damaged));
+    }
+    Ok(NewestImage {
+        version,
+        generation,
+        image,
+    })
+}
+
+/// The records of a generation, in the order of their steps. They are read as those of this
+/// version. It never says that there is no worker.
 pub fn read_records<D: Disk>(
     alloc: Global,
     disk: &mut D,
     geometry: &Geometry,
+    version: Version,
     generation: u64,
 ) -> Result<Vec<Record>, ReadFault>
     requires { total_sectors geometry.now ≤ (D.medium disk.old).sectors }
     ensures reads { OnlyReads (D.medium disk.old) (D.medium disk.new) }
     ensures scans { (image : Image) → (D.medium disk.new).shows image
-        → ReadsRecords geometry.now generation image result }
+        → ReadsRecords geometry.now version generation image result }
     ensures tells { (image : Image) → (D.medium disk.new).shows image
-        → TellsRecords geometry.now generation image result }
+        → TellsRecords geometry.now version generation image result }
     ensures own { DeniesWorker result → ⊥ }
     ensures cause { IfErr result (HasReadCause (D.medium disk.old) (D.medium disk.new)) }
     ensures asks { CallsUpTo geometry.now.journal_sectors (D.medium disk.old) (D.medium disk.new) }
 {
-    match Journal::scan(alloc, disk, geometry, Version::One, generation) {
+    match Journal::scan(alloc, disk, geometry, version, generation) {
         Ok(records) => Ok(records),
         Err(fault) => Err(ReadFault::from(fault)),
     }

@@ -6,7 +6,7 @@ ghost use Rattle.sector_disk.specs.declared.fault.DiskFault.{DiskFault};
 ghost use Rattle.sector_disk.specs.declared.sector.TheConstants.{SECTOR_SIZE};
 ghost use Rattle.sector_disk.specs.rules.Medium.{After, CallsUpTo, Follows, IsAllSynced};
 ghost use Rattle.sector_disk.specs.rules.Medium.{LeavesOnly, spare, CountsUpTo};
-ghost use Rattle.disk_layout.specs.declared.head.TheConstants.{IMAGE_VERSION};
+ghost use Rattle.wasi_abi.specs.rules.Versions.{version_number};
 ghost use Rattle.disk_layout.specs.rules.Places.{area_place, journal_place, rounded_up};
 ghost use Rattle.snapshot.specs.rules.Calls.{MakesStoresAndHead};
 ghost use Rattle.snapshot.specs.rules.Steps.{Commits, Replaces};
@@ -14,12 +14,13 @@ ghost use Rattle.state_image.specs.rules.Image.{image};
 ghost use Rattle.state_image.specs.rules.Saving.{saved_of};
 
 use crate::filling::fill_area;
-use disk_layout::{Geometry, IMAGE_VERSION};
+use disk_layout::Geometry;
 use process::Process;
 use sector_disk::Disk;
 use snapshot::{SnapshotFault, Snapshots, Writing};
 
 /// Pushes the image of a process into the area of a generation, syncs, writes its head, and syncs.
+/// The head has the version of the process.
 /// It fails where the image is longer than the area, for a generation of 2^63 or later, and where
 /// the disk does. It takes no memory.
 pub(crate) fn write_snapshot<D: Disk>(
@@ -33,12 +34,14 @@ pub(crate) fn write_snapshot<D: Disk>(
 
     // A cut at any moment leaves the newest snapshot that there was, or this one.
     ensures any_moment { LeavesOnly (D.medium disk.old) (D.medium disk.new)
-        (After (Commits geometry.now generation IMAGE_VERSION (image (saved_of process.now)))
+        (After (Commits geometry.now generation (version_number (saved_of process.now).version)
+        (image (saved_of process.now)))
         (D.medium disk.old).may_leave) }
 
     // Once it has answered Ok, each cut leaves this one.
     ensures done { OnOk result
-        (Follows (Replaces geometry.now generation IMAGE_VERSION (image (saved_of process.now)))
+        (Follows (Replaces geometry.now generation (version_number (saved_of process.now).version)
+        (image (saved_of process.now)))
         (D.medium disk.old).may_leave (D.medium disk.new).may_leave) }
     ensures settled { OnOk result (IsAllSynced (D.medium disk.new)) }
     ensures early { OnOk result (generation < NUMBERS_END) }
@@ -69,7 +72,7 @@ pub(crate) fn write_snapshot<D: Disk>(
         (D.medium disk.old) (D.medium disk.new) }
 {
     let mut snapshots = Snapshots::new();
-    snapshots.begin(generation, IMAGE_VERSION, writing)?;
+    snapshots.begin(generation, process.version().number(), writing)?;
     fill_area(disk, geometry, &mut snapshots, process)?;
     snapshots.finish(disk, geometry)
 }

@@ -2,7 +2,7 @@
 
 use crate::fault::StoreFault;
 use crate::saving::write_snapshot;
-use disk_layout::{Geometry, Record};
+use disk_layout::{Geometry, Record, takes_records};
 use journal::Journal;
 use process::Process;
 use sector_disk::Disk;
@@ -21,9 +21,9 @@ pub struct WorkerStore {
 
 impl WorkerStore {
     ghost use Rattle.std.specs.Prelude.{◌≡◌, ◌⊎◌, ◌+◌, ◌-◌, ◌<◌, ◌≤◌, [], false, true, IfErr, IfOk};
-    ghost use Rattle.std.specs.Prelude.{OnErr, OnOk, length};
-    ghost use Rattle.wasi_abi.specs.declared.version.Version.TheVariants.{One};
-    ghost use Rattle.disk_layout.specs.rules.Journal.{record_bytes};
+    ghost use Rattle.std.specs.Prelude.{◌↔◌, IsTrue, OnErr, OnOk, length};
+    ghost use Rattle.state_image.specs.rules.Saving.{saved_of};
+    ghost use Rattle.disk_layout.specs.rules.Journal.{record_bytes, TakesRecords};
     ghost use Rattle.disk_layout.specs.rules.Places.{total_sectors};
     ghost use Rattle.sector_disk.specs.rules.Image.{Image};
     ghost use Rattle.sector_disk.specs.rules.Medium.{CallsUpTo, IsAllSynced, MakesCalls, Passes};
@@ -41,7 +41,8 @@ impl WorkerStore {
 
     /// Opens the store of a worker that a recovery has brought back to this process, from the disk
     /// that stands for it. It is committed as this generation, one more than that of the newest
-    /// snapshot. Lines that wait in the process have been released by the caller.
+    /// snapshot, and in the version of the process. Lines that wait in the process have been
+    /// released by the caller.
     pub fn reopen<D: Disk>(
         alloc: Global,
         disk: &mut D,
@@ -64,7 +65,8 @@ impl WorkerStore {
         // Once it has answered Ok, each cut leaves this snapshot.
         ensures durable { IfOk result (λ store. StoresAgain geometry.now generation process.now
             store (D.medium disk.old) (D.medium disk.new)) }
-        ensures begun { IfOk result (λ store. store ≡ begun_store geometry.now generation) }
+        ensures begun { IfOk result (λ store.
+            store ≡ begun_store geometry.now (saved_of process.now).version generation) }
         ensures numbered { IfOk result (λ store. store.journal.generation ≡ generation) }
         ensures placed { IfOk result (λ store. store.geometry ≡ geometry.now) }
         ensures passes { Passes (D.medium disk.old) (D.medium disk.new) (λ _. Unit {0}) }
@@ -85,9 +87,16 @@ impl WorkerStore {
         }
         Ok(WorkerStore {
             geometry: *geometry,
-            journal: Journal::fresh(alloc, Version::One, generation),
+            journal: Journal::fresh(alloc, process.version(), generation),
             has_failed: false,
         })
+    }
+
+    /// The version of the records.
+    pub fn version(&self) -> Version
+        ensures { result ≡ self.now.journal.version }
+    {
+        self.journal.version()
     }
 
     /// The generation of the newest snapshot.
@@ -95,6 +104,13 @@ impl WorkerStore {
         ensures { result ≡ self.now.journal.generation }
     {
         self.journal.generation()
+    }
+
+    /// Whether its journal takes the longest record of this version.
+    pub fn takes_records(&self, version: Version) -> bool
+        ensures { IsTrue result ↔ TakesRecords version self.now.geometry.journal_sectors }
+    {
+        takes_records(version, self.geometry.journal_sectors)
     }
 
     /// How many more bytes of records there is room for, before the next commit.
@@ -209,9 +225,10 @@ impl WorkerStore {
         ensures numbered { OnOk result
             (self.new.journal.generation ≡ self.old.journal.generation + 1) }
         ensures fresh { OnOk result
-            (self.new.journal ≡ state One self.new.journal.generation 0 [] false) }
-        ensures begun { OnOk result (self.new
-            ≡ begun_store self.old.geometry (self.old.journal.generation + 1)) }
+            (self.new.journal ≡ state (saved_of process.now).version self.new.journal.generation 0
+            [] false) }
+        ensures begun { OnOk result (self.new ≡ begun_store self.old.geometry
+            (saved_of process.now).version (self.old.journal.generation + 1)) }
         ensures unchanged { OnErr result (self.new.journal ≡ self.old.journal) }
         ensures settled { OnOk result (IsAllSynced (D.medium disk.new)) }
         ensures passes { Passes (D.medium disk.old) (D.medium disk.new) (λ _. Unit {0}) }
@@ -234,7 +251,7 @@ impl WorkerStore {
             self.has_failed = true;
             return Err(StoreFault::from(fault));
         }
-        self.journal = Journal::fresh(alloc, Version::One, next);
+        self.journal = Journal::fresh(alloc, process.version(), next);
         Ok(())
     }
 }

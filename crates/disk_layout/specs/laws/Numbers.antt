@@ -6,7 +6,7 @@ use Rattle.disk_layout.specs.declared.superblock.TheConstants.{LAYOUT_AT, CONFIG
 use Rattle.disk_layout.specs.declared.superblock.TheConstants.{WASM_LENGTH_AT, MODULE_SECTORS_AT}
 use Rattle.disk_layout.specs.declared.superblock.TheConstants.{AREA_SECTORS_AT, JOURNAL_SECTORS_AT}
 use Rattle.disk_layout.specs.declared.superblock.TheConstants.{CONTENTS_DIGEST_AT, END_MARK_AT}
-use Rattle.disk_layout.specs.declared.head.TheConstants.{HEAD_MARK, VERSION_AT, IMAGE_VERSION}
+use Rattle.disk_layout.specs.declared.head.TheConstants.{HEAD_MARK, VERSION_AT}
 use Rattle.disk_layout.specs.declared.head.TheConstants.{IMAGE_LENGTH_AT, IMAGE_DIGEST_AT}
 use Rattle.disk_layout.specs.declared.head.TheConstants.{HEAD_STAMP_PLACE}
 use Rattle.disk_layout.specs.declared.stamp.TheConstants.{GENERATION_AT, PLACE_AT}
@@ -36,7 +36,6 @@ pub record LayoutNumbers : Type 0 where
   -- a head
   pub head_mark : HEAD_MARK ≡ codes "DWAREA.."
   pub version_at : VERSION_AT ≡ 8
-  pub image_version : IMAGE_VERSION ≡ 1
   pub image_length_at : IMAGE_LENGTH_AT ≡ 16
   pub image_digest_at : IMAGE_DIGEST_AT ≡ 24
   pub head_place : HEAD_STAMP_PLACE ≡ 1

@@ -1,12 +1,16 @@
 -- Worked examples of records, and of journals that are scanned.
-use Rattle.std.specs.Prelude.{◌≡◌, ℕ, List, [], ◌∷◌, ◌++◌, length, take, drop, Some, None}
+use Rattle.std.specs.Prelude.{◌≡◌, ◌≤◌, ◌*◌, ℕ, List, [], ◌∷◌, ◌++◌, length, take, drop, Some}
+use Rattle.std.specs.Prelude.{None}
 use Rattle.wasi_abi.specs.declared.answer.Answer.{Answer}
 use Rattle.wasi_abi.specs.declared.answer.Answer.TheVariants as answer
+use Rattle.wasi_abi.specs.declared.version.Version.{Version}
 use Rattle.wasi_abi.specs.declared.version.Version.TheVariants.{One, Two}
 use Rattle.sector_disk.specs.rules.Image.{Image}
 use Rattle.disk_layout.specs.rules.Places.{Geometry}
 use Rattle.disk_layout.specs.rules.Journal.{Record, record_bytes, record_at, answer_of}
 use Rattle.disk_layout.specs.rules.Journal.{journal_sector, payloads_from, scan}
+use Rattle.disk_layout.specs.rules.Journal.{longest_record, TakesRecords}
+use Rattle.disk_layout.specs.declared.journal_sectors.TheConstants.{PAYLOAD_SIZE}
 use Rattle.disk_layout.specs.laws.Examples.{hello_record}
 
 -- an answer that the step 258 took
@@ -70,8 +74,17 @@ pub record RecordExamples : Type 0 where
       → record_at Two (wide_front_of 1 0 0 1 ++ text) ≡ Some (at_258 (answer.Request text))
   pub too_long_in_two : (text : List ℕ) → length text ≡ 65537
       → record_at Two (wide_front_of 1 1 0 1 ++ text) ≡ None
+  -- 133 sectors take the longest record of version 2, and 132 don't
+  pub takes_wide : TakesRecords Two 133
+  pub too_few_for_wide : TakesRecords Two 132 → ⊥
 
 -- ---- journals
+
+-- A journal within the limits of a configuration, which takes the records of a version, has room
+-- for the longest one.
+abbrev pub JournalsHaveRoom : Type 0
+JournalsHaveRoom = (v : Version) (sectors : ℕ) → 64 ≤ sectors → TakesRecords v sectors
+    → longest_record v ≤ PAYLOAD_SIZE * sectors
 
 -- a disk without module and areas, with a journal of three sectors
 abbrev pub bare : Geometry

@@ -1,5 +1,6 @@
 -- Records of either version, and the sectors of the journal (this project's own).
-use Rattle.std.specs.Prelude.{ℕ, zero, suc, ◌+◌, ◌-◌, nat_le, nat_lt, ◌==◌, ◌&&◌, if◌then◌else◌}
+use Rattle.std.specs.Prelude.{ℕ, zero, suc, ◌+◌, ◌-◌, ◌*◌, ◌≤◌, nat_le, nat_lt, ◌==◌, ◌&&◌}
+use Rattle.std.specs.Prelude.{if◌then◌else◌}
 use Rattle.std.specs.Prelude.{Bool, true, false, List, [], ◌∷◌, ◌++◌, length, drop, Option, Some}
 use Rattle.std.specs.Prelude.{None, option_map}
 use Rattle.guest_memory.specs.rules.Bytes.{bytes_of, number_of, part}
@@ -7,6 +8,7 @@ use Rattle.disk_layout.specs.declared.record.Record.{Record as DeclaredRecord}
 use Rattle.wasi_abi.specs.declared.answer.Answer.{Answer}
 use Rattle.wasi_abi.specs.declared.answer.Answer.TheVariants as answer
 use Rattle.wasi_abi.specs.declared.version.Version.{Version}
+use Rattle.wasi_abi.specs.declared.version.Version.TheVariants.{One, Two}
 use Rattle.wasi_abi.specs.rules.Versions.{text_limit, length_bytes}
 use Rattle.wasi_abi.specs.rules.Layouts.{u16_bytes, u64_bytes, padding}
 use Rattle.sector_disk.specs.rules.Image.{Image, sector_at}
@@ -44,6 +46,12 @@ record_head_bytes v = PAYLOAD_LENGTH_AT + length_bytes v
 -- the most bytes of a record
 abbrev pub longest_record : Version → ℕ
 longest_record v = record_head_bytes v + text_limit v
+
+-- A journal of so many sectors takes the longest record of this version. Each one within the limits
+-- of a configuration takes those of version 1.
+abbrev pub TakesRecords : Version → ℕ → Type 0
+TakesRecords One sectors = Unit {0}
+TakesRecords Two sectors = longest_record Two ≤ PAYLOAD_SIZE * sectors
 
 -- kind, step, length of the payload, payload
 abbrev pub record_bytes : Version → Record → List ℕ

@@ -1,10 +1,12 @@
 -- The sectors with fields: the super and the heads, and what a sector shows (this project's own).
 -- Numbers are little-endian.
-use Rattle.std.specs.Prelude.{◌≡◌, ℕ, zero, suc, ◌+◌, ◌%◌, ◌<◌, ◌≤◌, ◌==◌, if◌then◌else◌, List, []}
-use Rattle.std.specs.Prelude.{◌++◌, length, take}
+use Rattle.std.specs.Prelude.{◌≡◌, ◌≢◌, ℕ, zero, suc, ◌+◌, ◌%◌, ◌<◌, ◌≤◌, ◌==◌, if◌then◌else◌}
+use Rattle.std.specs.Prelude.{List, [], ◌++◌, length, take, Option, Some, None}
 use Rattle.sha2.specs.Sha256.{sha256}
 use Rattle.guest_memory.specs.rules.Bytes.{number_of, part}
+use Rattle.wasi_abi.specs.declared.version.Version.{Version}
 use Rattle.wasi_abi.specs.rules.Configs.{Settings}
+use Rattle.wasi_abi.specs.rules.Versions.{version_number}
 use Rattle.disk_layout.specs.declared.stamp.Stamp.{Stamp as DeclaredStamp}
 use Rattle.disk_layout.specs.declared.head.Head.{Head as DeclaredHead}
 use Rattle.disk_layout.specs.declared.superblock.Super.{Super as DeclaredSuper}
@@ -129,6 +131,11 @@ head_of sector = record {
   digest = part sector IMAGE_DIGEST_AT 32;
   generation = number_of (part sector GENERATION_AT 8);
 }
+
+-- the version of this number, or nothing where there is none
+abbrev pub IsOfNumber : ℕ → Option Version → Type 0
+IsOfNumber number (Some version) = number ≡ version_number version
+IsOfNumber number None = (version : Version) → number ≢ version_number version
 
 -- A complete head. It begins with the mark, and its stamp names a head's place. Its generation,
 -- never 0, is odd or even as its area is.

@@ -3,7 +3,7 @@
 ghost use Rattle.std.specs.Prelude.{◌≤◌, IfOk, OnOk};
 ghost use Rattle.disk_layout.specs.rules.Places.{total_sectors};
 
-use crate::guests::{config_of, request};
+use crate::guests::{config_of, config_with, request};
 use crate::halt::Halt;
 use record_replay::{AnswerList, LineList, NumberedLine};
 use sector_disk::{Disk, DiskFault};
@@ -72,6 +72,22 @@ pub(crate) fn create_with<D: Disk>(
     ensures { IfOk result (λ w. total_sectors w.store.geometry ≤ (D.medium disk.new).sectors) }
 {
     let settings = config_of(alloc, pages)?;
+    match Worker::create(alloc, disk, guest, &settings) {
+        Ok(worker) => Ok(worker),
+        Err(fault) => Err(Halt::from(fault)),
+    }
+}
+
+/// A worker of this guest with one page and so many sectors of records, on this disk.
+pub(crate) fn create_long<D: Disk>(
+    alloc: Global,
+    disk: &mut D,
+    guest: &[u8],
+    journal: u64,
+) -> Result<Worker, Halt>
+    ensures { IfOk result (λ w. total_sectors w.store.geometry ≤ (D.medium disk.new).sectors) }
+{
+    let settings = config_with(alloc, 1, journal)?;
     match Worker::create(alloc, disk, guest, &settings) {
         Ok(worker) => Ok(worker),
         Err(fault) => Err(Halt::from(fault)),

@@ -6,13 +6,15 @@ use Rattle.wasm_syntax.specs.declared.module.Module.{Module}
 use Rattle.wasm_semantics.specs.Steps.{IsEnded}
 use Rattle.wasm_semantics.specs.Linking.{IsLinkable}
 use Rattle.wasi_abi.specs.rules.Configs.{Settings}
+use Rattle.wasi_abi.specs.rules.Versions.{widenings}
 use Rattle.wasi_calls_rules.specs.Hosts.{Line}
 use Rattle.wasi_calls_rules.specs.Lines.{lines_ended}
-use Rattle.wasi_calls.specs.rules.Held.{HeldHost, ShowsHost, held_released}
+use Rattle.wasi_calls.specs.rules.Held.{HeldHost, ShowsHost, held_released, held_widened}
 use Rattle.machine.specs.rules.Offers.{offer}
 use Rattle.machine.specs.rules.Values.{MachineValue, ShowsIn}
 use Rattle.process_rules.specs.Processes.{Ending, Exited, Trapped, ProcessState, Guest, AreCalls}
 use Rattle.process_rules.specs.Processes.{IsStart}
+use Rattle.process_rules.specs.Runs.{widened}
 use Rattle.process.specs.declared.stop.ProcessEnd.{ProcessEnd}
 use Rattle.process.specs.declared.stop.ProcessEnd.TheVariants as end
 
@@ -68,7 +70,7 @@ pub record IsProcess (v : ProcessValue) : Type 0 where
   pub process : ProcessState
   pub shows : ShowsProcess v guest process
   pub few_steps : v.steps < 2 ^ 63
-  pub few_answers : v.answers ≤ v.steps
+  pub few_answers : v.answers ≤ v.steps + widenings v.host.host.version
   pub few_requests : v.requests ≤ v.answers
   pub few_lines : v.host.released + length (lines_ended v.host.host).lines + 2 < 2 ^ 63
 
@@ -89,3 +91,9 @@ pub record HasReleased (count : ℕ) (old new : ProcessValue) : Type 0 where
   pub is : new ≡ record old { host = held_released count old.host }
   pub shows : (guest : Guest) (p : ProcessState) → ShowsProcess old guest p
       → ShowsProcess new guest p
+
+-- it was widened: that is an answer, and it shows what it showed, widened
+pub record HasWidened (old new : ProcessValue) : Type 0 where
+  pub is : new ≡ record old { host = held_widened old.host; answers = old.answers + 1 }
+  pub shows : (guest : Guest) (p : ProcessState) → ShowsProcess old guest p
+      → ShowsProcess new guest (widened p)

@@ -17,7 +17,7 @@ use Rattle.wasi_abi.specs.rules.Configs.{Settings}
 use Rattle.wasi_calls_rules.specs.Hosts.{Line}
 use Rattle.process_rules.specs.Processes.{ProcessState}
 use Rattle.process_rules.specs.Runs.{Kept, Given, Reaches, On, next_of}
-use Rattle.process_rules.specs.Behind.{AnswersBehindLine, IsLine, AnswersBehindSync}
+use Rattle.process_rules.specs.Behind.{IsNarrowTo, AnswersBehindLine, IsLine, AnswersBehindSync}
 
 -- ---- a module that syncs
 
@@ -96,7 +96,7 @@ pub record OneLine (config : Settings) (more : List Kept) : Type 0 where
   pub no_other : (i : ℕ) (line : Line) → IsLine syncing config (abc_and_more more) i line
       → (i ≡ 1) × (line ≡ abc_line)
 
--- the sync and the line of `syncing`
-pub record SyncingOwes (config : Settings) (more : List Kept) : Type 0 where
-  pub sync : OneSync config more
-  pub line : OneLine config more
+-- the sync and the line of `syncing`, where nothing kept widens it up to its end, at step 18
+abbrev pub SyncingOwes : Settings → Type 0
+SyncingOwes config =
+    (more : List Kept) → IsNarrowTo more 19 → OneSync config more × OneLine config more

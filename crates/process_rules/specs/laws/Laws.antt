@@ -1,6 +1,6 @@
 -- Laws of what a process reaches.
-use Rattle.std.specs.Prelude.{◌≡◌, ℕ, suc, ◌+◌, ◌<◌, ◌≤◌, ◌^◌, List, [], ◌++◌, length, Option, Some}
-use Rattle.std.specs.Prelude.{None}
+use Rattle.std.specs.Prelude.{◌≡◌, ℕ, suc, ◌+◌, ◌<◌, ◌≤◌, ◌^◌, List, [], ◌∷◌, ◌++◌, length, Option}
+use Rattle.std.specs.Prelude.{Some, None}
 use Rattle.wasm_syntax.specs.declared.types.FunctionType.{FunctionType}
 use Rattle.wasm_syntax.specs.declared.value.Trap.{Trap}
 use Rattle.wasm_syntax.specs.declared.module.Module.{Module}
@@ -17,10 +17,10 @@ use Rattle.wasi_abi.specs.rules.Answers.{AreBytes}
 use Rattle.wasi_calls_rules.specs.Hosts.{IsHost}
 use Rattle.wasi_calls_rules.specs.laws.Laws.{Emits, IsConfiguredAs, IsOfBytes}
 use Rattle.wasi_abi.specs.declared.version.Version.TheVariants.{One}
-use Rattle.wasi_abi.specs.rules.Versions.{text_limit}
+use Rattle.wasi_abi.specs.rules.Versions.{text_limit, widenings}
 use Rattle.process_rules.specs.Processes.{Ending, ProcessState, Guest, Exited, Trapped, over}
 use Rattle.process_rules.specs.Processes.{host_of}
-use Rattle.process_rules.specs.Runs.{Kept, Moves, Runs, Reaches}
+use Rattle.process_rules.specs.Runs.{Kept, Wider, widened, Moves, Runs, version_after, Reaches}
 use Rattle.process_rules.specs.Behind.{Syncs}
 use Rattle.process_rules.specs.Owing.{RunsQuietly}
 
@@ -60,6 +60,19 @@ RunsCount = (guest : Guest) (p q : ProcessState) (kept : List Kept) (n : ℕ) �
 abbrev pub RunsEmit : Type 0
 RunsEmit = (guest : Guest) (p q : ProcessState) (kept : List Kept) (n : ℕ) → Runs guest p kept n q
     → Emits p.host q.host
+
+-- Where kept answers widen a process, those before lead to version 1: so it is widened once.
+abbrev pub WidenedOnce : Type 0
+WidenedOnce =
+    (m : Module) (config : Settings) (front rest : List Kept) (n steps : ℕ) (p : ProcessState)
+    → Reaches m config (front ++ Wider steps ∷ rest) n p → version_after front ≡ One
+
+-- After the same steps the widened process is the other one but for the widening.
+abbrev pub WideningIsAll : Type 0
+WideningIsAll =
+    (guest : Guest) (p q r : ProcessState) (kept : List Kept) (n steps : ℕ)
+    → Runs guest p (kept ++ Wider steps ∷ []) n r → steps ≡ r.steps → Runs guest p kept n q
+    → r ≡ widened q
 
 -- ---- rules that ask the host for nothing
 
@@ -107,11 +120,11 @@ ReachedAreConfigured =
     (m : Module) (config : Settings) (kept : List Kept) (n : ℕ) (p : ProcessState)
     → Reaches m config kept n p → IsConfiguredAs (host_of config) p.host
 
--- It has the version in which it began.
+-- It has the version to which the kept answers lead.
 abbrev pub ReachedVersions : Type 0
 ReachedVersions =
     (m : Module) (config : Settings) (kept : List Kept) (n : ℕ) (p : ProcessState)
-    → Reaches m config kept n p → p.host.version ≡ One
+    → Reaches m config kept n p → p.host.version ≡ version_after kept
 
 -- At most one request's text and its newline wait to be read.
 abbrev pub ReachedInputIsShort : Type 0
@@ -143,10 +156,10 @@ ReachedHaveHosts =
 pub record HasCounted (kept : List Kept) (n : ℕ) (p : ProcessState) : Type 0 where
   pub steps : p.steps ≡ n
   pub answers : p.answers ≡ length kept
-  pub few_answers : p.answers ≤ p.steps
+  pub few_answers : p.answers ≤ p.steps + widenings p.host.version
   pub few_requests : p.requests ≤ p.answers
 
--- A reached process has counted its steps and its answers, one a step at most.
+-- A reached process has counted its steps and its answers: one a step at most, and its widening.
 abbrev pub ReachedAreCounted : Type 0
 ReachedAreCounted =
     (m : Module) (config : Settings) (kept : List Kept) (n : ℕ) (p : ProcessState)

@@ -4,12 +4,12 @@ use Rattle.std.specs.Prelude.{replicate, take}
 use Rattle.wasm_syntax.specs.declared.module.Module.{Module}
 use Rattle.wasm_syntax.specs.rules.Modules.{IsModule}
 use Rattle.wasi_abi.specs.declared.version.Version.TheVariants.{One}
-use Rattle.wasi_abi.specs.rules.Versions.{text_limit}
+use Rattle.wasi_abi.specs.rules.Versions.{version_number, text_limit}
 use Rattle.wasi_calls_rules.specs.declared.limits.TheConstants.{TEXT_BYTES}
 use Rattle.state_image.specs.rules.Image.{image}
 use Rattle.wasi_abi.specs.rules.Configs.{Settings}
 use Rattle.process_rules.specs.Processes.{ProcessState, Guest}
-use Rattle.process_rules.specs.Runs.{Kept, Runs, Reaches}
+use Rattle.process_rules.specs.Runs.{Kept, Runs, version_after, Reaches}
 use Rattle.sector_disk.specs.rules.Image.{Image}
 use Rattle.disk_layout.specs.rules.Places.{Geometry, geometry_of, journal_place, total_sectors}
 use Rattle.disk_layout.specs.rules.Sectors.{super_bytes, head_bytes, HasWorker, HoldsImage}
@@ -18,7 +18,6 @@ use Rattle.record_replay.specs.rules.Records.{Recorded, given_in}
 use Rattle.restart_theorem.specs.Stands.{ShowsNoneLater, IsNumbered, StandsFor, IsBlank}
 use Rattle.restart_theorem.specs.Holds.{IsBounded}
 use Rattle.sector_disk.specs.declared.sector.TheConstants.{SECTOR_SIZE}
-use Rattle.disk_layout.specs.declared.head.TheConstants.{IMAGE_VERSION}
 use Rattle.disk_layout.specs.declared.superblock.TheConstants.{END_MARK_AT}
 
 -- A disk stands only for what the module reaches on all the kept answers, in so many steps.
@@ -101,19 +100,27 @@ StandsWithin =
 abbrev pub BlankIsWithin : Type 0
 BlankIsWithin = (disk : Image) (latest sectors : ℕ) → IsBlank disk → IsBounded latest sectors disk
 
+-- The version in the newest head, of the image and of the records is the one to which the answers
+-- of the image lead: so it is 2 exactly where they have a widening.
+abbrev pub HeadsTellWidenings : Type 0
+HeadsTellWidenings =
+    (disk : Image) (m : Module) (config : Settings) (kept : List Kept) (n : ℕ)
+    → (stands : StandsFor disk m config kept n) → stands.saved.version ≡ version_after stands.front
+
 -- What a disk stands by, with its numbers. It is the module that its bytes spell, at most 2 MiB of
--- them, and an image and records of version 1. The kept answers are those of the image and of the
--- records. A worker has between 1 and 256 pages, and fewer than 2 ^ 63 steps.
+-- them, and an image and records of the version to which the answers of the image lead. The kept
+-- answers are those of the image and of the records. A worker has between 1 and 256 pages, and
+-- fewer than 2 ^ 63 steps.
 pub record StandsBy (disk : Image) (m : Module) (config : Settings) (kept : List Kept) (n : ℕ)
     (stands : StandsFor disk m config kept n) : Type 0 where
   pub spelled : IsModule stands.wasm m
   pub size : length stands.wasm ≤ 2 ^ 21
   pub pages : (1 ≤ config.pages) × (config.pages ≤ 256)
   pub worker : HasWorker config stands.wasm disk
-  pub image : HoldsImage (geometry_of config (length stands.wasm)) disk stands.generation 1
-      (image stands.saved)
-  pub records : stands.records
-      ≡ scan (geometry_of config (length stands.wasm)) One disk stands.generation
+  pub image : HoldsImage (geometry_of config (length stands.wasm)) disk stands.generation
+      (version_number (version_after stands.front)) (image stands.saved)
+  pub records : stands.records ≡ scan (geometry_of config (length stands.wasm))
+      (version_after stands.front) disk stands.generation
   pub kept_answers : kept ≡ stands.front ++ map given_in stands.records
   pub steps : n < 2 ^ 63
 
@@ -130,7 +137,7 @@ tiny = record { config = 0; wasm = 0; module_sectors = 0; area_sectors = 0; jour
 
 abbrev pub head_of_generation : ℕ → List ℕ
 head_of_generation g = head_bytes (record {
-  version = IMAGE_VERSION;
+  version = 1;
   length_in_bytes = 0;
   digest = replicate 32 0;
   generation = g;

@@ -2,14 +2,17 @@
 -- event. The power is cut after the first line was told, and before its record of the steps behind
 -- it.
 use Rattle.std.specs.Prelude.{◌≡◌, ℕ, true, false, List, [], ◌∷◌, codes, Some, None, Ok}
+use Rattle.wasi_abi.specs.declared.version.Version.TheVariants.{One, Two}
 use Rattle.wasi_abi.specs.declared.answer.Kind.TheVariants as kind
 use Rattle.wasi_abi.specs.declared.answer.Answer.{Answer}
 use Rattle.wasi_abi.specs.declared.answer.Answer.TheVariants as answer
-use Rattle.process_rules.specs.Runs.{Given}
+use Rattle.process_rules.specs.Processes.{Exited}
+use Rattle.process_rules.specs.Runs.{Given, Wider}
 use Rattle.state_image.specs.rules.Image.{Saved}
-use Rattle.restart_theorem.specs.Lives.{Slice, Checkpoint, Inputs, Release, OfDisk, OfOutlet}
-use Rattle.restart_theorem.specs.Lives.{OfMemory}
-use Rattle.restart_theorem.specs.Lives.{OfSource, Spent, Done, Fails, Event, Told, Asked, Opened}
+use Rattle.restart_theorem.specs.Lives.{Slice, Checkpoint, Upgrade, Inputs, Release, OfDisk}
+use Rattle.restart_theorem.specs.Lives.{OfMemory, OfOutlet, Over}
+use Rattle.restart_theorem.specs.Lives.{OfSource, Reply, Spent, Done, Fails, Event, Told, Asked}
+use Rattle.restart_theorem.specs.Lives.{Opened}
 use Rattle.restart_theorem.specs.Lives.{Ended}
 use Rattle.restart_theorem.specs.Lives.{Recovers, Creates, Finished, Stopped, Failed, Life}
 use Rattle.restart_theorem.specs.Lives.{kept_after, kept_answers, told_lines}
@@ -22,6 +25,7 @@ use Rattle.restart_theorem.specs.Promises.{Promise, nothing_yet, promised}
 -- what a process shows that has come to so many steps and lines; the rest counts for nothing here
 abbrev pub saved_at : ℕ → ℕ → Saved
 saved_at steps lines = record {
+  version = One;
   machine = record { frames = []; globals = []; memory = []; later = [] };
   files = record { nodes = []; next = 2 };
   descriptors = [];
@@ -74,6 +78,10 @@ abbrev pub shortened : List Event
 shortened = hands_over (answer.Realtime 7) ∷ hands_over (answer.Realtime 8)
     ∷ hands_over (answer.Realtime 9) ∷ Opened 2 (saved_at 5 0) ∷ []
 
+-- an upgrade ends with a process of version 2, after 20 steps
+abbrev pub upgrade_ended : Reply → Event
+upgrade_ended reply = Ended Upgrade reply 2 (record (saved_at 20 1) { version = Two; answers = 2 })
+
 pub record LivesExamples : Type 0 where
   pub kept : kept_answers (first_life ∷ second_life ∷ [])
       ≡ Given (answer.Request (codes "hello")) ∷ []
@@ -84,6 +92,23 @@ pub record LivesExamples : Type 0 where
   -- an answer that doesn't fit isn't kept, and none and a fault are nothing to keep
   pub misfit : kept_after [] (Asked 5 kind.Request (Ok (Some (answer.Realtime 7))) false ∷ []) ≡ []
   pub none_there : kept_after [] (Asked 5 kind.Request (Ok None) true ∷ []) ≡ []
+  -- What is kept where an upgrade ends: that the process was widened which it shows, once, also
+  -- where the upgrade has failed. A process that stays in version 1 was not.
+  pub widened : kept_after [] (hello_request ∷ upgrade_ended Done ∷ [])
+      ≡ Given (answer.Request (codes "hello")) ∷ Wider 20 ∷ []
+  pub widened_once : kept_after [] (hello_request ∷ upgrade_ended Done ∷ upgrade_ended Done ∷ [])
+      ≡ Given (answer.Request (codes "hello")) ∷ Wider 20 ∷ []
+  pub widened_in_vain : kept_after [] (hello_request ∷ upgrade_ended (Fails OfDisk) ∷ [])
+      ≡ Given (answer.Request (codes "hello")) ∷ Wider 20 ∷ []
+  pub not_widened : kept_after [] (hello_request
+      ∷ Ended Upgrade (Fails OfDisk) 1 (saved_at 20 1) ∷ [])
+      ≡ Given (answer.Request (codes "hello")) ∷ []
+  -- nor does a checkpoint widen it
+  pub saved_alone : kept_after [] (hello_request
+      ∷ Ended Checkpoint Done 2 (record (saved_at 20 1) { version = Two }) ∷ [])
+      ≡ Given (answer.Request (codes "hello")) ∷ []
+  pub narrow_again : kept_after [] (hello_request ∷ upgrade_ended (Fails OfDisk)
+      ∷ Opened 1 (saved_at 6 0) ∷ []) ≡ Given (answer.Request (codes "hello")) ∷ []
 
 -- ---- promises
 
@@ -122,6 +147,15 @@ pub record PromiseExamples : Type 0 where
       ≡ promise_of 0 0 0 19 3
   pub after_a_checkpoint : promised_to
       (once_asked (Ended Checkpoint Done 1 (saved_at 20 1) ∷ [])) ≡ promise_of 1 20 1 20 3
+  -- an upgrade that is done holds as much as a checkpoint, and the widening
+  pub after_an_upgrade : promised_to (once_asked (upgrade_ended Done ∷ []))
+      ≡ record (promise_of 2 20 1 20 3) {
+        kept = Given (answer.Request (codes "hello")) ∷ Wider 20 ∷ [];
+      }
+  pub after_a_failed_upgrade : promised_to (once_asked (upgrade_ended (Fails OfDisk) ∷ []))
+      ≡ record (promise_of 0 0 0 19 3) {
+        kept = Given (answer.Request (codes "hello")) ∷ Wider 20 ∷ [];
+      }
   pub after_another_slice : promised_to
       (once_asked (Ended Checkpoint Done 1 (saved_at 20 1)
       ∷ Ended (Slice 10) Spent 1 (saved_at 30 2) ∷ [])) ≡ promise_of 1 20 1 30 4
@@ -182,14 +216,25 @@ pub record CourseExamples : Type 0 where
         acts = [];
         step = 20;
         line = Some 1;
+        is_abreast = true;
       }
   -- lines of a slice from step 3 on, with fuel for 20 steps, and questions of it
   pub told_within : IsToldIn Open (Slice 20 ∷ []) 3 23
   pub told_beyond : IsToldIn Open (Slice 20 ∷ []) 3 24 → ⊥
   pub told_before : IsToldIn Open (Slice 20 ∷ []) 3 2 → ⊥
   pub told_by_a_checkpoint : IsToldIn Open (Checkpoint ∷ []) 3 3 → ⊥
+  pub told_by_an_upgrade : IsToldIn Open (Upgrade ∷ []) 3 3 → ⊥
   pub asked_within : IsAskedIn Open (Slice 20 ∷ []) 3 22
   pub asked_without_fuel : IsAskedIn Open (Slice 20 ∷ []) 3 23 → ⊥
+  -- a life is abreast once it has asked, or ended; where it opens again it isn't
+  pub abreast_at_a_question : (stage_behind
+      (Opened 0 (saved_at 0 0) ∷ Asked 5 kind.Request (Ok None) true ∷ [])).is_abreast ≡ true
+  pub abreast_at_the_end : (stage_behind (Opened 0 (saved_at 0 0)
+      ∷ Ended (Slice 20) (Over (Exited 7)) 0 (saved_at 8 1) ∷ [])).is_abreast ≡ true
+  pub not_abreast_after_a_slice : (stage_behind (Opened 0 (saved_at 0 0)
+      ∷ Ended (Slice 20) Spent 0 (saved_at 20 0) ∷ [])).is_abreast ≡ false
+  pub not_abreast_when_opened : (stage_behind (Opened 0 (saved_at 0 0) ∷ hello_request
+      ∷ Opened 1 (saved_at 6 0) ∷ [])).is_abreast ≡ false
   -- how lives end, whose stop was to come at their eighth call of the disk
   pub stopped : MayEnd some_inputs 0 8 (at_first some_inputs) Stopped
   pub stopped_too_early : MayEnd some_inputs 0 7 (at_first some_inputs) Stopped → ⊥

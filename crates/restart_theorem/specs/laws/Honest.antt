@@ -8,13 +8,16 @@ use Rattle.wasi_abi.specs.declared.answer.Kind.{Kind}
 use Rattle.wasi_abi.specs.declared.answer.Answer.{Answer}
 use Rattle.wasi_abi.specs.rules.Answers.{Fits}
 use Rattle.wasi_abi.specs.rules.Configs.{Settings}
+use Rattle.wasi_abi.specs.declared.version.Version.TheVariants.{Two}
 use Rattle.wasi_abi.specs.rules.Versions.{text_limit}
 use Rattle.wasi_calls_rules.specs.Hosts.{Line}
 use Rattle.process_rules.specs.Processes.{ProcessState}
-use Rattle.process_rules.specs.Runs.{Kept, Given, Wants, next_of, Reaches}
+use Rattle.process_rules.specs.Runs.{Kept, Given, Wider, Wants, next_of, Reaches}
+use Rattle.disk_layout.specs.rules.Journal.{TakesRecords}
 use Rattle.state_image.specs.rules.Image.{Saved}
-use Rattle.restart_theorem.specs.Lives.{Slice, Checkpoint, SourceSaid, Inputs, Release, OfOutlet}
-use Rattle.restart_theorem.specs.Lives.{OfMemory, Spent, Waits, Done, Fails, Event, Told, Asked}
+use Rattle.restart_theorem.specs.Lives.{Slice, Checkpoint, Upgrade, SourceSaid, Inputs, Release}
+use Rattle.restart_theorem.specs.Lives.{OfDisk, OfOutlet, OfMemory, Spent, Waits, Done, Fails}
+use Rattle.restart_theorem.specs.Lives.{Event, Told, Asked}
 use Rattle.restart_theorem.specs.Lives.{Opened}
 use Rattle.restart_theorem.specs.Lives.{Ended, Finished, Stopped, Failed, Life}
 use Rattle.restart_theorem.specs.Promises.{IsAt, GoesOn}
@@ -152,3 +155,57 @@ module _ {m : Module} {config : Settings} (t : Teller m config) where
     pub told_again : GoesOn m config
         (record slice_42 { takes = false ∷ [] } ∷ in_peace [] (Slice 22 ∷ []) ∷ [])
         (refused_life ∷ telling_life ∷ [])
+
+-- ---- upgrades
+
+-- what it shows in version 2, after 20 steps and one line
+abbrev pub as_upgraded : Saved → Saved
+as_upgraded s = record s { version = Two; steps = 20; lines = 1 }
+
+-- Such a module may be upgraded after 20 steps, which have emitted its first line. Its journal
+-- takes each record of version 2.
+pub record Upgraded {m : Module} {config : Settings} (t : Teller m config) : Type 0 where
+  pub resting : ShowsAt m config (Given t.hello ∷ []) 20 1
+  pub told : t.has_first.steps ≤ 20
+  pub wide : Saved
+  pub at : IsAt m config (Given t.hello ∷ Wider 20 ∷ []) 20 (as_upgraded wide)
+  pub room : TakesRecords Two config.journal
+
+module _ {m : Module} {config : Settings} (t : Teller m config) (u : Upgraded t) where
+  -- a slice of 20 steps, and what comes then
+  abbrev pub one_told : List Event → List Event
+  one_told more = Opened 0 t.fresh.saved ∷ asked_first t ∷ Told (line_one t) true
+      ∷ Ended (Slice 20) Spent 1 u.resting.saved ∷ more
+
+  -- it is upgraded then
+  abbrev pub upgraded_life : Life
+  upgraded_life =
+      created_life (one_told (Ended Upgrade Done 2 (as_upgraded u.wide) ∷ [])) 60 Finished
+
+  -- the power is cut in the upgrade
+  abbrev pub cut_upgrade : Life
+  cut_upgrade =
+      created_life (one_told (Ended Upgrade (Fails OfDisk) 2 (as_upgraded u.wide) ∷ [])) 50 Stopped
+
+  -- A restart finds it in version 2, with the widening among the answers.
+  abbrev pub wide_life : Life
+  wide_life = recovered_life (Opened 2 (as_upgraded u.wide) ∷ []) 30 Finished
+
+  -- One that finds nothing of the upgrade opens where the answer was taken.
+  abbrev pub narrow_life : Life
+  narrow_life = recovered_life (Opened 1 t.answered.saved ∷ []) 30 Finished
+
+  abbrev pub upgrade_at_20 : Inputs
+  upgrade_at_20 = in_peace (Ok (Some t.hello) ∷ []) (Slice 20 ∷ Upgrade ∷ [])
+
+  pub record HonestUpgrades : Type 0 where
+    -- an upgrade, a cut, and two restarts in version 2
+    pub done : GoesOn m config (upgrade_at_20 ∷ nothing_to_do t ∷ nothing_to_do t ∷ [])
+        (upgraded_life ∷ wide_life ∷ wide_life ∷ [])
+    -- a cut in the upgrade, before its head is on the disk or after it
+    pub not_begun : GoesOn m config
+        (record upgrade_at_20 { stop = Some 50 } ∷ nothing_to_do t ∷ [])
+        (cut_upgrade ∷ narrow_life ∷ [])
+    pub begun : GoesOn m config
+        (record upgrade_at_20 { stop = Some 50 } ∷ nothing_to_do t ∷ nothing_to_do t ∷ [])
+        (cut_upgrade ∷ wide_life ∷ wide_life ∷ [])

@@ -4,17 +4,24 @@ use Rattle.std.specs.Prelude.{length, Some, None, Ok}
 use Rattle.wasm_syntax.specs.declared.module.Module.{Module}
 use Rattle.wasm_semantics.specs.Validity.{IsValid}
 use Rattle.wasi_abi.specs.declared.answer.Kind.{Kind}
+use Rattle.wasi_abi.specs.declared.answer.Kind.TheVariants as kind
 use Rattle.wasi_abi.specs.declared.answer.Answer.{Answer}
+use Rattle.wasi_abi.specs.declared.answer.Answer.TheVariants as answer
+use Rattle.wasi_abi.specs.declared.version.Version.TheVariants.{One, Two}
+use Rattle.wasi_abi.specs.rules.Answers.{IsRequestText}
 use Rattle.wasi_abi.specs.rules.Configs.{Settings}
 use Rattle.wasi_calls_rules.specs.Hosts.{Line}
 use Rattle.process_rules.specs.Processes.{ProcessState}
-use Rattle.process_rules.specs.Runs.{Given, Reaches}
+use Rattle.process_rules.specs.Runs.{Given, version_after, Reaches}
 use Rattle.process_rules.specs.Behind.{AnswersBehindSync}
 use Rattle.state_image.specs.rules.Image.{Saved}
-use Rattle.restart_theorem.specs.Lives.{Act, Slice, Checkpoint, SourceSaid, Inputs, Release, Cause}
+use Rattle.restart_theorem.specs.Lives.{Act, Slice, Checkpoint, Upgrade, SourceSaid, Inputs}
+use Rattle.restart_theorem.specs.Lives.{Release, Cause, OfJournal, OfLines}
 use Rattle.restart_theorem.specs.Lives.{OfDisk, OfSource, OfAnswer, OfOutlet, OfMemory, Reply}
-use Rattle.restart_theorem.specs.Lives.{Spent, Waits, Done, Fails, Event, Told, Asked, Opened, Ended}
+use Rattle.restart_theorem.specs.Lives.{Spent, Waits, Done, Fails, Event, Told, Asked, Opened}
+use Rattle.restart_theorem.specs.Lives.{Ended}
 use Rattle.restart_theorem.specs.Lives.{Beginning, Recovers, Creates, End, Stopped, Failed, Life}
+use Rattle.restart_theorem.specs.Lives.{kept_by_end}
 use Rattle.restart_theorem.specs.Courses.{Stage, Shut, Open, Closed}
 use Rattle.restart_theorem.specs.Promises.{Promise, nothing_yet, as_begun, fuel_of, IsKept, GoesOn}
 
@@ -43,8 +50,13 @@ first_line text = record { number = 1; line = record { stream = 1; text = text }
 -- errors that come from the outside of a worker, and not from its disk or memory
 pub data IsFromOutside : Cause → Type 0 where
   source : IsFromOutside OfSource
-  answer : IsFromOutside OfAnswer
+  misfit : IsFromOutside OfAnswer
   outlet : IsFromOutside OfOutlet
+
+-- errors that an upgrade alone may answer
+pub data IsOfUpgrades : Cause → Type 0 where
+  journal : IsOfUpgrades OfJournal
+  lines : IsOfUpgrades OfLines
 
 -- ---- events
 
@@ -79,8 +91,8 @@ pub record RefusedEvents (m : Module) (config : Settings) (so_far : Promise) (st
       → IsKept m config so_far stage (Told r is_taken) → ⊥
   pub tells_a_saved_line : (r : Release) (is_taken : Bool) → r.number ≤ so_far.passed
       → IsKept m config so_far stage (Told r is_taken) → ⊥
-  pub ends_with_more_than_was_kept : (act : Act) (reply : Reply) (held : ℕ) (shown : Saved)
-      → length so_far.kept < held
+  pub ends_with_more_than_is_kept : (act : Act) (reply : Reply) (held : ℕ) (shown : Saved)
+      → length (kept_by_end act shown so_far.kept) < held
       → IsKept m config so_far stage (Ended act reply held shown) → ⊥
   pub takes_back_a_step : (act : Act) (reply : Reply) (held : ℕ) (shown : Saved)
       → shown.steps < stage.step
@@ -99,6 +111,66 @@ pub record RefusedEvents (m : Module) (config : Settings) (so_far : Promise) (st
   pub fails_without_a_cause : (act : Act) (cause : Cause) (held : ℕ) (shown : Saved)
       → stage.phase ≡ Open → IsFromOutside cause
       → IsKept m config so_far stage (Ended act (Fails cause) held shown) → ⊥
+
+-- Upgrades that nobody wants, and what else may not be of version 2.
+pub record RefusedUpgrades (m : Module) (config : Settings) (so_far : Promise) (stage : Stage)
+    : Type 0 where
+  -- one that is done, and shows version 1, or has left an answer behind
+  pub stays_in_version_1 : (held : ℕ) (shown : Saved) → shown.version ≡ One
+      → IsKept m config so_far stage (Ended Upgrade Done held shown) → ⊥
+  pub leaves_an_answer : (held : ℕ) (shown : Saved) → held < length so_far.kept
+      → IsKept m config so_far stage (Ended Upgrade Done held shown) → ⊥
+  -- one that takes a step, tells a line or asks
+  pub takes_a_step : (reply : Reply) (held : ℕ) (shown : Saved) → stage.step < shown.steps
+      → IsKept m config so_far stage (Ended Upgrade reply held shown) → ⊥
+  pub tells_a_line : (acts : List Act) (r : Release) (is_taken : Bool) → stage.phase ≡ Open
+      → stage.acts ≡ Upgrade ∷ acts → IsKept m config so_far stage (Told r is_taken) → ⊥
+  pub asks : (acts : List Act) (steps : ℕ) (kind : Kind) (said : SourceSaid) (fits : Bool)
+      → stage.phase ≡ Open → stage.acts ≡ Upgrade ∷ acts
+      → IsKept m config so_far stage (Asked steps kind said fits) → ⊥
+  -- one that widens the process before a line that was told, or before a sync that has returned
+  pub widens_before_a_line : (reply : Reply) (held : ℕ) (shown : Saved)
+      → version_after so_far.kept ≡ One → shown.version ≡ Two → shown.lines < so_far.begun
+      → IsKept m config so_far stage (Ended Upgrade reply held shown) → ⊥
+  pub widens_before_a_sync : (reply : Reply) (held : ℕ) (shown : Saved)
+      → version_after so_far.kept ≡ One → shown.version ≡ Two → shown.steps < so_far.synced
+      → IsKept m config so_far stage (Ended Upgrade reply held shown) → ⊥
+  -- one that widens it over a journal of 132 sectors
+  pub widens_with_132_sectors : (reply : Reply) (held : ℕ) (shown : Saved)
+      → version_after so_far.kept ≡ One → shown.version ≡ Two → config.journal ≤ 132
+      → IsKept m config so_far stage (Ended Upgrade reply held shown) → ⊥
+  -- one that widens it a second time
+  pub widens_twice : (reply : Reply) (held : ℕ) (shown : Saved)
+      → version_after so_far.kept ≡ Two → length so_far.kept < held
+      → IsKept m config so_far stage (Ended Upgrade reply held shown) → ⊥
+  -- one that says that 133 sectors are too few for version 2
+  pub pleads_133_sectors : (held : ℕ) (shown : Saved) → 133 ≤ config.journal
+      → IsKept m config so_far stage (Ended Upgrade (Fails OfJournal) held shown) → ⊥
+  -- one that speaks of lines beyond it where there are none, or of a worker of version 2
+  pub pleads_lines_abreast : (held : ℕ) (shown : Saved) → stage.is_abreast ≡ true
+      → IsKept m config so_far stage (Ended Upgrade (Fails OfLines) held shown) → ⊥
+  pub pleads_lines_in_version_2 : (held : ℕ) (shown : Saved) → version_after so_far.kept ≡ Two
+      → IsKept m config so_far stage (Ended Upgrade (Fails OfLines) held shown) → ⊥
+  -- a slice or a checkpoint that fails as an upgrade does
+  pub slice_pleads : (fuel : ℕ) (cause : Cause) (held : ℕ) (shown : Saved) → stage.phase ≡ Open
+      → IsOfUpgrades cause
+      → IsKept m config so_far stage (Ended (Slice fuel) (Fails cause) held shown) → ⊥
+  pub checkpoint_pleads : (cause : Cause) (held : ℕ) (shown : Saved) → stage.phase ≡ Open
+      → IsOfUpgrades cause
+      → IsKept m config so_far stage (Ended Checkpoint (Fails cause) held shown) → ⊥
+  -- an opening, a slice or a checkpoint that shows version 2, which was not kept
+  pub opening_widens : (held : ℕ) (shown : Saved) → version_after so_far.kept ≡ One
+      → shown.version ≡ Two → IsKept m config so_far stage (Opened held shown) → ⊥
+  pub slice_widens : (fuel : ℕ) (reply : Reply) (held : ℕ) (shown : Saved)
+      → version_after so_far.kept ≡ One → shown.version ≡ Two
+      → IsKept m config so_far stage (Ended (Slice fuel) reply held shown) → ⊥
+  pub checkpoint_widens : (reply : Reply) (held : ℕ) (shown : Saved)
+      → version_after so_far.kept ≡ One → shown.version ≡ Two
+      → IsKept m config so_far stage (Ended Checkpoint reply held shown) → ⊥
+  -- a question in version 2 that refuses a text within its limit
+  pub refuses_a_long_text : (steps : ℕ) (text : List ℕ) → version_after so_far.kept ≡ Two
+      → IsRequestText 65536 text → IsKept m config so_far stage
+      (Asked steps kind.Request (Ok (Some (answer.Request text))) false) → ⊥
 
 -- ---- lives
 
@@ -211,3 +283,38 @@ pub record RefusedWorkers (m : Module) (config : Settings) : Type 0 where
       (ends : End) (rest : List Event)
       → GoesOn m config (inputs ∷ [])
       (created_life (Told r is_taken ∷ rest) calls ends ∷ []) → ⊥
+
+-- Whole lives with upgrades that nobody wants.
+pub record RefusedUpgraders (m : Module) (config : Settings) : Type 0 where
+  -- one that was done, after which a life opens in version 1
+  pub keeps_nothing : (i j : Inputs) (held less calls more : ℕ) (ends others : End)
+      (first last second : Saved) (rest : List Event) → second.version ≡ One
+      → GoesOn m config (i ∷ j ∷ [])
+      (created_life (Opened 0 first ∷ Ended Upgrade Done held last ∷ []) calls ends
+      ∷ recovered_life (Opened less second ∷ rest) more others ∷ []) → ⊥
+  -- one that was done twice, and counts two widenings
+  pub widens_twice : (inputs : Inputs) (held calls : ℕ) (ends : End) (first second third : Saved)
+      (rest : List Event)
+      → GoesOn m config (inputs ∷ []) (created_life (Opened 0 first ∷ Ended Upgrade Done held second
+      ∷ Ended Upgrade Done 2 third ∷ rest) calls ends ∷ []) → ⊥
+  -- one of a worker whose line another life has told already: in version 2 that line might have
+  -- another text
+  pub changes_a_line : (i j : Inputs) (calls more held : ℕ) (ends others : End)
+      (first second third : Saved) (r : Release) (is_taken : Bool) (rest : List Event)
+      → third.lines < r.number
+      → GoesOn m config (i ∷ j ∷ [])
+      (created_life (Opened 0 first ∷ Told r is_taken ∷ []) calls ends
+      ∷ recovered_life (Opened 0 second ∷ Ended Upgrade Done held third ∷ rest) more others
+      ∷ []) → ⊥
+  -- one that speaks of lines beyond it, where the life has asked
+  pub pleads_after_a_question : (inputs : Inputs) (steps fuel held late calls : ℕ) (kind : Kind)
+      (said : SourceSaid) (fits : Bool) (ends : End) (first second third : Saved)
+      (rest : List Event)
+      → GoesOn m config (inputs ∷ []) (created_life (Opened 0 first ∷ Asked steps kind said fits
+      ∷ Ended (Slice fuel) Waits held second ∷ Ended Upgrade (Fails OfLines) late third ∷ rest)
+      calls ends ∷ []) → ⊥
+  -- a worker that is created in version 2
+  pub created_wide : (inputs : Inputs) (held calls : ℕ) (ends : End) (shown : Saved)
+      (rest : List Event) → shown.version ≡ Two
+      → GoesOn m config (inputs ∷ [])
+      (created_life (Opened held shown ∷ rest) calls ends ∷ []) → ⊥

@@ -5,6 +5,7 @@ use Rattle.wasm_syntax.specs.laws.Examples.{hello, echo}
 use Rattle.wasi_abi.specs.declared.answer.Kind.{Kind}
 use Rattle.wasi_abi.specs.declared.answer.Kind.TheVariants as kind
 use Rattle.wasi_abi.specs.declared.answer.Answer.TheVariants as answer
+use Rattle.wasi_abi.specs.declared.version.Version.TheVariants.{Two}
 use Rattle.wasi_abi.specs.rules.Configs.{Settings}
 use Rattle.process_rules.specs.Processes.{Exited}
 use Rattle.process_rules.specs.laws.Examples.{hello_memory}
@@ -12,7 +13,10 @@ use Rattle.process_rules.specs.Runs.{Kept, Given}
 use Rattle.state_image.specs.rules.Image.{Saved}
 use Rattle.state_image.specs.laws.Examples.{fresh_process}
 use Rattle.state_image.specs.laws.WellTypedExamples.{hello_first_memory}
-use Rattle.restart_theorem.specs.Lives.{Slice, Checkpoint, SourceSaid, Inputs, Release, Over, Done}
+use Rattle.disk_layout.specs.rules.Journal.{TakesRecords}
+use Rattle.restart_theorem.specs.Lives.{Slice, Checkpoint, Upgrade, SourceSaid, Inputs, Release}
+use Rattle.restart_theorem.specs.Lives.{Over}
+use Rattle.restart_theorem.specs.Lives.{Done}
 use Rattle.restart_theorem.specs.Lives.{Told, Asked, Opened, Ended, Finished, Stopped, Life}
 use Rattle.restart_theorem.specs.Courses.{Stage, at_first}
 use Rattle.restart_theorem.specs.Promises.{Promise, IsKept, AreKept, GoesOn}
@@ -90,6 +94,43 @@ pub record HelloLives (config : Settings) : Type 0 where
   pub asks : (so_far : Promise) (stage : Stage) (steps : ℕ) (wish : Kind) (said : SourceSaid)
       (fits : Bool) → so_far.kept ≡ []
       → IsKept hello config so_far stage (Asked steps wish said fits) → ⊥
+
+-- ---- the same module, upgraded
+
+-- `hello` in version 2, where it begins, and where it has ended
+abbrev pub wide_first : Saved
+wide_first = record hello_first { version = Two; answers = 1 }
+
+abbrev pub wide_last : Saved
+wide_last = record hello_last { version = Two; answers = 1 }
+
+-- it is upgraded when it is created, and opens in version 2,
+abbrev pub early_upgrade : Life
+early_upgrade =
+    created_life (Opened 0 hello_first ∷ Ended Upgrade Done 1 wide_first ∷ []) 30 Finished
+
+abbrev pub opened_wide : Life
+opened_wide = recovered_life (Opened 1 wide_first ∷ []) 20 Finished
+
+-- or when it has ended, twice, which widens it once
+abbrev pub late_upgrade : Life
+late_upgrade = created_life (Opened 0 hello_first ∷ Told hi_told true
+    ∷ Ended (Slice 100) (Over (Exited 7)) 0 hello_last ∷ Ended Upgrade Done 1 wide_last
+    ∷ Ended Upgrade Done 1 wide_last ∷ []) 40 Finished
+
+abbrev pub ended_wide : Life
+ended_wide = recovered_life (Opened 1 wide_last
+    ∷ Ended (Slice 1) (Over (Exited 7)) 1 wide_last ∷ []) 20 Finished
+
+-- Both go on, where the journal takes each record of version 2.
+pub record HelloUpgrades (config : Settings) : Type 0 where
+  pub early : 1 ≤ config.pages → config.pages ≤ 2 ^ 16 → TakesRecords Two config.journal
+      → GoesOn hello config (in_peace [] (Upgrade ∷ []) ∷ in_peace [] [] ∷ [])
+      (early_upgrade ∷ opened_wide ∷ [])
+  pub late : 1 ≤ config.pages → config.pages ≤ 2 ^ 16 → TakesRecords Two config.journal
+      → GoesOn hello config
+      (in_peace [] (Slice 100 ∷ Upgrade ∷ Upgrade ∷ []) ∷ in_peace [] (Slice 1 ∷ []) ∷ [])
+      (late_upgrade ∷ ended_wide ∷ [])
 
 -- ---- a module that tells what it is asked
 

@@ -9,17 +9,14 @@ use Rattle.file_tree.specs.rules.Files.{Files, IsFiles}
 use Rattle.wasi_calls_rules.specs.Hosts.{Descriptor, Line, Host, IsDescriptor}
 use Rattle.wasi_calls_rules.specs.Hosts.{IsHost}
 use Rattle.wasi_abi.specs.declared.version.Version.{Version}
-use Rattle.wasi_abi.specs.declared.version.Version.TheVariants.{One}
 use Rattle.wasi_calls.specs.declared.host.restoring.HostParts.{HostParts}
 use Rattle.wasi_calls.specs.declared.host.restoring.PartsFault.{PartsFault}
 use Rattle.wasi_calls.specs.declared.host.restoring.PartsFault.TheVariants as parts
 use Rattle.wasi_calls.specs.rules.Restored.{held_host_from}
-use Rattle.state_image.specs.declared.reading.progress.ReadCounts.{ReadCounts}
-use Rattle.state_image.specs.declared.reading.progress.ReadEnd.{ReadEnd}
+use Rattle.state_image.specs.declared.restoring.progress.Progress.{Progress}
 use Rattle.state_image.specs.declared.restoring.fault.RestoreFault.{RestoreFault}
 use Rattle.state_image.specs.declared.restoring.fault.RestoreFault.TheVariants as fault
 use Rattle.state_image.specs.rules.Image.{files_bytes, items_bytes, descriptor_bytes, open_from}
-use Rattle.state_image.specs.rules.Parts.{StreamTexts}
 use Rattle.state_image.specs.rules.Ranges.{IsIn}
 use Rattle.state_image.specs.restoring.Descriptors.{AreAllRestorable}
 use Rattle.state_image.specs.restoring.Descriptors.{AreRestorable}
@@ -149,13 +146,12 @@ without_lines h is = record {
 }
 
 -- a host of these bytes, of which this was told, is that of the parts
-pub host_of_parts : (config : Settings) (counts : ReadCounts) (end : ReadEnd)
-    (streams : StreamTexts) (p : HostParts) (old new : List ℕ)
-    → AreReadParts counts end streams p old new → (h : Host) (rest : List ℕ) → IsHost h
-    → h.files.next < 2 ^ 64 → IsToldHost config counts end streams h
-    → old ≡ host_bytes h ++ rest → IsHost (held_host_from config One p).host
+pub host_of_parts : (config : Settings) (before : Progress) (p : HostParts) (old new : List ℕ)
+    → AreReadParts before p old new → (h : Host) (rest : List ℕ) → IsHost h
+    → h.files.next < 2 ^ 64 → IsToldHost config before h
+    → old ≡ host_bytes h ++ rest → IsHost (held_host_from config before.version p).host
 unfolding host_with
-host_of_parts config counts end streams p old new read h rest is next told stands =
+host_of_parts config before p old new read h rest is next told stands =
     let others = items_bytes (descriptor_bytes p.tree) (open_from 0 p.descriptors.items) in
     let same = files_of_host p.tree old (others ++ new) read.files read.next
     (read.is ∙ append_assoc (files_bytes p.tree) others new) h rest is next stands in
@@ -169,12 +165,12 @@ host_of_parts config counts end streams p old new read h rest is next told stand
     let first = told.first ∙ sym read.first in
     let second = told.second ∙ sym read.second in
     let room = told.configured.room in
-    let version = told.configured.version in
+    let version = told.version in
     let arguments = told.configured.arguments in
     let environment = told.configured.environment in
     let whole : host_with h.files h.descriptors h.unread h.input_ended h.last_monotonic h.first
     h.second [] h.arguments h.environment h.room h.version
-    ≡ (held_host_from config One p).host = rw (
+    ≡ (held_host_from config before.version p).host = rw (
       files,
       descriptors,
       unread,

@@ -1,5 +1,6 @@
 -- The image of a process that has just begun, with one page of memory and an empty file system.
 use Rattle.std.specs.Prelude.{◌≡◌, ℕ, List, [], ◌∷◌, length, false, None}
+use Rattle.wasi_abi.specs.declared.version.Version.TheVariants.{One}
 use Rattle.file_tree.specs.rules.Files.{fresh}
 use Rattle.wasi_calls_rules.specs.Hosts.{first_descriptors}
 use Rattle.state_image.specs.rules.Image.{Saved, image}
@@ -7,6 +8,7 @@ use Rattle.state_image.specs.rules.Image.{Saved, image}
 -- one frame without locals, at its first instruction, and one page
 abbrev pub fresh_process : List ℕ → Saved
 fresh_process memory = record {
+  version = One;
   machine = record {
     frames = record { function = 2; position = 0; slots = [] } ∷ [];
     globals = [];

@@ -2,10 +2,12 @@
 use Rattle.std.specs.Prelude.{◌≡◌, ℕ, List, [], ◌∷◌, ◌++◌, length, true, false, Some, None}
 use Rattle.wasm_syntax.specs.declared.value.Trap.{Trap}
 use Rattle.wasm_syntax.specs.declared.value.Trap.TheVariants as trap
+use Rattle.wasi_abi.specs.declared.version.Version.TheVariants.{One, Two}
 use Rattle.file_tree.specs.rules.Files.{Files, Directory, File}
 use Rattle.wasi_calls_rules.specs.Hosts.{Stream, Node}
 use Rattle.process_rules.specs.Processes.{Ending, Exited, Trapped}
 use Rattle.state_image.specs.rules.Image.{Saved, memory_bytes, phase_bytes, image}
+use Rattle.state_image.specs.laws.Marks.{IsVersionOf}
 
 -- ---- a process
 
@@ -26,6 +28,7 @@ sample_files = record {
 -- its own, and 513 is 1 and 2 times 256. Stream 2 has an offset, as none has that is well typed.
 abbrev pub sample : Saved
 sample = record {
+  version = One;
   machine = record {
     frames = record { function = 3; position = 4; slots = 5 ∷ 6 ∷ [] }
         ∷ record { function = 2; position = 1; slots = 8 ∷ [] }
@@ -67,11 +70,14 @@ in_four b = b ∷ 0 ∷ 0 ∷ 0 ∷ []
 abbrev pub in_eight : ℕ → List ℕ
 in_eight b = b ∷ 0 ∷ 0 ∷ 0 ∷ 0 ∷ 0 ∷ 0 ∷ 0 ∷ []
 
--- the mark; steps, answers, requests, lines, the last monotonic time; phase, code, input ended
+-- the mark up to the digit of the version
+abbrev pub mark_with : ℕ → List ℕ
+mark_with digit = 68 ∷ 87 ∷ 73 ∷ 77 ∷ 65 ∷ 71 ∷ 69 ∷ digit ∷ []
+
+-- steps, answers, requests, lines, the last monotonic time; phase, code, input ended
 abbrev pub sample_front : List ℕ
 sample_front =
-    (68 ∷ 87 ∷ 73 ∷ 77 ∷ 65 ∷ 71 ∷ 69 ∷ 49 ∷ [])
-    ++ (1 ∷ 2 ∷ 3 ∷ 4 ∷ 5 ∷ 6 ∷ 7 ∷ 8 ∷ []) ++ in_eight 7 ++ in_eight 5 ++ in_eight 3 ++ in_eight 9
+    (1 ∷ 2 ∷ 3 ∷ 4 ∷ 5 ∷ 6 ∷ 7 ∷ 8 ∷ []) ++ in_eight 7 ++ in_eight 5 ++ in_eight 3 ++ in_eight 9
     ++ (1 ∷ []) ++ in_four 0 ++ (1 ∷ [])
 
 -- the unread bytes and the two unfinished lines
@@ -110,6 +116,15 @@ sample_descriptors =
     ++ in_four 5 ++ (4 ∷ []) ++ in_eight 5 ++ in_eight 7 ++ (1 ∷ 1 ∷ [])
     ++ in_eight 4 ++ in_eight 16
 
+-- all behind the mark
+abbrev pub behind_mark : List ℕ
+behind_mark =
+    sample_front ++ sample_streams ++ sample_machine ++ sample_nodes ++ sample_descriptors
+
+-- the same process, widened
+abbrev pub sample_in_two : Saved
+sample_in_two = record sample { version = Two }
+
 -- one in its start function, whose input goes on
 abbrev pub starting : Saved
 starting = record sample {
@@ -125,8 +140,13 @@ abbrev pub phase_trapped : Trap → List ℕ
 phase_trapped why = phase_at (Trapped why)
 
 pub record ImagesOnExamples : Type 0 where
-  pub whole : image sample
-      ≡ sample_front ++ sample_streams ++ sample_machine ++ sample_nodes ++ sample_descriptors
+  pub whole : image sample ≡ mark_with 49 ++ behind_mark
+  -- in version 2 only the last byte of the mark is another one
+  pub whole_in_two : image sample_in_two ≡ mark_with 50 ++ behind_mark
+  -- both marks are read, and there is no third one
+  pub mark_of_one : IsVersionOf (mark_with 49) (Some One)
+  pub mark_of_two : IsVersionOf (mark_with 50) (Some Two)
+  pub no_mark_of_three : IsVersionOf (mark_with 51) None
   pub in_start_function : phase_bytes starting ≡ 0 ∷ 0 ∷ 0 ∷ 0 ∷ 0 ∷ 0 ∷ []
   pub exited : phase_at (Exited 513) ≡ 2 ∷ 1 ∷ 2 ∷ 0 ∷ 0 ∷ 1 ∷ []
   pub unreachable : phase_trapped trap.Unreachable ≡ 3 ∷ 1 ∷ 0 ∷ 0 ∷ 0 ∷ 1 ∷ []

@@ -9,7 +9,7 @@ use Rattle.state_image.specs.rules.Reading.{ReadsField, ReadsPart}
 -- each field of this process is in front of what is left behind it
 pub record IsInOrder (s : Saved) (bytes : List ℕ) : Type 0 where
   pub after_mark : List ℕ
-  pub mark : bytes ≡ image_mark ++ after_mark
+  pub mark : bytes ≡ image_mark s.version ++ after_mark
   pub after_counts : List ℕ
   pub counts : after_mark ≡ counts_bytes s ++ after_counts
   pub after_phase : List ℕ

@@ -5,6 +5,7 @@ use Rattle.wasm_syntax.specs.declared.module.Module.{Module}
 use Rattle.wasm_syntax.specs.laws.Examples.{hello}
 use Rattle.wasm_semantics.specs.Validity.{memories_of}
 use Rattle.wasm_semantics.specs.Instantiation.{least_pages_of}
+use Rattle.wasi_abi.specs.declared.version.Version.TheVariants.{One, Two}
 use Rattle.wasi_abi.specs.rules.Configs.{Settings}
 use Rattle.file_tree.specs.rules.Files.{Content, Directory, File, FileNode}
 use Rattle.wasi_calls_rules.specs.Hosts.{Descriptor, Stream, Node}
@@ -71,14 +72,18 @@ pub record RefusesCounts (config : Settings) : Type 0 where
   pub late : NoneHas config (λ s. s.last_monotonic ≡ 2 ^ 64)
   pub many_steps : NoneHas config (λ s. s.steps ≡ 2 ^ 63)
   pub many_lines : NoneHas config (λ s. s.lines + 2 ≡ 2 ^ 63)
-  pub more_answers : NoneHas config (λ s. s.steps < s.answers)
+  pub more_answers : NoneHas config (λ s. (s.version ≡ One) × (s.steps < s.answers))
+  -- the widening is an answer
+  pub many_answers_in_two : NoneHas config (λ s. (s.version ≡ Two) × (s.steps + 1 < s.answers))
   pub more_requests : NoneHas config (λ s. s.answers < s.requests)
   pub many_numbers : NoneHas config (λ s. s.steps + 2 < s.files.next)
 
 -- ---- streams and phases
 
 pub record RefusesStreams (config : Settings) : Type 0 where
-  pub much_unread : NoneHas config (λ s. length s.unread ≡ 4098)
+  pub much_unread : NoneHas config (λ s. (s.version ≡ One) × (length s.unread ≡ 4098))
+  pub much_unread_in_two : NoneHas config
+      (λ s. (s.version ≡ Two) × (length s.unread ≡ 65538))
   pub no_byte : NoneHas config (λ s. s.unread ≡ 256 ∷ [])
   pub long_line : NoneHas config (λ s. length s.first ≡ 4097)
   -- a newline ends a line

@@ -4,8 +4,8 @@ use Rattle.std.specs.Prelude.{Option, Some, None}
 use Rattle.wasm_syntax.specs.declared.module.Module.{Module}
 use Rattle.wasm_semantics.specs.Linking.{HasEntry}
 use Rattle.wasi_abi.specs.rules.Configs.{Settings}
+use Rattle.wasi_abi.specs.rules.Versions.{text_limit}
 use Rattle.wasi_calls_rules.specs.Hosts.{IsHost}
-use Rattle.wasi_calls_rules.specs.declared.limits.TheConstants.{TEXT_BYTES}
 use Rattle.wasi_calls.specs.rules.Held.{HeldHost}
 use Rattle.machine.specs.declared.instance.fault.LinkFault.{LinkFault}
 use Rattle.machine.specs.declared.instance.fault.LinkFault.TheVariants as link
@@ -29,8 +29,9 @@ use Rattle.state_image.specs.restoring.Machines.{AreToCome}
 
 -- ---- what stands before the machine
 
--- the counts, the end and the streams are those of this process
+-- the version, the counts, the end and the streams are those of this process
 pub record IsProgressOf (p : Progress) (s : Saved) : Type 0 where
+  pub version : s.version ≡ p.version
   pub counts : counts_of s ≡ p.counts
   pub end : read_end_of s ≡ p.end
   pub streams : streams_of s ≡ texts_of p.streams
@@ -44,7 +45,7 @@ pub record FitsProgress (s : Saved) : Type 0 where
 -- the mark and these of a process, before other bytes
 abbrev pub progress_before : Saved → List ℕ → List ℕ
 progress_before s rest =
-    image_mark ++ (counts_bytes s ++ (phase_bytes s ++ (streams_bytes s ++ rest)))
+    image_mark s.version ++ (counts_bytes s ++ (phase_bytes s ++ (streams_bytes s ++ rest)))
 
 -- Each process with these has them in front, and no process that has other ones.
 pub record HasProgress (p : Progress) (old new : List ℕ) : Type 0 where
@@ -98,7 +99,7 @@ pub record MayBeAccepted (m : Module) (entry : ℕ) (s : Saved) : Type 0 where
       s.machine.frames
   pub alive : IsAlive s.ended s
   pub bounds : IsWithinBounds s
-  pub unread : length s.unread ≤ TEXT_BYTES + 1
+  pub unread : length s.unread ≤ text_limit s.version + 1
   pub next : s.files.next ≤ s.steps + 2
 
 -- what a fault of linking is to whoever restores

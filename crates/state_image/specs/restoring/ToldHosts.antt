@@ -7,12 +7,10 @@ use Rattle.wasi_calls.specs.rules.Held.{HeldHost}
 use Rattle.wasi_calls.specs.declared.host.restoring.HostParts.{HostParts}
 use Rattle.wasi_calls.specs.declared.host.restoring.PartsFault.{PartsFault}
 use Rattle.wasi_calls.specs.declared.host.restoring.PartsFault.TheVariants as parts
-use Rattle.state_image.specs.declared.reading.progress.ReadCounts.{ReadCounts}
-use Rattle.state_image.specs.declared.reading.progress.ReadEnd.{ReadEnd}
+use Rattle.state_image.specs.declared.restoring.progress.Progress.{Progress}
 use Rattle.state_image.specs.declared.restoring.fault.RestoreFault.{RestoreFault}
 use Rattle.state_image.specs.declared.restoring.fault.RestoreFault.TheVariants as fault
 use Rattle.state_image.specs.rules.Image.{files_bytes, items_bytes, descriptor_bytes, open_from}
-use Rattle.state_image.specs.rules.Parts.{StreamTexts}
 use Rattle.state_image.specs.rules.WellTyped.{IsConfigured}
 use Rattle.state_image.specs.restoring.Descriptors.{AreRestorable}
 
@@ -22,39 +20,38 @@ host_bytes h =
     files_bytes h.files ++ items_bytes (descriptor_bytes h.files) (open_from 0 h.descriptors)
 
 -- what an image tells of this host before these bytes, under this configuration
-pub record IsToldHost (config : Settings) (counts : ReadCounts) (end : ReadEnd)
-    (streams : StreamTexts) (h : Host) : Type 0 where
+pub record IsToldHost (config : Settings) (told : Progress) (h : Host) : Type 0 where
+  pub version : h.version ≡ told.version
   pub configured : IsConfigured config h
-  pub unread : h.unread ≡ streams.unread
-  pub input_ended : h.input_ended ≡ end.input_ended
-  pub last_monotonic : h.last_monotonic ≡ counts.last_monotonic
-  pub first : h.first ≡ streams.first
-  pub second : h.second ≡ streams.second
+  pub unread : h.unread ≡ told.streams.unread.now
+  pub input_ended : h.input_ended ≡ told.end.input_ended
+  pub last_monotonic : h.last_monotonic ≡ told.counts.last_monotonic
+  pub first : h.first ≡ told.streams.first.now
+  pub second : h.second ≡ told.streams.second.now
 
 -- This host is held, and its bytes were read. No line waits, and all of them were released.
-pub record IsRestoredHost (config : Settings) (counts : ReadCounts) (end : ReadEnd)
-    (streams : StreamTexts) (held : HeldHost) (old new : List ℕ) : Type 0 where
+pub record IsRestoredHost (config : Settings) (before : Progress) (held : HeldHost)
+    (old new : List ℕ) : Type 0 where
   pub host : IsHost held.host
-  pub told : IsToldHost config counts end streams held.host
+  pub told : IsToldHost config before held.host
   pub next : held.host.files.next < 2 ^ 64
   pub waiting : held.host.lines ≡ []
-  pub released : held.released ≡ counts.lines
+  pub released : held.released ≡ before.counts.lines
   pub is : old ≡ host_bytes held.host ++ new
 
 -- What was read of the parts of a host: its files and its descriptors stood in these bytes.
-pub record AreReadParts (counts : ReadCounts) (end : ReadEnd) (streams : StreamTexts)
-    (p : HostParts) (old new : List ℕ) : Type 0 where
+pub record AreReadParts (before : Progress) (p : HostParts) (old new : List ℕ) : Type 0 where
   pub files : IsFiles p.tree
   pub next : p.tree.next < 2 ^ 64
   pub descriptors : AreRestorable p.descriptors.items
   pub is : old ≡ (files_bytes p.tree
       ++ items_bytes (descriptor_bytes p.tree) (open_from 0 p.descriptors.items)) ++ new
-  pub unread : p.unread.items ≡ streams.unread
-  pub input_ended : p.input_ended ≡ end.input_ended
-  pub last_monotonic : p.last_monotonic ≡ counts.last_monotonic
-  pub first : p.first.items ≡ streams.first
-  pub second : p.second.items ≡ streams.second
-  pub released : p.released ≡ counts.lines
+  pub unread : p.unread.items ≡ before.streams.unread.now
+  pub input_ended : p.input_ended ≡ before.end.input_ended
+  pub last_monotonic : p.last_monotonic ≡ before.counts.last_monotonic
+  pub first : p.first.items ≡ before.streams.first.now
+  pub second : p.second.items ≡ before.streams.second.now
+  pub released : p.released ≡ before.counts.lines
 
 -- what a fault of a host's parts is of an image
 abbrev pub fault_of_parts : PartsFault → RestoreFault

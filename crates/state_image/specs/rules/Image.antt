@@ -1,13 +1,15 @@
--- The image of a process as bytes, version 1, and the process state that a process shows (this
--- project's own). Numbers are little-endian.
-use Rattle.std.specs.Prelude.{◌≡◌, ℕ, ◌+◌, ◌/◌, Bool, true, false, List, [], ◌∷◌, ◌++◌, length}
-use Rattle.std.specs.Prelude.{reverse, codes, if◌then◌else◌, Option, Some, None}
+-- The image of a process as bytes, and the process state that a process shows (this project's
+-- own). Numbers are little-endian.
+use Rattle.std.specs.Prelude.{◌≡◌, ◌≢◌, ℕ, ◌+◌, ◌/◌, Bool, true, false, List, [], ◌∷◌, ◌++◌}
+use Rattle.std.specs.Prelude.{length, reverse, codes, if◌then◌else◌, Option, Some, None}
 use Rattle.std.specs.List.{flat_map}
 use Rattle.wasm_syntax.specs.declared.value.Trap.{Trap}
 use Rattle.wasm_syntax.specs.declared.value.Trap.TheVariants as trap
 use Rattle.guest_memory.specs.rules.Bytes.{page_size}
 use Rattle.wasm_semantics.specs.Typing.{Context}
 use Rattle.wasm_semantics.specs.Configuration.{Program}
+use Rattle.wasi_abi.specs.declared.version.Version.{Version}
+use Rattle.wasi_abi.specs.declared.version.Version.TheVariants.{One, Two}
 use Rattle.wasi_abi.specs.rules.Layouts.{u16_bytes, u32_bytes, u64_bytes}
 use Rattle.wasi_abi.specs.rules.Numbers.{directory_type, regular_file}
 use Rattle.file_tree.specs.rules.Files.{Files, FileNode, Content, Directory, File, Entry}
@@ -19,6 +21,7 @@ use Rattle.machine_slots.specs.rules.Places.{ShownFrame, MachineState, Shows}
 -- A process as its image has it: positions in the place of sequences, and of the emitted lines
 -- their number.
 pub record Saved : Type 0 where
+  pub version : Version
   pub machine : MachineState
   pub files : Files
   pub descriptors : List (Option Descriptor)
@@ -36,6 +39,7 @@ pub record Saved : Type 0 where
 -- it shows this process state, in a program whose table is this one
 pub record SavedShowsProcess (c : Context) (program : Program) (table : List (Option ℕ)) (s : Saved)
     (p : ProcessState) : Type 0 where
+  pub version : s.version ≡ p.host.version
   pub machine : Shows c program table s.machine p.configuration
   pub files : s.files ≡ p.host.files
   pub descriptors : s.descriptors ≡ p.host.descriptors
@@ -144,9 +148,17 @@ descriptor_bytes fs d =
 
 -- ---- the image
 
--- the first bytes of an image
-abbrev pub image_mark : List ℕ
-image_mark = codes "DWIMAGE1"
+-- the first bytes of an image, which tell its version
+abbrev pub image_mark : Version → List ℕ
+image_mark One = codes "DWIMAGE1"
+image_mark Two = codes "DWIMAGE2"
+
+-- bytes begin with the mark of another version than this one
+pub record IsMarkedOtherwise (version : Version) (bytes : List ℕ) : Type 0 where
+  pub marked : Version
+  pub other : marked ≢ version
+  pub rest : List ℕ
+  pub begins : bytes ≡ image_mark marked ++ rest
 
 -- steps, answers, requests, lines and the last monotonic time, of 8 bytes each
 abbrev pub counts_bytes : Saved → List ℕ
@@ -174,6 +186,6 @@ machine_bytes m =
 -- a process as bytes: all of its image
 abbrev pub image : Saved → List ℕ
 image s =
-    image_mark ++ (counts_bytes s ++ (phase_bytes s ++ (streams_bytes s ++ (machine_bytes s.machine
-    ++ (files_bytes s.files
+    image_mark s.version ++ (counts_bytes s ++ (phase_bytes s ++ (streams_bytes s
+    ++ (machine_bytes s.machine ++ (files_bytes s.files
     ++ items_bytes (descriptor_bytes s.files) (open_from 0 s.descriptors))))))

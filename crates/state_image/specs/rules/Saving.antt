@@ -5,6 +5,7 @@ use Rattle.state_image.specs.rules.Image.{Saved}
 -- All of it but the lines that wait, of which the image keeps only the number.
 abbrev pub saved_of : ProcessValue → Saved
 saved_of v = record {
+  version = v.host.host.version;
   machine = v.machine.state;
   files = v.host.host.files;
   descriptors = v.host.host.descriptors;

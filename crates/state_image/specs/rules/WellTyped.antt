@@ -7,8 +7,8 @@ use Rattle.wasm_syntax.specs.declared.types.FunctionType.{FunctionType}
 use Rattle.wasm_syntax.specs.declared.module.Module.{Module}
 use Rattle.wasm_semantics.specs.Validity.{AreFunctionTypes, module_context, IsValid}
 use Rattle.wasi_abi.specs.rules.Configs.{Settings}
+use Rattle.wasi_abi.specs.rules.Versions.{text_limit, widenings}
 use Rattle.wasi_calls_rules.specs.Hosts.{Host, IsHost}
-use Rattle.wasi_calls_rules.specs.declared.limits.TheConstants.{TEXT_BYTES}
 use Rattle.process_rules.specs.Processes.{Ending, ProcessState, Guest, host_of, IsStart}
 use Rattle.process_rules.specs.Processes.{HasLineNumbers}
 use Rattle.wasm_syntax.specs.declared.limits.TheConstants.{FUNCTIONS, INSTRUCTIONS, GLOBALS}
@@ -43,7 +43,6 @@ IsAlive (Some why) s = (s.machine.frames ≡ []) × (s.machine.later ≡ []) × 
 -- what no call changes is as the configuration has it
 pub record IsConfigured (config : Settings) (h : Host) : Type 0 where
   pub room : h.room ≡ (host_of config).room
-  pub version : h.version ≡ (host_of config).version
   pub arguments : h.arguments ≡ config.arguments
   pub environment : h.environment ≡ config.environment
 
@@ -84,10 +83,11 @@ pub record IsWellTyped (m : Module) (config : Settings) (s : Saved) : Type 0 whe
   pub alive : IsAlive s.ended s
   pub steps : s.steps < 2 ^ 63
   pub lines : HasLineNumbers process.host
-  pub answers : s.answers ≤ s.steps
+  -- that it was widened counts as an answer
+  pub answers : s.answers ≤ s.steps + widenings s.version
   pub requests : s.requests ≤ s.answers
   pub bounds : IsWithinBounds s
   -- a request's text and its newline
-  pub unread : length s.unread ≤ TEXT_BYTES + 1
+  pub unread : length s.unread ≤ text_limit s.version + 1
   -- each step makes one node at most, beside the root and the number that comes next
   pub next : s.files.next ≤ s.steps + 2

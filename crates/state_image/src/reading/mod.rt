@@ -12,7 +12,7 @@ pub use cursor::ImageReader;
 pub use descriptors::{ReadDescriptor, read_descriptor};
 pub use files::{ReadContent, ReadEntry, ReadNode, read_entry, read_node};
 pub use machine_state::{ReadFrame, read_frame, read_memory};
-pub use mark::read_mark;
+pub use mark::{is_marked_otherwise, read_mark};
 pub use progress::{
     ReadCounts, ReadEnd, ReadPhase, ReadStreams, read_counts, read_end, read_streams,
 };

@@ -4,7 +4,7 @@ ghost use Rattle.std.specs.Prelude.{◌≡◌, ◌↔◌, ◌≤◌, ◌<◌, �
 ghost use Rattle.std.specs.Prelude.{option_map, length};
 ghost use Rattle.std.specs.List.{AllByRecursion};
 ghost use Rattle.wasm_semantics.specs.Linking.{HasEntry};
-ghost use Rattle.wasi_calls_rules.specs.declared.limits.TheConstants.{TEXT_BYTES};
+ghost use Rattle.wasi_abi.specs.rules.Versions.{text_limit};
 ghost use Rattle.machine.specs.rules.LentFrames.{lent_frame};
 ghost use Rattle.machine.specs.rules.Loading.{ShowsSome};
 ghost use Rattle.process.specs.rules.Values.{ending_of};
@@ -16,7 +16,6 @@ ghost use Rattle.state_image.specs.restoring.Processes.{MayCome, MayBeAccepted};
 
 use machine::{FramePlace, Machine, entry_of};
 use process::{Process, ProcessEnd};
-use wasi_calls_rules::limits::TEXT_BYTES;
 use wasm_syntax::limits::{FUNCTIONS, GLOBALS, INSTRUCTIONS};
 
 /// Whether the host calls this function: `_start`, or the start function while `_start` is to come.
@@ -132,9 +131,11 @@ fn is_code(code: u32)
 
 /// Whether no more bytes are unread than a request has with its newline.
 fn is_unread_short(process: &Process) -> bool
-    ensures { IsTrue result ↔ (length process.now.host.host.unread ≤ TEXT_BYTES + 1) }
+    ensures { IsTrue result ↔ (length process.now.host.host.unread
+        ≤ text_limit process.now.host.host.version + 1) }
 {
-    process.host().unread_bytes().len() <= TEXT_BYTES + 1
+    let host = process.host();
+    host.unread_bytes().len() <= host.version().text_limit() + 1
 }
 
 /// Whether no more nodes were made than steps were taken.

@@ -4,18 +4,18 @@ ghost use Rattle.std.specs.Prelude.{◌≡◌, ◌≢◌, ◌<◌, ◌^◌, ◌+
 ghost use Rattle.file_tree.specs.rules.Files.{IsFiles};
 ghost use Rattle.wasi_calls_rules.specs.Hosts.{Host as TheHost, IsHost};
 ghost use Rattle.state_image.specs.declared.restoring.fault.RestoreFault.TheVariants as fault;
-ghost use Rattle.state_image.specs.rules.Parts.{texts_of};
 ghost use Rattle.state_image.specs.restoring.ToldHosts.{IsRestoredHost, IsToldHost, host_bytes};
 ghost use Rattle.state_image.specs.restoring.ToldHosts.{AreReadParts};
 ghost use Rattle.state_image.specs.restoring.ToldHosts.{fault_of_parts};
 
-use crate::reading::{ImageReader, ReadCounts, ReadEnd, ReadStreams};
+use crate::reading::ImageReader;
 use crate::restoring::descriptors::restore_descriptors;
 use crate::restoring::fault::RestoreFault;
 use crate::restoring::files::restore_files;
+use crate::restoring::progress::Progress;
 use file_tree::Tree;
 use std::alloc::Global;
-use wasi_abi::{Config, Version};
+use wasi_abi::Config;
 use wasi_calls::{Host, HostParts, PartsFault};
 
 /// The host of this configuration of which this was told, and whose files and descriptors stand
@@ -23,32 +23,27 @@ use wasi_calls::{Host, HostParts, PartsFault};
 pub fn restore_host(
     alloc: Global,
     config: Config,
-    counts: ReadCounts,
-    end: ReadEnd,
-    streams: ReadStreams,
+    progress: Progress,
     reader: &mut ImageReader,
 ) -> Result<Host, RestoreFault>
-    ensures made { IfOk result (λ held. IsRestoredHost config counts end (texts_of streams.entry)
-        held reader.old reader.new) }
+    ensures made { IfOk result (λ held. IsRestoredHost config progress.entry held reader.old
+        reader.new) }
     ensures refused { result ≡ Err fault.NotAnImage → (h : TheHost) (rest : List ℕ) → IsHost h
-        → h.files.next < 2 ^ 64 → IsToldHost config counts end (texts_of streams.entry) h
+        → h.files.next < 2 ^ 64 → IsToldHost config progress.entry h
         → reader.old ≢ host_bytes h ++ rest }
 {
-    let parts = read_parts(alloc, counts, end, streams, reader)?;
-    Ok(Host::from_parts(alloc, config, Version::One, parts)?)
+    let parts = read_parts(alloc, progress, reader)?;
+    Ok(Host::from_parts(alloc, config, progress.version, parts)?)
 }
 
 /// The parts of a host of which this was told, and whose files and descriptors stand next in an
 /// image.
 fn read_parts(
     alloc: Global,
-    counts: ReadCounts,
-    end: ReadEnd,
-    streams: ReadStreams,
+    progress: Progress,
     reader: &mut ImageReader,
 ) -> Result<HostParts, RestoreFault>
-    ensures made { IfOk result (λ p. AreReadParts counts end (texts_of streams.entry) p
-        reader.old reader.new) }
+    ensures made { IfOk result (λ p. AreReadParts progress.entry p reader.old reader.new) }
     ensures refused { result ≡ Err fault.NotAnImage → (h : TheHost) (rest : List ℕ) → IsHost h
         → h.files.next < 2 ^ 64 → reader.old ≢ host_bytes h ++ rest }
 {
@@ -58,12 +53,12 @@ fn read_parts(
     Ok(HostParts {
         tree,
         descriptors,
-        unread: Vec::from_slice(alloc, streams.unread)?,
-        input_ended: end.input_ended,
-        last_monotonic: counts.last_monotonic,
-        first: Vec::from_slice(alloc, streams.first)?,
-        second: Vec::from_slice(alloc, streams.second)?,
-        released: counts.lines,
+        unread: Vec::from_slice(alloc, progress.streams.unread)?,
+        input_ended: progress.end.input_ended,
+        last_monotonic: progress.counts.last_monotonic,
+        first: Vec::from_slice(alloc, progress.streams.first)?,
+        second: Vec::from_slice(alloc, progress.streams.second)?,
+        released: progress.counts.lines,
     })
 }
 

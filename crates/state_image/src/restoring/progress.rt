@@ -5,24 +5,27 @@ ghost use Rattle.state_image.specs.restoring.Processes.{ReadsProgress};
 use crate::reading::{
     ImageReader, ReadCounts, ReadEnd, ReadStreams, read_counts, read_end, read_mark, read_streams,
 };
+use wasi_abi::Version;
 
-/// How far a process has come, how it ended, and its streams.
+/// The version of a process, how far it has come, how it ended, and its streams.
 #[derive(Clone, Copy, Debug)]
 pub struct Progress<'a> {
+    pub version: Version,
     pub counts: ReadCounts,
     pub end: ReadEnd,
     pub streams: ReadStreams<'a>,
 }
 
-/// What stands behind the mark with which an image begins.
+/// The mark with which an image begins, and what stands behind it.
 pub fn read_progress<'a>(reader: &mut ImageReader<'a>) -> Option<Progress<'a>>
     ensures { ReadsProgress result reader.old reader.new }
 {
-    read_mark(reader)?;
+    let version = read_mark(reader)?;
     let counts = read_counts(reader)?;
     let end = read_end(reader)?;
     let streams = read_streams(reader)?;
     Some(Progress {
+        version,
         counts,
         end,
         streams,

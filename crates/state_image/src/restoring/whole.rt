@@ -108,9 +108,8 @@ fn read_process(
     let Some(progress) = read_progress(reader) else {
         return Err(RestoreFault::NotAnImage);
     };
-    let (counts, end) = (progress.counts, progress.end);
-    let machine = restore_machine(alloc, machine, end.phase, reader)?;
-    let host = restore_host(alloc, config, counts, end, progress.streams, reader)?;
+    let machine = restore_machine(alloc, machine, progress.end.phase, reader)?;
+    let host = restore_host(alloc, config, progress, reader)?;
     put_together(alloc, machine, host, &progress)
 }
 

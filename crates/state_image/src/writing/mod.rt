@@ -4,6 +4,7 @@ mod counts;
 mod descriptors;
 mod files;
 mod machine_state;
+mod mark;
 mod numbers;
 
 ghost use Rattle.std.specs.Prelude.{◌≡◌, IfOk};
@@ -19,12 +20,11 @@ use crate::writing::descriptors::push_descriptors;
 pub(crate) use crate::writing::files::kind_of;
 use crate::writing::files::push_files;
 use crate::writing::machine_state::push_machine;
-use crate::writing::numbers::push_bytes;
+pub(crate) use crate::writing::mark::MARK_BYTES;
+pub use crate::writing::mark::image_mark;
+use crate::writing::mark::push_mark;
 use process::Process;
 use std::alloc::{AllocError, Global};
-
-/// With it an image begins.
-pub const IMAGE_MARK: [u8; 8] = *b"DWIMAGE1";
 
 /// Pushes the image of a process, piece by piece. Memory is one piece, and each chunk of a file.
 /// No memory is taken. Where the sink refuses a piece, nothing is pushed after it, and its fault
@@ -33,7 +33,7 @@ pub const IMAGE_MARK: [u8; 8] = *b"DWIMAGE1";
 pub fn write_image_to<S: Sink>(process: &Process, sink: &mut S) -> Result<(), S::Fault>
     ensures { Pushes S.takes sink.old (image (saved_of process.now)) result sink.new }
 {
-    push_bytes(&IMAGE_MARK, sink)?;
+    push_mark(process, sink)?;
     push_counts(process, sink)?;
     push_phase(process, sink)?;
     push_streams(process, sink)?;

@@ -1,6 +1,7 @@
 -- The host's side of a process as the code keeps it (this project's own).
 use Rattle.std.specs.Prelude.{◌≡◌, ℕ, ◌*◌, Bool, List, ◌+◌, ◌++◌, length, drop, Option, Ok, Err}
 use Rattle.wasi_abi.specs.declared.version.Version.{Version}
+use Rattle.wasi_abi.specs.declared.version.Version.TheVariants.{Two}
 use Rattle.wasi_abi.specs.rules.Configs.{Settings}
 use Rattle.file_tree.specs.rules.Files.{Files}
 use Rattle.file_tree.specs.declared.limits.TheConstants.{UNIT_BYTES}
@@ -62,3 +63,7 @@ held_released count held = record {
   released = held.released + count;
   host = record held.host { lines = drop count held.host.lines };
 }
+
+-- the same in version 2
+abbrev pub held_widened : HeldHost → HeldHost
+held_widened held = record held { host = record held.host { version = Two } }

@@ -69,6 +69,8 @@ impl Model for Host {
 
 impl Host {
     ghost use Rattle.wasi_calls.specs.rules.Held.{HeldHost, ShowsHost, held_ended, held_released};
+    ghost use Rattle.wasi_calls.specs.rules.Held.{held_widened};
+    ghost use Rattle.wasi_abi.specs.declared.version.Version.TheVariants.{Two};
 
     /// The host of a process that begins. It fails for want of memory alone.
     pub fn new(alloc: Global, config: Config, version: Version) -> Result<Host, AllocError>
@@ -181,6 +183,15 @@ impl Host {
         ensures { result ≡ self.now.host.version }
     {
         self.version
+    }
+
+    /// It is of version 2 from now on.
+    pub fn widen(&mut self)
+        ensures changed { self.new ≡ held_widened self.old }
+        ensures shown { (h : TheHost) → ShowsHost self.old h
+            → ShowsHost self.new (record h { version = Two }) }
+    {
+        self.version = Version::Two;
     }
 
     /// The lines that wait to be released, in the order in which they were emitted.

@@ -8,7 +8,6 @@ use Rattle.wasi_abi.specs.declared.answer.Answer.TheVariants as answer
 use Rattle.wasi_abi.specs.declared.answer.Kind.{Kind}
 use Rattle.wasi_abi.specs.declared.answer.Kind.TheVariants as kinds
 use Rattle.wasi_abi.specs.rules.Answers.{Fits}
-use Rattle.wasi_calls_rules.specs.declared.limits.TheConstants.{TEXT_BYTES}
 use Rattle.process_rules.specs.Runs.{Kept, Given}
 use Rattle.record_replay.specs.declared.fault.SourceFault.{SourceFault}
 use Rattle.wasmhost_commands.specs.declared.lines.fault.LineFault.{LineFault}
@@ -30,15 +29,15 @@ pub record HandsOver (s t : Standing) (a : Answer) : Type 0 where
   pub counted : t.taken ≡ s.taken + length (request_in a)
   pub drawn : t.place ≡ s.place + words_in a
   pub comes : ComesFrom s.outside s.stream s.place a
-  pub given : GiveUpTo s.taken s.unread (request_in a) (λ rest. t.unread ≡ Some rest)
+  pub given : GiveUpTo s.limit s.taken s.unread (request_in a) (λ rest. t.unread ≡ Some rest)
 
 -- the answer of a request line
 next_hands : (s t : Standing) (a : Answer) → t.place ≡ s.place
-    → IsNext s.taken s.unread a t.taken t.unread → HandsOver s t a
+    → IsNext s.limit s.taken s.unread a t.taken t.unread → HandsOver s t a
 next_hands s t a same next = by_answer a next next.fits
   where
-    by_answer : (a : Answer) → IsNext s.taken s.unread a t.taken t.unread
-        → Fits TEXT_BYTES kinds.Request a → HandsOver s t a
+    by_answer : (a : Answer) → IsNext s.limit s.taken s.unread a t.taken t.unread
+        → Fits s.limit kinds.Request a → HandsOver s t a
     by_answer (answer.Request text) next fits = record {
       counted = next.counted;
       drawn = let e = same in omega (arith, e);
@@ -63,9 +62,10 @@ other_hands kind s t a other =
       counted = omega (arith, none, taken);
       drawn = other.place;
       comes = other.comes;
-      given = subst (λ z. GiveUpTo s.taken s.unread z (λ rest. t.unread ≡ Some rest))
-          (sym other.other) (subst (λ z. GiveUpTo s.taken s.unread [] (λ rest. z ≡ Some rest))
-          (sym other.unread) (passed_nothing s.taken s.unread));
+      given = subst (λ z. GiveUpTo s.limit s.taken s.unread z (λ rest. t.unread ≡ Some rest))
+          (sym other.other)
+          (subst (λ z. GiveUpTo s.limit s.taken s.unread [] (λ rest. z ≡ Some rest))
+          (sym other.unread) (passed_nothing s.limit s.taken s.unread));
     }
 
 pub finds_hands : (kind : Kind) (s t : Standing) (a : Answer) → Finds kind s (Some a) t
@@ -82,22 +82,24 @@ pub record HasAnswered (s t : Standing) (kept : List Kept) : Type 0 where
   pub unspoilt : t.fault ≡ None
   pub steady : t.failed ≡ s.failed
   pub same : t.outside ≡ s.outside
+  pub same_limit : t.limit ≡ s.limit
   pub same_stream : t.stream ≡ s.stream
   pub counted : t.taken ≡ s.taken + length (requests_in kept)
   pub drawn : t.place ≡ s.place + words_of kept
   pub come : ComeFrom s.outside s.stream s.place kept
-  pub given : GiveUpTo s.taken s.unread (requests_in kept) (λ rest. t.unread ≡ Some rest)
+  pub given : GiveUpTo s.limit s.taken s.unread (requests_in kept) (λ rest. t.unread ≡ Some rest)
 
 pub answered_nothing : (s : Standing) → s.fault ≡ None → HasAnswered s s []
 answered_nothing s none = record {
   unspoilt = none;
   steady = refl;
   same = refl;
+  same_limit = refl;
   same_stream = refl;
   counted = omega arith;
   drawn = omega arith;
   come = tt;
-  given = passed_nothing s.taken s.unread;
+  given = passed_nothing s.limit s.taken s.unread;
 }
 
 pub answered_first : (kind : Kind) (s t u : Standing) (a : Answer) (more : List Kept)
@@ -113,6 +115,7 @@ answered_first kind s t u a more hands others =
       unspoilt = others.unspoilt;
       steady = others.steady ∙ hands.steady;
       same = others.same ∙ hands.same;
+      same_limit = others.same_limit ∙ hands.same_limit;
       same_stream = others.same_stream ∙ hands.same_stream;
       counted = omega (arith, count, counts, long);
       drawn = omega (arith, place, places);
@@ -122,35 +125,38 @@ answered_first kind s t u a more hands others =
             (subst (λ v. ComeFrom t.outside v (s.place + words_in a) more) hands.same_stream
             (subst (λ k. ComeFrom t.outside t.stream k more) place others.come)),
       );
-      given = up_to_on s.taken s.unread t.unread (request_in a) (requests_in more)
+      given = up_to_on s.limit s.taken s.unread t.unread (request_in a) (requests_in more)
           (λ rest. u.unread ≡ Some rest) one.given
-          (subst (λ n. GiveUpTo n t.unread (requests_in more) (λ rest. u.unread ≡ Some rest)) count
-          others.given);
+          (subst (λ n. GiveUpTo s.limit n t.unread (requests_in more)
+          (λ rest. u.unread ≡ Some rest)) count
+          (subst (λ n. GiveUpTo n t.taken t.unread (requests_in more)
+          (λ rest. u.unread ≡ Some rest)) hands.same_limit others.given));
     }
 
 -- ---- behind them
 
 module _ (s u t : Standing) (kept : List Kept) (before : HasAnswered s u kept) (kind : Kind) where
   -- what the lines give behind these answers
-  behind : (P : List ℕ → Type 0) → GiveUpTo u.taken u.unread [] P
-      → GiveUpTo s.taken s.unread (requests_in kept) P
+  behind : (P : List ℕ → Type 0) → GiveUpTo u.limit u.taken u.unread [] P
+      → GiveUpTo s.limit s.taken s.unread (requests_in kept) P
   behind P back =
-      subst (λ k. GiveUpTo s.taken s.unread k P) (append-nil (requests_in kept))
-      (up_to_on s.taken s.unread u.unread (requests_in kept) [] P before.given
-      (subst (λ n. GiveUpTo n u.unread [] P) before.counted back))
+      subst (λ k. GiveUpTo s.limit s.taken s.unread k P) (append-nil (requests_in kept))
+      (up_to_on s.limit s.taken s.unread u.unread (requests_in kept) [] P before.given
+      (subst (λ n. GiveUpTo s.limit n u.unread [] P) before.counted
+      (subst (λ n. GiveUpTo n u.taken u.unread [] P) before.same_limit back)))
 
   -- the lines have come to their end
   abbrev AreOver : Type 0
-  AreOver = GiveUpTo u.taken u.unread [] (λ rest. (rest ≡ []) × (t.unread ≡ Some rest))
+  AreOver = GiveUpTo u.limit u.taken u.unread [] (λ rest. (rest ≡ []) × (t.unread ≡ Some rest))
 
   -- none is left
   pub none_left : HandsNext kind u (Ok None) t → (kind ≡ kinds.Request) × (t.failed ≡ s.failed)
-      × GiveUpTo s.taken s.unread (requests_in kept) (λ rest. rest ≡ [])
+      × GiveUpTo s.limit s.taken s.unread (requests_in kept) (λ rest. rest ≡ [])
   none_left hands =
       let found = of_request kind hands.finds in (
         found.0,
         hands.steady ∙ before.steady,
-        behind (λ rest. rest ≡ []) (ends u.taken u.unread t.unread found.1),
+        behind (λ rest. rest ≡ []) (ends u.limit u.taken u.unread t.unread found.1),
       )
     where
       of_request : (kind : Kind) → Finds kind u None t → (kind ≡ kinds.Request) × AreOver
@@ -159,19 +165,30 @@ module _ (s u t : Standing) (kept : List Kept) (before : HasAnswered s u kept) (
       of_request kinds.Monotonic found = absurd found
       of_request (kinds.Random n) found = absurd found
 
-      ends : (n : ℕ) (old new : Option (List ℕ))
-          → GiveUpTo n old [] (λ rest. (rest ≡ []) × (new ≡ Some rest))
-          → GiveUpTo n old [] (λ rest. rest ≡ [])
-      ends n None new h = tt
-      ends n (Some bytes) new h = (h.0, h.1, h.2.0)
+      ends : (limit n : ℕ) (old new : Option (List ℕ))
+          → GiveUpTo limit n old [] (λ rest. (rest ≡ []) × (new ≡ Some rest))
+          → GiveUpTo limit n old [] (λ rest. rest ≡ [])
+      ends limit n None new h = tt
+      ends limit n (Some bytes) new h = (h.0, h.1, h.2.0)
 
-  misses_behind : (why : LineFault) → MissesNext u.taken u.unread [] u.failed t.failed
-      why → MissesNext s.taken s.unread (requests_in kept) s.failed t.failed why
+  -- what holds of the lines by how long a text may be
+  behind_so : (P : ℕ → List ℕ → Type 0) → GiveUpTo u.limit u.taken u.unread [] (P u.limit)
+      → GiveUpTo s.limit s.taken s.unread (requests_in kept) (P s.limit)
+  behind_so P back =
+      subst (λ n. GiveUpTo s.limit s.taken s.unread (requests_in kept) (P n)) before.same_limit
+      (behind (P u.limit) back)
+
+  misses_behind : (why : LineFault) → MissesNext u.limit u.taken u.unread [] u.failed t.failed
+      why → MissesNext s.limit s.taken s.unread (requests_in kept) s.failed t.failed why
   misses_behind (line.Number given wanted) h =
       let count = before.counted in
-      let is = h.0 in
-      (omega (arith, count, is), h.1, behind (BeginsWithNumber given) h.2, h.3 ∙ before.steady)
-  misses_behind line.Form h = (behind BeginsWithOther h.0, h.1 ∙ before.steady)
+      let is = h.0 in (
+        omega (arith, count, is),
+        h.1,
+        behind_so (λ n. BeginsWithNumber n given) h.2,
+        h.3 ∙ before.steady,
+      )
+  misses_behind line.Form h = (behind_so BeginsWithOther h.0, h.1 ∙ before.steady)
   misses_behind line.Read h = h
   misses_behind line.Memory (inl h) = inl h
   misses_behind line.Memory (inr h) = inr (behind AreSome h.0, h.1 ∙ before.steady)
@@ -188,7 +205,7 @@ module _ (s u t : Standing) (kept : List Kept) (before : HasAnswered s u kept) (
 
   -- why a question behind them is refused
   abbrev IsRefused : Kind → LineFault → Type 0
-  IsRefused k why = IsRefusedFor k s.outside (s.place + words_of kept) s.taken s.unread
+  IsRefused k why = IsRefusedFor k s.outside s.limit (s.place + words_of kept) s.taken s.unread
       (requests_in kept) s.failed t.failed why
 
   refused_behind : (k : Kind) (why : LineFault) → IsRefusedAt k u t.failed why → IsRefused k why
@@ -198,7 +215,7 @@ module _ (s u t : Standing) (kept : List Kept) (before : HasAnswered s u kept) (
   refused_behind (kinds.Random n) why h = (wordless_behind n why h.0, h.1 ∙ before.steady)
 
   left_by : (e : SourceFault) → HandsNext kind u (Err e) t → LeavesFault kind u t None
-  left_by e h = subst (LeavesFault kind u t) before.unspoilt h.4
+  left_by e h = subst (LeavesFault kind u t) before.unspoilt h.5
 
   pub refused_for : (e : SourceFault) (why : LineFault) → t.fault ≡ Some why
       → HandsNext kind u (Err e) t → IsRefused kind why

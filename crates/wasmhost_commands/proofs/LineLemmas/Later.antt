@@ -5,37 +5,37 @@ use Rattle.wasmhost_commands.specs.rules.Later.{CountsLater, IsLaterLine, IsOthe
 use Rattle.wasmhost_commands.specs.rules.Pieces.{lines_of}
 
 -- Of the text's lines so many were counted in front of the rest, however many are in it.
-pub record HasCounted (taken : ℕ) (text : List ℕ) (count : ℕ) (rest : List ℕ) : Type 0 where
+pub record HasCounted (limit taken : ℕ) (text : List ℕ) (count : ℕ) (rest : List ℕ) : Type 0 where
   pub within : count + length rest ≤ length text
-  pub counts : (more : ℕ) → CountsLater taken (lines_of rest) more
-      → CountsLater taken (lines_of text) (count + more)
+  pub counts : (more : ℕ) → CountsLater limit taken (lines_of rest) more
+      → CountsLater limit taken (lines_of text) (count + more)
 
-pub begun_counting : (taken : ℕ) (text : List ℕ) → HasCounted taken text 0 text
-begun_counting taken text = record {
+pub begun_counting : (limit taken : ℕ) (text : List ℕ) → HasCounted limit taken text 0 text
+begun_counting limit taken text = record {
   within = omega arith;
-  counts = λ more h. subst (λ n. CountsLater taken (lines_of text) n) (omega arith) h;
+  counts = λ more h. subst (λ n. CountsLater limit taken (lines_of text) n) (omega arith) h;
 }
 
-module _ (taken : ℕ) (text : List ℕ) (count : ℕ) (rest line behind : List ℕ)
-    (so_far : HasCounted taken text count rest) (cut : lines_of rest ≡ line ∷ lines_of behind)
+module _ (limit taken : ℕ) (text : List ℕ) (count : ℕ) (rest line behind : List ℕ)
+    (so_far : HasCounted limit taken text count rest) (cut : lines_of rest ≡ line ∷ lines_of behind)
     (shorter : length behind < length rest) where
-  pub counted_later : IsLaterLine taken line → HasCounted taken text (count + 1) behind
+  pub counted_later : IsLaterLine limit taken line → HasCounted limit taken text (count + 1) behind
   counted_later later = record {
     within = (let room = so_far.within in omega (arith, room, shorter));
     counts = λ more h.
-        let one : CountsLater taken (line ∷ lines_of behind) (suc more) =
+        let one : CountsLater limit taken (line ∷ lines_of behind) (suc more) =
         inl (more, refl, later, h) in
-        let all = so_far.counts (suc more) (subst (λ l. CountsLater taken l (suc more)) (sym cut)
-        one) in
-        subst (λ n. CountsLater taken (lines_of text) n) (omega arith) all;
+        let all = so_far.counts (suc more)
+        (subst (λ l. CountsLater limit taken l (suc more)) (sym cut) one) in
+        subst (λ n. CountsLater limit taken (lines_of text) n) (omega arith) all;
   }
 
-  pub counted_other : IsOtherLine taken line → HasCounted taken text count behind
+  pub counted_other : IsOtherLine limit taken line → HasCounted limit taken text count behind
   counted_other other = record {
     within = (let room = so_far.within in omega (arith, room, shorter));
     counts = λ more h.
-        let one : CountsLater taken (line ∷ lines_of behind) more = inr (other, h) in
-        so_far.counts more (subst (λ l. CountsLater taken l more) (sym cut) one);
+        let one : CountsLater limit taken (line ∷ lines_of behind) more = inr (other, h) in
+        so_far.counts more (subst (λ l. CountsLater limit taken l more) (sym cut) one);
   }
 
 no_lines : lines_of [] ≡ []
@@ -43,9 +43,10 @@ unfolding lines_of
 no_lines = refl
 
 -- nothing is left
-pub all_counted : (taken : ℕ) (text : List ℕ) (count : ℕ) (rest : List ℕ)
-    → HasCounted taken text count rest → rest ≡ [] → CountsLater taken (lines_of text) count
-all_counted taken text count rest so_far empty =
+pub all_counted : (limit taken : ℕ) (text : List ℕ) (count : ℕ) (rest : List ℕ)
+    → HasCounted limit taken text count rest → rest ≡ []
+    → CountsLater limit taken (lines_of text) count
+all_counted limit taken text count rest so_far empty =
     let none : lines_of rest ≡ [] = ap lines_of empty ∙ no_lines in
-    let last = so_far.counts 0 (subst (λ l. CountsLater taken l 0) (sym none) refl) in
-    subst (λ n. CountsLater taken (lines_of text) n) (omega arith) last
+    let last = so_far.counts 0 (subst (λ l. CountsLater limit taken l 0) (sym none) refl) in
+    subst (λ n. CountsLater limit taken (lines_of text) n) (omega arith) last

@@ -14,50 +14,51 @@ use Rattle.wasmhost_commands.specs.rules.Requests.{passed, taken, GiveUpTo, Begi
 use Rattle.wasmhost_commands.specs.rules.Texts.{IsShortRequest, request_line}
 
 -- answers behind others
-pub gives_on : (before : ℕ) (bytes : List ℕ) (kept : List Kept) (mid : List ℕ)
-    → GivesAnswers before bytes kept mid
-    → (more : List Kept) (rest : List ℕ) → GivesAnswers (before + length kept) mid more rest
-    → GivesAnswers before bytes (kept ++ more) rest
-gives_on before bytes kept mid front _ _ none =
-    subst (λ k. GivesAnswers before bytes k mid) (sym (append-nil kept)) front
-gives_on before bytes kept mid front more _ (passed _ rest r gives begins earlier) =
+pub gives_on : (limit before : ℕ) (bytes : List ℕ) (kept : List Kept) (mid : List ℕ)
+    → GivesAnswers limit before bytes kept mid
+    → (more : List Kept) (rest : List ℕ) → GivesAnswers limit (before + length kept) mid more rest
+    → GivesAnswers limit before bytes (kept ++ more) rest
+gives_on limit before bytes kept mid front _ _ none =
+    subst (λ k. GivesAnswers limit before bytes k mid) (sym (append-nil kept)) front
+gives_on limit before bytes kept mid front more _ (passed _ rest r gives begins earlier) =
     let long = length-append kept more in
-    passed (kept ++ more) rest r (gives_on before bytes kept mid front more rest gives) begins
+    passed (kept ++ more) rest r (gives_on limit before bytes kept mid front more rest gives) begins
     (omega (arith, earlier, long))
-gives_on before bytes kept mid front _ _ (taken more rest r gives begins next) =
+gives_on limit before bytes kept mid front _ _ (taken more rest r gives begins next) =
     let long = length-append kept more in
-    subst (λ k. GivesAnswers before bytes k (drop_through newline rest))
+    subst (λ k. GivesAnswers limit before bytes k (drop_through newline rest))
     (append_assoc kept more (Given (answer_in r) ∷ []))
-    (taken (kept ++ more) rest r (gives_on before bytes kept mid front more rest gives) begins
+    (taken (kept ++ more) rest r (gives_on limit before bytes kept mid front more rest gives) begins
     (omega (arith, next, long)))
 
-pub up_to_on : (before : ℕ) (lines now : Option (List ℕ)) (kept more : List Kept) (P : List ℕ
+pub up_to_on : (limit before : ℕ) (lines now : Option (List ℕ)) (kept more : List Kept) (P : List ℕ
     → Type 0)
-    → GiveUpTo before lines kept (λ rest. now ≡ Some rest)
-    → GiveUpTo (before + length kept) now more P → GiveUpTo before lines (kept ++ more) P
-up_to_on before None now kept more P front back = tt
-up_to_on before (Some bytes) now kept more P front back =
-    let here : GiveUpTo (before + length kept) (Some front.0) more P =
-    subst (λ z. GiveUpTo (before + length kept) z more P) front.2 back in
-    (here.0, gives_on before bytes kept front.0 front.1 more here.0 here.1, here.2)
+    → GiveUpTo limit before lines kept (λ rest. now ≡ Some rest)
+    → GiveUpTo limit (before + length kept) now more P
+    → GiveUpTo limit before lines (kept ++ more) P
+up_to_on limit before None now kept more P front back = tt
+up_to_on limit before (Some bytes) now kept more P front back =
+    let here : GiveUpTo limit (before + length kept) (Some front.0) more P =
+    subst (λ z. GiveUpTo limit (before + length kept) z more P) front.2 back in
+    (here.0, gives_on limit before bytes kept front.0 front.1 more here.0 here.1, here.2)
 
 none_more : (n : ℕ) → n ≡ n + 0
 none_more n = omega arith
 
 -- behind taken requests alone
-pub behind_passed : (before : ℕ) (lines now : Option (List ℕ)) (more : List Kept) (P : List ℕ
+pub behind_passed : (limit before : ℕ) (lines now : Option (List ℕ)) (more : List Kept) (P : List ℕ
     → Type 0)
-    → GiveUpTo before lines [] (λ rest. now ≡ Some rest) → GiveUpTo before now more P
-    → GiveUpTo before lines more P
-behind_passed before lines now more P front back =
-    up_to_on before lines now [] more P front
-    (subst (λ n. GiveUpTo n now more P) (none_more before) back)
+    → GiveUpTo limit before lines [] (λ rest. now ≡ Some rest) → GiveUpTo limit before now more P
+    → GiveUpTo limit before lines more P
+behind_passed limit before lines now more P front back =
+    up_to_on limit before lines now [] more P front
+    (subst (λ n. GiveUpTo limit n now more P) (none_more before) back)
 
-pub up_to_map : (before : ℕ) (lines : Option (List ℕ)) (kept : List Kept) (P Q : List ℕ → Type 0)
-    → ((rest : List ℕ) → P rest → Q rest)
-    → GiveUpTo before lines kept P → GiveUpTo before lines kept Q
-up_to_map before None kept P Q f h = tt
-up_to_map before (Some bytes) kept P Q f h = (h.0, h.1, f h.0 h.2)
+pub up_to_map : (limit before : ℕ) (lines : Option (List ℕ)) (kept : List Kept)
+    (P Q : List ℕ → Type 0) → ((rest : List ℕ) → P rest → Q rest)
+    → GiveUpTo limit before lines kept P → GiveUpTo limit before lines kept Q
+up_to_map limit before None kept P Q f h = tt
+up_to_map limit before (Some bytes) kept P Q f h = (h.0, h.1, f h.0 h.2)
 
 pub if_some_map : (a : Option (List ℕ)) (P Q : List ℕ → Type 0)
     → ((bytes : List ℕ) → P bytes → Q bytes) → IfSome a P → IfSome a Q
@@ -65,25 +66,25 @@ if_some_map None P Q f h = tt
 if_some_map (Some bytes) P Q f h = f bytes h
 
 -- no line is read
-pub up_to_here : (before : ℕ) (lines : Option (List ℕ)) (P : List ℕ → Type 0) → IfSome lines P
-    → GiveUpTo before lines [] P
-up_to_here before None P h = tt
-up_to_here before (Some bytes) P h = (bytes, none, h)
+pub up_to_here : (limit before : ℕ) (lines : Option (List ℕ)) (P : List ℕ → Type 0) → IfSome lines P
+    → GiveUpTo limit before lines [] P
+up_to_here limit before None P h = tt
+up_to_here limit before (Some bytes) P h = (bytes, none, h)
 
-pub passed_nothing : (before : ℕ) (lines : Option (List ℕ))
-    → GiveUpTo before lines [] (λ rest. lines ≡ Some rest)
-passed_nothing before None = tt
-passed_nothing before (Some bytes) = (bytes, none, refl)
+pub passed_nothing : (limit before : ℕ) (lines : Option (List ℕ))
+    → GiveUpTo limit before lines [] (λ rest. lines ≡ Some rest)
+passed_nothing limit before None = tt
+passed_nothing limit before (Some bytes) = (bytes, none, refl)
 
 -- a line of the reader at b, which is this request's
-module _ (before : ℕ) (line : List ℕ) (r : Request) (numbered : IsNumberedRequest r)
-    (short : IsShortRequest r) (spelled : line ≡ request_line r) where
-  begins : (bytes : List ℕ) → line ≡ first_piece newline bytes → BeginsWithRequest bytes r
+module _ (limit before : ℕ) (line : List ℕ) (r : Request) (numbered : IsNumberedRequest r)
+    (short : IsShortRequest limit r) (spelled : line ≡ request_line r) where
+  begins : (bytes : List ℕ) → line ≡ first_piece newline bytes → BeginsWithRequest limit bytes r
   begins bytes is = record { numbered = numbered; short = short; line = sym is ∙ spelled }
 
   pub steps_over : (b c : Option (List ℕ)) → IfSome b (λ bytes. line ≡ first_piece newline bytes)
       → DropsThrough b c newline → request_number r ≤ before
-      → GiveUpTo before b [] (λ rest. c ≡ Some rest)
+      → GiveUpTo limit before b [] (λ rest. c ≡ Some rest)
   steps_over None c is rest earlier = tt
   steps_over (Some bytes) c is rest earlier = (
     drop_through newline bytes,
@@ -95,7 +96,7 @@ module _ (before : ℕ) (line : List ℕ) (r : Request) (numbered : IsNumberedRe
   pub takes_request : (b c : Option (List ℕ))
       → IfSome b (λ bytes. line ≡ first_piece newline bytes) → DropsThrough b c newline
       → request_number r ≡ before + 1
-      → GiveUpTo before b (Given (answer_in r) ∷ []) (λ rest. c ≡ Some rest)
+      → GiveUpTo limit before b (Given (answer_in r) ∷ []) (λ rest. c ≡ Some rest)
   takes_request None c is rest next = tt
   takes_request (Some bytes) c is rest next = (
     drop_through newline bytes,
@@ -105,18 +106,20 @@ module _ (before : ℕ) (line : List ℕ) (r : Request) (numbered : IsNumberedRe
 
   pub begins_with_number : (given : ℕ) (b : Option (List ℕ))
       → IfSome b (λ bytes. line ≡ first_piece newline bytes) → given ≡ request_number r
-      → IfSome b (BeginsWithNumber given)
+      → IfSome b (BeginsWithNumber limit given)
   begins_with_number given None is e = tt
   begins_with_number given (Some bytes) is e = (r, begins bytes is, sym e)
 
 -- there is no line
-pub comes_to_end : (before : ℕ) (b c : Option (List ℕ)) → IsAtEnd b → DropsThrough b c newline
-    → GiveUpTo before b [] (λ rest. (rest ≡ []) × (c ≡ Some rest))
-comes_to_end before None c end rest = tt
-comes_to_end before (Some bytes) c end rest =
+pub comes_to_end : (limit before : ℕ) (b c : Option (List ℕ)) → IsAtEnd b → DropsThrough b c newline
+    → GiveUpTo limit before b [] (λ rest. (rest ≡ []) × (c ≡ Some rest))
+comes_to_end limit before None c end rest = tt
+comes_to_end limit before (Some bytes) c end rest =
     (bytes, none, (end, rest ∙ ap (λ l. Some (drop_through newline l)) end ∙ sym (ap Some end)))
 
 -- an answer is the same under another name
-pub is_given : (before : ℕ) (lines : Option (List ℕ)) (a b : Answer) (P : List ℕ → Type 0) → a ≡ b
-    → GiveUpTo before lines (Given b ∷ []) P → GiveUpTo before lines (Given a ∷ []) P
-is_given before lines a b P e h = subst (λ x. GiveUpTo before lines (Given x ∷ []) P) (sym e) h
+pub is_given : (limit before : ℕ) (lines : Option (List ℕ)) (a b : Answer) (P : List ℕ → Type 0)
+    → a ≡ b → GiveUpTo limit before lines (Given b ∷ []) P
+    → GiveUpTo limit before lines (Given a ∷ []) P
+is_given limit before lines a b P e h =
+    subst (λ x. GiveUpTo limit before lines (Given x ∷ []) P) (sym e) h

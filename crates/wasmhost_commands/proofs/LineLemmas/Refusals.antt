@@ -12,7 +12,6 @@ use Rattle.std.specs.Io.{StartsWith, StopsAt}
 use Rattle.std.specs.Io.BufRead.{take_through, strip_last, first_piece, ends_with_byte}
 use Rattle.std.specs.Io.KnownBytes.{Consumes, IsAtEnd, Keeps}
 use Rattle.wasi_abi.specs.rules.Answers.{newline}
-use Rattle.wasi_calls_rules.specs.declared.limits.TheConstants.{TEXT_BYTES}
 use Rattle.wasmhost_commands.specs.declared.lines.fault.LineFault.{LineFault}
 use Rattle.wasmhost_commands.specs.declared.lines.fault.LineFault.TheVariants as fault
 use Rattle.wasmhost_commands.specs.declared.lines.request.Request.TheVariants as request
@@ -29,14 +28,14 @@ few_digits : (n : ℕ) → n < 2 ^ 63 → length (decimal n) ≤ 19
 few_digits n small = length-decimal-le 19 n (omega arith) (omega (arith, small))
     (omega (arith, small))
 
-request_is_short : (line : List ℕ) → IsRequestLine line → length line ≤ TEXT_BYTES + 22
-request_is_short line (request.Text number text, numbered, short, is) =
+request_is_short : (most : ℕ) (line : List ℕ) → IsRequestLine most line → length line ≤ most + 22
+request_is_short most line (request.Text number text, numbered, short, is) =
     let digits = few_digits number numbered.1 in
     let same : length line ≡ length (decimal number ++ codes " r " ++ text.now) = ap length is in
     let whole = length-append (decimal number ++ codes " r ") text.now in
     let front = length-append (decimal number) (codes " r ") in
     omega (arith, digits, same, whole, front, short)
-request_is_short line (request.End number, numbered, short, is) =
+request_is_short most line (request.End number, numbered, short, is) =
     let digits = few_digits number numbered.1 in
     let same : length line ≡ length (decimal number ++ codes " e") = ap length is in
     let first = length-append (decimal number) (codes " e") in
@@ -115,10 +114,10 @@ begins_with limit (Some xs) line shown n within front stops long =
       long = omega (arith, count, long);
     }
 
-long_line : (limit : ℕ) (line bytes : List ℕ) → TEXT_BYTES + 24 ≤ limit
+long_line : (most limit : ℕ) (line bytes : List ℕ) → most + 24 ≤ limit
     → All (λ x. x ≢ newline) line → GrowsTooLong limit line bytes
-    → BeginsTooLong (line ++ bytes)
-long_line limit line bytes most free grows =
+    → BeginsTooLong most (line ++ bytes)
+long_line most limit line bytes within_limit free grows =
     let split : bytes ≡ grows.piece ++ drop (length grows.piece) bytes =
     sym (take-append-drop (length grows.piece) bytes)
     ∙ ap (λ l. l ++ drop (length grows.piece) bytes) grows.front in
@@ -128,15 +127,15 @@ long_line limit line bytes most free grows =
     ∙ length-append line (take_through newline bytes) in
     let cut = stripped_length (take_through newline (line ++ bytes)) in
     let long = grows.long in
-    omega (arith, most, within, through, cut, long)
+    omega (arith, within_limit, within, through, cut, long)
 
-read_too_long : (limit : ℕ) (a b : Option (List ℕ)) (line : List ℕ) → TEXT_BYTES + 24 ≤ limit
+read_too_long : (most limit : ℕ) (a b : Option (List ℕ)) (line : List ℕ) → most + 24 ≤ limit
     → Consumes a b line → All (λ x. x ≢ newline) line
-    → IfSome b (GrowsTooLong limit line) → IfSome a BeginsTooLong
-read_too_long limit None b line most read free grows = tt
-read_too_long limit (Some xs) None line most read free grows = absurd read
-read_too_long limit (Some xs) (Some ys) line most read free grows =
-    subst BeginsTooLong (sym read) (long_line limit line ys most free grows)
+    → IfSome b (GrowsTooLong limit line) → IfSome a (BeginsTooLong most)
+read_too_long most limit None b line within read free grows = tt
+read_too_long most limit (Some xs) None line within read free grows = absurd read
+read_too_long most limit (Some xs) (Some ys) line within read free grows =
+    subst (BeginsTooLong most) (sym read) (long_line most limit line ys within free grows)
 
 -- bytes behind others are bytes
 some_behind : (line bytes : List ℕ) → AreSome bytes → AreSome (line ++ bytes)
@@ -150,22 +149,24 @@ some_read None b line read some = tt
 some_read (Some xs) None line read some = absurd read
 some_read (Some xs) (Some ys) line read some = subst AreSome (sym read) (some_behind line ys some)
 
-pub fails_reading : (limit : ℕ) (a b : Option (List ℕ)) (line : List ℕ) (failed now failed' : Bool)
-    (why : LineFault) → TEXT_BYTES + 24 ≤ limit
+pub fails_reading : (most limit : ℕ) (a b : Option (List ℕ)) (line : List ℕ)
+    (failed now failed' : Bool) (why : LineFault) → most + 24 ≤ limit
     → Consumes a b line → All (λ x. x ≢ newline) line → now ≡ failed
     → IsFaultOfReading (IfSome b (GrowsTooLong limit line)) (IfSome b AreSome) now failed' why
-    → IsFaultOfLine a failed failed' why
-fails_reading limit a b line failed now failed' fault.Form most read free e fails =
-    (read_too_long limit a b line most read free fails.0, fails.1 ∙ e)
-fails_reading limit a b line failed now failed' fault.Read most read free e fails = fails
-fails_reading limit a b line failed now failed' fault.Memory most read free e (inl fails) =
+    → IsFaultOfLine most a failed failed' why
+fails_reading most limit a b line failed now failed' fault.Form within read free e fails =
+    (read_too_long most limit a b line within read free fails.0, fails.1 ∙ e)
+fails_reading most limit a b line failed now failed' fault.Read within read free e fails = fails
+fails_reading most limit a b line failed now failed' fault.Memory within read free e (inl fails) =
     inl fails
-fails_reading limit a b line failed now failed' fault.Memory most read free e (inr fails) =
+fails_reading most limit a b line failed now failed' fault.Memory within read free e (inr fails) =
     inr (some_read a b line read fails.0, fails.1 ∙ e)
-fails_reading limit a b line failed now failed' fault.Clock most read free e fails = absurd fails
-fails_reading limit a b line failed now failed' fault.Words most read free e fails = absurd fails
-fails_reading limit a b line failed now failed' (fault.Number given wanted) most read free e fails
-    = absurd fails
+fails_reading most limit a b line failed now failed' fault.Clock within read free e fails =
+    absurd fails
+fails_reading most limit a b line failed now failed' fault.Words within read free e fails =
+    absurd fails
+fails_reading most limit a b line failed now failed' (fault.Number given wanted) within read free e
+    fails = absurd fails
 
 pub some_bytes : (a : Option (List ℕ)) (line : List ℕ)
     → IfSome a (λ xs. line ≡ take_through newline xs) → 0 < length line
@@ -176,23 +177,25 @@ some_bytes (Some xs) line is some = λ none. let e = ap length (is ∙ ap (take_
 
 -- ---- behind taken requests
 
-too_long_is_other : (bytes : List ℕ) → BeginsTooLong bytes → BeginsWithOther bytes
-too_long_is_other bytes long = (
+too_long_is_other : (limit : ℕ) (bytes : List ℕ) → BeginsTooLong limit bytes
+    → BeginsWithOther limit bytes
+too_long_is_other limit bytes long = (
   λ none. let e = ap (λ l. length (first_piece newline l)) none in omega (arith, e, long),
-  λ line. let short = request_is_short (first_piece newline bytes) line
+  λ line. let short = request_is_short limit (first_piece newline bytes) line
       in omega (arith, short, long),
 )
 
-module _ (before : ℕ) (a b : Option (List ℕ))
-    (front : GiveUpTo before a [] (λ rest. b ≡ Some rest)) where
+module _ (limit before : ℕ) (a b : Option (List ℕ))
+    (front : GiveUpTo limit before a [] (λ rest. b ≡ Some rest)) where
   -- what holds of the lines that are left
-  pub holds_behind : (P : List ℕ → Type 0) → IfSome b P → GiveUpTo before a [] P
-  holds_behind P h = behind_passed before a b [] P front (up_to_here before b P h)
+  pub holds_behind : (P : List ℕ → Type 0) → IfSome b P → GiveUpTo limit before a [] P
+  holds_behind P h = behind_passed limit before a b [] P front (up_to_here limit before b P h)
 
   pub misses_line : (failed now failed' : Bool) (why : LineFault) → now ≡ failed
-      → IsFaultOfLine b now failed' why → MissesNext before a [] failed failed' why
+      → IsFaultOfLine limit b now failed' why → MissesNext limit before a [] failed failed' why
   misses_line failed now failed' fault.Form e fails = (
-    holds_behind BeginsWithOther (if_some_map b BeginsTooLong BeginsWithOther too_long_is_other
+    holds_behind (BeginsWithOther limit)
+        (if_some_map b (BeginsTooLong limit) (BeginsWithOther limit) (too_long_is_other limit)
         fails.0),
     fails.1 ∙ e,
   )
@@ -205,13 +208,15 @@ module _ (before : ℕ) (a b : Option (List ℕ))
   misses_line failed now failed' (fault.Number given wanted) e fails = absurd fails
 
 -- a line that is there is no request line
-pub is_other_line : (line : List ℕ) (b : Option (List ℕ))
+pub is_other_line : (limit : ℕ) (line : List ℕ) (b : Option (List ℕ))
     → IfSome b (λ bytes. line ≡ first_piece newline bytes) → IfSome b AreSome
-    → (IsRequestLine line → ⊥) → IfSome b BeginsWithOther
-is_other_line line None is some other = tt
-is_other_line line (Some bytes) is some other = (some, subst (λ l. IsRequestLine l → ⊥) is other)
+    → (IsRequestLine limit line → ⊥) → IfSome b (BeginsWithOther limit)
+is_other_line limit line None is some other = tt
+is_other_line limit line (Some bytes) is some other =
+    (some, subst (λ l. IsRequestLine limit l → ⊥) is other)
 
 -- what no request is read of is no request line
-pub no_line : (line shown : List ℕ) → shown ≡ line → (IsRequestLine shown → false ≡ true)
-    → IsRequestLine line → ⊥
-no_line line shown same none is = absurd (false≢true (none (subst IsRequestLine (sym same) is)))
+pub no_line : (limit : ℕ) (line shown : List ℕ) → shown ≡ line
+    → (IsRequestLine limit shown → false ≡ true) → IsRequestLine limit line → ⊥
+no_line limit line shown same none is =
+    absurd (false≢true (none (subst (IsRequestLine limit) (sym same) is)))

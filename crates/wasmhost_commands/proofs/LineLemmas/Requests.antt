@@ -7,7 +7,6 @@ use Rattle.std.proofs.Math.Seq.{take-append_seam, drop-append-add, get_or-append
 use Rattle.std.proofs.lemmas.Fmt.{decimal_is_IsNumeral}
 use Rattle.std.proofs.lemmas.List.{append_assoc, length-append, take_all}
 use Rattle.std.proofs.lemmas.Str.Parse.{digit_at}
-use Rattle.wasi_calls_rules.specs.declared.limits.TheConstants.{TEXT_BYTES}
 use Rattle.wasmhost_commands.specs.rules.Texts.{IsRequestLine}
 use Rattle.wasmhost_commands.specs.declared.lines.request.Request.TheVariants as request
 
@@ -55,28 +54,28 @@ module _ (line front back : List ℕ) (is : line ≡ front ++ 32 ∷ back) where
             ∙ take_all _ back (let long = ap length is ∙ length-append front (32 ∷ back) in
             omega (arith, long))
 
--- what is said behind the number: a text that isn't too long, or the end
-pub data IsSaid : List ℕ → Type 0 where
-  of_text : (bytes : List ℕ) → length bytes ≤ TEXT_BYTES → IsSaid (codes "r " ++ bytes)
-  of_end : IsSaid (codes "e")
+-- what is said behind the number: a text of so many bytes at most, or the end
+pub data IsSaid (limit : ℕ) : List ℕ → Type 0 where
+  of_text : (bytes : List ℕ) → length bytes ≤ limit → IsSaid limit (codes "r " ++ bytes)
+  of_end : IsSaid limit (codes "e")
 
-pub is_read : {said back : List ℕ} {P : Type 0} → IsSaid back → said ≡ back
-    → ((bytes : List ℕ) → said ≡ codes "r " ++ bytes → length bytes ≤ TEXT_BYTES → P)
+pub is_read : {limit : ℕ} {said back : List ℕ} {P : Type 0} → IsSaid limit back → said ≡ back
+    → ((bytes : List ℕ) → said ≡ codes "r " ++ bytes → length bytes ≤ limit → P)
     → (said ≡ codes "e" → P) → P
 is_read (of_text bytes short) is text end = text bytes is short
 is_read of_end is text end = end is
 
-pub record HasParts (line : List ℕ) : Type 0 where
+pub record HasParts (limit : ℕ) (line : List ℕ) : Type 0 where
   pub number : ℕ
   pub positive : 1 ≤ number
   pub small : number < 2 ^ 63
   pub back : List ℕ
-  pub said : IsSaid back
+  pub said : IsSaid limit back
   pub whole : line ≡ decimal number ++ 32 ∷ back
   pub no_space : (k : ℕ) → k < length (decimal number) → slice_index (decimal number) k ≢ 32
 
-pub has_parts : (line : List ℕ) → IsRequestLine line → HasParts line
-has_parts line (request.Text number bytes, numbered, short, is) =
+pub has_parts : (limit : ℕ) (line : List ℕ) → IsRequestLine limit line → HasParts limit line
+has_parts limit line (request.Text number bytes, numbered, short, is) =
     record {
       number = number;
       positive = numbered.0;
@@ -86,7 +85,7 @@ has_parts line (request.Text number bytes, numbered, short, is) =
       whole = is ∙ append_assoc (decimal number) (codes " r ") bytes.now;
       no_space = no_space number numbered.1;
     }
-has_parts line (request.End number, numbered, short, is) =
+has_parts limit line (request.End number, numbered, short, is) =
     record {
       number = number;
       positive = numbered.0;

@@ -46,7 +46,8 @@ full_alone word =
     full_if (bytes_eq word (codes "life")) _ _ tt
     (full_if (bytes_eq word (codes "end")) _ _ tt
     (full_if (bytes_eq word (codes "random")) _ _ tt
-    (full_if (bytes_eq word (codes "checkpoint")) _ _ tt tt)))
+    (full_if (bytes_eq word (codes "checkpoint")) _ _ tt
+    (full_if (bytes_eq word (codes "upgrade")) _ _ tt tt))))
 
 full_number : (word : List ℕ) (n : ℕ) → IsFullOption (said_with_number word n)
 full_number word n =

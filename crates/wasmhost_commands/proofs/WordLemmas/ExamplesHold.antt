@@ -13,6 +13,7 @@ path_examples = record {
   shows = (refl, refl, refl);
   inspects = (refl, refl, refl);
   lists_files = (refl, refl, refl);
+  upgrades = (refl, refl, refl);
   gives_a_file = (refl, refl, refl);
 }
 
@@ -82,6 +83,8 @@ path_mistakes = record {
   inspect_of_none = refl;
   files_of_none = refl;
   files_of_two = refl;
+  upgrade_of_none = refl;
+  upgrade_of_two = refl;
   story_of_none = refl;
   story_of_no_module = refl;
   story_of_two_modules = refl;
@@ -110,6 +113,7 @@ option_mistakes = record {
   no_entry = refl;
   fuel_of_a_check = refl;
   fuel_of_a_creation = refl;
+  fuel_of_an_upgrade = refl;
   pages_of_a_run = refl;
   entry_of_a_run = refl;
   pages_of_no_number = refl;

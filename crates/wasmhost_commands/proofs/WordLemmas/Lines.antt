@@ -1,4 +1,4 @@
--- Words for which no fault is listed name one of the eight commands, with what it needs.
+-- Words for which no fault is listed name one of the nine commands, with what it needs.
 use Rattle.std.proofs.Common.{◌≡◌, ◌<◌, ◌≤◌, ◌^◌, ℕ, Bool, ◌||◌, not, cond, true, false, arith}
 use Rattle.std.proofs.Common.{refl, sym, subst, List, [], ◌∷◌, Option, Some, None}
 use Rattle.std.proofs.Common.{codes, true≢false, ◌⊎◌, inl, inr}
@@ -27,7 +27,7 @@ use Rattle.wasmhost_commands.specs.rules.Commands.{create, create_in, disk_in}
 use Rattle.wasmhost_commands.specs.rules.Commands.{guest_words, meaning_below, module_in, number_or}
 use Rattle.wasmhost_commands.specs.rules.Commands.{own_words, run, run_in, script_in, show}
 use Rattle.wasmhost_commands.specs.rules.Commands.{spelled_number, story, story_in, TakesOptions}
-use Rattle.wasmhost_commands.specs.rules.Commands.{files, inspect, sweep, sweep_in}
+use Rattle.wasmhost_commands.specs.rules.Commands.{files, inspect, sweep, sweep_in, upgrade}
 use Rattle.wasmhost_commands.specs.laws.Words.{FaultlessWordsMean, NumbersFit}
 use Rattle.wasmhost_commands.proofs.WordLemmas.Walks.{Keeps, found_each, no_first}
 use Rattle.wasmhost_commands.proofs.WordLemmas.Walks.{no_second, settled_good, some_kind, walk_good}
@@ -223,22 +223,12 @@ module _ (name : Text) (words : List Text) (no_help : bytes_eq name (codes "help
                         good e,
                   ))))))) e,
               (
-                λ here e. below_taken _ words (
-                  keeps_path 1 (codes "SCRIPT") (λ v. tt),
-                  (
-                    keeps_path 2 (codes "MODULE") (λ v. tt),
-                    (
-                      keeps_number 3 (codes "pages") 0 (λ v is. is),
-                      (
-                        keeps_number 3 (codes "files") 0 (λ v is. is),
-                        (keeps_number 3 (codes "journal") 0 (λ v is. is), (keeps_help, tt)),
-                      ),
-                    ),
-                  ),
-                )
-                    (unused, (unused, (unused, (unused, (unused, (unused, tt))))))
-                    (λ rows good e. inr (inr (inr (inr (inr (inr (inl (two_paths (codes "story")
-                    (codes "SCRIPT") (codes "MODULE") rows good e)))))))) e,
+                λ here e. below_taken _ words (keeps_path 1 (codes "DISK") (λ v. tt), (keeps_help, tt))
+                    (unused, (unused, tt))
+                    (λ rows good e. inr (inr (inr (inr (inr (inr (inl (
+                      refl,
+                      one_path (codes "DISK") rows good e,
+                    )))))))) e,
                 (
                   λ here e. below_taken _ words (
                     keeps_path 1 (codes "SCRIPT") (λ v. tt),
@@ -248,21 +238,39 @@ module _ (name : Text) (words : List Text) (no_help : bytes_eq name (codes "help
                         keeps_number 3 (codes "pages") 0 (λ v is. is),
                         (
                           keeps_number 3 (codes "files") 0 (λ v is. is),
-                          (
-                            keeps_number 3 (codes "journal") 0 (λ v is. is),
-                            (
-                              keeps_fronts 3,
-                              (keeps_number 3 (codes "life") 1 (λ v is. is), (keeps_help, tt)),
-                            ),
-                          ),
+                          (keeps_number 3 (codes "journal") 0 (λ v is. is), (keeps_help, tt)),
                         ),
                       ),
                     ),
                   )
-                      (unused, (unused, (unused, (unused, (unused, (unused, (unused, (unused, tt))))))))
-                      (λ rows good e. inr (inr (inr (inr (inr (inr (inr (two_paths (codes "sweep")
-                      (codes "SCRIPT") (codes "MODULE") rows good e)))))))) e,
-                  (λ here e. absurd (is_help (or_false (bytes_eq (codes "help") name) here)), tt),
+                      (unused, (unused, (unused, (unused, (unused, (unused, tt))))))
+                      (λ rows good e. inr (inr (inr (inr (inr (inr (inr (inl (two_paths
+                      (codes "story") (codes "SCRIPT") (codes "MODULE") rows good e))))))))) e,
+                  (
+                    λ here e. below_taken _ words (
+                      keeps_path 1 (codes "SCRIPT") (λ v. tt),
+                      (
+                        keeps_path 2 (codes "MODULE") (λ v. tt),
+                        (
+                          keeps_number 3 (codes "pages") 0 (λ v is. is),
+                          (
+                            keeps_number 3 (codes "files") 0 (λ v is. is),
+                            (
+                              keeps_number 3 (codes "journal") 0 (λ v is. is),
+                              (
+                                keeps_fronts 3,
+                                (keeps_number 3 (codes "life") 1 (λ v is. is), (keeps_help, tt)),
+                              ),
+                            ),
+                          ),
+                        ),
+                      ),
+                    )
+                        (unused, (unused, (unused, (unused, (unused, (unused, (unused, (unused, tt))))))))
+                        (λ rows good e. inr (inr (inr (inr (inr (inr (inr (inr (two_paths
+                        (codes "sweep") (codes "SCRIPT") (codes "MODULE") rows good e))))))))) e,
+                    (λ here e. absurd (is_help (or_false (bytes_eq (codes "help") name) here)), tt),
+                  ),
                 ),
               ),
             ),
@@ -414,7 +422,11 @@ taken_means arguments name rows taken = elim taken.0 [
             | inl p ↦ subst (λ (t : Text). IsSomeAnd (meaning_below arguments (t, rows)) NumbersFit)
                 (sym p.0) (path_means (λ d. files d (first_of (codes "PATH") rows)) (disk_in rows)
                 p.1 (λ path. tt))
-            | inr scripts ↦ scripts_mean arguments name rows taken.1 scripts
+            | inr kept ↦ elim kept [
+              | inl p ↦ subst (λ (t : Text). IsSomeAnd (meaning_below arguments (t, rows)) NumbersFit)
+                  (sym p.0) (path_means upgrade (disk_in rows) p.1 (λ path. tt))
+              | inr scripts ↦ scripts_mean arguments name rows taken.1 scripts
+            ]
           ]
         ]
       ]

@@ -6,7 +6,6 @@ use Rattle.wasi_abi.specs.declared.answer.Answer.{Answer}
 use Rattle.wasi_abi.specs.declared.answer.Kind.{Kind}
 use Rattle.wasi_abi.specs.declared.answer.Kind.TheVariants as kinds
 use Rattle.wasi_abi.specs.rules.Answers.{Fits}
-use Rattle.wasi_calls_rules.specs.declared.limits.TheConstants.{TEXT_BYTES}
 use Rattle.process_rules.specs.Runs.{Kept, Given}
 use Rattle.record_replay.specs.declared.fault.SourceFault.{SourceFault}
 use Rattle.wasmhost_commands.specs.declared.lines.fault.LineFault.{LineFault}
@@ -17,37 +16,38 @@ use Rattle.wasmhost_commands.specs.rules.Outside.{ComesFrom, request_in, words_i
 use Rattle.wasmhost_commands.specs.rules.Seeds.{words_for}
 use Rattle.wasmhost_commands.specs.Lines.Reads.{AreSome, IsFaultOfReading}
 
--- The answer is that of the next request, which is taken. Its text isn't too long.
-pub record IsNext (taken : ℕ) (old : Option (List ℕ)) (a : Answer) (taken' : ℕ)
+-- The answer is that of the next request, which is taken. Its text has so many bytes at most.
+pub record IsNext (limit taken : ℕ) (old : Option (List ℕ)) (a : Answer) (taken' : ℕ)
     (new : Option (List ℕ)) : Type 0 where
-  pub given : GiveUpTo taken old (Given a ∷ []) (λ rest. new ≡ Some rest)
-  pub fits : Fits TEXT_BYTES kinds.Request a
+  pub given : GiveUpTo limit taken old (Given a ∷ []) (λ rest. new ≡ Some rest)
+  pub fits : Fits limit kinds.Request a
   pub counted : taken' ≡ taken + 1
   pub few : taken' < 2 ^ 63
 
 -- the next request, or none where the lines have come to their end
-abbrev pub FindsNext : ℕ → Option (List ℕ) → Option Answer → ℕ → Option (List ℕ) → Type 0
-FindsNext taken old (Some a) taken' new = IsNext taken old a taken' new
-FindsNext taken old None taken' new = (taken' ≡ taken)
-    × GiveUpTo taken old [] (λ rest. (rest ≡ []) × (new ≡ Some rest))
+abbrev pub FindsNext : ℕ → ℕ → Option (List ℕ) → Option Answer → ℕ → Option (List ℕ) → Type 0
+FindsNext limit taken old (Some a) taken' new = IsNext limit taken old a taken' new
+FindsNext limit taken old None taken' new = (taken' ≡ taken)
+    × GiveUpTo limit taken old [] (λ rest. (rest ≡ []) × (new ≡ Some rest))
 
 -- Why no answer comes behind these answers. The next line is of a later request than the wanted
 -- one; or it is no request line; the reader has failed; or memory is wanting.
-abbrev pub MissesNext : ℕ → Option (List ℕ) → List Kept → Bool → Bool → LineFault → Type 0
-MissesNext before lines kept failed failed' (fault.Number given wanted) =
+abbrev pub MissesNext : ℕ → ℕ → Option (List ℕ) → List Kept → Bool → Bool → LineFault → Type 0
+MissesNext limit before lines kept failed failed' (fault.Number given wanted) =
     (wanted ≡ before + length kept + 1) × (wanted < given)
-    × GiveUpTo before lines kept (BeginsWithNumber given) × (failed' ≡ failed)
-MissesNext before lines kept failed failed' why =
-    IsFaultOfReading (GiveUpTo before lines kept BeginsWithOther)
-    (GiveUpTo before lines kept AreSome) failed failed' why
+    × GiveUpTo limit before lines kept (BeginsWithNumber limit given) × (failed' ≡ failed)
+MissesNext limit before lines kept failed failed' why =
+    IsFaultOfReading (GiveUpTo limit before lines kept (BeginsWithOther limit))
+    (GiveUpTo limit before lines kept AreSome) failed failed' why
 
 -- ---- all that is asked for
 
--- Where a source stands: which stream of the seed it takes words of, how many requests and how many
--- words it took, the bytes that are still to come, whether a read of them has failed, and why it
--- refuses, if it does.
+-- Where a source stands: how many bytes the text of a request may have, which stream of the seed it
+-- takes words of, how many requests and how many words it took, the bytes that are still to come,
+-- whether a read of them has failed, and why it refuses, if it does.
 pub record Standing : Type 0 where
   pub outside : Outside
+  pub limit : ℕ
   pub stream : ℕ
   pub taken : ℕ
   pub place : ℕ
@@ -55,9 +55,11 @@ pub record Standing : Type 0 where
   pub failed : Bool
   pub fault : Option LineFault
 
-abbrev pub standing : Outside → ℕ → ℕ → ℕ → Option (List ℕ) → Bool → Option LineFault → Standing
-standing outside stream taken place unread failed fault = record {
+abbrev pub standing : Outside → ℕ → ℕ → ℕ → ℕ → Option (List ℕ) → Bool → Option LineFault
+    → Standing
+standing outside limit stream taken place unread failed fault = record {
   outside = outside;
+  limit = limit;
   stream = stream;
   taken = taken;
   place = place;
@@ -79,21 +81,21 @@ IsWordless place n why = ⊥
 
 -- Why a question is refused, where these requests and so many words were taken: the next request
 -- isn't to be had, or there is no clock, or there are no random bytes.
-abbrev pub IsRefusedFor : Kind → Outside → ℕ → ℕ → Option (List ℕ) → List Kept → Bool → Bool
+abbrev pub IsRefusedFor : Kind → Outside → ℕ → ℕ → ℕ → Option (List ℕ) → List Kept → Bool → Bool
     → LineFault → Type 0
-IsRefusedFor kinds.Request outside place before lines kept failed failed' why =
-    MissesNext before lines kept failed failed' why
-IsRefusedFor kinds.Realtime outside place before lines kept failed failed' why =
+IsRefusedFor kinds.Request outside limit place before lines kept failed failed' why =
+    MissesNext limit before lines kept failed failed' why
+IsRefusedFor kinds.Realtime outside limit place before lines kept failed failed' why =
     IsClockless outside why × (failed' ≡ failed)
-IsRefusedFor kinds.Monotonic outside place before lines kept failed failed' why =
+IsRefusedFor kinds.Monotonic outside limit place before lines kept failed failed' why =
     IsClockless outside why × (failed' ≡ failed)
-IsRefusedFor (kinds.Random n) outside place before lines kept failed failed' why =
+IsRefusedFor (kinds.Random n) outside limit place before lines kept failed failed' why =
     IsWordless place n why × (failed' ≡ failed)
 
 -- why one that stands there refuses
 abbrev pub IsRefusedAt : Kind → Standing → Bool → LineFault → Type 0
 IsRefusedAt kind old failed' why =
-    IsRefusedFor kind old.outside old.place old.taken old.unread [] old.failed failed' why
+    IsRefusedFor kind old.outside old.limit old.place old.taken old.unread [] old.failed failed' why
 
 -- the first fault stays, and where there was none there is one now
 abbrev pub LeavesFault : Kind → Standing → Standing → Option LineFault → Type 0
@@ -113,13 +115,14 @@ pub record TakesOther (kind : Kind) (old : Standing) (a : Answer) (new : Standin
 -- another question.
 abbrev pub Finds : Kind → Standing → Option Answer → Standing → Type 0
 Finds kinds.Request old found new =
-    (new.place ≡ old.place) × FindsNext old.taken old.unread found new.taken new.unread
+    (new.place ≡ old.place) × FindsNext old.limit old.taken old.unread found new.taken new.unread
 Finds kind old (Some a) new = TakesOther kind old a new
 Finds kind old None new = ⊥
 
 pub record HandsAnswer (kind : Kind) (old : Standing) (answered : Option Answer) (new : Standing) :
     Type 0 where
   pub same : new.outside ≡ old.outside
+  pub same_limit : new.limit ≡ old.limit
   pub same_stream : new.stream ≡ old.stream
   pub unfailed : old.fault ≡ None
   pub unspoilt : new.fault ≡ None
@@ -130,4 +133,5 @@ pub record HandsAnswer (kind : Kind) (old : Standing) (answered : Option Answer)
 abbrev pub HandsNext : Kind → Standing → Result (Option Answer) SourceFault → Standing → Type 0
 HandsNext kind old (Ok answered) new = HandsAnswer kind old answered new
 HandsNext kind old (Err e) new = (new.outside ≡ old.outside) × (new.stream ≡ old.stream)
-    × (new.taken ≡ old.taken) × (new.place ≡ old.place) × LeavesFault kind old new old.fault
+    × (new.taken ≡ old.taken) × (new.place ≡ old.place) × (new.limit ≡ old.limit)
+    × LeavesFault kind old new old.fault

@@ -7,7 +7,6 @@ use Rattle.std.specs.declared.io.ErrorKind.TheVariants.{OutOfMemory}
 use Rattle.std.specs.Io.BufRead.{first_piece}
 use Rattle.std.specs.Io.KnownBytes.{Consumes, IsAtEnd}
 use Rattle.wasi_abi.specs.rules.Answers.{newline}
-use Rattle.wasi_calls_rules.specs.declared.limits.TheConstants.{TEXT_BYTES}
 use Rattle.wasmhost_commands.specs.declared.lines.fault.LineFault.{LineFault}
 use Rattle.wasmhost_commands.specs.declared.lines.fault.LineFault.TheVariants as fault
 use Rattle.wasmhost_commands.specs.declared.lines.buffered.PieceFault.{PieceFault}
@@ -61,11 +60,11 @@ IsPieceFault bytes limit line (piece.Reader told) = (told ≡ fault.Memory) ⊎ 
 IsPieceFault bytes limit line piece.TooLong = IfSome bytes (GrowsTooLong limit line)
 IsPieceFault bytes limit line piece.Memory = IfSome bytes AreSome
 
--- the first line of these bytes is longer than a request line can be
-abbrev pub BeginsTooLong : List ℕ → Type 0
-BeginsTooLong bytes = TEXT_BYTES + 22 < length (first_piece newline bytes)
+-- the first line of these bytes is longer than a request line with so long a text can be
+abbrev pub BeginsTooLong : ℕ → List ℕ → Type 0
+BeginsTooLong limit bytes = limit + 22 < length (first_piece newline bytes)
 
 -- why a line isn't read of these bytes
-abbrev pub IsFaultOfLine : Option (List ℕ) → Bool → Bool → LineFault → Type 0
-IsFaultOfLine bytes failed failed' why =
-    IsFaultOfReading (IfSome bytes BeginsTooLong) (IfSome bytes AreSome) failed failed' why
+abbrev pub IsFaultOfLine : ℕ → Option (List ℕ) → Bool → Bool → LineFault → Type 0
+IsFaultOfLine limit bytes failed failed' why =
+    IsFaultOfReading (IfSome bytes (BeginsTooLong limit)) (IfSome bytes AreSome) failed failed' why

@@ -8,7 +8,7 @@ use Rattle.wasmhost_commands.specs.rules.Commands.{CreateMeaning, Meaning, RunMe
 use Rattle.wasmhost_commands.specs.rules.Commands.{create}
 use Rattle.wasmhost_commands.specs.rules.Commands.{StoryMeaning, faults_in_words, meaning_in}
 use Rattle.wasmhost_commands.specs.rules.Commands.{own_words, run, show, story}
-use Rattle.wasmhost_commands.specs.rules.Commands.{SweepMeaning, files, inspect, sweep}
+use Rattle.wasmhost_commands.specs.rules.Commands.{SweepMeaning, files, inspect, sweep, upgrade}
 
 -- the program's name, and words behind it
 abbrev pub line : List Text → List Text
@@ -91,6 +91,8 @@ pub record PathExamples : Type 0 where
   pub inspects : Means (line (codes "inspect" ∷ codes "a.disk" ∷ [])) (inspect (codes "a.disk"))
   pub lists_files : Means (line (codes "files" ∷ codes "a.disk" ∷ []))
       (files (codes "a.disk") None)
+  pub upgrades : Means (line (codes "upgrade" ∷ codes "a.disk" ∷ []))
+      (upgrade (codes "a.disk"))
   pub gives_a_file : Means (line (codes "files" ∷ codes "a.disk" ∷ codes "a/b" ∷ []))
       (files (codes "a.disk") (Some (codes "a/b")))
 
@@ -186,6 +188,9 @@ pub record PathMistakes : Type 0 where
   pub files_of_two : WordsFail
       (line (codes "files" ∷ codes "a.disk" ∷ codes "a" ∷ codes "b" ∷ []))
       (kind.UnknownArgument ∷ [])
+  pub upgrade_of_none : WordsFail (line (codes "upgrade" ∷ [])) (kind.MissingRequiredArgument ∷ [])
+  pub upgrade_of_two : WordsFail (line (codes "upgrade" ∷ codes "a.disk" ∷ codes "b.disk" ∷ []))
+      (kind.UnknownArgument ∷ [])
   pub story_of_none : WordsFail (line (codes "story" ∷ [])) (kind.MissingRequiredArgument ∷ [])
   pub story_of_no_module : WordsFail (line (codes "story" ∷ codes "a.story" ∷ []))
       (kind.MissingRequiredArgument ∷ [])
@@ -231,6 +236,9 @@ pub record OptionMistakes : Type 0 where
   pub fuel_of_a_check : WordsFail (line (codes "check" ∷ codes "a.wasm" ∷ codes "--fuel" ∷ codes "7"
       ∷ [])) (kind.UnknownArgument ∷ [])
   pub fuel_of_a_creation : WordsFail (create_line (codes "--fuel" ∷ codes "7" ∷ []))
+      (kind.UnknownArgument ∷ [])
+  pub fuel_of_an_upgrade : WordsFail
+      (line (codes "upgrade" ∷ codes "a.disk" ∷ codes "--fuel" ∷ codes "7" ∷ []))
       (kind.UnknownArgument ∷ [])
   pub pages_of_a_run : WordsFail (run_line (codes "--pages" ∷ codes "1" ∷ []))
       (kind.UnknownArgument ∷ [])

@@ -15,7 +15,7 @@ use Rattle.wasmhost_commands.specs.rules.ServedOnDisk.{handing}
 -- those that its lines spell behind the requests it had taken, in order and none left out. The
 -- others are times and the next random bytes of its stream. Both are counted.
 pub record AreOfLines (old : Standing) (kept : List Kept) (new : Standing) : Type 0 where
-  pub requests : GiveUpTo old.taken old.unread (requests_in kept) (λ _. ⊤)
+  pub requests : GiveUpTo old.limit old.taken old.unread (requests_in kept) (λ _. ⊤)
   pub others : ComeFrom old.outside old.stream old.place kept
   pub taken : new.taken ≡ old.taken + length (requests_in kept)
   pub drawn : new.place ≡ old.place + words_of kept
@@ -32,4 +32,5 @@ NoneIsLeftAtTheEnd = (front back : List Ask) (kind : Kind) (source source' : Sta
     → AnswersInOrder handing source
     (front ++ (record { kind = kind; said = Ok None } ∷ back)) source'
     → (kind ≡ kinds.Request)
-    × GiveUpTo source.taken source.unread (requests_in (handed front)) (λ rest. rest ≡ [])
+    × GiveUpTo source.limit source.taken source.unread (requests_in (handed front))
+    (λ rest. rest ≡ [])

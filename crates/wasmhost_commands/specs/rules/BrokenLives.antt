@@ -11,13 +11,14 @@ use Rattle.ephemeral_worker.specs.rules.Slices.{SliceLeadsTo, AreAnswered, AreWa
 use Rattle.worker.specs.declared.fault.WorkFault.{WorkFault}
 use Rattle.worker.specs.declared.fault.WorkFault.TheVariants as work
 use Rattle.worker.specs.rules.DurableFailures.{IsDiskCause, StopsAtQuestion}
-use Rattle.worker.specs.rules.LifeWords.{Act, Slice, Checkpoint}
+use Rattle.worker.specs.rules.LifeWords.{Act, Slice, Checkpoint, Upgrade}
 
 -- how many steps the slices among these acts may take
 abbrev pub steps_among : List Act → ℕ
 steps_among [] = 0
 steps_among (Slice fuel ∷ acts) = fuel + steps_among acts
 steps_among (Checkpoint ∷ acts) = steps_among acts
+steps_among (Upgrade ∷ acts) = steps_among acts
 
 -- A slice of this fuel has failed there, as its own clause says. Or it has answered there, when no
 -- line waits, and the checkpoint behind it has failed (by what, `CallsInOrder` says).

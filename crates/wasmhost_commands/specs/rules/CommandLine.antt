@@ -115,6 +115,10 @@ inspect_app = disk_app (codes "inspect")
 abbrev pub files_app : App
 files_app = with_rule (disk_app (codes "files")) (last_rule (codes "PATH"))
 
+-- `upgrade DISK`
+abbrev pub upgrade_app : App
+upgrade_app = disk_app (codes "upgrade")
+
 -- a command with the arguments SCRIPT and MODULE
 abbrev pub bare_script_app : Text → App
 bare_script_app name = with_rule (with_rule (new_app name) (path_rule (codes "SCRIPT")))
@@ -157,9 +161,10 @@ disks_app = with_subcommand (with_subcommand half_app run_app.top) show_app.top
 abbrev pub looks_app : App
 looks_app = with_subcommand (with_subcommand disks_app inspect_app.top) files_app.top
 
--- the same, with the commands for scripts
+-- the same, with the command that upgrades a disk, and those for scripts
 abbrev pub wasmhost : App
-wasmhost = with_subcommand (with_subcommand looks_app story_app.top) sweep_app.top
+wasmhost = with_subcommand (with_subcommand (with_subcommand looks_app upgrade_app.top)
+    story_app.top) sweep_app.top
 
 -- ---- what the code makes of them
 

@@ -20,7 +20,7 @@ use Rattle.wasmhost_commands.specs.declared.words.SweepOrder.{SweepOrder}
 use Rattle.wasmhost_commands.specs.declared.words.Order.{Order}
 use Rattle.wasmhost_commands.specs.declared.words.Order.TheVariants.{Check, Create, Run, Show}
 use Rattle.wasmhost_commands.specs.declared.words.Order.TheVariants.{Story}
-use Rattle.wasmhost_commands.specs.declared.words.Order.TheVariants.{Sweep, Inspect, Files}
+use Rattle.wasmhost_commands.specs.declared.words.Order.TheVariants.{Sweep, Inspect, Files, Upgrade}
 use Rattle.wasmhost_commands.specs.declared.words.WordsFault.{WordsFault}
 use Rattle.wasmhost_commands.specs.declared.words.WordsFault.TheVariants as fault
 
@@ -105,6 +105,7 @@ pub data Meaning : Type 0 where
   show : Text → Meaning
   inspect : Text → Meaning
   files : Text → Option Text → Meaning
+  upgrade : Text → Meaning
   story : StoryMeaning → Meaning
   sweep : SweepMeaning → Meaning
 
@@ -163,6 +164,7 @@ meaning_of (Run order) = run (run_said order)
 meaning_of (Show path) = show path.now
 meaning_of (Inspect path) = inspect path.now
 meaning_of (Files disk path) = files disk.now (option_map (λ text. text.now) path)
+meaning_of (Upgrade path) = upgrade path.now
 meaning_of (Story order) = story (story_said order)
 meaning_of (Sweep order) = sweep (sweep_said order)
 
@@ -277,6 +279,7 @@ meaning_below arguments met =
     else if bytes_eq met.0 (codes "inspect") then option_map inspect (disk_in met.1)
     else if bytes_eq met.0 (codes "files")
     then option_map (λ disk. files disk (first_of (codes "PATH") met.1)) (disk_in met.1)
+    else if bytes_eq met.0 (codes "upgrade") then option_map upgrade (disk_in met.1)
     else if bytes_eq met.0 (codes "story") then story_below met.1
     else if bytes_eq met.0 (codes "sweep") then sweep_below met.1
     else None
@@ -335,7 +338,7 @@ pub record TakesOptions (rows : List Row) : Type 0 where
   pub rewrite : TakesFlag (codes "rewrite") rows
   pub device : TakesFlag (codes "device") rows
 
--- one of the eight commands, with the paths that it needs
+-- one of the nine commands, with the paths that it needs
 abbrev pub HasPaths : Text → List Row → Type 0
 HasPaths name rows = ((name ≡ codes "check") × IsSome (module_in rows))
     ⊎ ((name ≡ codes "create") × IsSome (disk_in rows) × IsSome (module_in rows))
@@ -343,6 +346,7 @@ HasPaths name rows = ((name ≡ codes "check") × IsSome (module_in rows))
     ⊎ ((name ≡ codes "show") × IsSome (disk_in rows))
     ⊎ ((name ≡ codes "inspect") × IsSome (disk_in rows))
     ⊎ ((name ≡ codes "files") × IsSome (disk_in rows))
+    ⊎ ((name ≡ codes "upgrade") × IsSome (disk_in rows))
     ⊎ ((name ≡ codes "story") × IsSome (script_in rows) × IsSome (module_in rows))
     ⊎ ((name ≡ codes "sweep") × IsSome (script_in rows) × IsSome (module_in rows))
 

@@ -50,8 +50,8 @@ pub record HasRefused (old : Standing) (asks : List Ask) (failed' : Bool) (why :
     : Type 0 where
   pub kind : Kind
   pub asked : IsRefusedAmong asks kind
-  pub reason : IsRefusedFor kind old.outside (old.place + words_of (handed asks)) old.taken
-      old.unread (requests_in (handed asks)) old.failed failed' why
+  pub reason : IsRefusedFor kind old.outside old.limit (old.place + words_of (handed asks))
+      old.taken old.unread (requests_in (handed asks)) old.failed failed' why
 
 -- Whatever a source of the program was asked: where it had no fault and now has one, one of these
 -- questions was refused for it.
@@ -68,9 +68,9 @@ LacksMemoryAt old asks failed' = HasRefused old asks failed' line.Memory
 -- is no request line, or that of a request beyond the next one.
 abbrev pub MeetsBadLineAt : Standing → List Ask → Bool → Type 0
 MeetsBadLineAt old asks failed' = IsRefusedAmong asks kinds.Request
-    × GiveUpTo old.taken old.unread (requests_in (handed asks))
-    (λ rest. BeginsWithOther rest
-    ⊎ BeginsWithLater (old.taken + length (requests_in (handed asks))) rest)
+    × GiveUpTo old.limit old.taken old.unread (requests_in (handed asks))
+    (λ rest. BeginsWithOther old.limit rest
+    ⊎ BeginsWithLater old.limit (old.taken + length (requests_in (handed asks))) rest)
     × (failed' ≡ old.failed)
 
 -- A request was asked for, and the reader has failed. Or a time was asked for, where the machine's
@@ -100,10 +100,12 @@ HasToldItsLines {takes = takes} {given = given} {outlet' = outlet'} {source' = s
 
 -- ---- faults of a call
 
--- a step, its lines or a generation that can't be counted, or a store that refuses
+-- a step, its lines or a generation that can't be counted, or a store or an upgrade that is
+-- refused
 abbrev pub IsAtItsEnd : WorkFault → Type 0
 IsAtItsEnd (work.Work (slice.Refused why)) = ⊤
 IsAtItsEnd (work.Store why) = ⊤
+IsAtItsEnd (work.Upgrade why) = ⊤
 IsAtItsEnd other = ⊥
 
 -- a disk or a source that fails, or a worker that had failed

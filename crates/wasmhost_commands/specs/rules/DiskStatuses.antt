@@ -41,11 +41,12 @@ status_of_disk disk.Memory = 5
 status_of_disk other = 4
 
 -- What a call of a worker on its disk says. What a store refuses is neither want of memory nor a
--- fault of the disk.
+-- fault of the disk. An upgrade may be refused before anything is asked of the disk.
 abbrev pub status_of_call : WorkFault → ℕ
 status_of_call (work.Work fault) = status_of_work fault
 status_of_call (work.Disk fault) = 4
 status_of_call (work.Store fault) = 3
+status_of_call (work.Upgrade fault) = 3
 
 -- A recovery that fails, but for a fault of the disk. What stands on the disk is refused, or a
 -- layer wants memory, or the outlet has refused a line that is told once more.

@@ -13,7 +13,8 @@ use Rattle.file_listing.specs.declared.fault.PathFault.{PathFault}
 use Rattle.file_listing.specs.declared.fault.PathFault.TheVariants as fault
 use Rattle.file_listing.specs.declared.listed.ListedNode.{ListedNode}
 use Rattle.file_listing.specs.rules.Listed.{listing_in, ReadsPath}
-use Rattle.disk_layout.specs.declared.head.TheConstants.{IMAGE_VERSION}
+use Rattle.wasi_abi.specs.declared.version.Version.{Version}
+use Rattle.wasi_abi.specs.rules.Versions.{version_number}
 use Rattle.disk_layout.specs.declared.reading.contents.Contents.{Contents}
 use Rattle.disk_layout.specs.declared.superblock.TheConstants.{LAYOUT}
 use Rattle.worker.specs.declared.inspection.Inspection.{Inspection}
@@ -27,21 +28,24 @@ use Rattle.wasmhost_commands.specs.rules.Printers.{PrinterState, IsSaid, SaysTex
 
 -- ---- the facts of a disk
 
--- the versions of the disk and of its image, and the module's length and digest
-abbrev pub module_facts : List ℕ → List ℕ
-module_facts wasm =
-    number_fact (codes "layout") LAYOUT ++ number_fact (codes "version") IMAGE_VERSION
+-- the layout of the disk, the version of its worker, and the module's length and digest
+abbrev pub module_facts : Version → List ℕ → List ℕ
+module_facts version wasm =
+    number_fact (codes "layout") LAYOUT
+    ++ number_fact (codes "version") (version_number version)
     ++ number_fact (codes "module") (length wasm)
     ++ text_fact (codes "digest") (encode_lower (sha256 wasm))
 
 -- these, and the configuration
-abbrev pub contents_facts : Contents → List ℕ
-contents_facts contents = module_facts contents.wasm ++ settings_facts contents.config
+abbrev pub contents_facts : Version → Contents → List ℕ
+contents_facts version contents =
+    module_facts version contents.wasm ++ settings_facts contents.config
 
 -- all that is told of a disk
 abbrev pub inspection_text : Inspection → List ℕ
 inspection_text told =
-    contents_facts told.contents ++ snapshot_facts told.generation told.image_bytes
+    contents_facts told.process.host.host.version told.contents
+    ++ snapshot_facts told.generation told.image_bytes
     ++ process_facts told.process told.wish
     ++ host_facts (told.contents.config.files * UNIT_BYTES) told.process.host.host
     ++ record_facts told.records.items

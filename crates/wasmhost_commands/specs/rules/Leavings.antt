@@ -14,16 +14,17 @@ abbrev pub left_line : ℕ → List ℕ
 left_line count = named_number (codes "requests not taken: ") count ++ codes "\n"
 
 -- The requests among the bytes that were read ahead are counted, but for those that were taken
--- before. Their number is said, where there are any.
-abbrev pub SaysLeft : ℕ → List ℕ → PrinterState → ℕ → PrinterState → Type 0
-SaysLeft taken ahead old answered new = (count : ℕ) × CountsLater taken (lines_of ahead) count
+-- before. A text has so many bytes at most. Their number is said, where there are any.
+abbrev pub SaysLeft : ℕ → ℕ → List ℕ → PrinterState → ℕ → PrinterState → Type 0
+SaysLeft limit taken ahead old answered new =
+    (count : ℕ) × CountsLater limit taken (lines_of ahead) count
     × (((count ≡ 0) × (answered ≡ 0) × (new ≡ old))
     ⊎ ((0 < count) × SaysText (left_line count) 0 old answered new))
 
 -- 6: a line was refused, and its number is told. 0: the worker is over or waits, and the requests
 -- that are left are counted. Of another status nothing more is said.
-pub record SaysOfInput (taken : ℕ) (ahead : List ℕ) (line status : ℕ) (old : PrinterState)
+pub record SaysOfInput (limit taken : ℕ) (ahead : List ℕ) (line status : ℕ) (old : PrinterState)
     (answered : ℕ) (new : PrinterState) : Type 0 where
   pub refused : status ≡ 6 → SaysText (place_line line) 6 old answered new
-  pub over : status ≡ 0 → SaysLeft taken ahead old answered new
+  pub over : status ≡ 0 → SaysLeft limit taken ahead old answered new
   pub others : status ≢ 6 → status ≢ 0 → (answered ≡ status) × (new ≡ old)

@@ -16,40 +16,45 @@ abbrev pub answer_in : Request → Answer
 answer_in (request.Text number text) = answer.Request text.now
 answer_in (request.End number) = answer.End
 
--- the first line of these bytes is this request's
-pub record BeginsWithRequest (bytes : List ℕ) (r : Request) : Type 0 where
+-- the first line of these bytes is this request's, with a text of so many bytes at most
+pub record BeginsWithRequest (limit : ℕ) (bytes : List ℕ) (r : Request) : Type 0 where
   pub numbered : IsNumberedRequest r
-  pub short : IsShortRequest r
+  pub short : IsShortRequest limit r
   pub line : first_piece newline bytes ≡ request_line r
 
 -- The lines in front of the rest give these answers, in order, where so many requests were taken
 -- before them. The line of a request that was taken is passed over, and that of the next one is
--- taken.
-pub data GivesAnswers (before : ℕ) (bytes : List ℕ) : List Kept → List ℕ → Type 0 where
-  none : GivesAnswers before bytes [] bytes
-  passed : (kept : List Kept) (rest : List ℕ) (r : Request) → GivesAnswers before bytes kept rest
-      → BeginsWithRequest rest r
+-- taken. A text has so many bytes at most.
+pub data GivesAnswers (limit before : ℕ) (bytes : List ℕ) : List Kept → List ℕ → Type 0 where
+  none : GivesAnswers limit before bytes [] bytes
+  passed : (kept : List Kept) (rest : List ℕ) (r : Request)
+      → GivesAnswers limit before bytes kept rest
+      → BeginsWithRequest limit rest r
       → request_number r ≤ before + length kept
-      → GivesAnswers before bytes kept (drop_through newline rest)
-  taken : (kept : List Kept) (rest : List ℕ) (r : Request) → GivesAnswers before bytes kept rest
-      → BeginsWithRequest rest r
+      → GivesAnswers limit before bytes kept (drop_through newline rest)
+  taken : (kept : List Kept) (rest : List ℕ) (r : Request)
+      → GivesAnswers limit before bytes kept rest
+      → BeginsWithRequest limit rest r
       → request_number r ≡ before + length kept + 1
-      → GivesAnswers before bytes (kept ++ Given (answer_in r) ∷ []) (drop_through newline rest)
+      → GivesAnswers limit before bytes (kept ++ Given (answer_in r) ∷ [])
+      (drop_through newline rest)
 
 -- the lines, where they are known, give these answers, and this holds of the rest
-abbrev pub GiveUpTo : ℕ → Option (List ℕ) → List Kept → (List ℕ → Type 0) → Type 0
-GiveUpTo before lines kept P = IfSome lines (λ bytes. (rest : List ℕ)
-    × GivesAnswers before bytes kept rest × P rest)
+abbrev pub GiveUpTo : ℕ → ℕ → Option (List ℕ) → List Kept → (List ℕ → Type 0) → Type 0
+GiveUpTo limit before lines kept P = IfSome lines (λ bytes. (rest : List ℕ)
+    × GivesAnswers limit before bytes kept rest × P rest)
 
 -- there is a first line, and it is no request line
-abbrev pub BeginsWithOther : List ℕ → Type 0
-BeginsWithOther bytes = (bytes ≢ []) × (IsRequestLine (first_piece newline bytes) → ⊥)
+abbrev pub BeginsWithOther : ℕ → List ℕ → Type 0
+BeginsWithOther limit bytes =
+    (bytes ≢ []) × (IsRequestLine limit (first_piece newline bytes) → ⊥)
 
 -- the first line is that of a request with this number
-abbrev pub BeginsWithNumber : ℕ → List ℕ → Type 0
-BeginsWithNumber given bytes = (r : Request) × BeginsWithRequest bytes r
+abbrev pub BeginsWithNumber : ℕ → ℕ → List ℕ → Type 0
+BeginsWithNumber limit given bytes = (r : Request) × BeginsWithRequest limit bytes r
     × (request_number r ≡ given)
 
 -- the first line is that of a request beyond the next one, where so many were taken
-abbrev pub BeginsWithLater : ℕ → List ℕ → Type 0
-BeginsWithLater before bytes = (given : ℕ) × (before + 1 < given) × BeginsWithNumber given bytes
+abbrev pub BeginsWithLater : ℕ → ℕ → List ℕ → Type 0
+BeginsWithLater limit before bytes =
+    (given : ℕ) × (before + 1 < given) × BeginsWithNumber limit given bytes

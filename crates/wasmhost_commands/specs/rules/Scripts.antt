@@ -93,6 +93,7 @@ said_alone word =
     else if bytes_eq word (codes "end") then Some (said.Answer answer.End)
     else if bytes_eq word (codes "random") then Some (said.Answer (answer.Random []))
     else if bytes_eq word (codes "checkpoint") then Some (said.Act planned.Checkpoint)
+    else if bytes_eq word (codes "upgrade") then Some (said.Act planned.Upgrade)
     else None
 
 -- what a word and a number say

@@ -2,6 +2,7 @@
 use Rattle.std.specs.Prelude.{◌≡◌, ◌≢◌, ℕ, Bool, List, [], ◌++◌, Option, Some, None, codes}
 use Rattle.std.specs.Prelude.{Result, Ok, Err}
 use Rattle.wasi_abi.specs.rules.Configs.{Settings}
+use Rattle.wasi_abi.specs.rules.Versions.{text_limit}
 use Rattle.sector_disk.specs.rules.Image.{Image}
 use Rattle.sector_disk.specs.rules.Medium.{Medium}
 use Rattle.disk_layout.specs.rules.Stored.{OnlyReads}
@@ -49,10 +50,12 @@ disk_job fuel every lines outside failed = record {
 }
 
 -- Where the source of a worker stands that was just opened: behind the requests that the worker
--- has taken, and before the first word of the seed's stream of its generation.
+-- has taken, and before the first word of the seed's stream of its generation. The text of a
+-- request may be as long as the worker's version has it.
 abbrev pub stands_behind : DiskJob → DurableValue → Standing
-stands_behind given w = standing given.outside w.store.journal.generation w.process.requests 0
-    given.lines given.failed None
+stands_behind given w =
+    standing given.outside (text_limit w.process.host.host.version) w.store.journal.generation
+    w.process.requests 0 given.lines given.failed None
 
 -- what the source gives
 abbrev pub handing : Giving Standing

@@ -1,6 +1,7 @@
 -- What `wasmhost show` prints of a disk, and what its exit status says (this project's own).
 use Rattle.std.specs.Prelude.{◌≡◌, ◌⊎◌, ℕ, ◌<◌, true, List, ◌++◌, codes, Result, Ok, Err}
 use Rattle.std.specs.Fmt.{decimal}
+use Rattle.wasi_abi.specs.rules.Versions.{version_number}
 use Rattle.sector_disk.specs.rules.Medium.{Medium}
 use Rattle.worker.specs.declared.recover_fault.RecoverFault.{RecoverFault}
 use Rattle.worker.specs.declared.surveyed.Survey.{Survey}
@@ -19,7 +20,8 @@ survey_line survey =
     ++ named_number (codes " steps ") survey.steps
     ++ named_number (codes " answers ") survey.answers
     ++ named_number (codes " lines ") survey.lines
-    ++ named_number (codes " records ") survey.records ++ codes "\n"
+    ++ named_number (codes " records ") survey.records
+    ++ named_number (codes " version ") (version_number survey.version) ++ codes "\n"
 
 -- the line is printed, and the status is 0; or a write has failed, and it is 7
 abbrev pub SaysSurvey : Survey → PrinterState → ℕ → PrinterState → Type 0

@@ -9,6 +9,7 @@ use Rattle.worker.specs.declared.story.report.Opening.{Opening}
 use Rattle.worker.specs.declared.story.report.Opening.TheVariants.{Created, Recovered}
 use Rattle.worker.specs.declared.story.report.Opening.TheVariants.{Unopened}
 use Rattle.worker.specs.declared.fault.WorkFault.TheVariants as work
+use Rattle.worker.specs.declared.upgrade_fault.UpgradeFault.TheVariants as upgrade
 use Rattle.worker.specs.declared.recover_fault.RecoverFault.{RecoverFault}
 use Rattle.worker.specs.declared.recover_fault.RecoverFault.TheVariants.{Worker}
 use Rattle.worker.specs.declared.story.report.LifeEnd.{LifeEnd}
@@ -66,6 +67,8 @@ error_name (Worker (work.Work slice.Memory)) = codes "N4 Memory"
 error_name (Worker (work.Work slice.Failed)) = codes "N5 Failed"
 error_name (Worker (work.Work (slice.Refused refusal.StepsSpent))) = codes "P3 StepsSpent"
 error_name (Worker (work.Store fault)) = codes "S1 TooBig"
+error_name (Worker (work.Upgrade upgrade.JournalTooSmall)) = codes "N7 JournalTooSmall"
+error_name (Worker (work.Upgrade upgrade.NotCaughtUp)) = codes "N8 NotCaughtUp"
 error_name other = codes "N6 Refused"
 
 -- the line that tells by which error a life ended that was opened, if by one

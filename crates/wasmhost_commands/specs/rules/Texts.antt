@@ -7,7 +7,6 @@ use Rattle.wasm_syntax.specs.declared.value.Trap.{Trap}
 use Rattle.wasm_syntax.specs.declared.value.Trap.TheVariants as trap
 use Rattle.wasi_abi.specs.rules.Answers.{newline}
 use Rattle.wasi_calls_rules.specs.Hosts.{Line}
-use Rattle.wasi_calls_rules.specs.declared.limits.TheConstants.{TEXT_BYTES}
 use Rattle.wasmhost_commands.specs.declared.lines.request.Request.{Request}
 use Rattle.wasmhost_commands.specs.declared.lines.request.Request.TheVariants as request
 use Rattle.wasmhost_commands.specs.rules.Numbers.{IsNumberedRequest}
@@ -30,14 +29,14 @@ abbrev pub request_line : Request → List ℕ
 request_line (request.Text number text) = decimal number ++ codes " r " ++ text.now
 request_line (request.End number) = decimal number ++ codes " e"
 
--- the text of a request isn't too long
-abbrev pub IsShortRequest : Request → Type 0
-IsShortRequest (request.Text number text) = length text.now ≤ TEXT_BYTES
-IsShortRequest (request.End number) = Unit {0}
+-- the text of a request has so many bytes at most
+abbrev pub IsShortRequest : ℕ → Request → Type 0
+IsShortRequest limit (request.Text number text) = length text.now ≤ limit
+IsShortRequest limit (request.End number) = Unit {0}
 
--- the line of some request, with a text that isn't too long
-abbrev pub IsRequestLine : List ℕ → Type 0
-IsRequestLine line = (r : Request) × IsNumberedRequest r × IsShortRequest r
+-- the line of some request, with a text of so many bytes at most
+abbrev pub IsRequestLine : ℕ → List ℕ → Type 0
+IsRequestLine limit line = (r : Request) × IsNumberedRequest r × IsShortRequest limit r
     × (line ≡ request_line r)
 
 -- the name of a trap, as it is printed

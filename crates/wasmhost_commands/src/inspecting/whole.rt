@@ -10,33 +10,34 @@ use crate::inspecting::host_facts::spell_host;
 use crate::inspecting::progress::spell_process;
 use crate::inspecting::record_facts::spell_records;
 use crate::stories::digest_digits;
-use disk_layout::{Contents, IMAGE_VERSION};
+use disk_layout::Contents;
 use file_tree::limits::UNIT_BYTES;
 use std::alloc::Global;
 use std::io::{self, Write};
+use wasi_abi::Version;
 use worker::Inspection;
 
 /// The layout of a disk that isn't refused.
 const LAYOUT: u64 = 1;
 
-/// Spells the versions of the disk and of its image, and what is told of the module.
-fn spell_module<W: Write>(out: &mut W, wasm: &[u8]) -> io::Result<()>
+/// Spells the layout of the disk and the version of its worker, and what is told of the module.
+fn spell_module<W: Write>(out: &mut W, version: Version, wasm: &[u8]) -> io::Result<()>
     ensures { OnOk result (Appends (W.contents out.old) (W.contents out.new)
-        (module_facts wasm.now)) }
+        (module_facts version wasm.now)) }
 {
     let digest = digest_digits(wasm);
     spell_number(out, "layout", LAYOUT)?;
-    spell_number(out, "version", u64::from(IMAGE_VERSION))?;
+    spell_number(out, "version", u64::from(version.number()))?;
     spell_number(out, "module", wasm.len() as u64)?;
     spell_text(out, "digest", &digest)
 }
 
 /// Spells these, and the configuration.
-fn spell_contents<W: Write>(out: &mut W, contents: &Contents) -> io::Result<()>
+fn spell_contents<W: Write>(out: &mut W, version: Version, contents: &Contents) -> io::Result<()>
     ensures { OnOk result (Appends (W.contents out.old) (W.contents out.new)
-        (contents_facts contents.now)) }
+        (contents_facts version contents.now)) }
 {
-    spell_module(out, contents.wasm.as_slice())?;
+    spell_module(out, version, contents.wasm.as_slice())?;
     spell_settings(out, &contents.config)
 }
 
@@ -46,7 +47,7 @@ fn spell_inspection<W: Write>(out: &mut W, told: &Inspection) -> io::Result<()>
         (inspection_text told.now)) }
 {
     let room = u64::from(told.contents.config.files()) * UNIT_BYTES;
-    spell_contents(out, &told.contents)?;
+    spell_contents(out, told.process.version(), &told.contents)?;
     spell_snapshot(out, told.generation, told.image_bytes)?;
     spell_process(out, &told.process, told.wish)?;
     spell_host(out, told.process.host(), room)?;

@@ -1,11 +1,12 @@
 //! Requests by their numbers.
 
-ghost use Rattle.std.specs.Prelude.{◌≡◌, [], IfOk, IfErr, OnOk, OnErr};
+ghost use Rattle.std.specs.Prelude.{◌≡◌, ◌<◌, ◌^◌, ℕ, [], IfOk, IfErr, OnOk, OnErr};
 ghost use Rattle.std.specs.List.{AllByRecursion};
 ghost use Rattle.wasi_abi.specs.declared.answer.Kind.TheVariants as kinds;
 ghost use Rattle.wasi_abi.specs.declared.answer.Answer.TheVariants as answers;
 ghost use Rattle.wasi_abi.specs.rules.Answers.{AreBytes, Fits, IsNoNewline};
-ghost use Rattle.wasi_calls_rules.specs.declared.limits.TheConstants.{TEXT_BYTES};
+ghost use Rattle.wasi_abi.specs.declared.version.Version.TheVariants.{One};
+ghost use Rattle.wasi_abi.specs.rules.Versions.{text_limit};
 ghost use Rattle.wasmhost_commands.specs.declared.lines.fault.LineFault.TheVariants.{Memory};
 ghost use Rattle.wasmhost_commands.specs.Lines.Answers.{FindsNext, MissesNext};
 ghost use Rattle.wasmhost_commands.specs.rules.Requests.{answer_in};
@@ -16,7 +17,7 @@ use crate::lines::line::read_line;
 use crate::lines::reader::LineReader;
 use crate::lines::request::{Request, read_request};
 use std::alloc::Global;
-use wasi_abi::Answer;
+use wasi_abi::{Answer, Version};
 use wasm_syntax::Row;
 
 /// The requests that the lines of a reader give: the next number's text or end. A line with a
@@ -25,6 +26,8 @@ use wasm_syntax::Row;
 pub(crate) struct NumberedRequests<R: LineReader + Drop> {
     alloc: Global,
     reader: R,
+    /// The worker's version, which says how long a text may be.
+    version: Version,
     /// How many requests were answered.
     taken: u64,
     line: Vec<u8>,
@@ -44,14 +47,16 @@ fn text_answer(alloc: Global, text: &[u8]) -> Result<Answer, LineFault>
 }
 
 impl<R: LineReader + Drop> NumberedRequests<R> {
-    /// Behind so many requests.
+    /// Behind so many requests of a worker of version 1.
     pub(crate) fn new(alloc: Global, reader: R, taken: u64) -> Self
         ensures reader { result.reader ≡ reader }
+        ensures version { result.version ≡ One }
         ensures taken { result.taken ≡ taken }
     {
         NumberedRequests {
             alloc,
             reader,
+            version: Version::One,
             taken,
             line: Vec::new(alloc),
         }
@@ -64,6 +69,13 @@ impl<R: LineReader + Drop> NumberedRequests<R> {
         &self.reader
     }
 
+    /// How many bytes a text may have.
+    pub(crate) fn text_limit(&self) -> usize
+        ensures { result ≡ text_limit self.now.version }
+    {
+        self.version.text_limit()
+    }
+
     /// How many requests were taken.
     pub(crate) fn taken(&self) -> u64
         ensures { result ≡ self.now.taken }
@@ -71,20 +83,22 @@ impl<R: LineReader + Drop> NumberedRequests<R> {
         self.taken
     }
 
-    /// As where so many requests were taken. It reads on where it is.
-    pub(crate) fn go_on_behind(&mut self, taken: u64)
+    /// As where so many requests of a worker of this version were taken. It reads on where it is.
+    pub(crate) fn go_on_behind(&mut self, version: Version, taken: u64)
         ensures reader { self.new.reader ≡ self.old.reader }
+        ensures version { self.new.version ≡ version }
         ensures taken { self.new.taken ≡ taken }
     {
+        self.version = version;
         self.taken = taken;
     }
 
     /// The answer of a request.
     fn answer_of(&self, request: Request<'_>) -> Result<Answer, LineFault>
         ensures is { IfOk result (λ answer. answer ≡ answer_in request.entry) }
-        ensures fits { IsShortRequest request.entry
+        ensures fits { (limit : ℕ) → IsShortRequest limit request.entry
             → AllByRecursion IsNoNewline (request_line request.entry)
-            → IfOk result (Fits TEXT_BYTES kinds.Request) }
+            → IfOk result (Fits limit kinds.Request) }
         ensures failed { IfErr result (λ fault. fault ≡ Memory) }
     {
         let Request::Text { text, .. } = request else {
@@ -93,21 +107,23 @@ impl<R: LineReader + Drop> NumberedRequests<R> {
         text_answer(self.alloc, text)
     }
 
-    /// The next request, or none at the end of the lines.
-    pub(crate) fn next_request(&mut self) -> Result<Option<Answer>, LineFault>
-        ensures found { IfOk result (λ found. FindsNext self.old.taken (R.unread self.old.reader)
-            found self.new.taken (R.unread self.new.reader)) }
+    /// The next request, with a text of at most `limit` bytes, or none at the end of the lines.
+    fn find_next(&mut self, limit: usize) -> Result<Option<Answer>, LineFault>
+        requires { limit < 2 ^ 32 }
+        ensures found { IfOk result (λ found. FindsNext limit self.old.taken
+            (R.unread self.old.reader) found self.new.taken (R.unread self.new.reader)) }
         ensures steady { OnOk result (R.has_failed self.new.reader ≡ R.has_failed self.old.reader) }
-        ensures failed { IfErr result (MissesNext self.old.taken (R.unread self.old.reader) []
+        ensures failed { IfErr result (MissesNext limit self.old.taken (R.unread self.old.reader) []
             (R.has_failed self.old.reader) (R.has_failed self.new.reader)) }
+        ensures version { self.new.version ≡ self.old.version }
         ensures kept { OnErr result (self.new.taken ≡ self.old.taken) }
     {
         let wanted = self.taken.saturating_add(1);
         loop {
-            if !read_line(&mut self.reader, &mut self.line)? {
+            if !read_line(&mut self.reader, limit, &mut self.line)? {
                 return Ok(None);
             }
-            let Some(request) = read_request(self.line.as_slice()) else {
+            let Some(request) = read_request(limit, self.line.as_slice()) else {
                 return Err(LineFault::Form);
             };
             let given = request.number();
@@ -120,5 +136,22 @@ impl<R: LineReader + Drop> NumberedRequests<R> {
                 return Ok(Some(answer));
             }
         }
+    }
+
+    /// The next request, with a text as long as the worker's version has it, or none at the end of
+    /// the lines.
+    pub(crate) fn next_request(&mut self) -> Result<Option<Answer>, LineFault>
+        ensures found { IfOk result (λ found. FindsNext (text_limit self.old.version)
+            self.old.taken (R.unread self.old.reader) found self.new.taken
+            (R.unread self.new.reader)) }
+        ensures steady { OnOk result (R.has_failed self.new.reader ≡ R.has_failed self.old.reader) }
+        ensures failed { IfErr result (MissesNext (text_limit self.old.version) self.old.taken
+            (R.unread self.old.reader) [] (R.has_failed self.old.reader)
+            (R.has_failed self.new.reader)) }
+        ensures version { self.new.version ≡ self.old.version }
+        ensures kept { OnErr result (self.new.taken ≡ self.old.taken) }
+    {
+        let limit = self.text_limit();
+        self.find_next(limit)
     }
 }

@@ -9,11 +9,11 @@ use record_replay::{Outlet, OutletFault};
 use std::alloc::{AllocError, Global};
 use std::io::Write;
 use std::marker::Model;
-use wasi_calls_rules::limits::TEXT_BYTES;
+use wasi_calls_rules::limits::LINE_BYTES;
 
 /// Room for a worker's longest line: its number, a letter, two spaces and a newline beside the
 /// text.
-const LINE_ROOM: usize = TEXT_BYTES + 24;
+const LINE_ROOM: usize = LINE_BYTES + 24;
 
 /// Prints each line as `N o text`, or `N e text` where it was written to stream 2, with its
 /// newline, by one write, and flushes the writer behind it. It refuses a line only since a write of

@@ -8,7 +8,6 @@ ghost use Rattle.wasmhost_commands.specs.rules.Numbers.{IsNumberedRequest, reque
 
 use itoa::Buffer;
 use wasi_abi::NUMBERS_END;
-use wasi_calls_rules::limits::TEXT_BYTES;
 
 /// What a request line says.
 #[derive(Clone, Copy, Debug, PartialEq, Eq)]
@@ -72,34 +71,33 @@ fn split_at_space(line: &[u8]) -> Option<(&[u8], &[u8])>
     Some((&line[..space], &line[space + 1..]))
 }
 
-/// What is said behind the number and its space: `r text`, with a text that isn't too long, or `e`.
-fn read_said<'a>(number: u64, said: &'a [u8]) -> Option<Request<'a>>
+/// What is said behind the number and its space: `r text`, with a text of at most `limit` bytes, or
+/// `e`.
+fn read_said<'a>(limit: usize, number: u64, said: &'a [u8]) -> Option<Request<'a>>
     ensures spelled { IfSome result (λ read. decimal number ++ 32 ∷ said.entry.now
         ≡ request_line read) }
     ensures same { IfSome result (λ read. request_number read ≡ number) }
-    ensures short { IfSome result IsShortRequest }
+    ensures short { IfSome result (IsShortRequest limit) }
     ensures text { (bytes : List ℕ) → said.entry.now ≡ codes "r " ++ bytes
-        → length bytes ≤ TEXT_BYTES → IsSome result }
+        → length bytes ≤ limit → IsSome result }
     ensures end { said.entry.now ≡ codes "e" → IsSome result }
 {
     match said {
         [b'e'] => Some(Request::End { number }),
-        [b'r', b' ', text @ ..] if text.len() <= TEXT_BYTES => {
-            Some(Request::Text { number, text })
-        }
+        [b'r', b' ', text @ ..] if text.len() <= limit => Some(Request::Text { number, text }),
         _ => None,
     }
 }
 
-/// What a line without its newline says: `N r text` or `N e`. A line with a text that is too long
-/// says nothing.
-pub fn read_request<'a>(line: &'a [u8]) -> Option<Request<'a>>
+/// What a line without its newline says: `N r text` or `N e`. A line with a text of more than
+/// `limit` bytes says nothing.
+pub fn read_request<'a>(limit: usize, line: &'a [u8]) -> Option<Request<'a>>
     ensures spelled { IfSome result (λ read. line.entry.now ≡ request_line read) }
     ensures numbered { IfSome result IsNumberedRequest }
-    ensures short { IfSome result IsShortRequest }
-    ensures found { IsRequestLine line.entry.now → IsSome result }
+    ensures short { IfSome result (IsShortRequest limit) }
+    ensures found { IsRequestLine limit line.entry.now → IsSome result }
 {
     let (digits, said) = split_at_space(line)?;
     let number = read_number(digits)?;
-    read_said(number, said)
+    read_said(limit, number, said)
 }

@@ -3,6 +3,8 @@
 ghost use Rattle.std.specs.Prelude.{◌≡◌, ◌+◌, None, IfOk, IfErr, OnOk, OnErr};
 ghost use Rattle.wasi_abi.specs.declared.answer.Kind.TheVariants as kinds;
 ghost use Rattle.wasi_abi.specs.declared.answer.Answer.TheVariants as answers;
+ghost use Rattle.wasi_abi.specs.declared.version.Version.TheVariants.{One};
+ghost use Rattle.wasi_abi.specs.rules.Versions.{text_limit};
 ghost use Rattle.wasmhost_commands.specs.Lines.Answers.{Finds, IsRefusedAt, IsWordless, standing};
 ghost use Rattle.wasmhost_commands.specs.rules.Outside.{random_stream, ShowsRealTime};
 ghost use Rattle.wasmhost_commands.specs.rules.Seeds.{seeded_bytes, words_for};
@@ -14,7 +16,7 @@ use crate::lines::reader::LineReader;
 use crate::lines::real_time::RealTime;
 use record_replay::{Source, SourceFault};
 use std::alloc::Global;
-use wasi_abi::{Answer, Kind};
+use wasi_abi::{Answer, Kind, Version};
 
 /// Answers requests with the lines of a reader, clocks with a fixed time or the machine's, and
 /// wishes for random bytes with the next words of a seed. No answer is there where a request is
@@ -35,9 +37,10 @@ pub struct RequestSource<R: LineReader + Drop, C: RealTime + Drop> {
 }
 
 impl<R: LineReader + Drop, C: RealTime + Drop> RequestSource<R, C> {
-    /// Behind so many requests, and at the first word of the seed.
+    /// Behind so many requests of a worker of version 1, and at the first word of the seed.
     pub fn new(alloc: Global, reader: R, clock: C, outside: Outside, taken: u64) -> Self
         ensures reader { result.requests.reader ≡ reader }
+        ensures version { result.requests.version ≡ One }
         ensures taken { result.requests.taken ≡ taken }
         ensures outside { result.outside ≡ outside }
         ensures stream { result.stream ≡ random_stream }
@@ -55,18 +58,19 @@ impl<R: LineReader + Drop, C: RealTime + Drop> RequestSource<R, C> {
         }
     }
 
-    /// As for a worker that has taken so many requests: these are passed over. Random bytes are
-    /// those of this stream of the seed, from its first word on, and there is no fault. It reads on
-    /// where it is.
-    pub(crate) fn go_on_behind(&mut self, taken: u64, stream: u64)
+    /// As for a worker of this version that has taken so many requests: these are passed over.
+    /// Random bytes are those of this stream of the seed, from its first word on, and there is no
+    /// fault. It reads on where it is.
+    pub(crate) fn go_on_behind(&mut self, version: Version, taken: u64, stream: u64)
         ensures reader { self.new.requests.reader ≡ self.old.requests.reader }
+        ensures version { self.new.requests.version ≡ version }
         ensures taken { self.new.requests.taken ≡ taken }
         ensures outside { self.new.outside ≡ self.old.outside }
         ensures stream { self.new.stream ≡ stream }
         ensures place { self.new.place ≡ 0 }
         ensures unfailed { self.new.fault ≡ None }
     {
-        self.requests.go_on_behind(taken);
+        self.requests.go_on_behind(version, taken);
         self.stream = stream;
         self.place = 0;
         self.fault = None;
@@ -108,23 +112,28 @@ impl<R: LineReader + Drop, C: RealTime + Drop> RequestSource<R, C> {
     /// The answer to a question, or none where the lines have come to their end.
     fn find(&mut self, kind: Kind) -> Result<Option<Answer>, LineFault>
         ensures found { IfOk result (λ found. Finds kind
-            (standing self.old.outside self.old.stream self.old.requests.taken self.old.place
-            (R.unread self.old.requests.reader) (R.has_failed self.old.requests.reader) None)
+            (standing self.old.outside (text_limit self.old.requests.version) self.old.stream
+            self.old.requests.taken self.old.place (R.unread self.old.requests.reader)
+            (R.has_failed self.old.requests.reader) None)
             found
-            (standing self.new.outside self.new.stream self.new.requests.taken self.new.place
-            (R.unread self.new.requests.reader) (R.has_failed self.new.requests.reader) None)) }
+            (standing self.new.outside (text_limit self.new.requests.version) self.new.stream
+            self.new.requests.taken self.new.place (R.unread self.new.requests.reader)
+            (R.has_failed self.new.requests.reader) None)) }
         ensures real { self.old.outside.clock ≡ None → IfOk result
             (ShowsRealTime (C.gives_time self.old.clock)) }
         ensures steady { OnOk result
             (R.has_failed self.new.requests.reader ≡ R.has_failed self.old.requests.reader) }
         ensures failed { IfErr result (IsRefusedAt kind
-            (standing self.old.outside self.old.stream self.old.requests.taken self.old.place
-            (R.unread self.old.requests.reader) (R.has_failed self.old.requests.reader) None)
+            (standing self.old.outside (text_limit self.old.requests.version) self.old.stream
+            self.old.requests.taken self.old.place (R.unread self.old.requests.reader)
+            (R.has_failed self.old.requests.reader) None)
             (R.has_failed self.new.requests.reader)) }
         ensures taken { OnErr result (self.new.requests.taken ≡ self.old.requests.taken) }
         ensures place { OnErr result (self.new.place ≡ self.old.place) }
         ensures outside { self.new.outside ≡ self.old.outside }
         ensures stream { self.new.stream ≡ self.old.stream }
+        ensures limit { text_limit self.new.requests.version
+            ≡ text_limit self.old.requests.version }
         ensures fault { self.new.fault ≡ self.old.fault }
     {
         match kind {
@@ -146,14 +155,15 @@ impl<R: LineReader + Drop, C: RealTime + Drop> RequestSource<R, C> {
 }
 
 impl<R: LineReader + Drop, C: RealTime + Drop> Source for RequestSource<R, C> {
+    ghost use Rattle.wasi_abi.specs.rules.Versions.{text_limit};
     ghost use Rattle.wasmhost_commands.specs.Lines.Answers.{HandsNext, standing};
 
     ghost gives = { λ old kind said new. HandsNext kind
-        (standing old.outside old.stream old.requests.taken old.place (R.unread old.requests.reader)
-        (R.has_failed old.requests.reader) old.fault)
+        (standing old.outside (text_limit old.requests.version) old.stream old.requests.taken
+        old.place (R.unread old.requests.reader) (R.has_failed old.requests.reader) old.fault)
         said
-        (standing new.outside new.stream new.requests.taken new.place (R.unread new.requests.reader)
-        (R.has_failed new.requests.reader) new.fault) };
+        (standing new.outside (text_limit new.requests.version) new.stream new.requests.taken
+        new.place (R.unread new.requests.reader) (R.has_failed new.requests.reader) new.fault) };
 
     fn answer(&mut self, kind: Kind) -> Result<Option<Answer>, SourceFault> {
         if self.fault.is_some() {

@@ -69,7 +69,7 @@ fn status_of_call(fault: WorkFault) -> u8
     match fault {
         WorkFault::Work(fault) => status_of_work(fault),
         WorkFault::Disk(_) => UNREAD,
-        WorkFault::Store(_) => REFUSED,
+        WorkFault::Store(_) | WorkFault::Upgrade(_) => REFUSED,
     }
 }
 

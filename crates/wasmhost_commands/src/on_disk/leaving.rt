@@ -2,6 +2,7 @@
 
 ghost use Rattle.std.specs.Prelude.{◌≡◌, ◌≤◌};
 ghost use Rattle.std.specs.Io.Buffered.{reader_buffer};
+ghost use Rattle.wasi_abi.specs.rules.Versions.{text_limit};
 ghost use Rattle.wasmhost_commands.specs.rules.Leavings.{SaysLeft, SaysOfInput, left_line};
 ghost use Rattle.wasmhost_commands.specs.rules.Leavings.{place_line};
 ghost use Rattle.wasmhost_commands.specs.rules.Printers.{SaysText};
@@ -34,11 +35,12 @@ fn say_count<E: Write + Drop>(err: &mut Printer<E>, count: usize) -> u8
 }
 
 /// Says that of the lines which were read ahead, if there are any, and answers the exit status.
-fn say_left<E: Write + Drop>(err: &mut Printer<E>, ahead: &[u8], taken: u64) -> u8
-    ensures said { SaysLeft taken ahead.now err.old result err.new }
+/// Their texts may have `limit` bytes.
+fn say_left<E: Write + Drop>(err: &mut Printer<E>, limit: usize, ahead: &[u8], taken: u64) -> u8
+    ensures said { SaysLeft limit taken ahead.now err.old result err.new }
     ensures known { result ≤ 7 }
 {
-    let count = count_later(ahead, taken);
+    let count = count_later(limit, ahead, taken);
     if count == 0 {
         return 0;
     }
@@ -53,7 +55,7 @@ pub fn report_input<R: Read + Drop, C: RealTime + Drop, E: Write + Drop>(
     status: u8,
     err: &mut Printer<E>,
 ) -> u8
-    ensures says { SaysOfInput source.now.requests.taken
+    ensures says { SaysOfInput (text_limit source.now.requests.version) source.now.requests.taken
         (reader_buffer source.now.requests.reader.reader) source.now.requests.reader.begun status
         err.old result err.new }
     ensures known { status ≤ 7 → result ≤ 7 }
@@ -63,7 +65,8 @@ pub fn report_input<R: Read + Drop, C: RealTime + Drop, E: Write + Drop>(
         return say_place(err, requests.reader().line_number());
     }
     if status == 0 {
-        return say_left(err, requests.reader().read_ahead(), requests.taken());
+        let ahead = requests.reader().read_ahead();
+        return say_left(err, requests.text_limit(), ahead, requests.taken());
     }
     status
 }

@@ -25,7 +25,7 @@ pub struct Pace {
 }
 
 /// What holds of a worker's process by its type.
-fn is_process(worker: &Worker)
+pub(super) fn is_process(worker: &Worker)
     ensures { IsProcess worker.now.process }
 {
     let _ = worker.process().steps();

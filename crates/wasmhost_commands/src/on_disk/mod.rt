@@ -10,6 +10,7 @@ mod making;
 mod opening;
 mod serving;
 mod showing;
+mod upgrading;
 mod watching;
 
 pub use creation::create_on;
@@ -21,4 +22,5 @@ pub use making::{NewDisk, create_device, create_file};
 pub use opening::{report_open, report_unread};
 pub use serving::{Drive, serve};
 pub use showing::survey;
+pub use upgrading::{Upgraded, say_upgraded, upgrade_worker};
 pub use watching::{StatusFile, Watcher};

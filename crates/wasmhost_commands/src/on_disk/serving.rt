@@ -43,8 +43,8 @@ pub struct Drive<'a, T> {
     pub watcher: &'a T,
 }
 
-/// Runs a worker that is open on its disk: request lines behind those that it has taken, random
-/// bytes of its generation.
+/// Runs a worker that is open on its disk: request lines behind those that it has taken, texts as
+/// long as its version has them, random bytes of its generation.
 fn go_on<D: Disk, R: LineReader + Drop, C: RealTime + Drop, O: Outlet, T: Watcher>(
     worker: &mut Worker,
     disk: &mut D,
@@ -61,8 +61,9 @@ fn go_on<D: Disk, R: LineReader + Drop, C: RealTime + Drop, O: Outlet, T: Watche
     ensures told { IfOk result (λ now. (now ≢ Spent)
         × IsTrue (T.is_told watcher.now worker.new now)) }
 {
+    let version = worker.process().host().version();
     let taken = worker.process().requests();
-    source.go_on_behind(taken, worker.generation());
+    source.go_on_behind(version, taken, worker.generation());
     match live(worker, disk, pace, source, outlet, watcher) {
         Ok(now) => Ok(now),
         Err(fault) => Err(call_fault_of(fault, source.fault())),
@@ -81,7 +82,7 @@ fn print_recovered<E: Write + Drop>(err: &mut Printer<E>, worker: &Worker) -> io
 }
 
 /// Tells a person that a worker is recovered. A worker runs on though this can't be printed.
-fn tell_recovered<E: Write + Drop>(err: &mut Printer<E>, worker: &Worker)
+pub(super) fn tell_recovered<E: Write + Drop>(err: &mut Printer<E>, worker: &Worker)
     ensures { TellsPerson (recovered_line worker.now) err.old err.new }
 {
     if err.is_terminal() {
@@ -93,11 +94,12 @@ fn tell_recovered<E: Write + Drop>(err: &mut Printer<E>, worker: &Worker)
 /// over, with a checkpoint behind the last one. Its lines go to the outlet, last words to `err`.
 /// Where that is a terminal, a line before the first slice says how it was recovered. The watcher
 /// is told where the worker stands: then, behind each checkpoint, and at its end.
-/// Request lines that it has taken are passed over, and random bytes are those of the seed's stream
-/// of its generation. Answers the exit status: 0 where the worker has ended, trapped or waits at
-/// the end of the lines, 3 for a disk that shows no worker that can go on and where a number is at
-/// its end, 4 where the disk, the reader or the clock fails, 5 for want of memory, 6 for a refused
-/// request line, 7 where the outlet has refused a line or a write has failed.
+/// Request lines that it has taken are passed over. Their texts may be as long as its version has
+/// them. Random bytes are those of the seed's stream of its generation. Answers the exit status: 0
+/// where the worker has ended, trapped or waits at the end of the lines, 3 for a disk that shows no
+/// worker that can go on and where a number is at its end, 4 where the disk, the reader or the
+/// clock fails, 5 for want of memory, 6 for a refused request line, 7 where the outlet has refused
+/// a line or a write has failed.
 pub fn serve<D, R, C, O, E, T>(
     alloc: Global,
     disk: &mut D,

@@ -37,6 +37,7 @@ fn spell_survey<W: Write + Drop>(out: &mut Printer<W>, survey: &Survey) -> io::R
     print_number(out, " answers ", survey.answers)?;
     print_number(out, " lines ", survey.lines)?;
     print_number(out, " records ", survey.records)?;
+    print_number(out, " version ", u64::from(survey.version.number()))?;
     out.write_all(b"\n")
 }
 
@@ -59,8 +60,8 @@ fn say_survey<W: Write + Drop>(out: &mut Printer<W>, survey: &Survey) -> u8
     }
 }
 
-/// Prints what stands on a worker's disk: the numbers of the process that was saved last, and how
-/// many records lie behind it. Nothing is changed on the disk, but that it is synced. Answers the
+/// Prints what stands on a worker's disk: the numbers of the process that was saved last, how many
+/// records lie behind it, and its version. Nothing is changed on the disk, but that it is synced. Answers the
 /// exit status: 0 where the line is printed, 3 for a disk that is refused, 4 where it fails, 5 for
 /// want of memory, 7 where a write of a printer has failed.
 pub fn survey<D: Disk, W: Write + Drop, E: Write + Drop>(

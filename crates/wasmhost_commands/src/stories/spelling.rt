@@ -15,7 +15,7 @@ use record_replay::NumberedLine;
 use sha2::{Digest, Sha256};
 use std::io::{self, Write};
 use worker::story::{LifeEnd, LifeReport, Opening};
-use worker::{RecoverFault, WorkFault};
+use worker::{RecoverFault, UpgradeFault, WorkFault};
 
 /// Digits of a digest.
 pub(crate) const DIGITS: usize = 64;
@@ -101,6 +101,8 @@ fn error_name(why: RecoverFault) -> &'static str
         WorkFault::Work(SliceFault::Failed) => "N5 Failed",
         WorkFault::Work(SliceFault::Refused(Refusal::StepsSpent)) => "P3 StepsSpent",
         WorkFault::Store(_) => "S1 TooBig",
+        WorkFault::Upgrade(UpgradeFault::JournalTooSmall) => "N7 JournalTooSmall",
+        WorkFault::Upgrade(UpgradeFault::NotCaughtUp) => "N8 NotCaughtUp",
         _ => "N6 Refused",
     }
 }

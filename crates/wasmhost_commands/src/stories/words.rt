@@ -72,6 +72,11 @@ fn read_alone(alloc: Global, word: &[u8]) -> Option<ScriptLine>
             act: PlannedAct::Checkpoint,
         });
     }
+    if word == b"upgrade".as_slice() {
+        return Some(ScriptLine::Act {
+            act: PlannedAct::Upgrade,
+        });
+    }
     None
 }
 

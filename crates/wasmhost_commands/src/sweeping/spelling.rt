@@ -90,6 +90,7 @@ fn spell_act<W: Write>(out: &mut W, act: PlannedAct) -> io::Result<()> {
     match act {
         PlannedAct::Slice { fuel } => writeln!(out, "slice {fuel}"),
         PlannedAct::Checkpoint => out.write_all(b"checkpoint\n"),
+        PlannedAct::Upgrade => out.write_all(b"upgrade\n"),
     }
 }
 

@@ -13,7 +13,7 @@ ghost use Rattle.wasmhost_commands.specs.rules.CommandLine.{script_app, seeded_r
 ghost use Rattle.wasmhost_commands.specs.rules.CommandLine.{status_rule};
 ghost use Rattle.wasmhost_commands.specs.rules.CommandLine.{sized_create_app, story_app, sweep_app};
 ghost use Rattle.wasmhost_commands.specs.rules.CommandLine.{files_app, inspect_app, last_rule};
-ghost use Rattle.wasmhost_commands.specs.rules.CommandLine.{looks_app, wasmhost};
+ghost use Rattle.wasmhost_commands.specs.rules.CommandLine.{looks_app, upgrade_app, wasmhost};
 ghost use Rattle.wasmhost_commands.specs.rules.CommandLine.{HasVersion, version_words};
 
 use clap::{Arg, ArgAction, Command, value_parser};
@@ -240,6 +240,13 @@ fn files_command<'a>(alloc: Global) -> Result<Command<'a>, AllocError>
     disk_command(alloc, "files", about, WORKER_DISK)?.arg(last_argument(alloc, "PATH", path))
 }
 
+fn upgrade_command<'a>(alloc: Global) -> Result<Command<'a>, AllocError>
+    ensures { IfOk result (IsCommand upgrade_app) }
+{
+    let about = "Bring the worker of a disk to version 2, with texts of 65536 bytes";
+    disk_command(alloc, "upgrade", about, WORKER_DISK)
+}
+
 /// A command with the paths of a script and of a module.
 fn bare_script_command<'a>(
     alloc: Global,
@@ -331,6 +338,7 @@ pub(crate) fn command<'a>(alloc: Global) -> Result<Command<'a>, AllocError>
     ensures { IfOk result (IsCommand wasmhost) }
 {
     looks_command(alloc)?
+        .subcommand(upgrade_command(alloc)?)?
         .subcommand(story_command(alloc)?)?
         .subcommand(sweep_command(alloc)?)
 }

@@ -236,6 +236,9 @@ pub(crate) fn order_of<'a>(
             disk: path_of(matches, "DISK"),
             path: file_text_of(matches),
         }),
+        "upgrade" => Ok(Order::Upgrade {
+            path: path_of(matches, "DISK"),
+        }),
         "story" => {
             let script = path_of(matches, "SCRIPT");
             let wasm = path_of(matches, "MODULE");

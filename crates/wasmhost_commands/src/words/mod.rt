@@ -118,6 +118,10 @@ pub enum Order<'a> {
         disk: &'a str,
         path: Option<&'a str>,
     },
+    /// Brings the worker of the disk in this file to version 2.
+    Upgrade {
+        path: &'a str,
+    },
     /// Tells the lives of a worker on a disk in memory, as a script says.
     Story(StoryOrder<'a>),
     /// Tells lives with the power cut at each call of the disk in one of them, and compares them.

@@ -1,7 +1,8 @@
 -- Steps of a worker on its disk, up to where it stops.
 use Rattle.std.proofs.Common.{◌≡◌, ℕ, ◌+◌, ◌-◌, ◌<◌, ◌≤◌, [], length, refl, sym, ap}
-use Rattle.std.proofs.Common.{◌∙◌, subst, inl, ⊎_elim, arith, Some, None, Ok, Err}
+use Rattle.std.proofs.Common.{◌∙◌, subst, inl, ⊎_elim, arith, Some, None, Ok, Err, true}
 use Rattle.std.specs.Prelude.{◌≢◌}
+use Rattle.std.proofs.Math.Nat.{le-max_right}
 use Rattle.wasi_abi.specs.declared.answer.Kind.{Kind}
 use Rattle.process_rules.specs.Processes.{ProcessState, Ending}
 use Rattle.process_rules.specs.Runs.{Runs}
@@ -18,7 +19,8 @@ use Rattle.record_replay.proofs.OnTheWay.{quiet_runs, owing_runs}
 use Rattle.sector_disk.specs.rules.Medium.{Medium}
 use Rattle.state_image.specs.rules.Saving.{saved_of}
 use Rattle.restart_theorem.specs.Lives.{Slice, Reply, Spent, Over, Fails, Cause, OfMemory, OfBounds}
-use Rattle.restart_theorem.specs.Courses.{Stage, Open, MayFail}
+use Rattle.restart_theorem.specs.Lives.{Ended}
+use Rattle.restart_theorem.specs.Courses.{Stage, Open, MayFail, phase_ended, next_stage}
 use Rattle.restart_theorem.specs.Promises.{Promise, IsEnding, synced_by}
 use Rattle.restart_theorem.specs.Holds.{StaysWithin}
 use Rattle.worker_store.specs.laws.Underway.{IsUnderWay}
@@ -29,9 +31,12 @@ use Rattle.worker_store.proofs.LawLemmas.Underway.{steps_go_on}
 use Rattle.worker.specs.declared.fault.WorkFault.TheVariants.{Work}
 use Rattle.worker.specs.declared.running.Running.{Running}
 use Rattle.ephemeral_worker.specs.rules.Refusals.{slice_fault}
+use Rattle.worker.specs.rules.OpenWorkers.{IsAbreast}
 use Rattle.worker.specs.DurableTurns.{Course, IsBetweenTurns, IsOwingTurn}
 use Rattle.worker.specs.DurableTurns.{IsAskingOn}
-use Rattle.worker.specs.DurableTurns.{TurnEnds, TurnFails}
+use Rattle.worker.specs.DurableTurns.{TurnEnds, TurnFails, slice_end}
+use Rattle.worker.proofs.AbreastLemmas.{abreast_on, abreast_now, lines_of_runs}
+use Rattle.worker.proofs.AbreastLemmas.{ended_is_still, none_beyond}
 use Rattle.worker.proofs.DurableLemmas.OnDisk.{keeps_now, fewer_syncs, lowered_to}
 use Rattle.worker.proofs.DurableLemmas.OnDisk.{stepped_to}
 use Rattle.worker.proofs.DurableLemmas.OnDisk.{quiet_syncs}
@@ -42,6 +47,10 @@ use Rattle.worker.proofs.DurableLemmas.Ends.{open_again, stays_on, not_open}
 -- the same worker with its process further on
 abbrev pub with_process : Running → ProcessValue → Running
 with_process w v = record w { process = v }
+
+-- the same, that says that no line is beyond its process
+abbrev pub says_abreast : Running → Running
+says_abreast w = record w { is_abreast = true }
 
 -- ---- the end of a slice
 
@@ -95,8 +104,12 @@ module _ {D : Type 0} (medium : D → Medium) (c : Course) (promise : Promise) (
           held = length promise.kept;
           shown = saved_of w.process;
         })
+        → (phase_ended reply ≡ Open → IsAbreast
+        (slice_end promise c.fuel reply (length promise.kept) w)
+        (next_stage stage (Ended (Slice c.fuel) reply (length promise.kept) (saved_of w.process)))
+        p w.is_abreast)
         → TurnEnds c promise stage reply [] w (medium disk) (medium disk)
-    slice_over reply all_synced ending =
+    slice_over reply all_synced ending abreast =
         let is = running.on_disk in
         let told = told_steps in
         let below : synced_by reply w.process.steps ≤ p.steps = omega (arith, told, all_synced) in
@@ -113,7 +126,7 @@ module _ {D : Type 0} (medium : D → Medium) (c : Course) (promise : Promise) (
           open_again medium c promise stage p promise.events w disk reply (length promise.kept)
               replayed running.opened running.texts running.shows running.module_is none_waits
               way.in_slice way.line way.heard way.passed running.synced (omega arith) is below
-              is_over,
+              is_over (abreast is_over),
         ))
 
     pub spent_ends : p.steps ≡ c.first + c.fuel → p.ended ≡ None
@@ -121,12 +134,19 @@ module _ {D : Type 0} (medium : D → Medium) (c : Course) (promise : Promise) (
     spent_ends all unended =
         slice_over Spent refl (spent_slices_end c.code c.config c.guest promise stage c.fuel p
         (saved_of w.process) over (all ∙ ap (λ n. n + c.fuel) (sym running.began)) unended)
+        (λ is_over. let so_far = running.abreast in
+        record { none_beyond = so_far.none_beyond; says_so = so_far.says_so })
 
-    pub over_ends : (why : Ending) → p.ended ≡ Some why
+    pub over_ends : (why : Ending) → p.ended ≡ Some why → w.is_abreast ≡ true
         → TurnEnds c promise stage (Over why) [] w (medium disk) (medium disk)
-    over_ends why ended =
+    over_ends why ended says =
         slice_over (Over why) refl (ended_slices_end c.code c.config c.guest promise stage c.fuel p
         (saved_of w.process) why over ended)
+        (λ is_over. record {
+          none_beyond = λ here. none_beyond medium c.code c.config c.guest promise p p.steps
+              promise.events w.store disk running.on_disk (ended_is_still c.guest p why ended);
+          says_so = λ abreast. says;
+        })
 
 -- ---- steps
 
@@ -155,6 +175,14 @@ module _ {D : Type 0} (medium : D → Medium) (c : Course) (promise : Promise) (
       (steps_go_on c.code c.config c.guest promise stage c.fuel w.process.host.released n p q
       running.way runs (in_time n few))
 
+  -- steps take no line back
+  abreast_there : (q : ProcessState) (n : ℕ) → Runs c.guest p [] n q
+      → IsAbreast promise stage q w.is_abreast
+  abreast_there q n runs =
+      abreast_on promise promise stage stage p q w.is_abreast
+      (le-max_right (length q.host.lines) promise.begun) (lines_of_runs c.guest p q [] n runs) refl
+      running.abreast
+
   -- steps after which nothing is owed
   pub quiet_on : (come : ComesQuietly v c.guest p) → come.steps ≤ left
       → IsBetweenTurns c promise stage come.process (with_process w v) (medium disk)
@@ -176,6 +204,7 @@ module _ {D : Type 0} (medium : D → Medium) (c : Course) (promise : Promise) (
             (quiet_syncs medium c.code c.config c.guest promise p p.steps promise.events w.store
             disk is come.process come.steps (omega arith) come.runs);
         synced = omega (arith, synced, count);
+        abreast = abreast_there come.process come.steps runs;
       }
 
   -- and one more, after which something is owed
@@ -205,6 +234,7 @@ module _ {D : Type 0} (medium : D → Medium) (c : Course) (promise : Promise) (
             (quiet_syncs medium c.code c.config c.guest promise p p.steps promise.events w.store
             disk is come.before come.steps (omega arith) come.runs));
         synced = omega (arith, synced, first, one);
+        abreast = abreast_there come.process (come.steps + 1) runs;
       }
 
   -- ---- what it stops for
@@ -231,6 +261,7 @@ module _ {D : Type 0} (medium : D → Medium) (c : Course) (promise : Promise) (
           on_disk = lowered_to medium c.code c.config c.guest promise p p.steps promise.events
               w.store disk is (p.steps - 1) promise.events (omega arith) (omega arith);
           synced = running.synced;
+          abreast = running.abreast;
         };
       })
       (λ (k : (waiting_in w.process ≡ []) × (come : ComesOwing v c.guest p)
@@ -287,15 +318,36 @@ module _ {D : Type 0} (medium : D → Medium) (c : Course) (promise : Promise) (
       spent_ends medium c promise stage come.process (with_process w v) disk (quiet_on come few)
       come.none_waits (omega (arith, all, count, left_is, told, begun, within, began)) k.3
 
-  -- it has ended
-  pub advance_over : (how : ProcessEnd) → AdvancesProcess w.process left (Ok (stops.Ended how)) v
-      → TurnEnds c promise stage (Over (ending_of how)) [] (with_process w v) (medium disk)
+  -- it has ended, and says that no line is beyond it
+  said_abreast : (come : ComesQuietly v c.guest p) → come.steps ≤ left → (why : Ending)
+      → come.process.ended ≡ Some why
+      → IsBetweenTurns c promise stage come.process (says_abreast (with_process w v))
       (medium disk)
+  said_abreast come few why ended =
+      let there = quiet_on come few in
+      record {
+        opened = there.opened;
+        texts = there.texts;
+        shows = there.shows;
+        module_is = there.module_is;
+        way = there.way;
+        began = there.began;
+        on_disk = there.on_disk;
+        synced = there.synced;
+        abreast = abreast_now promise stage come.process
+            (none_beyond medium c.code c.config c.guest promise come.process come.process.steps
+            promise.events w.store disk there.on_disk
+            (ended_is_still c.guest come.process why ended));
+      }
+
+  pub advance_over : (how : ProcessEnd) → AdvancesProcess w.process left (Ok (stops.Ended how)) v
+      → TurnEnds c promise stage (Over (ending_of how)) [] (says_abreast (with_process w v))
+      (medium disk) (medium disk)
   advance_over how advances =
       let k = advances c.guest p running.shows in
       let come = k.1 in
-      over_ends medium c promise stage come.process (with_process w v) disk (quiet_on come k.2)
-      come.none_waits (ending_of how) k.3
+      over_ends medium c promise stage come.process (says_abreast (with_process w v)) disk
+      (said_abreast come k.2 (ending_of how) k.3) come.none_waits (ending_of how) k.3 refl
 
   -- it can't go on
   pub advance_fails : (why : ProcessFault) → AdvancesProcess w.process left (Err why) v

@@ -11,6 +11,7 @@ use Rattle.restart_theorem.specs.Lives.{Reply, Fails, Waits, SourceSaid, OfSourc
 use Rattle.restart_theorem.specs.Courses.{Stage}
 use Rattle.restart_theorem.specs.Promises.{Promise}
 use Rattle.restart_theorem.specs.Holds.{StaysWithin}
+use Rattle.process_rules.specs.Processes.{ProcessState}
 use Rattle.worker_store.specs.laws.Turns.{GoesOnFrom, LeavesBegun}
 use Rattle.worker_store.proofs.LawLemmas.TurnLemmas.{turns_join, parts_leave_begun}
 use Rattle.ephemeral_worker.specs.declared.fault.SliceFault.{SliceFault}
@@ -22,9 +23,12 @@ use Rattle.ephemeral_worker.specs.Turns.{AsksOnce, AnswersBy}
 use Rattle.worker.specs.DurableTurns.{Course, TurnGoes, TurnEnds, TurnFails}
 use Rattle.worker.specs.DurableTurns.{slice_end}
 use Rattle.worker.specs.DurableTurns.{MakesRoom, MakesNoRoom, asks_once, TakesOnRecord}
+use Rattle.worker.specs.DurableTurns.{IsAskingOn}
 use Rattle.worker.specs.DurableTurns.{TakesNone}
 use Rattle.worker.specs.DurableTurns.{LacksRecord, IsNotTaken, IsMisfit, HearsBy, Hears}
 use Rattle.worker.specs.DurableTurns.{AsksTurn}
+use Rattle.worker.proofs.AbreastLemmas.{abreast_now, asking_is_still, none_beyond}
+use Rattle.worker.proofs.DurableLemmas.Advancing.{says_abreast}
 use Rattle.worker.proofs.DurableLemmas.Bounds.{bounds_join, question_counts}
 use Rattle.worker.proofs.DurableLemmas.Ends.{cause_before}
 use Rattle.worker.proofs.DurableLemmas.Hearing.{waits_once, source_fails, misfits}
@@ -89,12 +93,53 @@ module _ {D : Type 0} (medium : D → Medium) (c : Course) (promise : Promise) (
         ends_behind (Fails turn.0) turn.3,
       )
 
+-- ---- no line is beyond a process that asks
+
+module _ {D : Type 0} (medium : D → Medium) where
+  -- so the worker may say it
+  said_asking : (c : Course) (promise : Promise) (stage : Stage) (p : ProcessState) (kind : Kind)
+      (latest : ℕ) (w : Running) (disk : D)
+      → IsAskingOn c promise stage p kind latest w (medium disk)
+      → IsAskingOn c promise stage p kind latest (says_abreast w) (medium disk)
+  said_asking c promise stage p kind latest w disk asking =
+      let there = asking.running in
+      record {
+        running = record {
+          opened = there.opened;
+          texts = there.texts;
+          shows = there.shows;
+          module_is = there.module_is;
+          way = there.way;
+          began = there.began;
+          on_disk = there.on_disk;
+          synced = there.synced;
+          abreast = abreast_now promise stage p
+              (none_beyond medium c.code c.config c.guest promise p p.steps latest w.store disk
+              there.on_disk (asking_is_still c.guest p kind asking.wants));
+        };
+        none_waits = asking.none_waits;
+        unended = asking.unended;
+        wants = asking.wants;
+        room = asking.room;
+      }
+
+  pub room_said : (old mid : Running) (disk disk' : D)
+      → MakesRoom old mid (medium disk) (medium disk')
+      → MakesRoom old (says_abreast mid) (medium disk) (medium disk')
+  room_said old mid disk disk' makes c promise stage p kind asking =
+      let made = makes c promise stage p kind asking in (
+        said_asking c promise stage p kind (promise.events + 1) mid disk' made.0,
+        made.1,
+        made.2,
+        made.3,
+      )
+
 -- ---- the source is asked
 
 module _ {D S : Type 0} (medium : D → Medium) (gives : Giving S) (old mid new : Running)
     (kind : Kind) (step : ℕ) (disk disk' : D) (source source' : S)
     (makes : MakesRoom old mid (medium disk) (medium disk')) (same : mid.process ≡ old.process)
-    (step_is : step ≡ old.process.steps + 1) where
+    (says : mid.is_abreast ≡ true) (step_is : step ≡ old.process.steps + 1) where
   fails_so : (e : SourceFault) → gives source kind (Err e) source' → new ≡ mid
       → AsksTurn gives old kind (Err (Work slice.Source)) new (medium disk) (medium disk') source
       source'
@@ -110,7 +155,7 @@ module _ {D S : Type 0} (medium : D → Medium) (gives : Giving S) (old mid new 
           tt,
           subst (λ w. TurnEnds c promise stage (Fails OfSource) (asks_once kind (Err e)) w
               (medium disk') (medium disk')) (sym still)
-              (source_fails medium c promise stage p kind mid disk' made.0 e foretold),
+              (source_fails medium c promise stage p kind mid disk' made.0 says e foretold),
         ),
   )
 
@@ -125,7 +170,7 @@ module _ {D S : Type 0} (medium : D → Medium) (gives : Giving S) (old mid new 
         made.3 Waits
         (subst (λ w. TurnEnds c promise stage Waits (asks_once kind (Ok None)) w (medium disk')
         (medium disk')) (sym still)
-        (waits_once medium c promise stage p kind mid disk' made.0 foretold)),
+        (waits_once medium c promise stage p kind mid disk' made.0 says foretold)),
     refl,
   )
 
@@ -140,7 +185,7 @@ module _ {D S : Type 0} (medium : D → Medium) (gives : Giving S) (old mid new 
         let running = asking.running in
         let shows = running.shows in
         let steps : old.process.steps ≡ p.steps = shows.steps in
-        let turn = taken medium c promise stage p kind mid disk' made.0 a foretold step new
+        let turn = taken medium c promise stage p kind mid disk' made.0 says a foretold step new
         (step_is ∙ ap (λ n. n + 1) steps) takes in
         goes_behind medium c promise stage (asks_once kind (Ok (Some a))) new disk disk' disk'
         made.2 made.3 turn
@@ -160,15 +205,15 @@ module _ {D S : Type 0} (medium : D → Medium) (gives : Giving S) (old mid new 
         fails_behind medium c promise stage (asks_once kind (Ok (Some a))) new disk disk' disk'
         made.2 made.3 why (⊎_elim
         (λ (h : IsMisfit mid kind (record { step = step; answer = a }) why new).
-        misfits medium c promise stage p kind mid disk' made.0 a foretold step why new h)
+        misfits medium c promise stage p kind mid disk' made.0 says a foretold step why new h)
         (λ (rest : LacksRecord mid kind (record { step = step; answer = a }) why new
         ⊎ IsNotTaken mid kind (record { step = step; answer = a }) why new).
         ⊎_elim
         (λ (h : LacksRecord mid kind (record { step = step; answer = a }) why new).
-        lacks_record medium c promise stage p kind mid disk' made.0 a foretold step why new made.1
+        lacks_record medium c promise stage p kind mid disk' made.0 says a foretold step why new made.1
         h)
         (λ (h : IsNotTaken mid kind (record { step = step; answer = a }) why new).
-        not_taken medium c promise stage p kind mid disk' made.0 a foretold step why new h)
+        not_taken medium c promise stage p kind mid disk' made.0 says a foretold step why new h)
         rest) none),
   )
 

@@ -40,12 +40,12 @@ use Rattle.worker_store.specs.declared.fault.StoreFault.TheVariants as store
 use Rattle.worker_store.specs.declared.store.WorkerStore.{WorkerStore}
 use Rattle.ephemeral_worker.specs.declared.fault.SliceFault.TheVariants as sliced
 use Rattle.worker.specs.declared.fault.WorkFault.{WorkFault}
-use Rattle.worker.specs.declared.fault.WorkFault.TheVariants.{Work, Disk, Store}
+use Rattle.worker.specs.declared.fault.WorkFault.TheVariants.{Work, Disk, Store, Upgrade}
 use Rattle.worker.specs.declared.running.Running.{Running}
 use Rattle.worker.specs.rules.DurableCalls.{HasCauseAt}
 use Rattle.worker.specs.rules.Savings.{IsSaveFault}
 use Rattle.worker.specs.rules.DurableValues.{durable_of}
-use Rattle.worker.specs.rules.OpenWorkers.{IsOnDisk, IsOpenOn}
+use Rattle.worker.specs.rules.OpenWorkers.{IsOnDisk, IsAbreast, IsOpenOn}
 use Rattle.worker.specs.DurableTurns.{Course, IsRunningOn, TurnEnds, slice_end}
 use Rattle.worker.proofs.DurableLemmas.OnDisk.{ended_on, lowered_to}
 
@@ -81,6 +81,7 @@ cause_before (Disk fault) guest config v old mid new room faults (inl (inr few))
 cause_before (Disk fault) guest config v old mid new room faults (inr failed) =
     inr (omega (arith, faults, failed))
 cause_before (Store fault) guest config v old mid new room faults cause = tt
+cause_before (Upgrade fault) guest config v old mid new room faults cause = tt
 cause_before (Work sliced.Memory) guest config v old mid new room faults cause = cause
 cause_before (Work other) guest config v old mid new room faults cause = tt
 
@@ -153,13 +154,15 @@ module _ {D : Type 0} (medium : D → Medium) (c : Course) where
         → TurnEnds c promise stage reply exchanges w (medium disk) (medium disk')
     ends_on goes bounded point journal records pending last now carried syncs goes_on =
         let later = ended_carries medium c.code c.config between point journal records pending last
-        now (Slice c.fuel) reply held (saved_of w.process) disk' carried (λ count. refl) syncs in
+        now (Slice c.fuel) reply held (saved_of w.process) disk' carried refl (λ count. refl) syncs
+        in
         let keeps = carried_keeps medium c.code c.config (slice_end between c.fuel reply held w)
         point journal records pending last now disk' later in
         let rest = rests_go_on medium c.code c.config between
         (slice_end between c.fuel reply held w) disk' goes.opened_now goes.opened_now
         (ends_promise_no_less between (Slice c.fuel) reply held (saved_of w.process))
-        (ended_still_holds c.code c.config between (Slice c.fuel) reply held (saved_of w.process))
+        (ended_still_holds c.code c.config between (Slice c.fuel) reply held (saved_of w.process)
+        refl)
         keeps in
         record {
           between = between;
@@ -199,7 +202,7 @@ module _ {D : Type 0} (medium : D → Medium) (c : Course) where
       no_more = ends_promise_no_less promise (Slice c.fuel) (Fails cause) held
           (saved_of w.process);
       still = ended_still_holds c.code c.config promise (Slice c.fuel) (Fails cause) held
-          (saved_of w.process);
+          (saved_of w.process) refl;
       leaves = carries.at_any_moment;
     };
     bounded = bounded;
@@ -250,11 +253,13 @@ pub open_again : {D : Type 0} (medium : D → Medium) (c : Course) (promise : Pr
     → latest ≤ promise.events + 1
     → IsOnDisk c.code c.config c.guest promise p p.steps latest w.store (medium disk)
     → synced_by reply w.process.steps ≤ p.steps → phase_ended reply ≡ Open
+    → IsAbreast (slice_end promise c.fuel reply held w)
+    (next_stage stage (Ended (Slice c.fuel) reply held (saved_of w.process))) p w.is_abreast
     → IsOpenOn c.code c.config c.guest (slice_end promise c.fuel reply held w)
     (next_stage stage (Ended (Slice c.fuel) reply held (saved_of w.process))) p
     (durable_of w replayed false) (medium disk)
 open_again medium c promise stage p latest w disk reply held replayed opened texts shows module_is
-    none_waits slice line heard passed synced early on_disk told over =
+    none_waits slice line heard passed synced early on_disk told over abreast =
     let counted : w.process.steps ≡ p.steps = shows.steps in
     record {
       works = refl;
@@ -273,7 +278,8 @@ open_again medium c promise stage p latest w disk reply held replayed opened tex
       on_disk = lowered_to medium c.code c.config c.guest (slice_end promise c.fuel reply held w) p
           p.steps latest w.store disk
           (ended_on medium c.code c.config c.guest promise p p.steps latest w.store disk on_disk
-          (Slice c.fuel) reply held (saved_of w.process) (λ count. refl) told)
+          (Slice c.fuel) reply held (saved_of w.process) refl (λ count. refl) told)
           p.steps (promise.events + 1) (omega arith) early;
       synced = omega (arith, synced, told);
+      abreast = abreast;
     }

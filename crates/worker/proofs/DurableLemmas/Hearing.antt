@@ -9,19 +9,19 @@ use Rattle.wasi_abi.specs.rules.Answers.{Fits}
 use Rattle.wasi_abi.specs.rules.Versions.{text_limit}
 use Rattle.wasi_calls_rules.specs.Hosts.{Host}
 use Rattle.process_rules.specs.Processes.{ProcessState, Guest}
-use Rattle.process_rules.specs.Runs.{Moves, Wants, next_of, none}
+use Rattle.process_rules.specs.Runs.{Given, Moves, Wants, next_of, none, take as takes_one}
 use Rattle.process_rules.proofs.Growing.{move_counts}
-use Rattle.process_rules.proofs.Hosted.{reached_versions}
 use Rattle.process.specs.declared.fault.ProcessFault.{ProcessFault}
 use Rattle.process.specs.declared.fault.ProcessFault.TheVariants as stop
 use Rattle.process.specs.rules.Values.{ProcessValue, ShowsProcess}
 use Rattle.process.specs.rules.Stops.{CallsHost, GivesAnswer}
 use Rattle.sector_disk.specs.rules.Medium.{Medium}
 use Rattle.state_image.specs.rules.Saving.{saved_of}
-use Rattle.disk_layout.specs.rules.Journal.{record_bytes, longest_record, payload_of}
-use Rattle.wasi_abi.specs.declared.version.Version.TheVariants.{One}
+use Rattle.disk_layout.specs.rules.Journal.{record_bytes, record_head_bytes, longest_record}
+use Rattle.disk_layout.specs.rules.Journal.{payload_of}
+use Rattle.wasi_abi.specs.declared.version.Version.{Version}
 use Rattle.journal.specs.rules.State.{room_of}
-use Rattle.journal.proofs.RecordLemmas.{record_of}
+use Rattle.journal.proofs.RecordLemmas.{record_of, length-record}
 use Rattle.record_replay.specs.declared.fault.SourceFault.{SourceFault}
 use Rattle.record_replay.proofs.Emitted.{released_whole}
 use Rattle.restart_theorem.specs.Lives.{Fails, Waits, Cause, SourceSaid, Asked, kept_of_said}
@@ -37,6 +37,7 @@ use Rattle.worker_store.specs.laws.Pieces.{IsForetold, AreDone}
 use Rattle.worker_store.specs.laws.Carried.{count_at, IsCarried}
 use Rattle.worker_store.specs.laws.Raised.{SyncsAreHeld, AreOnRecord}
 use Rattle.worker_store.specs.laws.Turns.{GoesOnFrom}
+use Rattle.restart_theorem.proofs.Fronts.{said_widens_none}
 use Rattle.worker_store.proofs.LawLemmas.AtHand.{shown_is_saved, shown_is_numbered}
 use Rattle.worker_store.proofs.LawLemmas.CallEnds.{waiting_slices_end}
 use Rattle.worker_store.proofs.LawLemmas.Carrying.{carried_keeps}
@@ -66,9 +67,10 @@ use Rattle.worker.specs.DurableTurns.{TurnEnds}
 use Rattle.worker.specs.DurableTurns.{TurnFails, asks_once, TakesOnRecord, LacksRecord}
 use Rattle.worker.specs.DurableTurns.{IsNotTaken}
 use Rattle.worker.specs.DurableTurns.{IsMisfit}
+use Rattle.worker.proofs.AbreastLemmas.{lines_of_runs}
 use Rattle.worker.proofs.ShortAnswers.{short_payload}
 use Rattle.worker.proofs.DurableLemmas.OnDisk.{IsReachedBy, reached_now, valid_module}
-use Rattle.worker.proofs.DurableLemmas.OnDisk.{runs_there}
+use Rattle.worker.proofs.DurableLemmas.OnDisk.{runs_there, one_version}
 use Rattle.worker.proofs.DurableLemmas.Bounds.{on_disk_still}
 use Rattle.worker.proofs.DurableLemmas.Ends.{ends_on, failed_end, open_again, not_open}
 
@@ -79,16 +81,17 @@ promise_once promise p kind said fits = after promise (Asked p.steps kind said f
 abbrev pub stage_once : Stage → ProcessState → Kind → SourceSaid → Bool → Stage
 stage_once stage p kind said fits = next_stage stage (Asked p.steps kind said fits)
 
-too_full : (payload free long : ℕ) → payload ≤ text_limit One → longest_record One ≤ free
-    → free < long → long ≡ 11 + payload → ⊥
-too_full payload free long few room less is = omega (arith, few, room, less, is)
+too_full : (v : Version) (payload free long : ℕ) → payload ≤ text_limit v
+    → longest_record v ≤ free → free < long → long ≡ record_head_bytes v + payload → ⊥
+too_full v payload free long few room less is = omega (arith, few, room, less, is)
 
-too_long : (payload : ℕ) → payload ≤ text_limit One → text_limit One < payload → ⊥
-too_long payload few long = omega (arith, few, long)
+too_long : (v : Version) (payload : ℕ) → payload ≤ text_limit v → text_limit v < payload → ⊥
+too_long v payload few long = omega (arith, few, long)
 
 module _ {D : Type 0} (medium : D → Medium) (c : Course) (promise : Promise) (stage : Stage)
     (p : ProcessState) (kind : Kind) (w : Running) (disk : D)
-    (asking : IsAskingOn c promise stage p kind (promise.events + 1) w (medium disk)) where
+    (asking : IsAskingOn c promise stage p kind (promise.events + 1) w (medium disk))
+    (says : w.is_abreast ≡ true) where
   all_told : w.process.host.released ≡ length p.host.lines
   all_told = let running = asking.running in
       released_whole w.process c.guest p running.shows asking.none_waits
@@ -128,7 +131,8 @@ module _ {D : Type 0} (medium : D → Medium) (c : Course) (promise : Promise) (
   -- ---- what was said
 
   module _ (said : SourceSaid) (fits : Bool) where
-    done_once : IsFitting (text_limit p.host.version) kind said fits → IsForetold stage (asks_once kind said)
+    done_once : IsFitting (text_limit p.host.version) kind said fits
+        → IsForetold stage (asks_once kind said)
         → AreDone c.code c.config promise stage (asks_once kind said)
         (promise_once promise p kind said fits) (stage_once stage p kind said fits)
     done_once fitting foretold =
@@ -157,7 +161,8 @@ module _ {D : Type 0} (medium : D → Medium) (c : Course) (promise : Promise) (
         let is = running.on_disk in
         syncs_of_more c.code c.config promise.kept (kept_of_said said fits) p.steps p
         (valid_module medium c.code c.config c.guest promise p p.steps (promise.events + 1) w.store
-        disk is) by_answers.reached (count_at is.point is.records) is.syncs
+        disk is) by_answers.reached (said_widens_none said fits p.steps)
+        (count_at is.point is.records) is.syncs
 
     carried_once : IsCarried (promise_once promise p kind said fits) asking.running.on_disk.point
         w.store.journal asking.running.on_disk.records asking.running.on_disk.pending
@@ -168,7 +173,8 @@ module _ {D : Type 0} (medium : D → Medium) (c : Course) (promise : Promise) (
         asked_carries medium c.code c.config promise is.point w.store.journal is.records is.pending
         is.last is.now p.steps kind said fits disk is.carried running.synced syncs_once
 
-    goes_once : IsFitting (text_limit p.host.version) kind said fits → IsForetold stage (asks_once kind said)
+    goes_once : IsFitting (text_limit p.host.version) kind said fits
+        → IsForetold stage (asks_once kind said)
         → GoesOnFrom c.code c.config promise (promise_once promise p kind said fits) (medium disk)
         (medium disk)
     goes_once fitting foretold =
@@ -277,7 +283,9 @@ module _ {D : Type 0} (medium : D → Medium) (c : Course) (promise : Promise) (
         open_again medium c more inside p (promise.events + 1) w disk Waits (length more.kept)
             replayed running.opened running.texts running.shows running.module_is asking.none_waits
             broken.in_slice way.line way.heard way.passed (omega (arith, few)) (omega arith)
-            on_disk (omega (arith, told)) over,
+            on_disk (omega (arith, told)) over
+            (let so_far = running.abreast in
+            record { none_beyond = so_far.none_beyond; says_so = λ abreast. says }),
       ))
 
   -- the source fails
@@ -331,21 +339,14 @@ module _ {D : Type 0} (medium : D → Medium) (c : Course) (promise : Promise) (
         needs = needs;
       }
 
-      short : length (payload_of a) ≤ text_limit One
+      -- the journal is of the version of the process, so the answer isn't too long for it
+      short : length (payload_of a) ≤ text_limit w.store.journal.version
       short =
-          let version = reached_versions c.code c.config promise.kept p.steps p
-          by_answers.reached in
-          let limit : text_limit p.host.version ≡ text_limit One = ap text_limit version in
-          short_payload c.guest p kind a asking.wants (omega (arith, limit)) fits
-
-      -- the journal is of version 1
-      version_one : w.store.journal.version ≡ One
-      version_one =
           let running = asking.running in
-          let is = running.on_disk in
-          let stores = is.stores in
-          let journaled = stores.journaled in
-          journaled.version
+          subst (λ v. length (payload_of a) ≤ text_limit v)
+          (sym (one_version c.code c.config c.guest promise p p.steps (promise.events + 1)
+          w.store (medium disk) running.on_disk))
+          (short_payload c.guest p kind a asking.wants fits)
 
       -- no record is wanting but for memory
       lacks_by : (step : ℕ) (fault : StoreFault) → HasRoom w
@@ -353,15 +354,12 @@ module _ {D : Type 0} (medium : D → Medium) (c : Course) (promise : Promise) (
           → TurnFails c promise stage (fault_of_store fault) (asks_once kind (Ok (Some a))) w'
           (medium disk) (medium disk)
       lacks_by step store.Full room h same =
-          let few = short in
-          let free = room_of w.store.geometry w.store.journal in
-          let less : free < length (record_bytes One (record_of step a)) =
-          subst (λ v. free < length (record_bytes v (record_of step a))) version_one h.1 in
-          absurd (too_full (length (payload_of a)) free (length (record_bytes One
-          (record_of step a))) few room less (omega arith))
+          let v : Version = w.store.journal.version in
+          absurd (too_full v (length (payload_of a)) (room_of w.store.geometry w.store.journal)
+          (length (record_bytes v (record_of step a))) short room h.1
+          (length-record v (record_of step a)))
       lacks_by step store.TooLong room h same =
-          absurd (too_long (length (payload_of a)) short
-          (subst (λ v. text_limit v < length (payload_of a)) version_one h))
+          absurd (too_long w.store.journal.version (length (payload_of a)) short h)
       lacks_by step store.Memory room h same = (
         OfMemory,
         refl,
@@ -511,6 +509,14 @@ module _ {D : Type 0} (medium : D → Medium) (c : Course) (promise : Promise) (
               began = running.began;
               on_disk = on_disk_next;
               synced = omega (arith, few, one_more);
+              abreast = record {
+                none_beyond = λ here. (
+                    let so_far = running.abreast in
+                    let told : promise.begun ≤ length p.host.lines = so_far.none_beyond says in
+                    let grow = lines_of_runs c.guest p q (Given a ∷ []) 1 (takes_one moves none) in
+                    omega (arith, told, grow));
+                says_so = λ abreast. takes.abreast_same ∙ says;
+              };
             };
           }
 

@@ -79,6 +79,7 @@ module _ (old : Running) (kind : Kind) (r : Record) (limit : ℕ)
       room = room;
       given = given;
       some = some;
+      abreast_same = refl;
       released_same = released;
       guest_same = guest;
     }

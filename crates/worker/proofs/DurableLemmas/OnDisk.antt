@@ -1,24 +1,29 @@
 -- What is known of a worker whose disk holds what is promised.
-use Rattle.std.proofs.Common.{◌≡◌, ℕ, ◌+◌, ◌≤◌, [], sym, ◌∙◌}
+use Rattle.std.proofs.Common.{◌≡◌, ℕ, ◌+◌, ◌≤◌, List, [], ◌++◌, sym, ◌∙◌}
 use Rattle.std.proofs.Common.{subst, arith}
 use Rattle.wasm_syntax.specs.declared.module.Module.{Module}
 use Rattle.wasm_semantics.specs.Validity.{IsValid}
 use Rattle.wasi_abi.specs.rules.Configs.{Settings}
 use Rattle.process_rules.specs.Processes.{ProcessState, Guest}
-use Rattle.process_rules.specs.Runs.{Runs, Reaches}
+use Rattle.process_rules.specs.Runs.{Kept, Runs, Reaches}
 use Rattle.process_rules.specs.Owing.{RunsQuietly}
 use Rattle.process_rules.proofs.Quiet.{runs_join}
 use Rattle.sector_disk.specs.rules.Medium.{Medium}
+use Rattle.process.specs.rules.Values.{ProcessValue, ShowsProcess}
 use Rattle.state_image.specs.rules.Image.{Saved}
-use Rattle.restart_theorem.specs.Lives.{Act, Reply, Ended}
+use Rattle.state_image.specs.rules.Saving.{saved_of}
+use Rattle.disk_layout.specs.rules.Journal.{TakesRecords}
+use Rattle.restart_theorem.specs.Lives.{Act, Reply, Ended, kept_by_end}
 use Rattle.restart_theorem.specs.Promises.{Promise, after, saved_by, synced_by}
 use Rattle.restart_theorem.specs.Holds.{KeepsPromise}
 use Rattle.worker_store.specs.laws.Carried.{count_at}
 use Rattle.worker_store.specs.laws.Raised.{SyncsAreHeld}
-use Rattle.worker_store.proofs.LawLemmas.Carrying.{carried_keeps}
+use Rattle.worker_store.proofs.LawLemmas.AtHand.{version_stays, version_shown}
+use Rattle.worker_store.proofs.LawLemmas.Carrying.{carried_keeps, all_is_held}
 use Rattle.worker_store.proofs.LawLemmas.Raising.{carried_is_reached, quiet_syncs_are_held}
 use Rattle.worker_store.proofs.LawLemmas.Raising.{ended_carries}
 use Rattle.worker_store.specs.declared.store.WorkerStore.{WorkerStore}
+use Rattle.worker.specs.laws.Bounds.{OpenWorkersHaveOneVersion}
 use Rattle.worker.specs.rules.OpenWorkers.{IsOnDisk}
 
 -- all kept answers lead there
@@ -107,10 +112,11 @@ module _ {D : Type 0} (medium : D → Medium) (m : Module) (config : Settings) (
 
   -- a call ends that saves nothing
   pub ended_on : (act : Act) (reply : Reply) (held : ℕ) (shown : Saved)
+      → kept_by_end act shown promise.kept ≡ promise.kept
       → ((count : ℕ) → saved_by act reply count ≡ 0) → synced_by reply shown.steps ≤ step
       → IsOnDisk m config guest (after promise (Ended act reply held shown)) p step latest store
       (medium disk)
-  ended_on act reply held shown saves_none below = record {
+  ended_on act reply held shown kept saves_none below = record {
     point = is.point;
     same = is.same;
     records = is.records;
@@ -119,12 +125,51 @@ module _ {D : Type 0} (medium : D → Medium) (m : Module) (config : Settings) (
     now = is.now;
     stores = is.stores;
     carried = ended_carries medium m config promise is.point store.journal is.records is.pending
-        is.last is.now act reply held shown disk is.carried saves_none
+        is.last is.now act reply held shown disk is.carried kept saves_none
         (fewer_syncs m config promise (count_at is.point is.records) step
         (synced_by reply shown.steps) below is.syncs);
-    on_record = is.on_record;
+    on_record = kept ∙ is.on_record;
     n = is.n;
     runs = is.runs;
-    syncs = is.syncs;
+    syncs = subst (λ (l : List Kept). SyncsAreHeld m config l (count_at is.point is.records) step)
+        (sym kept) is.syncs;
     early = is.early;
   }
+
+-- ---- its version
+
+module _ (m : Module) (config : Settings) (guest : Guest) (promise : Promise) (p : ProcessState)
+    (step latest : ℕ) (store : WorkerStore) (disk : Medium)
+    (is : IsOnDisk m config guest promise p step latest store disk) where
+  -- process, journal and savepoint are of one version
+  pub version_now : p.host.version ≡ is.point.saved.version
+  version_now =
+      let held = all_is_held m config promise is.point store.journal is.records is.pending is.last
+      is.now disk is.carried in
+      version_stays m config is.point (is.records ++ is.pending) is.now p is.n held.recorded
+      (subst (λ g. Runs g is.now [] is.n p) (sym is.same) is.runs)
+
+  pub one_version : store.journal.version ≡ p.host.version
+  one_version =
+      let stores = is.stores in
+      let journaled = stores.journaled in
+      journaled.version ∙ sym version_now
+
+  -- and the journal takes the records of it
+  pub room_now : (v : ProcessValue) → ShowsProcess v guest p
+      → TakesRecords (saved_of v).version config.journal
+  room_now v shows =
+      subst (λ w. TakesRecords w config.journal)
+      (sym (version_shown guest v p shows ∙ version_now)) is.point.room
+
+-- ---- an open worker
+
+pub open_workers_have_one_version : {D : Type 0} (medium : D → Medium)
+    → OpenWorkersHaveOneVersion medium
+open_workers_have_one_version medium m config guest promise stage p w disk opened = (
+  version_shown guest w.process p opened.shows,
+  one_version m config guest promise p p.steps promise.events w.store (medium disk)
+      opened.on_disk,
+  sym (version_now m config guest promise p p.steps promise.events w.store (medium disk)
+      opened.on_disk),
+)

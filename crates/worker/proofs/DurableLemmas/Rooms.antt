@@ -1,9 +1,10 @@
 -- Room on the disk for the next answer.
 use Rattle.std.proofs.Common.{◌≡◌, ℕ, ◌+◌, ◌-◌, ◌*◌, ◌≤◌, [], length, refl}
-use Rattle.std.proofs.Common.{sym, ap, ◌∙◌, subst, inl, inr, arith, false, take}
+use Rattle.std.proofs.Common.{sym, ap, ◌∙◌, subst, inl, inr, arith, false, take, drop}
 use Rattle.std.proofs.lemmas.List.{append-nil}
 use Rattle.wasi_abi.specs.declared.answer.Kind.{Kind}
 use Rattle.wasi_abi.specs.declared.numbers.TheConstants.{NUMBERS_END}
+use Rattle.process_rules.specs.Behind.{IsNarrowTo}
 use Rattle.process_rules.specs.Processes.{ProcessState}
 use Rattle.process_rules.specs.Runs.{Runs, none}
 use Rattle.process.specs.rules.Values.{ProcessValue, IsProcess}
@@ -11,8 +12,8 @@ use Rattle.sector_disk.specs.rules.Medium.{Medium}
 use Rattle.state_image.specs.rules.Saving.{saved_of}
 use Rattle.disk_layout.specs.declared.geometry.Geometry.{Geometry}
 use Rattle.disk_layout.specs.declared.journal_sectors.TheConstants.{PAYLOAD_SIZE}
-use Rattle.wasi_abi.specs.declared.version.Version.TheVariants.{One}
-use Rattle.disk_layout.specs.rules.Journal.{longest_record}
+use Rattle.disk_layout.specs.rules.Journal.{longest_record, TakesRecords}
+use Rattle.disk_layout.proofs.LongRecordLemmas.{journals_have_room}
 use Rattle.journal.specs.rules.State.{JournalState, state}
 use Rattle.record_replay.proofs.Emitted.{released_whole}
 use Rattle.restart_theorem.specs.Lives.{Slice, Fails, Cause, OfDisk, OfBounds}
@@ -24,6 +25,7 @@ use Rattle.worker_store.specs.laws.CallEnds.{HasBound}
 use Rattle.worker_store.specs.laws.Carried.{count_at}
 use Rattle.worker_store.specs.laws.Raised.{AreOnRecord}
 use Rattle.worker_store.specs.laws.Turns.{GoesOnFrom}
+use Rattle.worker_store.proofs.LawLemmas.Raising.{up_to_all}
 use Rattle.worker_store.proofs.LawLemmas.Carrying.{begins_carried}
 use Rattle.worker_store.proofs.LawLemmas.Raising.{all_syncs_are_held, ended_carries}
 use Rattle.worker_store.proofs.LawLemmas.Saving.{next_held, save_carries, ends_promise_no_less}
@@ -43,7 +45,7 @@ use Rattle.worker.specs.DurableTurns.{Course, IsAskingOn, HasRoom, MakesRoom}
 use Rattle.worker.specs.DurableTurns.{MakesNoRoom}
 use Rattle.worker.specs.DurableTurns.{TurnFails, slice_end}
 use Rattle.worker.proofs.SavingActLemmas.{CanSave, can_save, all_first}
-use Rattle.worker.proofs.DurableLemmas.OnDisk.{keeps_now, fewer_syncs, lowered_to}
+use Rattle.worker.proofs.DurableLemmas.OnDisk.{keeps_now, fewer_syncs, lowered_to, room_now}
 use Rattle.worker.proofs.DurableLemmas.Bounds.{on_disk_still, saves_within}
 use Rattle.worker.proofs.DurableLemmas.Ends.{fails_at_call, failed_end, broken_open}
 use Rattle.worker.proofs.DurableLemmas.Ends.{carried_on}
@@ -68,6 +70,7 @@ module _ {D : Type 0} (medium : D → Medium) where
             on_disk = lowered_to medium c.code c.config c.guest promise p p.steps promise.events
                 w.store disk is p.steps (promise.events + 1) (omega arith) (omega arith);
             synced = running.synced;
+            abreast = running.abreast;
           };
           none_waits = asking.none_waits;
           unended = asking.unended;
@@ -87,11 +90,11 @@ module _ {D : Type 0} (medium : D → Medium) where
 too_late : (n g events : ℕ) → NUMBERS_END ≤ n + 1 → n ≡ g → g ≤ events → NUMBERS_END ≤ events + 1
 too_late n g events late e early = omega (arith, late, e, early)
 
--- an empty journal has room for the longest record
-enough : (sectors used kept : ℕ) → 64 ≤ sectors → used ≡ 0 → kept ≡ 0
-    → longest_record One ≤ PAYLOAD_SIZE * (sectors - used) - kept
-enough sectors used kept many none_used none_kept =
-    omega (arith, many, none_used, none_kept)
+-- an empty journal has room for the longest record that it takes
+enough : (long sectors used kept : ℕ) → long ≤ PAYLOAD_SIZE * sectors → used ≡ 0 → kept ≡ 0
+    → long ≤ PAYLOAD_SIZE * (sectors - used) - kept
+enough long sectors used kept room none_used none_kept =
+    omega (arith, room, none_used, none_kept)
 
 -- why an error of a save comes
 record SaveComes (c : Course) (promise : Promise) (p : ProcessState) (fault : StoreFault)
@@ -113,6 +116,8 @@ module _ {D : Type 0} (medium : D → Medium) (w : Running) (after : WorkerStore
         let running = asking.running in
         can_save medium c.code c.config c.guest promise p p.steps promise.events w.store disk [] 0 p
         w.process running.on_disk none running.shows numbered running.module_is running.texts fit
+        (room_now c.code c.config c.guest promise p p.steps promise.events w.store
+        (medium disk) running.on_disk w.process running.shows)
 
     -- all lines were told
     heard : length p.host.lines ≤ promise.heard
@@ -128,6 +133,11 @@ module _ {D : Type 0} (medium : D → Medium) (w : Running) (after : WorkerStore
     all_kept =
         let can = ready in
         all_first promise.kept can.next.front (can.all ∙ append-nil promise.kept)
+
+    -- behind all of them nothing widens
+    widens_none : IsNarrowTo (drop (length ready.next.front) promise.kept) p.steps
+    widens_none =
+        up_to_all promise.kept ready.next.front p.steps (ready.all ∙ append-nil promise.kept)
 
     -- at any moment it is one generation on at most
     save_bounds : StaysWithin (promise.events + 1) (medium disk) (medium disk')
@@ -194,7 +204,7 @@ module _ {D : Type 0} (medium : D → Medium) (w : Running) (after : WorkerStore
         let here : w.process.steps - 1 ≤ p.steps = omega (arith, told) in
         let later = ended_carries medium c.code c.config promise point w.store.journal is.records
         is.pending is.last is.now (Slice c.fuel) (Fails why.cause) held (saved_of w.process) disk
-        is.carried
+        is.carried refl
         (λ count. refl)
         (fewer_syncs c.code c.config promise (count_at point is.records) p.steps
         (w.process.steps - 1) here is.syncs) in (
@@ -211,7 +221,8 @@ module _ {D : Type 0} (medium : D → Medium) (w : Running) (after : WorkerStore
               is.records is.pending [] is.last is.now disk disk'
               (ends_promise_no_less promise (Slice c.fuel) (Fails why.cause) held
               (saved_of w.process)) later
-              (next_is.saves (slice_end promise c.fuel (Fails why.cause) held w) all_kept heard)
+              (next_is.saves (slice_end promise c.fuel (Fails why.cause) held w) all_kept
+              widens_none heard)
               (leaves c.code c.config point can.next is.records is.pending is.last is.now is.stores
               next_is.comes next_is.saved))
               save_bounds,
@@ -239,7 +250,7 @@ module _ {D : Type 0} (medium : D → Medium) (w : Running) (after : WorkerStore
           carried_on medium c promise disk disk' running.opened
           (save_carries medium c.code c.config promise promise is.point ready.next w.store.journal
           is.records is.pending [] is.last is.now disk disk' (same_no_more promise) is.carried
-          (next_is.saves promise all_kept heard)
+          (next_is.saves promise all_kept widens_none heard)
           (leaves c.code c.config is.point ready.next is.records is.pending is.last is.now is.stores
           next_is.comes next_is.saved))
 
@@ -265,7 +276,8 @@ module _ {D : Type 0} (medium : D → Medium) (w : Running) (after : WorkerStore
             stores = stored;
             carried = begins_carried medium c.code c.config promise next after.journal disk'
                 (next_held medium c.code c.config promise is.point next w.store.journal is.records
-                is.pending [] is.last is.now disk is.carried (next_is.saves promise all_kept heard))
+                is.pending [] is.last is.now disk is.carried
+                (next_is.saves promise all_kept widens_none heard))
                 journaled;
             on_record = all_on_record;
             n = 0;
@@ -274,24 +286,34 @@ module _ {D : Type 0} (medium : D → Medium) (w : Running) (after : WorkerStore
             early = omega (arith, later, early);
           }
 
-      room_after : after.journal ≡ state One after.journal.generation 0 [] false
+      room_after : after.journal
+          ≡ state (saved_of w.process).version after.journal.generation 0 [] false
           → HasRoom (with_store w after)
       room_after fresh =
           let running = asking.running in
           let is = running.on_disk in
           let point = is.point in
           let settings = point.settings in
+          let version : after.journal.version ≡ (saved_of w.process).version =
+          ap (λ (j : JournalState). j.version) fresh in
+          let takes : TakesRecords after.journal.version c.config.journal =
+          subst (λ v. TakesRecords v c.config.journal) (sym version)
+          (room_now c.code c.config c.guest promise p p.steps promise.events w.store
+          (medium disk) is w.process running.shows) in
           let range = settings.in_range in
           let journal = range.journal in
           let sectors : after.geometry.journal_sectors ≡ c.config.journal =
           ap (λ (g : Geometry). g.journal_sectors) stored.geometry in
-          let many : 64 ≤ c.config.journal = journal.0 in
+          let long : longest_record after.journal.version
+          ≤ PAYLOAD_SIZE * after.geometry.journal_sectors =
+          subst (λ n. longest_record after.journal.version ≤ PAYLOAD_SIZE * n) (sym sectors)
+          (journals_have_room after.journal.version c.config.journal journal.0 takes) in
           let none_used : after.journal.used ≡ 0 =
           ap (λ (j : JournalState). j.used) fresh in
           let none_kept : length after.journal.kept ≡ 0 =
           ap (λ (j : JournalState). length j.kept) fresh in
-          enough after.geometry.journal_sectors after.journal.used (length after.journal.kept)
-          (omega (arith, sectors, many)) none_used none_kept
+          enough (longest_record after.journal.version) after.geometry.journal_sectors
+          after.journal.used (length after.journal.kept) long none_used none_kept
 
   pub makes_no_room : (fault : StoreFault)
       → SaveFails w.store w.process (medium disk) (medium disk') fault
@@ -300,7 +322,7 @@ module _ {D : Type 0} (medium : D → Medium) (w : Running) (after : WorkerStore
       save_in_vain c promise stage p kind asking fault fails
 
   pub makes_room : StoresNext w.store after w.process (medium disk) (medium disk')
-      → after.journal ≡ state One after.journal.generation 0 [] false
+      → after.journal ≡ state (saved_of w.process).version after.journal.generation 0 [] false
       → MakesRoom w (with_store w after) (medium disk) (medium disk')
   makes_room stores fresh c promise stage p kind asking =
       let running = asking.running in (
@@ -314,6 +336,7 @@ module _ {D : Type 0} (medium : D → Medium) (w : Running) (after : WorkerStore
             began = running.began;
             on_disk = saved_on c promise stage p kind asking stores;
             synced = running.synced;
+            abreast = running.abreast;
           };
           none_waits = asking.none_waits;
           unended = asking.unended;

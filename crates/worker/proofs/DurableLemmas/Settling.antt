@@ -16,7 +16,7 @@ use Rattle.restart_theorem.specs.Courses.{Stage, Broken}
 use Rattle.restart_theorem.specs.Promises.{Promise}
 use Rattle.restart_theorem.specs.Holds.{StaysWithin}
 use Rattle.worker_store.specs.laws.Underway.{IsUnderWay}
-use Rattle.worker_store.specs.laws.Pieces.{IsForetold}
+use Rattle.worker_store.specs.laws.Pieces.{IsForetold, AreDone}
 use Rattle.worker_store.specs.laws.Telling.{AddsLines}
 use Rattle.worker_store.specs.laws.Carried.{count_at, IsCarried}
 use Rattle.worker_store.specs.laws.Raised.{SyncsAreHeld, AreOnRecord}
@@ -38,11 +38,12 @@ use Rattle.ephemeral_worker.specs.declared.fault.SliceFault.TheVariants as slice
 use Rattle.worker.specs.declared.fault.WorkFault.TheVariants.{Work}
 use Rattle.worker.specs.declared.running.Running.{Running}
 use Rattle.worker.specs.rules.WorkFaults.{fault_of_store}
-use Rattle.worker.specs.rules.OpenWorkers.{IsOnDisk}
+use Rattle.worker.specs.rules.OpenWorkers.{IsOnDisk, IsAbreast}
 use Rattle.worker.specs.rules.DurableCalls.{ComesOf, HasCauseAt}
 use Rattle.worker.specs.DurableTurns.{Course, IsOwingTurn, TurnGoes}
 use Rattle.worker.specs.DurableTurns.{TurnFails, slice_end, told_lines_of, SettlesTurn}
 use Rattle.worker.specs.DurableTurns.{SettlesInVain}
+use Rattle.worker.proofs.AbreastLemmas.{abreast_on, told_changes_none}
 use Rattle.worker.proofs.SavingLemmas.{barrier_fault}
 use Rattle.worker.proofs.DurableLemmas.OnDisk.{reached_now, fewer_syncs}
 use Rattle.worker.proofs.DurableLemmas.Bounds.{fronts_within}
@@ -121,7 +122,7 @@ module _ {D : Type 0} (medium : D → Medium) (c : Course) (promise : Promise) (
       let here : w.process.steps - 1 ≤ p.steps - 1 = omega (arith, told) in
       let later = ended_carries medium c.code c.config promise point w.store.journal is.records
       is.pending is.last is.now (Slice c.fuel) (Fails OfDisk) held (saved_of w.process) disk
-      is.carried
+      is.carried refl
       (λ count. refl)
       (fewer_syncs c.code c.config promise (count_at point is.records) (p.steps - 1)
       (w.process.steps - 1) here is.syncs) in (
@@ -227,7 +228,7 @@ module _ {D : Type 0} (medium : D → Medium) (c : Course) (promise : Promise) (
           }
 
     module _ {O : Type 0} (takes : Taking O) (w' : Running) (outlet outlet' : O)
-        (same_store : w'.store ≡ after) where
+        (same_store : w'.store ≡ after) (same_says : w'.is_abreast ≡ w.is_abreast) where
       -- all lines are released
       pub lines_settle : ReleasesAll takes w.process w'.process outlet outlet'
           → IsForetold stage (told_lines_of (all_taken (suc w.process.host.released)
@@ -265,9 +266,24 @@ module _ {D : Type 0} (medium : D → Medium) (c : Course) (promise : Promise) (
                   (on_disk_told made.promise' made.adds adds.events);
               synced = same_below made.promise'.synced promise.synced p.steps adds.synced
                   owing.synced;
+              abreast = subst (λ says. IsAbreast made.promise' made.stage' p says)
+                  (sym same_says)
+                  (abreast_told made.promise' adds made.stage' made.done owing.abreast);
             };
           }
         where
+          abreast_told : (promise' : Promise) → AddsLines promise (length p.host.lines) promise'
+              → (stage' : Stage)
+              → (done : AreDone c.code c.config promise stage (told_lines_of
+              (all_taken (suc w.process.host.released) (waiting_in w.process))) promise' stage')
+              → IsAbreast promise stage p w.is_abreast → IsAbreast promise' stage' p w.is_abreast
+          abreast_told promise' adds stage' done is =
+              abreast_on promise promise' stage stage' p p w.is_abreast adds.begun (omega arith)
+              (ap (λ (s : Stage). s.is_abreast) done.stage_is
+              ∙ told_changes_none (all_taken (suc w.process.host.released) (waiting_in w.process))
+              (told_lines_of (all_taken (suc w.process.host.released) (waiting_in w.process)))
+              done.events stage done.are refl) is
+
           same_below : (a b n : ℕ) → a ≡ b → b ≤ n → a ≤ n
           same_below a b n e le = omega (arith, e, le)
 
@@ -327,7 +343,8 @@ module _ {D O : Type 0} (medium : D → Medium) (takes : Taking O) (w : Running)
   )
 
   module _ (all : StoresAll w.store after (medium disk) (medium disk')) (w' : Running)
-      (outlet outlet' : O) (same_store : w'.store ≡ after) where
+      (outlet outlet' : O) (same_store : w'.store ≡ after)
+      (same_says : w'.is_abreast ≡ w.is_abreast) where
     pub settles_all : ReleasesAll takes w.process w'.process outlet outlet'
         → SettlesTurn takes w w' (medium disk) (medium disk') outlet outlet'
     settles_all released = (
@@ -335,7 +352,7 @@ module _ {D O : Type 0} (medium : D → Medium) (takes : Taking O) (w : Running)
       released.told,
       λ c promise stage p owing foretold.
           lines_settle medium c promise stage p w after disk disk' owing fronts all takes w' outlet
-          outlet' same_store released foretold,
+          outlet' same_store same_says released foretold,
     )
 
     pub settles_some : ReleasesSome takes w.process w'.process outlet outlet'
@@ -345,5 +362,5 @@ module _ {D O : Type 0} (medium : D → Medium) (takes : Taking O) (w : Running)
       some.refused,
       λ c promise stage p owing foretold.
           lines_in_vain medium c promise stage p w after disk disk' owing fronts all takes w' outlet
-          outlet' same_store some foretold,
+          outlet' same_store same_says some foretold,
     )

@@ -31,7 +31,7 @@ use Rattle.ephemeral_worker.proofs.Ending.{given}
 use Rattle.ephemeral_worker.proofs.Ending.{given_less, Wishing, cannot_advance}
 use Rattle.worker.proofs.DurableLemmas.InVain.{as_on_disk, settled_vainly, asked_vainly}
 use Rattle.worker.proofs.DurableLemmas.Asking.{asks_once_of}
-use Rattle.worker.proofs.DurableLemmas.Advancing.{with_process}
+use Rattle.worker.proofs.DurableLemmas.Advancing.{with_process, says_abreast}
 use Rattle.worker.proofs.StoreTurnLemmas.{goes_none, goes_join, goes_stop, runs_join}
 use Rattle.worker.proofs.StoreTurnLemmas.{process_cause}
 use Rattle.worker.proofs.DurableLemmas.Working.{SoFar, so_far_none, works_spent, works_over}
@@ -88,8 +88,8 @@ module _ {D S O : Type 0} (medium : D → Medium) (gives : Giving S) (takes : Ta
         same_guest i.sectors advances
 
     pub over_on : (how : ProcessEnd) → AdvancesProcess w.process left (Ok (stops.Ended how)) v
-        → WorksOn gives takes old fuel (Ok (now.Ended how)) (with_process w v) (medium disk)
-        (medium mid) s t o q
+        → WorksOn gives takes old fuel (Ok (now.Ended how)) (says_abreast (with_process w v))
+        (medium disk) (medium mid) s t o q
     over_on how advances =
         works_over medium gives takes old w v fuel left disk mid s t o q i.so_far left_there same
         same_guest i.sectors how advances

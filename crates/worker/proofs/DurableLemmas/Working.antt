@@ -50,7 +50,8 @@ use Rattle.ephemeral_worker.proofs.Joining.{tells_ask_nothing, releases_of_tells
 use Rattle.worker.proofs.DurableLemmas.OnDisk.{keeps_now}
 use Rattle.worker.proofs.DurableLemmas.Bounds.{bounds_join, on_disk_still}
 use Rattle.worker.proofs.DurableLemmas.Ends.{cause_before, done_nothing, stays_on, not_open}
-use Rattle.worker.proofs.DurableLemmas.Advancing.{with_process, advance_owes, advance_asks}
+use Rattle.worker.proofs.DurableLemmas.Advancing.{with_process, says_abreast}
+use Rattle.worker.proofs.DurableLemmas.Advancing.{advance_owes, advance_asks}
 use Rattle.worker.proofs.DurableLemmas.Advancing.{advance_spent, advance_over}
 use Rattle.worker.proofs.DurableLemmas.Advancing.{advance_fails}
 
@@ -273,10 +274,10 @@ module _ {D S O : Type 0} (medium : D → Medium) (gives : Giving S) (takes : Ta
         )) nothing_called
 
     pub works_over : (how : ProcessEnd) → AdvancesProcess w.process left (Ok (stops.Ended how)) v
-        → WorksOn gives takes old fuel (Ok (now.Ended how)) (with_process w v) (medium disk)
-        (medium mid) s t o q
+        → WorksOn gives takes old fuel (Ok (now.Ended how)) (says_abreast (with_process w v))
+        (medium disk) (medium mid) s t o q
     works_over how advances =
-        then_ends old w fuel disk mid mid s t t o q q so_far (with_process w v) []
+        then_ends old w fuel disk mid mid s t t o q q so_far (says_abreast (with_process w v)) []
         (nothing_alone gives takes t q) (Ok (now.Ended how))
         (λ c promise stage p fuel_is first_is between foretold. (
           Over (ending_of how),
@@ -410,6 +411,7 @@ begins m config guest promise stage p acts running replayed fuel failed disk ope
       began = between.step ∙ sym shows.steps;
       on_disk = open_on.on_disk;
       synced = open_on.synced;
+      abreast = open_on.abreast;
     }
 
 -- how a slice ends is how its call does

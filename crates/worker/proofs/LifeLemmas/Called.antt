@@ -12,20 +12,21 @@ use Rattle.process.specs.rules.Values.{ProcessValue}
 use Rattle.sector_disk.specs.rules.Image.{Image}
 use Rattle.sector_disk.specs.rules.Medium.{Medium, Passes}
 use Rattle.record_replay.specs.rules.Calls.{Exchange}
-use Rattle.restart_theorem.specs.Lives.{Act, Cause, Reply}
-use Rattle.restart_theorem.specs.Lives.{Fails, Event, Ended, told_in}
+use Rattle.restart_theorem.specs.Lives.{Act, Cause, OfDisk, Reply}
+use Rattle.restart_theorem.specs.Lives.{Fails, Event, Ended, told_in, kept_by_end}
 use Rattle.restart_theorem.specs.Courses.{Stage, Open, phase_ended, stage_after}
 use Rattle.restart_theorem.specs.Courses.{without_first}
 use Rattle.restart_theorem.specs.Promises.{Promise, after, promised, IsKept, AreKept}
 use Rattle.restart_theorem.specs.Holds.{IsBounded, KeepsPromise, KeepsBounds}
 use Rattle.restart_theorem.specs.Holds.{StaysWithin}
+use Rattle.restart_theorem.specs.Exchanges.{AreEvents}
 use Rattle.worker_store.specs.laws.Pieces.{IsForetold}
 use Rattle.worker_store.proofs.LawLemmas.Pieces.{parts_are_foretold}
 use Rattle.worker_store.proofs.LawLemmas.Passing.{left_in_the_end}
 use Rattle.ephemeral_worker.specs.declared.now.Now.{Now}
 use Rattle.ephemeral_worker.specs.declared.now.Now.TheVariants as now
 use Rattle.worker.specs.declared.fault.WorkFault.{WorkFault}
-use Rattle.worker.specs.declared.fault.WorkFault.TheVariants.{Disk, Work, Store}
+use Rattle.worker.specs.declared.fault.WorkFault.TheVariants.{Disk, Work, Store, Upgrade}
 use Rattle.worker.specs.declared.recover_fault.RecoverFault.{RecoverFault}
 use Rattle.worker.specs.declared.recover_fault.RecoverFault.TheVariants.{Worker}
 use Rattle.worker.specs.rules.CallCounts.{CallsForEvents}
@@ -90,6 +91,7 @@ pub cause_of_slice : (why : WorkFault) (guest : Guest) (config : Settings) (v : 
 cause_of_slice (Disk fault) guest config v old new cause = cause
 cause_of_slice (Work fault) guest config v old new cause = tt
 cause_of_slice (Store fault) guest config v old new cause = tt
+cause_of_slice (Upgrade fault) guest config v old new cause = tt
 
 -- ---- a call without an error
 
@@ -180,16 +182,21 @@ pub record CallFails (m : Module) (config : Settings) (promise : Promise) (stage
       (after (promised promise events) (Ended act (Fails cause) held shown)) new
   pub bounded : KeepsBounds ((promised promise events).events + 1) new
   pub disk : HasDiskCause config (Worker why) old new
+  pub widens : (cause ≡ OfDisk → ⊥)
+      → kept_by_end act shown (promised promise events).kept ≡ (promised promise events).kept
   pub later : IsLater old new
   pub counted : CallsForEvents (length events + 1) old new
 
 pub call_fails : (m : Module) (config : Settings) (guest : Guest) (promise : Promise)
     (stage : Stage) (act : Act) (cause : Cause) (why : WorkFault) (w : DurableValue)
     (exchanges : List Exchange) (old new : Medium) → ComesOf why cause
+    → ((events : List Event) → AreEvents exchanges events → (cause ≡ OfDisk → ⊥)
+    → kept_by_end act (saved_of w.process) (promised promise events).kept
+    ≡ (promised promise events).kept)
     → HasDiskCause config (Worker why) old new → promise.has_opened ≡ true
     → CallCarries m config guest promise stage act (Fails cause) w old new exchanges
     → CallFails m config promise stage why exchanges old new
-call_fails m config guest promise stage act cause why w exchanges old new is disk opened
+call_fails m config guest promise stage act cause why w exchanges old new is widens disk opened
     carries =
     let end : Event = Ended act (Fails cause) carries.held (saved_of w.process) in
     let split = kept_split m config promise stage carries.events (end ∷ []) carries.kept in
@@ -211,6 +218,7 @@ call_fails m config guest promise stage act cause why w exchanges old new is dis
       bounded = subst (λ (p : Promise). KeepsBounds p.events new) joined
           (bounds_in_the_end _ old new carries.bounded);
       disk = disk;
+      widens = widens carries.events carries.are;
       later = passed_later old new _ carried.at_any_moment.passes;
       counted = calls_longer (length exchanges + 1) (length carries.events + 1) old new
           (omega (arith, events_as_many exchanges carries.events carries.are)) carries.counted;

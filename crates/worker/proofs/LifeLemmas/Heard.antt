@@ -3,17 +3,21 @@ use Rattle.std.proofs.Common.{◌≡◌, ◌⊎◌, inl, inr, ⊎_elim, ℕ, suc
 use Rattle.std.proofs.Common.{◌∷◌, length, None, refl, sym, ap, subst, arith}
 use Rattle.wasm_syntax.specs.declared.module.Module.{Module}
 use Rattle.wasi_abi.specs.rules.Configs.{Settings}
+use Rattle.process_rules.specs.Runs.{Kept}
 use Rattle.state_image.specs.rules.Image.{Saved}
 use Rattle.record_replay.specs.rules.Calls.{Exchange, Asks, Tells}
-use Rattle.restart_theorem.specs.Lives.{Act, Slice, Checkpoint, Inputs, Cause, OfOutlet, Reply, Spent}
+use Rattle.restart_theorem.specs.Lives.{Act, Slice, Checkpoint, Upgrade, Inputs, Cause, OfOutlet}
+use Rattle.restart_theorem.specs.Lives.{Reply, Spent, kept_by_end}
 use Rattle.restart_theorem.specs.Lives.{Waits, Over, Done, Fails, Event, Told, Asked, Opened, Ended}
 use Rattle.restart_theorem.specs.Lives.{told_in, End, Finished, Stopped, Failed, Life}
-use Rattle.restart_theorem.specs.Courses.{Stage, Phase, Shut, Unheard, Open, NoneThere, Broken, Closed}
+use Rattle.restart_theorem.specs.Courses.{Stage, Phase, Shut, Unheard, Open, NoneThere, Broken}
+use Rattle.restart_theorem.specs.Courses.{Closed}
 use Rattle.restart_theorem.specs.Courses.{phase_told, phase_ended, next_stage, stage_after}
 use Rattle.restart_theorem.specs.Courses.{first_taken, without_first, IsToldIn, IsAskedIn}
 use Rattle.restart_theorem.specs.Courses.{MayFail, HasFailed, HasStopped, MayEnd, at_first}
 use Rattle.restart_theorem.specs.Promises.{Promise, as_begun, after, promised, AreKept, IsKept}
 use Rattle.restart_theorem.specs.Promises.{IsReply, IsLived}
+use Rattle.restart_theorem.proofs.Pleas.{fails_or_open}
 use Rattle.worker.specs.laws.OneLife.{released_in, taken_in}
 use Rattle.worker.specs.laws.Uncut.{AreTrue}
 
@@ -62,25 +66,36 @@ not_deaf : (phase to : Phase) → phase ≡ to → (IsDeaf to → ⊥) → IsDea
 not_deaf phase to is none deaf = none (subst IsDeaf is deaf)
 
 module _ (m : Module) (config : Settings) where
-  deaf_ends : (so_far : Promise) (stage : Stage) (held : ℕ) (shown : Saved) (act : Act)
-      (reply : Reply) → IsDeaf stage.phase → IsReply so_far stage held shown act reply
+  deaf_ends : (kept : List Kept) (stage : Stage) (held : ℕ) (shown : Saved) (act : Act)
+      (reply : Reply) → IsDeaf stage.phase → IsReply config kept stage held shown act reply
       → IsDeaf (phase_ended reply)
-  deaf_ends so_far stage held shown (Slice fuel) Spent deaf is =
+  deaf_ends kept stage held shown (Slice fuel) Spent deaf is =
       absurd (not_deaf stage.phase Open is.0 (λ d. d) deaf)
-  deaf_ends so_far stage held shown (Slice fuel) Waits deaf is =
+  deaf_ends kept stage held shown (Slice fuel) Waits deaf is =
       absurd (not_deaf stage.phase (NoneThere shown.steps) is.0 (λ d. d) deaf)
-  deaf_ends so_far stage held shown (Slice fuel) (Over why) deaf is =
+  deaf_ends kept stage held shown (Slice fuel) (Over why) deaf is =
       absurd (not_deaf stage.phase Open is.0 (λ d. d) deaf)
-  deaf_ends so_far stage held shown (Slice fuel) Done deaf is = absurd is
-  deaf_ends so_far stage held shown (Slice fuel) (Fails cause) deaf is =
+  deaf_ends kept stage held shown (Slice fuel) Done deaf is = absurd is
+  deaf_ends kept stage held shown (Slice fuel) (Fails cause) deaf is =
       deaf_fails stage.phase cause deaf is.0
-  deaf_ends so_far stage held shown Checkpoint Spent deaf is = absurd is
-  deaf_ends so_far stage held shown Checkpoint Waits deaf is = absurd is
-  deaf_ends so_far stage held shown Checkpoint (Over why) deaf is = absurd is
-  deaf_ends so_far stage held shown Checkpoint Done deaf is =
+  deaf_ends kept stage held shown Checkpoint Spent deaf is = absurd is
+  deaf_ends kept stage held shown Checkpoint Waits deaf is = absurd is
+  deaf_ends kept stage held shown Checkpoint (Over why) deaf is = absurd is
+  deaf_ends kept stage held shown Checkpoint Done deaf is =
       absurd (not_deaf stage.phase Open is.0 (λ d. d) deaf)
-  deaf_ends so_far stage held shown Checkpoint (Fails cause) deaf is =
+  deaf_ends kept stage held shown Checkpoint (Fails cause) deaf is =
       deaf_fails stage.phase cause deaf is.0
+  deaf_ends kept stage held shown Upgrade Spent deaf is = absurd is
+  deaf_ends kept stage held shown Upgrade Waits deaf is = absurd is
+  deaf_ends kept stage held shown Upgrade (Over why) deaf is = absurd is
+  deaf_ends kept stage held shown Upgrade Done deaf is =
+      absurd (not_deaf stage.phase Open is.0 (λ d. d) deaf)
+  deaf_ends kept stage held shown Upgrade (Fails cause) deaf is =
+      ⊎_elim
+      (λ (may : MayFail stage.phase cause). deaf_fails stage.phase cause deaf may)
+      (λ (opened : stage.phase ≡ Open).
+      absurd (not_deaf stage.phase Open opened (λ d. d) deaf))
+      (fails_or_open config kept stage Upgrade cause is.0)
 
   deaf_next : (so_far : Promise) (stage : Stage) (e : Event) → IsDeaf stage.phase
       → IsKept m config so_far stage e → IsDeaf (next_stage stage e).phase
@@ -91,7 +106,7 @@ module _ (m : Module) (config : Settings) where
   deaf_next so_far stage (Opened held shown) deaf kept =
       absurd (not_deaf stage.phase Shut kept.shut (λ d. d) deaf)
   deaf_next so_far stage (Ended act reply held shown) deaf kept =
-      deaf_ends so_far stage held shown act reply deaf kept.reply
+      deaf_ends (kept_by_end act shown so_far.kept) stage held shown act reply deaf kept.reply
 
   stays_deaf : (events : List Event) (so_far : Promise) (stage : Stage) → IsDeaf stage.phase
       → AreKept m config so_far stage events → IsDeaf (stage_after stage events).phase

@@ -8,6 +8,7 @@ use Rattle.std.specs.Prelude.{◌⊎◌, Bool, Result, Ok, Err, Option, Some, No
 use Rattle.std.specs.Prelude.{map}
 use Rattle.wasm_syntax.specs.declared.module.Module.{Module}
 use Rattle.wasi_abi.specs.rules.Configs.{Settings}
+use Rattle.process_rules.specs.Runs.{Kept}
 use Rattle.state_image.specs.rules.Image.{Saved}
 use Rattle.state_image.specs.rules.Saving.{saved_of}
 use Rattle.sector_disk.specs.rules.Medium.{Medium}
@@ -18,9 +19,10 @@ use Rattle.record_replay.specs.rules.Calls.{Releases, AnswersInOrder, Exchanges}
 use Rattle.record_replay.proofs.Following.{exchanges_join}
 use Rattle.ephemeral_worker.proofs.Joining.{tells_ask_nothing, releases_of_tells}
 use Rattle.restart_theorem.specs.Lives.{Act, Inputs, Cause, OfDisk, OfSource, OfAnswer, OfOutlet}
-use Rattle.restart_theorem.specs.Lives.{OfMemory, OfBounds, Fails, Event, Ended, told_in, Beginning}
+use Rattle.restart_theorem.specs.Lives.{OfMemory, OfBounds, OfJournal, OfLines, Fails, Event, Ended}
+use Rattle.restart_theorem.specs.Lives.{told_in, kept_by_end, Beginning}
 use Rattle.restart_theorem.specs.Lives.{Creates, End, Finished, Stopped, Failed, Life}
-use Rattle.restart_theorem.specs.Lives.{Slice, Checkpoint}
+use Rattle.restart_theorem.specs.Lives.{Slice, Checkpoint, Upgrade}
 use Rattle.restart_theorem.specs.Courses.{Stage, Phase, Shut, Unheard, NoneThere, Broken, MayFail}
 use Rattle.restart_theorem.specs.Courses.{Open, Closed, at_first, next_stage, stage_after}
 use Rattle.restart_theorem.specs.Courses.{HasFailed, HasDiskFault, HasStopped, HasNotStopped}
@@ -31,6 +33,7 @@ use Rattle.restart_theorem.specs.Holds.{HoldsPromise, KeepsPromise}
 use Rattle.restart_theorem.specs.Holds.{KeepsBounds}
 use Rattle.restart_theorem.specs.Between.{IsLivedOn}
 use Rattle.restart_theorem.proofs.Promised.{calls_join}
+use Rattle.restart_theorem.proofs.Pleas.{fails_or_open}
 use Rattle.worker_store.specs.laws.Carried.{PromisesNoMore}
 use Rattle.worker_store.proofs.LawLemmas.Carrying.{less_is_held}
 use Rattle.worker_store.proofs.LawLemmas.Pieces.{parts_are_foretold}
@@ -38,7 +41,8 @@ use Rattle.worker_store.specs.declared.fault.StoreFault.TheVariants as store
 use Rattle.record_replay.specs.declared.fault.ReplayFault.TheVariants as replay
 use Rattle.ephemeral_worker.specs.declared.fault.SliceFault.TheVariants as slice
 use Rattle.ephemeral_worker.specs.declared.fault.Refusal.TheVariants as refusal
-use Rattle.worker.specs.declared.fault.WorkFault.TheVariants.{Work, Disk, Store}
+use Rattle.worker.specs.declared.fault.WorkFault.TheVariants.{Work, Disk, Store, Upgrade}
+use Rattle.worker.specs.declared.upgrade_fault.UpgradeFault.TheVariants as upgrade
 use Rattle.worker.specs.declared.recover_fault.RecoverFault.{RecoverFault}
 use Rattle.worker.specs.declared.recover_fault.RecoverFault.TheVariants as recover
 use Rattle.worker.specs.rules.CallCounts.{CallsForEvents}
@@ -84,6 +88,10 @@ other_fault None calls OfMemory other = tt
 other_fault (Some k) calls OfMemory other = tt
 other_fault None calls OfBounds other = tt
 other_fault (Some k) calls OfBounds other = tt
+other_fault None calls OfJournal other = tt
+other_fault (Some k) calls OfJournal other = tt
+other_fault None calls OfLines other = tt
+other_fault (Some k) calls OfLines other = tt
 
 enough : (config : Settings) (n : ℕ)
     → (config.journal ≤ most_unsynced (geometry_of config n))
@@ -124,6 +132,10 @@ module _ (bytes : List ℕ) (config : Settings) (inputs : Inputs) (exchanges : L
   fault_of (recover.Worker (Store store.TooBig)) cause is disk =
       other_fault inputs.fails calls cause (λ e. absurd (cc))
   fault_of (recover.Worker (Store other)) cause is disk = absurd is
+  fault_of (recover.Worker (Upgrade upgrade.JournalTooSmall)) cause is disk =
+      other_fault inputs.fails calls cause (λ e. absurd (cc))
+  fault_of (recover.Worker (Upgrade upgrade.NotCaughtUp)) cause is disk =
+      other_fault inputs.fails calls cause (λ e. absurd (cc))
   fault_of (recover.Replay replay.Diverged) cause is disk = absurd is.0
   fault_of (recover.Replay replay.Memory) cause is disk =
       other_fault inputs.fails calls cause (λ e. absurd (cc))
@@ -151,6 +163,7 @@ module _ (m : Module) (config : Settings) where
         stands = h.stands;
         holds = record {
           within = all.within;
+          up_to = all.up_to;
           answers = all.answers;
           steps_held = all.steps_held;
           lines = all.lines;
@@ -162,7 +175,8 @@ module _ (m : Module) (config : Settings) where
 
   -- an error promises no less than was promised before it
   before_error : (promise : Promise) (act : Act) (cause : Cause) (held : ℕ) (shown : Saved)
-      → PromisesNoMore promise (after promise (Ended act (Fails cause) held shown))
+      → PromisesNoMore promise
+      (record (after promise (Ended act (Fails cause) held shown)) { kept = promise.kept })
   before_error promise act cause held shown = record {
     answers = omega arith;
     steps = omega arith;
@@ -171,12 +185,14 @@ module _ (m : Module) (config : Settings) where
     synced = omega arith;
   }
 
-  unended : (promise : Promise) (act : Act) (cause : Cause) (held : ℕ) (shown : Saved)
+  unended_same : (promise : Promise) (act : Act) (cause : Cause) (held : ℕ) (shown : Saved)
       (disk : Medium) → promise.has_opened ≡ true
-      → KeepsPromise m config (after promise (Ended act (Fails cause) held shown)) disk
+      → KeepsPromise m config
+      (record (after promise (Ended act (Fails cause) held shown)) { kept = promise.kept }) disk
       → KeepsPromise m config promise disk
-  unended promise act cause held shown disk has_opened keeps image leaves =
-      let now : Promise = after promise (Ended act (Fails cause) held shown) in
+  unended_same promise act cause held shown disk has_opened keeps image leaves =
+      let now : Promise =
+      record (after promise (Ended act (Fails cause) held shown)) { kept = promise.kept } in
       ⊎_elim (λ unopened.
       let no : promise.has_opened ≡ false = ap (λ (p : Promise). p.has_opened) unopened.0 in
       absurd (cc)) (λ (h : HoldsPromise m config now now image).
@@ -191,6 +207,17 @@ module _ (m : Module) (config : Settings) where
         snapshot_heard = less.snapshot_heard;
         snapshot_passed = less.snapshot_passed;
       })) (keeps image leaves)
+
+  -- Where that has widened nothing, the disk keeps what was promised before it.
+  unended : (promise : Promise) (act : Act) (cause : Cause) (held : ℕ) (shown : Saved)
+      (disk : Medium) → promise.has_opened ≡ true
+      → kept_by_end act shown promise.kept ≡ promise.kept
+      → KeepsPromise m config (after promise (Ended act (Fails cause) held shown)) disk
+      → KeepsPromise m config promise disk
+  unended promise act cause held shown disk has_opened same keeps =
+      unended_same promise act cause held shown disk has_opened
+      (subst (λ (l : List Kept). KeepsPromise m config
+      (record (after promise (Ended act (Fails cause) held shown)) { kept = l }) disk) same keeps)
 
   later_bound : (n k : ℕ) (disk : Medium) → n ≤ k → KeepsBounds n disk → KeepsBounds k disk
   later_bound n k disk le keeps image leaves other settings kept steps stands =
@@ -215,6 +242,11 @@ failed_cut m config promise stage (Slice fuel) cause held shown kept =
     may_fail_cut stage.phase cause kept.reply.0
 failed_cut m config promise stage Checkpoint cause held shown kept =
     may_fail_cut stage.phase cause kept.reply.0
+failed_cut m config promise stage Upgrade cause held shown kept =
+    ⊎_elim
+    (λ (may : MayFail stage.phase cause). may_fail_cut stage.phase cause may)
+    (λ (opened : stage.phase ≡ Open). subst (λ (q : Phase). IsCutIn q) (sym opened) tt)
+    (fails_or_open config (kept_by_end Upgrade shown promise.kept) stage Upgrade cause kept.reply.0)
 
 module _ (m : Module) (config : Settings) (bytes : List ℕ) (before : Promise) (inputs : Inputs)
     (begins : Beginning) (exchanges : List Exchange) (worker : Option DurableValue) (calls : ℕ)
@@ -354,20 +386,27 @@ module _ (m : Module) (config : Settings) (bytes : List ℕ) (before : Promise) 
             (omega (arith, length-append events (end ∷ []))) few)
 
         -- without it, where the error comes from elsewhere
-        without_end : HasStopped inputs.stop calls → LifeGoesOn (Err why)
-        without_end stopped =
+        without_end : HasStopped inputs.stop calls → (b.cause ≡ OfDisk → ⊥)
+            → LifeGoesOn (Err why)
+        without_end stopped other =
             ends_so (Err why) events kept told shown anew_alone Stopped stopped (
               failed_cut m config (promised so_far events) (stage_after (at_first inputs) events)
                   b.act b.cause b.held b.shown b.ended,
               stopped,
             )
             (unended m config (promised so_far events) b.act b.cause b.held b.shown last
-            b.has_opened b.keeps) b.bounded later few
+            b.has_opened (b.widens other) b.keeps) b.bounded later few
 
         cut : (cause : Cause) → b.cause ≡ cause → HasStopped inputs.stop calls
             → LifeGoesOn (Err why)
         cut OfDisk is stopped = with_end Stopped stopped (cut_at_end is stopped)
-        cut other is stopped = without_end stopped
+        cut OfSource is stopped = without_end stopped (λ e. absurd (cc))
+        cut OfAnswer is stopped = without_end stopped (λ e. absurd (cc))
+        cut OfOutlet is stopped = without_end stopped (λ e. absurd (cc))
+        cut OfMemory is stopped = without_end stopped (λ e. absurd (cc))
+        cut OfBounds is stopped = without_end stopped (λ e. absurd (cc))
+        cut OfJournal is stopped = without_end stopped (λ e. absurd (cc))
+        cut OfLines is stopped = without_end stopped (λ e. absurd (cc))
 
         by : HasStopped inputs.stop calls ⊎ HasNotStopped inputs.stop calls → LifeGoesOn (Err why)
         by (inl stopped) = cut b.cause refl stopped

@@ -9,8 +9,8 @@ use Rattle.state_image.specs.rules.Image.{Saved}
 use Rattle.sector_disk.specs.rules.Medium.{Medium}
 use Rattle.record_replay.specs.rules.Calls.{Giving, Taking, Exchange, Exchanges}
 use Rattle.record_replay.proofs.Following.{exchanges_join}
-use Rattle.restart_theorem.specs.Lives.{Act, Slice, Checkpoint, Cause, Reply, Fails, Event}
-use Rattle.restart_theorem.specs.Lives.{Ended, told_in}
+use Rattle.restart_theorem.specs.Lives.{Act, Slice, Checkpoint, Upgrade, Cause, OfDisk, Reply}
+use Rattle.restart_theorem.specs.Lives.{Fails, Event, Ended, told_in, kept_by_end}
 use Rattle.restart_theorem.specs.Courses.{Stage, Open, phase_ended, stage_after, without_first}
 use Rattle.restart_theorem.specs.Promises.{Promise, after, promised, IsKept, AreKept}
 use Rattle.restart_theorem.specs.Holds.{KeepsPromise, KeepsBounds}
@@ -26,14 +26,15 @@ use Rattle.worker.specs.rules.OpenWorkers.{IsOpenOn}
 use Rattle.worker.specs.rules.DurableCalls.{CallCarries}
 use Rattle.worker.specs.laws.OneLife.{IsLater, CallsInOrder, no_more, sliced, slice_failed}
 use Rattle.worker.specs.laws.OneLife.{saved}
-use Rattle.worker.specs.laws.OneLife.{saving_failed, IsCauseOf, opened_in, released_in}
+use Rattle.worker.specs.laws.OneLife.{saving_failed, was_upgraded, upgrade_failed}
+use Rattle.worker.specs.laws.OneLife.{IsCauseOf, opened_in, released_in}
 use Rattle.worker.proofs.CallCountLemmas.{calls_none, calls_then}
 use Rattle.worker.proofs.LifeLemmas.Joined.{told_join}
 use Rattle.worker.proofs.LifeLemmas.Joined.{released_join, opened_behind}
 use Rattle.worker.proofs.LifeLemmas.Called.{later_still, HasDiskCause, cause_since}
 use Rattle.worker.proofs.LifeLemmas.Called.{CallGoes}
 use Rattle.worker.proofs.LifeLemmas.Called.{cause_of_slice}
-use Rattle.worker.proofs.LifeLemmas.Saving.{cause_of_saving}
+use Rattle.worker.proofs.LifeLemmas.Saving.{cause_of_saving, cause_of_upgrade, none_is_widened}
 use Rattle.worker.proofs.LifeLemmas.Called.{CallFails, call_goes, call_fails, slices_go}
 
 module _ (m : Module) (config : Settings) where
@@ -58,6 +59,7 @@ module _ (m : Module) (config : Settings) where
     pub keeps : KeepsPromise m config (after promise (Ended act (Fails cause) held shown)) last
     pub bounded : KeepsBounds (promise.events + 1) last
     pub disk : HasDiskCause config why old last
+    pub widens : (cause ≡ OfDisk → ⊥) → kept_by_end act shown promise.kept ≡ promise.kept
 
   abbrev pub ComeTo : Promise → Stage → Result (List Act) RecoverFault → Medium → Medium → Type 0
   ComeTo promise stage (Ok acts) old last = IsGoing promise stage acts last
@@ -90,6 +92,7 @@ module _ (m : Module) (config : Settings) where
         keeps = come.keeps;
         bounded = come.bounded;
         disk = cause_since config why old mid last later come.disk;
+        widens = come.widens;
       }
 
   -- a call without an error, and those behind it
@@ -140,6 +143,7 @@ module _ (m : Module) (config : Settings) where
       keeps = call.keeps;
       bounded = call.bounded;
       disk = call.disk;
+      widens = call.widens;
     };
     later = call.later;
     counted = call.counted;
@@ -233,7 +237,7 @@ module _ {D S O : Type 0} (medium : D → Medium) (gives : Giving S) (takes : Ta
             let failure = did.1 in
             calls_end m config promise stage why slice.0 (medium disk) (medium last)
             (call_fails m config guest promise stage (Slice fuel) failure.0 why w' slice.0
-            (medium disk) (medium last) failure.1
+            (medium disk) (medium last) failure.1 (λ events are other. refl)
             (cause_of_slice why guest config w'.process (medium disk) (medium last) did.2)
             open_on.opened
             (subst (λ (r : Reply). CallCarries m config guest promise stage (Slice fuel) r w'
@@ -260,10 +264,40 @@ module _ {D S O : Type 0} (medium : D → Medium) (gives : Giving S) (takes : Ta
             let failure = did.1 in
             calls_end m config promise stage why [] (medium disk) (medium last)
             (call_fails m config guest promise stage Checkpoint failure.0 why w' [] (medium disk)
-            (medium last) failure.1
+            (medium last) failure.1 (λ events are other. refl)
             (cause_of_saving m config guest promise stage p w why (medium disk) (medium last)
             open_on
             (cause m config guest promise stage p open_on)) open_on.opened
             (subst (λ (r : Reply). CallCarries m config guest promise stage Checkpoint r w'
+            (medium disk) (medium last) []) failure.2 did.2)),
+      )
+  calls_make acts w disk last source source' outlet outlet' left
+      (was_upgraded {acts = others} {w' = w'} {disk' = mid} upgrade more) =
+      let rest = calls_make others w' mid last source source' outlet outlet' left more in (
+        rest.0,
+        rest.1,
+        λ m config guest promise stage p open_on acts_are foretold keeps bounded.
+            let did = upgrade m config guest promise stage p others open_on acts_are in
+            call_then m config guest promise stage Upgrade did.0 others w' [] rest.0 left
+            (medium disk) (medium mid) (medium last) acts_are foretold
+            (call_goes m config guest promise stage Upgrade did.0 w' [] (medium disk)
+            (medium mid) (ap phase_ended did.1) did.2) (rest.2 m config guest),
+      )
+  calls_make acts w disk last source source' outlet outlet' left
+      (upgrade_failed {acts = others} {w' = w'} {why = why} upgrade cause) = (
+        [],
+        record { asked = refl; released = refl },
+        λ m config guest promise stage p open_on acts_are foretold keeps bounded.
+            let did = upgrade m config guest promise stage p others open_on acts_are in
+            let failure = did.1 in
+            let fails = cause m config guest promise stage p open_on in
+            calls_end m config promise stage why [] (medium disk) (medium last)
+            (call_fails m config guest promise stage Upgrade failure.0 why w' [] (medium disk)
+            (medium last) failure.1
+            (none_is_widened m config guest promise stage p w w' why failure.0 (medium disk)
+            open_on failure.1 fails.1)
+            (cause_of_upgrade m config guest promise stage p w why (medium disk) (medium last)
+            open_on fails.0) open_on.opened
+            (subst (λ (r : Reply). CallCarries m config guest promise stage Upgrade r w'
             (medium disk) (medium last) []) failure.2 did.2)),
       )

@@ -32,7 +32,7 @@ use Rattle.record_replay.specs.declared.fault.ReplayFault.TheVariants as replay
 use Rattle.ephemeral_worker.specs.declared.fault.SliceFault.TheVariants as slice
 use Rattle.ephemeral_worker.specs.declared.fault.Refusal.TheVariants as refusal
 use Rattle.worker.specs.declared.fault.WorkFault.{WorkFault}
-use Rattle.worker.specs.declared.fault.WorkFault.TheVariants.{Work, Disk, Store}
+use Rattle.worker.specs.declared.fault.WorkFault.TheVariants.{Work, Disk, Store, Upgrade}
 use Rattle.worker.specs.declared.recover_fault.RecoverFault.{RecoverFault}
 use Rattle.worker.specs.declared.recover_fault.RecoverFault.TheVariants.{Worker, Layout, Replay}
 use Rattle.worker.specs.rules.CallCounts.{most_calls, most_creating, most_recovering}
@@ -210,6 +210,7 @@ module _ (m : Module) (config : Settings) (so_far : Promise) (inputs : Inputs) w
       }
   why_in_vain events phase (Worker (Work why)) old new grow may = absurd may.1
   why_in_vain events phase (Worker (Store why)) old new grow may = absurd may.1
+  why_in_vain events phase (Worker (Upgrade why)) old new grow may = absurd may.1
   why_in_vain events phase (Replay replay.Diverged) old new grow may = absurd may.1
   why_in_vain events phase other old new grow may = record {
     cause = OfMemory;
@@ -309,6 +310,7 @@ module _ (m : Module) (config : Settings) (so_far : Promise) (inputs : Inputs) w
     why_not_created (Store (store.Layout layout.TooSmall)) after is =
         let same = later.sectors in absurd (omega (arith, is, sectors, same))
     why_not_created (Store other) after is = absurd is
+    why_not_created (Upgrade why) after is = absurd is
     why_not_created (Disk fault) after (inl full) = record {
       cause = OfDisk;
       is = refl;

@@ -11,8 +11,8 @@ use Rattle.record_replay.specs.rules.Calls.{Giving, Taking, Exchange, Tells, Exc
 use Rattle.record_replay.proofs.Following.{exchanges_join}
 use Rattle.ephemeral_worker.specs.declared.now.Now.{Now}
 use Rattle.ephemeral_worker.specs.declared.now.Now.TheVariants as now
-use Rattle.restart_theorem.specs.Lives.{Act, Slice, Checkpoint, Reply, Spent, Event, Told, Asked}
-use Rattle.restart_theorem.specs.Lives.{Opened, Ended, told_in, Inputs}
+use Rattle.restart_theorem.specs.Lives.{Act, Slice, Checkpoint, Upgrade, Reply, Spent, Event, Told}
+use Rattle.restart_theorem.specs.Lives.{Asked, Opened, Ended, told_in, Inputs}
 use Rattle.restart_theorem.specs.Courses.{Stage, at_first, phase_ended, stage_after}
 use Rattle.restart_theorem.specs.Courses.{without_first}
 use Rattle.restart_theorem.specs.Promises.{Promise, as_begun, after, promised, IsKept, AreKept}
@@ -26,7 +26,8 @@ use Rattle.worker.specs.rules.DurableValues.{DurableValue}
 use Rattle.worker.specs.rules.OpenWorkers.{IsOpenOn}
 use Rattle.worker.specs.rules.DurableCalls.{IsReplyOf, CallCarries, call_events}
 use Rattle.worker.specs.laws.OneLife.{CallsInOrder, no_more, sliced, slice_failed, saved}
-use Rattle.worker.specs.laws.OneLife.{saving_failed, opened, unopened}
+use Rattle.worker.specs.laws.OneLife.{saving_failed, was_upgraded, upgrade_failed}
+use Rattle.worker.specs.laws.OneLife.{opened, unopened}
 use Rattle.worker.specs.laws.OneLife.{released_in}
 use Rattle.worker.specs.laws.Uncut.{uncut}
 use Rattle.worker.proofs.LifeLemmas.Joined.{stage_join, told_join, told_are, acts_stay}
@@ -52,6 +53,7 @@ reply_join before (Asked n k said fits ∷ first) rest = reply_join before first
 reply_join before (Opened held shown ∷ first) rest = reply_join before first rest
 reply_join before (Ended (Slice fuel) reply held shown ∷ first) rest = reply_join reply first rest
 reply_join before (Ended Checkpoint reply held shown ∷ first) rest = reply_join before first rest
+reply_join before (Ended Upgrade reply held shown ∷ first) rest = reply_join before first rest
 
 -- exchanges end no call
 none_ends : (before : Reply) (exchanges : List Exchange) (events : List Event)
@@ -227,6 +229,37 @@ module _ {D S O : Type 0} (medium : D → Medium) (gives : Giving S) (takes : Ta
       )
   calls_say acts w disk last source source' outlet outlet' left
       (saving_failed checkpoint cause) is = absurd (cc)
+  calls_say acts w disk last source source' outlet outlet' left
+      (was_upgraded {acts = others} {w' = w'} {disk' = mid} upgrade more) is =
+      let rest = calls_say others w' mid last source source' outlet outlet' left more is in (
+        rest.0,
+        rest.1,
+        λ m config guest promise stage p open_on acts_are foretold.
+            let did = upgrade m config guest promise stage p others open_on acts_are in
+            let again = did.2.goes_on (ap phase_ended did.1) in
+            says_on m config promise stage [] rest.0
+            (λ before. outcome_after before more) (λ before. outcome_after before more)
+            (all_events m config guest promise stage Upgrade did.0 w' (medium disk)
+            (medium mid) [] did.2) did.2.kept
+            (told_all m config guest promise stage Upgrade did.0 w' (medium disk)
+            (medium mid) [] did.2)
+            (λ before. (
+              before,
+              call_says (reply_of before) Upgrade did.0 did.2.held w' [] did.2.events
+                  did.2.are,
+              refl,
+            ))
+            (rest.2 m config guest (promised promise (all_events m config guest promise stage
+            Upgrade did.0 w' (medium disk) (medium mid) [] did.2))
+            (stage_after stage (all_events m config guest promise stage Upgrade did.0 w'
+            (medium disk) (medium mid) [] did.2)) again.0 again.1
+            (acts_left m config guest promise stage Upgrade did.0 w' (medium disk)
+            (medium mid) [] did.2 others acts_are)
+            (still_foretold m config guest promise stage Upgrade did.0 w' (medium disk)
+            (medium mid) [] did.2 rest.0 foretold)),
+      )
+  calls_say acts w disk last source source' outlet outlet' left
+      (upgrade_failed upgrade cause) is = absurd (cc)
 
 -- ---- the slice that ends last
 
@@ -242,6 +275,7 @@ module _ (m : Module) (config : Settings) (so_far : Promise) (inputs : Inputs) w
   first_ends front (Asked n k said fits) events before kept none = inl none
   first_ends front (Opened held shown) events before kept none = inl none
   first_ends front (Ended Checkpoint reply held shown) events before kept none = inl none
+  first_ends front (Ended Upgrade reply held shown) events before kept none = inl none
   first_ends front (Ended (Slice fuel) reply held shown) events before kept none =
       inr (subst (λ r. LastSliceEnds m config so_far inputs
       (front ++ (Ended (Slice fuel) reply held shown ∷ events)) r) (sym (none reply)) (record {

@@ -9,7 +9,7 @@ use Rattle.record_replay.specs.rules.Calls.{Taking}
 use Rattle.worker_store.specs.declared.fault.StoreFault.{StoreFault}
 use Rattle.worker_store.specs.declared.fault.StoreFault.TheVariants as store
 use Rattle.worker_store.specs.rules.Calls.{ReopeningFails}
-use Rattle.worker.specs.declared.fault.WorkFault.TheVariants.{Work, Disk, Store}
+use Rattle.worker.specs.declared.fault.WorkFault.TheVariants.{Work, Disk, Store, Upgrade}
 use Rattle.worker.specs.declared.found.Found.{Found}
 use Rattle.worker.specs.declared.recover_fault.RecoverFault.{RecoverFault}
 use Rattle.worker.specs.declared.recover_fault.RecoverFault.TheVariants as recover
@@ -33,6 +33,7 @@ module _ (old sync mid : Medium) (earlier : old.faults ≤ sync.faults) where
   unfound_cause (recover.Worker (Disk fault)) cause = inl (omega (arith, earlier, cause))
   unfound_cause (recover.Worker (Work why)) cause = absurd cause
   unfound_cause (recover.Worker (Store why)) cause = absurd cause
+  unfound_cause (recover.Worker (Upgrade why)) cause = absurd cause
   unfound_cause (recover.Replay why) cause = absurd cause
   unfound_cause other cause = cause
 

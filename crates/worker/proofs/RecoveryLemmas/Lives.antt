@@ -1,12 +1,13 @@
 -- A recovered process, as one that a life comes to: its lines are told again, and it may be saved.
-use Rattle.std.proofs.Common.{◌≡◌, ℕ, ◌+◌, ◌*◌, ◌≤◌, ◌^◌, List, [], ◌++◌, length}
-use Rattle.std.proofs.Common.{take, refl, sym, ap, ◌∙◌, subst, arith}
+use Rattle.std.proofs.Common.{◌≡◌, ℕ, suc, ◌+◌, ◌*◌, ◌≤◌, ◌^◌, List, [], ◌∷◌, ◌++◌, length}
+use Rattle.std.proofs.Common.{take, drop, refl, sym, ap, ◌∙◌, subst, arith}
 use Rattle.std.specs.Prelude.{map}
 use Rattle.std.proofs.lemmas.List.{append-nil, length-append, take-take}
 use Rattle.wasm_syntax.specs.declared.module.Module.{Module}
 use Rattle.wasi_abi.specs.rules.Configs.{Settings}
 use Rattle.wasi_calls_rules.specs.laws.Laws.{IsOfBytes}
 use Rattle.process_rules.specs.Processes.{ProcessState, Guest, host_of}
+use Rattle.process_rules.specs.Behind.{IsNarrowTo}
 use Rattle.process_rules.specs.Runs.{Kept, Runs, Reaches, none as no_step}
 use Rattle.process_rules.proofs.Growing.{runs_count, start_counts}
 use Rattle.process_rules.proofs.Quiet.{runs_join}
@@ -20,7 +21,7 @@ use Rattle.disk_layout.specs.declared.geometry.Geometry.{Geometry}
 use Rattle.disk_layout.specs.rules.Journal.{Record}
 use Rattle.record_replay.specs.rules.Calls.{Taking}
 use Rattle.record_replay.specs.rules.Records.{Recorded, given_in}
-use Rattle.record_replay.specs.rules.Replays.{ReplaysUpTo, TellsFrom}
+use Rattle.record_replay.specs.rules.Replays.{ReplaysUpTo, steps_before, TellsFrom}
 use Rattle.record_replay.proofs.OneRecording.{one_recorded}
 use Rattle.record_replay.proofs.Recordings.{recorded_runs}
 use Rattle.restart_theorem.specs.Lives.{Inputs}
@@ -29,6 +30,7 @@ use Rattle.restart_theorem.specs.Promises.{Promise}
 use Rattle.worker_store.specs.laws.Savepoints.{Savepoint, places}
 use Rattle.worker_store.specs.laws.Carried.{answers_at, count_at, IsHeldAt}
 use Rattle.worker_store.specs.laws.Reopening.{IsReviving}
+use Rattle.worker_store.proofs.LawLemmas.Carrying.{up_to_map}
 use Rattle.worker_store.proofs.LawLemmas.Fronts.{front_kept}
 use Rattle.worker_store.specs.laws.Laws.{ImagesFitAreas}
 use Rattle.worker.specs.declared.found.Found.{Found}
@@ -109,6 +111,36 @@ front_of_kept kept point records front rest are all =
 module _ (m : Module) (config : Settings) (promise : Promise) (point : Savepoint m config)
     (records : List Record) (last : ProcessState) (held : IsHeldAt promise point records last)
   where
+    -- up to a process on the way nothing widens
+    come_up_to : (come : ReplaysUpTo point.reached.guest point.process records)
+        (rest : List Record) → come.rest ≡ rest
+        → IsNarrowTo (drop (count_at point come.front) promise.kept) come.process.steps
+    come_up_to come [] none_left =
+        let guest : Guest = point.reached.guest in
+        let whole : records ≡ come.front =
+        come.are ∙ ap (λ (l : List Record). come.front ++ l) none_left ∙ append-nil come.front in
+        let same : come.reached ≡ last =
+        one_recorded guest point.process come.reached last records
+        (subst (λ (l : List Record). Recorded guest point.process l come.reached) (sym whole)
+        come.recorded) held.recorded in
+        let still : come.steps ≤ 0 =
+        subst (λ (l : List Record). come.steps ≤ steps_before come.reached l) none_left
+        come.within in
+        let counted : come.process.steps ≡ come.reached.steps + come.steps =
+        runs_count guest come.reached come.process [] come.steps come.runs in
+        let alike : come.reached.steps ≡ last.steps = ap (λ (z : ProcessState). z.steps) same in
+        let steps : last.steps ≡ come.process.steps = omega (arith, alike, still, counted) in
+        subst (λ n. IsNarrowTo (drop (count_at point come.front) promise.kept) n) steps
+        (subst (λ (l : List Record). IsNarrowTo (drop (count_at point l) promise.kept) last.steps)
+        whole held.holds.up_to)
+    come_up_to come (r ∷ rest) some_left =
+        let long : length records ≡ length come.front + suc (length rest) =
+        ap (λ l. length l) come.are ∙ length-append come.front come.rest
+        ∙ ap (λ (l : List Record). length come.front + length l) some_left in
+        up_to_map promise.kept point.front records (count_at point come.front)
+        (count_at point records) (length come.front) come.process.steps refl refl held.front
+        (omega (arith, long))
+
     -- it comes to a process on the way
     pub come_lives : (inputs : Inputs)
         (come : ReplaysUpTo point.reached.guest point.process records)
@@ -130,6 +162,7 @@ module _ (m : Module) (config : Settings) (promise : Promise) (point : Savepoint
               come.process.steps come.process)
               (sym (front_of_kept promise.kept point records come.front come.rest come.are
               held.front)) way.runs;
+          up_to = come_up_to come come.rest refl;
           shut = refl;
           last = tt;
           emitted = omega (arith, saved, grow);

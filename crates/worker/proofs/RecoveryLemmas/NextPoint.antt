@@ -14,7 +14,8 @@ use Rattle.sector_disk.proofs.CountLemmas.{counts_same}
 use Rattle.sector_disk.proofs.Moments.{leaves_only, started}
 use Rattle.disk_layout.specs.declared.geometry.Geometry.{Geometry}
 use Rattle.disk_layout.specs.rules.Places.{geometry_of, total_sectors}
-use Rattle.disk_layout.specs.rules.Journal.{Record}
+use Rattle.disk_layout.specs.rules.Journal.{Record, TakesRecords}
+use Rattle.state_image.specs.rules.Saving.{saved_of}
 use Rattle.record_replay.specs.declared.fault.ReplayFault.{ReplayFault}
 use Rattle.record_replay.specs.rules.Calls.{Taking}
 use Rattle.record_replay.specs.rules.Replays.{Replays, ReplaysInVain}
@@ -24,7 +25,7 @@ use Rattle.worker_store.specs.laws.Savepoints.{Savepoint, StandsAtPoint, StandsB
 use Rattle.worker_store.specs.laws.Commits.{BeginsAtPoint, StandsBefore}
 use Rattle.worker_store.specs.laws.Carried.{answers_at}
 use Rattle.worker_store.specs.laws.AtHand.{IsNextOf}
-use Rattle.worker_store.proofs.LawLemmas.AtHand.{next_is_at_hand}
+use Rattle.worker_store.proofs.LawLemmas.AtHand.{next_is_at_hand, version_at_hand}
 use Rattle.worker_store.proofs.LawLemmas.Points.{by_point}
 use Rattle.worker_store.specs.declared.fault.StoreFault.{StoreFault}
 use Rattle.worker_store.specs.declared.fault.StoreFault.TheVariants as store
@@ -83,7 +84,10 @@ module _ {D O : Type 0} (medium : D → Medium) (takes : Taking O) (m : Module)
         let held = there.held in
         let at = there.found_at in
         let hand = next_is_at_hand m config point records [] there.last there.last 0 v
-        held.recorded no_step back.shows back.some back.module_is in
+        held.recorded no_step back.shows back.some back.module_is
+        (subst (λ w. TakesRecords w config.journal)
+        (sym (version_at_hand m config point records there.last there.last 0 v held.recorded no_step
+        back.shows)) point.room) in
         let next : Savepoint m config = hand.0 in
         let comes = hand.1.comes in
         let again : IsAgain found.geometry (found.generation + 1) v next = record {
@@ -181,7 +185,7 @@ module _ {D : Type 0} (medium : D → Medium) (geometry : Geometry) (generation 
 
     pub opens_next : (store : WorkerStore)
         → StoresAgain geometry next v store (medium mid) (medium new)
-        → store ≡ begun_store geometry next
+        → store ≡ begun_store geometry (saved_of v).version next
         → store.journal.generation ≡ next → store.geometry ≡ geometry
         → CommitCalls {T = WorkerStore} geometry next v (Ok store) (medium mid) (medium new)
         → OpensStore geometry generation v store (medium mid) (medium new)
@@ -189,7 +193,7 @@ module _ {D : Type 0} (medium : D → Medium) (geometry : Geometry) (generation 
       writes = writes_next;
       stores = subst (λ n. StoresAgain geometry n v store (medium mid) (medium new)) is_next
           stores;
-      begun = begun ∙ ap (λ n. begun_store geometry n) is_next;
+      begun = begun ∙ ap (λ n. begun_store geometry (saved_of v).version n) is_next;
       numbered = numbered ∙ is_next;
       placed = placed;
       calls = subst (λ n. CommitCalls {T = WorkerStore} geometry n v (Ok store) (medium mid)
@@ -225,6 +229,7 @@ module _ {D O : Type 0} (medium : D → Medium) (takes : Taking O) (found : Foun
         subst (λ (x : ProcessValue). OpensStore found.geometry found.generation x w.store
             (medium mid) (medium new)) (sym same.process) opens.1,
         same.unfailed,
+        same.behind,
       )
   revives_found v count new replayed (Err why) opens = inr (record {
     process = v;

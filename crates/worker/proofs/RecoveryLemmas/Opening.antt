@@ -20,6 +20,7 @@ use Rattle.worker_store.specs.laws.Carried.{answers_at, count_at}
 use Rattle.worker_store.specs.laws.Recovered.{OpensAtNext}
 use Rattle.worker_store.proofs.LawLemmas.AtHand.{shown_is_saved, same_within}
 use Rattle.worker_store.proofs.LawLemmas.Carrying.{answers_count, begins_carried, first_on_record}
+use Rattle.worker_store.proofs.LawLemmas.Carrying.{first_up_to}
 use Rattle.worker_store.proofs.LawLemmas.Pieces.{ends_join}
 use Rattle.worker_store.proofs.LawLemmas.Raising.{all_syncs_are_held}
 use Rattle.worker_store.proofs.LawLemmas.Recovering.{recovery_opens}
@@ -48,7 +49,7 @@ module _ {D O : Type 0} (medium : D → Medium) (takes : Taking O) (m : Module)
     (outlet outlet' : O)
     (back : IsBack takes there.point there.last w.process w.replayed outlet outlet')
     (opens : OpensStore found.geometry found.generation w.process w.store (medium mid)
-    (medium new)) (works : w.has_failed ≡ false) where
+    (medium new)) (works : w.has_failed ≡ false) (behind : w.is_abreast ≡ false) where
   has : HasNext m config promise found (medium old).sectors (medium mid) (medium new) there
       w.process
   has = has_next medium takes m config promise found (medium old).sectors mid new there w.process
@@ -98,6 +99,8 @@ module _ {D O : Type 0} (medium : D → Medium) (takes : Taking O) (m : Module)
         has.next found.records.items there.last mid new told.no_more told.held
         (has.is_next.saves told.made.promise'
         (first_on_record m config told.made.promise' there.point found.records.items there.last
+        has.next.front told.held has.front)
+        (first_up_to m config told.made.promise' there.point found.records.items there.last
         has.next.front told.held has.front) heard) has.is_next.saved has.leaves
         stored.journaled.stands
 
@@ -152,6 +155,10 @@ module _ {D O : Type 0} (medium : D → Medium) (takes : Taking O) (m : Module)
                 told.made.promise'.events comes.generation there.early adds.events;
           };
           synced = same_within _ _ _ steps (omega arith);
+          abreast = record {
+            none_beyond = λ here. absurd (cc);
+            says_so = λ abreast. absurd (cc);
+          };
         }
 
     module _ (settled : IsSettledBy (medium old) (medium mid))

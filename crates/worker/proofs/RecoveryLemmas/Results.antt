@@ -44,7 +44,7 @@ use Rattle.worker_store.specs.declared.fault.StoreFault.{StoreFault}
 use Rattle.worker_store.specs.declared.fault.StoreFault.TheVariants as store
 use Rattle.worker_store.specs.rules.Calls.{ReopeningFails}
 use Rattle.worker_store.specs.laws.Laws.{ImagesFitAreas}
-use Rattle.worker.specs.declared.fault.WorkFault.TheVariants.{Work, Disk, Store}
+use Rattle.worker.specs.declared.fault.WorkFault.TheVariants.{Work, Disk, Store, Upgrade}
 use Rattle.worker.specs.declared.found.Found.{Found}
 use Rattle.worker.specs.declared.recover_fault.RecoverFault.{RecoverFault}
 use Rattle.worker.specs.declared.recover_fault.RecoverFault.TheVariants as recover
@@ -159,6 +159,8 @@ finds_nothing m config promise inputs old mid (recover.Worker (Work why)) says c
     absurd says
 finds_nothing m config promise inputs old mid (recover.Worker (Store why)) says cause vain =
     absurd says
+finds_nothing m config promise inputs old mid (recover.Worker (Upgrade why)) says cause vain =
+    absurd says
 finds_nothing m config promise inputs old mid (recover.Replay why) says cause vain = absurd says
 finds_nothing m config promise inputs old mid (recover.Layout layout.NotAWorker) says cause vain =
     absurd says
@@ -195,6 +197,7 @@ nothing_revived takes stands outlet (recover.Worker (Disk fault)) says =
     tells_none takes stands.saved.lines stands.last outlet
 nothing_revived takes stands outlet (recover.Worker (Work why)) says = absurd says
 nothing_revived takes stands outlet (recover.Worker (Store why)) says = absurd says
+nothing_revived takes stands outlet (recover.Worker (Upgrade why)) says = absurd says
 nothing_revived takes stands outlet (recover.Replay why) says = absurd says
 nothing_revived takes stands outlet other says = (says, refl)
 
@@ -321,8 +324,8 @@ module _ {O : Type 0} (takes : Taking O) (found : Found) (wasm : List ℕ) (disk
   pub revived : (w : DurableValue) (mid new : Medium)
       → IsReplayed takes found w.process w.replayed outlet outlet'
       → OpensStore found.geometry found.generation w.process w.store mid new
-      → w.has_failed ≡ false → Revives takes stands (Ok w) outlet outlet'
-  revived w mid new replayed opens works =
+      → w.has_failed ≡ false → w.is_abreast ≡ false → Revives takes stands (Ok w) outlet outlet'
+  revived w mid new replayed opens works behind =
       let back = back_of w.process w.replayed replayed in
       let counted : stands.last.steps ≡ stands.process.steps + w.replayed = back.counted in
       let step : n ≡ stands.last.steps = stands.at_step in (
@@ -332,6 +335,7 @@ module _ {O : Type 0} (takes : Taking O) (found : Found) (wasm : List ℕ) (disk
           generation = opens.numbered ∙ ap (λ g. g + 1) at.generation;
           counted = omega (arith, counted, step);
           unfailed = works;
+          behind = behind;
         },
         back.told,
       )
@@ -429,7 +433,7 @@ module _ {D O : Type 0} (medium : D → Medium) (takes : Taking O) (old mid new 
       revives = λ m config kept n stands room.
           revived takes found wasm image m config kept n stands
           (found_for image shows m config kept n stands room) outlet outlet' w (medium mid)
-          (medium new) revives.0 revives.1 revives.2;
+          (medium new) revives.0 revives.1 revives.2 revives.3;
     }),
     λ denies. absurd denies,
     opening_calls found w (medium mid) (medium new) revives.1,
@@ -493,7 +497,7 @@ module _ {D O : Type 0} (medium : D → Medium) (takes : Taking O) (old mid new 
         back.told,
         λ inputs foretold.
             reopens medium takes m config promise found old mid new there w outlet outlet' back
-            opens revives.2 inputs
+            opens revives.2 revives.3 inputs
             (is_retold m config promise inputs there.point found.records.items there.last held
             foretold) settled keeps bounds,
       )

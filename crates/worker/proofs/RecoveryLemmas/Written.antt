@@ -21,7 +21,7 @@ use Rattle.worker_store.specs.laws.Pieces.{IsForetold}
 use Rattle.worker_store.specs.laws.Telling.{AreMade, AddsLines}
 use Rattle.worker_store.specs.laws.Carried.{count_at, IsHeldAt, PromisesNoMore}
 use Rattle.worker_store.specs.laws.Reopening.{IsReviving}
-use Rattle.worker_store.proofs.LawLemmas.Carrying.{commit_carries, first_on_record}
+use Rattle.worker_store.proofs.LawLemmas.Carrying.{commit_carries, first_on_record, first_up_to}
 use Rattle.worker_store.proofs.LawLemmas.Recovering.{retold_is_held}
 use Rattle.worker_store.proofs.LawLemmas.Reopening.{lines_are_retold}
 use Rattle.worker_store.proofs.LawLemmas.TurnLemmas.{told_still_holds, parts_leave_begun}
@@ -119,6 +119,8 @@ module _ {D O : Type 0} (medium : D → Medium) (takes : Taking O) (m : Module)
       has.next found.records.items [] there.last mid new told.no_more told.held
       (has.is_next.saves told.made.promise'
       (first_on_record m config told.made.promise' there.point found.records.items there.last
+      has.next.front told.held has.front)
+      (first_up_to m config told.made.promise' there.point found.records.items there.last
       has.next.front told.held has.front) heard_all) has.leaves in
       record {
         at_any_moment = leaves_join (medium old) (medium mid) (medium new)

@@ -1,5 +1,5 @@
--- How late a generation the disk of a worker that is open may be of.
-use Rattle.std.specs.Prelude.{ℕ}
+-- How late a generation the disk of a worker that is open may be of, and of which version.
+use Rattle.std.specs.Prelude.{◌≡◌, ℕ}
 use Rattle.wasm_syntax.specs.declared.module.Module.{Module}
 use Rattle.wasi_abi.specs.rules.Configs.{Settings}
 use Rattle.process_rules.specs.Processes.{ProcessState, Guest}
@@ -24,3 +24,13 @@ abbrev pub StayingKeepsBounds : {D : Type 0} → (D → Medium) → Type 0
 StayingKeepsBounds {D} medium =
     (latest : ℕ) (old new : D) → StaysWithin latest (medium old) (medium new)
     → KeepsBounds latest (medium new)
+
+-- Process, journal and savepoint of an open worker are of the version of the process that it shows.
+abbrev pub OpenWorkersHaveOneVersion : {D : Type 0} → (D → Medium) → Type 0
+OpenWorkersHaveOneVersion {D} medium =
+    (m : Module) (config : Settings) (guest : Guest) (promise : Promise) (stage : Stage)
+    (p : ProcessState) (w : DurableValue) (disk : D)
+    → (opened : IsOpenOn m config guest promise stage p w (medium disk))
+    → (w.process.host.host.version ≡ p.host.version)
+    × (w.store.journal.version ≡ p.host.version)
+    × (opened.on_disk.point.saved.version ≡ p.host.version)

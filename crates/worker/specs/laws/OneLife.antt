@@ -13,8 +13,8 @@ use Rattle.disk_layout.specs.rules.Places.{geometry_of, total_sectors}
 use Rattle.disk_layout.specs.rules.Unsynced.{most_unsynced}
 use Rattle.record_replay.specs.declared.fault.ReplayFault.TheVariants as replay
 use Rattle.record_replay.specs.rules.Calls.{Giving, Taking, Exchange, Asks, Tells, Exchanges}
-use Rattle.restart_theorem.specs.Lives.{Act, Slice, Checkpoint, SourceSaid, Inputs, Release, Cause}
-use Rattle.restart_theorem.specs.Lives.{OfDisk, OfMemory, OfOutlet}
+use Rattle.restart_theorem.specs.Lives.{Act, Slice, Checkpoint, Upgrade, SourceSaid, Inputs}
+use Rattle.restart_theorem.specs.Lives.{Release, Cause, OfDisk, OfMemory, OfOutlet}
 use Rattle.restart_theorem.specs.Lives.{Event, Told, Asked, Opened, Ended, told_in}
 use Rattle.restart_theorem.specs.Lives.{Beginning, Creates, End, Finished, Stopped, Failed, Life}
 use Rattle.restart_theorem.specs.Lives.Beginning.{Recovers as recovers}
@@ -31,14 +31,17 @@ use Rattle.worker.specs.declared.recover_fault.RecoverFault.TheVariants as recov
 use Rattle.worker.specs.rules.CallCounts.{CallsForEvents}
 use Rattle.worker.specs.rules.DurableValues.{DurableValue}
 use Rattle.worker.specs.rules.DurableCalls.{ComesOf, SliceCarries, CheckpointCarries}
+use Rattle.worker.specs.rules.DurableCalls.{UpgradeCarries}
 use Rattle.worker.specs.rules.Checkpoints.{CheckpointFails}
+use Rattle.worker.specs.rules.Upgrades.{UpgradeFails}
 use Rattle.worker.specs.rules.DurableCreations.{CreationKeeps, IsNotCreatedOn}
 use Rattle.worker.specs.rules.RecoverFaults.{LayerWantsMemory}
 use Rattle.worker.specs.rules.Recoveries.{SaysNoWorker, Recovers, RecoveryCarries}
 
 -- ---- the calls of a life
 
--- Slices and checkpoints of a worker that is open, one after another, each as its clause says.
+-- Slices, checkpoints and upgrades of a worker that is open, one after another, each as its clause
+-- says.
 -- After an error there is no other one. What is then still to be done, or that error.
 pub data CallsInOrder {D S O : Type 0} (medium : D → Medium) (gives : Giving S) (takes : Taking O)
     : List Act → DurableValue → D → S → O → Result (List Act) RecoverFault → D → S → O → Type 0
@@ -74,6 +77,20 @@ pub data CallsInOrder {D S O : Type 0} (medium : D → Medium) (gives : Giving S
         → CheckpointCarries w (Err why) w' (medium disk) (medium last)
         → CheckpointFails w (medium disk) (medium last) why
         → CallsInOrder medium gives takes (Checkpoint ∷ acts) w disk source outlet
+        (Err (recover.Worker why)) last source outlet
+    was_upgraded : {acts : List Act} {w w' : DurableValue} {disk disk' last : D}
+        {source source_last : S} {outlet outlet_last : O} {left : Result (List Act) RecoverFault}
+        → UpgradeCarries w (Ok tt) w' (medium disk) (medium disk')
+        → CallsInOrder medium gives takes acts w' disk' source outlet left last source_last
+        outlet_last
+        → CallsInOrder medium gives takes (Upgrade ∷ acts) w disk source outlet left last
+        source_last
+        outlet_last
+    upgrade_failed : {acts : List Act} {w w' : DurableValue} {why : WorkFault} {disk last : D}
+        {source : S} {outlet : O}
+        → UpgradeCarries w (Err why) w' (medium disk) (medium last)
+        → UpgradeFails w w'.process (medium disk) (medium last) why
+        → CallsInOrder medium gives takes (Upgrade ∷ acts) w disk source outlet
         (Err (recover.Worker why)) last source outlet
 
 -- what a creation answers, in the words of a recovery

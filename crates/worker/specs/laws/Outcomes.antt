@@ -9,7 +9,8 @@ use Rattle.worker.specs.declared.recover_fault.RecoverFault.{RecoverFault}
 use Rattle.worker.specs.rules.DurableValues.{DurableValue}
 use Rattle.worker.specs.rules.LifeWords.{Act, Beginning}
 use Rattle.worker.specs.laws.OneLife.{CallsInOrder, no_more, sliced, slice_failed, saved}
-use Rattle.worker.specs.laws.OneLife.{saving_failed, IsOneLife, opened, unopened}
+use Rattle.worker.specs.laws.OneLife.{saving_failed, was_upgraded, upgrade_failed}
+use Rattle.worker.specs.laws.OneLife.{IsOneLife, opened, unopened}
 
 -- What the last slice of these calls has answered, of those without an error; where there is none,
 -- what was answered before them.
@@ -22,6 +23,8 @@ outcome_after before (sliced said carries others) = outcome_after said others
 outcome_after before (slice_failed carries) = before
 outcome_after before (saved carries others) = outcome_after before others
 outcome_after before (saving_failed carries cause) = before
+outcome_after before (was_upgraded carries others) = outcome_after before others
+outcome_after before (upgrade_failed carries cause) = before
 
 -- the same of a life; where there is none, nothing has ended the worker
 abbrev pub life_outcome : {D S O : Type 0} {medium : D → Medium} {gives : Giving S}

@@ -10,8 +10,9 @@ use Rattle.sector_disk.specs.rules.Medium.{Medium}
 use Rattle.disk_layout.specs.rules.Places.{geometry_of, total_sectors}
 use Rattle.disk_layout.specs.rules.Unsynced.{most_unsynced}
 use Rattle.record_replay.specs.rules.Calls.{Giving, Taking, Exchange, Exchanges}
-use Rattle.restart_theorem.specs.Lives.{Act, Slice, Checkpoint, Reply, Spent, Waits, Over, Event, Told}
-use Rattle.restart_theorem.specs.Lives.{Asked, Opened, Ended, told_in, Beginning, Inputs}
+use Rattle.restart_theorem.specs.Lives.{Act, Slice, Checkpoint, Upgrade, Reply, Spent, Waits, Over}
+use Rattle.restart_theorem.specs.Lives.{Event, Told, Asked, Opened, Ended, told_in, Beginning}
+use Rattle.restart_theorem.specs.Lives.{Inputs}
 use Rattle.restart_theorem.specs.Courses.{at_first, stage_after}
 use Rattle.restart_theorem.specs.Promises.{Promise, as_begun, promised, AreKept, IsEnding}
 use Rattle.restart_theorem.specs.Holds.{KeepsPromise, KeepsBounds}
@@ -38,6 +39,7 @@ reply_after before (Asked steps kind said fits ∷ events) = reply_after before 
 reply_after before (Opened held shown ∷ events) = reply_after before events
 reply_after before (Ended (Slice fuel) reply held shown ∷ events) = reply_after reply events
 reply_after before (Ended Checkpoint reply held shown ∷ events) = reply_after before events
+reply_after before (Ended Upgrade reply held shown ∷ events) = reply_after before events
 
 -- The last slice among these events ends so, behind others. It keeps what was promised then: the
 -- process that it shows is one that all kept answers lead to.

@@ -13,8 +13,9 @@ use Rattle.sector_disk.specs.rules.Medium.{Medium}
 use Rattle.state_image.specs.rules.Saving.{saved_of}
 use Rattle.disk_layout.specs.rules.Places.{geometry_of}
 use Rattle.restart_theorem.specs.Lives.{Act, Slice, Checkpoint, Cause, OfDisk, OfSource, OfAnswer}
-use Rattle.restart_theorem.specs.Lives.{OfOutlet, OfMemory, OfBounds, Reply, Spent, Waits, Over, Done}
-use Rattle.restart_theorem.specs.Lives.{Fails, Event, Ended}
+use Rattle.restart_theorem.specs.Lives.Act.{Upgrade as upgrading}
+use Rattle.restart_theorem.specs.Lives.{OfOutlet, OfMemory, OfBounds, OfJournal, OfLines}
+use Rattle.restart_theorem.specs.Lives.{Reply, Spent, Waits, Over, Done, Fails, Event, Ended}
 use Rattle.restart_theorem.specs.Courses.{Stage, Open, phase_ended, stage_after}
 use Rattle.restart_theorem.specs.Promises.{Promise, promised, AreKept}
 use Rattle.restart_theorem.specs.Holds.{CarriesPromise, StaysWithin}
@@ -26,7 +27,8 @@ use Rattle.ephemeral_worker.specs.declared.now.Now.TheVariants as now
 use Rattle.ephemeral_worker.specs.declared.fault.SliceFault.TheVariants as slice
 use Rattle.ephemeral_worker.specs.declared.fault.Refusal.TheVariants as refusal
 use Rattle.worker.specs.declared.fault.WorkFault.{WorkFault}
-use Rattle.worker.specs.declared.fault.WorkFault.TheVariants.{Work, Disk, Store}
+use Rattle.worker.specs.declared.fault.WorkFault.TheVariants.{Work, Disk, Store, Upgrade}
+use Rattle.worker.specs.declared.upgrade_fault.UpgradeFault.TheVariants as upgrade
 use Rattle.worker.specs.rules.CallCounts.{CallsForEvents}
 use Rattle.worker.specs.rules.DurableValues.{DurableValue}
 use Rattle.worker.specs.rules.OpenWorkers.{IsOpenOn}
@@ -34,7 +36,8 @@ use Rattle.worker.specs.rules.OpenWorkers.{IsOpenOn}
 -- ---- what a call answers
 
 -- What an error of an open worker is in a life. A source fails, or hands over what doesn't fit. A
--- number at its end is that of a step, of a line or of a generation. No other error comes.
+-- number at its end is that of a step, of a line or of a generation. An upgrade may be refused. No
+-- other error comes.
 abbrev pub ComesOf : WorkFault → Cause → Type 0
 ComesOf (Work slice.Source) cause = (cause ≡ OfSource) ⊎ (cause ≡ OfAnswer)
 ComesOf (Work slice.Outlet) cause = cause ≡ OfOutlet
@@ -45,6 +48,8 @@ ComesOf (Work slice.Failed) cause = ⊥
 ComesOf (Disk fault) cause = cause ≡ OfDisk
 ComesOf (Store store.TooBig) cause = cause ≡ OfBounds
 ComesOf (Store other) cause = ⊥
+ComesOf (Upgrade upgrade.JournalTooSmall) cause = cause ≡ OfJournal
+ComesOf (Upgrade upgrade.NotCaughtUp) cause = cause ≡ OfLines
 
 -- an error, with its cause
 abbrev pub IsFailureOf : WorkFault → Reply → Type 0
@@ -57,7 +62,7 @@ IsReplyOf (Ok now.Waiting) reply = reply ≡ Waits
 IsReplyOf (Ok (now.Ended how)) reply = reply ≡ Over (ending_of how)
 IsReplyOf (Err why) reply = IsFailureOf why reply
 
--- what a checkpoint answers
+-- what a checkpoint or an upgrade answers
 abbrev pub IsReplyOfSaving : Result (Unit {0}) WorkFault → Reply → Type 0
 IsReplyOfSaving (Ok done) reply = reply ≡ Done
 IsReplyOfSaving (Err why) reply = IsFailureOf why reply
@@ -83,6 +88,7 @@ HasCauseAt (Disk fault) guest config v old new =
 HasCauseAt (Work slice.Memory) guest config v old new = NeedsMemory guest v
 HasCauseAt (Work other) guest config v old new = Unit {0}
 HasCauseAt (Store fault) guest config v old new = Unit {0}
+HasCauseAt (Upgrade fault) guest config v old new = Unit {0}
 
 -- where there is one
 abbrev pub HasCauseOf : {T : Type 0} → Result T WorkFault → Guest → Settings → ProcessValue
@@ -139,3 +145,12 @@ CheckpointCarries old result new disk disk' =
     (p : ProcessState) (acts : List Act) → IsOpenOn m config guest promise stage p old disk
     → stage.acts ≡ Checkpoint ∷ acts → (reply : Reply) × IsReplyOfSaving result reply
     × CallCarries m config guest promise stage Checkpoint reply new disk disk' []
+
+-- So does an upgrade.
+abbrev pub UpgradeCarries : DurableValue → Result (Unit {0}) WorkFault → DurableValue → Medium
+    → Medium → Type 0
+UpgradeCarries old result new disk disk' =
+    (m : Module) (config : Settings) (guest : Guest) (promise : Promise) (stage : Stage)
+    (p : ProcessState) (acts : List Act) → IsOpenOn m config guest promise stage p old disk
+    → stage.acts ≡ upgrading ∷ acts → (reply : Reply) × IsReplyOfSaving result reply
+    × CallCarries m config guest promise stage upgrading reply new disk disk' []

@@ -47,6 +47,7 @@ pub record IsCreatedOn (bytes : List ℕ) (config : Settings) (w : DurableValue)
   pub generation : w.store.journal.generation ≡ 1
   pub none_replayed : w.replayed ≡ 0
   pub unfailed : w.has_failed ≡ false
+  pub abreast : w.is_abreast ≡ true
   pub geometry : w.store.geometry ≡ places_for config bytes
   pub contents : (image : Image) → disk.may_leave image → HasWorker config bytes image
   pub room : total_sectors w.store.geometry ≤ disk.sectors
@@ -65,7 +66,7 @@ IsNotCreatedOn bytes config old new other = ⊥
 abbrev pub IsRefusedAtFirst : WorkFault → Type 0
 IsRefusedAtFirst (Work why) = Unit {0}
 IsRefusedAtFirst (Store why) = Unit {0}
-IsRefusedAtFirst (Disk fault) = ⊥
+IsRefusedAtFirst other = ⊥
 
 -- The disk is laid out by these calls alone, for an image that fits into its area. After an error
 -- they are begun.

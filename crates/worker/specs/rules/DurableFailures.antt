@@ -16,7 +16,7 @@ use Rattle.ephemeral_worker.specs.Turns.{working, failing}
 use Rattle.ephemeral_worker.specs.declared.fault.SliceFault.TheVariants as slice
 use Rattle.ephemeral_worker.specs.rules.Faults.{LeadsUpTo, EmitsLast, Fails, IsCause}
 use Rattle.worker.specs.declared.fault.WorkFault.{WorkFault}
-use Rattle.worker.specs.declared.fault.WorkFault.TheVariants.{Work, Disk, Store}
+use Rattle.worker.specs.declared.fault.WorkFault.TheVariants.{Work, Disk, Store, Upgrade}
 use Rattle.worker.specs.rules.DurableValues.{DurableValue}
 
 -- It stops where the disk is wanted. The lines of the last step aren't told yet, or all lines were.
@@ -58,6 +58,7 @@ IsDiskCause guest p fuel exchanges steps q (Store store.TooBig) =
     StopsAtQuestion guest p fuel exchanges steps q
 IsDiskCause guest p fuel exchanges steps q (Store fault) =
     (steps ≤ fuel) × StopsAtStore guest p exchanges steps q
+IsDiskCause guest p fuel exchanges steps q (Upgrade fault) = ⊥
 
 -- Whichever process was shown has gone on to one that is then shown, up to what failed.
 abbrev pub SlicesOnDiskInVain : {S O : Type 0} → Giving S → Taking O → ProcessValue → ℕ
@@ -87,3 +88,4 @@ HasSliceCause w old new (Store store.Full) = Unit {0}
 HasSliceCause w old new (Store store.TooLong) = Unit {0}
 HasSliceCause w old new (Store store.TooBig) = Unit {0}
 HasSliceCause w old new (Store other) = ⊥
+HasSliceCause w old new (Upgrade fault) = ⊥

@@ -6,11 +6,12 @@ use Rattle.worker_store.specs.rules.Stores.{IsUnfailed}
 use Rattle.worker.specs.declared.running.Running.{Running}
 use Rattle.ephemeral_worker.specs.rules.Values.{WorkerValue}
 
--- its process, its store, how many records were replayed when it was recovered, and whether a call
--- of it has failed
+-- Its process, its store, whether the process has come to the last line that was ever told, how
+-- many steps were replayed when it was recovered, and whether a call of it has failed.
 pub record DurableValue : Type 0 where
   pub process : ProcessValue
   pub store : WorkerStore
+  pub is_abreast : Bool
   pub replayed : ℕ
   pub has_failed : Bool
 
@@ -19,6 +20,7 @@ abbrev pub durable_of : Running → ℕ → Bool → DurableValue
 durable_of running replayed has_failed = record {
   process = running.process;
   store = running.store;
+  is_abreast = running.is_abreast;
   replayed = replayed;
   has_failed = has_failed;
 }

@@ -1,5 +1,5 @@
 -- A worker that is open on its disk, and what has been promised of it (this project's own).
-use Rattle.std.specs.Prelude.{◌≡◌, ℕ, ◌≤◌, true, false, List, [], ◌++◌, length}
+use Rattle.std.specs.Prelude.{◌≡◌, ℕ, ◌≤◌, Bool, true, false, List, [], ◌++◌, length}
 use Rattle.wasm_syntax.specs.declared.module.Module.{Module}
 use Rattle.wasi_abi.specs.rules.Configs.{Settings}
 use Rattle.wasi_calls_rules.specs.laws.Laws.{IsOfBytes}
@@ -38,6 +38,13 @@ pub record IsOnDisk (m : Module) (config : Settings) (guest : Guest) (promise : 
   pub syncs : SyncsAreHeld m config promise.kept (count_at point records) step
   pub early : point.generation ≤ latest
 
+-- Where a worker says so, no line was ever begun beyond those of its process. It says so once this
+-- life has asked, or its process has ended.
+pub record IsAbreast (promise : Promise) (stage : Stage) (p : ProcessState) (says : Bool)
+    : Type 0 where
+  pub none_beyond : says ≡ true → promise.begun ≤ length p.host.lines
+  pub says_so : stage.is_abreast ≡ true → says ≡ true
+
 -- A worker between two calls, none of which has failed. It shows the process that all kept answers
 -- lead to. All its lines were told in this life, an outlet has taken each, and none waits. Each
 -- sync of the guest that is promised is behind it. So many generations have an event of their own.
@@ -55,3 +62,4 @@ pub record IsOpenOn (m : Module) (config : Settings) (guest : Guest) (promise : 
   pub none_waits : waiting_in w.process ≡ []
   pub on_disk : IsOnDisk m config guest promise p p.steps promise.events w.store disk
   pub synced : promise.synced ≤ p.steps
+  pub abreast : IsAbreast promise stage p w.is_abreast

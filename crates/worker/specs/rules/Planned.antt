@@ -3,7 +3,7 @@ use Rattle.std.specs.Prelude.{ℕ, zero, suc, Bool, true, false, List, [], ◌�
 use Rattle.std.specs.Prelude.{None, Ok}
 use Rattle.wasi_abi.specs.declared.answer.Answer.{Answer}
 use Rattle.sector_disk.specs.declared.place.Place.{Place}
-use Rattle.restart_theorem.specs.Lives.{Act, Checkpoint, SourceSaid, Inputs}
+use Rattle.restart_theorem.specs.Lives.{Act, Checkpoint, Upgrade, SourceSaid, Inputs}
 use Rattle.restart_theorem.specs.Lives.Act.{Slice as slice}
 use Rattle.worker.specs.declared.story.life.PlannedAct.{PlannedAct}
 use Rattle.worker.specs.declared.story.life.PlannedAct.TheVariants as planned
@@ -13,6 +13,7 @@ use Rattle.worker.specs.declared.story.life.PlannedLife.{PlannedLife}
 abbrev pub act_of : PlannedAct → Act
 act_of (planned.Slice fuel) = slice fuel
 act_of planned.Checkpoint = Checkpoint
+act_of planned.Upgrade = Upgrade
 
 -- the source says that it has this answer
 abbrev pub said_of : Answer → SourceSaid

@@ -78,7 +78,8 @@ pub record MarksDecide {T : Type 0} (disk : Image) (result : Result T RecoverFau
   pub always : IsBlank disk → SaysNoWorkerOr result
 
 -- The worker is at the process that the image's answers lead to, one generation on. As many steps
--- were replayed as lie between the saved process and that one.
+-- were replayed as lie between the saved process and that one. It doesn't say that no line is
+-- beyond that process: an earlier life may have told some.
 pub record IsRevived {disk : Image} {m : Module} {config : Settings} {kept : List Kept} {n : ℕ}
     (stands : StandsFor disk m config kept n) (w : DurableValue) : Type 0 where
   pub shows : ShowsProcess w.process stands.reached.guest stands.last
@@ -86,6 +87,7 @@ pub record IsRevived {disk : Image} {m : Module} {config : Settings} {kept : Lis
   pub generation : w.store.journal.generation ≡ stands.generation + 1
   pub counted : w.replayed ≡ n - stands.process.steps
   pub unfailed : w.has_failed ≡ false
+  pub behind : w.is_abreast ≡ false
 
 -- Some of the lines of p behind the first so many were released, each once, in their order, with
 -- their numbers. The outlet took them.

@@ -9,7 +9,7 @@ use Rattle.machine.specs.rules.Offers.{offer}
 use Rattle.machine_loader.specs.declared.fault.FrontFault.{FrontFault}
 use Rattle.machine_loader.specs.rules.Acceptance.{IsTold, FrontDenies, HasNoAcceptedModule}
 use Rattle.process.specs.rules.Values.{ProcessValue, ShowsProcess}
-use Rattle.state_image.specs.rules.Image.{Saved, image}
+use Rattle.state_image.specs.rules.Image.{Saved, IsMarkedOtherwise, image}
 use Rattle.state_image.specs.rules.Saving.{saved_of}
 use Rattle.state_image.specs.rules.WellTyped.{IsWellTyped}
 use Rattle.sector_disk.specs.declared.sector.TheConstants.{SECTOR_SIZE}
@@ -17,12 +17,10 @@ use Rattle.sector_disk.specs.rules.Image.{Image}
 use Rattle.sector_disk.specs.rules.Medium.{Medium}
 use Rattle.disk_layout.specs.declared.fault.LayoutFault.{LayoutFault}
 use Rattle.disk_layout.specs.declared.fault.LayoutFault.TheVariants as layout
-use Rattle.disk_layout.specs.declared.head.TheConstants.{IMAGE_VERSION}
 use Rattle.disk_layout.specs.declared.reading.contents.Contents.{Contents}
-use Rattle.wasi_abi.specs.declared.version.Version.TheVariants.{One}
+use Rattle.wasi_abi.specs.declared.version.Version.{Version}
 use Rattle.disk_layout.specs.rules.Held.{GivesContents}
 use Rattle.disk_layout.specs.rules.Journal.{Record, scan}
-use Rattle.disk_layout.specs.rules.Sectors.{HoldsImage}
 use Rattle.disk_layout.specs.rules.Stored.{OnlyReads}
 use Rattle.record_replay.specs.declared.fault.ReplayFault.{ReplayFault}
 use Rattle.record_replay.specs.rules.Calls.{Taking}
@@ -30,7 +28,8 @@ use Rattle.record_replay.specs.rules.Records.{Recorded}
 use Rattle.record_replay.specs.rules.Replays.{ReplaysUpTo, StopsReplay, TellsFrom}
 use Rattle.state_image.specs.declared.restoring.fault.RestoreFault.TheVariants as restore
 use Rattle.worker_store.specs.declared.fault.StoreFault.TheVariants as store
-use Rattle.worker_store.specs.rules.AnyDisk.{HasOtherVersion, HasKnownVersion, LacksItsImage}
+use Rattle.worker_store.specs.rules.AnyDisk.{HasOtherVersion, HasShortJournal, HasKnownVersion}
+use Rattle.worker_store.specs.rules.AnyDisk.{LacksItsImage, NamesImage, HasOtherMark}
 use Rattle.journal.specs.declared.fault.JournalFault.TheVariants as journal
 use Rattle.snapshot.specs.declared.fault.SnapshotFault.TheVariants as snapshot
 use Rattle.snapshot.specs.rules.Heads.{HasNone}
@@ -50,16 +49,17 @@ pub record HoldsModule (sectors : ℕ) (disk : Image) : Type 0 where
   pub module_is : Module
   pub accepted : IsAccepted offer contents.config.pages contents.wasm module_is
 
--- The newest complete head names an image of the known version, and it is there, whole. It is that
--- of a well-typed process of this module. These are the records of its generation.
+-- The newest complete head names an image, and it is there, whole. It is that of a well-typed
+-- process of this module. Head and image are of its version, and the journal takes the longest
+-- record of it. These are the records of its generation, read as of that version.
 pub record HoldsWorker (sectors : ℕ) (disk : Image) : Type 0 where
   pub holds : HoldsModule sectors disk
   pub generation : ℕ
   pub saved : Saved
   pub well_typed : IsWellTyped holds.module_is holds.contents.config saved
-  pub newest : HoldsImage holds.contents.geometry disk generation IMAGE_VERSION (image saved)
+  pub newest : NamesImage holds.contents.geometry disk generation saved.version (image saved)
   pub records : List Record
-  pub scanned : scan holds.contents.geometry One disk generation ≡ records
+  pub scanned : scan holds.contents.geometry saved.version disk generation ≡ records
 
 -- ---- what is wrong with it
 
@@ -77,39 +77,49 @@ pub record HoldsNoImage (sectors : ℕ) (disk : Image) : Type 0 where
   pub holds : HoldsModule sectors disk
   pub none : HasNone disk ⊎ LacksItsImage holds.contents.geometry disk
 
--- the image that it names is there, whole, and is that of no well-typed process of the module
-pub record HoldsNoProcess (sectors : ℕ) (disk : Image) : Type 0 where
+-- The newest head is of a version whose longest record the journal doesn't take. Or the image that
+-- it names is there, whole, and begins with the mark of another version.
+pub record HoldsAtOdds (sectors : ℕ) (disk : Image) : Type 0 where
   pub holds : HoldsModule sectors disk
-  pub generation : ℕ
-  pub bytes : List ℕ
-  pub newest : HoldsImage holds.contents.geometry disk generation IMAGE_VERSION bytes
-  pub other : (s : Saved) → IsWellTyped holds.module_is holds.contents.config s → bytes ≢ image s
+  pub odds : HasShortJournal holds.contents.geometry disk
+      ⊎ HasOtherMark holds.contents.geometry disk
 
--- ---- where memory is wanted, what was found before
-
--- the image that the newest head names is there, whole
+-- The image that the newest head names is there, whole. The journal takes the longest record of
+-- the head's version, and the image has the mark of no other one.
 pub record HoldsNamedImage (sectors : ℕ) (disk : Image) : Type 0 where
   pub holds : HoldsModule sectors disk
   pub generation : ℕ
+  pub version : Version
   pub bytes : List ℕ
-  pub newest : HoldsImage holds.contents.geometry disk generation IMAGE_VERSION bytes
+  pub newest : NamesImage holds.contents.geometry disk generation version bytes
+  pub marked : IsMarkedOtherwise version bytes → ⊥
 
--- it is that of a well-typed process of the module
+-- it is so, and the image is that of no well-typed process of the module
+pub record HoldsNoProcess (sectors : ℕ) (disk : Image) : Type 0 where
+  pub named : HoldsNamedImage sectors disk
+  pub other : (s : Saved) → IsWellTyped named.holds.module_is named.holds.contents.config s
+      → named.bytes ≢ image s
+
+-- ---- where memory is wanted, what was found before
+
+-- the image that the newest head names is that of a well-typed process of the module
 pub record HoldsProcess (sectors : ℕ) (disk : Image) : Type 0 where
   pub holds : HoldsModule sectors disk
   pub generation : ℕ
   pub saved : Saved
   pub well_typed : IsWellTyped holds.module_is holds.contents.config saved
-  pub newest : HoldsImage holds.contents.geometry disk generation IMAGE_VERSION (image saved)
+  pub newest : NamesImage holds.contents.geometry disk generation saved.version (image saved)
 
 -- ---- what a fault shows
 
--- A mark, the layout, a length or a digest is wrong, or the disk is too small; or the newest head
--- is of a version that isn't known. Want of memory shows nothing here. A fault of the disk is told
--- as that.
+-- A mark, the layout, a length or a digest is wrong, or the disk is too small. Or the newest head
+-- is of no known version, or is at odds with the journal or with its image. Want of memory shows
+-- nothing here. A fault of the disk is told as that.
 abbrev pub ShowsLayoutFault : ℕ → Image → LayoutFault → Type 0
 ShowsLayoutFault sectors disk layout.Version = GivesContents sectors disk (Err layout.Version)
     ⊎ (HoldsModule sectors disk × HasOtherVersion disk)
+ShowsLayoutFault sectors disk layout.Damaged = GivesContents sectors disk (Err layout.Damaged)
+    ⊎ HoldsAtOdds sectors disk
 ShowsLayoutFault sectors disk (layout.Disk fault) = ⊥
 ShowsLayoutFault sectors disk fault = GivesContents sectors disk (Err fault)
 
@@ -121,7 +131,7 @@ ShowsFault sectors disk (recover.Layout fault) = ShowsLayoutFault sectors disk f
 ShowsFault sectors disk (recover.Front fault) = HoldsRefused sectors disk fault
 ShowsFault sectors disk (recover.Snapshot snapshot.Damaged) = HoldsNoImage sectors disk
 ShowsFault sectors disk (recover.Snapshot snapshot.Memory) =
-    HoldsModule sectors disk × HasKnownVersion disk
+    (holds : HoldsModule sectors disk) × HasKnownVersion holds.contents.geometry disk
 ShowsFault sectors disk (recover.Image restore.NotAnImage) = HoldsNoProcess sectors disk
 ShowsFault sectors disk (recover.Image restore.Memory) = HoldsNamedImage sectors disk
 ShowsFault sectors disk (recover.Journal journal.Memory) = HoldsProcess sectors disk
@@ -141,6 +151,7 @@ pub record RevivesHeld {O : Type 0} {sectors : ℕ} {disk : Image} (takes : Taki
   pub generation : w.store.journal.generation ≡ held.generation + 1
   pub counted : w.process.steps ≡ held.saved.steps + w.replayed
   pub unfailed : w.has_failed ≡ false
+  pub behind : w.is_abreast ≡ false
   pub told : TellsFrom takes held.saved.lines last outlet outlet'
 
 -- The records have led so far, and a replay stops there for this. The lines up to there were told.
@@ -220,7 +231,8 @@ RecoversAsShown {D} medium takes result old new outlet outlet' =
 
 -- ---- what a look at a disk answers
 
--- the numbers of the process that the image has saved, and how many records there are
+-- the numbers and the version of the process that the image has saved, and how many records there
+-- are
 abbrev pub survey_in : {sectors : ℕ} {disk : Image} → HoldsWorker sectors disk → Survey
 survey_in held = record {
   generation = held.generation;
@@ -228,6 +240,7 @@ survey_in held = record {
   answers = held.saved.answers;
   lines = held.saved.lines;
   records = length held.records;
+  version = held.well_typed.process.host.version;
 }
 
 -- They are those of the worker that the image holds, by its newest head and by no other. An error

@@ -17,7 +17,7 @@ use Rattle.worker.specs.rules.Recoveries.{IsUnsettled}
 use Rattle.worker.specs.rules.ShownDisks.{SurveysDisk}
 
 -- The numbers of the process that an image has saved, and not of the one to which its records lead.
--- Also how many records there are.
+-- Also how many records there are, and the version of that process.
 abbrev pub survey_of : {disk : Image} {m : Module} {config : Settings} {kept : List Kept} {n : ℕ}
     → StandsFor disk m config kept n → Survey
 survey_of stands = record {
@@ -26,6 +26,7 @@ survey_of stands = record {
   answers = stands.saved.answers;
   lines = stands.saved.lines;
   records = length stands.records;
+  version = stands.process.host.version;
 }
 
 -- P holds of the survey of whatever worker the image stands for, on a disk of so many sectors.

@@ -10,6 +10,7 @@ pub enum PlannedAct {
     /// To take at most so many steps.
     Slice { fuel: u64 },
     Checkpoint,
+    Upgrade,
 }
 
 /// All that is put into one life.

@@ -153,5 +153,9 @@ fn do_one<D: Disk, S: Source, O: Outlet>(
             Ok(()) => Ok(()),
             Err(fault) => Err(fault),
         },
+        PlannedAct::Upgrade => match worker.upgrade(disk, outlet) {
+            Ok(()) => Ok(()),
+            Err(fault) => Err(fault),
+        },
     }
 }

@@ -6,7 +6,7 @@ use Rattle.process_rules.specs.Runs.{Kept}
 use Rattle.state_image.specs.rules.Image.{image}
 use Rattle.sector_disk.specs.rules.Image.{Image}
 use Rattle.disk_layout.specs.rules.Places.{Geometry, geometry_of}
-use Rattle.disk_layout.specs.declared.head.TheConstants.{IMAGE_VERSION}
+use Rattle.wasi_abi.specs.rules.Versions.{version_number}
 use Rattle.snapshot.specs.rules.Steps.{Fills, Commits, Replaces}
 use Rattle.worker_store.specs.laws.Savepoints.{Savepoint, StandsAtPoint, point_of}
 use Rattle.worker_store.specs.laws.Savepoints.{StandsBySaved}
@@ -61,12 +61,13 @@ commit_keeps_standing m config next kept n old new before commits =
     let was = before.stands in
     let at = there m config next kept n old new before in
     let bytes : List ℕ = image next.saved in
+    let version : ℕ = version_number next.saved.version in
     ⊎_elim
     (λ now. inl (stays_before m config next kept n old new before now))
     (λ begins. inr begins)
     (commit_leaves_one_of_two m config (point_of was) next was.records was.last old new at
     (is_next m config next kept n old new before)
-    (subst (λ w. Commits (place_of config w) next.generation IMAGE_VERSION bytes old new)
+    (subst (λ w. Commits (place_of config w) next.generation version bytes old new)
     before.wasm commits))
 
 pub replacing_begins : ReplacingBegins
@@ -74,7 +75,8 @@ replacing_begins m config next kept n old new before replaces =
     let was = before.stands in
     let at = there m config next kept n old new before in
     let bytes : List ℕ = image next.saved in
+    let version : ℕ = version_number next.saved.version in
     commit_begins_next m config (point_of was) next was.records was.last old new at
     (is_next m config next kept n old new before)
-    (subst (λ w. Replaces (place_of config w) next.generation IMAGE_VERSION bytes old new)
+    (subst (λ w. Replaces (place_of config w) next.generation version bytes old new)
     before.wasm replaces)

@@ -1,5 +1,5 @@
 -- How a worker's call ends.
-use Rattle.std.proofs.Common.{◌≡◌, ℕ, suc, ◌+◌, ◌≤◌, ◌^◌, List, ◌∷◌, ◌++◌, length}
+use Rattle.std.proofs.Common.{◌≡◌, ◌≢◌, ℕ, suc, ◌+◌, ◌≤◌, ◌^◌, List, ◌∷◌, ◌++◌, length}
 use Rattle.std.proofs.Common.{take, refl, sym, ap, ◌∙◌, subst, arith, inl, inr, Option}
 use Rattle.std.proofs.Common.{Some}
 use Rattle.std.proofs.Math.Seq.{take-length}
@@ -15,16 +15,16 @@ use Rattle.process.specs.rules.Stops.{LacksNumbers}
 use Rattle.state_image.specs.rules.Image.{Saved}
 use Rattle.restart_theorem.specs.Lives.{Act, Slice, Done, Ended}
 use Rattle.restart_theorem.specs.Lives.{Fails, Cause, OfDisk, OfSource, OfAnswer, OfOutlet}
-use Rattle.restart_theorem.specs.Lives.{OfMemory, OfBounds}
+use Rattle.restart_theorem.specs.Lives.{OfMemory, OfBounds, OfJournal, OfLines, kept_by_end}
 use Rattle.restart_theorem.specs.Courses.{Stage, NoneThere, MayFail}
 use Rattle.restart_theorem.specs.Courses.{IsNextAct}
 use Rattle.restart_theorem.specs.Promises.{Promise, after, IsAt, IsAtBound, HasLastLines}
-use Rattle.restart_theorem.specs.Promises.{IsCaughtUp, IsOneOf}
+use Rattle.restart_theorem.specs.Promises.{IsCaughtUp, IsOneOf, MayPlead, MayWiden}
 use Rattle.worker_store.proofs.LawLemmas.Underway.{among_first}
 use Rattle.worker_store.specs.laws.CallEnds.{IsSavedAs, SpentSlicesEnd, EndedSlicesEnd}
 use Rattle.worker_store.specs.laws.CallEnds.{WaitingSlicesEnd, HasBound, FailedSlicesEnd}
 use Rattle.worker_store.specs.laws.CallEnds.{IsSavingNext, DoneSavesEnd, FailedSavesEnd}
-use Rattle.worker_store.proofs.LawLemmas.Acts.{done_reply, failed_reply}
+use Rattle.worker_store.proofs.LawLemmas.Acts.{done_reply, failed_reply, lines_emitted}
 use Rattle.worker_store.specs.laws.CallEnds.{SlicesBegin, CallsLeaveBetween}
 
 next_act : (act : Act) (acts rest : List Act) → acts ≡ act ∷ rest → IsNextAct act acts
@@ -51,7 +51,7 @@ module _ (m : Module) (config : Settings) (guest : Guest) where
 
   caught_up : (promise : Promise) (stage : Stage) (p : ProcessState) (shown : Saved)
       → stage.line ≡ Some (length p.host.lines) → IsSavedAs m config guest p shown
-      → IsCaughtUp promise stage (length promise.kept) shown
+      → IsCaughtUp promise.kept stage (length promise.kept) shown
   caught_up promise stage p shown line saved = record {
     all_taken = refl;
     all_told = line ∙ ap (λ n. Some n) (sym saved.shows.lines);
@@ -74,6 +74,7 @@ module _ (m : Module) (config : Settings) (guest : Guest) where
           caught_up promise stage p shown over.way.line over.saved,
         );
         bound = tt;
+        widens = λ differs. absurd (differs refl);
       }
 
   pub ended_slices_end : EndedSlicesEnd m config guest
@@ -93,6 +94,7 @@ module _ (m : Module) (config : Settings) (guest : Guest) where
           caught_up promise stage p shown over.way.line over.saved,
         );
         bound = tt;
+        widens = λ differs. absurd (differs refl);
       }
 
   pub waiting_slices_end : WaitingSlicesEnd m config guest
@@ -112,6 +114,7 @@ module _ (m : Module) (config : Settings) (guest : Guest) where
           caught_up promise stage p shown line saved,
         );
         bound = tt;
+        widens = λ differs. absurd (differs refl);
       }
 
   -- ---- errors
@@ -150,6 +153,8 @@ module _ (m : Module) (config : Settings) (guest : Guest) where
   at_bound promise kept p shown start begins runs saved OfAnswer bound = tt
   at_bound promise kept p shown start begins runs saved OfOutlet bound = tt
   at_bound promise kept p shown start begins runs saved OfMemory bound = tt
+  at_bound promise kept p shown start begins runs saved OfJournal bound = tt
+  at_bound promise kept p shown start begins runs saved OfLines bound = tt
 
   pub failed_slices_end : FailedSlicesEnd m config guest
   failed_slices_end promise stage fuel held p shown phase cause broken saved may bound =
@@ -167,6 +172,7 @@ module _ (m : Module) (config : Settings) (guest : Guest) where
         );
         bound = at_bound promise (take held promise.kept) p shown at.start at.begins at.runs
             saved cause bound;
+        widens = λ differs. absurd (differs refl);
       }
 
   -- ---- an act that saves
@@ -215,8 +221,21 @@ module _ (m : Module) (config : Settings) (guest : Guest) where
         let comes = is.comes in
         between.line ∙ ap (λ n. Some n) (sym comes.lines)
 
+    may_widen : kept_by_end act shown promise.kept ≢ promise.kept
+        → MayWiden config promise shown
+    may_widen differs =
+        let saved = is.saved in
+        let steps : shown.steps ≡ q.steps = saved.shows.steps in
+        let same : q.steps ≡ p.steps = same_steps in
+        let synced : promise.synced ≤ p.steps = is.synced in
+        record {
+          lines = lines_emitted promise act more shown is.saves differs;
+          syncs = omega (arith, steps, same, synced);
+          room = is.room differs;
+        }
+
   pub done_saves_end : DoneSavesEnd m config guest
-  done_saves_end promise stage act more p q shown is =
+  done_saves_end promise stage act more p q shown is version =
       let held : ℕ = length (promise.kept ++ more) in
       let saves = is.saves in
       let between = is.between in
@@ -232,12 +251,13 @@ module _ (m : Module) (config : Settings) (guest : Guest) where
         at = at_of (take held kept) q shown between.start between.begins
             (saved_at promise stage act more p q shown is kept (saves.kept Done held)) is.saved;
         onward = omega (arith, step);
-        reply = done_reply promise stage held shown act saves.saving between.is_open step
-            (record {
+        reply = done_reply config kept stage held shown act saves.saving version between.is_open
+            step (record {
               all_taken = sym long;
               all_told = line ∙ ap (λ n. Some n) (let saved = is.saved in sym saved.shows.lines);
             });
         bound = tt;
+        widens = may_widen promise stage act more p q shown is;
       }
 
   pub failed_saves_end : FailedSavesEnd m config guest
@@ -257,13 +277,15 @@ module _ (m : Module) (config : Settings) (guest : Guest) where
         within = omega (arith, long);
         at = at_of (take held kept) q shown between.start between.begins runs is.saved;
         onward = omega (arith, step);
-        reply = failed_reply promise stage held shown act cause saves.saving
-            (subst (λ z. MayFail z cause) (sym between.is_open) may) step
+        reply = failed_reply config kept stage held shown act cause saves.saving
+            (subst (λ (l : List Kept). MayPlead config l stage act cause)
+            (sym (saves.kept (Fails cause) held)) may) step
             (among_first stage.line (length q.host.lines) shown.lines
             (told_all promise stage act more p q shown is)
             (let saved = is.saved in let l = saved.shows.lines in omega (arith, l)));
         bound = at_bound promise (take held kept) q shown between.start between.begins runs is.saved
             cause bound;
+        widens = may_widen promise stage act more p q shown is;
       }
 
   -- ---- from call to call

@@ -1,14 +1,16 @@
 -- What a worker's disk holds of a promise.
-use Rattle.std.proofs.Common.{◌≡◌, ◌⊎◌, ℕ, ◌+◌, ◌≤◌, List, [], ◌++◌, length, take, refl, sym, ap}
+use Rattle.std.proofs.Common.{◌≡◌, ◌⊎◌, ℕ, zero, suc, ◌+◌, ◌<◌, ◌≤◌, List, [], ◌∷◌, ◌++◌, length}
+use Rattle.std.proofs.Common.{take, drop, refl, sym, ap}
 use Rattle.std.proofs.Common.{◌∙◌, subst, inl, inr, ⊎_elim, arith, length-append, length-take}
 use Rattle.std.specs.Prelude.{map}
-use Rattle.std.proofs.lemmas.List.{append-nil, length-take-le, take-take}
+use Rattle.std.proofs.lemmas.Bool.{cases_lt}
+use Rattle.std.proofs.lemmas.List.{append-nil, length-take-le, take_all, take-take}
 use Rattle.wasm_syntax.specs.declared.module.Module.{Module}
 use Rattle.wasi_abi.specs.rules.Configs.{Settings}
 use Rattle.wasi_calls_rules.specs.Hosts.{Host}
 use Rattle.wasi_calls_rules.specs.laws.Laws.{Emits}
 use Rattle.process_rules.specs.Processes.{ProcessState}
-use Rattle.process_rules.specs.Runs.{Kept, Runs, Reaches}
+use Rattle.process_rules.specs.Runs.{Kept, Given, Runs, Reaches}
 use Rattle.process_rules.specs.Behind.{AnswersBehindLine}
 use Rattle.process_rules.proofs.Growing.{runs_count, runs_emit}
 use Rattle.sector_disk.specs.rules.Image.{Image}
@@ -16,9 +18,12 @@ use Rattle.sector_disk.specs.rules.Medium.{Medium, LeavesOnly}
 use Rattle.sector_disk.proofs.Moments.{leaves_weaker}
 use Rattle.disk_layout.specs.rules.Journal.{Record}
 use Rattle.journal.specs.rules.State.{JournalState}
-use Rattle.record_replay.specs.rules.Records.{none, given_in}
+use Rattle.record_replay.specs.rules.Records.{Recorded, none, given_in}
 use Rattle.record_replay.proofs.Recordings.{recorded_count, recorded_emit, recorded_join}
 use Rattle.restart_theorem.specs.Stands.{IsBlank}
+use Rattle.process_rules.specs.Behind.{IsNarrowTo}
+use Rattle.record_replay.proofs.OneRecording.{one_recorded}
+use Rattle.restart_theorem.proofs.Fronts.{none_widens, up_to_front}
 use Rattle.restart_theorem.specs.Lives.{Checkpoint, Done, Ended}
 use Rattle.restart_theorem.specs.Promises.{Promise, after, HoldsAll}
 use Rattle.restart_theorem.specs.Holds.{HoldsPromise, IsUnopened, ImageHolds, CarriesPromise}
@@ -61,16 +66,21 @@ more_lines g h emits =
     ap (λ l. length l) emits.are ∙ length-append g.lines emits.lines in
     omega (arith, long)
 
+plus_none : (n : ℕ) → n + 0 ≡ n
+plus_none n = omega arith
+
 -- ---- what is held
 
 pub holds_grow : (m : Module) (config : Settings) (kept : List Kept) (promise : Promise)
     (held more steps later : ℕ) → HoldsAll m config kept promise held steps → held ≤ more
-    → more ≤ length kept → steps ≤ later → HoldsAll m config kept promise more later
-holds_grow m config kept promise held more steps later holds le within on =
+    → more ≤ length kept → steps ≤ later → IsNarrowTo (drop more kept) later
+    → HoldsAll m config kept promise more later
+holds_grow m config kept promise held more steps later holds le within on up =
     let answers : promise.answers ≤ held = holds.answers in
     let counted : promise.steps ≤ steps = holds.steps_held in
     record {
       within = within;
+      up_to = up;
       answers = omega (arith, answers, le);
       steps_held = omega (arith, counted, on);
       lines = λ i below.
@@ -91,6 +101,7 @@ holds_less m config kept less more held steps no_more holds =
     let few_steps : less.steps ≤ more.steps = no_more.steps in
     record {
       within = holds.within;
+      up_to = holds.up_to;
       answers = omega (arith, answers, few_answers);
       steps_held = omega (arith, counted, few_steps);
       lines = λ i below. holds.lines i (not_above i less.begun more.begun below no_more.begun);
@@ -157,12 +168,34 @@ stands_held_at m config promise disk holds =
 
 -- ---- fronts of the records
 
+-- where records are left, an answer is kept next
+pub up_to_map : (kept front : List Kept) (all : List Record) (a b c n : ℕ) → a ≡ length front + c
+    → b ≡ length front + length all → take b kept ≡ front ++ map given_in all → c < length all
+    → IsNarrowTo (drop a kept) n
+up_to_map [] front all a b c n e f same less = none_widens a n
+up_to_map (k ∷ kept) (x ∷ front) all zero b c n e f same less = absurd (omega (arith, e))
+up_to_map (k ∷ kept) (x ∷ front) all (suc a) zero c n e f same less = absurd (omega (arith, f))
+up_to_map (k ∷ kept) (x ∷ front) all (suc a) (suc b) c n e f same less =
+    let others : take b kept ≡ front ++ map given_in all = cc in
+    up_to_map kept front all a b c n (omega (arith, e)) (omega (arith, f)) others less
+up_to_map (k ∷ kept) [] [] a b c n e f same less = absurd (omega (arith, less))
+up_to_map (k ∷ kept) [] (r ∷ all) a zero c n e f same less = absurd (omega (arith, f))
+up_to_map (k ∷ kept) [] (r ∷ all) zero (suc b) c n e f same less =
+    let first : k ≡ Given r.answer = cc in
+    subst (λ (z : Kept). IsNarrowTo (z ∷ kept) n) (sym first) tt
+up_to_map (k ∷ kept) [] (r ∷ all) (suc a) (suc b) zero n e f same less = absurd (omega (arith, e))
+up_to_map (k ∷ kept) [] (r ∷ all) (suc a) (suc b) (suc c) n e f same less =
+    let others : take b kept ≡ map given_in all = cc in
+    up_to_map kept [] all a b c n (omega (arith, e)) (omega (arith, f)) others (omega (arith, less))
+
 -- with so many of the pending ones
 module _ (m : Module) (config : Settings) (promise : Promise) (point : Savepoint m config)
     (records pending : List Record) (last : ProcessState)
     (held : IsHeldAt promise point records last)
     (answers : take (count_at point (records ++ pending)) promise.kept
-    ≡ answers_at point (records ++ pending)) where
+    ≡ answers_at point (records ++ pending)) (now : ProcessState)
+    (recorded : Recorded point.reached.guest last pending now)
+    (up : IsNarrowTo (drop (count_at point (records ++ pending)) promise.kept) now.steps) where
   all_count : ℕ
   all_count = count_at point (records ++ pending)
 
@@ -170,35 +203,59 @@ module _ (m : Module) (config : Settings) (promise : Promise) (point : Savepoint
   all_within = within_of (count_at point (records ++ pending)) promise.kept
       (answers_at point (records ++ pending)) answers (answers_count point (records ++ pending))
 
+  -- where all of them are there, it is the process at hand
+  all_there : (disk : Image) (at : StandsAtFront point records last pending disk)
+      → length pending ≤ at.count
+      → IsNarrowTo (drop (count_at point (records ++ take at.count pending)) promise.kept)
+      at.process.steps
+  all_there disk at none_left =
+      let whole : take at.count pending ≡ pending = take_all at.count pending none_left in
+      let same : at.process ≡ now =
+      one_recorded point.reached.guest last at.process now pending
+      (subst (λ l. Recorded point.reached.guest last l at.process) whole at.recorded) recorded in
+      subst (λ (p : ProcessState).
+      IsNarrowTo (drop (count_at point (records ++ take at.count pending)) promise.kept) p.steps)
+      (sym same)
+      (subst (λ (l : List Record). IsNarrowTo (drop (count_at point (records ++ l)) promise.kept)
+      now.steps) (sym whole) up)
+
   pub front_is_held : (disk : Image) → StandsAtFront point records last pending disk
       → HoldsPromise m config promise promise disk
   front_is_held disk at =
       let some : List Record = take at.count pending in
-      let now : List Record = records ++ some in
+      let those : List Record = records ++ some in
       let within : at.count ≤ length pending = at.within in
       let few : length some ≡ at.count = length-take-le at.count pending within in
-      let counted : length now ≡ length records + at.count =
+      let counted : length those ≡ length records + at.count =
       length-append records some ∙ ap (λ n. length records + n) few in
-      let count : count_at point now ≡ length point.front + length records + at.count =
+      let count : count_at point those ≡ length point.front + length records + at.count =
       omega (arith, counted) in
       let all : length (records ++ pending) ≡ length records + length pending =
       length-append records pending in
       let bound : count_at point (records ++ pending) ≤ length promise.kept = all_within in
-      let front : take (count_at point now) promise.kept ≡ answers_at point now =
-      sym (take-take (count_at point now) (count_at point (records ++ pending)) promise.kept
+      let front : take (count_at point those) promise.kept ≡ answers_at point those =
+      sym (take-take (count_at point those) (count_at point (records ++ pending)) promise.kept
       (omega (arith, count, all, within)))
-      ∙ ap (λ l. take (count_at point now) l) answers
+      ∙ ap (λ l. take (count_at point those) l) answers
       ∙ ap (λ n. take n (answers_at point (records ++ pending))) count
       ∙ front_kept point.front records pending at.count in
-      held_at_stands m config promise point now at.process disk (record {
+      held_at_stands m config promise point those at.process disk (record {
         created = held.created;
         front = front;
         recorded = recorded_join point.reached.guest point.process last at.process records some
             held.recorded at.recorded;
         holds = holds_grow m config promise.kept promise (count_at point records)
-            (count_at point now) last.steps at.process.steps held.holds (omega (arith, count))
+            (count_at point those) last.steps at.process.steps held.holds (omega (arith, count))
             (omega (arith, count, all, within, bound))
-            (recorded_count point.reached.guest last at.process some at.recorded);
+            (recorded_count point.reached.guest last at.process some at.recorded)
+            (⊎_elim
+            (λ (some_left : at.count < length pending).
+            up_to_map promise.kept point.front (records ++ pending) (count_at point those)
+            (count_at point (records ++ pending)) (length records + at.count) at.process.steps
+            (omega (arith, count)) refl answers (omega (arith, all, some_left)))
+            (λ (none_left : length pending ≤ at.count).
+            all_there disk at none_left)
+            (cases_lt at.count (length pending)));
         heard = held.heard;
         passed = held.passed;
       }) at.at
@@ -250,7 +307,8 @@ next_is_held m config promise point next records more last held saves =
       recorded = none;
       holds = holds_grow m config promise.kept promise (count_at point records)
           (count_at next []) last.steps next.process.steps held.holds (omega (arith, long))
-          (omega (arith, bound)) (omega (arith, run));
+          (omega (arith, bound)) (omega (arith, run))
+          (subst (λ n. IsNarrowTo (drop n promise.kept) next.process.steps) same saves.up_to);
       heard = saves.heard;
       passed = omega (arith, few, told, tells, first, later);
     }
@@ -280,6 +338,9 @@ fresh_is_held m config promise point nothing created empty no_lines =
       recorded = none;
       holds = record {
         within = omega (arith, front_length);
+        up_to = subst (λ (l : List Kept). IsNarrowTo (drop (length point.front + 0) l)
+            point.process.steps) (sym none_kept)
+            (none_widens (length point.front + 0) point.process.steps);
         answers = omega (arith, no_answers);
         steps_held = omega (arith, no_steps);
         lines = λ i below. (0, omega arith, at_first i (none_of i promise.begun below none_begun));
@@ -308,8 +369,19 @@ fresh_is_held m config promise point nothing created empty no_lines =
       steps = point.steps;
       process = point.process;
       reached = subst (λ l. Reaches m config l point.steps point.process) empty point.reached;
+      up_to = subst (λ (l : List Kept). IsNarrowTo l point.steps)
+          (sym (ap (λ (p : Promise). p.kept) nothing)) tt;
       emitted = at_zero i (length point.process.host.lines) e;
     }
+
+-- and what is kept next widens nothing up to there
+pub first_up_to : (m : Module) (config : Settings) (promise : Promise)
+    (point : Savepoint m config) (records : List Record) (last : ProcessState)
+    (front : List Kept) → IsHeldAt promise point records last
+    → front ≡ answers_at point records → IsNarrowTo (drop (length front) promise.kept) last.steps
+first_up_to m config promise point records last front held is =
+    subst (λ n. IsNarrowTo (drop n promise.kept) last.steps)
+    (sym (ap (λ l. length l) is ∙ answers_count point records)) held.holds.up_to
 
 -- what the end of a checkpoint promises
 checkpoint_is_held : (m : Module) (config : Settings) (promise : Promise)
@@ -330,6 +402,7 @@ checkpoint_is_held m config promise point held all =
       recorded = held.recorded;
       holds = record {
         within = holds.within;
+        up_to = holds.up_to;
         answers = omega (arith, answers);
         steps_held = omega (arith, counted, same);
         lines = holds.lines;
@@ -367,6 +440,7 @@ opening_is_held m config promise point held =
       recorded = held.recorded;
       holds = record {
         within = omega (arith, long);
+        up_to = up_to_front (n + 0) n point.process.steps promise.kept holds.up_to;
         answers = omega (arith, answers);
         steps_held = omega (arith, counted, same);
         lines = λ i below.
@@ -398,6 +472,7 @@ opening_is_held m config promise point held =
       process = behind.process;
       reached = subst (λ l. Reaches m config l behind.steps behind.process)
           (sym (take-take a (length point.front) promise.kept few)) behind.reached;
+      up_to = up_to_front a (length point.front) behind.steps promise.kept behind.up_to;
       emitted = behind.emitted;
     }
 
@@ -455,7 +530,10 @@ point_opens m config promise point stage held shut last =
         shown = point.shown;
       };
       holds = holds_grow m config promise.kept promise (n + 0) n point.process.steps
-          point.saved.steps all (omega arith) (omega (arith, bound)) (omega (arith, same));
+          point.saved.steps all (omega arith) (omega (arith, bound)) (omega (arith, same))
+          (subst (λ k. IsNarrowTo (drop n promise.kept) k) (sym same)
+          (subst (λ k. IsNarrowTo (drop k promise.kept) point.process.steps) (plus_none n)
+          all.up_to));
       all_heard = held.heard;
       none_beyond = last;
     }
@@ -481,8 +559,9 @@ all_is_held m config promise point journal records pending last now disk is =
           journaled.recorded;
       holds = holds_grow m config promise.kept promise (count_at point records)
           (count_at point all) last.steps now.steps held.holds (omega (arith, long))
-          (all_within m config promise point records pending last held is.answers)
-          (recorded_count guest last now pending journaled.recorded);
+          (all_within m config promise point records pending last held is.answers now
+          journaled.recorded is.up_to)
+          (recorded_count guest last now pending journaled.recorded) is.up_to;
       heard = held.heard;
       passed = held.passed;
     }
@@ -512,14 +591,15 @@ module _ {D : Type 0} (medium : D → Medium) where
         is.journaled stays;
     held = is.held;
     answers = is.answers;
+    up_to = is.up_to;
   }
 
   pub barrier_carries : BarrierCarries medium
   barrier_carries m config less promise point journal records pending last now old new no_more is
       leaves =
       carries m config less promise (medium old) (medium new) _ no_more
-      (λ disk at. front_is_held m config promise point records pending last is.held is.answers disk
-      at) leaves
+      (λ disk at. front_is_held m config promise point records pending last is.held is.answers now
+      is.journaled.recorded is.up_to disk at) leaves
 
   pub barrier_carries_on : BarrierCarriesOn medium
   barrier_carries_on m config promise point before later records pending last now old new is goes =
@@ -528,6 +608,9 @@ module _ {D : Type 0} (medium : D → Medium) where
         held = all_is_held m config promise point before records pending last now (medium old) is;
         answers = subst (λ (l : List Record). take (count_at point l) promise.kept
             ≡ answers_at point l) (sym (append-nil (records ++ pending))) is.answers;
+        up_to = subst (λ (l : List Record).
+            IsNarrowTo (drop (count_at point l) promise.kept) now.steps)
+            (sym (append-nil (records ++ pending))) is.up_to;
       }
 
   pub commit_carries : CommitCarries medium
@@ -567,4 +650,5 @@ module _ {D : Type 0} (medium : D → Medium) where
     journaled = goes;
     held = held;
     answers = held.front;
+    up_to = held.holds.up_to;
   }

@@ -20,7 +20,7 @@ use Rattle.disk_layout.specs.rules.Places.{Geometry, geometry_of, config_bytes, 
 use Rattle.disk_layout.specs.rules.Places.{area_place, journal_place, rounded_up}
 use Rattle.disk_layout.specs.rules.Sectors.{IsMarked, IsComplete, super_bytes, stamp_of}
 use Rattle.disk_layout.specs.rules.Sectors.{shown_generation}
-use Rattle.disk_layout.specs.declared.head.TheConstants.{IMAGE_VERSION}
+use Rattle.wasi_abi.specs.rules.Versions.{version_number}
 use Rattle.disk_layout.proofs.StampLemmas.{shows_none}
 use Rattle.snapshot.specs.rules.Heads.{heads_to, IsReadyForHead}
 use Rattle.snapshot.proofs.AreaLemmas.{bytes_same, heads_move}
@@ -249,7 +249,7 @@ awaited_begins m config point old new awaits super same =
           awaits.contents;
     })
     (record {
-      holds = image_stays geometry old new g IMAGE_VERSION bytes heads
+      holds = image_stays geometry old new g (version_number point.saved.version) bytes heads
           (λ k from below. same k (in_area geometry g k from)) had.holds;
       zeros = bytes_same old new area (rounded_up (length bytes))
           (λ k from below. same k (in_area geometry g k from)) ∙ had.zeros;

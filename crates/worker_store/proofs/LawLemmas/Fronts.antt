@@ -7,7 +7,6 @@ use Rattle.std.proofs.lemmas.List.{append-nil, map-append}
 use Rattle.std.proofs.Math.Seq.{take-append-add}
 use Rattle.wasm_syntax.specs.declared.module.Module.{Module}
 use Rattle.wasi_abi.specs.declared.version.Version.{Version}
-use Rattle.wasi_abi.specs.declared.version.Version.TheVariants.{One}
 use Rattle.wasi_abi.specs.rules.Configs.{Settings}
 use Rattle.process_rules.specs.Processes.{ProcessState, Guest}
 use Rattle.process_rules.specs.Runs.{Kept}
@@ -45,13 +44,13 @@ both_fit v (r ∷ records) others fit fit_others =
     (fit.0, both_fit v records others fit.1 fit_others)
 
 -- the records that stand are scanned
-pub scanned_all : (geometry : Geometry) (g used : ℕ) (records : List Record) (disk : Image)
-    → RecordsStand geometry One g used records disk → AllRecordsFit One records
-    → scan geometry One disk g ≡ records
-scanned_all geometry g used records disk stands fit =
-    let read = all_bytes geometry g used (records_bytes One records) disk stands in
-    let front = scan_of One geometry disk g 0 records [] fit tt
-    (read ∙ sym (append-nil (records_bytes One records))) in
+pub scanned_all : (v : Version) (geometry : Geometry) (g used : ℕ) (records : List Record)
+    (disk : Image) → RecordsStand geometry v g used records disk → AllRecordsFit v records
+    → scan geometry v disk g ≡ records
+scanned_all v geometry g used records disk stands fit =
+    let read = all_bytes geometry g used (records_bytes v records) disk stands in
+    let front = scan_of v geometry disk g 0 records [] fit tt
+    (read ∙ sym (append-nil (records_bytes v records))) in
     front.2 ∙ ap (λ l. records ++ l) (no_front front.0) ∙ append-nil records
   where
     no_front : (count : ℕ) → take count (let l : List Record = [] in l) ≡ []
@@ -74,7 +73,7 @@ with_journal : (m : Module) (config : Settings) (point : Savepoint m config)
     (records later : List Record) (last q : ProcessState) (used : ℕ) (old new : Image)
     → StandsAtPoint point records last old → SameOthers (places point) used old new
     → ShowsNoneAfter (places point) point.generation new
-    → scan (places point) One new point.generation ≡ later
+    → scan (places point) point.saved.version new point.generation ≡ later
     → Recorded point.reached.guest point.process later q → IsNumbered q
     → StandsAtPoint point later q new
 with_journal m config point records later last q used old new at others none_later scanned
@@ -117,8 +116,8 @@ barrier_leaves_front m config point records pending last q used old new at recor
 pub barrier_leaves_all : BarrierLeavesAll
 barrier_leaves_all m config point records pending last q used count old new at recorded numbers
     appends fit fit_pending stands =
-    let scanned = scanned_all (places point) point.generation count (records ++ pending) new
-    stands (both_fit One records pending fit fit_pending) in
+    let scanned = scanned_all point.saved.version (places point) point.generation count
+    (records ++ pending) new stands (both_fit point.saved.version records pending fit fit_pending) in
     let all = recorded_join point.reached.guest point.process last q records pending at.recorded
     recorded in
     with_journal m config point records (records ++ pending) last q used old new at

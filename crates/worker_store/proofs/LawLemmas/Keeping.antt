@@ -5,7 +5,6 @@ use Rattle.std.proofs.lemmas.List.{append-nil}
 use Rattle.std.proofs.lemmas.Grind.{flat_map-append}
 use Rattle.sector_disk.specs.rules.Medium.{Medium}
 use Rattle.wasi_abi.specs.declared.version.Version.{Version}
-use Rattle.wasi_abi.specs.declared.version.Version.TheVariants.{One}
 use Rattle.disk_layout.specs.rules.Places.{Geometry}
 use Rattle.disk_layout.specs.rules.Journal.{Record, record_bytes}
 use Rattle.journal.specs.rules.State.{JournalState}
@@ -51,7 +50,8 @@ module _ {D : Type 0} (medium : D → Medium) where
       (λ a b at appends.
       barrier_leaves_front m config point records pending last now journal.used a b at
       is.recorded is.numbers
-      (subst (λ g. AppendsFront (places point) One g journal.used records pending a b)
+      (subst (λ g. AppendsFront (places point) point.saved.version g journal.used records pending
+      a b)
       is.generation
       (subst (λ v. AppendsFront (places point) v journal.generation journal.used records pending a
       b) is.version appends))) leaves
@@ -70,13 +70,15 @@ module _ {D : Type 0} (medium : D → Medium) where
             let step = left_in_the_end (medium old) (medium new) _ leaves image left in
             barrier_leaves_all m config point records pending last now before.used after.used
             step.0 image (is.stands step.0 step.1) is.recorded is.numbers
-            (subst (λ g. AppendsFront (places point) One g before.used records pending step.0 image)
+            (subst (λ g. AppendsFront (places point) point.saved.version g before.used records
+            pending step.0 image)
             is.generation
             (subst (λ v. AppendsFront (places point) v before.generation before.used records
             pending step.0 image) is.version step.2))
             (subst (λ v. AllRecordsFit v records) is.version on.fit)
             (subst (λ v. AllRecordsFit v pending) is.version on.fit_kept)
-            (subst (λ g. RecordsStand (places point) One g after.used (records ++ pending) image)
+            (subst (λ g. RecordsStand (places point) point.saved.version g after.used
+            (records ++ pending) image)
             (same ∙ is.generation)
             (subst (λ v. RecordsStand (places point) v after.generation after.used
             (records ++ pending) image) (version ∙ is.version) (stand image left)));
@@ -135,7 +137,7 @@ module _ {D : Type 0} (medium : D → Medium) where
     on = record {
       stands = λ image left.
           let begun = begins image left in
-          no_records (places point) point.generation image begun.earlier;
+          no_records point.saved.version (places point) point.generation image begun.earlier;
       spells = refl;
       fit = tt;
       fit_kept = tt;

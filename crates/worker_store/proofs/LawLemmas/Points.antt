@@ -4,17 +4,18 @@ use Rattle.std.proofs.Common.{subst, arith}
 use Rattle.std.specs.Prelude.{map, take, length}
 use Rattle.std.proofs.lemmas.List.{append-nil}
 use Rattle.wasm_syntax.specs.declared.module.Module.{Module}
+use Rattle.wasi_abi.specs.declared.version.Version.{Version}
 use Rattle.wasi_abi.specs.rules.Configs.{Settings}
-use Rattle.wasi_abi.specs.declared.version.Version.TheVariants.{One}
 use Rattle.process_rules.specs.Processes.{ProcessState, Guest}
 use Rattle.process_rules.specs.Runs.{Kept}
 use Rattle.process_rules.proofs.Growing.{runs_count, start_counts}
 use Rattle.state_image.specs.rules.Image.{image}
+use Rattle.state_image.proofs.Marks.{version_of_image}
 use Rattle.sector_disk.specs.rules.Image.{Image}
 use Rattle.disk_layout.specs.rules.Places.{Geometry, geometry_of}
 use Rattle.disk_layout.specs.rules.Sectors.{HasWorker, HoldsImage}
 use Rattle.disk_layout.specs.rules.Journal.{Record, scan}
-use Rattle.disk_layout.specs.declared.head.TheConstants.{IMAGE_VERSION}
+use Rattle.wasi_abi.specs.rules.Versions.{version_number}
 use Rattle.record_replay.specs.rules.Records.{Recorded, none, more, given_in}
 use Rattle.restart_theorem.specs.Stands.{ShowsNoneLater}
 use Rattle.worker_store.specs.laws.Savepoints.{Savepoint, StandsAtPoint, StandsBySaved}
@@ -112,6 +113,7 @@ by_point m config point records last disk kept n at rest step = record {
     numbers = at.numbers;
     at_step = step;
     none_later = at.none_later;
+    room = point.room;
   };
   saved = refl;
   generation = refl;
@@ -130,18 +132,25 @@ point_stands_alone m config point disk at =
 pub read_alike_stands : ReadAlikeStands
 read_alike_stands m config point other records last q disk found at there wasm generation bytes =
     let place : List ℕ → Geometry = λ w. geometry_of config (length w) in
-    let holds : HoldsImage (place point.wasm) found point.generation IMAGE_VERSION
-    (image point.saved) =
-    subst (λ l. HoldsImage (place point.wasm) found point.generation IMAGE_VERSION l) bytes
-    (subst (λ g. HoldsImage (place point.wasm) found g IMAGE_VERSION (image other.saved)) generation
-    (subst (λ w. HoldsImage (place w) found other.generation IMAGE_VERSION (image other.saved)) wasm
-    there.holds)) in
+    let version : other.saved.version ≡ point.saved.version =
+    version_of_image other.saved point.saved bytes in
+    let v : Version = other.saved.version in
+    let holds : HoldsImage (place point.wasm) found point.generation
+    (version_number point.saved.version) (image point.saved) =
+    subst (λ w. HoldsImage (place point.wasm) found point.generation (version_number w)
+    (image point.saved)) version
+    (subst (λ l. HoldsImage (place point.wasm) found point.generation (version_number v) l) bytes
+    (subst (λ g. HoldsImage (place point.wasm) found g (version_number v) (image other.saved))
+    generation
+    (subst (λ w. HoldsImage (place w) found other.generation (version_number v)
+    (image other.saved)) wasm there.holds))) in
     record {
       worker = subst (λ w. HasWorker config w found) wasm there.worker;
       holds = holds;
-      scanned = subst (λ g. scan (place point.wasm) One found g ≡ records) generation
-          (subst (λ w. scan (place w) One found other.generation ≡ records) wasm
-          there.scanned);
+      scanned = subst (λ w. scan (place point.wasm) w found point.generation ≡ records) version
+          (subst (λ g. scan (place point.wasm) v found g ≡ records) generation
+          (subst (λ w. scan (place w) v found other.generation ≡ records) wasm
+          there.scanned));
       recorded = at.recorded;
       numbers = at.numbers;
       none_later = subst (λ g. ShowsNoneLater (place point.wasm) found g) generation

@@ -1,11 +1,11 @@
 -- What events make of a promise that a worker's disk holds.
 use Rattle.std.proofs.Common.{◌≡◌, ℕ, zero, suc, ◌+◌, ◌-◌, ◌<◌, ◌≤◌, List, [], ◌∷◌, ◌++◌}
-use Rattle.std.proofs.Common.{length, take, Some, None, Ok, refl, sym, ap, ◌∙◌, subst}
-use Rattle.std.proofs.Common.{⊎_elim, arith, length-append, append_assoc}
+use Rattle.std.proofs.Common.{length, take, drop, Some, None, Ok, refl, sym, ap, ◌∙◌, subst}
+use Rattle.std.proofs.Common.{⊎_elim, arith, length-append, length-take, append_assoc}
 use Rattle.std.specs.Prelude.{map, max, slice_get, Option}
 use Rattle.std.proofs.lemmas.Bool.{cases_lt}
 use Rattle.std.proofs.lemmas.List.{append-nil, take_all, take-append-le, map-append}
-use Rattle.std.proofs.lemmas.List.{length-take-le}
+use Rattle.std.proofs.lemmas.List.{length-take-le, take-append-drop}
 use Rattle.wasm_syntax.specs.declared.value.Value.{Value}
 use Rattle.wasm_syntax.specs.declared.module.Module.{Module}
 use Rattle.wasm_semantics.specs.Configuration.{Configuration, Thread, Outcome}
@@ -15,69 +15,114 @@ use Rattle.wasi_abi.specs.declared.call.Call.{Call}
 use Rattle.wasi_abi.specs.rules.Configs.{Settings}
 use Rattle.wasi_calls_rules.specs.Checks.{Ruling}
 use Rattle.process_rules.specs.Processes.{ProcessState, Guest}
-use Rattle.process_rules.specs.Runs.{Kept, Given, Next, Wants, On, after_row, after_call}
+use Rattle.process_rules.specs.Runs.{Kept, Given, Wider, Next, Wants, On, after_row, after_call}
 use Rattle.process_rules.specs.Runs.{after_rule, next_of, Runs, Reaches}
-use Rattle.process_rules.specs.Runs.{none as no_step, step, take as takes}
-use Rattle.process_rules.specs.Behind.{AnswersBehindLine, AnswersBehindSync, Syncs}
+use Rattle.process_rules.specs.Runs.{none as no_step, step, take as takes, widen}
+use Rattle.process_rules.specs.Behind.{IsNarrowTo, AnswersBehindLine, AnswersBehindSync, Syncs}
 use Rattle.process_rules.specs.Owing.{RunsQuietly, none, more}
 use Rattle.process_rules.proofs.Growing.{move_counts, runs_count, start_counts}
 use Rattle.process_rules.proofs.OneStart.{start_once}
 use Rattle.process_rules.proofs.Quiet.{runs_join, quiet_runs_are_runs}
 use Rattle.sector_disk.specs.rules.Medium.{Medium}
 use Rattle.disk_layout.specs.rules.Journal.{Record}
+use Rattle.journal.specs.rules.State.{JournalState}
+use Rattle.state_image.specs.rules.Image.{Saved}
 use Rattle.record_replay.specs.rules.Records.{given_in}
 use Rattle.record_replay.proofs.Recordings.{recorded_runs, recorded_join}
-use Rattle.restart_theorem.specs.Lives.{kept_of_said}
-use Rattle.restart_theorem.specs.Promises.{saved_by, synced_by}
-use Rattle.restart_theorem.proofs.Fronts.{LeadsOn, fronts_lead_on}
-use Rattle.worker_store.specs.laws.Carried.{answers_at, count_at}
-use Rattle.worker_store.specs.laws.Raised.{AllSyncsAreHeld, QuietSyncsAreHeld}
+use Rattle.restart_theorem.specs.Lives.{Act, Reply, Ended, kept_of_said}
+use Rattle.restart_theorem.specs.Promises.{Promise, after, saved_by, synced_by}
+use Rattle.restart_theorem.proofs.Fronts.{LeadsOn, fronts_lead_on, reached_counts, none_widens}
+use Rattle.restart_theorem.proofs.Fronts.{up_to_behind, said_widens_none}
+use Rattle.worker_store.specs.laws.Carried.{answers_at, count_at, IsCarried}
+use Rattle.worker_store.specs.laws.Savepoints.{Savepoint}
+use Rattle.worker_store.specs.laws.Raised.{SyncsAreHeld, AllSyncsAreHeld, QuietSyncsAreHeld}
 use Rattle.worker_store.specs.laws.Raised.{AnsweredSyncsAreHeld, ToldCarries, AskedCarries}
 use Rattle.worker_store.specs.laws.Raised.{EndedCarries, AppendCarries, AnswerIsOnRecord}
 use Rattle.worker_store.specs.laws.Raised.{CarriedIsReached, MovedSyncsAreHeld}
+use Rattle.worker_store.proofs.LawLemmas.Acts.{same_rest}
 use Rattle.worker_store.proofs.LawLemmas.Carrying.{answers_count, within_of}
+
+-- ---- what is kept next
+
+nothing_up_to : (kept : List Kept) (n : ℕ) → length kept ≡ 0 → IsNarrowTo kept n
+nothing_up_to [] n e = tt
+nothing_up_to (x ∷ kept) n e = absurd (omega (arith, e))
+
+pub up_to_before : (kept : List Kept) (n k : ℕ) → k ≤ n → IsNarrowTo kept n → IsNarrowTo kept k
+up_to_before [] n k le up = tt
+up_to_before (Given x ∷ kept) n k le up = tt
+up_to_before (Wider s ∷ kept) n k le up = omega (arith, le, up)
+
+up_to_part : (kept more_kept : List Kept) (n : ℕ) → IsNarrowTo (kept ++ more_kept) n
+    → IsNarrowTo kept n
+up_to_part [] more_kept n up = tt
+up_to_part (Given x ∷ kept) more_kept n up = tt
+up_to_part (Wider s ∷ kept) more_kept n up = up
+
+pub up_to_rest : (kept more_kept : List Kept) (n : ℕ) → IsNarrowTo more_kept n
+    → IsNarrowTo (drop (length kept) (kept ++ more_kept)) n
+up_to_rest [] more_kept n up = up
+up_to_rest (x ∷ kept) more_kept n up = up_to_rest kept more_kept n up
+
+-- behind all that is kept nothing widens
+pub up_to_end : (kept : List Kept) (n : ℕ) → IsNarrowTo (drop (length kept) kept) n
+up_to_end [] n = tt
+up_to_end (x ∷ kept) n = up_to_end kept n
+
+pub up_to_all : (kept front : List Kept) (n : ℕ) → front ≡ kept
+    → IsNarrowTo (drop (length front) kept) n
+up_to_all kept front n same =
+    subst (λ (l : List Kept). IsNarrowTo (drop (length l) kept) n) (sym same) (up_to_end kept n)
+
+up_to_less : (a : ℕ) (kept more_kept : List Kept) (n : ℕ)
+    → IsNarrowTo (drop a (kept ++ more_kept)) n → IsNarrowTo (drop a kept) n
+up_to_less a [] more_kept n up = none_widens a n
+up_to_less zero (Given x ∷ kept) more_kept n up = tt
+up_to_less zero (Wider s ∷ kept) more_kept n up = up
+up_to_less (suc a) (x ∷ kept) more_kept n up = up_to_less a kept more_kept n up
+
+-- what leads on from a front widens what is kept next
+up_to_there : (kept more_kept : List Kept) (a b n : ℕ) → take b kept ++ more_kept ≡ take a kept
+    → IsNarrowTo (drop b kept) n → IsNarrowTo more_kept n
+up_to_there kept more_kept a b n e up =
+    let whole : take b kept ++ (more_kept ++ drop a kept) ≡ take b kept ++ drop b kept =
+    sym (append_assoc (take b kept) more_kept (drop a kept))
+    ∙ ap (λ (l : List Kept). l ++ drop a kept) e ∙ take-append-drop a kept
+    ∙ sym (take-append-drop b kept) in
+    up_to_part more_kept (drop a kept) n
+    (subst (λ (l : List Kept). IsNarrowTo l n)
+    (sym (same_rest (take b kept) (more_kept ++ drop a kept) (drop b kept) whole)) up)
 
 -- ---- runs
 
--- no run takes more answers than steps
-runs_take_few : (guest : Guest) (p q : ProcessState) (kept : List Kept) (n : ℕ)
-    → Runs guest p kept n q → length kept ≤ n
-runs_take_few guest p q kept n (no_step {p = p'}) = omega arith
-runs_take_few guest p q kept n (step {p = p'} {q = next} {kept = kept'} {n = k} moves rest) =
-    let few : length kept' ≤ k = runs_take_few guest next q kept' k rest in
-    omega (arith, few)
-runs_take_few guest p q kept n (takes {p = p'} {q = next} {a = a} {kept = kept'} {n = k} moves
-    rest) =
-    let few : length kept' ≤ k = runs_take_few guest next q kept' k rest in
-    omega (arith, few)
+-- no steps, where nothing widens, lead nowhere and take nothing
+record StaysThere (p q : ProcessState) (kept : List Kept) : Type 0 where
+  pub process : p ≡ q
+  pub nothing : kept ≡ []
 
 no_run : (guest : Guest) (p q : ProcessState) (kept : List Kept) (n : ℕ) → n ≡ 0
-    → Runs guest p kept n q → p ≡ q
-no_run guest p q kept n e (no_step {p = p'}) = refl
-no_run guest p q kept n e (step {p = p'} {q = next} {kept = kept'} {n = k} moves rest) =
+    → IsNarrowTo kept (suc p.steps) → Runs guest p kept n q → StaysThere p q kept
+no_run guest p q kept n e up (no_step {p = p'}) = record { process = refl; nothing = refl }
+no_run guest p q kept n e up (step {p = p'} {q = next} {kept = kept'} {n = k} moves rest) =
     absurd (omega (arith, e))
-no_run guest p q kept n e (takes {p = p'} {q = next} {a = a} {kept = kept'} {n = k} moves rest) =
+no_run guest p q kept n e up
+    (takes {p = p'} {q = next} {a = a} {kept = kept'} {n = k} moves rest) =
     absurd (omega (arith, e))
-
--- what is reached counts its steps
-reached_counts : (m : Module) (config : Settings) (kept : List Kept) (n : ℕ) (p : ProcessState)
-    → Reaches m config kept n p → p.steps ≡ n
-reached_counts m config kept n p reached =
-    let counted : p.steps ≡ reached.start.steps + n =
-    runs_count reached.guest reached.start p kept n reached.runs in
-    let first = start_counts m config reached.guest reached.start reached.begins in
-    omega (arith, counted, first)
+no_run guest p q kept n e up (widen {p = p'} at rest) =
+    let here = at.at in absurd (omega (arith, up, here))
 
 -- Of two processes that fronts of the same answers lead to in as many steps there is one, with
--- one guest.
+-- one guest, where the shorter front is widened later.
 record IsOne (g h : Guest) (p q : ProcessState) : Type 0 where
   pub guest : g ≡ h
   pub process : p ≡ q
 
 one_at_step : (m : Module) (config : Settings) (kept : List Kept) (a b n : ℕ)
-    (p q : ProcessState) → IsValid m → (left : Reaches m config (take a kept) n p)
-    → (right : Reaches m config (take b kept) n q) → IsOne left.guest right.guest p q
-one_at_step m config kept a b n p q valid left right =
+    (p q : ProcessState) → IsValid m → length (take b kept) ≤ length (take a kept)
+    → (left : Reaches m config (take a kept) n p)
+    → (right : Reaches m config (take b kept) n q) → IsNarrowTo (drop a kept) n
+    → IsNarrowTo (drop b kept) (suc n) → IsOne left.guest right.guest p q
+one_at_step m config kept a b n p q valid longer left right up up' =
     let same = start_once m config left.guest right.guest left.start right.start valid left.begins
     right.begins in
     let first : p.steps ≡ n = reached_counts m config (take a kept) n p left in
@@ -89,36 +134,73 @@ one_at_step m config kept a b n p q valid left right =
           let counted : q.steps ≡ p.steps + on.steps =
           runs_count left.guest p q on.kept on.steps on.runs in
           let none_left : on.steps ≡ 0 = omega (arith, first, second, counted) in
-          no_run left.guest p q on.kept on.steps none_left on.runs)
+          let long : length (take b kept) ≡ length (take a kept) + length on.kept =
+          ap (λ l. length l) (sym on.front) ∙ length-append (take a kept) on.kept in
+          let few : length on.kept ≡ 0 = omega (arith, long, longer) in
+          (no_run left.guest p q on.kept on.steps none_left
+          (nothing_up_to on.kept (suc p.steps) few) on.runs).process)
           (λ (on : LeadsOn left.guest q p (take b kept) (take a kept)).
           let counted : p.steps ≡ q.steps + on.steps =
           runs_count left.guest q p on.kept on.steps on.runs in
           let none_left : on.steps ≡ 0 = omega (arith, first, second, counted) in
-          sym (no_run left.guest q p on.kept on.steps none_left on.runs))
-          (fronts_lead_on m config kept a b n n p q valid left right);
+          let up_there : IsNarrowTo on.kept (suc q.steps) =
+          subst (λ z. IsNarrowTo on.kept (suc z)) (sym second)
+          (up_to_there kept on.kept a b (suc n) on.front up') in
+          sym (no_run left.guest q p on.kept on.steps none_left up_there on.runs).process)
+          (fronts_lead_on m config kept a b n n p q valid left right up
+          (up_to_before (drop b kept) (suc n) n (omega arith) up'));
     }
 
--- Those that take more answers take more steps.
-pub later_step : (m : Module) (config : Settings) (kept : List Kept) (a b n k : ℕ)
+-- Those that take more come no earlier,
+pub no_earlier : (m : Module) (config : Settings) (kept : List Kept) (a b n k : ℕ)
     (p q : ProcessState) → IsValid m → length (take a kept) < length (take b kept)
-    → Reaches m config (take a kept) n p → Reaches m config (take b kept) k q → n < k
-later_step m config kept a b n k p q valid less left right =
+    → Reaches m config (take a kept) n p → Reaches m config (take b kept) k q
+    → IsNarrowTo (drop a kept) n → IsNarrowTo (drop b kept) k → n ≤ k
+no_earlier m config kept a b n k p q valid less left right up up' =
     let first : p.steps ≡ n = reached_counts m config (take a kept) n p left in
     let second : q.steps ≡ k = reached_counts m config (take b kept) k q right in
     ⊎_elim
     (λ (on : LeadsOn left.guest p q (take a kept) (take b kept)).
     let counted : q.steps ≡ p.steps + on.steps =
     runs_count left.guest p q on.kept on.steps on.runs in
-    let few : length on.kept ≤ on.steps =
-    runs_take_few left.guest p q on.kept on.steps on.runs in
-    let long : length (take b kept) ≡ length (take a kept) + length on.kept =
-    ap (λ l. length l) (sym on.front) ∙ length-append (take a kept) on.kept in
-    omega (arith, first, second, counted, few, long, less))
+    omega (arith, first, second, counted))
     (λ (on : LeadsOn left.guest q p (take b kept) (take a kept)).
     let long : length (take a kept) ≡ length (take b kept) + length on.kept =
     ap (λ l. length l) (sym on.front) ∙ length-append (take b kept) on.kept in
     absurd (omega (arith, long, less)))
-    (fronts_lead_on m config kept a b n k p q valid left right)
+    (fronts_lead_on m config kept a b n k p q valid left right up up')
+
+-- and later, where nothing widens there.
+later_step : (m : Module) (config : Settings) (kept : List Kept) (a b n k : ℕ)
+    (p q : ProcessState) → IsValid m → length (take a kept) < length (take b kept)
+    → Reaches m config (take a kept) n p → Reaches m config (take b kept) k q
+    → IsNarrowTo (drop a kept) (suc n) → IsNarrowTo (drop b kept) k → n < k
+later_step m config kept a b n k p q valid less left right up up' =
+    let first : p.steps ≡ n = reached_counts m config (take a kept) n p left in
+    let second : q.steps ≡ k = reached_counts m config (take b kept) k q right in
+    ⊎_elim
+    (λ (on : LeadsOn left.guest p q (take a kept) (take b kept)).
+    let counted : q.steps ≡ p.steps + on.steps =
+    runs_count left.guest p q on.kept on.steps on.runs in
+    let long : length (take b kept) ≡ length (take a kept) + length on.kept =
+    ap (λ l. length l) (sym on.front) ∙ length-append (take a kept) on.kept in
+    let up_there : IsNarrowTo on.kept (suc p.steps) =
+    subst (λ z. IsNarrowTo on.kept (suc z)) (sym first)
+    (up_to_there kept on.kept b a (suc n) on.front up) in
+    ⊎_elim
+    (λ (later : 0 < on.steps). omega (arith, first, second, counted, later))
+    (λ (none_left : on.steps ≤ 0).
+    let nothing : length on.kept ≡ 0 =
+    ap (λ l. length l) (no_run left.guest p q on.kept on.steps (omega (arith, none_left)) up_there
+    on.runs).nothing in
+    absurd (omega (arith, nothing, long, less)))
+    (cases_lt 0 on.steps))
+    (λ (on : LeadsOn left.guest q p (take b kept) (take a kept)).
+    let long : length (take a kept) ≡ length (take b kept) + length on.kept =
+    ap (λ l. length l) (sym on.front) ∙ length-append (take b kept) on.kept in
+    absurd (omega (arith, long, less)))
+    (fronts_lead_on m config kept a b n k p q valid left right
+    (up_to_before (drop a kept) (suc n) n (omega arith) up) up')
 
 -- ---- syncs
 
@@ -205,8 +287,10 @@ quiet_syncs_are_held m config kept held n p q valid reached quiet syncs k a belo
           there);
     } in
     let one : IsOne reached.guest behind.reached.guest on.process behind.process =
-    one_at_step m config kept (length kept) a behind.before on.process behind.process valid left
-    behind.reached in
+    one_at_step m config kept (length kept) a behind.before on.process behind.process valid
+    (omega (arith, length-take a kept, length-take (length kept) kept)) left behind.reached
+    (up_to_end kept behind.before)
+    (up_to_before (drop a kept) k (suc behind.before) (omega (arith, next)) behind.up_to) in
     absurd (on.no_sync (syncs_move reached.guest behind.reached.guest on.process behind.process one
     behind.syncs)))
     (λ (earlier : k ≤ p.steps). syncs k a earlier behind)
@@ -232,6 +316,7 @@ behind_front m config kept more_kept k a within behind = record {
     runs = subst (λ l. Runs behind.reached.guest behind.reached.start l behind.before
         behind.process) (take-append-le a kept more_kept within) behind.reached.runs;
   };
+  up_to = up_to_less a kept more_kept k behind.up_to;
   next = behind.next;
   syncs = behind.syncs;
 }
@@ -272,10 +357,13 @@ answered_syncs_are_held m config kept held p kind a valid reached wants syncs k 
         length-take-le (length kept) (kept ++ Given a ∷ []) (omega (arith, long)) in
         let second : length (take b (kept ++ Given a ∷ [])) ≡ b =
         length-take-le b (kept ++ Given a ∷ []) some in
+        let next : k ≡ behind.before + 1 = behind.next in
         let later : p.steps < behind.before =
         later_step m config (kept ++ Given a ∷ []) (length kept) b p.steps behind.before p
-        behind.process valid (omega (arith, first, second, all)) here behind.reached in
-        let next : k ≡ behind.before + 1 = behind.next in
+        behind.process valid (omega (arith, first, second, all)) here behind.reached
+        (up_to_rest kept (Given a ∷ []) (suc p.steps) tt)
+        (up_to_before (drop b (kept ++ Given a ∷ [])) k behind.before (omega (arith, next))
+        behind.up_to) in
         omega (arith, later, next, below)
 
     not_now : b ≤ length kept → p.steps < k → ⊥
@@ -292,22 +380,32 @@ answered_syncs_are_held m config kept held p kind a valid reached wants syncs k 
         } in
         let one : IsOne reached.guest behind.reached.guest p behind.process =
         one_at_step m config (kept ++ Given a ∷ []) (length kept) b behind.before p behind.process
-        valid there behind.reached in
+        valid (omega (
+          arith,
+          within,
+          long,
+          length-take b (kept ++ Given a ∷ []),
+          length-take (length kept) (kept ++ Given a ∷ []),
+        )) there behind.reached (up_to_rest kept (Given a ∷ []) behind.before tt)
+        (up_to_before (drop b (kept ++ Given a ∷ [])) k (suc behind.before) (omega (arith, next))
+        behind.up_to) in
         wants_no_sync reached.guest p kind wants (syncs_move reached.guest behind.reached.guest p
         behind.process one behind.syncs)
 
 -- ---- events
 
--- a line stays behind as many answers where more are kept
+-- a line stays behind as many answers where more are kept that widen nothing before
 pub line_of_more : (m : Module) (config : Settings) (kept more_kept : List Kept) (i a : ℕ)
-    → AnswersBehindLine m config kept i a → AnswersBehindLine m config (kept ++ more_kept) i a
-line_of_more m config kept more_kept i a behind = record {
+    → (behind : AnswersBehindLine m config kept i a) → IsNarrowTo more_kept behind.steps
+    → AnswersBehindLine m config (kept ++ more_kept) i a
+line_of_more m config kept more_kept i a behind up = record {
   within = longer a (length kept) (length (kept ++ more_kept)) (length more_kept) behind.within
       (length-append kept more_kept);
   steps = behind.steps;
   process = behind.process;
   reached = subst (λ l. Reaches m config l behind.steps behind.process)
       (sym (take-append-le a kept more_kept behind.within)) behind.reached;
+  up_to = up_to_behind a behind.steps kept more_kept behind.within behind.up_to up;
   emitted = behind.emitted;
 }
   where
@@ -336,6 +434,7 @@ module _ {D : Type 0} (medium : D → Medium) where
           recorded = held.recorded;
           holds = record {
             within = holds.within;
+            up_to = holds.up_to;
             answers = holds.answers;
             steps_held = holds.steps_held;
             lines = λ i below. ⊎_elim
@@ -348,6 +447,7 @@ module _ {D : Type 0} (medium : D → Medium) where
                     process = p;
                     reached = subst (λ l. Reaches m config l n p)
                         (sym (take_all (length promise.kept) promise.kept (omega arith))) reached;
+                    up_to = up_to_end promise.kept n;
                     emitted = not_above i r.number promise.begun (length p.host.lines) below late
                         told;
                   },
@@ -360,6 +460,7 @@ module _ {D : Type 0} (medium : D → Medium) where
           passed = held.passed;
         };
         answers = is.answers;
+        up_to = is.up_to;
       }
     where
       at_most : (a b : ℕ) → a ≡ b → a ≤ b
@@ -391,11 +492,17 @@ module _ {D : Type 0} (medium : D → Medium) where
           recorded = held.recorded;
           holds = record {
             within = omega (arith, bound, longer);
+            up_to = up_to_behind (count_at point records) last.steps promise.kept more_kept bound
+                holds.up_to (said_widens_none said fits last.steps);
             answers = holds.answers;
             steps_held = holds.steps_held;
             lines = λ i below.
-                let line = holds.lines i below in
-                (line.0, line.1, line_of_more m config promise.kept more_kept i line.0 line.2);
+                let line = holds.lines i below in (
+                  line.0,
+                  line.1,
+                  line_of_more m config promise.kept more_kept i line.0 line.2
+                      (said_widens_none said fits line.2.steps),
+                );
             syncs = λ k a below behind. syncs k a (at_most k steps promise.synced below later)
                 behind;
           };
@@ -404,13 +511,23 @@ module _ {D : Type 0} (medium : D → Medium) where
         };
         answers = front_of_more (count_at point (records ++ pending)) promise.kept more_kept
             (answers_at point (records ++ pending)) is.answers all;
+        up_to = up_to_behind (count_at point (records ++ pending)) now.steps promise.kept more_kept
+            all is.up_to (said_widens_none said fits now.steps);
       }
     where
       at_most : (k steps synced : ℕ) → k ≤ max steps synced → synced ≤ steps → k ≤ steps
       at_most k steps synced below later = omega (arith, below, later)
 
-  pub ended_carries : EndedCarries medium
-  ended_carries m config promise point journal records pending last now act reply n shown disk is
+  -- where none is kept besides
+  ended_as_kept : (m : Module) (config : Settings) (promise : Promise) (point : Savepoint m config)
+      (journal : JournalState) (records pending : List Record) (last now : ProcessState)
+      (act : Act) (reply : Reply) (n : ℕ) (shown : Saved) (disk : D)
+      → IsCarried promise point journal records pending last now (medium disk)
+      → ((count : ℕ) → saved_by act reply count ≡ 0)
+      → SyncsAreHeld m config promise.kept (count_at point records) (synced_by reply shown.steps)
+      → IsCarried (record (after promise (Ended act reply n shown)) { kept = promise.kept }) point
+      journal records pending last now (medium disk)
+  ended_as_kept m config promise point journal records pending last now act reply n shown disk is
       saves_none syncs =
       let held = is.held in
       let holds = held.holds in
@@ -425,6 +542,7 @@ module _ {D : Type 0} (medium : D → Medium) where
           recorded = held.recorded;
           holds = record {
             within = holds.within;
+            up_to = holds.up_to;
             answers = none_saved (saved_by act reply n) promise.answers (count_at point records)
                 (saves_none n) answers;
             steps_held = none_saved (saved_by act reply shown.steps) promise.steps last.steps
@@ -442,6 +560,7 @@ module _ {D : Type 0} (medium : D → Medium) where
               (saves_none shown.lines) passed;
         };
         answers = is.answers;
+        up_to = is.up_to;
       }
     where
       none_saved : (saved before bound : ℕ) → saved ≡ 0 → before ≤ bound
@@ -450,6 +569,15 @@ module _ {D : Type 0} (medium : D → Medium) where
 
       not_above : (k by synced : ℕ) → k ≤ max by synced → synced < k → k ≤ by
       not_above k by synced below late = omega (arith, below, late)
+
+  pub ended_carries : EndedCarries medium
+  ended_carries m config promise point journal records pending last now act reply n shown disk is
+      same saves_none syncs =
+      subst
+      (λ (l : List Kept). IsCarried (record (after promise (Ended act reply n shown)) { kept = l })
+      point journal records pending last now (medium disk)) (sym same)
+      (ended_as_kept m config promise point journal records pending last now act reply n shown disk
+      is saves_none syncs)
 
   -- ---- records
 
@@ -463,6 +591,8 @@ module _ {D : Type 0} (medium : D → Medium) where
         journaled = goes;
         held = is.held;
         answers = take_all (count_at point all) promise.kept (at_most _ _ long) ∙ on_record;
+        up_to = subst (λ n. IsNarrowTo (drop n promise.kept) next.steps) long
+            (up_to_end promise.kept next.steps);
       }
     where
       at_most : (a b : ℕ) → a ≡ b → a ≤ b

@@ -12,7 +12,7 @@ use Rattle.disk_layout.specs.rules.Sectors.{IsNewest, bytes_from, head_of}
 use Rattle.disk_layout.specs.rules.Journal.{Record}
 use Rattle.disk_layout.specs.declared.geometry.Geometry.{Geometry}
 use Rattle.disk_layout.specs.declared.head.Head.{Head}
-use Rattle.disk_layout.specs.declared.head.TheConstants.{IMAGE_VERSION}
+use Rattle.wasi_abi.specs.rules.Versions.{version_number}
 use Rattle.disk_layout.proofs.ReadingLemmas.HeldLemmas.{one_answer}
 use Rattle.disk_layout.proofs.ReadingLemmas.WrittenLemmas.{reads_what_is_written}
 use Rattle.snapshot.specs.rules.Heads.{FindsHead}
@@ -37,7 +37,7 @@ reads_the_module m config point records last disk sectors answer at room of_disk
 -- the head of the savepoint
 abbrev head_in : {m : Module} {config : Settings} → Savepoint m config → Head
 head_in point = record {
-  version = IMAGE_VERSION;
+  version = version_number point.saved.version;
   length_in_bytes = length (image point.saved);
   digest = sha256 (image point.saved);
   generation = point.generation;
@@ -52,7 +52,7 @@ one_head disk a b h k one two =
 pub finds_the_point : FindsThePoint
 finds_the_point m config point records last disk None at none =
     let holds = at.holds in
-    absurd (shows_one.some (places point) disk point.generation IMAGE_VERSION
+    absurd (shows_one.some (places point) disk point.generation (version_number point.saved.version)
     (image point.saved) holds none)
 finds_the_point m config point records last disk (Some head) at newest =
     let holds = at.holds in
@@ -99,13 +99,15 @@ reads_undamaged m config point records last disk head at newest damaged =
 pub finds_newest_point : FindsNewestPoint
 finds_newest_point m config point records last disk at = record {
   found = λ s held.
-      shows_one.same (places point) disk s.generation point.generation s.version IMAGE_VERSION
-      s.image.items (image point.saved) held at.holds;
+      shows_one.same (places point) disk s.generation point.generation s.version
+      (version_number point.saved.version) s.image.items (image point.saved) held at.holds;
   some = λ none.
-      shows_one.some (places point) disk point.generation IMAGE_VERSION (image point.saved)
+      shows_one.some (places point) disk point.generation (version_number point.saved.version)
+      (image point.saved)
       at.holds none;
   whole = λ damaged.
-      shows_one.whole (places point) disk point.generation IMAGE_VERSION (image point.saved)
+      shows_one.whole (places point) disk point.generation (version_number point.saved.version)
+      (image point.saved)
       at.holds damaged;
 }
 

@@ -1,5 +1,5 @@
 -- A worker that is recovered, and opens.
-use Rattle.std.proofs.Common.{◌≡◌, ◌⊎◌, ℕ, ◌+◌, ◌<◌, ◌≤◌, max, List, [], length, take, refl}
+use Rattle.std.proofs.Common.{◌≡◌, ◌⊎◌, ℕ, ◌+◌, ◌<◌, ◌≤◌, max, List, [], length, take, drop, refl}
 use Rattle.std.proofs.Common.{sym}
 use Rattle.std.proofs.Common.{ap, ◌∙◌, subst, inr, ⊎_elim, arith}
 use Rattle.std.specs.Prelude.{map}
@@ -18,6 +18,8 @@ use Rattle.sector_disk.proofs.Moments.{leaves_weaker}
 use Rattle.disk_layout.specs.rules.Journal.{Record}
 use Rattle.record_replay.specs.rules.Records.{Recorded, given_in}
 use Rattle.record_replay.proofs.Recordings.{recorded_runs}
+use Rattle.process_rules.specs.Behind.{IsNarrowTo}
+use Rattle.restart_theorem.proofs.Fronts.{reached_counts, up_to_front}
 use Rattle.restart_theorem.specs.Lives.{Opened}
 use Rattle.restart_theorem.specs.Promises.{Promise, after, HoldsAll}
 use Rattle.restart_theorem.specs.Holds.{HoldsPromise, ImageHolds}
@@ -73,6 +75,7 @@ retold_is_held m config promise promise' point records last held adds =
           HoldsAll m config l promise' (count_at point records) last.steps) (sym adds.kept)
           (record {
             within = all.within;
+            up_to = all.up_to;
             answers = omega (arith, answers, few_answers);
             steps_held = omega (arith, counted, few_steps);
             lines = λ i below. ⊎_elim
@@ -106,6 +109,9 @@ retold_is_held m config promise promise' point records last held adds =
             steps = reached.0;
             process = last;
             reached = reached.1;
+            up_to = subst (λ n. IsNarrowTo (drop (count_at point records) promise.kept) n)
+                (reached_counts m config (take (count_at point records) promise.kept) reached.0 last
+                reached.1) held.holds.up_to;
             emitted = few;
           },
         )
@@ -120,6 +126,7 @@ held_of_front m config promise kept n held steps within same holds =
     let long : length (take n kept) ≡ n = length-take-le n kept within in
     record {
       within = omega (arith, same, long);
+      up_to = up_to_front held n steps kept holds.up_to;
       answers = holds.answers;
       steps_held = holds.steps_held;
       lines = λ i below.
@@ -145,6 +152,7 @@ held_of_front m config promise kept n held steps within same holds =
       process = behind.process;
       reached = subst (λ l. Reaches m config l behind.steps behind.process)
           (sym (take-take a n kept few)) behind.reached;
+      up_to = up_to_front a n behind.steps kept behind.up_to;
       emitted = behind.emitted;
     }
 

@@ -11,6 +11,7 @@ use Rattle.wasi_calls_rules.specs.Hosts.{Line}
 use Rattle.wasm_semantics.specs.Configuration.{Thread}
 use Rattle.wasi_calls_rules.specs.Lines.{rest_of}
 use Rattle.process_rules.specs.Processes.{ProcessState, Guest, IsStart, closed_at}
+use Rattle.process_rules.specs.Behind.{IsNarrowTo}
 use Rattle.process_rules.specs.Runs.{Runs, none}
 use Rattle.process_rules.proofs.Growing.{start_counts}
 use Rattle.record_replay.specs.rules.Calls.{Tells, all_taken}
@@ -54,6 +55,7 @@ module _ (m : Module) (config : Settings) (guest : Guest) where
       steps = p.steps;
       process = p;
       reached = record { guest = guest; start = at.start; begins = at.begins; runs = at.runs };
+      up_to = at.up_to;
       place = place;
       counted = same;
       is = is;
@@ -80,6 +82,7 @@ module _ (m : Module) (config : Settings) (guest : Guest) where
         start = at.start;
         begins = at.begins;
         runs = at.runs;
+        up_to = at.up_to;
         shut = at.shut;
         last = same;
         emitted = omega (arith, inside);
@@ -212,6 +215,7 @@ module _ (m : Module) (config : Settings) (guest : Guest) where
   fresh_holds_nothing promise start nothing begins =
       subst (λ z. HoldsAll m config z.kept z 0 start.steps) (sym nothing) (record {
         within = omega arith;
+        up_to = tt;
         answers = omega arith;
         steps_held = omega arith;
         lines = λ i few. (
@@ -229,6 +233,7 @@ module _ (m : Module) (config : Settings) (guest : Guest) where
                   subst (λ n. Runs guest start [] n start)
                   (sym (start_counts m config guest start begins)) none;
             };
+            up_to = tt;
             emitted = omega (arith, few);
           },
         );
@@ -245,6 +250,7 @@ module _ (m : Module) (config : Settings) (guest : Guest) where
         runs =
             subst (λ n. Runs guest start [] n start)
             (sym (start_counts m config guest start begins)) none;
+        up_to = subst (λ (z : Promise). IsNarrowTo z.kept start.steps) (sym nothing) tt;
         shut = refl;
         last = tt;
         emitted = omega arith;

@@ -3,7 +3,7 @@ use Rattle.std.proofs.Common.{◌≡◌, ◌≢◌, ℕ, ◌+◌, ◌-◌, ◌*�
 use Rattle.std.proofs.Common.{sym, ap, ◌∙◌, subst, inl, inr, ⊎_elim, arith}
 use Rattle.sha2.specs.Sha256.{sha256}
 use Rattle.wasm_syntax.specs.declared.module.Module.{Module}
-use Rattle.wasi_abi.specs.declared.version.Version.TheVariants.{One}
+use Rattle.wasi_abi.specs.declared.version.Version.{Version}
 use Rattle.wasi_abi.specs.rules.Configs.{Settings}
 use Rattle.process_rules.specs.Processes.{ProcessState}
 use Rattle.state_image.specs.rules.Image.{image}
@@ -12,7 +12,7 @@ use Rattle.disk_layout.specs.rules.Places.{Geometry, geometry_of, head_place}
 use Rattle.disk_layout.specs.rules.Places.{journal_place}
 use Rattle.disk_layout.specs.rules.Sectors.{Head, HasWorker, IsNewest, shown_generation}
 use Rattle.disk_layout.specs.rules.Journal.{Record}
-use Rattle.disk_layout.specs.declared.head.TheConstants.{IMAGE_VERSION}
+use Rattle.wasi_abi.specs.rules.Versions.{version_number}
 use Rattle.journal.specs.rules.Steps.{RecordsStand}
 use Rattle.journal.specs.laws.Laws.{ShowsEarlierThan}
 use Rattle.snapshot.specs.rules.Heads.{heads_to, IsReadyForHead}
@@ -76,7 +76,7 @@ point_is_ready m config point records last disk at =
     let shows = at.none_later in
     let within = heads_within disk point.generation shows.first_head shows.second_head in
     let head : Head = record {
-      version = IMAGE_VERSION;
+      version = version_number point.saved.version;
       length_in_bytes = length (image point.saved);
       digest = sha256 (image point.saved);
       generation = point.generation;
@@ -103,9 +103,10 @@ kept_point m config point records last old new at super contents journal keeps =
     subst (λ n. n ≤ point.generation) (sym keeps.heads) was in
     record {
       worker = worker_stays config point.wasm old new super contents at.worker;
-      holds = keeps.image point.generation IMAGE_VERSION (image point.saved) at.holds;
-      scanned = scan_stays (places point) old new point.generation One (λ k below. journal k)
-          ∙ at.scanned;
+      holds = keeps.image point.generation (version_number point.saved.version)
+          (image point.saved) at.holds;
+      scanned = scan_stays (places point) old new point.generation point.saved.version
+          (λ k below. journal k) ∙ at.scanned;
       recorded = at.recorded;
       numbers = at.numbers;
       none_later = record {
@@ -128,9 +129,9 @@ filling_keeps_point m config point records last old new at fills =
 
 -- ---- where the new one is there
 
-pub no_records : (geometry : Geometry) (g : ℕ) (disk : Image) → ShowsEarlierThan geometry g disk
-    → RecordsStand geometry One g 0 [] disk
-no_records geometry g disk earlier = record {
+pub no_records : (v : Version) (geometry : Geometry) (g : ℕ) (disk : Image)
+    → ShowsEarlierThan geometry g disk → RecordsStand geometry v g 0 [] disk
+no_records v geometry g disk earlier = record {
   within = omega arith;
   written = λ k below. absurd (omega (arith, below));
   holds = refl;
@@ -144,8 +145,8 @@ new_point_begins m config point disk numbers worker new earlier =
       at = record {
         worker = worker;
         holds = new.holds;
-        scanned = scanned_all (places point) point.generation 0 [] disk
-            (no_records (places point) point.generation disk earlier) tt;
+        scanned = scanned_all point.saved.version (places point) point.generation 0 [] disk
+            (no_records point.saved.version (places point) point.generation disk earlier) tt;
         recorded = none;
         numbers = numbers;
         none_later = none_later_of (places point) disk point.generation
@@ -165,16 +166,16 @@ new_point_begins m config point disk numbers worker new earlier =
 -- with the bytes of another savepoint
 begins_with : (m : Module) (config : Settings) (next : Savepoint m config) (wasm : List ℕ)
     (disk : Image) → IsNumbered next.process → next.wasm ≡ wasm → HasWorker config wasm disk
-    → HasNew (geometry_of config (length wasm)) next.generation IMAGE_VERSION (image next.saved)
-    disk
+    → HasNew (geometry_of config (length wasm)) next.generation
+    (version_number next.saved.version) (image next.saved) disk
     → ShowsEarlierThan (geometry_of config (length wasm)) next.generation disk
     → BeginsAtPoint next disk
 begins_with m config next wasm disk numbers e worker new earlier =
     let place : List ℕ → Geometry = λ w. geometry_of config (length w) in
     new_point_begins m config next disk numbers
     (subst (λ w. HasWorker config w disk) (sym e) worker)
-    (subst (λ w. HasNew (place w) next.generation IMAGE_VERSION (image next.saved) disk) (sym e)
-    new)
+    (subst (λ w. HasNew (place w) next.generation (version_number next.saved.version)
+    (image next.saved) disk) (sym e) new)
     (subst (λ w. ShowsEarlierThan (place w) next.generation disk) (sym e) earlier)
 
 module _ (m : Module) (config : Settings) (point next : Savepoint m config)
@@ -215,7 +216,8 @@ module _ (m : Module) (config : Settings) (point next : Savepoint m config)
       below_next : (n g h : ℕ) → n ≤ g → h ≡ g + 1 → n < h
       below_next n g h le e = omega (arith, le, e)
 
-  new_begins : HasNew (places point) next.generation IMAGE_VERSION (image next.saved) new
+  new_begins : HasNew (places point) next.generation (version_number next.saved.version)
+      (image next.saved) new
       → BeginsAtPoint next new
   new_begins has =
       begins_with m config next point.wasm new is_next.numbers is_next.wasm

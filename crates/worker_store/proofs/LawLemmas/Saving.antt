@@ -95,6 +95,7 @@ held_on m config promise more n shown disk holds =
       stands = holds.stands;
       holds = record {
         within = all.within;
+        up_to = all.up_to;
         answers = all.answers;
         steps_held = all.steps_held;
         lines = all.lines;
@@ -135,7 +136,8 @@ module _ {D : Type 0} (medium : D → Medium) where
         → HoldsPromise m config promise promise disk
     saved_holds disk at = ⊎_elim
         (λ (front : StandsAtFront point records last pending disk).
-        front_is_held m config promise point records pending last is.held is.answers disk front)
+        front_is_held m config promise point records pending last is.held is.answers now
+        is.journaled.recorded is.up_to disk front)
         (λ (begins : BeginsAtPoint next disk).
         held_at_stands m config promise next [] next.process disk next_held begins.at) at
 
@@ -205,10 +207,11 @@ module _ {D : Type 0} (medium : D → Medium) where
           synced = le-max_right _ promise.synced;
         })
         (ended_carries medium m config (keeping_more promise more) point journal records pending
-        last now Checkpoint (Fails cause) held shown old is.carried (λ count. refl) syncs)
+        last now Checkpoint (Fails cause) held shown old is.carried refl (λ count. refl) syncs)
         (record {
           front = front.front;
           kept = front.kept;
+          up_to = front.up_to;
           steps = front.steps;
           runs = front.runs;
           heard = front.heard;

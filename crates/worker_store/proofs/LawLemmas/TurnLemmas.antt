@@ -1,6 +1,7 @@
 -- Parts of a call, one after another: what they make of what was promised, and of the disk.
 use Rattle.std.proofs.Common.{◌≡◌, ℕ, ◌+◌, ◌<◌, ◌≤◌, Bool, true, false, List, ◌++◌}
-use Rattle.std.proofs.Common.{length, take, refl, sym, ap, ◌∙◌, subst, inl, inr, ⊎_elim, arith}
+use Rattle.std.proofs.Common.{length, take, drop, ◌⊎◌, refl, sym, ap, ◌∙◌, subst, inl, inr, ⊎_elim}
+use Rattle.std.proofs.Common.{arith}
 use Rattle.std.proofs.Common.{length-append}
 use Rattle.std.specs.Prelude.{max}
 use Rattle.std.proofs.lemmas.Bool.{cases_lt}
@@ -11,7 +12,7 @@ use Rattle.wasi_abi.specs.declared.answer.Kind.{Kind}
 use Rattle.wasi_abi.specs.rules.Configs.{Settings}
 use Rattle.process_rules.specs.Processes.{ProcessState}
 use Rattle.process_rules.specs.Runs.{Kept, Reaches}
-use Rattle.process_rules.specs.Behind.{AnswersBehindSync}
+use Rattle.process_rules.specs.Behind.{IsNarrowTo, AnswersBehindLine, AnswersBehindSync}
 use Rattle.sector_disk.specs.rules.Image.{Image}
 use Rattle.sector_disk.specs.rules.Medium.{Medium, LeavesOnly}
 use Rattle.sector_disk.proofs.Moments.{started, leaves_only}
@@ -22,6 +23,8 @@ use Rattle.restart_theorem.specs.Lives.{kept_of_said}
 use Rattle.restart_theorem.specs.Courses.{Stage, next_stage, stage_after}
 use Rattle.restart_theorem.specs.Promises.{Promise, after, promised, HoldsAll}
 use Rattle.restart_theorem.specs.Holds.{HoldsPromise, IsUnopened, ImageHolds}
+use Rattle.record_replay.proofs.Recordings.{recorded_count}
+use Rattle.restart_theorem.proofs.Fronts.{reached_counts, up_to_behind, said_widens_none}
 use Rattle.restart_theorem.specs.Exchanges.{was_taken, release_of, AreEvents, none, told, asked}
 use Rattle.worker_store.specs.laws.Carried.{PromisesNoMore, answers_at, count_at}
 use Rattle.worker_store.specs.laws.Raised.{SyncsAreHeld, MoreCarries}
@@ -29,7 +32,8 @@ use Rattle.worker_store.specs.laws.Turns.{ToldStillHolds, AskedStillHolds}
 use Rattle.worker_store.specs.laws.Turns.{EndedStillHolds, LeavesBegun, PartsLeaveBegun, GoesOnFrom}
 use Rattle.worker_store.specs.laws.Turns.{TurnsJoin, TurnsCarry, RestsGoOn, LinesCarry}
 use Rattle.worker_store.proofs.LawLemmas.Carrying.{less_is_held, answers_count, within_of}
-use Rattle.worker_store.proofs.LawLemmas.Raising.{later_step, behind_front, line_of_more}
+use Rattle.worker_store.proofs.LawLemmas.Raising.{no_earlier, behind_front, line_of_more}
+use Rattle.worker_store.proofs.LawLemmas.Raising.{up_to_rest, up_to_before, up_to_end}
 use Rattle.worker_store.proofs.LawLemmas.Raising.{front_of_more}
 
 -- ---- what an image holds
@@ -90,8 +94,12 @@ told_still_holds m config promise promise' line adds first image no_more held =
     held
 
 pub ended_still_holds : EndedStillHolds
-ended_still_holds m config promise act reply n shown first image no_more held =
-    still m config first promise (after promise (Ended act reply n shown)) image
+ended_still_holds m config promise act reply n shown same first image no_more held =
+    let then : Promise = record (after promise (Ended act reply n shown)) { kept = promise.kept } in
+    subst
+    (λ (l : List Kept). ImageHolds m config first
+    (record (after promise (Ended act reply n shown)) { kept = l }) image) (sym same)
+    (still m config first promise then image
     (λ holds. record {
       created = holds.created;
       held = holds.held;
@@ -100,11 +108,11 @@ ended_still_holds m config promise act reply n shown first image no_more held =
       holds = holds.holds;
       snapshot_heard = holds.snapshot_heard;
       snapshot_passed = holds.snapshot_passed;
-    }) held
+    }) held)
 
 -- No sync up to a step needs an answer that comes behind it.
 module _ (m : Module) (config : Settings) (kept more_kept : List Kept) (n : ℕ) (p : ProcessState)
-    (valid : IsValid m) (reached : Reaches m config kept n p) where
+    (valid : IsValid m) (reached : Reaches m config kept n p) (up : IsNarrowTo more_kept n) where
   here_reached : Reaches m config (take (length kept) (kept ++ more_kept)) n p
   here_reached =
       subst (λ l. Reaches m config l n p)
@@ -120,10 +128,13 @@ module _ (m : Module) (config : Settings) (kept more_kept : List Kept) (n : ℕ)
       length-take-le (length kept) (kept ++ more_kept) (omega (arith, long)) in
       let two : length (take b (kept ++ more_kept)) ≡ b =
       length-take-le b (kept ++ more_kept) some in
-      let later : n < behind.before =
-      later_step m config (kept ++ more_kept) (length kept) b n behind.before p
-      behind.process valid (omega (arith, one, two, all)) here_reached behind.reached in
       let next : k ≡ behind.before + 1 = behind.next in
+      let later : n ≤ behind.before =
+      no_earlier m config (kept ++ more_kept) (length kept) b n behind.before p
+      behind.process valid (omega (arith, one, two, all)) here_reached behind.reached
+      (up_to_rest kept more_kept n up)
+      (up_to_before (drop b (kept ++ more_kept)) k behind.before (omega (arith, next))
+      behind.up_to) in
       omega (arith, later, next, below)
 
   -- so those behind earlier ones stay held
@@ -135,19 +146,70 @@ module _ (m : Module) (config : Settings) (kept more_kept : List Kept) (n : ℕ)
       syncs k b below (behind_front m config kept more_kept k b few behind))
       (cases_lt (length kept) b)
 
-  all_of_more : (first : Promise) (held steps : ℕ) → first.synced ≤ n
+  -- a front that has come further has all that is kept
+  no_less : (a steps : ℕ) (q : ProcessState) → a ≤ length kept → n < steps
+      → Reaches m config (take a kept) steps q → IsNarrowTo (drop a kept) steps → a ≡ length kept
+  no_less a steps q within late there up_there = ⊎_elim
+      (λ (less : a < length kept).
+      let one = length-take-le a kept within in
+      let two = length-take-le (length kept) kept (omega arith) in
+      let earlier : steps ≤ n =
+      no_earlier m config kept a (length kept) steps n q p valid (omega (arith, less, one, two))
+      there
+      (subst (λ l. Reaches m config l n p) (sym (take_all (length kept) kept (omega arith)))
+      reached) up_there (up_to_end kept n) in
+      absurd (omega (arith, earlier, late)))
+      (λ (all : length kept ≤ a). omega (arith, all, within))
+      (cases_lt a (length kept))
+
+  -- Each line that was begun stays behind answers that are held.
+  line_stays : (i held begun : ℕ) → i ≤ begun
+      → ((step : ℕ) → IsNarrowTo more_kept step) ⊎ (begun ≤ length p.host.lines)
+      → (a : ℕ) × (a ≤ held) × AnswersBehindLine m config kept i a
+      → (a : ℕ) × (a ≤ held) × AnswersBehindLine m config (kept ++ more_kept) i a
+  line_stays i held begun below (inl none_widens) line = (
+    line.0,
+    line.1,
+    line_of_more m config kept more_kept i line.0 line.2 (none_widens line.2.steps),
+  )
+  line_stays i held begun below (inr emitted) line = ⊎_elim
+      (λ (late : n < line.2.steps).
+      let whole : line.0 ≡ length kept =
+      no_less line.0 line.2.steps line.2.process line.2.within late line.2.reached line.2.up_to in
+      let long = length-append kept more_kept in
+      let few : line.0 ≤ held = line.1 in (
+        length kept,
+        omega (arith, whole, few),
+        record {
+          within = omega (arith, long);
+          steps = n;
+          process = p;
+          reached = here_reached;
+          up_to = up_to_rest kept more_kept n up;
+          emitted = omega (arith, below, emitted);
+        },
+      ))
+      (λ (early : line.2.steps ≤ n). (
+        line.0,
+        line.1,
+        line_of_more m config kept more_kept i line.0 line.2
+            (up_to_before more_kept n line.2.steps early up),
+      ))
+      (cases_lt n line.2.steps)
+
+  all_of_more : (first : Promise) (held steps : ℕ) → first.synced ≤ n → IsNarrowTo more_kept steps
+      → ((step : ℕ) → IsNarrowTo more_kept step) ⊎ (first.begun ≤ length p.host.lines)
       → HoldsAll m config kept first held steps
       → HoldsAll m config (kept ++ more_kept) first held steps
-  all_of_more first held steps early holds =
+  all_of_more first held steps early up_there may holds =
       let within : held ≤ length kept = holds.within in
       let long = length-append kept more_kept in
       record {
         within = omega (arith, within, long);
+        up_to = up_to_behind held steps kept more_kept within holds.up_to up_there;
         answers = holds.answers;
         steps_held = holds.steps_held;
-        lines = λ i below.
-            let line = holds.lines i below in
-            (line.0, line.1, line_of_more m config kept more_kept i line.0 line.2);
+        lines = λ i below. line_stays i held first.begun below may (holds.lines i below);
         syncs = λ k b below behind. ⊎_elim
             (λ (all : length kept < b).
             absurd (not_behind k b (up_to k first.synced below early) all behind))
@@ -162,11 +224,16 @@ module _ (m : Module) (config : Settings) (kept more_kept : List Kept) (n : ℕ)
 module _ {D : Type 0} (medium : D → Medium) where
   pub more_carries : MoreCarries medium
   more_carries m config promise point journal records pending last now p n more disk is valid
-      reached early =
+      reached early later may =
       let held = is.held in
       let holds = held.holds in
-      let all = all_of_more m config promise.kept more n p valid reached promise
-      (count_at point records) last.steps early holds in
+      let counted : p.steps ≡ n = reached_counts m config promise.kept n p reached in
+      let up : IsNarrowTo more n = subst (λ k. IsNarrowTo more k) counted may.up_to in
+      let so_far : last.steps ≤ now.steps =
+      recorded_count point.reached.guest last now pending is.journaled.recorded in
+      let all = all_of_more m config promise.kept more n p valid reached up promise
+      (count_at point records) last.steps early
+      (up_to_before more n last.steps (omega (arith, so_far, later)) up) may.emitted holds in
       let long : count_at point (records ++ pending) ≤ length promise.kept =
       within_of (count_at point (records ++ pending)) promise.kept
       (answers_at point (records ++ pending)) is.answers
@@ -180,6 +247,7 @@ module _ {D : Type 0} (medium : D → Medium) where
           recorded = held.recorded;
           holds = record {
             within = all.within;
+            up_to = all.up_to;
             answers = all.answers;
             steps_held = all.steps_held;
             lines = all.lines;
@@ -190,6 +258,8 @@ module _ {D : Type 0} (medium : D → Medium) where
         };
         answers = front_of_more (count_at point (records ++ pending)) promise.kept more
             (answers_at point (records ++ pending)) is.answers long;
+        up_to = up_to_behind (count_at point (records ++ pending)) now.steps promise.kept more long
+            is.up_to (up_to_before more n now.steps later up);
       }
 
 pub asked_still_holds : AskedStillHolds
@@ -201,8 +271,10 @@ asked_still_holds m config promise p kind said fits valid reached synced first i
     holds_still m config first promise (after promise (Asked p.steps kind said fits)) image holds
     refl (omega arith)
     (sym (take-append-le holds.held promise.kept (kept_of_said said fits) all.within))
-    (all_of_more m config promise.kept (kept_of_said said fits) p.steps p valid reached first
-    holds.held holds.steps (omega (arith, before, synced)) all)) held
+    (all_of_more m config promise.kept (kept_of_said said fits) p.steps p valid reached
+    (said_widens_none said fits p.steps) first holds.held holds.steps
+    (omega (arith, before, synced)) (said_widens_none said fits holds.steps)
+    (inl (said_widens_none said fits)) all)) held
 
 -- ---- what parts leave alone
 
@@ -421,6 +493,7 @@ module _ {D : Type 0} (medium : D → Medium) where
       let here : HoldsAll m config promise.kept promise' (count_at point records) last.steps =
       record {
         within = holds.within;
+        up_to = holds.up_to;
         answers = no_later _ _ _ adds.answers holds.answers;
         steps_held = no_later _ _ _ adds.steps holds.steps_held;
         lines = λ i below. ⊎_elim
@@ -433,6 +506,7 @@ module _ {D : Type 0} (medium : D → Medium) where
                 process = p;
                 reached = subst (λ l. Reaches m config l n p)
                     (sym (take_all (length promise.kept) promise.kept (omega arith))) reached;
+                up_to = up_to_end promise.kept n;
                 emitted = not_above i promise'.begun promise.begun (length p.host.lines) below
                     late adds.begun;
               },
@@ -454,6 +528,9 @@ module _ {D : Type 0} (medium : D → Medium) where
           passed = no_later _ _ _ adds.passed held.passed;
         };
         answers = ap (λ l. take (count_at point (records ++ pending)) l) adds.kept ∙ is.answers;
+        up_to = subst (λ (l : List Kept).
+            IsNarrowTo (drop (count_at point (records ++ pending)) l) now.steps) (sym adds.kept)
+            is.up_to;
       }
     where
       at_most : (a b : ℕ) → a ≡ b → a ≤ b

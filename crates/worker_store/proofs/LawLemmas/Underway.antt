@@ -26,6 +26,7 @@ use Rattle.worker_store.specs.laws.Underway.{StepsGoOn, LinesAreTold, TakenLines
 use Rattle.worker_store.specs.laws.Underway.{RefusedLinesBreak, QuestionsAreAsked, AnswersGoOn}
 use Rattle.worker_store.specs.laws.Underway.{AnswersAreKept, OtherAnswersBreak}
 use Rattle.worker_store.specs.laws.Underway.{promise_asked, stage_asked}
+use Rattle.worker_store.proofs.LawLemmas.Raising.{up_to_end}
 
 -- a last line of this number is among as many lines
 pub among_first : (line : Option ℕ) (last lines : ℕ) → line ≡ Some last → last ≤ lines
@@ -106,6 +107,7 @@ module _ (m : Module) (config : Settings) (guest : Guest) where
             begins = at.begins;
             runs = at.runs;
           };
+          up_to = up_to_end promise.kept p.steps;
           place = told;
           counted = refl;
           is = is;

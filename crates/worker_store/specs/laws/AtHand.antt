@@ -1,14 +1,15 @@
 -- The process at hand, as it is saved, and the savepoint that a commit makes of it.
-use Rattle.std.specs.Prelude.{◌≡◌, ℕ, ◌≤◌, List, [], ◌++◌, length, take}
+use Rattle.std.specs.Prelude.{◌≡◌, ℕ, ◌≤◌, List, [], ◌++◌, length, take, drop}
 use Rattle.wasm_syntax.specs.declared.module.Module.{Module}
 use Rattle.wasm_semantics.specs.Acceptance.{IsAccepted}
 use Rattle.wasi_abi.specs.rules.Configs.{Settings, AreSettingsWithinLimits}
 use Rattle.machine.specs.rules.Offers.{offer}
 use Rattle.process_rules.specs.Processes.{ProcessState, Guest, IsStart}
+use Rattle.process_rules.specs.Behind.{IsNarrowTo}
 use Rattle.process_rules.specs.Runs.{Kept, Runs}
 use Rattle.process.specs.rules.Values.{ProcessValue, ShowsProcess, IsProcess}
 use Rattle.state_image.specs.rules.Saving.{saved_of}
-use Rattle.disk_layout.specs.rules.Journal.{Record}
+use Rattle.disk_layout.specs.rules.Journal.{Record, TakesRecords}
 use Rattle.record_replay.specs.rules.Records.{Recorded}
 use Rattle.restart_theorem.specs.Stands.{IsNumbered}
 use Rattle.restart_theorem.specs.Promises.{Promise}
@@ -42,16 +43,25 @@ pub record IsNextOf {m : Module} {config : Settings} (point : Savepoint m config
   pub process : next.process ≡ p
   pub same : next.reached.guest ≡ point.reached.guest
   pub saves : (promise : Promise) → take (length next.front) promise.kept ≡ next.front
+      → IsNarrowTo (drop (length next.front) promise.kept) p.steps
       → length p.host.lines ≤ promise.heard → SavesFront promise point next records more last
 
--- There is one, wherever the records of a savepoint have led.
+-- Where the records of a savepoint have led, and nothing else is kept, its version stays.
+abbrev pub VersionStays : Type 0
+VersionStays =
+    (m : Module) (config : Settings) (point : Savepoint m config) (records : List Record)
+    (last p : ProcessState) (n : ℕ) → Recorded point.reached.guest point.process records last
+    → Runs point.reached.guest last [] n p → p.host.version ≡ point.saved.version
+
+-- There is a next one wherever the records of a savepoint have led, if the journal takes the records
+-- of the version of the process at hand.
 abbrev pub NextIsAtHand : Type 0
 NextIsAtHand =
     (m : Module) (config : Settings) (point : Savepoint m config) (records : List Record)
     (more : List Kept) (last p : ProcessState) (n : ℕ) (v : ProcessValue)
     → Recorded point.reached.guest point.process records last
     → Runs point.reached.guest last more n p → ShowsProcess v point.reached.guest p → IsProcess v
-    → v.machine.guest ≡ m
+    → v.machine.guest ≡ m → TakesRecords (saved_of v).version config.journal
     → (next : Savepoint m config) × IsNextOf point records more last p v next
 
 -- ---- the first one

@@ -2,7 +2,6 @@
 use Rattle.std.specs.Prelude.{◌≡◌, ℕ, ◌+◌, ◌≤◌, List, [], ◌∷◌, ◌++◌, length, map, take, Some}
 use Rattle.wasm_syntax.specs.declared.module.Module.{Module}
 use Rattle.wasi_abi.specs.declared.answer.Answer.{Answer}
-use Rattle.wasi_abi.specs.declared.version.Version.TheVariants.{One}
 use Rattle.wasi_abi.specs.rules.Configs.{Settings}
 use Rattle.process_rules.specs.Processes.{ProcessState, Guest}
 use Rattle.process_rules.specs.Runs.{Kept, Runs, Moves}
@@ -42,7 +41,8 @@ BarrierLeavesFront =
     (m : Module) (config : Settings) (point : Savepoint m config) (records pending : List Record)
     (last q : ProcessState) (used : ℕ) (old new : Image)
     → StandsAtPoint point records last old → Recorded point.reached.guest last pending q
-    → IsNumbered q → AppendsFront (places point) One point.generation used records pending old new
+    → IsNumbered q
+    → AppendsFront (places point) point.saved.version point.generation used records pending old new
     → StandsAtFront point records last pending new
 
 -- Where all of them stand in the journal, it stands for all.
@@ -51,9 +51,10 @@ BarrierLeavesAll =
     (m : Module) (config : Settings) (point : Savepoint m config) (records pending : List Record)
     (last q : ProcessState) (used count : ℕ) (old new : Image)
     → StandsAtPoint point records last old → Recorded point.reached.guest last pending q
-    → IsNumbered q → AppendsFront (places point) One point.generation used records pending old new
-    → AllRecordsFit One records → AllRecordsFit One pending
-    → RecordsStand (places point) One point.generation count (records ++ pending) new
+    → IsNumbered q
+    → AppendsFront (places point) point.saved.version point.generation used records pending old new
+    → AllRecordsFit point.saved.version records → AllRecordsFit point.saved.version pending
+    → RecordsStand (places point) point.saved.version point.generation count (records ++ pending) new
     → StandsAtPoint point (records ++ pending) q new
 
 -- Of all answers, those in memory included, it stands for so many.
@@ -73,8 +74,8 @@ BarrierStands =
     (m : Module) (config : Settings) (kept : List Kept) (n : ℕ) (old new : Image)
     (stands : StandsFor old m config kept n) (pending : List Record) (q : ProcessState) (used : ℕ)
     → Recorded stands.reached.guest stands.last pending q → IsNumbered q
-    → (appends : AppendsFront (geometry_of config (length stands.wasm)) One stands.generation
-    used stands.records pending old new)
+    → (appends : AppendsFront (geometry_of config (length stands.wasm)) stands.saved.version
+    stands.generation used stands.records pending old new)
     → (r : ProcessState)
     × Recorded stands.reached.guest stands.last (take appends.count pending) r
     × StandsBySaved (point_of stands) (kept ++ map given_in (take appends.count pending)) r.steps

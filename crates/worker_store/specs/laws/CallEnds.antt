@@ -1,22 +1,24 @@
 -- How a worker's call ends, as an event of a life.
-use Rattle.std.specs.Prelude.{◌≡◌, ◌⊎◌, ℕ, ◌+◌, ◌≤◌, ◌<◌, List, ◌∷◌, ◌++◌, length}
+use Rattle.std.specs.Prelude.{◌≡◌, ◌≢◌, ◌⊎◌, ℕ, ◌+◌, ◌≤◌, ◌<◌, List, ◌∷◌, ◌++◌, length}
 use Rattle.std.specs.Prelude.{Option, Some, None}
 use Rattle.wasm_syntax.specs.declared.module.Module.{Module}
 use Rattle.wasm_syntax.specs.declared.types.FunctionType.{FunctionType}
 use Rattle.wasm_semantics.specs.Validity.{module_context, AreFunctionTypes}
 use Rattle.wasi_abi.specs.declared.numbers.TheConstants.{NUMBERS_END}
 use Rattle.wasi_abi.specs.declared.answer.Answer.{Answer}
+use Rattle.wasi_abi.specs.declared.version.Version.TheVariants.{Two}
 use Rattle.wasi_abi.specs.rules.Configs.{Settings}
 use Rattle.process_rules.specs.Processes.{Ending, ProcessState, Guest, IsStart}
 use Rattle.process_rules.specs.Runs.{Kept, Runs}
 use Rattle.process.specs.rules.Stops.{IsBeyond}
+use Rattle.disk_layout.specs.rules.Journal.{TakesRecords}
 use Rattle.state_image.specs.rules.Image.{Saved, SavedShowsProcess}
 use Rattle.restart_theorem.specs.Lives.{Act, Slice, Reply, Spent, Waits, Over, Done}
-use Rattle.restart_theorem.specs.Lives.{Fails, Cause, OfBounds, Ended}
+use Rattle.restart_theorem.specs.Lives.{Fails, Cause, OfBounds, Ended, kept_by_end}
 use Rattle.restart_theorem.specs.Courses.{Stage, Phase, Open, NoneThere, MayFail, next_stage}
 use Rattle.restart_theorem.specs.Courses.{phase_ended}
-use Rattle.restart_theorem.specs.Promises.{Promise, after, IsEnding}
-use Rattle.worker_store.specs.laws.Acts.{SavesWith}
+use Rattle.restart_theorem.specs.Promises.{Promise, after, MayPlead, IsEnding}
+use Rattle.worker_store.specs.laws.Acts.{SavesWith, ShowsItsVersion}
 use Rattle.worker_store.specs.laws.Underway.{IsUnderWay, IsBroken}
 
 -- A process comes to another one by these, without a step and without a line.
@@ -109,7 +111,9 @@ module _ (m : Module) (config : Settings) (guest : Guest) where
     pub step : stage.step ≡ p.steps
     pub line : stage.line ≡ Some (length p.host.lines)
 
-  -- An act that saves is next, and this is the process that it saves.
+  -- An act that saves is next, and this is the process that it saves. No sync of the guest has
+  -- returned beyond it. If what is kept besides widens it, the journal takes each record of version
+  -- 2.
   pub record IsSavingNext (promise : Promise) (stage : Stage) (act : Act) (more : List Kept)
       (p q : ProcessState) (shown : Saved) : Type 0 where
     pub between : IsBetween promise stage p
@@ -118,11 +122,14 @@ module _ (m : Module) (config : Settings) (guest : Guest) where
     pub saves : SavesWith promise act more shown
     pub acts : List Act
     pub is_next : stage.acts ≡ act ∷ acts
+    pub synced : promise.synced ≤ p.steps
+    pub room : kept_by_end act shown promise.kept ≢ promise.kept → TakesRecords Two config.journal
 
   abbrev pub DoneSavesEnd : Type 0
   DoneSavesEnd =
       (promise : Promise) (stage : Stage) (act : Act) (more : List Kept) (p q : ProcessState)
       (shown : Saved) → IsSavingNext promise stage act more p q shown
+      → ShowsItsVersion act shown
       → IsEnding m config promise stage (record {
         act = act;
         reply = Done;
@@ -134,7 +141,7 @@ module _ (m : Module) (config : Settings) (guest : Guest) where
   FailedSavesEnd =
       (promise : Promise) (stage : Stage) (act : Act) (more : List Kept) (p q : ProcessState)
       (shown : Saved) (cause : Cause) → IsSavingNext promise stage act more p q shown
-      → MayFail Open cause → HasBound promise q cause
+      → MayPlead config (promise.kept ++ more) stage act cause → HasBound promise q cause
       → IsEnding m config promise stage (record {
         act = act;
         reply = Fails cause;

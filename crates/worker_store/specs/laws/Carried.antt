@@ -1,8 +1,9 @@
 -- What a worker's disk holds of what was promised, between the calls of the disk and within each.
-use Rattle.std.specs.Prelude.{◌≡◌, ◌⊎◌, ℕ, ◌+◌, ◌≤◌, true, List, [], ◌++◌, length, map, take}
+use Rattle.std.specs.Prelude.{◌≡◌, ◌⊎◌, ℕ, ◌+◌, ◌≤◌, true, List, [], ◌++◌, length, map, take, drop}
 use Rattle.wasm_syntax.specs.declared.module.Module.{Module}
 use Rattle.wasi_abi.specs.rules.Configs.{Settings}
 use Rattle.process_rules.specs.Processes.{ProcessState}
+use Rattle.process_rules.specs.Behind.{IsNarrowTo}
 use Rattle.process_rules.specs.Runs.{Kept, Runs}
 use Rattle.sector_disk.specs.rules.Image.{Image}
 use Rattle.sector_disk.specs.rules.Medium.{Medium, LeavesOnly}
@@ -97,6 +98,7 @@ pub record SavesFront {m : Module} {config : Settings} (promise : Promise)
     (last : ProcessState) : Type 0 where
   pub front : next.front ≡ answers_at point records ++ more
   pub kept : take (length next.front) promise.kept ≡ next.front
+  pub up_to : IsNarrowTo (drop (length next.front) promise.kept) next.process.steps
   pub steps : ℕ
   pub runs : Runs point.reached.guest last more steps next.process
   pub heard : next.saved.lines ≤ promise.heard
@@ -158,6 +160,7 @@ pub record IsCarried {m : Module} {config : Settings} (promise : Promise)
   pub held : IsHeldAt promise point records last
   pub answers : take (count_at point (records ++ pending)) promise.kept
       ≡ answers_at point (records ++ pending)
+  pub up_to : IsNarrowTo (drop (count_at point (records ++ pending)) promise.kept) now.steps
 
 -- a cut now leaves what holds all that is promised
 abbrev pub CarriedKeeps : {D : Type 0} → (D → Medium) → Type 0

@@ -8,7 +8,7 @@ use Rattle.state_image.specs.rules.Image.{image}
 use Rattle.sector_disk.specs.rules.Image.{Image}
 use Rattle.disk_layout.specs.rules.Sectors.{HasWorker}
 use Rattle.disk_layout.specs.rules.Journal.{Record}
-use Rattle.disk_layout.specs.declared.head.TheConstants.{IMAGE_VERSION}
+use Rattle.wasi_abi.specs.rules.Versions.{version_number}
 use Rattle.journal.specs.laws.Laws.{ShowsEarlierThan}
 use Rattle.snapshot.specs.rules.Heads.{IsReadyForHead}
 use Rattle.snapshot.specs.rules.Steps.{HasNew, Fills, Commits, Replaces}
@@ -26,7 +26,8 @@ abbrev pub NewPointBegins : Type 0
 NewPointBegins =
     (m : Module) (config : Settings) (point : Savepoint m config) (disk : Image)
     → IsNumbered point.process → HasWorker config point.wasm disk
-    → HasNew (places point) point.generation IMAGE_VERSION (image point.saved) disk
+    → HasNew (places point) point.generation (version_number point.saved.version)
+    (image point.saved) disk
     → ShowsEarlierThan (places point) point.generation disk
     → BeginsAtPoint point disk
 
@@ -58,7 +59,8 @@ CommitLeavesOneOfTwo =
     (m : Module) (config : Settings) (point next : Savepoint m config) (records : List Record)
     (last : ProcessState) (old new : Image) → StandsAtPoint point records last old
     → IsNextPoint point next
-    → Commits (places point) next.generation IMAGE_VERSION (image next.saved) old new
+    → Commits (places point) next.generation (version_number next.saved.version)
+    (image next.saved) old new
     → StandsAtPoint point records last new ⊎ BeginsAtPoint next new
 
 -- once it has replaced the old one, it stands at the new one
@@ -67,7 +69,8 @@ CommitBeginsNext =
     (m : Module) (config : Settings) (point next : Savepoint m config) (records : List Record)
     (last : ProcessState) (old new : Image) → StandsAtPoint point records last old
     → IsNextPoint point next
-    → Replaces (places point) next.generation IMAGE_VERSION (image next.saved) old new
+    → Replaces (places point) next.generation (version_number next.saved.version)
+    (image next.saved) old new
     → BeginsAtPoint next new
 
 -- ---- whatever it stands by
@@ -92,12 +95,14 @@ abbrev pub CommitKeepsStanding : Type 0
 CommitKeepsStanding =
     (m : Module) (config : Settings) (next : Savepoint m config) (kept : List Kept) (n : ℕ)
     (old new : Image) → StandsBefore next kept n old
-    → Commits (places next) next.generation IMAGE_VERSION (image next.saved) old new
+    → Commits (places next) next.generation (version_number next.saved.version)
+    (image next.saved) old new
     → StandsBefore next kept n new ⊎ BeginsAtPoint next new
 
 abbrev pub ReplacingBegins : Type 0
 ReplacingBegins =
     (m : Module) (config : Settings) (next : Savepoint m config) (kept : List Kept) (n : ℕ)
     (old new : Image) → StandsBefore next kept n old
-    → Replaces (places next) next.generation IMAGE_VERSION (image next.saved) old new
+    → Replaces (places next) next.generation (version_number next.saved.version)
+    (image next.saved) old new
     → BeginsAtPoint next new

@@ -11,7 +11,7 @@ use Rattle.sector_disk.specs.declared.sector.TheConstants.{SECTOR_SIZE}
 use Rattle.disk_layout.specs.rules.Places.{Geometry, geometry_of, config_bytes, journal_place}
 use Rattle.disk_layout.specs.rules.Sectors.{SectorsHold, super_bytes}
 use Rattle.disk_layout.specs.declared.geometry.TheConstants.{MODULE_PLACE}
-use Rattle.disk_layout.specs.declared.head.TheConstants.{IMAGE_VERSION}
+use Rattle.wasi_abi.specs.rules.Versions.{version_number}
 use Rattle.journal.specs.laws.Laws.{ShowsEarlierThan}
 use Rattle.snapshot.specs.rules.Heads.{HasNone, heads_to}
 use Rattle.snapshot.specs.rules.Steps.{HasNew, Fills, Commits, Replaces}
@@ -103,7 +103,8 @@ pub record AwaitsSuper {m : Module} {config : Settings} (point : Savepoint m con
   pub no_super : HasNoSuper disk
   pub contents : SectorsHold disk MODULE_PLACE (places point).module_sectors
       (config_bytes config ++ point.wasm)
-  pub new : HasNew (places point) point.generation IMAGE_VERSION (image point.saved) disk
+  pub new : HasNew (places point) point.generation (version_number point.saved.version)
+      (image point.saved) disk
   pub journal : ShowsEarlierThan (places point) point.generation disk
   pub numbers : IsNumbered point.process
 
@@ -111,7 +112,8 @@ abbrev pub FirstCommitAwaitsSuper : Type 0
 FirstCommitAwaitsSuper =
     (m : Module) (config : Settings) (point : Savepoint m config) (old new : Image)
     → point.generation ≡ 1 → IsNumbered point.process → AwaitsHead config point.wasm old
-    → Replaces (places point) point.generation IMAGE_VERSION (image point.saved) old new
+    → Replaces (places point) point.generation (version_number point.saved.version)
+    (image point.saved) old new
     → AwaitsSuper point new
 
 -- the super of this savepoint

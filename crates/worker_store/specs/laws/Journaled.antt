@@ -2,7 +2,6 @@
 use Rattle.std.specs.Prelude.{◌≡◌, ℕ, ◌^◌, ◌<◌, List, [], ◌∷◌, ◌++◌, false, Some}
 use Rattle.wasm_syntax.specs.declared.module.Module.{Module}
 use Rattle.wasi_abi.specs.declared.answer.Answer.{Answer}
-use Rattle.wasi_abi.specs.declared.version.Version.TheVariants.{One}
 use Rattle.wasi_abi.specs.rules.Configs.{Settings}
 use Rattle.process_rules.specs.Processes.{ProcessState}
 use Rattle.process_rules.specs.Runs.{Runs, Moves}
@@ -19,11 +18,11 @@ use Rattle.worker_store.specs.laws.Commits.{BeginsAtPoint}
 
 -- Whatever a cut leaves of the disk stands at this savepoint, with these records, which lead to
 -- the first process. The journal holds them, and in memory those behind them, which lead on to the
--- second process. Its numbers are below their ends. All records are of version 1 so far.
+-- second process. Its numbers are below their ends. The records are of the savepoint's version.
 pub record IsJournaled {m : Module} {config : Settings} (point : Savepoint m config)
     (journal : JournalState) (records pending : List Record) (last now : ProcessState)
     (disk : Medium) : Type 0 where
-  pub version : journal.version ≡ One
+  pub version : journal.version ≡ point.saved.version
   pub generation : journal.generation ≡ point.generation
   pub stands : (image : Image) → disk.may_leave image → StandsAtPoint point records last image
   pub on : IsOn (places point) journal.version journal.generation journal.used journal.kept records
@@ -87,5 +86,5 @@ BeginsJournaled {D} medium =
     (m : Module) (config : Settings) (point : Savepoint m config) (disk : D)
     → ((image : Image) → (medium disk).may_leave image → BeginsAtPoint point image)
     → point.generation < 2 ^ 64 → IsNumbered point.process
-    → IsJournaled point (state One point.generation 0 [] false) [] [] point.process point.process
-    (medium disk)
+    → IsJournaled point (state point.saved.version point.generation 0 [] false) [] []
+    point.process point.process (medium disk)

@@ -14,7 +14,7 @@ use Rattle.disk_layout.specs.rules.Sectors.{SectorsHold}
 use Rattle.disk_layout.specs.rules.Journal.{Record}
 use Rattle.disk_layout.specs.declared.geometry.Geometry.{Geometry}
 use Rattle.disk_layout.specs.declared.geometry.TheConstants.{MODULE_PLACE}
-use Rattle.disk_layout.specs.declared.head.TheConstants.{IMAGE_VERSION}
+use Rattle.wasi_abi.specs.rules.Versions.{version_number}
 use Rattle.snapshot.specs.rules.Steps.{Fills, Commits, Replaces}
 use Rattle.restart_theorem.specs.Stands.{IsNumbered, IsBlank}
 use Rattle.worker_store.specs.laws.Savepoints.{Savepoint, places, StandsAtPoint}
@@ -45,7 +45,8 @@ CommitAtAnyMoment {D} medium =
     (last : ProcessState) (old new : D)
     → LeavesAll (medium old) (StandsAtPoint point records last) → IsNextPoint point next
     → LeavesOnly (medium old) (medium new)
-    (After (Commits (places point) next.generation IMAGE_VERSION (image next.saved))
+    (After (Commits (places point) next.generation (version_number next.saved.version)
+    (image next.saved))
     (medium old).may_leave)
     → LeavesOnly (medium old) (medium new)
     (λ disk. StandsAtPoint point records last disk ⊎ BeginsAtPoint next disk)
@@ -56,7 +57,8 @@ CommitInTheEnd {D} medium =
     (m : Module) (config : Settings) (point next : Savepoint m config) (records : List Record)
     (last : ProcessState) (old new : D)
     → LeavesAll (medium old) (StandsAtPoint point records last) → IsNextPoint point next
-    → Follows (Replaces (places point) next.generation IMAGE_VERSION (image next.saved))
+    → Follows (Replaces (places point) next.generation (version_number next.saved.version)
+    (image next.saved))
     (medium old).may_leave (medium new).may_leave
     → LeavesAll (medium new) (BeginsAtPoint next)
 
@@ -75,7 +77,8 @@ CommitKeepsAtAnyMoment {D} medium =
     (m : Module) (config : Settings) (next : Savepoint m config) (kept : List Kept) (n : ℕ)
     (old new : D) → LeavesAll (medium old) (StandsBefore next kept n)
     → LeavesOnly (medium old) (medium new)
-    (After (Commits (places next) next.generation IMAGE_VERSION (image next.saved))
+    (After (Commits (places next) next.generation (version_number next.saved.version)
+    (image next.saved))
     (medium old).may_leave)
     → LeavesOnly (medium old) (medium new)
     (λ disk. StandsBefore next kept n disk ⊎ BeginsAtPoint next disk)
@@ -84,7 +87,8 @@ abbrev pub CommitKeepsInTheEnd : {D : Type 0} → (D → Medium) → Type 0
 CommitKeepsInTheEnd {D} medium =
     (m : Module) (config : Settings) (next : Savepoint m config) (kept : List Kept) (n : ℕ)
     (old new : D) → LeavesAll (medium old) (StandsBefore next kept n)
-    → Follows (Replaces (places next) next.generation IMAGE_VERSION (image next.saved))
+    → Follows (Replaces (places next) next.generation (version_number next.saved.version)
+    (image next.saved))
     (medium old).may_leave (medium new).may_leave
     → LeavesAll (medium new) (BeginsAtPoint next)
 
@@ -152,7 +156,8 @@ FirstCommitInTheEnd {D} medium =
     (m : Module) (config : Settings) (point : Savepoint m config) (old new : D)
     → point.generation ≡ 1 → IsNumbered point.process
     → LeavesAll (medium old) (AwaitsHead config point.wasm)
-    → Follows (Replaces (places point) point.generation IMAGE_VERSION (image point.saved))
+    → Follows (Replaces (places point) point.generation (version_number point.saved.version)
+    (image point.saved))
     (medium old).may_leave (medium new).may_leave
     → LeavesAll (medium new) (AwaitsSuper point)
 

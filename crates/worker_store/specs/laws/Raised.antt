@@ -16,12 +16,12 @@ use Rattle.sector_disk.specs.rules.Medium.{Medium}
 use Rattle.disk_layout.specs.rules.Journal.{Record}
 use Rattle.journal.specs.rules.State.{JournalState}
 use Rattle.restart_theorem.specs.Lives.{Act, Reply, Release, SourceSaid, Told, Asked, Ended}
-use Rattle.restart_theorem.specs.Lives.{kept_of_said}
+use Rattle.restart_theorem.specs.Lives.{kept_of_said, kept_by_end}
 use Rattle.restart_theorem.specs.Promises.{Promise, after, saved_by, synced_by}
 use Rattle.worker_store.specs.laws.Savepoints.{Savepoint}
 use Rattle.worker_store.specs.laws.Journaled.{IsJournaled}
 use Rattle.worker_store.specs.laws.Carried.{answers_at, count_at, IsCarried}
-use Rattle.worker_store.specs.laws.Acts.{keeping_more}
+use Rattle.worker_store.specs.laws.Acts.{MayBeKept, keeping_more}
 
 -- ---- syncs of the guest
 
@@ -93,24 +93,26 @@ AskedCarries {D} medium =
     (medium disk)
 
 -- More may be kept behind what all kept answers lead to, where all syncs that returned are behind
--- that.
+-- that. It may widen the process there, where that has emitted all lines that were begun.
 abbrev pub MoreCarries : {D : Type 0} → (D → Medium) → Type 0
 MoreCarries {D} medium =
     (m : Module) (config : Settings) (promise : Promise) (point : Savepoint m config)
     (journal : JournalState) (records pending : List Record) (last now p : ProcessState) (n : ℕ)
     (more : List Kept) (disk : D)
     → IsCarried promise point journal records pending last now (medium disk) → IsValid m
-    → Reaches m config promise.kept n p → promise.synced ≤ n
+    → Reaches m config promise.kept n p → promise.synced ≤ n → now.steps ≤ n
+    → MayBeKept more p.steps (length p.host.lines) promise.begun
     → IsCarried (keeping_more promise more) point journal records pending last now (medium disk)
 
--- A call may end that saves nothing, a slice or what failed, where no sync that it says has
--- returned needs such an answer.
+-- A call may end that saves nothing, a slice or what failed, and keeps none besides. No sync that
+-- it says has returned may need such an answer.
 abbrev pub EndedCarries : {D : Type 0} → (D → Medium) → Type 0
 EndedCarries {D} medium =
     (m : Module) (config : Settings) (promise : Promise) (point : Savepoint m config)
     (journal : JournalState) (records pending : List Record) (last now : ProcessState) (act : Act)
     (reply : Reply) (held : ℕ) (shown : Saved) (disk : D)
     → IsCarried promise point journal records pending last now (medium disk)
+    → kept_by_end act shown promise.kept ≡ promise.kept
     → ((count : ℕ) → saved_by act reply count ≡ 0)
     → SyncsAreHeld m config promise.kept (count_at point records) (synced_by reply shown.steps)
     → IsCarried (after promise (Ended act reply held shown)) point journal records pending last now

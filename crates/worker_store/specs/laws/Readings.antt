@@ -8,13 +8,12 @@ use Rattle.process_rules.specs.Processes.{ProcessState}
 use Rattle.state_image.specs.rules.Image.{image}
 use Rattle.sector_disk.specs.rules.Image.{Image}
 use Rattle.disk_layout.specs.rules.Places.{total_sectors}
-use Rattle.wasi_abi.specs.declared.version.Version.TheVariants.{One}
 use Rattle.disk_layout.specs.rules.Journal.{Record, scan}
 use Rattle.disk_layout.specs.rules.Held.{GivesContents}
 use Rattle.disk_layout.specs.laws.Reading.{IsOfTheDisk}
 use Rattle.disk_layout.specs.declared.fault.LayoutFault.{LayoutFault}
 use Rattle.disk_layout.specs.declared.head.Head.{Head}
-use Rattle.disk_layout.specs.declared.head.TheConstants.{IMAGE_VERSION}
+use Rattle.wasi_abi.specs.rules.Versions.{version_number}
 use Rattle.disk_layout.specs.declared.reading.contents.Contents.{Contents}
 use Rattle.snapshot.specs.declared.fault.SnapshotFault.TheVariants.{Damaged}
 use Rattle.snapshot.specs.declared.newest.Snapshot.{Snapshot}
@@ -31,14 +30,14 @@ ReadsTheModule =
     → IsOfTheDisk answer → GivesContents sectors disk answer
     → answer ≡ Ok (record { geometry = places point; config = config; wasm = point.wasm })
 
--- the newest head is that of the savepoint
+-- the newest head is that of the savepoint, and of its version
 abbrev pub FindsThePoint : Type 0
 FindsThePoint =
     (m : Module) (config : Settings) (point : Savepoint m config) (records : List Record)
     (last : ProcessState) (disk : Image) (head : Option Head)
     → StandsAtPoint point records last disk → FindsHead disk head
     → (found : Head) × (head ≡ Some found) × (found.generation ≡ point.generation)
-    × (found.version ≡ IMAGE_VERSION)
+    × (found.version ≡ version_number point.saved.version)
 
 -- its image is that of the saved process
 abbrev pub ReadsThePoint : Type 0
@@ -60,7 +59,7 @@ ReadsUndamaged =
 pub record FindsSaved {m : Module} {config : Settings} (point : Savepoint m config)
     (disk : Image) : Type 0 where
   pub found : (s : Snapshot) → FindsNewest (places point) disk (Ok (Some s))
-      → (s.generation ≡ point.generation) × (s.version ≡ IMAGE_VERSION)
+      → (s.generation ≡ point.generation) × (s.version ≡ version_number point.saved.version)
       × (s.image.items ≡ image point.saved)
   pub some : FindsNewest (places point) disk (Ok None) → ⊥
   pub whole : FindsNewest (places point) disk (Err Damaged) → ⊥
@@ -76,4 +75,4 @@ abbrev pub ScansTheRecords : Type 0
 ScansTheRecords =
     (m : Module) (config : Settings) (point : Savepoint m config) (records : List Record)
     (last : ProcessState) (disk : Image) → StandsAtPoint point records last disk
-    → scan (places point) One disk point.generation ≡ records
+    → scan (places point) point.saved.version disk point.generation ≡ records

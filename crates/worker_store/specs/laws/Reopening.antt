@@ -6,6 +6,7 @@ use Rattle.wasm_syntax.specs.declared.module.Module.{Module}
 use Rattle.wasi_abi.specs.rules.Configs.{Settings}
 use Rattle.wasi_calls_rules.specs.Hosts.{Line}
 use Rattle.process_rules.specs.Processes.{ProcessState, Guest, IsStart}
+use Rattle.process_rules.specs.Behind.{IsNarrowTo}
 use Rattle.process_rules.specs.Runs.{Runs}
 use Rattle.record_replay.specs.rules.Calls.{Tells, all_taken, last_refused}
 use Rattle.state_image.specs.rules.Image.{Saved}
@@ -27,6 +28,7 @@ module _ (m : Module) (config : Settings) (guest : Guest) where
     pub start : ProcessState
     pub begins : IsStart m config guest start
     pub runs : Runs guest start (take held promise.kept) p.steps p
+    pub up_to : IsNarrowTo (drop held promise.kept) p.steps
     pub shut : stage.phase ≡ Shut
     pub last : IsLast stage.line told
     pub emitted : told ≤ length p.host.lines

@@ -5,7 +5,6 @@ use Rattle.wasm_syntax.specs.declared.types.FunctionType.{FunctionType}
 use Rattle.wasm_semantics.specs.Acceptance.{IsAccepted}
 use Rattle.wasm_semantics.specs.Validity.{AreFunctionTypes, module_context}
 use Rattle.wasi_abi.specs.rules.Configs.{Settings, AreSettingsWithinLimits}
-use Rattle.wasi_abi.specs.declared.version.Version.TheVariants.{One}
 use Rattle.machine.specs.rules.Offers.{offer}
 use Rattle.process_rules.specs.Processes.{ProcessState}
 use Rattle.process_rules.specs.Runs.{Kept, Reaches}
@@ -13,13 +12,13 @@ use Rattle.state_image.specs.rules.Image.{Saved, SavedShowsProcess, image}
 use Rattle.sector_disk.specs.rules.Image.{Image}
 use Rattle.disk_layout.specs.rules.Places.{Geometry, geometry_of}
 use Rattle.disk_layout.specs.rules.Sectors.{HasWorker, HoldsImage}
-use Rattle.disk_layout.specs.rules.Journal.{Record, scan}
-use Rattle.disk_layout.specs.declared.head.TheConstants.{IMAGE_VERSION}
+use Rattle.disk_layout.specs.rules.Journal.{Record, TakesRecords, scan}
+use Rattle.wasi_abi.specs.rules.Versions.{version_number}
 use Rattle.record_replay.specs.rules.Records.{Recorded, given_in}
 use Rattle.restart_theorem.specs.Stands.{ShowsNoneLater, IsNumbered, StandsFor}
 
 -- The bytes of a module, which are accepted, and a process to which it comes on these answers, as
--- it is saved in a generation.
+-- it is saved in a generation. The journal takes the longest record of its version.
 pub record Savepoint (m : Module) (config : Settings) : Type 0 where
   pub wasm : List ℕ
   pub accepted : IsAccepted offer config.pages wasm m
@@ -35,18 +34,21 @@ pub record Savepoint (m : Module) (config : Settings) : Type 0 where
   pub table : List (Option ℕ)
   pub shown : SavedShowsProcess (module_context m functions) reached.guest.program table saved
       process
+  pub room : TakesRecords saved.version config.journal
 
 -- where things lie on a disk with this savepoint
 abbrev pub places : {m : Module} {config : Settings} → Savepoint m config → Geometry
 places {config = config} point = geometry_of config (length point.wasm)
 
 -- The savepoint is on the disk, and these are the records of its journal, which lead from its
--- process to this one. Its numbers are below their ends.
+-- process to this one. Head and records are of the version of the savepoint. The numbers of this
+-- process are below their ends.
 pub record StandsAtPoint {m : Module} {config : Settings} (point : Savepoint m config)
     (records : List Record) (last : ProcessState) (disk : Image) : Type 0 where
   pub worker : HasWorker config point.wasm disk
-  pub holds : HoldsImage (places point) disk point.generation IMAGE_VERSION (image point.saved)
-  pub scanned : scan (places point) One disk point.generation ≡ records
+  pub holds : HoldsImage (places point) disk point.generation (version_number point.saved.version)
+      (image point.saved)
+  pub scanned : scan (places point) point.saved.version disk point.generation ≡ records
   pub recorded : Recorded point.reached.guest point.process records last
   pub numbers : IsNumbered last
   pub none_later : ShowsNoneLater (places point) disk point.generation
@@ -68,6 +70,7 @@ point_of stands = record {
   function_types = stands.function_types;
   table = stands.table;
   shown = stands.shown;
+  room = stands.room;
 }
 
 -- An image that stands for a worker stands at the savepoint that it has.

@@ -12,7 +12,7 @@ use Rattle.disk_layout.specs.rules.Journal.{Record}
 use Rattle.journal.specs.rules.State.{JournalState}
 use Rattle.state_image.specs.rules.Image.{Saved}
 use Rattle.record_replay.specs.rules.Calls.{Exchange}
-use Rattle.restart_theorem.specs.Lives.{Act, Reply, SourceSaid, Asked, Ended}
+use Rattle.restart_theorem.specs.Lives.{Act, Reply, SourceSaid, Asked, Ended, kept_by_end}
 use Rattle.restart_theorem.specs.Courses.{Stage}
 use Rattle.restart_theorem.specs.Promises.{Promise, after}
 use Rattle.restart_theorem.specs.Holds.{ImageHolds, KeepsPromise, CarriesPromise}
@@ -44,11 +44,12 @@ AskedStillHolds =
     → promise.synced ≤ p.steps
     → StillHolds m config promise (after promise (Asked p.steps kind said fits))
 
--- and where a call has ended.
+-- and where a call has ended that keeps none besides.
 abbrev pub EndedStillHolds : Type 0
 EndedStillHolds =
     (m : Module) (config : Settings) (promise : Promise) (act : Act) (reply : Reply) (held : ℕ)
-    (shown : Saved) → StillHolds m config promise (after promise (Ended act reply held shown))
+    (shown : Saved) → kept_by_end act shown promise.kept ≡ promise.kept
+    → StillHolds m config promise (after promise (Ended act reply held shown))
 
 -- What a part of a call leaves alone: that the worker has opened, and where the call began.
 pub record LeavesBegun (promise promise' : Promise) (stage stage' : Stage) : Type 0 where

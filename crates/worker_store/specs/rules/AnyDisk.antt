@@ -6,17 +6,18 @@ use Rattle.sector_disk.specs.rules.Image.{Image}
 use Rattle.disk_layout.specs.declared.fault.LayoutFault.TheVariants as layout
 use Rattle.disk_layout.specs.declared.geometry.Geometry.{Geometry}
 use Rattle.disk_layout.specs.declared.head.Head.{Head}
-use Rattle.disk_layout.specs.declared.head.TheConstants.{IMAGE_VERSION}
+use Rattle.wasi_abi.specs.rules.Versions.{version_number}
 use Rattle.disk_layout.specs.declared.reading.contents.Contents.{Contents}
 use Rattle.disk_layout.specs.rules.Held.{GivesContents}
-use Rattle.wasi_abi.specs.declared.version.Version.TheVariants.{One}
-use Rattle.disk_layout.specs.rules.Journal.{Record, scan}
+use Rattle.wasi_abi.specs.declared.version.Version.{Version}
+use Rattle.disk_layout.specs.rules.Journal.{Record, TakesRecords, scan}
 use Rattle.disk_layout.specs.rules.Sectors.{IsNewest, HoldsImage}
 use Rattle.journal.specs.declared.fault.JournalFault.TheVariants as journal
 use Rattle.snapshot.specs.declared.fault.SnapshotFault.TheVariants as snapshot
-use Rattle.snapshot.specs.declared.newest.Snapshot.{Snapshot}
+use Rattle.state_image.specs.rules.Image.{IsMarkedOtherwise}
 use Rattle.snapshot.specs.rules.Heads.{HasNone}
 use Rattle.snapshot.specs.rules.Newest.{NamesBytes}
+use Rattle.worker_store.specs.declared.newest.NewestImage.{NewestImage}
 use Rattle.worker_store.specs.declared.read_fault.ReadFault.{ReadFault}
 use Rattle.worker_store.specs.declared.read_fault.ReadFault.TheVariants as read
 
@@ -28,41 +29,74 @@ TellsContents sectors disk (Err (read.Layout fault)) = GivesContents sectors dis
 TellsContents sectors disk (Err (read.Disk fault)) = Unit {0}
 TellsContents sectors disk (Err other) = ⊥
 
--- the newest complete head is of a version that isn't known
+-- the newest complete head is of no known version
 pub record HasOtherVersion (disk : Image) : Type 0 where
   pub head : Head
   pub newest : IsNewest disk head.generation head
-  pub other : head.version ≢ IMAGE_VERSION
+  pub other : (v : Version) → head.version ≢ version_number v
 
--- it is of the known one
-pub record HasKnownVersion (disk : Image) : Type 0 where
-  pub head : Head
+-- it names this one
+pub record NamesVersion (v : Version) (disk : Image) (head : Head) : Type 0 where
   pub newest : IsNewest disk head.generation head
-  pub known : head.version ≡ IMAGE_VERSION
+  pub known : head.version ≡ version_number v
 
--- it is of the known one, and names no bytes that are there
+-- it is of a version whose longest record the journal doesn't take
+pub record HasShortJournal (geometry : Geometry) (disk : Image) : Type 0 where
+  pub version : Version
+  pub head : Head
+  pub is : NamesVersion version disk head
+  pub short : TakesRecords version geometry.journal_sectors → ⊥
+
+-- it is of one whose longest record the journal takes
+pub record HasKnownVersion (geometry : Geometry) (disk : Image) : Type 0 where
+  pub version : Version
+  pub head : Head
+  pub is : NamesVersion version disk head
+  pub room : TakesRecords version geometry.journal_sectors
+
+-- it is so, and names no bytes that are there
 pub record LacksItsImage (geometry : Geometry) (disk : Image) : Type 0 where
+  pub version : Version
   pub head : Head
-  pub newest : IsNewest disk head.generation head
-  pub known : head.version ≡ IMAGE_VERSION
+  pub is : NamesVersion version disk head
+  pub room : TakesRecords version geometry.journal_sectors
   pub lacks : (bytes : List ℕ) → NamesBytes geometry disk head bytes → ⊥
 
--- The snapshot is what the newest head names, of the known version. Or what is wrong with it is
--- told, the version first. Memory is wanted only for the image of a known version.
-abbrev pub TellsNewest : Geometry → Image → Result Snapshot ReadFault → Type 0
-TellsNewest geometry disk (Ok found) = (found.version ≡ IMAGE_VERSION)
-    × HoldsImage geometry disk found.generation IMAGE_VERSION found.image.items
+-- it is so, and these bytes are there, whole
+pub record NamesImage (geometry : Geometry) (disk : Image) (generation : ℕ) (version : Version)
+    (bytes : List ℕ) : Type 0 where
+  pub holds : HoldsImage geometry disk generation (version_number version) bytes
+  pub room : TakesRecords version geometry.journal_sectors
+
+-- they begin with the mark of another version
+pub record HasOtherMark (geometry : Geometry) (disk : Image) : Type 0 where
+  pub generation : ℕ
+  pub version : Version
+  pub bytes : List ℕ
+  pub named : NamesImage geometry disk generation version bytes
+  pub other : IsMarkedOtherwise version bytes
+
+-- The image is what the newest head names, and is marked as of no other version than that of the
+-- head. Or what is wrong is told, in this order: the head, its version, the journal for it, whether
+-- the image is there, and the image's mark. Memory is wanted only for the image.
+abbrev pub TellsNewest : Geometry → Image → Result NewestImage ReadFault → Type 0
+TellsNewest geometry disk (Ok found) =
+    NamesImage geometry disk found.generation found.version found.image.items
+    × (IsMarkedOtherwise found.version found.image.items → ⊥)
 TellsNewest geometry disk (Err (read.Layout layout.Version)) = HasOtherVersion disk
+TellsNewest geometry disk (Err (read.Layout layout.Damaged)) =
+    HasShortJournal geometry disk ⊎ HasOtherMark geometry disk
 TellsNewest geometry disk (Err (read.Snapshot snapshot.Damaged)) =
     HasNone disk ⊎ LacksItsImage geometry disk
-TellsNewest geometry disk (Err (read.Snapshot snapshot.Memory)) = HasKnownVersion disk
+TellsNewest geometry disk (Err (read.Snapshot snapshot.Memory)) = HasKnownVersion geometry disk
 TellsNewest geometry disk (Err (read.Disk fault)) = Unit {0}
 TellsNewest geometry disk (Err other) = ⊥
 
--- the records are those that stand there
-abbrev pub TellsRecords : Geometry → ℕ → Image → Result (Vec Record Global) ReadFault → Type 0
-TellsRecords geometry generation disk (Ok found) =
-    found.items ≡ scan geometry One disk generation
-TellsRecords geometry generation disk (Err (read.Journal journal.Memory)) = Unit {0}
-TellsRecords geometry generation disk (Err (read.Disk fault)) = Unit {0}
-TellsRecords geometry generation disk (Err other) = ⊥
+-- the records are those of this version that stand there
+abbrev pub TellsRecords : Geometry → Version → ℕ → Image → Result (Vec Record Global) ReadFault
+    → Type 0
+TellsRecords geometry version generation disk (Ok found) =
+    found.items ≡ scan geometry version disk generation
+TellsRecords geometry version generation disk (Err (read.Journal journal.Memory)) = Unit {0}
+TellsRecords geometry version generation disk (Err (read.Disk fault)) = Unit {0}
+TellsRecords geometry version generation disk (Err other) = ⊥

@@ -3,6 +3,7 @@
 use Rattle.std.specs.Prelude.{◌≡◌, ℕ, ◌≤◌, List, Vec, Result, Ok, Err}
 use Rattle.std.specs.declared.alloc.Global.{Global}
 use Rattle.wasm_syntax.specs.declared.module.Module.{Module}
+use Rattle.wasi_abi.specs.declared.version.Version.{Version}
 use Rattle.wasi_abi.specs.rules.Configs.{Settings}
 use Rattle.process_rules.specs.Processes.{ProcessState}
 use Rattle.state_image.specs.rules.Image.{image}
@@ -14,9 +15,9 @@ use Rattle.disk_layout.specs.declared.fault.LayoutFault.TheVariants as layout
 use Rattle.disk_layout.specs.rules.Places.{total_sectors}
 use Rattle.journal.specs.declared.fault.JournalFault.TheVariants as journal
 use Rattle.snapshot.specs.declared.fault.SnapshotFault.TheVariants as snapshot
-use Rattle.snapshot.specs.declared.newest.Snapshot.{Snapshot}
 use Rattle.restart_theorem.specs.Stands.{IsBlank}
 use Rattle.worker_store.specs.laws.Savepoints.{Savepoint, places, StandsAtPoint}
+use Rattle.worker_store.specs.declared.newest.NewestImage.{NewestImage}
 use Rattle.worker_store.specs.declared.read_fault.ReadFault.{ReadFault}
 use Rattle.worker_store.specs.declared.read_fault.ReadFault.TheVariants as read
 
@@ -59,17 +60,19 @@ pub record TellsMarks (disk : Image) (result : Result Contents ReadFault) : Type
   pub only : DeniesWorker result → IsBlank disk
   pub always : IsBlank disk → DeniesWorkerOr result
 
--- the snapshot
-abbrev pub ReadsNewest : Geometry → Image → Result Snapshot ReadFault → Type 0
+-- the image, of the version of the savepoint
+abbrev pub ReadsNewest : Geometry → Image → Result NewestImage ReadFault → Type 0
 ReadsNewest geometry disk result =
     (m : Module) (config : Settings) (point : Savepoint m config) (records : List Record)
     (last : ProcessState) → StandsAtPoint point records last disk → geometry ≡ places point
     → GivesOr (λ found. (found.generation ≡ point.generation)
-    × (found.image.items ≡ image point.saved)) result
+    × (found.version ≡ point.saved.version) × (found.image.items ≡ image point.saved)) result
 
 -- the records
-abbrev pub ReadsRecords : Geometry → ℕ → Image → Result (Vec Record Global) ReadFault → Type 0
-ReadsRecords geometry generation disk result =
+abbrev pub ReadsRecords : Geometry → Version → ℕ → Image → Result (Vec Record Global) ReadFault
+    → Type 0
+ReadsRecords geometry version generation disk result =
     (m : Module) (config : Settings) (point : Savepoint m config) (records : List Record)
     (last : ProcessState) → StandsAtPoint point records last disk → geometry ≡ places point
-    → generation ≡ point.generation → GivesOr (λ found. found.items ≡ records) result
+    → version ≡ point.saved.version → generation ≡ point.generation
+    → GivesOr (λ found. found.items ≡ records) result

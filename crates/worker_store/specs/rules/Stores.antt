@@ -1,7 +1,7 @@
 -- The store of a worker on its disk (this project's own).
 use Rattle.std.specs.Prelude.{◌≡◌, ℕ, ◌+◌, ◌-◌, ◌*◌, ◌^◌, ◌<◌, ◌≤◌, List, [], ◌++◌, length, false}
 use Rattle.wasm_syntax.specs.declared.module.Module.{Module}
-use Rattle.wasi_abi.specs.declared.version.Version.TheVariants.{One}
+use Rattle.wasi_abi.specs.declared.version.Version.{Version}
 use Rattle.wasi_abi.specs.rules.Configs.{Settings}
 use Rattle.process_rules.specs.Processes.{ProcessState}
 use Rattle.sector_disk.specs.rules.Medium.{Medium, IsAllSynced}
@@ -32,11 +32,11 @@ pub record IsStoreOf {m : Module} {config : Settings} (point : Savepoint m confi
   pub settled : IsAllSynced disk
   pub early : point.generation < 2 ^ 63
 
--- where a generation begins, of version 1 so far: there is no record of it, and no call has failed
-abbrev pub begun_store : Geometry → ℕ → WorkerStore
-begun_store geometry g = record {
+-- where a generation begins, of this version: there is no record of it, and no call has failed
+abbrev pub begun_store : Geometry → Version → ℕ → WorkerStore
+begun_store geometry version g = record {
   geometry = geometry;
-  journal = state One g 0 [] false;
+  journal = state version g 0 [] false;
   has_failed = false;
 }
 

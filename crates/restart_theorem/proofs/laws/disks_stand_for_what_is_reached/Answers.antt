@@ -1,4 +1,5 @@
 use Rattle.restart_theorem.proofs.Disks.{what_stands_is_reached, records_ascend, stands_by_its_parts}
+use Rattle.restart_theorem.proofs.Disks.{heads_tell_widenings}
 use Rattle.restart_theorem.proofs.laws.disks_stand_for_what_is_reached.Goals as goal
 
 pub returns-clause-reached : goal.returns-clause-reached
@@ -9,3 +10,6 @@ returns-clause-in_order c = records_ascend
 
 pub returns-clause-parts : goal.returns-clause-parts
 returns-clause-parts c = stands_by_its_parts
+
+pub returns-clause-versions : goal.returns-clause-versions
+returns-clause-versions c = heads_tell_widenings

@@ -1,8 +1,9 @@
 use Rattle.state_image.proofs.Fields.{number_field}
 use Rattle.state_image.proofs.Machines.{words_field, place_field}
 use Rattle.state_image.proofs.Named.{entry_field}
+use Rattle.state_image.proofs.Marks.{mark_field}
 use Rattle.state_image.proofs.ReadLemmas.{gives}
-use Rattle.state_image.proofs.FieldsGiven.{mark_field, memory_field, front_field, raw_field}
+use Rattle.state_image.proofs.FieldsGiven.{memory_field, front_field, raw_field}
 use Rattle.state_image.proofs.FieldsGiven.{counts_given, end_given, streams_given}
 use Rattle.state_image.proofs.laws.fields_lead_their_readers.Goals as goal
 

@@ -6,26 +6,26 @@ use Rattle.state_image.specs.rules.Image.{items_bytes, descriptor_bytes, open_fr
 use Rattle.state_image.proofs.Pushing.{pushes_on, pushes_exit, pushes_of}
 use Rattle.state_image.proofs.writing.write_image_to.Goals as goal
 
-pub returns-in_err-push_bytes : goal.returns-in_err-push_bytes
-returns-in_err-push_bytes g c =
-    pushes_exit _ _ c.from_residual.ensures.1 c.in_err-push_bytes.ensures
+pub returns-in_err-push_mark : goal.returns-in_err-push_mark
+returns-in_err-push_mark g c =
+    pushes_exit _ _ c.from_residual.ensures.1 c.in_err-push_mark.ensures
 
 pub returns-in_err-push_counts : goal.returns-in_err-push_counts
 returns-in_err-push_counts g c =
-    pushes_on c.in_ok-push_bytes.ensures
+    pushes_on c.in_ok-push_mark.ensures
     (pushes_exit _ _ c.from_residual-in_err-push_counts.ensures.1
     c.in_err-push_counts.ensures)
 
 pub returns-in_err-push_phase : goal.returns-in_err-push_phase
 returns-in_err-push_phase g c =
-    pushes_on c.in_ok-push_bytes.ensures
+    pushes_on c.in_ok-push_mark.ensures
     (pushes_on c.in_ok-push_counts.ensures
     (pushes_exit _ _ c.from_residual-in_err-push_phase.ensures.1
     c.in_err-push_phase.ensures))
 
 pub returns-in_err-push_streams : goal.returns-in_err-push_streams
 returns-in_err-push_streams g c =
-    pushes_on c.in_ok-push_bytes.ensures
+    pushes_on c.in_ok-push_mark.ensures
     (pushes_on c.in_ok-push_counts.ensures
     (pushes_on c.in_ok-push_phase.ensures
     (pushes_exit _ _ c.from_residual-in_err-push_streams.ensures.1
@@ -33,7 +33,7 @@ returns-in_err-push_streams g c =
 
 pub returns-in_err-push_machine : goal.returns-in_err-push_machine
 returns-in_err-push_machine g c =
-    pushes_on c.in_ok-push_bytes.ensures
+    pushes_on c.in_ok-push_mark.ensures
     (pushes_on c.in_ok-push_counts.ensures
     (pushes_on c.in_ok-push_phase.ensures
     (pushes_on c.in_ok-push_streams.ensures
@@ -44,7 +44,7 @@ returns-in_err-push_machine g c =
 pub returns-in_err-push_files : goal.returns-in_err-push_files
 returns-in_err-push_files g c =
     let files = c.tree.ensures ∙ ap (λ (h : HeldHost). h.host.files) c.host.ensures in
-    pushes_on c.in_ok-push_bytes.ensures
+    pushes_on c.in_ok-push_mark.ensures
     (pushes_on c.in_ok-push_counts.ensures
     (pushes_on c.in_ok-push_phase.ensures
     (pushes_on c.in_ok-push_streams.ensures
@@ -56,7 +56,7 @@ returns-in_err-push_files g c =
 pub returns : goal.returns
 returns g c =
     let files = c.tree.ensures ∙ ap (λ (h : HeldHost). h.host.files) c.host.ensures in
-    pushes_on c.in_ok-push_bytes.ensures
+    pushes_on c.in_ok-push_mark.ensures
     (pushes_on c.in_ok-push_counts.ensures
     (pushes_on c.in_ok-push_phase.ensures
     (pushes_on c.in_ok-push_streams.ensures

@@ -37,14 +37,16 @@ returns-in-Ok-clause-shows g c = λ image shown sectors holds is_machine newest.
     let snapshot = c.args.snapshot in
     c.find_records.ensures.shows image shown sectors holds
     (restored_in sectors image holds c.args.geometry.now c.args.config c.args.machine is_machine
-    snapshot.generation snapshot.image.items newest c.as_slice-3.result.now
+    snapshot.generation snapshot.version snapshot.image.items newest.0 newest.1
+    c.as_slice-3.result.now
     c.as_slice-3.ensures.value c.in-Ok.process c.in-Ok.ensures.restored)
 
 pub returns-clause-shows : goal.returns-clause-shows
 returns-clause-shows g c = λ image shown sectors holds is_machine newest.
     let snapshot = c.args.snapshot in
     process_unmade sectors image holds c.args.geometry.now c.args.config c.args.machine is_machine
-    snapshot.generation snapshot.image.items newest c.as_slice-3.result.now
+    snapshot.generation snapshot.version snapshot.image.items newest.0 newest.1
+    c.as_slice-3.result.now
     c.as_slice-3.ensures.value c.in-Err.fault c.from.result c.from.ensures
     c.in-Err.ensures.refused
 

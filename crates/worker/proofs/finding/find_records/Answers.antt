@@ -1,7 +1,9 @@
-use Rattle.std.proofs.Common.{◌≡◌}
-use Rattle.std.specs.Prelude.{Vec}
+use Rattle.std.proofs.Common.{◌≡◌, ◌∙◌, ap, subst}
+use Rattle.std.specs.Prelude.{Vec, Ok, Err}
 use Rattle.std.specs.declared.alloc.Global.{Global}
 use Rattle.disk_layout.specs.rules.Journal.{Record}
+use Rattle.state_image.specs.rules.Image.{Saved}
+use Rattle.worker_store.specs.rules.AnyDisk.{TellsRecords}
 use Rattle.worker.proofs.FindingLemmas.{found_at, unread_as}
 use Rattle.worker.proofs.FoundDiskLemmas.{all_found, records_unread}
 use Rattle.worker.proofs.FindingLemmas.{unread_cause}
@@ -12,7 +14,8 @@ returns-in-Ok-clause-finds g c =
     λ image shown m config point records last at placed numbered restored.
     found_at point c.args.geometry.now c.args.generation c.args.process placed numbered restored
     c.in-Ok.records records
-    (c.in-Ok.ensures.scans image shown m config point records last at placed numbered)
+    (c.in-Ok.ensures.scans image shown m config point records last at placed
+    (c.version.ensures ∙ ap (λ (s : Saved). s.version) restored.saved) numbered)
     c.is_process.ensures
 
 pub returns-in-Err-clause-finds : goal.returns-in-Err-clause-finds
@@ -20,17 +23,21 @@ returns-in-Err-clause-finds g c =
     λ image shown m config point records last at placed numbered restored.
     unread_as (Vec Record Global) (λ found. found.items ≡ records) c.in-Err.fault c.from.result
     c.from.ensures
-    (c.in-Err.ensures.scans image shown m config point records last at placed numbered)
+    (c.in-Err.ensures.scans image shown m config point records last at placed
+    (c.version.ensures ∙ ap (λ (s : Saved). s.version) restored.saved) numbered)
 
 pub returns-in-Ok-clause-shows : goal.returns-in-Ok-clause-shows
 returns-in-Ok-clause-shows g c = λ image shown sectors holds restored.
     all_found sectors image holds c.args.geometry.now c.args.generation c.args.process restored
-    c.in-Ok.records (c.in-Ok.ensures.tells image shown)
+    c.in-Ok.records (subst (λ v. TellsRecords c.args.geometry.now v c.args.generation image
+    (Ok c.in-Ok.records)) c.version.ensures (c.in-Ok.ensures.tells image shown))
 
 pub returns-in-Err-clause-shows : goal.returns-in-Err-clause-shows
 returns-in-Err-clause-shows g c = λ image shown sectors holds restored.
     records_unread sectors image holds c.args.geometry.now c.args.generation c.args.process
-    restored c.in-Err.fault c.from.result c.from.ensures (c.in-Err.ensures.tells image shown)
+    restored c.in-Err.fault c.from.result c.from.ensures
+    (subst (λ v. TellsRecords c.args.geometry.now v c.args.generation image (Err c.in-Err.fault))
+    c.version.ensures (c.in-Err.ensures.tells image shown))
 
 pub returns-in-Err-clause-cause : goal.returns-in-Err-clause-cause
 returns-in-Err-clause-cause g c =

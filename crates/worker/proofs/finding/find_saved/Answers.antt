@@ -1,7 +1,7 @@
 use Rattle.std.proofs.Common.{◌≡◌}
 use Rattle.sector_disk.proofs.Moments.{stays_shows}
 use Rattle.disk_layout.proofs.ReadLemmas.{reads_then}
-use Rattle.snapshot.specs.declared.newest.Snapshot.{Snapshot}
+use Rattle.worker_store.specs.declared.newest.NewestImage.{NewestImage}
 use Rattle.state_image.specs.rules.Image.{image as image_of}
 use Rattle.worker.proofs.FindingLemmas.{unread_as}
 use Rattle.worker.proofs.FoundDiskLemmas.{newest_unread}
@@ -20,12 +20,13 @@ returns-in-Ok-clause-finds g c = λ image shown m config point records last at l
     (g.D.Disk.medium c.find_process.new.disk) reads.stays image shown in
     let found = c.in-Ok.ensures.finds image before m config point records last at linked.placed in
     c.find_process.ensures.finds image shown m config point records last at linked
-    (record { generation = found.0; bytes = found.1 })
+    (record { generation = found.0; bytes = found.2 })
 
 pub returns-in-Err-clause-finds : goal.returns-in-Err-clause-finds
 returns-in-Err-clause-finds g c = λ image shown m config point records last at linked.
-    unread_as Snapshot
-    (λ found. (found.generation ≡ point.generation) × (found.image.items ≡ image_of point.saved))
+    unread_as NewestImage
+    (λ found. (found.generation ≡ point.generation) × (found.version ≡ point.saved.version)
+    × (found.image.items ≡ image_of point.saved))
     c.in-Err.fault c.from.result c.from.ensures
     (c.in-Err.ensures.finds image shown m config point records last at linked.placed)
 
@@ -35,7 +36,7 @@ returns-in-Ok-clause-shows g c = λ image shown sectors holds is_machine.
     let before = stays_shows (g.D.Disk.medium c.read_newest.new.disk)
     (g.D.Disk.medium c.find_process.new.disk) reads.stays image shown in
     let told = c.in-Ok.ensures.tells image before in
-    c.find_process.ensures.shows image shown sectors holds is_machine told.1
+    c.find_process.ensures.shows image shown sectors holds is_machine told
 
 pub returns-in-Err-clause-shows : goal.returns-in-Err-clause-shows
 returns-in-Err-clause-shows g c = λ image shown sectors holds is_machine.

@@ -1,6 +1,7 @@
-use Rattle.std.proofs.Common.{◌∙◌, length, refl, arith, false}
+use Rattle.std.proofs.Common.{◌∙◌, [], length, refl, ap, arith, false}
 use Rattle.sector_disk.proofs.CallLemmas.{no_calls}
 use Rattle.disk_layout.specs.rules.Places.{geometry_of}
+use Rattle.journal.specs.rules.State.{state}
 use Rattle.state_image.specs.rules.Image.{image}
 use Rattle.state_image.specs.rules.Saving.{saved_of}
 use Rattle.worker_store.specs.declared.store.WorkerStore.{WorkerStore}
@@ -43,7 +44,8 @@ returns-clause-durable g c =
     let p = c.lay_worker.ensures.passes in
     let ok = c.in_ok-lay_worker.ensures in
     first_stored g.D.Disk.medium c.args.config.now c.args.wasm.now c.args.process.now store
-    c.lay_worker.new.disk refl c.of-geometry.ensures c.fresh.ensures
+    c.lay_worker.new.disk refl c.of-geometry.ensures
+    (c.fresh.ensures ∙ ap (λ v. state v 1 0 [] false) c.version.ensures)
     (let t = c.if-sectors-total_sectors.false in let s = c.sectors.ensures in
     let all = c.total_sectors.ensures in
     omega (arith, t, s, all, p.sectors)) ok.settled

@@ -1,6 +1,6 @@
 use Rattle.std.proofs.Common.{◌+◌, max, length, arith}
 use Rattle.sector_disk.proofs.CountLemmas.{counts_more}
-use Rattle.disk_layout.specs.declared.head.TheConstants.{IMAGE_VERSION}
+use Rattle.wasi_abi.specs.rules.Versions.{version_number}
 use Rattle.state_image.specs.rules.Image.{image}
 use Rattle.state_image.specs.rules.Saving.{saved_of}
 use Rattle.disk_layout.specs.rules.Unsynced.{most_unsynced}
@@ -35,7 +35,8 @@ returns-in_err-write_snapshot-clause-any_moment g c settings spelled placed =
     let next = g.D.Disk.medium c.write_snapshot.new.disk in
     blank_or_first settings c.args.wasm.now c.args.process.now old next
     (λ all. blank_on old mid next (c.lay_contents.ensures.blank all)
-    (commit_leaves_none c.args.geometry.now IMAGE_VERSION (image (saved_of c.args.process.now)) mid
+    (commit_leaves_none c.args.geometry.now (version_number (saved_of c.args.process.now).version)
+    (image (saved_of c.args.process.now)) mid
     next c.in_ok-lay_contents.ensures.none c.write_snapshot.ensures.any_moment))
 
 pub returns-in_err-write_snapshot-clause-calls : goal.returns-in_err-write_snapshot-clause-calls
@@ -60,7 +61,8 @@ returns-in_err-write_super-clause-any_moment g c settings spelled placed m point
     c.args.geometry.now c.digest_of-digest.result first spelled placed old mid next new
     c.digest_of-digest.ensures
     (λ all. blank_on old mid next (c.lay_contents.ensures.blank all)
-    (commit_leaves_none c.args.geometry.now IMAGE_VERSION (image (saved_of c.args.process.now)) mid
+    (commit_leaves_none c.args.geometry.now (version_number (saved_of c.args.process.now).version)
+    (image (saved_of c.args.process.now)) mid
     next c.in_ok-lay_contents.ensures.none c.write_snapshot.ensures.any_moment))
     (c.in_ok-lay_contents.ensures.awaits settings spelled placed)
     c.in_ok-write_snapshot.ensures.done c.write_super.ensures.any_moment
@@ -89,7 +91,8 @@ returns-clause-any_moment g c settings spelled placed m point first =
     c.args.geometry.now c.digest_of-digest.result first spelled placed old mid next new
     c.digest_of-digest.ensures
     (λ all. blank_on old mid next (c.lay_contents.ensures.blank all)
-    (commit_leaves_none c.args.geometry.now IMAGE_VERSION (image (saved_of c.args.process.now)) mid
+    (commit_leaves_none c.args.geometry.now (version_number (saved_of c.args.process.now).version)
+    (image (saved_of c.args.process.now)) mid
     next c.in_ok-lay_contents.ensures.none c.write_snapshot.ensures.any_moment))
     (c.in_ok-lay_contents.ensures.awaits settings spelled placed)
     c.in_ok-write_snapshot.ensures.done c.write_super.ensures.any_moment

@@ -1,6 +1,7 @@
 use Rattle.worker_store.proofs.LawLemmas.Saving.{save_at_any_moment, save_carries}
 use Rattle.worker_store.proofs.LawLemmas.Saving.{done_saves_carry, failed_saves_carry}
 use Rattle.worker_store.proofs.LawLemmas.Acts.{checkpoints_save, saving_ends_alike}
+use Rattle.worker_store.proofs.LawLemmas.Acts.{upgrades_save, upgrades_widen, acts_may_fail}
 use Rattle.worker_store.proofs.LawLemmas.Saving.{ends_promise_no_less}
 use Rattle.worker_store.proofs.laws.saves_carry_promises.Goals as goal
 
@@ -12,6 +13,15 @@ returns-clause-carries g c = save_carries g.D.Disk.medium
 
 pub returns-clause-checkpoint : goal.returns-clause-checkpoint
 returns-clause-checkpoint g c = checkpoints_save
+
+pub returns-clause-upgrade : goal.returns-clause-upgrade
+returns-clause-upgrade g c = upgrades_save
+
+pub returns-clause-widening : goal.returns-clause-widening
+returns-clause-widening g c = upgrades_widen
+
+pub returns-clause-pleads : goal.returns-clause-pleads
+returns-clause-pleads g c = acts_may_fail
 
 pub returns-clause-alike : goal.returns-clause-alike
 returns-clause-alike g c = saving_ends_alike

@@ -1,4 +1,5 @@
-use Rattle.std.proofs.Common.{rules, ℕ, ap, subst, inl}
+use Rattle.std.proofs.Common.{rules, ℕ, ap, sym, subst, inl, ◌∙◌}
+use Rattle.std.proofs.lemmas.Bool.{false≢true}
 use Rattle.disk_layout.specs.declared.head.Head.{Head}
 use Rattle.snapshot.specs.rules.Heads.{FindsHead}
 use Rattle.std.specs.Prelude.{Result, Ok, Err, Vec, IsTrue, Option}
@@ -7,9 +8,9 @@ use Rattle.sector_disk.proofs.Moments.{stays_shows}
 use Rattle.snapshot.specs.declared.fault.SnapshotFault.{SnapshotFault}
 use Rattle.snapshot.specs.declared.snapshots.Snapshots.{Snapshots}
 use Rattle.snapshot.specs.rules.Snapshots.{is_failed}
-use Rattle.worker_store.proofs.NewestLemmas.{names_it, image_wrong, other_version}
+use Rattle.worker_store.proofs.NewestLemmas.{judged, image_wrong, other_version, short_journal}
 use Rattle.worker_store.proofs.NewestLemmas.{reads_newest}
-use Rattle.disk_layout.specs.declared.fault.LayoutFault.TheVariants.{Version}
+use Rattle.disk_layout.specs.declared.fault.LayoutFault.TheVariants as layout
 use Rattle.snapshot.specs.declared.fault.SnapshotFault.TheVariants.{Damaged}
 use Rattle.worker_store.specs.declared.read_fault.ReadFault.TheVariants as read
 use Rattle.worker_store.proofs.ReadCauseLemmas.{head_cause, snapshot_later}
@@ -18,22 +19,22 @@ use Rattle.worker_store.proofs.reading.read_newest.Goals as goal
 
 pub returns-in-Ok-image_of-clause-tells : goal.returns-in-Ok-image_of-clause-tells
 returns-in-Ok-image_of-clause-tells g c image shown =
-    let known = c.if-head-ne-IMAGE_VERSION.false in
     let before = stays_shows (g.D.Disk.medium c.newest_head.new.disk)
-    (g.D.Disk.medium c.image_of.new.disk) c.image_of.ensures.reads.stays image shown in (
-      known,
-      names_it c.args.geometry.now image c.in-Ok.found c.in-Some.head c.in-Some.is
-          (c.in-Ok.ensures.finds image before) known c.in-Ok-image_of.image.items
-          (c.in-Ok-image_of.ensures.image image shown),
-    )
+    (g.D.Disk.medium c.image_of.new.disk) c.image_of.ensures.reads.stays image shown in
+    let known = c.in-Some-known_version in
+    judged c.args.geometry.now image c.in-Ok.found c.in-Some.head c.in-Some.is
+    (c.in-Ok.ensures.finds image before) known.version known.ensures
+    (c.takes_records.ensures.0 c.if-not-takes_records.false) c.in-Ok-image_of.image
+    (c.in-Ok-image_of.ensures.image image shown) c.judge_mark.result c.judge_mark.ensures
 
 pub returns-in-Err-image_of-clause-tells : goal.returns-in-Err-image_of-clause-tells
 returns-in-Err-image_of-clause-tells g c image shown =
-    let known = c.if-head-ne-IMAGE_VERSION.false in
     let before = stays_shows (g.D.Disk.medium c.newest_head.new.disk)
     (g.D.Disk.medium c.image_of.new.disk) c.image_of.ensures.reads.stays image shown in
+    let known = c.in-Some-known_version in
     image_wrong c.args.geometry.now image c.in-Ok.found c.in-Some.head c.in-Some.is
-    (c.in-Ok.ensures.finds image before) known c.in-Err-image_of.fault
+    (c.in-Ok.ensures.finds image before) known.version known.ensures
+    (c.takes_records.ensures.0 c.if-not-takes_records.false) c.in-Err-image_of.fault
     c.from-in-Err-image_of.result c.from-in-Err-image_of.ensures
     (λ same. idle_works c.new-snapshots.result c.new-snapshots.ensures.idle
     (subst (λ (s : Snapshots). IsTrue (is_failed s)) c.in-Ok.ensures.same
@@ -49,11 +50,18 @@ returns-in_default-clause-tells g c image shown =
     inl (subst (λ (o : Option Head). FindsHead image o) c.in_default.is
     (c.in-Ok.ensures.finds image shown))
 
-pub returns-then-head-ne-IMAGE_VERSION-clause-tells :
-    goal.returns-then-head-ne-IMAGE_VERSION-clause-tells
-returns-then-head-ne-IMAGE_VERSION-clause-tells g c image shown =
+pub returns-in_default-known_version-clause-tells :
+    goal.returns-in_default-known_version-clause-tells
+returns-in_default-known_version-clause-tells g c image shown =
     other_version c.args.geometry.now image c.in-Ok.found c.in-Some.head c.in-Some.is
-    (c.in-Ok.ensures.finds image shown) c.if-head-ne-IMAGE_VERSION.true
+    (c.in-Ok.ensures.finds image shown) c.in_default-known_version.ensures
+
+pub returns-then-not-takes_records-clause-tells : goal.returns-then-not-takes_records-clause-tells
+returns-then-not-takes_records-clause-tells g c image shown =
+    let known = c.in-Some-known_version in
+    short_journal c.args.geometry.now image c.in-Ok.found c.in-Some.head c.in-Some.is
+    (c.in-Ok.ensures.finds image shown) known.version known.ensures
+    (λ takes. false≢true (sym c.if-not-takes_records.true ∙ c.takes_records.ensures.1 takes))
 
 -- ---- where a savepoint stands
 
@@ -67,20 +75,21 @@ returns-in_default-clause-finds g c image shown =
     reads_newest c.args.geometry.now image (Err (read.Snapshot Damaged))
     (returns-in_default-clause-tells g c image shown)
 
-pub returns-then-head-ne-IMAGE_VERSION-clause-finds :
-    goal.returns-then-head-ne-IMAGE_VERSION-clause-finds
-returns-then-head-ne-IMAGE_VERSION-clause-finds g c image shown =
-    reads_newest c.args.geometry.now image (Err (read.Layout Version))
-    (returns-then-head-ne-IMAGE_VERSION-clause-tells g c image shown)
+pub returns-in_default-known_version-clause-finds :
+    goal.returns-in_default-known_version-clause-finds
+returns-in_default-known_version-clause-finds g c image shown =
+    reads_newest c.args.geometry.now image (Err (read.Layout layout.Version))
+    (returns-in_default-known_version-clause-tells g c image shown)
+
+pub returns-then-not-takes_records-clause-finds : goal.returns-then-not-takes_records-clause-finds
+returns-then-not-takes_records-clause-finds g c image shown =
+    reads_newest c.args.geometry.now image (Err (read.Layout layout.Damaged))
+    (returns-then-not-takes_records-clause-tells g c image shown)
 
 pub returns-in-Ok-image_of-clause-finds : goal.returns-in-Ok-image_of-clause-finds
 returns-in-Ok-image_of-clause-finds g c image shown =
-    let head = c.in-Some.head in
-    reads_newest c.args.geometry.now image (Ok (record {
-      version = head.version;
-      generation = head.generation;
-      image = c.in-Ok-image_of.image;
-    })) (returns-in-Ok-image_of-clause-tells g c image shown)
+    reads_newest c.args.geometry.now image c.judge_mark.result
+    (returns-in-Ok-image_of-clause-tells g c image shown)
 
 pub returns-in-Err-image_of-clause-finds : goal.returns-in-Err-image_of-clause-finds
 returns-in-Err-image_of-clause-finds g c image shown =

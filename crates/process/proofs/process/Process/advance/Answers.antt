@@ -2,6 +2,7 @@ use Rattle.std.proofs.Common.{◌≡◌, suc, ◌+◌, ◌<◌, ◌≤◌, ◌^�
 use Rattle.std.proofs.Common.{◌∙◌, subst, arith}
 use Rattle.std.specs.Prelude.{Result, ltb}
 use Rattle.std.specs.Option.{option_map}
+use Rattle.wasi_abi.specs.rules.Versions.{widenings}
 use Rattle.process_rules.specs.Owing.{none}
 use Rattle.process.specs.declared.stop.Stop.{Stop}
 use Rattle.process.specs.declared.fault.ProcessFault.{ProcessFault}
@@ -9,7 +10,8 @@ use Rattle.process.specs.rules.Values.{ProcessValue, ShowsProcess, ending_of, pr
 use Rattle.process.specs.rules.Values.{waiting_in}
 use Rattle.process.specs.rules.Stops.{EndsFor}
 use Rattle.process.proofs.Lines.{less_when, more_when, empty_when}
-use Rattle.process.proofs.Counting.{comes_within, parts_of, after, shows_after, ends_for}
+use Rattle.process.proofs.Counting.{comes_within, parts_of, after, shows_after, same_version}
+use Rattle.process.proofs.Counting.{ends_for}
 use Rattle.process.proofs.process.Process.advance.Goals as goal
 
 pub returns-in-Some-clause-advances : goal.returns-in-Some-clause-advances
@@ -54,6 +56,12 @@ invariant_of-self c =
     (Some c.take_steps-stretch.result.stop) come.comes in
     let counted = c.cap_fuel-most.ensures.counted in
     let few = i.few_answers in
+    let same = ap widenings (same_version
+    (process_of c.self.inside.machine c.self.inside.host c.self.inside.steps
+    c.self.inside.answers c.self.inside.requests c.self.inside.ended)
+    c.take_steps-stretch.new.machine c.take_steps-stretch.new.host i.guest i.process i.shows
+    c.cap_fuel-most.result c.take_steps-stretch.result.steps c.take_steps-stretch.result.ended
+    c.take_steps-stretch.result.stop come) in
     record {
       guest = i.guest;
       process = come.process;
@@ -63,7 +71,7 @@ invariant_of-self c =
           c.cap_fuel-most.result c.take_steps-stretch.result.steps c.take_steps-stretch.result.ended
           c.take_steps-stretch.result.stop come;
       few_steps = omega (arith, within, counted);
-      few_answers = omega (arith, few);
+      few_answers = omega (arith, few, same);
       few_requests = i.few_requests;
       few_lines = c.take_steps-stretch.ensures.few;
     }

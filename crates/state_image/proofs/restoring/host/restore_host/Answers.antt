@@ -1,4 +1,3 @@
-use Rattle.state_image.specs.rules.Parts.{texts_of}
 use Rattle.state_image.proofs.RestoreLemmas.Lent.{fault_of}
 use Rattle.state_image.proofs.RestoreLemmas.HostAgain.{fault_of_host, host_of_parts}
 use Rattle.state_image.proofs.restoring.host.restore_host.Goals as goal
@@ -13,6 +12,6 @@ returns-in_err-from_parts-clause-refused c refused h rest is next told stands =
     c.in_err-from_parts.ensures.refused
     (fault_of_host c.from_residual-in_err-from_parts.result _
     c.from_residual-in_err-from_parts.ensures.1 refused)
-    (host_of_parts c.args.config c.args.counts c.args.end (texts_of c.args.streams)
+    (host_of_parts c.args.config c.args.progress
     c.in_ok-parts.parts c.args.reader.now c.read_parts.new.reader c.in_ok-parts.ensures.made h rest
     is next told stands)

@@ -13,7 +13,7 @@ use Rattle.wasmhost_commands.proofs.inspecting.whole.spell_inspection.Goals as g
 pub returns : goal.returns
 returns g c =
     let told = c.args.told.now in
-    let contents = contents_facts told.contents in
+    let contents = contents_facts told.process.host.host.version told.contents in
     let snapshot = snapshot_facts told.generation told.image_bytes in
     let process = process_facts told.process told.wish in
     let host = host_facts (told.contents.config.files * UNIT_BYTES) told.process.host.host in
@@ -28,8 +28,10 @@ returns g c =
     (record_facts told.records.items)
     (appends_both from third fourth (contents ++ snapshot ++ process) host
     (appends_both from second third (contents ++ snapshot) process
-    (appends_both from first second contents snapshot c.in_ok-spell_contents.ensures
-    c.in_ok-spell_snapshot.ensures) c.in_ok-spell_process.ensures)
+    (appends_both from first second contents snapshot
+    (subst (λ v. Appends from first (contents_facts v told.contents)) c.version.ensures
+    c.in_ok-spell_contents.ensures) c.in_ok-spell_snapshot.ensures)
+    c.in_ok-spell_process.ensures)
     (subst (λ (n : ℕ). Appends third fourth
     (host_facts (n * UNIT_BYTES) told.process.host.host))
     (c.from-room.ensures ∙ c.files.ensures.value)

@@ -1,4 +1,4 @@
-use Rattle.std.proofs.Common.{◌≡◌, ℕ, List, None, Some, true, sym, subst, ◌∙◌, rules, arith}
+use Rattle.std.proofs.Common.{◌≡◌, ℕ, ◌+◌, List, None, Some, true, sym, subst, ◌∙◌, rules, arith}
 use Rattle.std.specs.Prelude.{Option, IfSome}
 use Rattle.std.specs.Io.{StopsAt}
 use Rattle.std.specs.Io.BufRead.{take_through}
@@ -38,7 +38,7 @@ pub returns-in_err-is_done-clause-failed : goal.returns-in_err-is_done-clause-fa
 returns-in_err-is_done-clause-failed g c =
     let p = err_from_is_err_and c.from_residual.result c.from_residual.ensures.1 in
     rw (p.1, p.2) (
-    fails_reading 4120 (g.R.LineReader.unread c.args.reader.now)
+    fails_reading c.args.limit (c.args.limit + 24) (g.R.LineReader.unread c.args.reader.now)
     (g.R.LineReader.unread c.loop-is_done.reader) c.loop-is_done.line.items
     _ _ _ c.in_err-is_done.field-0.0 (omega arith) c.loop-is_done.invariant.1
     c.loop-is_done.invariant.0 c.loop-is_done.invariant.2 c.in_err-is_done.ensures.failed

@@ -46,7 +46,8 @@ returns-in-Err-clause-carries g c =
     (g.D.Disk.medium c.args.disk.now)
     (g.D.Disk.medium c.save_telling-saved.new.disk))
     c.self.inside.running.process c.save_telling-saved.new.process
-    c.save_telling-saved.new.store c.self.inside.replayed true c.in-Err.ensures.same
+    c.save_telling-saved.new.store c.self.inside.running.is_abreast c.self.inside.replayed true
+    c.in-Err.ensures.same
     (fault_keeps g.D.Disk.medium c.self.inside.running c.self.inside.replayed
     c.self.inside.has_failed c.args.self.now c.self.view_is c.args.disk.now
     c.save_telling-saved.new.disk c.images_fit_areas.ensures c.is_process.ensures
@@ -84,7 +85,8 @@ returns-clause-carries g c =
     (g.D.Disk.medium c.args.disk.now)
     (g.D.Disk.medium c.save_telling-saved.new.disk))
     c.self.inside.running.process c.save_telling-saved.new.process
-    c.save_telling-saved.new.store c.self.inside.replayed c.self.inside.has_failed c.in_default.ensures.same
+    c.save_telling-saved.new.store c.self.inside.running.is_abreast c.self.inside.replayed
+    c.self.inside.has_failed c.in_default.ensures.same
     (done_keeps g.D.Disk.medium c.self.inside.running c.self.inside.replayed
     c.self.inside.has_failed c.args.self.now c.self.view_is c.args.disk.now
     c.save_telling-saved.new.disk c.images_fit_areas.ensures c.is_process.ensures
@@ -97,7 +99,8 @@ returns-clause-saved g c =
     process_back
     (λ (w : DurableValue). IsSavedIn c.args.self.now w)
     c.self.inside.running.process c.save_telling-saved.new.process
-    c.save_telling-saved.new.store c.self.inside.replayed c.self.inside.has_failed c.in_default.ensures.same
+    c.save_telling-saved.new.store c.self.inside.running.is_abreast c.self.inside.replayed
+    c.self.inside.has_failed c.in_default.ensures.same
     (saved_in g.D.Disk.medium c.self.inside.running c.self.inside.replayed
     c.self.inside.has_failed c.args.self.now c.self.view_is c.args.disk.now
     c.save_telling-saved.new.disk c.save_telling-saved.new.store c.in_default.ensures.numbered)

@@ -1,6 +1,7 @@
 use Rattle.std.proofs.Common.{◌+◌, ap, refl, inl}
 use Rattle.std.proofs.lemmas.Result.{err_from_is_err_and}
-use Rattle.worker.proofs.DurableLemmas.Asking.{asks_turn, asks_nothing}
+use Rattle.worker.proofs.DurableLemmas.Advancing.{says_abreast}
+use Rattle.worker.proofs.DurableLemmas.Asking.{asks_turn, asks_nothing, room_said}
 use Rattle.worker.proofs.DurableLemmas.Slicing.{once_if_ok}
 use Rattle.worker.proofs.DurableLemmas.InVain.{hears_in_vain}
 use Rattle.worker.proofs.StoreTurnLemmas.{hears_runs, runs_join}
@@ -15,17 +16,19 @@ returns-in_err-make_room-clause-asks g c =
 
 pub returns-clause-once : goal.returns-clause-once
 returns-clause-once g c =
-    once_if_ok g.S.Source.gives c.args.self.now c.make_room.new.self c.hear.new.self c.args.kind
-    (c.steps-step.result + 1) c.hear.result c.args.source.now c.hear.new.source
+    once_if_ok g.S.Source.gives c.args.self.now (says_abreast c.make_room.new.self)
+    c.hear.new.self c.args.kind (c.steps-step.result + 1) c.hear.result c.args.source.now
+    c.hear.new.source
     c.in_ok-make_room.ensures.same c.hear.ensures.hears
 
 pub returns-clause-asks : goal.returns-clause-asks
 returns-clause-asks g c =
-    asks_turn g.D.Disk.medium g.S.Source.gives c.args.self.now c.make_room.new.self
-    c.hear.new.self c.args.kind (c.steps-step.result + 1) c.args.disk.now c.make_room.new.disk
-    c.args.source.now c.hear.new.source c.in_ok-make_room.ensures.made
-    c.in_ok-make_room.ensures.same (ap (λ n. n + 1) c.steps-step.ensures.value) c.hear.result
-    c.hear.ensures.hears
+    asks_turn g.D.Disk.medium g.S.Source.gives c.args.self.now
+    (says_abreast c.make_room.new.self) c.hear.new.self c.args.kind (c.steps-step.result + 1)
+    c.args.disk.now c.make_room.new.disk c.args.source.now c.hear.new.source
+    (room_said g.D.Disk.medium c.args.self.now c.make_room.new.self c.args.disk.now
+    c.make_room.new.disk c.in_ok-make_room.ensures.made) c.in_ok-make_room.ensures.same refl
+    (ap (λ n. n + 1) c.steps-step.ensures.value) c.hear.result c.hear.ensures.hears
 
 pub returns-in_err-make_room-clause-failed : goal.returns-in_err-make_room-clause-failed
 returns-in_err-make_room-clause-failed g c =
@@ -38,8 +41,8 @@ returns-in_err-make_room-clause-failed g c =
 
 pub returns-clause-failed : goal.returns-clause-failed
 returns-clause-failed g c =
-    hears_in_vain g.S.Source.gives c.args.self.now c.make_room.new.self c.hear.new.self
-    c.args.kind (c.steps-step.result + 1) c.hear.result c.args.source.now c.hear.new.source
+    hears_in_vain g.S.Source.gives c.args.self.now (says_abreast c.make_room.new.self)
+    c.hear.new.self c.args.kind (c.steps-step.result + 1) c.hear.result c.args.source.now c.hear.new.source
     c.in_ok-make_room.ensures.same c.hear.ensures.hears
 
 pub returns-in_err-make_room-clause-runs : goal.returns-in_err-make_room-clause-runs

@@ -1,4 +1,5 @@
-use Rattle.std.proofs.Common.{arith, refl}
+use Rattle.std.proofs.Common.{◌∙◌, ap, arith, refl}
+use Rattle.disk_layout.specs.rules.Journal.{longest_record}
 use Rattle.std.proofs.lemmas.Result.{err_from_is_err_and}
 use Rattle.worker.proofs.DurableLemmas.Rooms.{has_room, makes_room, makes_no_room}
 use Rattle.worker.proofs.StoreTurnLemmas.{goes_none}
@@ -22,7 +23,8 @@ pub returns-then-room-longest_record-clause-made :
 returns-then-room-longest_record-clause-made g c =
     has_room g.D.Disk.medium c.args.self.now c.args.disk.now
     (let test = c.if-room-longest_record.true in let is = c.room.ensures in
-    let long = c.longest_record.ensures in omega arith)
+    let long = c.longest_record.ensures
+    ∙ ap (λ v. longest_record v) c.version-version.ensures in omega arith)
 
 pub returns-in_err-save-clause-failed : goal.returns-in_err-save-clause-failed
 returns-in_err-save-clause-failed g c =

@@ -27,7 +27,7 @@ returns-in_err-release_waiting-clause-fails g c =
     } in
     rw (p.1, p.2) (settles_some g.D.Disk.medium g.O.Outlet.takes c.args.self.now
     c.barrier.new.self c.args.disk.now c.barrier.new.disk c.in_ok-barrier.ensures.any_moment
-    c.in_ok-barrier.ensures.durable new c.args.outlet.now c.release_waiting.new.outlet refl
+    c.in_ok-barrier.ensures.durable new c.args.outlet.now c.release_waiting.new.outlet refl refl
     c.in_err-release_waiting.ensures.some)
 
 pub returns-clause-settles : goal.returns-clause-settles
@@ -38,7 +38,7 @@ returns-clause-settles g c =
     } in
     settles_all g.D.Disk.medium g.O.Outlet.takes c.args.self.now c.barrier.new.self
     c.args.disk.now c.barrier.new.disk c.in_ok-barrier.ensures.any_moment
-    c.in_ok-barrier.ensures.durable new c.args.outlet.now c.release_waiting.new.outlet refl
+    c.in_ok-barrier.ensures.durable new c.args.outlet.now c.release_waiting.new.outlet refl refl
     c.in_ok-release_waiting.ensures.all
 
 pub returns-in_err-barrier-clause-failed : goal.returns-in_err-barrier-clause-failed

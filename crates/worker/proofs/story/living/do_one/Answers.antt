@@ -1,5 +1,5 @@
 use Rattle.worker.proofs.ActLemmas.{slice_is_done, slice_fails, saving_is_done}
-use Rattle.worker.proofs.ActLemmas.{saving_fails}
+use Rattle.worker.proofs.ActLemmas.{saving_fails, upgrade_is_done, upgrade_fails}
 use Rattle.worker.proofs.story.living.do_one.Goals as goal
 
 pub returns-in-Ok-clause-does : goal.returns-in-Ok-clause-does
@@ -20,3 +20,14 @@ returns-in-Err-checkpoint-clause-does g c =
     rw (c.in-Checkpoint.is, c.in-Err-checkpoint.ensures.quiet) (saving_fails g.D.Disk.medium
     g.S.Source.gives g.O.Outlet.takes _ _ _ _ _ _ _ c.in-Err-checkpoint.ensures.carries
     c.in-Err-checkpoint.ensures.cause)
+
+pub returns-in-Ok-upgrade-clause-does : goal.returns-in-Ok-upgrade-clause-does
+returns-in-Ok-upgrade-clause-does g c =
+    rw (c.in-Upgrade.is, c.in-Ok-upgrade.ensures.quiet) (upgrade_is_done g.D.Disk.medium
+    g.S.Source.gives g.O.Outlet.takes _ _ _ _ _ _ c.in-Ok-upgrade.ensures.carries)
+
+pub returns-in-Err-upgrade-clause-does : goal.returns-in-Err-upgrade-clause-does
+returns-in-Err-upgrade-clause-does g c =
+    rw (c.in-Upgrade.is, c.in-Err-upgrade.ensures.quiet) (upgrade_fails g.D.Disk.medium
+    g.S.Source.gives g.O.Outlet.takes _ _ _ _ _ _ _ c.in-Err-upgrade.ensures.carries
+    c.in-Err-upgrade.ensures.cause)

@@ -1,10 +1,10 @@
-use Rattle.std.proofs.Common.{◌+◌, ◌<◌, ◌≤◌, length, refl, ap, arith, ⊎_elim}
+use Rattle.std.proofs.Common.{◌+◌, ◌<◌, ◌≤◌, ◌∙◌, [], length, refl, ap, arith, false, ⊎_elim}
 use Rattle.std.proofs.lemmas.Bool.{cases_lt}
 use Rattle.std.specs.Prelude.{Result, Err}
 use Rattle.wasi_abi.specs.declared.numbers.TheConstants.{NUMBERS_END}
 use Rattle.sector_disk.proofs.Moments.{started, weaker}
 use Rattle.disk_layout.specs.rules.Places.{area_place, rounded_up}
-use Rattle.journal.specs.rules.State.{JournalState}
+use Rattle.journal.specs.rules.State.{JournalState, state}
 use Rattle.snapshot.specs.declared.fault.SnapshotFault.{SnapshotFault}
 use Rattle.snapshot.specs.declared.writing.Writing.TheVariants.{Changes}
 use Rattle.state_image.specs.rules.Image.{image}
@@ -47,7 +47,8 @@ returns-clause-durable g c =
     c.write_snapshot-written.new.disk c.saturating_add-next.result
     (λ below. let e = c.saturating_add-next.ensures in let s = c.generation.ensures in
     omega (arith, below, e, s))
-    after c.fresh.ensures refl c.if-self.false p.sectors ok.done ok.settled
+    after (c.fresh.ensures ∙ ap (λ v. state v c.saturating_add-next.result 0 [] false)
+    c.version.ensures) refl c.if-self.false p.sectors ok.done ok.settled
     (let early = ok.early in omega (arith, early))
 
 pub returns-then-self-clause-calls : goal.returns-then-self-clause-calls

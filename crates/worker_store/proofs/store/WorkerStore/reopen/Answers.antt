@@ -1,9 +1,9 @@
-use Rattle.std.proofs.Common.{refl, ap, arith, false}
+use Rattle.std.proofs.Common.{◌∙◌, [], refl, ap, arith, false}
 use Rattle.std.proofs.Common.{length}
 use Rattle.std.specs.Prelude.{Result, Err}
 use Rattle.sector_disk.proofs.Moments.{weaker}
 use Rattle.disk_layout.specs.rules.Places.{rounded_up}
-use Rattle.journal.specs.rules.State.{JournalState}
+use Rattle.journal.specs.rules.State.{JournalState, state}
 use Rattle.snapshot.specs.declared.fault.SnapshotFault.{SnapshotFault}
 use Rattle.snapshot.specs.declared.writing.Writing.TheVariants.{Changes}
 use Rattle.state_image.specs.rules.Image.{image}
@@ -37,7 +37,8 @@ returns-clause-durable g c =
     let p = leaves.passes in
     let ok = c.in_default.ensures in
     reopening_stores g.D.Disk.medium c.args.geometry.now c.args.generation c.args.process.now
-    c.args.disk.now c.write_snapshot-written.new.disk store c.fresh.ensures refl refl
+    c.args.disk.now c.write_snapshot-written.new.disk store
+    (c.fresh.ensures ∙ ap (λ v. state v c.args.generation 0 [] false) c.version.ensures) refl refl
     (let r = c.requires in omega (arith, r, p.sectors)) ok.done ok.settled
     (let early = ok.early in omega (arith, early))
 

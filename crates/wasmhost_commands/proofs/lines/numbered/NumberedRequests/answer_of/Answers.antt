@@ -3,5 +3,5 @@ use Rattle.wasmhost_commands.proofs.LineLemmas.Fitting.{told_fits}
 use Rattle.wasmhost_commands.proofs.lines.numbered.NumberedRequests.answer_of.Goals as goal
 
 pub returns-clause-fits : goal.returns-clause-fits
-returns-clause-fits g c = λ short free.
-    told_fits c.args.request c.text_answer.result (search rules) (search rules) short free
+returns-clause-fits g c = λ limit short free.
+    told_fits limit c.args.request c.text_answer.result (search rules) (search rules) short free

@@ -1,0 +1,407 @@
+//! Workers that are put into version 2: what is refused, and what a stop or a failure at each call
+//! of the disk leaves.
+
+ghost use Rattle.std.specs.Prelude.{◌≤◌};
+ghost use Rattle.disk_layout.specs.rules.Places.{total_sectors};
+ghost use Rattle.sector_disk.specs.rules.Memory.{memory_medium};
+
+use crate::guests::{ECHO, RANDOM, blank};
+use crate::halt::Halt;
+use crate::workers::working::{IDLE, Stand, Work, are_lines, create_long, stand_of, work_on};
+use record_replay::{AnswerList, LineList};
+use sector_disk::{Disk, FaultDisk, MemDisk, Place};
+use std::alloc::Global;
+use wasi_abi::{Answer, Version};
+use wasm_syntax::Row;
+use worker::{SliceFault, UpgradeFault, WorkFault, Worker};
+
+/// The least journal that takes the records of version 2, and the sectors of a disk with it.
+const JOURNAL: u64 = 133;
+
+const SECTORS: u64 = 4_745;
+
+const TOO_SMALL: WorkFault = WorkFault::Upgrade(UpgradeFault::JournalTooSmall);
+
+const NOT_CAUGHT_UP: WorkFault = WorkFault::Upgrade(UpgradeFault::NotCaughtUp);
+
+const FAILED: WorkFault = WorkFault::Work(SliceFault::Failed);
+
+/// All that a guest does who asks for nothing.
+const ALONE: Work = Work {
+    requests: &[],
+    fuel: 100,
+    is_saved: false,
+};
+
+/// Up to the question behind a line.
+const ECHOED: Work = Work {
+    requests: &[b"hello"],
+    fuel: 100,
+    is_saved: false,
+};
+
+/// An answer that only memory holds.
+const ANSWERED: Work = Work {
+    requests: &[b"hello"],
+    fuel: 12,
+    is_saved: false,
+};
+
+/// What a first life does, which is cut, if there is one; and what the next one does before it is
+/// upgraded twice. What the two upgrades say, and the version then.
+struct Case {
+    name: &'static str,
+    guest: &'static [u8],
+    journal: u64,
+    first: Option<Work>,
+    next: Work,
+    says: [Option<WorkFault>; 2],
+    version: Version,
+}
+
+static CASES: [Case; 7] = [
+    Case {
+        name: "a journal of 132 sectors",
+        guest: ECHO,
+        journal: 132,
+        first: None,
+        next: IDLE,
+        says: [Some(TOO_SMALL), Some(FAILED)],
+        version: Version::One,
+    },
+    Case {
+        name: "a fresh worker, and one of version 2",
+        guest: ECHO,
+        journal: JOURNAL,
+        first: None,
+        next: IDLE,
+        says: [None, None],
+        version: Version::Two,
+    },
+    Case {
+        name: "a line beyond it was told in an earlier life",
+        guest: RANDOM,
+        journal: JOURNAL,
+        first: Some(ALONE),
+        next: IDLE,
+        says: [Some(NOT_CAUGHT_UP), Some(FAILED)],
+        version: Version::One,
+    },
+    Case {
+        name: "the journal is judged first",
+        guest: RANDOM,
+        journal: 132,
+        first: Some(ALONE),
+        next: IDLE,
+        says: [Some(TOO_SMALL), Some(FAILED)],
+        version: Version::One,
+    },
+    Case {
+        name: "it has ended",
+        guest: RANDOM,
+        journal: JOURNAL,
+        first: Some(ALONE),
+        next: ALONE,
+        says: [None, None],
+        version: Version::Two,
+    },
+    Case {
+        name: "it may have told a line",
+        guest: ECHO,
+        journal: JOURNAL,
+        first: Some(ECHOED),
+        next: IDLE,
+        says: [Some(NOT_CAUGHT_UP), Some(FAILED)],
+        version: Version::One,
+    },
+    Case {
+        name: "it has asked",
+        guest: ECHO,
+        journal: JOURNAL,
+        first: Some(ECHOED),
+        next: ALONE,
+        says: [None, None],
+        version: Version::Two,
+    },
+];
+
+/// What two upgrades say behind this work.
+fn say_twice(
+    alloc: Global,
+    worker: &mut Worker,
+    disk: &mut MemDisk,
+    work: &Work,
+) -> Result<[Option<WorkFault>; 2], Halt>
+    requires { total_sectors worker.old.store.geometry ≤ (memory_medium disk.old).sectors }
+{
+    let mut told = LineList::new(alloc);
+    work_on(alloc, worker, disk, work, &mut told)?;
+    Ok([
+        worker.upgrade(disk, &mut told).err(),
+        worker.upgrade(disk, &mut told).err(),
+    ])
+}
+
+/// Whether a worker says so, and has this version then.
+fn says_so(
+    alloc: Global,
+    worker: &mut Worker,
+    disk: &mut MemDisk,
+    case: &Case,
+) -> Result<bool, Halt>
+    requires { total_sectors worker.old.store.geometry ≤ (memory_medium disk.old).sectors }
+{
+    let said = say_twice(alloc, worker, disk, &case.next)?;
+    Ok(said == case.says && worker.process().version() == case.version)
+}
+
+/// The same of a worker that is recovered from a disk.
+fn says_so_again(alloc: Global, mut disk: MemDisk, case: &Case) -> Result<bool, Halt> {
+    let mut told = LineList::new(alloc);
+    match Worker::recover(alloc, &mut disk, &mut told) {
+        Ok(mut worker) => {
+            let is_so = says_so(alloc, &mut worker, &mut disk, case);
+            drop(worker);
+            is_so
+        }
+        Err(fault) => Err(Halt::from(fault)),
+    }
+}
+
+/// What a cut leaves of a disk behind this work.
+fn cut_after(
+    alloc: Global,
+    worker: &mut Worker,
+    disk: &mut MemDisk,
+    work: &Work,
+) -> Result<MemDisk, Halt>
+    requires { total_sectors worker.old.store.geometry ≤ (memory_medium disk.old).sectors }
+{
+    let mut told = LineList::new(alloc);
+    work_on(alloc, worker, disk, work, &mut told)?;
+    Ok(disk.cut(alloc, &[])?)
+}
+
+fn is_case(alloc: Global, case: &Case) -> Result<bool, Halt> {
+    let mut disk = blank(alloc, SECTORS)?;
+    let mut worker = create_long(alloc, &mut disk, case.guest, case.journal)?;
+    let Some(first) = case.first else {
+        let is_so = says_so(alloc, &mut worker, &mut disk, case);
+        drop(worker);
+        return is_so;
+    };
+    let left = cut_after(alloc, &mut worker, &mut disk, &first);
+    drop(worker);
+    says_so_again(alloc, left?, case)
+}
+
+/// An upgrade is refused for its journal, and for lines that an earlier life told.
+#[test]
+fn upgrades_are_refused(rt: HostRuntime) -> Result<(), Halt> {
+    for case in &CASES {
+        assert!(rt; is_case(rt.alloc(), case)?, "{}", case.name);
+    }
+    Ok(())
+}
+
+/// The answer to a call for 5,000 random bytes.
+fn random(alloc: Global) -> Result<AnswerList, Halt> {
+    let bytes = Row::from_vec(Vec::from_slice(alloc, &[7; 5_000])?);
+    let mut answers = Vec::new(alloc);
+    answers.push(Answer::Random { bytes })?;
+    Ok(AnswerList::new(answers))
+}
+
+/// Whether a worker tells just this line, once it is upgraded where that is wanted.
+fn tells(
+    alloc: Global,
+    worker: &mut Worker,
+    disk: &mut MemDisk,
+    is_upgraded: bool,
+    text: &'static [u8],
+) -> Result<bool, Halt>
+    requires { total_sectors worker.old.store.geometry ≤ (memory_medium disk.old).sectors }
+{
+    let mut told = LineList::new(alloc);
+    if is_upgraded {
+        worker.upgrade(disk, &mut told)?;
+    }
+    let mut source = random(alloc)?;
+    let _now = worker.slice(disk, 100, &mut source, &mut told)?;
+    Ok(are_lines(&told, 1, &[text]))
+}
+
+fn tells_at_first(alloc: Global, is_upgraded: bool, text: &'static [u8]) -> Result<bool, Halt> {
+    let mut disk = blank(alloc, SECTORS)?;
+    let mut worker = create_long(alloc, &mut disk, RANDOM, JOURNAL)?;
+    let is_so = tells(alloc, &mut worker, &mut disk, is_upgraded, text);
+    drop(worker);
+    is_so
+}
+
+/// Version 1 gives 4,096 random bytes at most: the call for 5,000 has error 28.
+#[test]
+fn random_bytes_are_more_in_version_2(rt: HostRuntime) -> Result<(), Halt> {
+    assert!(rt; tells_at_first(rt.alloc(), false, b"28")?, "version 1");
+    assert!(rt; tells_at_first(rt.alloc(), true, b"00")?, "version 2");
+    Ok(())
+}
+
+/// The barrier is a write and a sync. After it come 129 reads, 3 writes and 2 syncs.
+const CALLS: u64 = 136;
+
+const BARRIER: u64 = 2;
+
+const WRITES_AND_SYNCS: u64 = 5;
+
+/// All but a byte of the record is left of a write.
+const PART: u16 = 504;
+
+/// Or nothing, all but a byte of the stamp, or all of it.
+static PREFIXES: [u16; 4] = [PART, 0, 511, 512];
+
+/// No record is left.
+const NOTHING: Stand = Stand {
+    generation: 2,
+    steps: 0,
+    answers: 0,
+    lines: 0,
+    replayed: 0,
+};
+
+/// The record is left, in version 1.
+const NARROW: Stand = Stand {
+    generation: 2,
+    steps: 6,
+    answers: 1,
+    lines: 0,
+    replayed: 6,
+};
+
+/// The process is left, in version 2. That it was widened counts as an answer.
+const WIDE: Stand = Stand {
+    generation: 3,
+    steps: 12,
+    answers: 2,
+    lines: 0,
+    replayed: 0,
+};
+
+/// What befalls an upgrade at a call of the disk.
+#[derive(Clone, Copy)]
+enum Mishap {
+    Stop,
+    Failure,
+}
+
+/// The disk on which an upgrade meets with a mishap, and whether it and the next one say so.
+fn meets(
+    alloc: Global,
+    worker: &mut Worker,
+    disk: MemDisk,
+    mishap: Mishap,
+    place: Place,
+) -> (MemDisk, bool)
+    requires { total_sectors worker.old.store.geometry ≤ (memory_medium disk).sectors }
+{
+    let mut told = LineList::new(alloc);
+    let mut faulty = match mishap {
+        Mishap::Stop => FaultDisk::new(disk, Some(place), None),
+        Mishap::Failure => FaultDisk::new(disk, None, Some(place)),
+    };
+    let said = worker.upgrade(&mut faulty, &mut told).is_err();
+    let again = worker.upgrade(&mut faulty, &mut told).err() == Some(FAILED);
+    (faulty.into_inner(), said && again)
+}
+
+/// What the next life finds: what a cut leaves, or the same disk.
+fn found_after(alloc: Global, left: MemDisk, mishap: Mishap) -> Result<MemDisk, Halt> {
+    match mishap {
+        Mishap::Stop => Ok(left.cut(alloc, &[])?),
+        Mishap::Failure => Ok(left),
+    }
+}
+
+/// The disk that the next life finds, where the upgrade has said so.
+fn found(
+    alloc: Global,
+    worker: &mut Worker,
+    mut disk: MemDisk,
+    mishap: Mishap,
+    place: Place,
+) -> Result<Option<MemDisk>, Halt>
+    requires { total_sectors worker.old.store.geometry ≤ (memory_medium disk).sectors }
+{
+    let mut told = LineList::new(alloc);
+    work_on(alloc, worker, &mut disk, &ANSWERED, &mut told)?;
+    let (left, is_said) = meets(alloc, worker, disk, mishap, place);
+    let next = found_after(alloc, left, mishap)?;
+    Ok(if is_said { Some(next) } else { None })
+}
+
+/// The version and the place with which the next life opens.
+fn opens(alloc: Global, mut disk: MemDisk) -> Result<(Version, Stand), Halt> {
+    let mut told = LineList::new(alloc);
+    match Worker::recover(alloc, &mut disk, &mut told) {
+        Ok(worker) => {
+            let opened = (worker.process().version(), stand_of(&worker));
+            drop(worker);
+            Ok(opened)
+        }
+        Err(fault) => Err(Halt::from(fault)),
+    }
+}
+
+/// Whether it is whole in the one version or the other. Once the barrier is done it has the answer.
+fn is_whole(opened: (Version, Stand), place: Place) -> bool {
+    match opened {
+        (Version::One, stand) => stand == NARROW || (stand == NOTHING && place.call <= BARRIER),
+        (Version::Two, stand) => stand == WIDE && BARRIER < place.call,
+    }
+}
+
+fn is_whole_after(alloc: Global, mishap: Mishap, place: Place) -> Result<bool, Halt> {
+    let mut disk = blank(alloc, SECTORS)?;
+    let mut worker = create_long(alloc, &mut disk, ECHO, JOURNAL)?;
+    let left = found(alloc, &mut worker, disk, mishap, place);
+    drop(worker);
+    match left? {
+        Some(left) => Ok(is_whole(opens(alloc, left)?, place)),
+        None => Ok(false),
+    }
+}
+
+/// Each prefix is tried in the barrier and at the end, and one of them at each other call.
+fn is_tried(call: u64, prefix: u16) -> bool {
+    prefix == PART || call <= BARRIER || CALLS - WRITES_AND_SYNCS < call
+}
+
+/// The first call and prefix after which the next life is not as it must be.
+fn first_miss(alloc: Global, mishap: Mishap) -> Result<Option<Place>, Halt> {
+    for call in 1..=CALLS {
+        for prefix in &PREFIXES {
+            let place = Place {
+                call,
+                front: *prefix,
+            };
+            if is_tried(call, *prefix) && !is_whole_after(alloc, mishap, place)? {
+                return Ok(Some(place));
+            }
+        }
+    }
+    Ok(None)
+}
+
+#[test]
+fn stopped_upgrades_leave_one_version(rt: HostRuntime) -> Result<(), Halt> {
+    let miss = first_miss(rt.alloc(), Mishap::Stop)?;
+    assert!(rt; miss.is_none(), "{miss:?}");
+    Ok(())
+}
+
+#[test]
+fn failed_upgrades_leave_one_version(rt: HostRuntime) -> Result<(), Halt> {
+    let miss = first_miss(rt.alloc(), Mishap::Failure)?;
+    assert!(rt; miss.is_none(), "{miss:?}");
+    Ok(())
+}

@@ -1,0 +1,32 @@
+//! The mark of an image.
+
+ghost use Rattle.std.specs.Prelude.{◌≡◌};
+ghost use Rattle.state_image.specs.rules.Image.{image_mark};
+ghost use Rattle.state_image.specs.rules.Saving.{saved_of};
+ghost use Rattle.state_image.specs.rules.Sinks.{Pushes};
+
+use crate::sink::Sink;
+use crate::writing::numbers::push_bytes;
+use process::Process;
+use wasi_abi::Version;
+
+/// How many bytes a mark has.
+pub(crate) const MARK_BYTES: usize = 8;
+
+/// With it the images of a version begin.
+pub fn image_mark(version: Version) -> [u8; MARK_BYTES]
+    ensures { result ≡ image_mark version }
+{
+    match version {
+        Version::One => *b"DWIMAGE1",
+        Version::Two => *b"DWIMAGE2",
+    }
+}
+
+/// The mark of the version of a process.
+pub(crate) fn push_mark<S: Sink>(process: &Process, sink: &mut S) -> Result<(), S::Fault>
+    ensures { Pushes S.takes sink.old (image_mark (saved_of process.now).version) result
+        sink.new }
+{
+    push_bytes(&image_mark(process.host().version()), sink)
+}

@@ -1,0 +1,36 @@
+use Rattle.std.proofs.Common.{arith, refl}
+use Rattle.ephemeral_worker.specs.declared.now.Now.TheVariants.{Waiting, Ended, Spent}
+use Rattle.wasmhost_commands.proofs.LivingLemmas.{slice_fewer}
+use Rattle.wasmhost_commands.proofs.UpgradingLemmas.{none_come, come_more, come_last}
+use Rattle.wasmhost_commands.proofs.UpgradingLemmas.{come_broken}
+use Rattle.wasmhost_commands.proofs.on_disk.upgrading.come_up.Goals as goal
+
+pub loop-how-init : goal.loop-how-init
+loop-how-init g c =
+    none_come g.D.Disk.medium g.S.Source.gives g.O.Outlet.takes 100000 _ c.requires
+
+pub loop-how-smaller : goal.loop-how-smaller
+loop-how-smaller g c =
+    slice_fewer g.D.Disk.medium g.S.Source.gives g.O.Outlet.takes c.loop-how.worker
+    c.slice.new.self 100000 Spent _ _ _ _ c.is_process.ensures (omega (arith))
+    (rw c.in-Ok-Spent.field-0-is at c.in-Ok-Spent.ensures.done) refl
+
+pub loop-how-preserved : goal.loop-how-preserved
+loop-how-preserved g c =
+    come_more g.D.Disk.medium g.S.Source.gives g.O.Outlet.takes _ _ _ c.loop-how.invariant _ _ _ _
+    (rw c.in-Ok-Spent.field-0-is at c.in-Ok-Spent.ensures.carries) c.in-Ok-Spent.ensures.room
+
+pub returns-in-Ok-Waiting-clause-comes : goal.returns-in-Ok-Waiting-clause-comes
+returns-in-Ok-Waiting-clause-comes g c =
+    come_last g.D.Disk.medium g.S.Source.gives g.O.Outlet.takes _ _ _ c.loop-how.invariant _ _ _ _
+    Waiting (rw c.in-Ok-Waiting.field-0-is at c.in-Ok-Waiting.ensures.carries)
+
+pub returns-in-Ok-Ended-clause-comes : goal.returns-in-Ok-Ended-clause-comes
+returns-in-Ok-Ended-clause-comes g c =
+    come_last g.D.Disk.medium g.S.Source.gives g.O.Outlet.takes _ _ _ c.loop-how.invariant _ _ _ _
+    (Ended c.in-Ok-Ended.how) (rw c.in-Ok-Ended.field-0-is at c.in-Ok-Ended.ensures.carries)
+
+pub returns-in-Err-clause-comes : goal.returns-in-Err-clause-comes
+returns-in-Err-clause-comes g c =
+    come_broken g.D.Disk.medium g.S.Source.gives g.O.Outlet.takes _ _ _ c.loop-how.invariant _ _ _ _
+    c.in-Err.fault c.in-Err.ensures.carries

@@ -1,0 +1,135 @@
+//! `wasmhost upgrade` of a worker on a disk.
+
+ghost use Rattle.std.specs.Prelude.{◌≡◌, ◌≢◌, ◌≤◌, [], IfErr, IfOk, OnErr, OnOk, true};
+ghost use Rattle.disk_layout.specs.rules.Places.{total_sectors};
+ghost use Rattle.ephemeral_worker.specs.declared.now.Now.TheVariants.{Spent};
+ghost use Rattle.wasmhost_commands.specs.Livings.{scene};
+ghost use Rattle.wasmhost_commands.specs.ComingUp.{ComesUp, IsUpgradedFrom};
+ghost use Rattle.wasmhost_commands.specs.rules.Printers.{IsPrinted, SaysText};
+ghost use Rattle.wasmhost_commands.specs.rules.Upgradings.{UpgradesOnDisk, from_list};
+ghost use Rattle.wasmhost_commands.specs.rules.Upgradings.{upgraded_words};
+
+use crate::on_disk::fault::{OnDiskFault, say_disk_fault};
+use crate::on_disk::living::is_process;
+use crate::on_disk::serving::tell_recovered;
+use crate::printer::Printer;
+use crate::status::UNWRITTEN;
+use ephemeral_worker::Now;
+use record_replay::{AnswerList, Outlet, Source};
+use sector_disk::Disk;
+use std::alloc::Global;
+use std::io::{self, Write};
+use wasi_abi::Version;
+use worker::{WorkFault, Worker};
+
+/// Steps of a slice.
+const FUEL: u64 = 100_000;
+
+/// When a worker came to version 2.
+#[derive(Clone, Copy, Debug, PartialEq, Eq)]
+pub enum Upgraded {
+    /// By this command.
+    Now,
+    /// Before it.
+    Before,
+}
+
+/// Slice after slice, until the worker has asked for what the source doesn't have, or has ended. It
+/// comes to that, or fails, since its steps are numbered.
+fn come_up<D: Disk, S: Source, O: Outlet>(
+    worker: &mut Worker,
+    disk: &mut D,
+    source: &mut S,
+    outlet: &mut O,
+) -> Result<Now, WorkFault>
+    requires { total_sectors worker.old.store.geometry ≤ (D.medium disk.old).sectors }
+    ensures comes { ComesUp D.medium S.gives O.takes 100000
+        (scene worker.old disk.old source.old outlet.old) result
+        (scene worker.new disk.new source.new outlet.new) }
+    ensures over { IfOk result (λ now. now ≢ Spent) }
+    ensures room { OnOk result
+        (total_sectors worker.new.store.geometry ≤ (D.medium disk.new).sectors) }
+{
+    loop {
+        is_process(worker);
+        match worker.slice(disk, FUEL, source, outlet) {
+            Ok(Now::Spent) => {}
+            Ok(Now::Waiting) => return Ok(Now::Waiting),
+            Ok(Now::Ended(how)) => return Ok(Now::Ended(how)),
+            Err(fault) => return Err(fault),
+        }
+    }
+}
+
+/// Upgrades an open worker of version 1. Before that it runs on, without an answer, to its next
+/// question or to its end: so no line beyond it was ever told.
+fn upgrade_open<D: Disk, O: Outlet>(
+    alloc: Global,
+    worker: &mut Worker,
+    disk: &mut D,
+    outlet: &mut O,
+) -> Result<(), WorkFault>
+    requires { total_sectors worker.old.store.geometry ≤ (D.medium disk.old).sectors }
+    ensures { IsUpgradedFrom D.medium from_list O.takes (scene worker.old disk.old [] outlet.old)
+        result disk.new outlet.new }
+{
+    let mut nothing = AnswerList::new(Vec::new(alloc));
+    match come_up(worker, disk, &mut nothing, outlet) {
+        Ok(_now) => worker.upgrade(disk, outlet),
+        Err(fault) => Err(fault),
+    }
+}
+
+/// The worker on a disk comes to version 2, where it isn't there. It is recovered, runs on without
+/// an answer to its next question or to its end, and is saved in version 2. Its lines go to the
+/// outlet. Where `err` is a terminal, a line says how it was recovered. An error is the exit
+/// status: 3 for a disk that shows no worker that can go on, for a journal that is too small, and
+/// where a number is at its end, 4 where the disk fails, 5 for want of memory, 7 where the outlet
+/// has refused a line or a write has failed.
+pub fn upgrade_worker<D: Disk, O: Outlet, E: Write + Drop>(
+    alloc: Global,
+    disk: &mut D,
+    outlet: &mut O,
+    err: &mut Printer<E>,
+) -> Result<Upgraded, u8>
+    ensures upgrades { UpgradesOnDisk D.medium O.takes result disk.old disk.new outlet.old
+        outlet.new err.old err.new }
+    ensures known { IfErr result (λ status. status ≤ 7) }
+{
+    let mut worker = match Worker::recover(alloc, disk, outlet) {
+        Ok(worker) => worker,
+        Err(fault) => return Err(say_disk_fault(err, OnDiskFault::from(fault))),
+    };
+    tell_recovered(err, &worker);
+    match worker.process().host().version() {
+        Version::Two => Ok(Upgraded::Before),
+        Version::One => match upgrade_open(alloc, &mut worker, disk, outlet) {
+            Ok(()) => Ok(Upgraded::Now),
+            Err(fault) => Err(say_disk_fault(err, OnDiskFault::from(fault))),
+        },
+    }
+}
+
+/// Writes that a worker is of version 2, and flushes the writer.
+fn print_upgraded<W: Write + Drop>(out: &mut Printer<W>, upgraded: Upgraded) -> io::Result<()>
+    ensures printed { OnOk result (IsPrinted out.old out.new (upgraded_words upgraded)) }
+    ensures failed { OnErr result (out.new.failed ≡ true) }
+{
+    match upgraded {
+        Upgraded::Now => out.write_all(b"upgraded\n")?,
+        Upgraded::Before => out.write_all(b"already version 2\n")?,
+    }
+    out.flush()
+}
+
+/// Says that a worker is of version 2, and returns the exit status: 0, or 7 where a write has
+/// failed.
+pub fn say_upgraded<W: Write + Drop>(out: &mut Printer<W>, upgraded: Upgraded) -> u8
+    ensures said { SaysText (upgraded_words upgraded) 0 out.old result out.new }
+    ensures known { result ≤ 7 }
+{
+    match print_upgraded(out, upgraded) {
+        Ok(()) => 0,
+        Err(_) => UNWRITTEN,
+    }
+}

@@ -1,0 +1,90 @@
+-- What is in the way of version 2, and what it says.
+use Rattle.std.proofs.Common.{◌≡◌, ℕ, Bool, true, false, refl, sym, subst}
+use Rattle.std.specs.Prelude.{◌↔◌, IsTrue}
+use Rattle.wasi_abi.specs.declared.version.Version.TheVariants.{One, Two}
+use Rattle.disk_layout.specs.rules.Journal.{TakesRecords}
+use Rattle.worker.specs.declared.fault.WorkFault.TheVariants.{Upgrade}
+use Rattle.worker.specs.declared.running.Running.{Running}
+use Rattle.worker.specs.declared.upgrade_fault.UpgradeFault.{UpgradeFault}
+use Rattle.worker.specs.declared.upgrade_fault.UpgradeFault.TheVariants as upgrade
+use Rattle.worker.specs.rules.DurableValues.{DurableValue, durable_of}
+use Rattle.worker.specs.rules.Upgrades.{IsTooSmall, IsNotCaughtUp, HasUpgradeCause}
+use Rattle.worker.specs.Upgrading.{MayUpgrade, IsUpgradeRefused}
+use Rattle.sector_disk.specs.rules.Medium.{Medium}
+
+-- ---- the tests
+
+takes_none : (w : Running) (takes : Bool)
+    → (IsTrue takes ↔ TakesRecords Two w.store.geometry.journal_sectors) → takes ≡ false
+    → TakesRecords Two w.store.geometry.journal_sectors → ⊥
+takes_none w takes means none can = absurd (let yes = means.1 can in cc)
+
+pub refused_small : (w : Running) (takes : Bool)
+    → (IsTrue takes ↔ TakesRecords Two w.store.geometry.journal_sectors) → takes ≡ false
+    → IsUpgradeRefused w upgrade.JournalTooSmall
+refused_small w takes means none = takes_none w takes means none
+
+module _ (w : Running) (takes : Bool)
+    (means : IsTrue takes ↔ TakesRecords Two w.store.geometry.journal_sectors)
+    (yes : takes ≡ true) where
+  takes_all : TakesRecords Two w.store.geometry.journal_sectors
+  takes_all = means.0 yes
+
+  pub may_abreast : w.is_abreast ≡ true → MayUpgrade w
+  may_abreast says = record { takes = takes_all; abreast = λ narrow. says }
+
+  pub may_wide : w.process.host.host.version ≡ Two → MayUpgrade w
+  may_wide wide = record { takes = takes_all; abreast = λ narrow. absurd (cc) }
+
+  pub refused_behind : w.is_abreast ≡ false → w.process.host.host.version ≡ One
+      → IsUpgradeRefused w upgrade.NotCaughtUp
+  refused_behind behind narrow = (takes_all, narrow, behind)
+
+-- ---- what an upgrade says then
+
+-- of a worker whose parts are these
+module _ (w : Running) (old : DurableValue) (replayed : ℕ) (flag : Bool)
+    (is_old : durable_of w replayed flag ≡ old) where
+  -- it is refused
+  module _ (fault : UpgradeFault) (refused : IsUpgradeRefused w fault) where
+    pub too_small_said : IsTooSmall old → fault ≡ upgrade.JournalTooSmall
+    too_small_said small = by fault refused
+      where
+        by : (fault : UpgradeFault) → IsUpgradeRefused w fault → fault ≡ upgrade.JournalTooSmall
+        by upgrade.JournalTooSmall refused = refl
+        by upgrade.NotCaughtUp refused =
+            absurd (subst (λ (z : DurableValue). IsTooSmall z) (sym is_old) small refused.0)
+
+    pub not_caught_up_said : IsNotCaughtUp old → fault ≡ upgrade.NotCaughtUp
+    not_caught_up_said behind = by fault refused
+      where
+        by : (fault : UpgradeFault) → IsUpgradeRefused w fault → fault ≡ upgrade.NotCaughtUp
+        by upgrade.JournalTooSmall refused =
+            let there : IsNotCaughtUp (durable_of w replayed flag) =
+            subst (λ (z : DurableValue). IsNotCaughtUp z) (sym is_old) behind in
+            absurd (refused there.takes)
+        by upgrade.NotCaughtUp refused = refl
+
+    pub refusal_cause : (disk disk' : Medium) → HasUpgradeCause old disk disk' (Upgrade fault)
+    refusal_cause disk disk' = subst (λ (z : DurableValue).
+        HasUpgradeCause z disk disk' (Upgrade fault)) is_old (by fault refused)
+      where
+        by : (fault : UpgradeFault) → IsUpgradeRefused w fault
+            → HasUpgradeCause (durable_of w replayed flag) disk disk' (Upgrade fault)
+        by upgrade.JournalTooSmall refused = refused
+        by upgrade.NotCaughtUp refused =
+            record { takes = refused.0; version = refused.1; behind = refused.2 }
+
+  -- it isn't
+  module _ (may : MayUpgrade w) where
+    pub never_small : IsTooSmall old → ⊥
+    never_small small =
+        subst (λ (z : DurableValue). IsTooSmall z) (sym is_old) small may.takes
+
+    pub never_behind : IsNotCaughtUp old → ⊥
+    never_behind behind =
+        let there : IsNotCaughtUp (durable_of w replayed flag) =
+        subst (λ (z : DurableValue). IsNotCaughtUp z) (sym is_old) behind in
+        let says = may.abreast there.version in
+        let no = there.behind in
+        absurd (cc)

@@ -1,0 +1,182 @@
+-- An upgrade, as its contract sees it.
+use Rattle.std.proofs.Common.{◌≡◌, ◌⊎◌, ℕ, ◌+◌, ◌≤◌, Bool, true, false, refl, sym, ap, ◌∙◌, subst}
+use Rattle.std.proofs.Common.{inl, inr}
+use Rattle.std.specs.Prelude.{Result, Ok, Err}
+use Rattle.wasm_syntax.specs.declared.module.Module.{Module}
+use Rattle.wasi_abi.specs.declared.version.Version.TheVariants.{One}
+use Rattle.process_rules.specs.Processes.{ProcessState, Guest}
+use Rattle.process_rules.specs.Runs.{widened}
+use Rattle.process.specs.rules.Values.{ProcessValue, ShowsProcess, IsProcess}
+use Rattle.sector_disk.specs.rules.Medium.{Medium, CallsUpTo}
+use Rattle.worker_store.specs.declared.fault.StoreFault.{StoreFault}
+use Rattle.worker_store.specs.laws.Laws.{ImagesFitAreas}
+use Rattle.worker_store.specs.rules.Calls.{StoresNext}
+use Rattle.worker_store.specs.rules.Stores.{IsUnfailed}
+use Rattle.worker.specs.declared.fault.WorkFault.{WorkFault}
+use Rattle.worker.specs.declared.fault.WorkFault.TheVariants.{Upgrade}
+use Rattle.worker.specs.declared.running.Running.{Running}
+use Rattle.worker.specs.declared.upgrade_fault.UpgradeFault.{UpgradeFault}
+use Rattle.worker.specs.declared.upgrade_fault.UpgradeFault.TheVariants as upgrade
+use Rattle.worker.specs.rules.WorkFaults.{fault_of_store}
+use Rattle.worker.specs.rules.CallCounts.{most_saving}
+use Rattle.worker.specs.rules.DurableCalls.{UpgradeCarries}
+use Rattle.worker.specs.rules.DurableValues.{DurableValue, durable_of}
+use Rattle.worker.specs.rules.Savings.{LeavesFrontOrNext, SaveCalls, SaveFails, HasSaveCause}
+use Rattle.worker.specs.rules.Upgrades.{upgraded, IsUpgradedIn, UpgradeCalls, UpgradeFails}
+use Rattle.worker.specs.rules.Upgrades.{HasUpgradeCause, Migrates, EndsInTwo}
+use Rattle.worker.specs.Upgrading.{MayUpgrade, IsUpgradeRefused, LeftBy, BarsAndCommits}
+use Rattle.worker.proofs.MigrationLemmas.{migrates, ends_in_two}
+use Rattle.worker.proofs.UpgradeLemmas.{upgrade_carries, upgrade_fault_carries}
+use Rattle.worker.proofs.UpgradeLemmas.{upgrade_fault_fails, left_of_fault, upgrade_cause}
+use Rattle.worker.proofs.UpgradeLemmas.{too_small_carries, not_caught_up_carries}
+use Rattle.worker.proofs.UpgradeLemmas.{upgrade_calls_err, upgrade_calls_ok}
+use Rattle.worker.proofs.WideningLemmas.{upgraded_version, shows_upgraded}
+
+module _ {D : Type 0} (medium : D → Medium) (running after : Running) (replayed : ℕ)
+    (flag : Bool) (old : DurableValue) (is_old : durable_of running replayed flag ≡ old)
+    (disk disk' : D) (is : IsProcess running.process) where
+  -- ---- it is refused
+
+  module _ (fault : UpgradeFault) (refused : IsUpgradeRefused running fault) where
+    pub refused_carries : ImagesFitAreas → after.process ≡ running.process
+        → UpgradeCarries old (Err (Upgrade fault)) (durable_of after replayed true) (medium disk)
+        (medium disk)
+    refused_carries fit same =
+        subst (λ (w : DurableValue). UpgradeCarries w (Err (Upgrade fault))
+        (durable_of after replayed true) (medium disk) (medium disk)) is_old (by fault refused)
+      where
+        by : (fault : UpgradeFault) → IsUpgradeRefused running fault
+            → UpgradeCarries (durable_of running replayed flag) (Err (Upgrade fault))
+            (durable_of after replayed true) (medium disk) (medium disk)
+        by upgrade.JournalTooSmall small =
+            too_small_carries medium (durable_of running replayed flag)
+            (durable_of after replayed true) disk fit is same small
+        by upgrade.NotCaughtUp behind =
+            not_caught_up_carries medium (durable_of running replayed flag)
+            (durable_of after replayed true) disk fit is same
+            (record { takes = behind.0; version = behind.1; behind = behind.2 })
+
+    pub refused_fails : after.process ≡ running.process
+        → UpgradeFails old after.process (medium disk) (medium disk) (Upgrade fault)
+    refused_fails same =
+        subst (λ (w : DurableValue). UpgradeFails w after.process (medium disk) (medium disk)
+        (Upgrade fault)) is_old (by fault refused)
+      where
+        by : (fault : UpgradeFault) → IsUpgradeRefused running fault
+            → UpgradeFails (durable_of running replayed flag) after.process (medium disk)
+            (medium disk) (Upgrade fault)
+        by upgrade.JournalTooSmall small m config guest promise stage p opened = (small, same)
+        by upgrade.NotCaughtUp behind m config guest promise stage p opened =
+            (record { takes = behind.0; version = behind.1; behind = behind.2 }, same)
+
+  -- ---- it is saved, or that fails
+
+  module _ (fit : ImagesFitAreas) (may : MayUpgrade running) where
+    pub migrates_so : BarsAndCommits medium running.store running.process after.process disk disk'
+        → Migrates medium old disk disk'
+    migrates_so bars = subst (λ (w : DurableValue). Migrates medium w disk disk') is_old
+        (migrates medium (durable_of running replayed flag) disk disk' fit is may.takes
+        after.process bars)
+
+    pub ends_so : StoresNext running.store after.store after.process (medium disk) (medium disk')
+        → after.process ≡ upgraded running.process
+        → EndsInTwo old (medium disk) (medium disk')
+    ends_so stores same = subst (λ (w : DurableValue). EndsInTwo w (medium disk) (medium disk'))
+        is_old
+        (ends_in_two medium (durable_of running replayed flag) disk disk' fit is may.takes
+        after.store
+        (subst (λ (v : ProcessValue). StoresNext running.store after.store v (medium disk)
+        (medium disk')) same stores))
+
+    module _ (leaves : LeavesFrontOrNext running.store after.process (medium disk) (medium disk'))
+        (few : CallsUpTo (most_saving (medium disk).sectors) (medium disk) (medium disk')) where
+      pub done_carries : after.process ≡ upgraded running.process → flag ≡ false
+          → after.is_abreast ≡ running.is_abreast
+          → StoresNext running.store after.store after.process (medium disk) (medium disk')
+          → UpgradeCarries old (Ok tt) (durable_of after replayed flag) (medium disk)
+          (medium disk')
+      done_carries same works says stores =
+          subst (λ (w : DurableValue). UpgradeCarries w (Ok tt) (durable_of after replayed flag)
+          (medium disk) (medium disk')) is_old
+          (upgrade_carries medium (durable_of running replayed flag)
+          (durable_of after replayed flag) disk disk' fit is may.takes may.abreast leaves few same
+          works says stores)
+
+      module _ (fault : StoreFault) (why : WorkFault) (same : why ≡ fault_of_store fault)
+          (fails : SaveFails running.store after.process (medium disk) (medium disk') fault)
+          (left : LeftBy fault running.store running.process after.process) where
+        pub fault_carries : UpgradeCarries old (Err why) (durable_of after replayed true)
+            (medium disk) (medium disk')
+        fault_carries = subst (λ (e : WorkFault). UpgradeCarries old (Err e)
+            (durable_of after replayed true) (medium disk) (medium disk')) (sym same)
+            (subst (λ (w : DurableValue). UpgradeCarries w (Err (fault_of_store fault))
+            (durable_of after replayed true) (medium disk) (medium disk')) is_old
+            (upgrade_fault_carries medium (durable_of running replayed flag)
+            (durable_of after replayed true) disk disk' fit is may.takes may.abreast leaves few
+            fault fails left))
+
+        pub fault_fails : UpgradeFails old after.process (medium disk) (medium disk') why
+        fault_fails = subst (λ (e : WorkFault). UpgradeFails old after.process (medium disk)
+            (medium disk') e) (sym same)
+            (subst (λ (w : DurableValue). UpgradeFails w after.process (medium disk)
+            (medium disk') (fault_of_store fault)) is_old
+            (upgrade_fault_fails medium (durable_of running replayed flag)
+            (durable_of after replayed true) disk disk' fit is may.takes may.abreast leaves few
+            fault fails left))
+
+-- ---- the worker
+
+module _ (running after : Running) (replayed : ℕ) (flag : Bool) (old : DurableValue)
+    (is_old : durable_of running replayed flag ≡ old) where
+  pub upgraded_so : after.process ≡ upgraded running.process
+      → after.is_abreast ≡ running.is_abreast
+      → after.store.journal.generation ≡ running.store.journal.generation + 1
+      → IsUpgradedIn old (durable_of after replayed flag)
+  upgraded_so same says numbered =
+      subst (λ (w : DurableValue). IsUpgradedIn w (durable_of after replayed flag)) is_old
+      (record {
+        process = same;
+        version = ap (λ (v : ProcessValue). v.host.host.version) same
+            ∙ upgraded_version running.process;
+        widens = λ narrow guest p shows.
+            subst (λ (v : ProcessValue). ShowsProcess v guest (widened p)) (sym same)
+            (shows_upgraded running.process narrow guest p shows);
+        abreast = says;
+        replayed = refl;
+        unfailed = refl;
+        generation = numbered;
+      })
+
+  pub left_so : (fault : StoreFault)
+      → LeftBy fault running.store running.process after.process
+      → (after.process ≡ old.process) ⊎ (after.process ≡ upgraded old.process)
+  left_so fault left = subst (λ (w : DurableValue).
+      (after.process ≡ w.process) ⊎ (after.process ≡ upgraded w.process)) is_old
+      (left_of_fault fault running.store running.process after.process left)
+
+-- ---- calls, and whatever stands on the disk
+
+module _ (running : Running) (replayed : ℕ) (flag : Bool) (old : DurableValue)
+    (is_old : durable_of running replayed flag ≡ old) (disk disk' : Medium) where
+  pub calls_err_so : (fault : StoreFault) (why : WorkFault)
+      → SaveCalls {T = Unit {0}} running.store (upgraded running.process) (Err fault) disk disk'
+      → UpgradeCalls {T = Unit {0}} old (Err why) disk disk'
+  calls_err_so fault why made = subst (λ (w : DurableValue).
+      UpgradeCalls {T = Unit {0}} w (Err why) disk disk') is_old
+      (upgrade_calls_err (durable_of running replayed flag) fault why disk disk' made)
+
+  pub calls_ok_so : (done : Unit {0})
+      → SaveCalls running.store (upgraded running.process) (Ok done) disk disk'
+      → UpgradeCalls {E = WorkFault} old (Ok done) disk disk'
+  calls_ok_so done made = subst (λ (w : DurableValue).
+      UpgradeCalls {E = WorkFault} w (Ok done) disk disk') is_old
+      (upgrade_calls_ok (durable_of running replayed flag) done disk disk' made)
+
+  pub cause_so : (fault : StoreFault) (why : WorkFault) → why ≡ fault_of_store fault
+      → (flag ≡ false → IsUnfailed running.store) → flag ≡ false
+      → HasSaveCause running.store (upgraded running.process) disk disk' fault
+      → HasUpgradeCause old disk disk' why
+  cause_so fault why same unfailed works cause =
+      subst (λ (e : WorkFault). HasUpgradeCause old disk disk' e) (sym same)
+      (subst (λ (w : DurableValue). HasUpgradeCause w disk disk' (fault_of_store fault)) is_old
+      (upgrade_cause (durable_of running replayed flag) disk disk' fault unfailed works cause))

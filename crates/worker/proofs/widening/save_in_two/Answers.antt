@@ -1,0 +1,218 @@
+use Rattle.std.proofs.Common.{◌≡◌, ◌+◌, ◌<◌, sym, ap, ◌∙◌, subst, inl}
+use Rattle.std.specs.Prelude.{IfErr}
+use Rattle.std.proofs.lemmas.Result.{on_err_weaker, on_ok_weaker}
+use Rattle.wasi_abi.specs.declared.numbers.TheConstants.{NUMBERS_END}
+use Rattle.sector_disk.proofs.Moments.{goes_on}
+use Rattle.journal.specs.rules.State.{JournalState}
+use Rattle.process.specs.rules.Values.{ProcessValue}
+use Rattle.worker.specs.rules.Savings.{SaveCalls, HasSaveCause}
+use Rattle.worker.specs.rules.Upgrades.{upgraded}
+use Rattle.worker.specs.Upgrading.{LeftBy}
+use Rattle.worker.proofs.SavingLemmas.{barrier_saves, commit_saves, commit_saved}
+use Rattle.worker.proofs.SavingLemmas.{barrier_calls_begun, commit_calls_behind}
+use Rattle.worker.proofs.SavingLemmas.{barrier_fails}
+use Rattle.worker.proofs.SavingLemmas.{commit_fails, still_room}
+use Rattle.worker.proofs.SavingInTwoLemmas.{left_same, left_by_commit, late_fails, late_cause}
+use Rattle.worker.proofs.SavingInTwoLemmas.{late_runs, bars_and_commits}
+use Rattle.worker.proofs.StoreTurnLemmas.{barrier_went, barrier_failed, commit_runs}
+use Rattle.worker.proofs.StoreTurnLemmas.{saves_join, barrier_save_cause}
+use Rattle.worker.proofs.StoreTurnLemmas.{commit_save_cause}
+use Rattle.worker.proofs.widening.save_in_two.Goals as goal
+
+-- ---- the barrier fails
+
+pub returns-in-Err-clause-left : goal.returns-in-Err-clause-left
+returns-in-Err-clause-left g c = left_same c.in-Err.fault c.args.store.now c.args.process.now
+
+pub returns-in-Err-clause-any_moment : goal.returns-in-Err-clause-any_moment
+returns-in-Err-clause-any_moment g c =
+    barrier_saves g.D.Disk.medium c.args.store.now c.args.process.now c.args.disk.now
+    c.barrier.new.disk c.in-Err.ensures.any_moment
+
+pub returns-in-Err-clause-bars : goal.returns-in-Err-clause-bars
+returns-in-Err-clause-bars g c = inl c.in-Err.ensures.any_moment
+
+pub returns-in-Err-clause-calls : goal.returns-in-Err-clause-calls
+returns-in-Err-clause-calls g c =
+    let made = c.in-Err.ensures.calls in
+    barrier_calls_begun c.args.store.now (upgraded c.args.process.now) c.in-Err.fault
+    (g.D.Disk.medium c.args.disk.now) (g.D.Disk.medium c.barrier.new.disk) made.begun
+
+pub returns-in-Err-clause-cause : goal.returns-in-Err-clause-cause
+returns-in-Err-clause-cause g c =
+    barrier_fails c.args.store.now c.args.process.now (g.D.Disk.medium c.args.disk.now)
+    (g.D.Disk.medium c.barrier.new.disk) c.in-Err.fault c.in-Err.ensures.cause
+
+pub returns-in-Err-clause-runs : goal.returns-in-Err-clause-runs
+returns-in-Err-clause-runs g c =
+    let failed = c.in-Err.ensures in
+    barrier_failed g.D.Disk.medium c.args.store.now c.barrier.new.self c.args.disk.now
+    c.barrier.new.disk failed.stays failed.passes failed.counts c.in-Err.fault failed.full
+    failed.cause failed.calls.begun
+
+pub returns-in-Err-clause-on_any_disk : goal.returns-in-Err-clause-on_any_disk
+returns-in-Err-clause-on_any_disk g c =
+    barrier_save_cause c.args.store.now (upgraded c.args.process.now)
+    (g.D.Disk.medium c.args.disk.now) (g.D.Disk.medium c.barrier.new.disk) c.in-Err.fault
+    c.in-Err.ensures.cause
+
+-- ---- the next generation has no number
+
+pub returns-in-Err-widen-clause-left : goal.returns-in-Err-widen-clause-left
+returns-in-Err-widen-clause-left g c =
+    subst (λ (w : ProcessValue). LeftBy c.in-Err-widen.fault c.args.store.now c.args.process.now w)
+    (sym (c.in-Err-widen.ensures.same ∙ c.release_none.ensures.same))
+    (left_same c.in-Err-widen.fault c.args.store.now c.args.process.now)
+
+pub returns-in-Err-widen-clause-any_moment : goal.returns-in-Err-widen-clause-any_moment
+returns-in-Err-widen-clause-any_moment g c =
+    barrier_saves g.D.Disk.medium c.args.store.now c.widen.new.process c.args.disk.now
+    c.barrier.new.disk c.in_default.ensures.any_moment
+
+pub returns-in-Err-widen-clause-bars : goal.returns-in-Err-widen-clause-bars
+returns-in-Err-widen-clause-bars g c = inl c.in_default.ensures.any_moment
+
+pub returns-in-Err-widen-clause-calls : goal.returns-in-Err-widen-clause-calls
+returns-in-Err-widen-clause-calls g c =
+    let made = c.in_default.ensures.calls in
+    barrier_calls_begun c.args.store.now (upgraded c.args.process.now) c.in-Err-widen.fault
+    (g.D.Disk.medium c.args.disk.now) (g.D.Disk.medium c.barrier.new.disk) made.begun
+
+pub returns-in-Err-widen-clause-cause : goal.returns-in-Err-widen-clause-cause
+returns-in-Err-widen-clause-cause g c =
+    late_fails c.args.store.now c.barrier.new.self c.widen.new.process
+    (g.D.Disk.medium c.args.disk.now) (g.D.Disk.medium c.barrier.new.disk) c.generation.result
+    c.generation.ensures c.in_default.ensures.stays c.in-Err-widen.ensures.late c.in-Err-widen.fault
+    c.in-Err-widen.ensures.fails
+
+pub returns-in-Err-widen-clause-runs : goal.returns-in-Err-widen-clause-runs
+returns-in-Err-widen-clause-runs g c =
+    let done = c.in_default.ensures in
+    late_runs c.args.store.now c.barrier.new.self (g.D.Disk.medium c.args.disk.now)
+    (g.D.Disk.medium c.barrier.new.disk)
+    (barrier_went g.D.Disk.medium c.args.store.now c.barrier.new.self c.args.disk.now
+    c.barrier.new.disk done.stays done.passes done.counts tt done.full done.stored done.quiet
+    done.settled done.calls.all) c.in-Err-widen.fault c.in-Err-widen.ensures.fails
+
+pub returns-in-Err-widen-clause-on_any_disk : goal.returns-in-Err-widen-clause-on_any_disk
+returns-in-Err-widen-clause-on_any_disk g c =
+    late_cause c.args.store.now c.barrier.new.self (upgraded c.args.process.now)
+    (g.D.Disk.medium c.args.disk.now) (g.D.Disk.medium c.barrier.new.disk) c.generation.result
+    c.generation.ensures c.in_default.ensures.stays c.in-Err-widen.ensures.late c.in-Err-widen.fault
+    c.in-Err-widen.ensures.fails
+
+-- ---- the commit
+
+pub commit-requires : goal.commit-requires
+commit-requires g c =
+    still_room c.args.store.now c.barrier.new.self (g.D.Disk.medium c.args.disk.now)
+    (g.D.Disk.medium c.barrier.new.disk) c.in_default.ensures.stays c.in_default.ensures.passes
+    c.requires.sectors
+
+pub returns-clause-done : goal.returns-clause-done
+returns-clause-done g c =
+    on_ok_weaker c.commit.result
+    (λ done. c.in_default-widen.ensures.done ∙ ap upgraded c.release_none.ensures.same)
+    c.commit.ensures.durable
+
+pub returns-clause-left : goal.returns-clause-left
+returns-clause-left g c =
+    left_by_commit c.args.store.now c.barrier.new.self c.args.process.now c.widen.new.process
+    (g.D.Disk.medium c.barrier.new.disk) (g.D.Disk.medium c.commit.new.disk)
+    c.in_default.ensures.stays
+    (c.in_default-widen.ensures.done ∙ ap upgraded c.release_none.ensures.same)
+    (subst (λ n. n + 1 < NUMBERS_END) c.generation.ensures c.in_default-widen.ensures.counted)
+    c.commit.result c.commit.ensures.cause
+
+pub returns-clause-any_moment : goal.returns-clause-any_moment
+returns-clause-any_moment g c =
+    commit_saves g.D.Disk.medium c.args.store.now c.widen.new.process c.args.disk.now
+    c.barrier.new.disk c.in_default.ensures.any_moment c.barrier.new.self c.commit.new.disk
+    c.in_default.ensures.durable c.commit.ensures.any_moment
+
+pub returns-clause-bars : goal.returns-clause-bars
+returns-clause-bars g c =
+    let made = c.in_default.ensures.calls in
+    bars_and_commits g.D.Disk.medium c.args.store.now c.barrier.new.self c.args.process.now
+    c.widen.new.process c.args.disk.now c.barrier.new.disk c.commit.new.disk made.all
+    c.in_default.ensures.any_moment c.in_default.ensures.durable
+    (c.in_default-widen.ensures.done ∙ ap upgraded c.release_none.ensures.same)
+    c.commit.ensures.any_moment
+
+pub returns-clause-durable : goal.returns-clause-durable
+returns-clause-durable g c =
+    on_ok_weaker c.commit.result
+    (commit_saved g.D.Disk.medium c.args.store.now c.widen.new.process c.args.disk.now
+    c.barrier.new.disk c.in_default.ensures.any_moment c.barrier.new.self c.commit.new.disk
+    c.in_default.ensures.durable c.commit.new.self) c.commit.ensures.durable
+
+pub returns-clause-numbered : goal.returns-clause-numbered
+returns-clause-numbered g c =
+    let stays = c.in_default.ensures.stays in
+    on_ok_weaker c.commit.result (λ next. next ∙ ap (λ n. n + 1) stays.generation)
+    c.commit.ensures.numbered
+
+pub returns-clause-unnumbered : goal.returns-clause-unnumbered
+returns-clause-unnumbered g c =
+    let stays = c.in_default.ensures.stays in
+    on_err_weaker c.commit.result
+    (λ same. ap (λ (j : JournalState). j.generation) same ∙ stays.generation)
+    c.commit.ensures.unchanged
+
+pub returns-clause-calls : goal.returns-clause-calls
+returns-clause-calls g c =
+    let made = c.in_default.ensures.calls in
+    subst (λ (v : ProcessValue). SaveCalls c.args.store.now v c.commit.result
+    (g.D.Disk.medium c.args.disk.now) (g.D.Disk.medium c.commit.new.disk))
+    (c.in_default-widen.ensures.done ∙ ap upgraded c.release_none.ensures.same)
+    (commit_calls_behind c.args.store.now c.barrier.new.self c.widen.new.process
+    c.commit.result (g.D.Disk.medium c.args.disk.now) (g.D.Disk.medium c.barrier.new.disk)
+    (g.D.Disk.medium c.commit.new.disk) c.in_default.ensures.stays made.all
+    c.commit.ensures.calls)
+
+pub returns-clause-cause : goal.returns-clause-cause
+returns-clause-cause g c =
+    commit_fails c.args.store.now c.barrier.new.self c.widen.new.process
+    (g.D.Disk.medium c.args.disk.now) (g.D.Disk.medium c.barrier.new.disk)
+    (g.D.Disk.medium c.commit.new.disk) c.in_default.ensures.durable c.in_default.ensures.stays
+    c.in_default.ensures.passes c.commit.result c.commit.ensures.cause
+
+pub returns-clause-runs : goal.returns-clause-runs
+returns-clause-runs g c =
+    let old = c.args.store.now in
+    let done = c.in_default.ensures in
+    let put = c.commit.ensures in
+    saves_join old c.barrier.new.self c.commit.new.self (g.D.Disk.medium c.args.disk.now)
+    (g.D.Disk.medium c.barrier.new.disk) (g.D.Disk.medium c.commit.new.disk) c.commit.result
+    (barrier_went g.D.Disk.medium old c.barrier.new.self c.args.disk.now c.barrier.new.disk
+    done.stays done.passes done.counts tt done.full done.stored done.quiet done.settled
+    done.calls.all)
+    (commit_runs c.barrier.new.self c.commit.new.self c.widen.new.process
+    (g.D.Disk.medium c.barrier.new.disk) (g.D.Disk.medium c.commit.new.disk) put.passes
+    put.counts put.stays
+    c.commit.result put.begun put.unchanged put.settled put.cause put.calls)
+
+pub returns-clause-on_any_disk : goal.returns-clause-on_any_disk
+returns-clause-on_any_disk g c =
+    let old = c.args.store.now in
+    let done = c.in_default.ensures in
+    subst (λ (v : ProcessValue). IfErr c.commit.result (λ e. HasSaveCause old v
+    (g.D.Disk.medium c.args.disk.now) (g.D.Disk.medium c.commit.new.disk) e))
+    (c.in_default-widen.ensures.done ∙ ap upgraded c.release_none.ensures.same)
+    (commit_save_cause old c.barrier.new.self c.widen.new.process
+    (g.D.Disk.medium c.args.disk.now)
+    (g.D.Disk.medium c.barrier.new.disk) (g.D.Disk.medium c.commit.new.disk)
+    (barrier_went g.D.Disk.medium old c.barrier.new.self c.args.disk.now c.barrier.new.disk
+    done.stays done.passes done.counts tt done.full done.stored done.quiet done.settled
+    done.calls.all)
+    done.stays c.commit.result c.commit.ensures.cause)
+
+pub returns-clause-stays : goal.returns-clause-stays
+returns-clause-stays g c =
+    let stays = c.in_default.ensures.stays in c.commit.ensures.stays ∙ stays.geometry
+
+pub returns-clause-passes : goal.returns-clause-passes
+returns-clause-passes g c =
+    goes_on (g.D.Disk.medium c.args.disk.now) (g.D.Disk.medium c.barrier.new.disk)
+    (g.D.Disk.medium c.commit.new.disk) (λ image. Unit {0}) (λ image. Unit {0})
+    c.in_default.ensures.passes c.commit.ensures.passes (λ image at. tt)

@@ -1,0 +1,172 @@
+-- What an upgrade does to a worker and its disk: how a worker of version 1 becomes one of version 2
+-- (this project's own).
+use Rattle.std.specs.Prelude.{◌≡◌, ◌⊎◌, ℕ, ◌+◌, ◌-◌, ◌*◌, ◌≤◌, ◌<◌, false, true, List, [], ◌∷◌}
+use Rattle.std.specs.Prelude.{◌++◌, length, take, Result, Ok, Err}
+use Rattle.wasm_syntax.specs.declared.module.Module.{Module}
+use Rattle.wasi_abi.specs.declared.numbers.TheConstants.{NUMBERS_END}
+use Rattle.wasi_abi.specs.declared.version.Version.{Version}
+use Rattle.wasi_abi.specs.declared.version.Version.TheVariants.{One, Two}
+use Rattle.wasi_abi.specs.rules.Configs.{Settings}
+use Rattle.wasi_calls.specs.rules.Held.{held_widened}
+use Rattle.process_rules.specs.Processes.{ProcessState, Guest}
+use Rattle.process_rules.specs.Runs.{Wider, widened, Runs}
+use Rattle.process.specs.rules.Values.{ProcessValue, ShowsProcess}
+use Rattle.state_image.specs.rules.Image.{image}
+use Rattle.state_image.specs.rules.Saving.{saved_of}
+use Rattle.sector_disk.specs.declared.disk_call.DiskCall.{DiskCall}
+use Rattle.sector_disk.specs.declared.sector.TheConstants.{SECTOR_SIZE}
+use Rattle.sector_disk.specs.rules.Image.{Image}
+use Rattle.sector_disk.specs.rules.Medium.{Medium, LeavesOnly, MakesCalls, spare}
+use Rattle.disk_layout.specs.rules.Journal.{TakesRecords}
+use Rattle.disk_layout.specs.rules.Places.{area_place, rounded_up}
+use Rattle.journal.specs.rules.Packed.{sectors_for}
+use Rattle.journal.specs.rules.Steps.{barrier_calls}
+use Rattle.snapshot.specs.declared.writing.Writing.TheVariants.{Changes}
+use Rattle.snapshot.specs.rules.Calls.{AreStores, with_head}
+use Rattle.restart_theorem.specs.Stands.{StandsFor}
+use Rattle.restart_theorem.specs.Courses.{Stage}
+use Rattle.restart_theorem.specs.Promises.{Promise, HoldsAll}
+use Rattle.worker_store.specs.declared.fault.StoreFault.TheVariants as store
+use Rattle.ephemeral_worker.specs.declared.fault.SliceFault.TheVariants as slice
+use Rattle.worker.specs.declared.fault.WorkFault.{WorkFault}
+use Rattle.worker.specs.declared.fault.WorkFault.TheVariants.{Work, Disk, Store, Upgrade}
+use Rattle.worker.specs.declared.upgrade_fault.UpgradeFault.TheVariants.{JournalTooSmall}
+use Rattle.worker.specs.declared.upgrade_fault.UpgradeFault.TheVariants.{NotCaughtUp}
+use Rattle.worker.specs.rules.DurableValues.{DurableValue}
+use Rattle.worker.specs.rules.OpenWorkers.{IsOpenOn}
+
+-- ---- the worker
+
+-- a process of this version in version 2: of version 1 it is widened
+abbrev pub in_version_two : Version → ProcessValue → ProcessValue
+in_version_two One v = record v { host = held_widened v.host; answers = v.answers + 1 }
+in_version_two Two v = v
+
+-- a process in version 2, whatever its version
+abbrev pub upgraded : ProcessValue → ProcessValue
+upgraded v = in_version_two v.host.host.version v
+
+-- The worker is of version 2, and its store one generation on. Where its process was of version 1,
+-- it shows what it showed, widened. Else it is as it was.
+pub record IsUpgradedIn (old new : DurableValue) : Type 0 where
+  pub process : new.process ≡ upgraded old.process
+  pub version : new.process.host.host.version ≡ Two
+  pub widens : old.process.host.host.version ≡ One → (guest : Guest) (p : ProcessState)
+      → ShowsProcess old.process guest p → ShowsProcess new.process guest (widened p)
+  pub abreast : new.is_abreast ≡ old.is_abreast
+  pub replayed : new.replayed ≡ old.replayed
+  pub unfailed : new.has_failed ≡ old.has_failed
+  pub generation : new.store.journal.generation ≡ old.store.journal.generation + 1
+
+-- The calls are those of a checkpoint of the process in version 2. After an error they are begun.
+abbrev pub UpgradeCalls : {T E : Type 0} → DurableValue → Result T E → Medium → Medium → Type 0
+UpgradeCalls w result old new = (stores : List DiskCall)
+    × AreStores Changes (area_place w.store.geometry (w.store.journal.generation + 1))
+    (rounded_up (length (image (saved_of (upgraded w.process))))) stores
+    × MakesCalls (with_head (w.store.journal.generation + 1) stores
+    ++ barrier_calls w.store.geometry w.store.journal) result old new
+
+-- ---- errors
+
+-- its journal can't take the longest record of version 2
+abbrev pub IsTooSmall : DurableValue → Type 0
+IsTooSmall w = TakesRecords Two w.store.geometry.journal_sectors → ⊥
+
+-- it can, but lines beyond the process of version 1 may have been told
+pub record IsNotCaughtUp (w : DurableValue) : Type 0 where
+  pub takes : TakesRecords Two w.store.geometry.journal_sectors
+  pub version : w.process.host.host.version ≡ One
+  pub behind : w.is_abreast ≡ false
+
+-- When each error comes of a worker that is open: one of these two, first the first one. Or the
+-- number of the generation is at its end, or the disk failed, or it surely takes too few writes
+-- between two syncs. No memory is taken.
+abbrev pub IsUpgradeFault : DurableValue → Medium → Medium → WorkFault → Type 0
+IsUpgradeFault w old new (Upgrade JournalTooSmall) = IsTooSmall w
+IsUpgradeFault w old new (Upgrade NotCaughtUp) = IsNotCaughtUp w
+IsUpgradeFault w old new (Store store.TooBig) = NUMBERS_END ≤ w.store.journal.generation + 1
+IsUpgradeFault w old new (Disk fault) =
+    (old.room < sectors_for (length w.store.journal.kept))
+    ⊎ (old.room < w.store.geometry.area_sectors) ⊎ (old.room ≡ 0) ⊎ (old.faults < new.faults)
+IsUpgradeFault w old new other = ⊥
+
+-- After an error the process is as it was. Only where the disk failed may it be widened.
+abbrev pub LeavesProcess : WorkFault → ProcessValue → ProcessValue → Type 0
+LeavesProcess (Disk fault) before after = (after ≡ before) ⊎ (after ≡ upgraded before)
+LeavesProcess other before after = after ≡ before
+
+-- so it is whatever was promised of it
+abbrev pub UpgradeFails : DurableValue → ProcessValue → Medium → Medium → WorkFault → Type 0
+UpgradeFails w after old new fault =
+    (m : Module) (config : Settings) (guest : Guest) (promise : Promise) (stage : Stage)
+    (p : ProcessState) → IsOpenOn m config guest promise stage p w old
+    → IsUpgradeFault w old new fault × LeavesProcess fault w.process after
+
+-- When each error comes, whatever stands on the disk. Then the journal may also have too few
+-- sectors for the pending records, and the area for the image. The disk may have taken writes since
+-- its last good sync. The worker says that it has failed only where it had failed before.
+abbrev pub HasUpgradeCause : DurableValue → Medium → Medium → WorkFault → Type 0
+HasUpgradeCause w old new (Work slice.Failed) = w.has_failed ≡ true
+HasUpgradeCause w old new (Upgrade JournalTooSmall) = IsTooSmall w
+HasUpgradeCause w old new (Upgrade NotCaughtUp) = IsNotCaughtUp w
+HasUpgradeCause w old new (Store store.TooBig) = (NUMBERS_END ≤ w.store.journal.generation + 1)
+    ⊎ (SECTOR_SIZE * w.store.geometry.area_sectors
+    < length (image (saved_of (upgraded w.process))))
+HasUpgradeCause w old new (Store store.Full) =
+    w.store.geometry.journal_sectors - w.store.journal.used
+    < sectors_for (length w.store.journal.kept)
+HasUpgradeCause w old new (Disk fault) =
+    (spare old < sectors_for (length w.store.journal.kept))
+    ⊎ (spare old < w.store.geometry.area_sectors) ⊎ (old.room ≡ 0) ⊎ (old.faults < new.faults)
+HasUpgradeCause w old new other = ⊥
+
+-- ---- the disk
+
+-- It stands in version 1 for a prefix of the kept answers, which holds all that is promised.
+pub record StandsInOne (m : Module) (config : Settings) (promise : Promise) (disk : Image)
+    : Type 0 where
+  pub held : ℕ
+  pub steps : ℕ
+  pub stands : StandsFor disk m config (take held promise.kept) steps
+  pub version : stands.saved.version ≡ One
+  pub holds : HoldsAll m config promise.kept promise held steps
+
+-- It stands in version 1 for all of them. What they lead to comes to p without another one.
+pub record LeadsInOne (m : Module) (config : Settings) (promise : Promise) (p : ProcessState)
+    (disk : Image) : Type 0 where
+  pub steps : ℕ
+  pub stands : StandsFor disk m config promise.kept steps
+  pub version : stands.saved.version ≡ One
+  pub more : ℕ
+  pub runs : Runs stands.reached.guest stands.last [] more p
+
+-- It stands in version 2 for p, widened. No record is behind that.
+pub record StandsInTwo (m : Module) (config : Settings) (promise : Promise) (p : ProcessState)
+    (disk : Image) : Type 0 where
+  pub stands : StandsFor disk m config (promise.kept ++ Wider p.steps ∷ []) p.steps
+  pub version : stands.saved.version ≡ Two
+  pub at : stands.process ≡ widened p
+  pub alone : stands.records ≡ []
+
+-- The migration theorem, of an open worker of version 1. A cut at any moment of an upgrade leaves
+-- version 1. Or there was a moment, once all its pending records were on the disk, up to which that
+-- is so. From then on a cut leaves either version, whole.
+abbrev pub Migrates : {D : Type 0} → (D → Medium) → DurableValue → D → D → Type 0
+Migrates {D} medium old disk disk' =
+    (m : Module) (config : Settings) (guest : Guest) (promise : Promise) (stage : Stage)
+    (p : ProcessState) → IsOpenOn m config guest promise stage p old (medium disk)
+    → p.host.version ≡ One
+    → LeavesOnly (medium disk) (medium disk') (StandsInOne m config promise)
+    ⊎ ((barred : D)
+    × ((medium barred).calls
+    ≡ barrier_calls old.store.geometry old.store.journal ++ (medium disk).calls)
+    × LeavesOnly (medium disk) (medium barred) (StandsInOne m config promise)
+    × LeavesOnly (medium barred) (medium disk') (λ image.
+    LeadsInOne m config promise p image ⊎ StandsInTwo m config promise p image))
+
+-- once it has answered Ok, each cut leaves version 2
+abbrev pub EndsInTwo : DurableValue → Medium → Medium → Type 0
+EndsInTwo w old new =
+    (m : Module) (config : Settings) (guest : Guest) (promise : Promise) (stage : Stage)
+    (p : ProcessState) → IsOpenOn m config guest promise stage p w old → p.host.version ≡ One
+    → (image : Image) → new.may_leave image → StandsInTwo m config promise p image
