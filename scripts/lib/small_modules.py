@@ -241,7 +241,7 @@ def memory_of_draws(letter=b"\0"):
 
 def draws(length):
     """A module that draws so many random bytes, in its step 4, and prints the letter of the error
-    of that call, `0` behind so many. It does so in step 12, and ends with step 14."""
+    of that call, `0` behind so many. It does so in step 12, and ends with step 13."""
     code = wasm.i32(LETTER) + wasm.i32(DRAWN) + wasm.i32(length) + wasm.CALL + wasm.unsigned(0)
     code += wasm.i32(ord("0")) + wasm.I32_ADD + wasm.STORE_8 + b"\x00"
     code += b"".join(map(wasm.i32, (1, 0, 1, 8))) + wasm.CALL + wasm.unsigned(1) + wasm.DROP

@@ -183,9 +183,10 @@ FLOODS = [
            + f"{MOST + 1} o \0\0\1\0\n"),
 ]
 
-# A worker that is upgraded. Its commit makes the calls of a checkpoint. It writes its head with the
-# last but one of them.
-HEAD = 208 + 133
+# A worker that is upgraded, so its journal has more sectors than a story gives it. Its commit makes
+# the calls of a checkpoint. It writes its head with the last but one of them.
+SECTORS, MORE_SECTORS = 64, 256
+HEAD = 208 + MORE_SECTORS - SECTORS + 133
 WIDE = recovered(2, 3, (20, 2, 1), form.echo_process(
     (20, 1, 1), (20, (0,)), form.echo_memory([b"hello"]), form.TWO))
 FRESH_IN_TWO = recovered(2, 3, (0, 1, 0), echo_image(version=form.TWO))
@@ -193,35 +194,40 @@ LONG = "a" * 4_097
 
 # One that draws 5,000 bytes, which no worker of version 1 is given, and prints the error's letter.
 UNDRAWN = form.image((0,) * 5, (form.RUNNING, 0, 0), [(2, 0, ())], memory_of_draws())
-DRAWN = form.image((14, 1, 0, 1, 0), (form.EXITED, 0, 0), [], memory_of_draws(b"L"), form.TWO)
+DRAWN = form.image((13, 1, 0, 1, 0), (form.EXITED, 0, 0), [], memory_of_draws(b"L"), form.TWO)
+
+
+def upgraded(script, out, module="echo.wasm", journal=MORE_SECTORS):
+    """A story of a worker whose journal has so many sectors."""
+    return Story(script, module, ("--journal", str(journal)), out=CREATED + out)
+
 
 UPGRADES = [
-    Story(f"{HELLO}upgrade\nlife\n", out=CREATED + "1 o hello\n" + WIDE),
-    Story(f"{HELLO}upgrade\nstop {HEAD} 496\nlife\n",
-          out=CREATED + "1 o hello\n" + behind(2, 2, [], b"hello")),
-    Story(f"{HELLO}upgrade\nstop {HEAD} 512\nlife\n", out=CREATED + "1 o hello\n" + WIDE),
-    Story(f"{HELLO}upgrade\nfail {HEAD} 496\nlife\n",
-          out=CREATED + "1 o hello\nlife 1 ended N1 Disk\n" + behind(2, 2, [], b"hello")),
+    upgraded(f"{HELLO}upgrade\nlife\n", "1 o hello\n" + WIDE),
+    upgraded(f"{HELLO}upgrade\nstop {HEAD} 496\nlife\n",
+             "1 o hello\n" + behind(2, 2, [], b"hello")),
+    upgraded(f"{HELLO}upgrade\nstop {HEAD} 512\nlife\n", "1 o hello\n" + WIDE),
+    upgraded(f"{HELLO}upgrade\nfail {HEAD} 496\nlife\n",
+             "1 o hello\nlife 1 ended N1 Disk\n" + behind(2, 2, [], b"hello")),
     # On version 2 it is a checkpoint.
-    Story(f"{HELLO}upgrade\nupgrade\nlife\n", out=CREATED + "1 o hello\n" + recovered(
+    upgraded(f"{HELLO}upgrade\nupgrade\nlife\n", "1 o hello\n" + recovered(
         2, 4, (20, 2, 1), form.echo_process(
             (20, 1, 1), (20, (0,)), form.echo_memory([b"hello"]), form.TWO))),
-    Story(f"life\nupgrade\nrequest {LONG}\nslice 42\n",
-          out=f"{CREATED}1 o {LONG[1:]}\n2 o a\n"),
+    upgraded(f"life\nupgrade\nrequest {LONG}\nslice 42\n", f"1 o {LONG[1:]}\n2 o a\n"),
     # Whoever hasn't asked in this life, nor was created in it, may have told lines before.
-    Story(f"{HELLO}life\nupgrade\nlife\n",
-          out=CREATED + "1 o hello\n" + behind(2, 2, [], b"hello")
-          + "life 2 ended N8 NotCaughtUp\n" + behind(3, 3, [], b"hello")),
-    *(Story("life\nupgrade\nlife\n", words=("--journal", journal), out=CREATED + out)
-      for journal, out in [
-          ("132", "life 1 ended N7 JournalTooSmall\n" + fresh(2, 2)), ("133", FRESH_IN_TWO)]),
-    Story("life\nslice 99\nlife\nupgrade\nlife\nslice 99\n", "draws.wasm",
-          out=CREATED + "1 o L\n" + recovered(2, 2, (0, 0, 0), UNDRAWN)
-          + "life 2 ended N8 NotCaughtUp\n" + recovered(3, 3, (0, 0, 0), UNDRAWN) + "1 o L\n"),
-    Story("life\nslice 99\nupgrade\nlife\n", "draws.wasm",
-          out=CREATED + "1 o L\n" + recovered(2, 3, (14, 1, 1), DRAWN)),
-    Story(f"life\nupgrade\nrandom {'00' * 5_000}\nslice 99\n", "draws.wasm",
-          out=CREATED + "1 o 0\n"),
+    upgraded(f"{HELLO}life\nupgrade\nlife\n",
+             "1 o hello\n" + behind(2, 2, [], b"hello")
+             + "life 2 ended N8 NotCaughtUp\n" + behind(3, 3, [], b"hello")),
+    upgraded("life\nupgrade\nlife\n", "life 1 ended N7 JournalTooSmall\n" + fresh(2, 2),
+             journal=132),
+    upgraded("life\nupgrade\nlife\n", FRESH_IN_TWO, journal=133),
+    upgraded("life\nslice 99\nlife\nupgrade\nlife\nslice 99\n",
+             "1 o L\n" + recovered(2, 2, (0, 0, 0), UNDRAWN)
+             + "life 2 ended N8 NotCaughtUp\n" + recovered(3, 3, (0, 0, 0), UNDRAWN) + "1 o L\n",
+             "draws.wasm"),
+    upgraded("life\nslice 99\nupgrade\nlife\n",
+             "1 o L\n" + recovered(2, 3, (13, 1, 1), DRAWN), "draws.wasm"),
+    upgraded(f"life\nupgrade\nrandom {'00' * 5_000}\nslice 99\n", "1 o 0\n", "draws.wasm"),
 ]
 
 # Each form of a faulty line is in `program_tests`. Here it is the order of faults that counts.
@@ -265,7 +271,8 @@ SWEPT = [
     # The first of two lives, whose second request the second one has.
     swept(HELLO + "life\nrequest again\nslice 42\n", 206 + 2, 2,
           words=("--life", "1", "--fronts", "505"), fronts=1),
-    swept(TWO.replace("checkpoint", "upgrade"), 206 + 2 + 2 + 134, 2),
+    swept(TWO.replace("checkpoint", "upgrade"), 206 + 133 - SECTORS + 2 + 2 + 134, 2,
+          words=("--journal", "133", "--fronts", "0,512")),
     # Times and random bytes that were not kept are handed out again.
     swept(f"life\nrealtime {TIMES[0]}\nmonotonic {TIMES[1]}\nrandom 4a6b6c6d4e\nslice 99\n",
           206 + 2, 1, "asks.wasm", ("--fronts", "0"), 1),

@@ -219,7 +219,7 @@ def dumped_disks():
     small.commit(second, 2, echo_image())
     small.commit(second, 3, echo_image([b"hello"]))
     small.keep(second, 2, 1, record(6, REQUEST, b"hello"))
-    roomy = Form(small.module, 1, 1, LEAST_JOURNAL_OF_TWO)
+    roomy = Form(small.module, 1, 1, JOURNAL)
     third = roomy.created(echo_image())
     for generation, texts_taken, version in [
             (2, None, ONE), (3, [], TWO), (4, [], TWO), (5, [b"hello"], TWO)]:

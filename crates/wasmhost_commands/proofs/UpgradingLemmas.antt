@@ -1,6 +1,6 @@
 -- Slices of an open worker, one after another, and an upgrade.
-use Rattle.std.proofs.Common.{◌≡◌, ℕ, ◌+◌, ◌≤◌, [], ◌∷◌, ◌++◌, Ok, Err}
-use Rattle.std.specs.Prelude.{Result, replicate}
+use Rattle.std.proofs.Common.{◌≡◌, ℕ, ◌+◌, ◌≤◌, [], ◌∷◌, ◌++◌, Ok, Err, inl, inr, subst}
+use Rattle.std.specs.Prelude.{Result, IfErr, replicate}
 use Rattle.wasi_abi.specs.declared.answer.Answer.{Answer}
 use Rattle.wasi_abi.specs.declared.version.Version.TheVariants.{One, Two}
 use Rattle.sector_disk.specs.rules.Image.{Image}
@@ -15,15 +15,23 @@ use Rattle.worker.specs.declared.recover_fault.RecoverFault.TheVariants as recov
 use Rattle.worker.specs.rules.DurableValues.{DurableValue}
 use Rattle.worker.specs.rules.DurableCalls.{SliceCarries, UpgradeCarries}
 use Rattle.worker.specs.rules.LifeWords.{Act, Slice, Upgrade, by_recovery}
-use Rattle.worker.specs.rules.Recoveries.{RecoveryCarries}
+use Rattle.worker.specs.rules.Outlets.{HeedsOutlet, IsOutletFault}
+use Rattle.worker.specs.rules.Recoveries.{Recovers, RecoveryCarries}
 use Rattle.worker.specs.rules.Upgrades.{UpgradeFails}
 use Rattle.worker.specs.laws.OneLife.{no_more, slice_failed, was_upgraded, upgrade_failed}
 use Rattle.worker.specs.laws.OneLife.{recovered, opened}
 use Rattle.wasmhost_commands.specs.Livings.{Scene, scene, steps_left, AreCalled, ActsLead}
 use Rattle.wasmhost_commands.specs.ComingUp.{ComesUp, IsUpgradedFrom}
-use Rattle.wasmhost_commands.specs.rules.Upgradings.{LivesToUpgrade, from_list, left_then}
-use Rattle.wasmhost_commands.specs.rules.Upgradings.{upgrade_acts}
+use Rattle.wasmhost_commands.specs.declared.on_disk.fault.OnDiskFault.{OnDiskFault}
+use Rattle.wasmhost_commands.specs.declared.on_disk.upgrading.Upgraded.TheVariants as upgraded
+use Rattle.wasmhost_commands.specs.rules.DiskStatuses.{told_of_opening, told_of_call}
+use Rattle.wasmhost_commands.specs.rules.DiskStatuses.{status_on_disk}
+use Rattle.wasmhost_commands.specs.rules.Printers.{PrinterState, IsSaid, TellsPerson}
+use Rattle.wasmhost_commands.specs.rules.ServedOnDisk.{recovered_line}
+use Rattle.wasmhost_commands.specs.rules.Upgradings.{LivesToUpgrade, UpgradesOnDisk, from_list}
+use Rattle.wasmhost_commands.specs.rules.Upgradings.{left_then, upgrade_acts}
 use Rattle.wasmhost_commands.proofs.LivingLemmas.{stands_still, slices_lead, called_as, turned}
+use Rattle.wasmhost_commands.proofs.OnDiskLemmas.{opens_none}
 
 module _ {D S O : Type 0} (medium : D → Medium) (gives : Giving S) (takes : Taking O) where
   -- So many slices were taken from there on, each of which has spent its fuel.
@@ -106,6 +114,13 @@ module _ {D S O : Type 0} (medium : D → Medium) (gives : Giving S) (takes : Ta
           (upgrade_failed carries fails),
     )
 
+    pub then_ended : (result : Result (Unit {0}) WorkFault) (outlet' : O) → outlet' ≡ to.outlet
+        → UpgradeCarries to.worker result w' (medium to.disk) (medium disk')
+        → IfErr result (UpgradeFails to.worker w'.process (medium to.disk) (medium disk'))
+        → IsUpgradedFrom medium gives takes from result disk' outlet'
+    then_ended (Ok done) outlet' quiet carries fails = rw quiet (then_upgraded carries)
+    then_ended (Err why) outlet' quiet carries fails = rw quiet (then_refused why carries fails)
+
   pub not_come : (from to : Scene D S O) (why : WorkFault)
       → ComesUp medium gives takes 100000 from (Err why) to
       → IsUpgradedFrom medium gives takes from (Err why) to.disk to.outlet
@@ -119,14 +134,62 @@ module _ {D O : Type 0} (medium : D → Medium) (takes : Taking O) where
       → w.process.host.host.version ≡ One
       → IsUpgradedFrom medium from_list takes (scene w opening [] p) result last q
       → LivesToUpgrade medium takes (left_then result) found last o q
-  lives_to_upgrade w result found opening last o p q carries narrow upgraded = record {
+  lives_to_upgrade w result found opening last o p q carries narrow done = record {
     worker = w;
     narrow = narrow;
     opening = opening;
     retold = p;
     recovers = carries;
-    count = upgraded.0;
-    source' = upgraded.1;
+    count = done.0;
+    source' = done.1;
     life = λ image leaves bytes config.
-        opened (recovered image leaves (λ none. none) carries) upgraded.2;
+        opened (recovered image leaves (λ none. none) carries) done.2;
   }
+
+  -- ---- what the command says
+
+  -- a worker that isn't opened
+  pub none_upgraded : (why : RecoverFault) (told : OnDiskFault) (found last : D) (o q : O)
+      (err err' : PrinterState) (status : ℕ) → Recovers medium takes (Err why) found last o q
+      → RecoveryCarries takes (Err why) (medium found) (medium last) o q
+      → HeedsOutlet takes (IsOutletFault why) o q → told ≡ told_of_opening why
+      → IsSaid (status_on_disk told) err status err'
+      → UpgradesOnDisk medium takes (Err status) found last o q err err'
+  none_upgraded why told found last o q err err' status recovers carries heeds tells says =
+      inl (
+        why,
+        opens_none medium takes why found last o q recovers carries heeds,
+        subst (λ t. IsSaid (status_on_disk t) err status err') tells says,
+      )
+
+  -- one that was of version 2
+  pub was_of_two : (w : DurableValue) (found last : D) (o p : O) (err err' : PrinterState)
+      → RecoveryCarries takes (Ok w) (medium found) (medium last) o p
+      → w.process.host.host.version ≡ Two → TellsPerson (recovered_line w) err err'
+      → UpgradesOnDisk medium takes (Ok upgraded.Before) found last o p err err'
+  was_of_two w found last o p err err' carries version tells =
+      (record { worker = w; version = version; recovers = carries }, tells)
+
+  -- one of version 1
+  module _ (w : DurableValue) (found opening last : D) (o p q : O) (err between : PrinterState)
+      (carries : RecoveryCarries takes (Ok w) (medium found) (medium opening) o p)
+      (narrow : w.process.host.host.version ≡ One)
+      (tells : TellsPerson (recovered_line w) err between) where
+    pub is_upgraded : IsUpgradedFrom medium from_list takes (scene w opening [] p) (Ok tt) last q
+        → UpgradesOnDisk medium takes (Ok upgraded.Now) found last o q err between
+    unfolding lives_to_upgrade
+    is_upgraded done =
+        (lives_to_upgrade w (Ok tt) found opening last o p q carries narrow done, tells)
+
+    pub not_upgraded : (why : WorkFault) (told : OnDiskFault) (err' : PrinterState) (status : ℕ)
+        → IsUpgradedFrom medium from_list takes (scene w opening [] p) (Err why) last q
+        → told ≡ told_of_call why → IsSaid (status_on_disk told) between status err'
+        → UpgradesOnDisk medium takes (Err status) found last o q err err'
+    unfolding lives_to_upgrade
+    not_upgraded why told err' status done is says = inr (
+      why,
+      between,
+      lives_to_upgrade w (Err why) found opening last o p q carries narrow done,
+      tells,
+      subst (λ t. IsSaid (status_on_disk t) between status err') is says,
+    )
