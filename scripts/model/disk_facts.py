@@ -5,8 +5,10 @@ may fix it by looking at the code or at an output. What a process waits for foll
 that is given.
 """
 import hashlib
+import json
 import struct
 
+from model.disk_form import PAYLOAD, SECTOR
 from model.disk_reader import judged
 
 TRAPS = [
@@ -17,6 +19,12 @@ RECORDS = {1: "request", 2: "end", 3: "realtime", 4: "monotonic", 5: "random"}
 DIRECTORY, FILE = 3, 4
 ROOT = 1
 UNIT = PAGE = 65_536
+NODES = 1_024
+
+# The facts that are one number.
+NUMBERS = (
+    "layout", "version", "module", "pages", "files", "journal", "generation", "area", "image",
+    "steps", "answers", "requests", "lines", "monotonic", "memory", "left")
 
 
 class Fields:
@@ -49,6 +57,7 @@ class Facts:
         self.module = found.contents[before:]
         config = Fields(found.contents[:before])
         self.pages, self.files, self.journal = (config.number(4) for _ in range(3))
+        self.left = self.journal - filled(disk[-self.journal * SECTOR :], self.generation)
         self.arguments = [config.sized(2) for _ in range(config.number(4))]
         self.environment = [config.sized(2) for _ in range(config.number(4))]
         self.read_image(Fields(found.image))
@@ -94,8 +103,8 @@ class Facts:
         yield f"module {len(self.module)}"
         yield f"digest {hashlib.sha256(self.module).hexdigest()}"
         yield from (f"pages {self.pages}", f"files {self.files}", f"journal {self.journal}")
-        yield from (f"argument {it.decode()}" for it in self.arguments)
-        yield from (f"environment {it.decode()}" for it in self.environment)
+        yield from (f"argument {spelled(it)}" for it in self.arguments)
+        yield from (f"environment {spelled(it)}" for it in self.environment)
         yield f"generation {self.generation}"
         yield f"area {self.generation % 2}"
         yield f"image {len(self.image)}"
@@ -105,6 +114,7 @@ class Facts:
         yield f"state {self.state}"
         yield from ("frame {} {} {}".format(*it) for it in self.frames)
         yield f"memory {self.memory}"
+        yield f"nodes {len(self.nodes)} {NODES}"
         bytes_of_files = sum(len(it) for kind, it in self.nodes.values() if kind == FILE)
         yield f"bytes {bytes_of_files} {UNIT * self.files}"
         for number, kind, node, offset in self.descriptors:
@@ -113,6 +123,7 @@ class Facts:
             yield f"descriptor {number} {word} {offset}"
         for step, kind, payload in self.records:
             yield f"record {RECORDS[kind]} {step} {len(payload)}"
+        yield f"left {self.left}"
 
     def paths(self):
         """The path of each node that has one, but for the root."""
@@ -135,6 +146,84 @@ class Facts:
         """What `files` writes of a path."""
         number = next(it for it, own in self.paths().items() if own == path.encode())
         return self.nodes[number][1].decode()
+
+
+def spelled(data):
+    """Bytes as a text. One that is no part of UTF-8 stands for itself."""
+    return data.decode(errors="surrogateescape")
+
+
+def text_of(words):
+    """What `--json` has for a text: a string, or the bytes of one that isn't UTF-8."""
+    data = words.encode(errors="surrogateescape")
+    try:
+        return data.decode()
+    except UnicodeDecodeError:
+        return list(data)
+
+
+def filled(journal, generation):
+    """How many sectors of a journal are of a generation, from the first one on."""
+    for number in range(len(journal) // SECTOR):
+        sector = journal[number * SECTOR : (number + 1) * SECTOR]
+        length, = struct.unpack_from("<H", sector)
+        stamp = struct.unpack_from("<QQ", sector, 496)
+        if stamp != (generation, number + 1) or not 1 <= length <= PAYLOAD:
+            return number
+    return len(journal) // SECTOR
+
+
+def tagged(words):
+    """A word, or a word with its value, as `--json` has it."""
+    word, _, value = words.partition(" ")
+    return {word: int(value) if value.isdigit() else value} if value else word
+
+
+def members_of(lines):
+    """The members that `--json` has for the lines of `inspect`, which hold no text with a
+    newline."""
+    found = {name: [] for name in ("arguments", "environment", "frames", "descriptors", "records")}
+    for line in lines:
+        name, _, words = line.partition(" ")
+        match name:
+            case "argument":
+                found["arguments"].append(text_of(words))
+            case "environment":
+                found["environment"].append(text_of(words))
+            case "digest":
+                found["digest"] = words
+            case "waits" | "state":
+                found[name] = tagged(words)
+            case "nodes" | "bytes":
+                found[name] = dict(zip(("used", "limit"), map(int, words.split())))
+            case "frame":
+                parts = zip(("function", "position", "slots"), map(int, words.split()))
+                found["frames"].append(dict(parts))
+            case "descriptor":
+                number, kind, target, offset = words.split()
+                found["descriptors"].append({
+                    "kind": kind, "number": int(number), "offset": int(offset),
+                    "target": int(target)})
+            case "record":
+                kind, step, length = words.split()
+                found["records"].append({"kind": kind, "length": int(length), "step": int(step)})
+            case _ if name in NUMBERS:
+                found[name] = int(words)
+    return found
+
+
+def value_fault(text, lines):
+    """What is wrong with what `inspect --json` prints, beside the lines of `inspect`, or none. It
+    is compared fact by fact."""
+    if not text.endswith("\n") or text.count("\n") != 1:
+        return "isn't one line"
+    found, wanted = json.loads(text), members_of(lines)
+    if list(found) != sorted(found):
+        return "isn't in the order of its names"
+    for name in sorted({*found, *wanted}):
+        if found.get(name) != wanted.get(name):
+            return f"has {found.get(name)} as {name}, wanted {wanted.get(name)}"
+    return None
 
 
 def inspected(disk, waits):

@@ -3,3 +3,4 @@ pub mod RunLemmas
 pub mod RecordLemmas
 mod BarrierLemmas
 mod ExampleLemmas
+mod FilledLemmas

@@ -2,6 +2,7 @@
 
 ghost use Rattle.journal.specs.laws.Examples.{PackingExamples, BarrierCallExamples};
 ghost use Rattle.journal.specs.laws.Examples.{FittingExamples, StandingExamples, BarrierExamples};
+ghost use Rattle.journal.specs.laws.Filled.{FillsWhatStands};
 ghost use Rattle.journal.specs.laws.Laws.{FreshStands, ScansWhatStands, ScansNoneOfLater};
 
 /// Worked examples: bytes in sectors, a barrier's calls, records that fit, what stands, and what a
@@ -20,4 +21,10 @@ pub fn what_stands_is_scanned()
     ensures fresh { FreshStands }
     ensures scanned { ScansWhatStands }
     ensures none { ScansNoneOfLater }
+{}
+
+/// Where records stand in so many sectors, a count of those that are filled gives as many. So a
+/// barrier has the others of the journal left.
+pub fn what_stands_fills()
+    ensures { FillsWhatStands }
 {}

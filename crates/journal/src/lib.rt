@@ -16,6 +16,9 @@
 //!   rising order, each once, and then syncs once (`calls`).
 //! - `Journal::scan` gives the records that the definitions read of what the disk shows (`scans`).
 //!   It only reads (`reads`).
+//! - `count_filled` gives how many sectors the records of a generation fill (`counts`). It only
+//!   reads. `laws::what_stands_fills`: they are as many as the journal has written. So the others
+//!   are what a next barrier can write (`full`).
 //! - After an error of `append` or `barrier`, each call of these answers `Failed` (`err`,
 //!   `failed`). Whatever `append` answers, version, generation and sectors are as before
 //!   (`stays`).
@@ -26,15 +29,17 @@
 //! # Definitions to read
 //!
 //! In `specs/rules/`: `JournalState`, `room_of` (`State.antt`); `RecordsStand`, `IsOn`,
-//! `AppendsFront`, `RecordFits`, `barrier_calls` (`Steps.antt`); `sectors_for` (`Packed.antt`). Of
-//! `disk_layout`: `record_bytes` and `scan` (`specs/rules/Journal.antt`). Of `wasi_abi`: `Version`.
+//! `AppendsFront`, `RecordFits`, `barrier_calls` (`Steps.antt`); `sectors_for` (`Packed.antt`),
+//! `sectors_filled` (`Filled.antt`). Of `disk_layout`: `record_bytes` and `scan`
+//! (`specs/rules/Journal.antt`). Of `wasi_abi`: `Version`.
 //!
 //! # Who may touch what
 //!
 //! Only this crate knows which bytes wait for a barrier. It is handed the disk at each call, and
-//! keeps none. `worker_store` uses it. It stands on `disk_layout` and `sector_disk`. `append` and
-//! `scan` take memory, `fresh` and `barrier` take none (`no_memory`). A failed barrier leaves its
-//! records in memory (`err`), and of the disk what `any_moment` says.
+//! keeps none. `worker_store` uses it, and `worker` to count sectors. It stands on `disk_layout`
+//! and `sector_disk`. `append` and `scan` take memory, `fresh` and `barrier` take none
+//! (`no_memory`). A failed barrier leaves its records in memory (`err`), and of the disk what
+//! `any_moment` says.
 //!
 //! # Choices
 //!
@@ -48,6 +53,7 @@
 
 mod decode;
 mod fault;
+mod filled;
 mod journal;
 pub mod laws;
 mod records;
@@ -55,4 +61,5 @@ mod scan;
 mod store;
 
 pub use fault::JournalFault;
+pub use filled::count_filled;
 pub use journal::Journal;

@@ -34,6 +34,8 @@ static STATUSES: [StatusRow; 33] = [
     (&["wasmhost", "show"], 2),
     (&["wasmhost", "inspect", "a.disk"], 0),
     (&["wasmhost", "inspect", "a.disk", "a"], 2),
+    (&["wasmhost", "inspect", "a.disk", "--json"], 0),
+    (&["wasmhost", "show", "a.disk", "--json"], 2),
     (&["wasmhost", "files", "a.disk"], 0),
     (&["wasmhost", "files", "a.disk", "a/b"], 0),
     (&["wasmhost", "files"], 2),

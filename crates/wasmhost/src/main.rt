@@ -363,8 +363,8 @@ where
         Ok(Order::Create(order)) => create(rt, alloc, &order, out, err),
         Ok(Order::Run(order)) => run(rt, alloc, &order, out, err),
         Ok(Order::Show { path }) => show_file(alloc, rt, path, &mut Printer::new(out, false), err),
-        Ok(Order::Inspect { path }) => {
-            inspect_file(alloc, rt, path, &mut Printer::new(out, false), err)
+        Ok(Order::Inspect { path, as_json }) => {
+            inspect_file(alloc, rt, path, as_json, &mut Printer::new(out, false), err)
         }
         Ok(Order::Files { disk, path }) => {
             files_file(alloc, rt, disk, path, &mut Printer::new(out, false), err)

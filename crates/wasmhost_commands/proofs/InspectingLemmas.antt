@@ -1,5 +1,5 @@
 -- What is said of a disk in a file that is looked into.
-use Rattle.std.proofs.Common.{◌≡◌, inl, ℕ, List, subst}
+use Rattle.std.proofs.Common.{◌≡◌, inl, ℕ, Bool, List, subst}
 use Rattle.std.specs.Prelude.{Option}
 use Rattle.sector_disk.specs.declared.file.FileDisk.{FileDisk}
 use Rattle.sector_disk.specs.rules.File.{file_medium}
@@ -10,16 +10,16 @@ use Rattle.wasmhost_commands.specs.rules.Printers.{PrinterState}
 
 module _ {F : Type 0} (opened disk : FileDisk F) where
   -- the facts of an untouched disk, of whose opening nothing was said
-  pub tells_file : (path : List ℕ) (out out' err between err' : PrinterState) (status : ℕ)
-      → IsUntouched opened → between ≡ err
-      → TellsDisk (file_medium opened) (file_medium disk) out out' between err' status
-      → TellsFile F path out out' err err' status
-  tells_file path out out' err between err' status untouched quiet tells =
+  pub tells_file : (as_json : Bool) (path : List ℕ)
+      (out out' err between err' : PrinterState) (status : ℕ) → IsUntouched opened → between ≡ err
+      → TellsDisk as_json (file_medium opened) (file_medium disk) out out' between err' status
+      → TellsFile F as_json path out out' err err' status
+  tells_file as_json path out out' err between err' status untouched quiet tells =
       inl (
         opened,
         disk,
         untouched,
-        subst (λ old. TellsDisk (file_medium opened)
+        subst (λ old. TellsDisk as_json (file_medium opened)
             (file_medium disk) out out' old err' status) quiet tells,
       )
 

@@ -29,3 +29,5 @@ pub mod FileLemmas
 pub mod OpeningLemmas
 mod SpellingLemmas
 mod InspectingLemmas
+mod ValueLemmas
+mod PlainLemmas

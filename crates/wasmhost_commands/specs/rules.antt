@@ -35,6 +35,8 @@ pub mod SweepTexts
 pub mod Sweeps
 pub mod Watchings
 pub mod InspectionTexts
+pub mod InspectionValues
 pub mod Inspectings
 pub mod ProcessTexts
+pub mod ProcessValues
 pub mod LookedFiles

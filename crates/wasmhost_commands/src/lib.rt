@@ -49,10 +49,11 @@
 //! - `survey`: the survey of a worker's disk is printed, or what keeps it from that is told
 //!   (`shows`). Of a disk that stands for a worker the line is that worker's (`stands`). Nothing is
 //!   changed on the disk, but that it is synced.
-//! - `inspect_disk`: all facts of the disk are printed, one a line, or what keeps it from that is
-//!   told (`TellsDisk`). `list_files`: the files of the saved process are listed, or the bytes of
-//!   one are written (`TellsFiles`). `inspect_file` and `files_file` are these of a disk that was
-//!   opened, and nothing else is done with it (`TellsFile`, `TellsFilesOf`).
+//! - `inspect_disk`: all facts of the disk are printed, one a line or as one JSON value, or what
+//!   keeps it from that is told (`TellsDisk`). `list_files`: the files of the saved process are
+//!   listed, or the bytes of one are written (`TellsFiles`). `inspect_file` and `files_file` are
+//!   these of a disk that was opened, and nothing else is done with it (`TellsFile`,
+//!   `TellsFilesOf`).
 //! - `open_disk`: where no rewrite is asked for, the disk of a file of which no call was made since
 //!   it was opened. Else each sector was written back, and synced (`IsOpenedFor`). `show_file` is
 //!   `survey` of a disk that was opened so, and nothing else is done with it (`ShowsFile`).
@@ -110,8 +111,9 @@
 //! `SaysOfInput` (`Leavings.antt`);
 //! `ShowsDisk`, `ShowsSurvey`, `survey_line` (`Showings.antt`); `open_words`, `IsOpenedFor`,
 //! `ShowsFile` (`Openings.antt`); `standing_line`, `WatchesEnd` (`Watchings.antt`);
-//! `inspection_text`, `listing_text`, `TellsDisk`, `TellsFiles`
-//! (`Inspectings.antt`), with their lines in `InspectionTexts.antt` and `ProcessTexts.antt`;
+//! `inspection_text`, `inspection_data`, `listing_text`, `TellsDisk`, `TellsFiles`
+//! (`Inspectings.antt`), with their lines in `InspectionTexts.antt` and `ProcessTexts.antt`, and
+//! the members of the JSON value in `InspectionValues.antt` and `ProcessValues.antt`;
 //! `TellsFile`, `TellsFilesOf` (`LookedFiles.antt`);
 //! `ServesOnDisk`, `LivesOnDisk`, `HasOutcome`, `HasBrokenOff`, `stands_behind`
 //! (`ServedOnDisk.antt`); `BreaksOff`, `LeavesNoLine`, `TellsItsLines` (`BrokenLives.antt`);

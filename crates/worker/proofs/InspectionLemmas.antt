@@ -1,32 +1,38 @@
 -- What a look into a disk tells, by what was found there.
 use Rattle.std.proofs.Common.{◌≡◌, inl, inr, ℕ, ◌*◌, ◌<◌, ◌≤◌, refl, sym, ap, subst, arith, ◌∙◌}
-use Rattle.std.specs.Prelude.{List, length, Option, Result, Ok, Err, IfErr}
+use Rattle.std.specs.Prelude.{List, Option, Result, Ok, Err, IfErr}
 use Rattle.wasi_abi.specs.declared.answer.Kind.{Kind}
 use Rattle.sector_disk.specs.declared.fault.DiskFault.{DiskFault}
 use Rattle.sector_disk.specs.rules.Image.{Image}
 use Rattle.sector_disk.specs.rules.Medium.{CallsUpTo, Medium, SyncsMedium}
+use Rattle.sector_disk.proofs.CountLemmas.{counts_then, unsynced_within}
+use Rattle.sector_disk.proofs.Moments.{leaves_weaker, settled_stays, stays_leaves_only}
+use Rattle.sector_disk.proofs.Moments.{stays_left, stays_on}
 use Rattle.disk_layout.specs.declared.fault.LayoutFault.{LayoutFault}
+use Rattle.disk_layout.specs.declared.geometry.Geometry.{Geometry}
 use Rattle.disk_layout.specs.declared.reading.contents.Contents.{Contents}
 use Rattle.disk_layout.specs.rules.Held.{GivesContents}
 use Rattle.disk_layout.specs.rules.Stored.{OnlyReads}
 use Rattle.disk_layout.proofs.ReadingLemmas.HeldLemmas.{one_answer}
-use Rattle.state_image.specs.declared.restoring.fault.RestoreFault.TheVariants.{Memory}
 use Rattle.state_image.specs.rules.Image.{IsMarkedOtherwise, image}
 use Rattle.state_image.proofs.Marks.{own_mark}
 use Rattle.state_image.specs.rules.Saving.{saved_of}
-use Rattle.worker.specs.declared.fault.WorkFault.TheVariants.{Disk}
+use Rattle.worker.specs.declared.fault.WorkFault.TheVariants.{Disk, Store, Upgrade, Work}
 use Rattle.worker.specs.declared.found.Found.{Found}
+use Rattle.worker.specs.declared.inspecting.Measures.{Measures}
 use Rattle.worker.specs.declared.inspection.Inspection.{Inspection}
 use Rattle.worker.specs.declared.recover_fault.RecoverFault.{RecoverFault}
 use Rattle.worker.specs.declared.recover_fault.RecoverFault.TheVariants as recover
-use Rattle.worker.specs.rules.Inspections.{Inspects, InspectsDisk, IsInspected}
-use Rattle.worker.specs.rules.ShownDisks.{HoldsWorker, ShowsFault}
+use Rattle.worker.specs.rules.Inspections.{Inspects, InspectsDisk, IsInspected, IsOnlyRead}
+use Rattle.worker.specs.rules.Inspections.{sectors_left}
+use Rattle.worker.specs.rules.ShownDisks.{ShowsFault}
 use Rattle.worker.specs.rules.Wishes.{TellsWish}
 use Rattle.worker.specs.Findings.{HasSearchCause}
 use Rattle.worker.specs.FoundDisks.{IsFoundIn}
-use Rattle.worker.specs.Inspecting.{TellsFound, inspection_of}
+use Rattle.worker.specs.Inspecting.{AreMeasuresOf, MeasuresFound, TellsFound, inspection_of}
 use Rattle.worker.proofs.AnswerLemmas.{held_in}
-use Rattle.worker.proofs.RecoveryLemmas.Results.{settled_by, sync_faulted}
+use Rattle.worker.proofs.RecoveryLemmas.Results.{sync_faulted}
+use Rattle.worker.proofs.RecoveryLemmas.There.{leaves_join}
 
 -- ---- what was found
 
@@ -42,30 +48,28 @@ module _ (sectors : ℕ) (disk : Image) (contents : Contents) (found : Found)
       same_ok : (a b : Contents) → (let x : Result Contents LayoutFault = Ok a in x) ≡ Ok b → a ≡ b
       same_ok a b e = cc
 
-  is_inspected : (wish : Option Kind) → TellsWish found.process wish
-      → IsInspected (held_in sectors disk found at)
-      (inspection_of contents found wish (length (image (saved_of found.process))))
-  is_inspected wish tells =
+  is_inspected : (wish : Option Kind) (measures : Measures) → TellsWish found.process wish
+      → AreMeasuresOf disk found measures
+      → IsInspected (held_in sectors disk found at) (inspection_of contents found wish measures)
+  is_inspected wish measures tells are =
       let restored = at.process.restored in
       record {
         contents = same_contents;
         generation = refl;
-        image_bytes = refl;
+        image_bytes = are.image_bytes;
         module_is = restored.guest;
         saved = refl;
         none_waits = restored.none_waits;
         wish = tells;
         records = refl;
+        journal_left = are.journal_left
+            ∙ ap (λ (g : Geometry). sectors_left g disk found.generation) at.process.placed;
       }
 
-  pub found_is_told : (result : Result Inspection RecoverFault) → TellsFound contents found result
-      → InspectsDisk sectors disk result
-  found_is_told (Ok told) (wish, tells, is) = (
-    held_in sectors disk found at,
-    subst (λ (t : Inspection). IsInspected (held_in sectors disk found at) t) (sym is)
-        (is_inspected wish tells),
-  )
-  found_is_told (Err why) is =
+  -- what couldn't be measured says nothing else of the disk
+  unmeasured : (why : RecoverFault) → MeasuresFound disk found (Err why)
+      → ShowsFault sectors disk why
+  unmeasured why (inl is) =
       let holds = at.holds in
       let restored = at.process.restored in
       subst (λ (e : RecoverFault). ShowsFault sectors disk e) (sym is)
@@ -80,14 +84,48 @@ module _ (sectors : ℕ) (disk : Image) (contents : Contents) (found : Found)
             (subst (λ (b : List ℕ). IsMarkedOtherwise (saved_of found.process).version b)
             restored.is other);
       })
+  unmeasured why (inr (fault, is)) =
+      subst (λ (e : RecoverFault). ShowsFault sectors disk e) (sym is) tt
 
--- want of memory has no cause but itself
-pub unmeasured_cause : (old new : Medium) (contents : Contents) (found : Found)
-    (result : Result Inspection RecoverFault) → TellsFound contents found result
-    → IfErr result (HasSearchCause old new)
-unmeasured_cause old new contents found (Ok told) tells = tt
-unmeasured_cause old new contents found (Err why) is =
-    subst (λ (e : RecoverFault). HasSearchCause old new e) (sym is) tt
+  pub found_is_told : (measured : Result Measures RecoverFault)
+      (result : Result Inspection RecoverFault) → MeasuresFound disk found measured
+      → TellsFound contents found measured result → InspectsDisk sectors disk result
+  found_is_told (Ok measures) result are (wish, tells, is) =
+      subst (λ (r : Result Inspection RecoverFault). InspectsDisk sectors disk r) (sym is)
+      (held_in sectors disk found at, is_inspected wish measures tells are)
+  found_is_told (Err why) result faults (wish, tells, is) =
+      subst (λ (r : Result Inspection RecoverFault). InspectsDisk sectors disk r) (sym is)
+      (unmeasured why faults)
+
+-- an error of what was found is one of its measures
+pub measuring_cause : (P : RecoverFault → Type 0) (contents : Contents) (found : Found)
+    (measured : Result Measures RecoverFault) (result : Result Inspection RecoverFault)
+    → IfErr measured P → TellsFound contents found measured result → IfErr result P
+measuring_cause P contents found (Ok measures) result cause (wish, tells, is) =
+    subst (λ (r : Result Inspection RecoverFault). IfErr r P) (sym is) tt
+measuring_cause P contents found (Err why) result cause (wish, tells, is) =
+    subst (λ (r : Result Inspection RecoverFault). IfErr r P) (sym is) cause
+
+-- a cause since a later moment is one since an earlier one
+cause_since : (old mid new : Medium) (why : RecoverFault) → old.faults ≤ mid.faults
+    → HasSearchCause mid new why → HasSearchCause old new why
+cause_since old mid new (recover.Worker (Disk fault)) later cause =
+    omega (arith, later, cause)
+cause_since old mid new (recover.Worker (Work fault)) later cause = cause
+cause_since old mid new (recover.Worker (Store fault)) later cause = cause
+cause_since old mid new (recover.Worker (Upgrade fault)) later cause = cause
+cause_since old mid new (recover.Layout fault) later cause = cause
+cause_since old mid new (recover.Front fault) later cause = cause
+cause_since old mid new (recover.Snapshot fault) later cause = cause
+cause_since old mid new (recover.Image fault) later cause = cause
+cause_since old mid new (recover.Journal fault) later cause = cause
+cause_since old mid new (recover.Replay fault) later cause = cause
+
+pub measured_since : (old mid new : Medium) (measured : Result Measures RecoverFault)
+    → old.faults ≤ mid.faults → IfErr measured (HasSearchCause mid new)
+    → IfErr measured (HasSearchCause old new)
+measured_since old mid new (Ok measures) later cause = tt
+measured_since old mid new (Err why) later cause = cause_since old mid new why later cause
 
 -- ---- a sync, and then reads
 
@@ -107,7 +145,7 @@ unsettled_inspects old new fault why syncs is =
 
 module _ {T : Type 0} (old sync new : Medium) (done : T)
     (syncs : SyncsMedium {T = T} (Ok done) old sync) (reads : OnlyReads sync new)
-    (few : CallsUpTo (2 * sync.sectors) sync new) where
+    (few : CallsUpTo (3 * sync.sectors) sync new) where
   earlier : old.faults ≤ sync.faults
   earlier = let passes = syncs.passes in passes.faults
 
@@ -122,6 +160,24 @@ module _ {T : Type 0} (old sync new : Medium) (done : T)
       since old.faults sync.faults new.faults earlier
       (subst (λ (e : RecoverFault). HasSearchCause sync new e) same cause)
 
+  only_read : IsOnlyRead old new
+  only_read =
+      let passes = syncs.passes in
+      let calls = syncs.calls in
+      record {
+        settled = settled_stays sync new reads.stays syncs.settles;
+        stays = stays_on old sync new passes.later syncs.stays reads.stays;
+        leaves = leaves_join old sync new old.may_leave
+            (stays_leaves_only old sync syncs.stays syncs.passes)
+            (leaves_weaker sync new sync.may_leave old.may_leave reads.leaves
+            (λ image left. stays_left old sync syncs.stays image left));
+        counts = counts_then old.unsynced sync.unsynced old.unsynced old sync new (omega arith)
+            (unsynced_within old.unsynced old sync (omega arith) passes.later syncs.counts)
+            passes.later syncs.counts reads.counts;
+        calls = reads.calls ∙ calls.all;
+        counted = omega (arith, syncs.counted, few, passes.sectors);
+      }
+
   pub settled_inspects : (result : Result Inspection RecoverFault)
       → IfErr result (HasSearchCause sync new)
       → ((image : Image) → new.shows image → InspectsDisk sync.sectors image result)
@@ -129,7 +185,7 @@ module _ {T : Type 0} (old sync new : Medium) (done : T)
   settled_inspects result cause tells =
       let passes = syncs.passes in
       inr (
-        settled_by old sync new done syncs reads few,
+        only_read,
         blames result cause,
         λ image shows. subst (λ n. InspectsDisk n image result) passes.sectors
             (tells image shows),

@@ -1,42 +1,56 @@
 -- What is told of a disk, step by step.
-use Rattle.std.specs.Prelude.{◌≡◌, ℕ, length, Option, Result, Ok, Err}
-use Rattle.std.specs.declared.alloc.AllocError.{AllocError}
+use Rattle.std.specs.Prelude.{◌≡◌, ◌⊎◌, ℕ, length, Option, Result, Ok, Err}
 use Rattle.wasi_abi.specs.declared.answer.Kind.{Kind}
 use Rattle.disk_layout.specs.declared.reading.contents.Contents.{Contents}
 use Rattle.disk_layout.specs.rules.Held.{GivesContents}
+use Rattle.sector_disk.specs.declared.fault.DiskFault.{DiskFault}
 use Rattle.sector_disk.specs.rules.Image.{Image}
 use Rattle.state_image.specs.declared.restoring.fault.RestoreFault.TheVariants.{Memory}
 use Rattle.state_image.specs.rules.Image.{image}
 use Rattle.state_image.specs.rules.Saving.{saved_of}
+use Rattle.worker.specs.declared.fault.WorkFault.TheVariants.{Disk}
 use Rattle.worker.specs.declared.found.Found.{Found}
+use Rattle.worker.specs.declared.inspecting.Measures.{Measures}
 use Rattle.worker.specs.declared.inspection.Inspection.{Inspection}
 use Rattle.worker.specs.declared.recover_fault.RecoverFault.{RecoverFault}
-use Rattle.worker.specs.declared.recover_fault.RecoverFault.TheVariants.{Image as OfImage}
-use Rattle.worker.specs.rules.Inspections.{InspectsDisk}
+use Rattle.worker.specs.declared.recover_fault.RecoverFault.TheVariants.{Image as OfImage, Worker}
+use Rattle.worker.specs.rules.Inspections.{InspectsDisk, sectors_left}
 use Rattle.worker.specs.rules.Wishes.{TellsWish}
 
+-- the image of the process that was found is so long, and its journal has so many sectors left
+pub record AreMeasuresOf (disk : Image) (found : Found) (measures : Measures) : Type 0 where
+  pub image_bytes : measures.image_bytes ≡ length (image (saved_of found.process))
+  pub journal_left : measures.journal_left ≡ sectors_left found.geometry disk found.generation
+
+-- that, or memory was wanted for the image, or the disk failed
+abbrev pub MeasuresFound : Image → Found → Result Measures RecoverFault → Type 0
+MeasuresFound disk found (Ok measures) = AreMeasuresOf disk found measures
+MeasuresFound disk found (Err why) =
+    (why ≡ OfImage Memory) ⊎ ((fault : DiskFault) × (why ≡ Worker (Disk fault)))
+
 -- the parts of what is told
-abbrev pub inspection_of : Contents → Found → Option Kind → ℕ → Inspection
-inspection_of contents found wish count = record {
+abbrev pub inspection_of : Contents → Found → Option Kind → Measures → Inspection
+inspection_of contents found wish measures = record {
   contents = contents;
   generation = found.generation;
-  image_bytes = count;
+  image_bytes = measures.image_bytes;
   process = found.process;
   wish = wish;
   records = found.records;
+  journal_left = measures.journal_left;
 }
 
--- that, or the image couldn't be measured
-abbrev pub inspection_or : Contents → Found → Option Kind → Result ℕ AllocError
+-- that, or something couldn't be measured
+abbrev pub inspection_or : Contents → Found → Option Kind → Result Measures RecoverFault
     → Result Inspection RecoverFault
-inspection_or contents found wish (Ok count) = Ok (inspection_of contents found wish count)
-inspection_or contents found wish (Err why) = Err (OfImage Memory)
+inspection_or contents found wish (Ok measures) = Ok (inspection_of contents found wish measures)
+inspection_or contents found wish (Err why) = Err why
 
--- what is told of what was found
-abbrev pub TellsFound : Contents → Found → Result Inspection RecoverFault → Type 0
-TellsFound contents found (Ok told) = (wish : Option Kind) × TellsWish found.process wish
-    × (told ≡ inspection_of contents found wish (length (image (saved_of found.process))))
-TellsFound contents found (Err why) = why ≡ OfImage Memory
+-- what is told of what was found, and measured
+abbrev pub TellsFound : Contents → Found → Result Measures RecoverFault
+    → Result Inspection RecoverFault → Type 0
+TellsFound contents found measured result = (wish : Option Kind) × TellsWish found.process wish
+    × (result ≡ inspection_or contents found wish measured)
 
 -- what is told where configuration and module were read
 abbrev pub InspectsBehind : Contents → Image → Result Inspection RecoverFault → Type 0

@@ -8,7 +8,8 @@ ghost use Rattle.disk_layout.specs.rules.Stored.{OnlyReads};
 ghost use Rattle.state_image.specs.rules.Image.{image};
 ghost use Rattle.state_image.specs.rules.Saving.{saved_of};
 ghost use Rattle.worker.specs.Findings.{HasSearchCause};
-ghost use Rattle.worker.specs.Inspecting.{InspectsBehind, TellsFound, inspection_or};
+ghost use Rattle.worker.specs.Inspecting.{InspectsBehind, MeasuresFound, TellsFound};
+ghost use Rattle.worker.specs.Inspecting.{inspection_or};
 ghost use Rattle.worker.specs.rules.Inspections.{Inspects, InspectsDisk};
 
 use crate::copying::{copy_config, copy_text};
@@ -18,6 +19,7 @@ use crate::inspection::Inspection;
 use crate::recover_fault::RecoverFault;
 use crate::wish::wanted_by;
 use disk_layout::{Contents, LayoutFault};
+use journal::count_filled;
 use process::Process;
 use sector_disk::Disk;
 use state_image::restoring::RestoreFault;
@@ -47,14 +49,42 @@ fn image_length(alloc: Global, process: &Process) -> Result<u64, AllocError>
     Ok(bytes.as_slice().len() as u64)
 }
 
+/// How long the image of a process is, and how many sectors of its journal are left.
+#[derive(Clone, Copy)]
+struct Measures {
+    image_bytes: u64,
+    journal_left: u64,
+}
+
+/// Measures the image of the process that was found, and its journal on the disk.
+fn measure<D: Disk>(alloc: Global, disk: &mut D, found: &Found) -> Result<Measures, RecoverFault>
+    requires { total_sectors found.now.geometry ≤ (D.medium disk.old).sectors }
+    ensures reads { OnlyReads (D.medium disk.old) (D.medium disk.new) }
+    ensures measures { (image : Image) → (D.medium disk.new).shows image
+        → MeasuresFound image found.now result }
+    ensures cause { IfErr result (HasSearchCause (D.medium disk.old) (D.medium disk.new)) }
+    ensures asks { CallsUpTo (D.medium disk.old).sectors (D.medium disk.old) (D.medium disk.new) }
+{
+    let Ok(image_bytes) = image_length(alloc, &found.process) else {
+        return Err(RecoverFault::Image(RestoreFault::Memory));
+    };
+    match count_filled(disk, &found.geometry, found.generation) {
+        Ok(filled) => Ok(Measures {
+            image_bytes,
+            journal_left: u64::from(found.geometry.journal_sectors).saturating_sub(filled),
+        }),
+        Err(fault) => Err(RecoverFault::from(fault)),
+    }
+}
+
 /// What is told of these parts.
 fn join(
     contents: Contents,
     found: Found,
     wish: Option<Kind>,
-    length: Result<u64, AllocError>,
+    measured: Result<Measures, RecoverFault>,
 ) -> Result<Inspection, RecoverFault>
-    ensures { result ≡ inspection_or contents found wish length }
+    ensures { result ≡ inspection_or contents found wish measured }
 {
     let Found {
         generation,
@@ -62,26 +92,30 @@ fn join(
         records,
         ..
     } = found;
-    match length {
-        Ok(image_bytes) => Ok(Inspection {
+    match measured {
+        Ok(measures) => Ok(Inspection {
             contents,
             generation,
-            image_bytes,
+            image_bytes: measures.image_bytes,
             process,
             wish,
             records,
+            journal_left: measures.journal_left,
         }),
-        Err(_) => Err(RecoverFault::Image(RestoreFault::Memory)),
+        Err(fault) => Err(fault),
     }
 }
 
-/// What is told of what was found.
-fn tell_found(alloc: Global, contents: Contents, found: Found) -> Result<Inspection, RecoverFault>
-    ensures { TellsFound contents found result }
+/// What is told of what was found, and measured.
+fn tell_found(
+    contents: Contents,
+    found: Found,
+    measured: Result<Measures, RecoverFault>,
+) -> Result<Inspection, RecoverFault>
+    ensures { TellsFound contents found measured result }
 {
     let wish = wanted_by(&found.process);
-    let length = image_length(alloc, &found.process);
-    join(contents, found, wish, length)
+    join(contents, found, wish, measured)
 }
 
 /// What is told where configuration and module were read.
@@ -95,13 +129,17 @@ fn look_behind<D: Disk>(
     ensures tells { (image : Image) → (D.medium disk.new).shows image
         → InspectsBehind contents image result }
     ensures cause { IfErr result (HasSearchCause (D.medium disk.old) (D.medium disk.new)) }
-    ensures asks { CallsUpTo (D.medium disk.old).sectors (D.medium disk.old) (D.medium disk.new) }
+    ensures asks { CallsUpTo (2 * (D.medium disk.old).sectors) (D.medium disk.old)
+        (D.medium disk.new) }
 {
     let Ok(kept) = copy_contents(alloc, &contents) else {
         return Err(RecoverFault::Layout(LayoutFault::Memory));
     };
     match find_linked(alloc, disk, contents) {
-        Ok(found) => tell_found(alloc, kept, found),
+        Ok(found) => {
+            let measured = measure(alloc, disk, &found);
+            tell_found(kept, found, measured)
+        }
         Err(fault) => Err(fault),
     }
 }
@@ -112,7 +150,7 @@ fn look_into<D: Disk>(alloc: Global, disk: &mut D) -> Result<Inspection, Recover
     ensures tells { (image : Image) → (D.medium disk.new).shows image
         → InspectsDisk (D.medium disk.old).sectors image result }
     ensures cause { IfErr result (HasSearchCause (D.medium disk.old) (D.medium disk.new)) }
-    ensures asks { CallsUpTo (2 * (D.medium disk.old).sectors) (D.medium disk.old)
+    ensures asks { CallsUpTo (3 * (D.medium disk.old).sectors) (D.medium disk.old)
         (D.medium disk.new) }
 {
     match read_worker(alloc, disk) {

@@ -17,4 +17,7 @@ pub struct Inspection {
     /// What its next step waits for.
     pub wish: Option<Kind>,
     pub records: Vec<Record>,
+    /// Sectors of the journal behind those that these records fill: as many as a next barrier could
+    /// still write.
+    pub journal_left: u64,
 }

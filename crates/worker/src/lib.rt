@@ -31,7 +31,8 @@
 //!   nothing of them.
 //! - `inspect`: nothing is written. The disk is synced, and what it then shows is told (`Inspects`):
 //!   configuration and module, the newest snapshot and the process that it has saved, what that
-//!   process waits for, and the records behind it. A disk is refused as by `read_survey`.
+//!   process waits for, the records behind it, and how many sectors of the journal are left. A disk
+//!   is refused as by `read_survey`.
 //! - A recovery's error is that of the layer that has found it, under its own name
 //!   (`RecoverFault`). Want of memory may end a recovery anywhere, and then it says only what the
 //!   layers before have found (`shown`).
@@ -88,8 +89,9 @@
 //! `RecoveryCarries`, `Reopens`, `ReopensInVain`, `FindsNone`, `HasRecoveryCause`
 //! (`Recoveries.antt`); `RecoversAsShown`, `AnswersDisk`, `HoldsWorker`, `ShowsFault`, `FailsHeld`
 //! (`ShownDisks.antt`); `HeedsOutlet` (`Outlets.antt`); `Surveys`, `SurveysFrom`, `survey_of`
-//! (`Surveys.antt`); `Inspects`, `IsInspected` (`Inspections.antt`); `TellsWish` (`Wishes.antt`);
-//! `SlicesOnDiskInVain`, `IsDiskCause`, `HasSliceCause` (`DurableFailures.antt`); `SliceCalls`
+//! (`Surveys.antt`); `Inspects`, `IsInspected`, `sectors_left` (`Inspections.antt`); `TellsWish`
+//! (`Wishes.antt`); `SlicesOnDiskInVain`, `IsDiskCause`, `HasSliceCause`
+//! (`DurableFailures.antt`); `SliceCalls`
 //! (`SliceCalls.antt`); `CheckpointCalls`, `CheckpointFails`, `HasCheckpointCause`
 //! (`Checkpoints.antt`); `IsUpgradedIn`, `UpgradeCalls`, `UpgradeFails`, `HasUpgradeCause`,
 //! `StandsInOne`, `LeadsInOne`, `StandsInTwo`, `Migrates`, `EndsInTwo` (`Upgrades.antt`);

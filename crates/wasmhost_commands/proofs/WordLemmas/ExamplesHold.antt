@@ -12,6 +12,7 @@ path_examples = record {
   path_like_an_option = (refl, refl, refl);
   shows = (refl, refl, refl);
   inspects = (refl, refl, refl);
+  inspects_as_json = (refl, refl, refl);
   lists_files = (refl, refl, refl);
   upgrades = (refl, refl, refl);
   gives_a_file = (refl, refl, refl);

@@ -23,7 +23,7 @@ use Rattle.clap.specs.declared.parser.matches.ValueSource.TheVariants.{DefaultVa
 use Rattle.clap.specs.declared.error.kind.ErrorKind.TheVariants as kind
 use Rattle.wasmhost_commands.specs.rules.CommandLine.{wasmhost}
 use Rattle.wasmhost_commands.specs.rules.Commands.{HasPaths, IsNumberFrom, IsTaken, Meaning, check}
-use Rattle.wasmhost_commands.specs.rules.Commands.{create, create_in, disk_in}
+use Rattle.wasmhost_commands.specs.rules.Commands.{create, create_in, disk_in, flag_in}
 use Rattle.wasmhost_commands.specs.rules.Commands.{guest_words, meaning_below, module_in, number_or}
 use Rattle.wasmhost_commands.specs.rules.Commands.{own_words, run, run_in, script_in, show}
 use Rattle.wasmhost_commands.specs.rules.Commands.{spelled_number, story, story_in, TakesOptions}
@@ -36,7 +36,8 @@ use Rattle.wasmhost_commands.proofs.WordLemmas.Rows.{IsGood, added_good, options
 use Rattle.wasmhost_commands.proofs.WordLemmas.Rows.{path_is_there}
 use Rattle.wasmhost_commands.proofs.WordLemmas.Uses.{keeps_env, keeps_help, keeps_number}
 use Rattle.wasmhost_commands.proofs.WordLemmas.Uses.{keeps_path}
-use Rattle.wasmhost_commands.proofs.WordLemmas.Uses.{keeps_device, keeps_fronts, keeps_last}
+use Rattle.wasmhost_commands.proofs.WordLemmas.Uses.{keeps_device, keeps_fronts, keeps_json}
+use Rattle.wasmhost_commands.proofs.WordLemmas.Uses.{keeps_last}
 use Rattle.wasmhost_commands.proofs.WordLemmas.Uses.{keeps_rewrite, keeps_seed, keeps_status}
 
 -- ---- one level
@@ -71,6 +72,11 @@ no_device : (rows : List Row) → Each IsGood rows
     → Each IsGood (with_values (codes "device") AsWritten DefaultValue (codes "false" ∷ []) rows)
 no_device rows good =
     added_good DefaultValue (codes "device") (codes "false") rows (inr refl) good
+
+no_json : (rows : List Row) → Each IsGood rows
+    → Each IsGood (with_values (codes "json") AsWritten DefaultValue (codes "false" ∷ []) rows)
+no_json rows good =
+    added_good DefaultValue (codes "json") (codes "false") rows (inr refl) good
 
 -- good rows for which no fault is listed in the end have the paths of their command
 abbrev AsksForPaths : Shape → Type 0
@@ -204,8 +210,11 @@ module _ (name : Text) (words : List Text) (no_help : bytes_eq name (codes "help
               (unused, (unused, tt))
               (λ rows good e. inr (inr (inr (inl (refl, one_path (codes "DISK") rows good e))))) e,
           (
-            λ here e. below_taken _ words (keeps_path 1 (codes "DISK") (λ v. tt), (keeps_help, tt))
-                (unused, (unused, tt))
+            λ here e. below_taken _ words (
+              keeps_path 1 (codes "DISK") (λ v. tt),
+              (keeps_json 2, (keeps_help, tt)),
+            )
+                (unused, (no_json, (unused, tt)))
                 (λ rows good e. inr (inr (inr (inr (inl (
                   refl,
                   one_path (codes "DISK") rows good
@@ -417,7 +426,8 @@ taken_means arguments name rows taken = elim taken.0 [
             (sym p.0) (path_means show (disk_in rows) p.1 (λ path. tt))
         | inr looks ↦ elim looks [
           | inl p ↦ subst (λ (t : Text). IsSomeAnd (meaning_below arguments (t, rows)) NumbersFit)
-              (sym p.0) (path_means inspect (disk_in rows) p.1 (λ path. tt))
+              (sym p.0) (path_means (λ d. inspect d (flag_in (codes "json") rows)) (disk_in rows)
+              p.1 (λ path. tt))
           | inr listed ↦ elim listed [
             | inl p ↦ subst (λ (t : Text). IsSomeAnd (meaning_below arguments (t, rows)) NumbersFit)
                 (sym p.0) (path_means (λ d. files d (first_of (codes "PATH") rows)) (disk_in rows)

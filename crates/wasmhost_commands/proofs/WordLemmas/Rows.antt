@@ -28,7 +28,8 @@ counts_from_zero id = bytes_eq id (codes "pages") || (bytes_eq id (codes "files"
 
 -- and the flags
 abbrev pub is_flag : Text → Bool
-is_flag id = bytes_eq id (codes "rewrite") || bytes_eq id (codes "device")
+is_flag id = bytes_eq id (codes "rewrite") || (bytes_eq id (codes "device")
+    || bytes_eq id (codes "json"))
 
 -- what is asked of the value of an argument
 pub data Asked : Type 0 where
@@ -135,4 +136,5 @@ options_are_taken rows good = record {
   life = first_passes (codes "life") rows good;
   rewrite = first_passes (codes "rewrite") rows good;
   device = first_passes (codes "device") rows good;
+  json = first_passes (codes "json") rows good;
 }

@@ -13,7 +13,8 @@ use Rattle.clap.specs.declared.error.kind.ErrorKind.TheVariants as kind
 use Rattle.clap.specs.declared.parser.matches.ValueSource.TheVariants.{CommandLine}
 use Rattle.clap.proofs.ValueTestLemmas.{accepts-Accepts}
 use Rattle.wasmhost_commands.specs.rules.CommandLine.{env_rule, number_rule, path_rule}
-use Rattle.wasmhost_commands.specs.rules.CommandLine.{device_rule, fronts_rule, last_rule}
+use Rattle.wasmhost_commands.specs.rules.CommandLine.{device_rule, fronts_rule, json_rule}
+use Rattle.wasmhost_commands.specs.rules.CommandLine.{last_rule}
 use Rattle.wasmhost_commands.specs.rules.CommandLine.{rewrite_rule, seed_rule, status_rule}
 use Rattle.wasmhost_commands.specs.rules.Commands.{IsNumberFrom}
 use Rattle.wasmhost_commands.proofs.WordLemmas.Walks.{Keeps, no_first, no_second, some_kind}
@@ -116,6 +117,11 @@ keeps_rewrite n (v ∷ vs) rows e good =
 pub keeps_device : (n : ℕ) → Keeps IsGood false (with_index n (filled device_rule))
 keeps_device n [] rows e good = with_good (codes "device") (codes "true") rows (inl refl) good
 keeps_device n (v ∷ vs) rows e good =
+    absurd (some_values v vs (no_first (range_kinds 0 0 (length (v ∷ vs))) _ e))
+
+pub keeps_json : (n : ℕ) → Keeps IsGood false (with_index n (filled json_rule))
+keeps_json n [] rows e good = with_good (codes "json") (codes "true") rows (inl refl) good
+keeps_json n (v ∷ vs) rows e good =
     absurd (some_values v vs (no_first (range_kinds 0 0 (length (v ∷ vs))) _ e))
 
 pub keeps_help : Keeps IsGood false (filled help_rule)

@@ -14,7 +14,7 @@ NumbersFit (create said) = (said.pages < 2 ^ 64) × (said.files < 2 ^ 64) × (sa
 NumbersFit (run said) = (1 ≤ said.fuel) × (said.fuel < 2 ^ 64)
     × (1 ≤ said.every) × (said.every < 2 ^ 64)
 NumbersFit (show path) = ⊤
-NumbersFit (inspect path) = ⊤
+NumbersFit (inspect path as_json) = ⊤
 NumbersFit (files disk path) = ⊤
 NumbersFit (upgrade path) = ⊤
 NumbersFit (story said) = (said.pages < 2 ^ 64) × (said.files < 2 ^ 64) × (said.journal < 2 ^ 64)

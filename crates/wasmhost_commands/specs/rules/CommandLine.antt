@@ -67,6 +67,13 @@ device_rule = record (new_rule (codes "device")) {
   action = Some SetTrue;
 }
 
+-- the flag `--json`
+abbrev pub json_rule : Rule
+json_rule = record (new_rule (codes "json")) {
+  long = Some (codes "json");
+  action = Some SetTrue;
+}
+
 -- ---- commands
 
 -- a command with the argument DISK
@@ -107,9 +114,9 @@ run_app = with_rule (with_rule seeded_run_app rewrite_rule) status_rule
 abbrev pub show_app : App
 show_app = disk_app (codes "show")
 
--- `inspect DISK`
+-- `inspect DISK`, with `--json` where it is wanted
 abbrev pub inspect_app : App
-inspect_app = disk_app (codes "inspect")
+inspect_app = with_rule (disk_app (codes "inspect")) json_rule
 
 -- `files DISK`, with PATH where it is wanted
 abbrev pub files_app : App

@@ -103,7 +103,7 @@ pub data Meaning : Type 0 where
   create : CreateMeaning → Meaning
   run : RunMeaning → Meaning
   show : Text → Meaning
-  inspect : Text → Meaning
+  inspect : Text → Bool → Meaning
   files : Text → Option Text → Meaning
   upgrade : Text → Meaning
   story : StoryMeaning → Meaning
@@ -162,7 +162,7 @@ meaning_of (Check path) = check path.now
 meaning_of (Create order) = create (create_said order)
 meaning_of (Run order) = run (run_said order)
 meaning_of (Show path) = show path.now
-meaning_of (Inspect path) = inspect path.now
+meaning_of (Inspect path as_json) = inspect path.now as_json
 meaning_of (Files disk path) = files disk.now (option_map (λ text. text.now) path)
 meaning_of (Upgrade path) = upgrade path.now
 meaning_of (Story order) = story (story_said order)
@@ -276,7 +276,8 @@ meaning_below arguments met =
     else if bytes_eq met.0 (codes "run")
     then option_map (λ disk. run (run_in met.1 disk)) (disk_in met.1)
     else if bytes_eq met.0 (codes "show") then option_map show (disk_in met.1)
-    else if bytes_eq met.0 (codes "inspect") then option_map inspect (disk_in met.1)
+    else if bytes_eq met.0 (codes "inspect")
+    then option_map (λ disk. inspect disk (flag_in (codes "json") met.1)) (disk_in met.1)
     else if bytes_eq met.0 (codes "files")
     then option_map (λ disk. files disk (first_of (codes "PATH") met.1)) (disk_in met.1)
     else if bytes_eq met.0 (codes "upgrade") then option_map upgrade (disk_in met.1)
@@ -337,6 +338,7 @@ pub record TakesOptions (rows : List Row) : Type 0 where
   pub life : TakesNumber 1 (codes "life") rows
   pub rewrite : TakesFlag (codes "rewrite") rows
   pub device : TakesFlag (codes "device") rows
+  pub json : TakesFlag (codes "json") rows
 
 -- one of the nine commands, with the paths that it needs
 abbrev pub HasPaths : Text → List Row → Type 0

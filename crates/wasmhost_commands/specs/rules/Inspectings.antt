@@ -1,11 +1,13 @@
 -- What `wasmhost inspect` and `wasmhost files` say of a disk (this project's own).
-use Rattle.std.specs.Prelude.{◌≡◌, ◌⊎◌, ℕ, ◌*◌, true, List, ◌++◌, length, codes, Option, Some, None}
-use Rattle.std.specs.Prelude.{Result, Ok, Err, Vec, if◌then◌else◌}
+use Rattle.std.specs.Prelude.{◌≡◌, ◌⊎◌, ℕ, ◌*◌, Bool, true, List, [], ◌∷◌, ◌++◌, length, codes}
+use Rattle.std.specs.Prelude.{Option, Some, None, Result, Ok, Err, Vec, if◌then◌else◌}
 use Rattle.std.specs.declared.alloc.Global.{Global}
 use Rattle.std.specs.Fmt.{decimal}
 use Rattle.std.specs.List.{flat_map}
 use Rattle.hex.specs.Hex.{encode_lower}
 use Rattle.sha2.specs.Sha256.{sha256}
+use Rattle.serde_json.specs.Data.{Data, string, object, no_members}
+use Rattle.serde_json.specs.Written.{compact_text}
 use Rattle.sector_disk.specs.rules.Medium.{Medium}
 use Rattle.file_tree.specs.declared.limits.TheConstants.{UNIT_BYTES}
 use Rattle.file_tree.specs.rules.Files.{Files}
@@ -22,8 +24,13 @@ use Rattle.worker.specs.declared.recover_fault.RecoverFault.{RecoverFault}
 use Rattle.worker.specs.rules.Inspections.{Inspects}
 use Rattle.wasmhost_commands.specs.rules.DiskStatuses.{told_of_opening, status_on_disk}
 use Rattle.wasmhost_commands.specs.rules.InspectionTexts.{number_fact, text_fact, settings_facts}
-use Rattle.wasmhost_commands.specs.rules.InspectionTexts.{snapshot_facts, host_facts, record_facts}
+use Rattle.wasmhost_commands.specs.rules.InspectionTexts.{snapshot_facts, host_facts}
+use Rattle.wasmhost_commands.specs.rules.InspectionTexts.{journal_facts}
+use Rattle.wasmhost_commands.specs.rules.InspectionValues.{Member, number_data, put_all}
+use Rattle.wasmhost_commands.specs.rules.InspectionValues.{settings_members, snapshot_members}
+use Rattle.wasmhost_commands.specs.rules.InspectionValues.{host_members, journal_members}
 use Rattle.wasmhost_commands.specs.rules.ProcessTexts.{process_facts}
+use Rattle.wasmhost_commands.specs.rules.ProcessValues.{process_members}
 use Rattle.wasmhost_commands.specs.rules.Printers.{PrinterState, IsSaid, SaysText}
 
 -- ---- the facts of a disk
@@ -48,7 +55,40 @@ inspection_text told =
     ++ snapshot_facts told.generation told.image_bytes
     ++ process_facts told.process told.wish
     ++ host_facts (told.contents.config.files * UNIT_BYTES) told.process.host.host
-    ++ record_facts told.records.items
+    ++ journal_facts told.records.items told.journal_left
+
+-- ---- the same as one value
+
+-- the layout of the disk, the version of its worker, and the module's length and digest
+abbrev pub module_members : Version → List ℕ → List Member
+module_members version wasm =
+    (codes "layout", number_data LAYOUT)
+    ∷ (codes "version", number_data (version_number version))
+    ∷ (codes "module", number_data (length wasm))
+    ∷ (codes "digest", string (encode_lower (sha256 wasm))) ∷ []
+
+-- these, and the configuration
+abbrev pub contents_members : Version → Contents → List Member
+contents_members version contents =
+    module_members version contents.wasm ++ settings_members contents.config
+
+-- all that is told of a disk
+abbrev pub inspection_members : Inspection → List Member
+inspection_members told =
+    contents_members told.process.host.host.version told.contents
+    ++ snapshot_members told.generation told.image_bytes
+    ++ process_members told.process told.wish
+    ++ host_members (told.contents.config.files * UNIT_BYTES) told.process.host.host
+    ++ journal_members told.records.items told.journal_left
+
+-- one object of these members
+abbrev pub inspection_data : Inspection → Data
+inspection_data told = object (put_all (inspection_members told) no_members)
+
+-- what is printed: the text of that value on a line, or one fact a line
+abbrev pub inspection_words : Bool → Inspection → List ℕ
+inspection_words as_json told =
+    if as_json then compact_text (inspection_data told) ++ codes "\n" else inspection_text told
 
 -- ---- its files
 
@@ -99,11 +139,11 @@ SaysRefusal why out out' err err' status =
     IsSaid (status_on_disk (told_of_opening why)) err status err' × (out' ≡ out)
 
 -- what is said of a disk that was inspected
-abbrev pub SaysInspected : Result Inspection RecoverFault → PrinterState → PrinterState
+abbrev pub SaysInspected : Bool → Result Inspection RecoverFault → PrinterState → PrinterState
     → PrinterState → PrinterState → ℕ → Type 0
-SaysInspected (Ok told) out out' err err' status =
-    SaysOrWants (inspection_text told) out out' err err' status
-SaysInspected (Err why) out out' err err' status = SaysRefusal why out out' err err' status
+SaysInspected as_json (Ok told) out out' err err' status =
+    SaysOrWants (inspection_words as_json told) out out' err err' status
+SaysInspected as_json (Err why) out out' err err' status = SaysRefusal why out out' err err' status
 
 -- what is said of its files
 abbrev pub SaysListed : Option (List ℕ) → Result Inspection RecoverFault → PrinterState
@@ -113,11 +153,11 @@ SaysListed path (Ok told) out out' err err' status =
 SaysListed path (Err why) out out' err err' status = SaysRefusal why out out' err err' status
 
 -- The disk was inspected, and the facts that it holds are said.
-pub record TellsDisk (disk disk' : Medium) (out out' err err' : PrinterState) (status : ℕ)
-    : Type 0 where
+pub record TellsDisk (as_json : Bool) (disk disk' : Medium) (out out' err err' : PrinterState)
+    (status : ℕ) : Type 0 where
   pub result : Result Inspection RecoverFault
   pub inspects : Inspects result disk disk'
-  pub says : SaysInspected result out out' err err' status
+  pub says : SaysInspected as_json result out out' err err' status
 
 -- The disk was inspected, and the files of the saved process are said.
 pub record TellsFiles (path : Option (List ℕ)) (disk disk' : Medium)

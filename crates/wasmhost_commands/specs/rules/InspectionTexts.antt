@@ -6,6 +6,7 @@ use Rattle.std.specs.Fmt.{decimal}
 use Rattle.wasi_abi.specs.declared.answer.Answer.{Answer}
 use Rattle.wasi_abi.specs.declared.answer.Answer.TheVariants as answer
 use Rattle.wasi_abi.specs.rules.Configs.{Settings}
+use Rattle.file_tree.specs.declared.limits.TheConstants.{NODES}
 use Rattle.file_tree.specs.rules.Files.{Files, is_directory, used}
 use Rattle.wasi_calls_rules.specs.Hosts.{Host, Target, Stream, Node, Descriptor}
 use Rattle.disk_layout.specs.rules.Journal.{Record, payload_of}
@@ -57,30 +58,34 @@ abbrev pub descriptor_facts : Files → ℕ → List (Option Descriptor) → Lis
 descriptor_facts fs n [] = []
 descriptor_facts fs n (d ∷ ds) = descriptor_fact fs n d ++ descriptor_facts fs (n + 1) ds
 
--- how many bytes files have, and how many they may have
-abbrev pub bytes_fact : ℕ → ℕ → List ℕ
-bytes_fact n room = codes "bytes " ++ decimal n ++ codes " " ++ decimal room ++ codes "\n"
+-- how much of something is used, and how much there may be
+abbrev pub usage_fact : List ℕ → ℕ → ℕ → List ℕ
+usage_fact name n limit =
+    name ++ codes " " ++ decimal n ++ codes " " ++ decimal limit ++ codes "\n"
 
--- how many bytes its files have, of so many, and what is open
+-- how many nodes and bytes its files have, and may have, and what is open
 abbrev pub host_facts : ℕ → Host → List ℕ
-host_facts room h = bytes_fact (used h.files) room ++ descriptor_facts h.files 0 h.descriptors
+host_facts room h =
+    usage_fact (codes "nodes") (length h.files.nodes) NODES
+    ++ usage_fact (codes "bytes") (used h.files) room
+    ++ descriptor_facts h.files 0 h.descriptors
 
--- ---- records
+-- ---- its journal
 
 -- the word for what was answered
-abbrev pub answer_word : Answer → List ℕ
-answer_word (answer.Request text) = codes "request "
-answer_word answer.End = codes "end "
-answer_word (answer.Realtime n) = codes "realtime "
-answer_word (answer.Monotonic n) = codes "monotonic "
-answer_word (answer.Random bytes) = codes "random "
+abbrev pub kind_word : Answer → List ℕ
+kind_word (answer.Request text) = codes "request"
+kind_word answer.End = codes "end"
+kind_word (answer.Realtime n) = codes "realtime"
+kind_word (answer.Monotonic n) = codes "monotonic"
+kind_word (answer.Random bytes) = codes "random"
 
 -- a record: what was answered, its step, and the length of its payload
 abbrev pub record_fact : Record → List ℕ
 record_fact r =
-    codes "record " ++ answer_word r.answer ++ decimal r.step ++ codes " "
+    codes "record " ++ kind_word r.answer ++ codes " " ++ decimal r.step ++ codes " "
     ++ decimal (length (payload_of r.answer)) ++ codes "\n"
 
--- all records, one a line
-abbrev pub record_facts : List Record → List ℕ
-record_facts records = flat_map record_fact records
+-- all records, one a line, and how many sectors are left
+abbrev pub journal_facts : List Record → ℕ → List ℕ
+journal_facts records left = flat_map record_fact records ++ number_fact (codes "left") left

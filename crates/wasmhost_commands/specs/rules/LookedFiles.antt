@@ -1,6 +1,6 @@
 -- A disk in a file that is looked into (this project's own). It was opened, and nothing was done
 -- with it but that. Or none was opened.
-use Rattle.std.specs.Prelude.{◌≡◌, ◌⊎◌, ℕ, List, Option}
+use Rattle.std.specs.Prelude.{◌≡◌, ◌⊎◌, ℕ, Bool, List, Option}
 use Rattle.sector_disk.specs.declared.file.FileDisk.{FileDisk}
 use Rattle.sector_disk.specs.rules.File.{file_medium}
 use Rattle.wasmhost_commands.specs.rules.Inspectings.{TellsDisk, TellsFiles}
@@ -8,11 +8,11 @@ use Rattle.wasmhost_commands.specs.rules.Openings.{IsUntouched, SaysUnopened}
 use Rattle.wasmhost_commands.specs.rules.Printers.{PrinterState}
 
 -- its facts are said
-abbrev pub TellsFile : (F : Type 0) → List ℕ → PrinterState → PrinterState → PrinterState
+abbrev pub TellsFile : (F : Type 0) → Bool → List ℕ → PrinterState → PrinterState → PrinterState
     → PrinterState → ℕ → Type 0
-TellsFile F path out out' err err' status =
+TellsFile F as_json path out out' err err' status =
     ((disk : FileDisk F) × (disk' : FileDisk F) × IsUntouched disk
-    × TellsDisk (file_medium disk) (file_medium disk') out out' err err' status)
+    × TellsDisk as_json (file_medium disk) (file_medium disk') out out' err err' status)
     ⊎ (SaysUnopened path err status err' × (out' ≡ out))
 
 -- the files of its saved process are said

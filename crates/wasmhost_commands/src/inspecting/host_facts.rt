@@ -6,9 +6,10 @@ ghost use Rattle.wasi_calls.specs.Views.{target_of};
 ghost use Rattle.wasmhost_commands.specs.rules.InspectionTexts.{target_words, descriptor_fact};
 ghost use Rattle.wasmhost_commands.specs.rules.InspectionTexts.{last_number};
 ghost use Rattle.wasmhost_commands.specs.rules.InspectionTexts.{descriptor_facts, host_facts};
-ghost use Rattle.wasmhost_commands.specs.rules.InspectionTexts.{bytes_fact};
+ghost use Rattle.wasmhost_commands.specs.rules.InspectionTexts.{usage_fact};
 
 use file_tree::Tree;
+use file_tree::limits::NODES;
 use std::io::{self, Write};
 use wasi_calls::{Descriptor, Host, Names};
 
@@ -86,12 +87,12 @@ fn spell_descriptors<W: Write>(
     Ok(())
 }
 
-/// Spells how many bytes files have, and how many they may have.
-fn spell_bytes<W: Write>(out: &mut W, used: u64, room: u64) -> io::Result<()>
+/// Spells a name, how much of something is used, and how much there may be.
+fn spell_usage<W: Write>(out: &mut W, name: &str, used: u64, limit: u64) -> io::Result<()>
     ensures { OnOk result (Appends (W.contents out.old) (W.contents out.new)
-        (bytes_fact used room)) }
+        (usage_fact name.now used limit)) }
 {
-    writeln!(out, "bytes {used} {room}")
+    writeln!(out, "{name} {used} {limit}")
 }
 
 /// Spells the files of a host, which may have so many bytes, and what is open.
@@ -99,6 +100,7 @@ pub(super) fn spell_host<W: Write>(out: &mut W, host: &Host, room: u64) -> io::R
     ensures { OnOk result (Appends (W.contents out.old) (W.contents out.new)
         (host_facts room host.now.host)) }
 {
-    spell_bytes(out, host.tree().used_bytes(), room)?;
+    spell_usage(out, "nodes", host.tree().len() as u64, NODES as u64)?;
+    spell_usage(out, "bytes", host.tree().used_bytes(), room)?;
     spell_descriptors(out, host.tree(), host.descriptors())
 }

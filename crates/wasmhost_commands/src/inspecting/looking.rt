@@ -17,33 +17,36 @@ use worker::{Inspection, inspect};
 fn say_inspection<W: Write + Drop, E: Write + Drop>(
     alloc: Global,
     told: &Inspection,
+    as_json: bool,
     out: &mut Printer<W>,
     err: &mut Printer<E>,
 ) -> u8
-    ensures says { SaysInspected (Ok told.now) out.old out.new err.old err.new result }
+    ensures says { SaysInspected as_json (Ok told.now) out.old out.new err.old err.new result }
     ensures known { result ≤ 7 }
 {
-    match text_of(alloc, told) {
+    match text_of(alloc, told, as_json) {
         Ok(text) => say_text(out, text.as_slice()),
         Err(_) => report(err, Obstacle::Memory),
     }
 }
 
-/// Prints all that stands on a worker's disk, one fact a line. Nothing is changed on the disk, but
-/// that it is synced. Answers the exit status: 0 where the facts are printed, 3 for a disk that is
-/// refused, 4 where it fails, 5 for want of memory, 7 where a write of a printer has failed.
+/// Prints all that stands on a worker's disk, as one JSON value or one fact a line. Nothing is
+/// changed on the disk, but that it is synced. Answers the exit status: 0 where the facts are
+/// printed, 3 for a disk that is refused, 4 where it fails, 5 for want of memory, 7 where a write of
+/// a printer has failed.
 pub fn inspect_disk<D: Disk, W: Write + Drop, E: Write + Drop>(
     alloc: Global,
     disk: &mut D,
+    as_json: bool,
     out: &mut Printer<W>,
     err: &mut Printer<E>,
 ) -> u8
-    ensures tells { TellsDisk (D.medium disk.old) (D.medium disk.new) out.old out.new err.old
-        err.new result }
+    ensures tells { TellsDisk as_json (D.medium disk.old) (D.medium disk.new) out.old out.new
+        err.old err.new result }
     ensures known { result ≤ 7 }
 {
     match inspect(alloc, disk) {
-        Ok(told) => say_inspection(alloc, &told, out, err),
+        Ok(told) => say_inspection(alloc, &told, as_json, out, err),
         Err(fault) => say_disk_fault(err, OnDiskFault::from(fault)),
     }
 }

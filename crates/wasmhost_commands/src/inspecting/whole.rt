@@ -3,12 +3,13 @@
 ghost use Rattle.std.specs.Prelude.{◌≡◌, IfOk, OnOk};
 ghost use Rattle.std.specs.Io.KnownBytes.{Appends};
 ghost use Rattle.wasmhost_commands.specs.rules.Inspectings.{contents_facts, inspection_text};
-ghost use Rattle.wasmhost_commands.specs.rules.Inspectings.{module_facts};
+ghost use Rattle.wasmhost_commands.specs.rules.Inspectings.{inspection_words, module_facts};
 
 use crate::inspecting::facts::{spell_number, spell_settings, spell_snapshot, spell_text};
 use crate::inspecting::host_facts::spell_host;
 use crate::inspecting::progress::spell_process;
-use crate::inspecting::record_facts::spell_records;
+use crate::inspecting::record_facts::spell_journal;
+use crate::inspecting::whole_value::json_of;
 use crate::stories::digest_digits;
 use disk_layout::Contents;
 use file_tree::limits::UNIT_BYTES;
@@ -18,7 +19,7 @@ use wasi_abi::Version;
 use worker::Inspection;
 
 /// The layout of a disk that isn't refused.
-const LAYOUT: u64 = 1;
+pub(super) const LAYOUT: u64 = 1;
 
 /// Spells the layout of the disk and the version of its worker, and what is told of the module.
 fn spell_module<W: Write>(out: &mut W, version: Version, wasm: &[u8]) -> io::Result<()>
@@ -51,14 +52,25 @@ fn spell_inspection<W: Write>(out: &mut W, told: &Inspection) -> io::Result<()>
     spell_snapshot(out, told.generation, told.image_bytes)?;
     spell_process(out, &told.process, told.wish)?;
     spell_host(out, told.process.host(), room)?;
-    spell_records(out, told.records.as_slice())
+    spell_journal(out, told.records.as_slice(), told.journal_left)
 }
 
-/// The text of all that is told of a disk.
-pub(super) fn text_of(alloc: Global, told: &Inspection) -> io::Result<Vec<u8>>
+/// The facts of a disk, one a line.
+fn lines_of(alloc: Global, told: &Inspection) -> io::Result<Vec<u8>>
     ensures { IfOk result (λ text. text.items ≡ inspection_text told.now) }
 {
     let mut text = Vec::new(alloc);
     spell_inspection(&mut text, told)?;
     Ok(text)
+}
+
+/// The text of all that is told of a disk, as one JSON value or one fact a line.
+pub(super) fn text_of(alloc: Global, told: &Inspection, as_json: bool) -> io::Result<Vec<u8>>
+    ensures { IfOk result (λ text. text.items ≡ inspection_words as_json told.now) }
+{
+    if as_json {
+        Ok(json_of(alloc, told)?)
+    } else {
+        lines_of(alloc, told)
+    }
 }

@@ -93,6 +93,7 @@ pub fn inspect_file<F, R, W, E>(
     alloc: Global,
     files: &R,
     path: &str,
+    as_json: bool,
     out: &mut Printer<W>,
     err: &mut Printer<E>,
 ) -> u8
@@ -101,11 +102,11 @@ where
     R: Files<File = F>,
     W: Write + Drop,
     E: Write + Drop,
-    ensures tells { TellsFile F path.now out.old out.new err.old err.new result }
+    ensures tells { TellsFile F as_json path.now out.old out.new err.old err.new result }
     ensures known { result ≤ 7 }
 {
     match open_disk(files, path, false, err) {
-        Ok(mut disk) => inspect_disk(alloc, &mut disk, out, err),
+        Ok(mut disk) => inspect_disk(alloc, &mut disk, as_json, out, err),
         Err(status) => status,
     }
 }

@@ -12,8 +12,9 @@ ghost use Rattle.wasmhost_commands.specs.rules.CommandLine.{rewrite_rule, run_ap
 ghost use Rattle.wasmhost_commands.specs.rules.CommandLine.{script_app, seeded_run_app, show_app};
 ghost use Rattle.wasmhost_commands.specs.rules.CommandLine.{status_rule};
 ghost use Rattle.wasmhost_commands.specs.rules.CommandLine.{sized_create_app, story_app, sweep_app};
-ghost use Rattle.wasmhost_commands.specs.rules.CommandLine.{files_app, inspect_app, last_rule};
-ghost use Rattle.wasmhost_commands.specs.rules.CommandLine.{looks_app, upgrade_app, wasmhost};
+ghost use Rattle.wasmhost_commands.specs.rules.CommandLine.{files_app, inspect_app, json_rule};
+ghost use Rattle.wasmhost_commands.specs.rules.CommandLine.{last_rule, looks_app, upgrade_app};
+ghost use Rattle.wasmhost_commands.specs.rules.CommandLine.{wasmhost};
 ghost use Rattle.wasmhost_commands.specs.rules.CommandLine.{HasVersion, version_words};
 
 use clap::{Arg, ArgAction, Command, value_parser};
@@ -89,6 +90,16 @@ fn device_flag<'a>(alloc: Global) -> Arg<'a>
     Arg::new(alloc, "device")
         .long("device")
         .help("DISK is a block device, whose first sectors are overwritten")
+        .action(ArgAction::SetTrue)
+}
+
+/// The flag `--json`.
+fn json_flag<'a>(alloc: Global) -> Arg<'a>
+    ensures { IsArgument json_rule result }
+{
+    Arg::new(alloc, "json")
+        .long("json")
+        .help("Say it as one JSON value")
         .action(ArgAction::SetTrue)
 }
 
@@ -229,7 +240,7 @@ fn inspect_command<'a>(alloc: Global) -> Result<Command<'a>, AllocError>
     ensures { IfOk result (IsCommand inspect_app) }
 {
     let about = "Say all that stands on a disk, one fact a line";
-    disk_command(alloc, "inspect", about, WORKER_DISK)
+    disk_command(alloc, "inspect", about, WORKER_DISK)?.arg(json_flag(alloc))
 }
 
 fn files_command<'a>(alloc: Global) -> Result<Command<'a>, AllocError>

@@ -231,6 +231,7 @@ pub(crate) fn order_of<'a>(
         }),
         "inspect" => Ok(Order::Inspect {
             path: path_of(matches, "DISK"),
+            as_json: flag_of(matches, "json"),
         }),
         "files" => Ok(Order::Files {
             disk: path_of(matches, "DISK"),

@@ -109,9 +109,10 @@ pub enum Order<'a> {
     Show {
         path: &'a str,
     },
-    /// Says all that stands on the disk in this file.
+    /// Says all that stands on the disk in this file, one fact a line or as one JSON value.
     Inspect {
         path: &'a str,
+        as_json: bool,
     },
     /// Lists the files of the worker of the disk in this file, or gives the bytes of one.
     Files {

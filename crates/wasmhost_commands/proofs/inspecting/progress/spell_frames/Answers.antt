@@ -1,4 +1,4 @@
-use Rattle.std.proofs.Common.{reverse, sym}
+use Rattle.std.proofs.Common.{reverse}
 use Rattle.machine.specs.rules.LentFrames.{lent_frame}
 use Rattle.wasmhost_commands.specs.rules.ProcessTexts.{frame_fact}
 use Rattle.wasmhost_commands.proofs.SpellingLemmas.{one_got_spelled}

@@ -4,7 +4,7 @@ use Rattle.std.proofs.lemmas.Result.{on_ok_weaker}
 use Rattle.file_tree.specs.declared.limits.TheConstants.{UNIT_BYTES}
 use Rattle.wasi_calls.specs.rules.Held.{HeldHost}
 use Rattle.disk_layout.specs.rules.Journal.{Record}
-use Rattle.wasmhost_commands.specs.rules.InspectionTexts.{snapshot_facts, host_facts, record_facts}
+use Rattle.wasmhost_commands.specs.rules.InspectionTexts.{snapshot_facts, host_facts, journal_facts}
 use Rattle.wasmhost_commands.specs.rules.ProcessTexts.{process_facts}
 use Rattle.wasmhost_commands.specs.rules.Inspectings.{contents_facts}
 use Rattle.wasmhost_commands.proofs.LineLemmas.Printed.{appends_both}
@@ -22,10 +22,10 @@ returns g c =
     let second = g.W.Write.contents c.spell_snapshot.new.out in
     let third = g.W.Write.contents c.spell_process.new.out in
     let fourth = g.W.Write.contents c.spell_host.new.out in
-    let last = g.W.Write.contents c.spell_records.new.out in
-    on_ok_weaker c.spell_records.result (λ records.
+    let last = g.W.Write.contents c.spell_journal.new.out in
+    on_ok_weaker c.spell_journal.result (λ journal.
     appends_both from fourth last (contents ++ snapshot ++ process ++ host)
-    (record_facts told.records.items)
+    (journal_facts told.records.items told.journal_left)
     (appends_both from third fourth (contents ++ snapshot ++ process) host
     (appends_both from second third (contents ++ snapshot) process
     (appends_both from first second contents snapshot
@@ -38,5 +38,5 @@ returns g c =
     (subst (λ (h : HeldHost). Appends third fourth
     (host_facts (c.from-room.result * UNIT_BYTES) h.host)) c.host.ensures
     c.in_ok-spell_host.ensures)))
-    (subst (λ (rs : List Record). Appends fourth last (record_facts rs)) c.as_slice.ensures.value
-    records)) c.spell_records.ensures
+    (subst (λ (rs : List Record). Appends fourth last (journal_facts rs told.journal_left))
+    c.as_slice.ensures.value journal)) c.spell_journal.ensures
