@@ -1,9 +1,12 @@
 pub mod Codes
 pub mod Advancing
+pub mod ByForms
 pub mod Calling
 pub mod Turning
 pub mod Ending
+pub mod Entered
 pub mod Whole
+pub mod Halted
 pub mod FunctionKinds
 pub mod Indirect
 pub mod Asking

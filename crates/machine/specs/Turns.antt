@@ -1,3 +1,4 @@
+pub mod ByForms
 pub mod Codes
 pub mod Pauses
 pub mod Turns

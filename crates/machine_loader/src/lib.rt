@@ -25,9 +25,9 @@
 //! # Who may touch what
 //!
 //! The crate holds nothing of its own. It is the one place where the three steps are joined.
-//! `ephemeral_worker` uses `read`, and `wasmhost_commands` uses `accept`. It stands on `wasm_decode`,
-//! `wasm_validate` and `machine`. Each step takes memory, and has its own fault for want of it.
-//! After an error nothing is left of the module.
+//! `ephemeral_worker` uses `read`, and `wasmhost_commands` uses `accept`. It stands on
+//! `wasm_decode`, `wasm_validate` and `machine`. Each step takes memory, and has its own fault for
+//! want of it. After an error nothing is left of the module.
 //!
 //! # Choices
 //!

@@ -1,6 +1,7 @@
 //! Frames that are entered and left.
 
-ghost use Rattle.std.specs.Prelude.{◌≡◌, ◌<◌, ◌≤◌, ◌+◌, ◌-◌, length};
+ghost use Rattle.std.specs.Prelude.{◌≡◌, ◌<◌, ◌≤◌, ◌+◌, ◌-◌, ◌++◌, length, replicate};
+ghost use Rattle.machine_slots.specs.declared.slots.TheConstants.{SLOTS};
 ghost use Rattle.wasm_syntax.specs.declared.limits.TheConstants.{PARAMETERS, LOCALS};
 ghost use Rattle.machine.specs.Turns.Turns.{CanLeave, Entered, EntersOrTraps, HasFrameRoom};
 ghost use Rattle.machine.specs.Turns.Turns.{IsCleared, LeavesFrame, TrapsWith};
@@ -10,11 +11,40 @@ use crate::turns::pause::{Pause, Paused};
 use crate::turns::state::State;
 use crate::turns::turn::Turn;
 use machine_frame::StackFrame;
+use machine_slots::Slots;
 use machine_slots::limits::{FRAMES, HELD_VALUES};
 use wasm_syntax::Trap;
 
+/// Puts zeros on top. A few are put there one by one, since a fill of any length is a call.
+#[inline(always)]
+fn push_zeros(slots: &mut Slots, count: usize)
+    requires { count + length slots.old ≤ SLOTS }
+    ensures { slots.new ≡ replicate count 0 ++ slots.old }
+{
+    if count == 0 {
+        return;
+    }
+    slots.push(0);
+    if count == 1 {
+        return;
+    }
+    slots.push(0);
+    if count == 2 {
+        return;
+    }
+    slots.push(0);
+    if count == 3 {
+        return;
+    }
+    slots.push(0);
+    if count > 4 {
+        slots.push_zeros(count - 4);
+    }
+}
+
 /// Enters a function whose parameters are on top of the words.
-fn enter(state: &mut State, function: u32, parameters: usize, declared: usize)
+#[inline(always)]
+pub fn enter(state: &mut State, function: u32, parameters: usize, declared: usize)
     requires parameters { parameters ≤ length state.old.slots }
     requires room { HasFrameRoom declared state.old }
     ensures { Entered function parameters declared state.old state.new }
@@ -25,7 +55,7 @@ fn enter(state: &mut State, function: u32, parameters: usize, declared: usize)
         position: 0,
         base,
     });
-    state.slots.push_zeros(declared);
+    push_zeros(&mut state.slots, declared);
 }
 
 /// Leaves no frames, words and calls to come: the thread is over.
@@ -69,6 +99,7 @@ pub fn enter_or_trap(state: &mut State, function: u32, routine: &Routine, fuel: 
 }
 
 /// Leaves the running frame with so many results, which the frame that waits for them is given.
+#[inline(always)]
 pub fn leave(state: &mut State, results: usize)
     requires { CanLeave results state.old }
     ensures { LeavesFrame results state.old state.new }

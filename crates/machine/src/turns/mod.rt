@@ -2,6 +2,7 @@
 //! its frames, calls, returns and ends, and the calls of the host. What a machine holds
 //! (`Executable`, `State`) and why it pauses (`Pause`) are defined here.
 
+mod by_forms;
 mod calls;
 pub mod code;
 mod functions;
