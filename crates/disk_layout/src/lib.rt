@@ -50,8 +50,7 @@
 //!   write of contents or super say that its fault is one of the two, and not which.
 //! - Padding is written as zeros and not compared when it is read.
 //! - A record's length has two bytes in version 1 and four in version 2, and its payload a limit of
-//!   the version. All else of a record and of the journal is the same in both. No command makes a
-//!   disk of version 2 yet.
+//!   the version. All else of a record and of the journal is the same in both.
 //! - A torn head may show a lower generation than before, one that no commit made. What stays is
 //!   the latest that a head's sector shows.
 //! - `write_contents` takes configuration and module apart and builds each sector of a part of

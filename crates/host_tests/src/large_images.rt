@@ -1,5 +1,5 @@
 //! Images of a process with 16 pages. What two of these tests differ by is what a step costs:
-//! `docs/PROVING.md` says how that is measured.
+//! `docs/PERFORMANCE.md` says how that is measured.
 
 use crate::image_stop::ImageStop;
 use crate::processes::{LARGE_ECHO, begin_with, bytes_of, restore_with};

@@ -226,8 +226,9 @@
 //!   it is the number of that line no clause says: `scripts/runs/disk-rows` has rows of it. What is
 //!   printed of requests that nobody took is a function of the bytes that were read ahead
 //!   (`SaysLeft`). Reading on could wait for ever, so nothing more is read.
-//! - **`--pages -1` prints a tip of `clap`, to write `-- -1`**, which is of no use here: it can't
-//!   be turned off in the kit's `clap` without losing what is proved of its words.
+//! - **The tip of `clap` to write `-- -1` for `--pages -1` isn't printed**, since it is of no use
+//!   here. It is cut out of the text (`around_tip`): to turn it off in the kit's `clap` would lose
+//!   what is proved of its words.
 //! - **A configuration and a module are looked at before the disk's file is made**, and once more
 //!   by the creation. That costs a second decoding, once in a worker's life.
 //! - **`show` counts records, and plays none.** So it shows a disk whose records don't fit, which
