@@ -80,8 +80,8 @@
 //!   answer looks into no table, and a pause has nothing to keep.
 //! - **Calls and returns between functions that run by forms stay in one loop** (`run_by_forms`).
 //!   What it keeps of the running frame is where that enters its forms, with its routine and its
-//!   first slot. So no frame is looked up that was just entered, and forms are inlined there. A
-//!   call that can't stay, as one of the host or one without room, is a turn as any other.
+//!   first slot. So no frame is looked up that was just entered. A call that can't stay, as one of
+//!   the host or one without room, is a turn as any other.
 //! - Only a call asks the host for something, and what it asks for is no question of the bytes in
 //!   memory. So the host may write them while a call waits. A law says that the machine then shows
 //!   what is written, and waits at the same call.

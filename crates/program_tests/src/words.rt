@@ -7,7 +7,7 @@ use wasmhost_commands::{CreateOrder, Order, RunOrder, StoryOrder, WordsFault, re
 /// Words, and the status of what is read: 0 for an order.
 type StatusRow = (&'static [&'static str], u8);
 
-static STATUSES: [StatusRow; 33] = [
+static STATUSES: [StatusRow; 35] = [
     (&["wasmhost"], 2),
     (&["wasmhost", "open", "a"], 2),
     (&["wasmhost", "check"], 2),
