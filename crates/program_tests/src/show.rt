@@ -298,11 +298,11 @@ fn shown_in(alloc: Global, room: usize) -> Result<u8, Fail>
     Ok(status_in(alloc, &mut disk, &mut out[..room], &mut []))
 }
 
-/// The line has 49 bytes, and the fault 21.
+/// The line has 59 bytes, and the fault 21.
 #[test]
 fn what_cant_be_printed_is_told(rt: HostRuntime) -> Result<(), Fail> {
-    assert!(rt; shown_in(rt.alloc(), 49)? == 0);
-    assert!(rt; shown_in(rt.alloc(), 48)? == 7);
+    assert!(rt; shown_in(rt.alloc(), 59)? == 0);
+    assert!(rt; shown_in(rt.alloc(), 58)? == 7);
     assert!(rt; refused_in(rt.alloc(), 21)? == 3);
     assert!(rt; refused_in(rt.alloc(), 20)? == 7);
     Ok(())
