@@ -102,7 +102,7 @@ const AREA_1: u64 = 2_308;
 
 const JOURNAL: u64 = 4_612;
 
-static DAMAGES: [Damage; 25] = [
+static DAMAGES: [Damage; 27] = [
     Damage {
         name: "nothing",
         pieces: &[],
@@ -190,16 +190,41 @@ static DAMAGES: [Damage; 25] = [
         opens: Err(FIELDS),
     },
     Damage {
-        name: "another version of the image",
+        name: "a version of the image that there isn't",
+        pieces: &[Piece {
+            sector: HEAD_1,
+            place: 8,
+            bytes: &[3],
+        }],
+        opens: Err(VERSION),
+    },
+    Damage {
+        name: "such a version, and another byte of the image",
+        pieces: &[
+            Piece {
+                sector: HEAD_1,
+                place: 8,
+                bytes: &[3],
+            },
+            Piece {
+                sector: AREA_1,
+                place: 190,
+                bytes: &[1],
+            },
+        ],
+        opens: Err(VERSION),
+    },
+    Damage {
+        name: "version 2 of the image, whose journal is too small for it",
         pieces: &[Piece {
             sector: HEAD_1,
             place: 8,
             bytes: &[2],
         }],
-        opens: Err(VERSION),
+        opens: Err(FIELDS),
     },
     Damage {
-        name: "version 2 of the image, and another byte of it",
+        name: "version 2 with such a journal, and another byte of the image",
         pieces: &[
             Piece {
                 sector: HEAD_1,
@@ -212,7 +237,7 @@ static DAMAGES: [Damage; 25] = [
                 bytes: &[1],
             },
         ],
-        opens: Err(VERSION),
+        opens: Err(FIELDS),
     },
     Damage {
         name: "no mark of a head",
