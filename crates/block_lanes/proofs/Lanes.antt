@@ -118,7 +118,7 @@ goes_on a b xs ys xs_left ys_left x y differing number_x number_y h ex ey nx ny 
       xs_lanes = lanes_x.1;
       ys_lanes = lanes_y.1;
       as_many = omega (arith, h.as_many, long_x, long_y);
-      equal = λ none left.
+      equal = λ none was_same.
           let both = or_empty differing (bit_xor number_x number_y) none in
           let numbers = xor_empty number_x number_y both.1 in
           let lane = same_lane x y lanes_x.0 lanes_y.0 (sym nx ∙ (numbers ∙ ny)) in
@@ -126,7 +126,7 @@ goes_on a b xs ys xs_left ys_left x y differing number_x number_y h ex ey nx ny 
       different = λ e.
           let before = h.different e in
           let zero_before = before.0 in
-          let left = before.1 in
+          let was_same = before.1 in
           let lane : x ≡ y = cc in
           let rest : xs_left ≡ ys_left = cc in
           let numbers : number_y ≡ number_x =

@@ -14,7 +14,7 @@
 //! # Who may touch what
 //!
 //! Only this crate knows in which lanes bytes are compared. `snapshot` uses it, so that a sector
-//! that holds the right bytes already isn't written again. It stands on no other crate of this
+//! that holds the right bytes already isn't written again. It uses no other crate of this
 //! repository. It takes no memory, and has no errors.
 //!
 //! # Choices

@@ -7,7 +7,7 @@ use Rattle.std.proofs.lemmas.Bool.{cases_lt}
 use Rattle.std.proofs.lemmas.List.{drop-drop, take_all, drop_all, append-nil, length-take-le}
 use Rattle.std.proofs.lemmas.List.{drop-replicate, nil_from_length, take-append-drop}
 use Rattle.guest_memory.specs.rules.Bytes.{part, with_part}
-use Rattle.sector_disk.specs.rules.Image.{Image, sector_at}
+use Rattle.sector_disk.specs.rules.DiskImage.{DiskImage, sector_at}
 use Rattle.wasi_abi.specs.rules.Layouts.{padding}
 use Rattle.disk_layout.specs.rules.Places.{rounded_up}
 use Rattle.disk_layout.specs.rules.Sectors.{bytes_from}
@@ -31,7 +31,7 @@ filled_at (suc n) bytes zero lt = refl
 filled_at (suc n) bytes (suc i) lt = filled_at n (drop 512 bytes) i (omega arith)
     ∙ ap (λ l. filled l) (part_next bytes i)
 
--- a part of two lists, one behind the other
+-- a part of two lists, one after the other
 take_over : (n : ℕ) (a b : List ℕ) → take n (a ++ b) ≡ take n a ++ take (n - length (take n a)) b
 take_over zero a b = refl
 take_over (suc n) [] b = ap (λ m. take m b) (let e : suc n ≡ suc n - 0 = omega arith in e)
@@ -123,7 +123,7 @@ take_front : (l bytes rest : List ℕ) → l ≡ bytes → take (length bytes) (
 take_front l bytes rest is = ap (λ x. take (length bytes) (x ++ rest)) is
     ∙ take-append_seam bytes rest
 
-held_by : (image : Image) (n place : ℕ) (bytes : List ℕ) → length bytes ≤ 512 * n
+held_by : (image : DiskImage) (n place : ℕ) (bytes : List ℕ) → length bytes ≤ 512 * n
     → ((j : ℕ) → j < n → sector_at image (place + j) ≡ sector_at (filled_sectors n bytes) j)
     → take (length bytes) (bytes_from image place n) ≡ bytes
 held_by image zero place bytes le each = let none : bytes ≡ [] = nil_from_length bytes (omega arith)

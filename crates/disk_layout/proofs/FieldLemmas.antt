@@ -18,7 +18,7 @@ use Rattle.disk_layout.specs.declared.head.TheConstants.{HEAD_MARK}
 pub drop_over : (d rest : List ℕ) (n k : ℕ) → length d ≡ n → drop (n + k) (d ++ rest) ≡ drop k rest
 drop_over d rest n k e = ap (λ m. drop (m + k) (d ++ rest)) (sym e) ∙ drop-append-add d rest k
 
--- the stamp behind the first 496 bytes
+-- the stamp after the first 496 bytes
 pub stamp_laid : (generation place : ℕ) (old mid new : List ℕ) → length old ≡ 512
     → mid ≡ with_part old 496 (u64_bytes generation) → new ≡ with_part mid 504 (u64_bytes place)
     → new ≡ take 496 old ++ (u64_bytes generation ++ u64_bytes place)

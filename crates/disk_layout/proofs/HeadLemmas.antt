@@ -5,7 +5,7 @@ use Rattle.sha2.proofs.Facts256.{length-sha256}
 use Rattle.guest_memory.specs.rules.Bytes.{number_of}
 use Rattle.guest_memory.proofs.ByteLemmas.{number_of-bytes_of}
 use Rattle.wasi_abi.specs.rules.Layouts.{padding}
-use Rattle.sector_disk.specs.rules.Image.{sector_at}
+use Rattle.sector_disk.specs.rules.DiskImage.{sector_at}
 use Rattle.sector_disk.proofs.ExampleLemmas.{differ}
 use Rattle.disk_layout.specs.rules.Sectors.{Head, stamp_bytes, stamp_of, head_bytes}
 use Rattle.disk_layout.specs.rules.Sectors.{IsNewest}

@@ -11,7 +11,7 @@ use Rattle.std.specs.List.{AllByRecursion}
 use Rattle.guest_memory.specs.rules.Bytes.{IsByte, number_of, part, with_part}
 use Rattle.guest_memory.proofs.ByteLemmas.{number_of-bytes_of}
 use Rattle.wasi_abi.specs.rules.Layouts.{u16_bytes, u64_bytes, padding}
-use Rattle.sector_disk.specs.rules.Image.{front_over}
+use Rattle.sector_disk.specs.rules.DiskImage.{front_over}
 use Rattle.disk_layout.specs.rules.Sectors.{stamp_of, stamp_bytes, shown_generation}
 use Rattle.disk_layout.specs.rules.Journal.{journal_sector, used_length, is_of}
 use Rattle.disk_layout.specs.laws.Laws.{IsTornStamp}
@@ -21,7 +21,7 @@ use Rattle.guest_memory.proofs.Lists.{bytes_are as bytes_of-bytes}
 
 -- ---- whole sectors
 
--- what stands before the stamp
+-- what is before the stamp
 abbrev pub before_stamp : List ℕ → List ℕ
 before_stamp payload = u16_bytes (length payload) ++ (payload ++ padding (494 - length payload))
 
@@ -120,7 +120,7 @@ is_of_means g place sector e =
     both_parts true b e = (refl, e)
     both_parts false b e = absurd (cc)
 
--- the used length and the payload stand before the stamp
+-- the used length and the payload are before the stamp
 pub same_used : (s t : List ℕ) → take 496 s ≡ take 496 t → used_length s ≡ used_length t
 same_used s t e = ap (λ l. number_of l) (sym (take-take 2 496 s (omega arith))
     ∙ ap (λ l. take 2 l) e ∙ take-take 2 496 t (omega arith))

@@ -3,11 +3,11 @@ use Rattle.std.proofs.Common.{◌≡◌, ◌⊎◌, ℕ, zero, suc, ◌+◌, ◌
 use Rattle.std.proofs.Common.{length, take, drop, Result, Ok, Err, IsErr, refl, sym, ap, ◌∙◌, subst}
 use Rattle.std.proofs.Common.{inr, ⊎_elim, arith, append_assoc, length-append}
 use Rattle.std.proofs.lemmas.List.{append-nil}
-use Rattle.sector_disk.specs.rules.Image.{Image, sector_at}
+use Rattle.sector_disk.specs.rules.DiskImage.{DiskImage, sector_at}
 use Rattle.sector_disk.specs.rules.Medium.{Medium, Reads}
 use Rattle.sector_disk.specs.declared.fault.DiskFault.{DiskFault}
 use Rattle.sector_disk.proofs.CountLemmas.{counts_same, counts_then}
-use Rattle.sector_disk.proofs.Moments.{started, goes_on, leaves_only, stays_on, stays_left}
+use Rattle.sector_disk.proofs.Moments.{started, goes_on, leaves_only, stays_on, stays_crashed}
 use Rattle.sha2.specs.Sha256.{sha256}
 use Rattle.disk_layout.specs.declared.fault.LayoutFault.{LayoutFault}
 use Rattle.disk_layout.specs.declared.fault.LayoutFault.TheVariants.{NotAWorker, Version, TooSmall}
@@ -22,11 +22,11 @@ use Rattle.disk_layout.specs.declared.geometry.TheConstants.{MODULE_PLACE}
 pub no_reads : (m : Medium) → OnlyReads m m
 no_reads m = record {
   stays = record {
-    may = λ shown image both. both;
+    crash_pairs = λ shown image both. both;
     since = λ t shown image le both. both;
     unsynced = omega arith;
   };
-  leaves = leaves_only m m m.may_leave (started m m.may_leave) (λ image left. left);
+  leaves = leaves_only m m m.crash_images (started m m.crash_images) (λ image crashed. crashed);
   unsynced = refl;
   counts = counts_same m m.unsynced;
   calls = refl;
@@ -41,9 +41,9 @@ read_more old mid new k into result reads read =
     let later = so_far.passes.later in
     record {
       stays = stays_on old mid new later reads.stays read.stays;
-      leaves = leaves_only old new old.may_leave (goes_on old mid new _ _ so_far.passes read.passes
-          (λ image left. stays_left old mid reads.stays image
-          (stays_left mid new read.stays image left))) (λ image left. left);
+      leaves = leaves_only old new old.crash_images (goes_on old mid new _ _
+          so_far.passes read.passes (λ image crashed. stays_crashed old mid reads.stays image
+          (stays_crashed mid new read.stays image crashed))) (λ image crashed. crashed);
       unsynced = read.unsynced ∙ reads.unsynced;
       counts = counts_then old.unsynced mid.unsynced old.unsynced old mid new (omega arith)
           (omega (arith, reads.unsynced)) later reads.counts read.counts;
@@ -56,8 +56,8 @@ reads_then old mid new one two =
     let after = two.leaves in
     record {
       stays = stays_on old mid new before.passes.later one.stays two.stays;
-      leaves = leaves_only old new old.may_leave (goes_on old mid new _ _ before.passes after.passes
-          (stays_left old mid one.stays)) (λ image left. left);
+      leaves = leaves_only old new old.crash_images (goes_on old mid new _ _
+          before.passes after.passes (stays_crashed old mid one.stays)) (λ image crashed. crashed);
       unsynced = two.unsynced ∙ one.unsynced;
       counts = counts_then old.unsynced mid.unsynced old.unsynced old mid new (omega arith)
           (omega (arith, one.unsynced)) before.passes.later one.counts two.counts;
@@ -79,12 +79,12 @@ read_fails old mid new k into result reads read failed inside =
     (cause.fault failed)
 
 -- one sector more
-pub bytes_from-more : (image : Image) (at n : ℕ)
+pub bytes_from-more : (image : DiskImage) (at n : ℕ)
     → bytes_from image at (n + 1) ≡ bytes_from image at n ++ sector_at image (at + n)
 bytes_from-more image at n = ap (λ k. bytes_from image at k) (let e : n + 1 ≡ suc n = omega arith in
     e) ∙ by_count image at n
   where
-    by_count : (image : Image) (at n : ℕ) → bytes_from image at (suc n) ≡ bytes_from image at n
+    by_count : (image : DiskImage) (at n : ℕ) → bytes_from image at (suc n) ≡ bytes_from image at n
         ++ sector_at image (at + n)
     by_count image at zero = append-nil (sector_at image at)
         ∙ ap (λ k. sector_at image k) (let e : at ≡ at + 0 = omega arith in e)
@@ -115,7 +115,7 @@ parts_lent a b bytes =
     ∙ parts_joined a b bytes
 
 -- what is split off is what is found
-pub finds_split : (sectors : ℕ) (image : Image) (c : Super) (bytes : List ℕ)
+pub finds_split : (sectors : ℕ) (image : DiskImage) (c : Super) (bytes : List ℕ)
     (result : Result Stored LayoutFault) → Checks sectors (sector_at image 0) (Ok c)
     → bytes ≡ bytes_from image MODULE_PLACE c.geometry.module_sectors
     → SplitsContents c bytes result

@@ -10,7 +10,7 @@ use Rattle.std.proofs.lemmas.List.{drop_at, take_all, drop-drop, length-take-le}
 use Rattle.std.specs.List.{AllByRecursion}
 use Rattle.guest_memory.specs.rules.Bytes.{IsByte, number_of, bytes_of, part}
 use Rattle.guest_memory.proofs.ByteLemmas.{bytes_of-number_of}
-use Rattle.sector_disk.specs.rules.Image.{front_over}
+use Rattle.sector_disk.specs.rules.DiskImage.{front_over}
 use Rattle.disk_layout.specs.rules.Sectors.{shown_generation}
 use Rattle.disk_layout.specs.laws.Laws.{ShowsEarlier, NeverNewer}
 use Rattle.guest_memory.proofs.Lists.{number_below as number_of-lt}

@@ -34,7 +34,7 @@ texts_more_length texts i d lt =
     ∙ ap (λ n. length (flat_map short_text_bytes (take i texts)) + n)
     (length-append (u16_bytes (length (get_or texts i d))) (get_or texts i d))
 
--- one text more behind the bytes of those before it
+-- one text more after the bytes of those before it
 pub texts_pushed : (texts : List (List ℕ)) (i : ℕ) (d before head bytes mid new : List ℕ)
     → i < length texts → bytes ≡ before ++ (head ++ flat_map short_text_bytes (take i texts))
     → mid ≡ bytes ++ u16_bytes (length (get_or texts i d)) → new ≡ mid ++ get_or texts i d
@@ -48,7 +48,7 @@ texts_pushed texts i d before head bytes mid new lt bytes-is mid-is new-is =
     ∙ ap (λ l. before ++ l) (append_assoc head so_far (short_text_bytes t))
     ∙ ap (λ l. before ++ (head ++ l)) (sym (texts_more texts i d lt))
 
--- the parts of a configuration, each put behind those before it
+-- the parts of a configuration, each put after those before it
 pub config_laid : (p f j t e a b c d g : List ℕ) → a ≡ [] ++ p → b ≡ a ++ f → c ≡ b ++ j
     → d ≡ c ++ t → g ≡ d ++ e → g ≡ p ++ (f ++ (j ++ (t ++ e)))
 config_laid p f j t e a b c d g a-is b-is c-is d-is g-is =

@@ -1,4 +1,4 @@
-// The configuration as bytes.
+//! The configuration as bytes.
 
 ghost use Rattle.std.specs.Prelude.{◌≡◌, ◌≤◌, ◌++◌, length, IfOk, OnOk};
 ghost use Rattle.std.specs.List.{AllByRecursion};
@@ -10,12 +10,12 @@ ghost use Rattle.disk_layout.specs.rules.Places.{config_bytes, texts_bytes};
 use crate::fields::{put_u16, put_u32};
 use std::alloc::{AllocError, Global};
 use wasi_abi::Config;
-use wasm_syntax::Row;
+use wasm_syntax::ItemList;
 
-/// Bytes of the numbers of a configuration, behind which its texts stand.
+/// Bytes of the numbers of a configuration, after which its texts are.
 pub(crate) const CONFIG_HEAD_BYTES: usize = 12;
 
-/// The bytes that a configuration has on a disk. It fails only for want of memory.
+/// The bytes that a configuration has on a disk. It fails only when out of memory.
 pub fn config_bytes_of(alloc: Global, config: &Config) -> Result<Vec<u8>, AllocError>
     ensures { IfOk result (λ v. v.items ≡ config_bytes config.now) }
 {
@@ -28,8 +28,8 @@ pub fn config_bytes_of(alloc: Global, config: &Config) -> Result<Vec<u8>, AllocE
     Ok(bytes)
 }
 
-/// Texts behind their number, each behind its length.
-fn push_texts(bytes: &mut Vec<u8>, texts: &[Row<u8>]) -> Result<(), AllocError>
+/// Texts after their number, each after its length.
+fn push_texts(bytes: &mut Vec<u8>, texts: &[ItemList<u8>]) -> Result<(), AllocError>
     requires few { length texts.now ≤ MOST_TEXTS }
     requires short { AllByRecursion IsShortText texts.now }
     ensures { OnOk result (bytes.new.items ≡ bytes.old.items ++ texts_bytes texts.now) }

@@ -1,4 +1,4 @@
-// Why a disk shows no worker.
+//! Why a disk shows no worker.
 use sector_disk::DiskFault;
 use std::alloc::AllocError;
 use thiserror::Error;

@@ -1,4 +1,4 @@
-// Numbers and bytes at a place of a list, the lowest byte first.
+//! Numbers and bytes at a place of a list, the lowest byte first.
 
 ghost use Rattle.std.specs.Prelude.{◌≡◌, ◌+◌, ◌≤◌, length};
 ghost use Rattle.guest_memory.specs.rules.Bytes.{part, with_part};

@@ -1,4 +1,4 @@
-// Where a worker's things lie on its disk.
+//! Where a worker's things lie on its disk.
 
 ghost use Rattle.std.specs.Prelude.{◌≡◌, ◌≤◌, ◌+◌, ◌*◌, ◌^◌, length};
 ghost use Rattle.std.specs.List.{AllByRecursion};
@@ -10,7 +10,7 @@ ghost use Rattle.disk_layout.specs.rules.Places.{area_place, journal_place, tota
 use crate::configuration::CONFIG_HEAD_BYTES;
 use sector_disk::SECTOR_SIZE;
 use wasi_abi::Config;
-use wasm_syntax::Row;
+use wasm_syntax::ItemList;
 
 /// Sectors of an area for all but memory and files.
 const AREA_REST_SECTORS: u32 = 2048;
@@ -18,7 +18,7 @@ const AREA_REST_SECTORS: u32 = 2048;
 /// Sectors of an area for a page of memory, or for a unit of files.
 const UNIT_SECTORS: u32 = 128;
 
-/// The first sector of configuration and module. Before it stand the super and the two heads.
+/// The first sector of configuration and module. Before it are the super and the two heads.
 pub const MODULE_PLACE: u64 = 3;
 
 /// The lengths of configuration and module in bytes, and of their part of the disk, of an area and
@@ -89,7 +89,7 @@ pub(crate) fn sectors_of(bytes: u64) -> u64
 }
 
 /// How many bytes these texts take with their lengths and their number.
-fn texts_len(texts: &[Row<u8>]) -> u64
+fn texts_len(texts: &[ItemList<u8>]) -> u64
     requires few { length texts.now ≤ MOST_TEXTS }
     requires short { AllByRecursion IsShortText texts.now }
     ensures length { result ≡ length (texts_bytes texts.now) }

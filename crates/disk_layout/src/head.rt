@@ -1,4 +1,4 @@
-// The heads of the two areas.
+//! The heads of the two areas.
 
 ghost use Rattle.std.specs.Prelude.{◌≡◌, ◌↔◌, ◌+◌, ◌<◌, ◌^◌, IsTrue};
 ghost use Rattle.disk_layout.specs.rules.Sectors.{head_bytes, head_of, IsComplete, IsOfNumber};
@@ -11,13 +11,13 @@ use wasi_abi::Version;
 /// With it a head begins.
 pub const HEAD_MARK: [u8; 8] = *b"DWAREA..";
 
-/// Where the version of a head's image stands.
+/// Where the version of a head's image is.
 pub const VERSION_AT: usize = 8;
 
 /// Where it says how many bytes its image has.
 pub const IMAGE_LENGTH_AT: usize = 16;
 
-/// Where their digest stands.
+/// Where their digest is.
 pub const IMAGE_DIGEST_AT: usize = 24;
 
 /// The place that the stamp of a head names.

@@ -1,4 +1,4 @@
-// The sectors of the journal.
+//! The sectors of the journal.
 
 ghost use Rattle.std.specs.Prelude.{◌≡◌, ◌≤◌, length};
 ghost use Rattle.disk_layout.specs.declared.journal_sectors.TheConstants.{PAYLOAD_SIZE};
@@ -11,7 +11,7 @@ use sector_disk::SECTOR_SIZE;
 /// The most bytes of a journal sector's payload.
 pub const PAYLOAD_SIZE: usize = 494;
 
-/// Where it stands, behind its length in 16 bits.
+/// Where it is, after its length in 16 bits.
 pub const PAYLOAD_AT: usize = 2;
 
 /// The sector of this generation and place with a payload of at most `PAYLOAD_SIZE` bytes.

@@ -58,7 +58,7 @@ pub fn one_spelling()
     ensures { OneSpelling }
 {}
 
-/// Of a disk at most one answer is right, but for want of memory and a fault of the disk.
+/// Of a disk at most one answer is right, apart from out of memory and a fault of the disk.
 pub fn one_answer()
     ensures { OneAnswer }
 {}

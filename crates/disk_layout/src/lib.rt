@@ -12,10 +12,10 @@
 //!   SHA-256 of configuration and module.
 //! - `takes_records` says whether a journal takes the longest record of a version. One that does
 //!   has room for it (`laws::journals_have_room`).
-//! - `write_super`, `write_contents`: a cut at any moment leaves of each sector some front, and
-//!   all others as they were (`any_moment`). An error says that the disk failed, or had no room
-//!   for the writes (`cause`). There are never more unsynced writes than before and these
-//!   (`counts`). They are made in rising order, and `write_super` then syncs once (`calls`).
+//! - `write_super`, `write_contents`: a cut at any moment leaves of each sector some prefix, and
+//!   all others as they were (`any_moment`). An error says that the disk failed, or had no room for
+//!   the writes (`cause`). There are never more unsynced writes than before and these (`counts`).
+//!   They are made in rising order, and `write_super` then syncs once (`calls`).
 //! - After Ok of `write_super` each cut leaves it whole (`stored`). `write_contents` makes no sync
 //!   (`unsynced`): after its Ok reads give all of it, and a cut may leave less (`stored`).
 //! - `read_super` only reads (`reads`). Its answer is true of what the disk shows: the bytes under
@@ -32,15 +32,16 @@
 //! # Definitions to read
 //!
 //! In `specs/rules/`: `geometry_of`, `config_bytes` (`Places.antt`); `super_bytes`, `head_bytes`,
-//! `HasWorker`, `IsNewest`, `HoldsImage` (`Sectors.antt`); `record_bytes`, `TakesRecords`, `scan`
-//! (`Journal.antt`); `contents_sectors` (`Contents.antt`); `FindsStored` (`Stored.antt`);
-//! `GivesContents` (`Held.antt`); `SpellsConfig` (`Spelled.antt`).
+//! `HasWorker`, `IsNewest`, `HoldsProcessImage` (`Sectors.antt`); `record_bytes`, `TakesRecords`,
+//! `scan` (`Journal.antt`); `contents_sectors`, and `WritesContents`, which is what
+//! `write_contents` does (`Contents.antt`); `FindsStored` (`Stored.antt`); `GivesContents`
+//! (`Held.antt`); `SpellsConfig` (`Spelled.antt`).
 //!
 //! # Who may touch what
 //!
 //! The marks, and the places of fields in supers, heads and stamps, are known here alone, each as
-//! one constant, as `HEAD_MARK` and `PAYLOAD_SIZE`. `journal`, `snapshot` and `worker_store`
-//! use it, and `record_replay` its `Record`. `restart_theorem` cites the definitions. It stands on
+//! one constant, as `HEAD_MARK` and `PAYLOAD_SIZE`. `journal`, `snapshot` and `worker_store` use
+//! it, and `record_replay` its `Record`. `restart_theorem` cites the definitions. It uses
 //! `sector_disk` and `wasi_abi`. Reading back and `config_bytes_of` take memory. Whatever fails, a
 //! read leaves the disk unwritten.
 //!

@@ -1,4 +1,4 @@
-// Records of answers.
+//! Records of answers.
 use wasi_abi::Answer;
 
 /// The first byte of the record of a request.

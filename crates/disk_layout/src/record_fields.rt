@@ -1,4 +1,4 @@
-// The fields of a record, byte by byte.
+//! The fields of a record, byte by byte.
 
 ghost use Rattle.std.specs.Prelude.{◌≡◌, ◌↔◌, ◌∷◌, ◌<◌, ◌≤◌, ◌^◌, IsTrue, length};
 ghost use Rattle.guest_memory.specs.rules.Bytes.{number_of};
@@ -11,13 +11,13 @@ use crate::PAYLOAD_SIZE;
 use crate::fields::{put_u16, put_u32, put_u64, u16_from, u32_from, u64_from};
 use wasi_abi::Version;
 
-/// Where the step stands, behind the kind.
+/// Where the step is, after the kind.
 pub const STEP_AT: usize = 1;
 
-/// Where the payload's length stands, behind kind and step.
+/// Where the payload's length is, after kind and step.
 pub const PAYLOAD_LENGTH_AT: usize = 9;
 
-/// How many bytes of a record stand before its payload: its kind, its step and the payload's
+/// How many bytes of a record are before its payload: its kind, its step and the payload's
 /// length.
 pub fn record_head_bytes(version: Version) -> usize
     ensures value { result ≡ record_head_bytes version }
@@ -43,7 +43,7 @@ pub fn takes_records(version: Version, sectors: u32) -> bool
     }
 }
 
-/// What stands before the length of a record's payload: its kind and its step.
+/// What is before the length of a record's payload: its kind and its step.
 pub fn record_head(kind: u8, step: u64) -> [u8; PAYLOAD_LENGTH_AT]
     ensures { result ≡ kind ∷ u64_bytes step }
 {

@@ -1,4 +1,4 @@
-// What the last bytes of a head or of a journal sector say.
+//! What the last bytes of a head or of a journal sector say.
 
 ghost use Rattle.std.specs.Prelude.{◌≡◌, ◌++◌, take};
 ghost use Rattle.disk_layout.specs.rules.Sectors.{stamp_bytes, stamp_of, shown_at};
@@ -7,10 +7,10 @@ ghost use Rattle.disk_layout.specs.declared.stamp.TheConstants.{GENERATION_AT};
 use crate::fields::{put_u64, u64_from};
 use sector_disk::SECTOR_SIZE;
 
-/// Where a stamp's generation stands in its sector.
+/// Where a stamp's generation is in its sector.
 pub const GENERATION_AT: usize = 496;
 
-/// Where its place stands.
+/// Where its place is.
 pub const PLACE_AT: usize = 504;
 
 /// The last 16 bytes of a sector: a generation, and the place that the sector has among its kind.

@@ -1,12 +1,12 @@
-// The super on a disk, and the configuration and the module that it leads to.
+//! The super on a disk, and the configuration and the module that it leads to.
 
 ghost use Rattle.std.specs.Prelude.{◌≡◌, ◌⊎◌, ◌↔◌, ◌+◌, ◌*◌, ◌<◌, ◌≤◌, ◌++◌, ℕ, [], ◌∷◌, length};
 ghost use Rattle.std.specs.Prelude.{take, IsTrue, IfOk, IfErr, OnOk, IsErr};
 ghost use Rattle.sha2.specs.Sha256.{sha256};
 ghost use Rattle.sector_disk.specs.declared.sector.TheConstants.{SECTOR_SIZE};
-ghost use Rattle.sector_disk.specs.rules.Image.{Image};
+ghost use Rattle.sector_disk.specs.rules.DiskImage.{DiskImage};
 ghost use Rattle.sector_disk.specs.rules.Medium.{LeavesOnly, After, Follows, IsAllSynced};
-ghost use Rattle.sector_disk.specs.rules.Medium.{CallsUpTo, CountsUpTo, MakesCalls, FailsInside};
+ghost use Rattle.sector_disk.specs.rules.Medium.{CallsUpTo, CountsUpTo, PerformsCalls, FailsInside};
 ghost use Rattle.sector_disk.specs.rules.Medium.{spare};
 ghost use Rattle.sector_disk.specs.rules.Calls.{synced_writes};
 ghost use Rattle.sector_disk.specs.rules.Run.{IsTornRun, IsWrittenRun};
@@ -21,14 +21,14 @@ use crate::superblock::Super;
 use sector_disk::{Disk, DiskFault, SECTOR_SIZE, store_run};
 use sha2::{Digest, Sha256};
 use std::alloc::Global;
-use wasm_syntax::Row;
+use wasm_syntax::ItemList;
 
 /// What the super of a disk leads to: the bytes of the configuration and of the module.
 #[derive(Debug, Drop)]
 pub struct Stored {
     pub geometry: Geometry,
-    pub config: Row<u8>,
-    pub wasm: Row<u8>,
+    pub config: ItemList<u8>,
+    pub wasm: ItemList<u8>,
 }
 
 /// The SHA-256 of a configuration's bytes and a module's.
@@ -51,33 +51,33 @@ fn is_digest_of(digest: &[u8; DIGEST_BYTES], config: &[u8], wasm: &[u8]) -> bool
 pub fn write_super<D: Disk>(disk: &mut D, contents: &Super) -> Result<(), DiskFault>
     requires { 1 ≤ (D.medium disk.old).sectors }
 
-    // A cut at any moment leaves some front of it, and all other sectors as they were.
+    // A cut at any moment leaves some prefix of it, and all other sectors as they were.
     ensures any_moment { let sectors = super_bytes contents.now.geometry contents.now.digest ∷ [] in
         LeavesOnly (D.medium disk.old) (D.medium disk.new)
-        (After (IsTornRun 0 sectors 1) (D.medium disk.old).may_leave) }
+        (After (IsTornRun 0 sectors 1) (D.medium disk.old).crash_images) }
     ensures stored { let sectors = super_bytes contents.now.geometry contents.now.digest ∷ [] in
         OnOk result (Follows (IsWrittenRun 0 sectors 1) (D.medium disk.old).shows
-        (D.medium disk.new).may_leave) }
-    ensures settled { OnOk result (IsAllSynced (D.medium disk.new)) }
+        (D.medium disk.new).crash_images) }
+    ensures all_synced { OnOk result (IsAllSynced (D.medium disk.new)) }
     ensures counts { CountsUpTo ((D.medium disk.old).unsynced + 1) (D.medium disk.old)
         (D.medium disk.new) }
-    ensures calls { MakesCalls (synced_writes 0 1) result (D.medium disk.old)
+    ensures calls { PerformsCalls (synced_writes 0 1) result (D.medium disk.old)
         (D.medium disk.new) }
     ensures cause { IsErr result → (spare (D.medium disk.old) < 1)
         ⊎ ((D.medium disk.old).faults < (D.medium disk.new).faults) }
-    ensures kind { FailsInside result }
+    ensures which_fault { FailsInside result }
     ensures asks { CallsUpTo 2 (D.medium disk.old) (D.medium disk.new) }
 {
     store_run(disk, 0, &[contents.sector()])
 }
 
-/// Reads the super, and the configuration and the module behind it. It fails where a mark of the
+/// Reads the super, and the configuration and the module after it. It fails where a mark of the
 /// super is missing (`NotAWorker`), and where the layout is none that is known (`Version`). It
 /// fails where the super's numbers disagree or the digest differs (`Damaged`), and where the disk
-/// ends before the module does (`TooSmall`). It also fails for want of memory.
+/// ends before the module does (`TooSmall`). It also fails when out of memory.
 pub fn read_super<D: Disk>(alloc: Global, disk: &mut D) -> Result<Stored, LayoutFault>
     ensures reads { OnlyReads (D.medium disk.old) (D.medium disk.new) }
-    ensures finds { (image : Image) → (D.medium disk.new).shows image
+    ensures finds { (image : DiskImage) → (D.medium disk.new).shows image
         → FindsStored (D.medium disk.old).sectors image result }
     ensures cause { (fault : DiskFault) → result ≡ Err (LayoutFault.Disk fault)
         → (D.medium disk.old).faults < (D.medium disk.new).faults }
@@ -128,12 +128,12 @@ fn read_sectors<D: Disk>(
 ) -> Result<Vec<u8>, LayoutFault>
     requires { at + count ≤ (D.medium disk.old).sectors }
     ensures reads { OnlyReads (D.medium disk.old) (D.medium disk.new) }
-    ensures bytes { IfOk result (λ v. (image : Image) → (D.medium disk.new).shows image
+    ensures bytes { IfOk result (λ v. (image : DiskImage) → (D.medium disk.new).shows image
         → v.items ≡ bytes_from image at count) }
     ensures len { IfOk result (λ v. length v.items ≡ SECTOR_SIZE * count) }
     ensures cause { (fault : DiskFault) → result ≡ Err (LayoutFault.Disk fault)
         → (D.medium disk.old).faults < (D.medium disk.new).faults }
-    ensures kind { IfErr result (λ e. e ≡ LayoutFault.Memory
+    ensures which_fault { IfErr result (λ e. e ≡ LayoutFault.Memory
         ⊎ ((fault : DiskFault) × (e ≡ LayoutFault.Disk fault))) }
     ensures asks { CallsUpTo count (D.medium disk.old) (D.medium disk.new) }
 {
@@ -170,7 +170,7 @@ fn split(alloc: Global, contents: &Super, bytes: &[u8]) -> Result<Stored, Layout
     };
     Ok(Stored {
         geometry: contents.geometry,
-        config: Row::from_vec(config),
-        wasm: Row::from_vec(wasm),
+        config: ItemList::from_vec(config),
+        wasm: ItemList::from_vec(wasm),
     })
 }

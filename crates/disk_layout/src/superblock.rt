@@ -1,4 +1,4 @@
-// The super, in sector 0.
+//! The super, in sector 0.
 
 ghost use Rattle.std.specs.Prelude.{◌≡◌, ◌↔◌, IsTrue};
 ghost use Rattle.disk_layout.specs.rules.Sectors.{super_bytes, super_of, IsMarked};
@@ -18,13 +18,13 @@ pub const SUPER_END_MARK: [u8; 8] = *b"!REKROWD";
 /// The layout of a disk that is known.
 pub const LAYOUT: u32 = 1;
 
-/// Where a super's layout stands.
+/// Where a super's layout is.
 pub const LAYOUT_AT: usize = 8;
 
-/// Where the length of its configuration stands.
+/// Where the length of its configuration is.
 pub const CONFIG_LENGTH_AT: usize = 12;
 
-/// Where the length of its module stands.
+/// Where the length of its module is.
 pub const WASM_LENGTH_AT: usize = 16;
 
 /// Where it says how many sectors these two take.
@@ -36,10 +36,10 @@ pub const AREA_SECTORS_AT: usize = 24;
 /// Where it says how many sectors the journal has.
 pub const JOURNAL_SECTORS_AT: usize = 28;
 
-/// Where the digest of configuration and module stands.
+/// Where the digest of configuration and module is.
 pub const CONTENTS_DIGEST_AT: usize = 32;
 
-/// Where its second mark stands.
+/// Where its second mark is.
 pub const END_MARK_AT: usize = 504;
 
 /// What the super says: where things lie, and the SHA-256 of configuration and module.

@@ -8,9 +8,9 @@ use disk_layout::{Contents, Geometry, LayoutFault, config_bytes_of, config_from,
 use sector_disk::{Disk, DiskFault, FaultDisk, Place};
 use std::alloc::{AllocError, Global};
 use wasi_abi::Config;
-use wasm_syntax::Row;
+use wasm_syntax::ItemList;
 
-fn is_one_text(texts: &Row<Row<u8>>, text: &[u8]) -> bool {
+fn is_one_text(texts: &ItemList<ItemList<u8>>, text: &[u8]) -> bool {
     match texts.get(0) {
         Some(first) => texts.len() == 1 && first.as_slice() == text,
         None => false,
@@ -50,7 +50,7 @@ fn a_worker_is_read_back(rt: HostRuntime) -> Result<(), LayoutFault> {
 /// Two pages, one unit of files, a journal of 64 sectors, and the environment `K=v`.
 static ENVIRONMENT: [u8; 25] = *b"\x02\0\0\0\x01\0\0\0\x40\0\0\0\0\0\0\0\x01\0\0\0\x03\0K=v";
 
-/// Bytes with another number of pages, with a zero behind them, and with no name before the `=`.
+/// Bytes with another number of pages, with a zero after them, and with no name before the `=`.
 static SPELLINGS: [&[u8]; 3] = [
     b"\x02\x01\0\0\x01\0\0\0\x40\0\0\0\0\0\0\0\x01\0\0\0\x03\0K=v",
     b"\x02\0\0\0\x01\0\0\0\x40\0\0\0\0\0\0\0\x01\0\0\0\x03\0K=v\0",
@@ -61,7 +61,7 @@ fn spells_one(alloc: Global, bytes: &[u8]) -> Result<bool, AllocError> {
     Ok(config_from(alloc, bytes)?.is_some())
 }
 
-/// Whether a front of the bytes spells a configuration.
+/// Whether a prefix of the bytes spells a configuration.
 fn a_front_spells_one(alloc: Global) -> Result<bool, AllocError> {
     for len in 0..25 {
         if spells_one(alloc, &ENVIRONMENT[..len])? {
@@ -178,7 +178,7 @@ static CHANGES: [(Change, Option<LayoutFault>); 33] = [
     (Change::Bit(3, 0), Some(LayoutFault::Damaged)),
     (Change::Bit(3, 220), Some(LayoutFault::Damaged)),
     (Change::Bit(3, 221), None),
-    // A read that fails, of the super and of the sector behind the heads. There is no third one.
+    // A read that fails, of the super and of the sector after the heads. There is no third one.
     (Change::Call(1), Some(LayoutFault::Disk(DiskFault::Io))),
     (Change::Call(2), Some(LayoutFault::Disk(DiskFault::Io))),
     (Change::Call(3), None),

@@ -62,27 +62,27 @@ pub(crate) fn damage<D: Disk>(disk: &mut D, sector: u64, at: usize) -> Result<()
     disk.write(sector, &bytes)
 }
 
-fn settle<D: Disk>(disk: &mut D) -> Result<(), DiskFault> {
+fn store_old<D: Disk>(disk: &mut D) -> Result<(), DiskFault> {
     disk.write(1, &[3; 512])?;
     disk.sync()
 }
 
-/// Four sectors, of which number 1 is settled as OLD, with room for three writes.
-fn settled_disk(alloc: Global) -> Result<MemDisk, DiskFault> {
+/// Four sectors, of which number 1 is durable as OLD, with room for three writes.
+fn durable_disk(alloc: Global) -> Result<MemDisk, DiskFault> {
     let mut disk = MemDisk::new(alloc, 4, 3)?;
-    settle(&mut disk)?;
+    store_old(&mut disk)?;
     Ok(disk)
 }
 
-/// Whether a cut that keeps these fronts leaves this, with nothing to be settled.
+/// Whether a cut that keeps these fronts leaves this, with nothing unsynced.
 fn cut_leaves(
     alloc: Global,
     disk: &MemDisk,
     tears: &[u16],
     wants: &[Parts; 4],
 ) -> Result<bool, DiskFault> {
-    let mut left = disk.cut(alloc, tears)?;
-    Ok(left.unsynced_count() == 0 && holds_all(&mut left, wants)?)
+    let mut after_cut = disk.cut(alloc, tears)?;
+    Ok(after_cut.unsynced_count() == 0 && holds_all(&mut after_cut, wants)?)
 }
 
 /// Writes to sector 1, each of which fills it with one byte.
@@ -97,82 +97,87 @@ fn write_each<D: Disk>(disk: &mut D, writes: &[u8]) -> Result<(), DiskFault> {
 struct Cut {
     writes: &'static [u8],
     tears: &'static [u16],
-    left: Parts,
+    after_cut: Parts,
 }
 
 static CUTS: [Cut; 13] = [
     Cut {
         writes: &[9],
         tears: &[0],
-        left: OLD,
+        after_cut: OLD,
     },
     Cut {
         writes: &[9],
         tears: &[1],
-        left: (0, 1, 511),
+        after_cut: (0, 1, 511),
     },
     Cut {
         writes: &[9],
         tears: &[511],
-        left: (0, 511, 1),
+        after_cut: (0, 511, 1),
     },
     Cut {
         writes: &[9],
         tears: &[512],
-        left: (0, 512, 0),
+        after_cut: (0, 512, 0),
     },
     Cut {
         writes: &[9],
         tears: &[513],
-        left: (0, 512, 0),
+        after_cut: (0, 512, 0),
     },
     Cut {
         writes: &[9],
         tears: &[65535],
-        left: (0, 512, 0),
+        after_cut: (0, 512, 0),
     },
     Cut {
         writes: &[9],
         tears: &[],
-        left: (0, 512, 0),
+        after_cut: (0, 512, 0),
     },
-    // Of the later write a front is left, and behind it what is longer of the earlier one.
+    // Of the later write a front is left, and after it what is longer of the earlier one.
     Cut {
         writes: &[9, 5],
         tears: &[0, 0],
-        left: OLD,
+        after_cut: OLD,
     },
     Cut {
         writes: &[9, 5],
         tears: &[512, 0],
-        left: (0, 512, 0),
+        after_cut: (0, 512, 0),
     },
     Cut {
         writes: &[9, 5],
         tears: &[0, 512],
-        left: (512, 0, 0),
+        after_cut: (512, 0, 0),
     },
     Cut {
         writes: &[9, 5],
         tears: &[100, 7],
-        left: (7, 93, 412),
+        after_cut: (7, 93, 412),
     },
     Cut {
         writes: &[9, 5],
         tears: &[7, 100],
-        left: (100, 0, 412),
+        after_cut: (100, 0, 412),
     },
     Cut {
         writes: &[9, 5],
         tears: &[511, 1],
-        left: (1, 510, 1),
+        after_cut: (1, 510, 1),
     },
 ];
 
 fn is_cut_so(alloc: Global, cut: &Cut) -> Result<bool, DiskFault> {
-    let mut disk = settled_disk(alloc)?;
+    let mut disk = durable_disk(alloc)?;
     write_each(&mut disk, cut.writes)?;
-    cut_leaves(alloc, &disk, cut.tears, &[ZEROS, cut.left, ZEROS, ZEROS])
+    cut_leaves(
+        alloc,
+        &disk,
+        cut.tears,
+        &[ZEROS, cut.after_cut, ZEROS, ZEROS],
+    )
 }
 
 #[test]
@@ -226,7 +231,7 @@ fn is_answered_so(disk: &mut MemDisk, call: &(Call, Answer, usize)) -> bool {
 
 #[test]
 fn a_memory_disk_refuses_by_number_and_room(rt: HostRuntime) -> Result<(), DiskFault> {
-    let mut disk = settled_disk(rt.alloc())?;
+    let mut disk = durable_disk(rt.alloc())?;
     for (place, call) in CALLS.iter().enumerate() {
         assert!(rt; is_answered_so(&mut disk, call), "{place}");
     }
@@ -236,7 +241,7 @@ fn a_memory_disk_refuses_by_number_and_room(rt: HostRuntime) -> Result<(), DiskF
 /// A refused write changes no sector.
 #[test]
 fn a_refused_write_changes_nothing(rt: HostRuntime) -> Result<(), DiskFault> {
-    let mut disk = settled_disk(rt.alloc())?;
+    let mut disk = durable_disk(rt.alloc())?;
     let is_full = answers_so(&mut disk, &FILLED);
     let image = [(0, 512, 0), (0, 512, 0), (0, 512, 0), ZEROS];
     assert!(rt; is_full && holds_all(&mut disk, &image)?);
@@ -273,21 +278,21 @@ struct Trouble {
     calls: &'static [(Call, Answer)],
     /// How many reads, writes and syncs have begun.
     counts: (u64, u64, u64),
-    has_left_front: bool,
-    /// How many writes the disk below has not settled.
+    has_torn_front: bool,
+    /// How many writes the disk below has not made durable.
     unsynced: usize,
     /// What reads give of sectors 1 and 2.
     shown: (Parts, Parts),
     tears: &'static [u16],
     /// What a cut leaves of sectors 1 and 2.
-    left: (Parts, Parts),
+    after_cut: (Parts, Parts),
 }
 
 fn below_after(alloc: Global, trouble: &Trouble) -> Result<Option<MemDisk>, DiskFault> {
-    let mut disk = FaultDisk::new(settled_disk(alloc)?, trouble.stop, trouble.fail);
+    let mut disk = FaultDisk::new(durable_disk(alloc)?, trouble.stop, trouble.fail);
     if answers_so(&mut disk, trouble.calls)
         && disk.calls() == trouble.counts
-        && disk.has_left_front() == trouble.has_left_front
+        && disk.has_torn_front() == trouble.has_torn_front
     {
         Ok(Some(disk.into_inner()))
     } else {
@@ -308,12 +313,12 @@ fn is_in_trouble_so(alloc: Global, trouble: &Trouble) -> Result<bool, DiskFault>
         alloc,
         &disk,
         trouble.tears,
-        &[ZEROS, trouble.left.0, trouble.left.1, ZEROS],
+        &[ZEROS, trouble.after_cut.0, trouble.after_cut.1, ZEROS],
     )
 }
 
 static TROUBLES: [Trouble; 8] = [
-    // A failed sync settles nothing.
+    // A failed sync makes nothing durable.
     Trouble {
         stop: None,
         fail: Some(Place { call: 2, front: 0 }),
@@ -322,11 +327,11 @@ static TROUBLES: [Trouble; 8] = [
             (Call::Sync, Err(DiskFault::Io)),
         ],
         counts: (0, 1, 1),
-        has_left_front: false,
+        has_torn_front: false,
         unsynced: 1,
         shown: ((0, 512, 0), ZEROS),
         tears: &[2],
-        left: ((0, 2, 510), ZEROS),
+        after_cut: ((0, 2, 510), ZEROS),
     },
     // A failed write leaves its front and counts: the first number of the cut is its own.
     Trouble {
@@ -337,11 +342,11 @@ static TROUBLES: [Trouble; 8] = [
             (Call::Write(2, 9), Ok(())),
         ],
         counts: (0, 2, 0),
-        has_left_front: false,
+        has_torn_front: false,
         unsynced: 2,
         shown: (OLD, (0, 512, 0)),
         tears: &[512, 4],
-        left: (OLD, (0, 4, 0)),
+        after_cut: (OLD, (0, 4, 0)),
     },
     Trouble {
         stop: None,
@@ -351,11 +356,11 @@ static TROUBLES: [Trouble; 8] = [
             (Call::Write(2, 9), Ok(())),
         ],
         counts: (0, 2, 0),
-        has_left_front: false,
+        has_torn_front: false,
         unsynced: 2,
         shown: ((0, 5, 507), (0, 512, 0)),
         tears: &[512, 4],
-        left: ((0, 5, 507), (0, 4, 0)),
+        after_cut: ((0, 5, 507), (0, 4, 0)),
     },
     Trouble {
         stop: None,
@@ -368,11 +373,11 @@ static TROUBLES: [Trouble; 8] = [
             (Call::Write(2, 9), Ok(())),
         ],
         counts: (0, 2, 0),
-        has_left_front: false,
+        has_torn_front: false,
         unsynced: 2,
         shown: ((0, 512, 0), (0, 512, 0)),
         tears: &[512, 4],
-        left: ((0, 512, 0), (0, 4, 0)),
+        after_cut: ((0, 512, 0), (0, 4, 0)),
     },
     Trouble {
         stop: None,
@@ -385,11 +390,11 @@ static TROUBLES: [Trouble; 8] = [
             (Call::Write(2, 9), Ok(())),
         ],
         counts: (0, 2, 0),
-        has_left_front: false,
+        has_torn_front: false,
         unsynced: 2,
         shown: ((0, 512, 0), (0, 512, 0)),
         tears: &[512, 4],
-        left: ((0, 512, 0), (0, 4, 0)),
+        after_cut: ((0, 512, 0), (0, 4, 0)),
     },
     // A stop leaves its front and lasts.
     Trouble {
@@ -404,11 +409,11 @@ static TROUBLES: [Trouble; 8] = [
             (Call::Read(2), Err(DiskFault::Cut)),
         ],
         counts: (2, 3, 1),
-        has_left_front: true,
+        has_torn_front: true,
         unsynced: 2,
         shown: (OLD, (0, 512, 0)),
         tears: &[0],
-        left: (OLD, ZEROS),
+        after_cut: (OLD, ZEROS),
     },
     Trouble {
         stop: Some(Place { call: 3, front: 7 }),
@@ -422,11 +427,11 @@ static TROUBLES: [Trouble; 8] = [
             (Call::Read(2), Err(DiskFault::Cut)),
         ],
         counts: (2, 3, 1),
-        has_left_front: true,
+        has_torn_front: true,
         unsynced: 2,
         shown: ((0, 7, 505), (0, 512, 0)),
         tears: &[0],
-        left: ((0, 7, 505), ZEROS),
+        after_cut: ((0, 7, 505), ZEROS),
     },
     Trouble {
         stop: Some(Place {
@@ -443,16 +448,16 @@ static TROUBLES: [Trouble; 8] = [
             (Call::Read(2), Err(DiskFault::Cut)),
         ],
         counts: (2, 3, 1),
-        has_left_front: true,
+        has_torn_front: true,
         unsynced: 2,
         shown: ((0, 512, 0), (0, 512, 0)),
         tears: &[0],
-        left: ((0, 512, 0), ZEROS),
+        after_cut: ((0, 512, 0), ZEROS),
     },
 ];
 
 #[test]
-fn a_disk_in_trouble_leaves_fronts_and_settles_nothing(rt: HostRuntime) -> Result<(), DiskFault> {
+fn a_disk_in_trouble_leaves_fronts_and_syncs_nothing(rt: HostRuntime) -> Result<(), DiskFault> {
     for trouble in &TROUBLES {
         assert!(rt;
             is_in_trouble_so(rt.alloc(), trouble)?,
@@ -487,7 +492,7 @@ static RUNS: [Run; 2] = [
 ];
 
 fn is_run_so(alloc: Global, run: &Run) -> Result<bool, DiskFault> {
-    let mut disk = FaultDisk::new(settled_disk(alloc)?, None, None);
+    let mut disk = FaultDisk::new(durable_disk(alloc)?, None, None);
     put_run(&mut disk, run.0)?;
     let counts = disk.calls();
     let image = [ZEROS, OLD, run.2, run.3];
@@ -497,7 +502,7 @@ fn is_run_so(alloc: Global, run: &Run) -> Result<bool, DiskFault> {
 /// `scripts/runs/refused-allocations` refuses each allocation in turn, and then this ends out of
 /// memory.
 #[test]
-fn a_run_is_settled_by_its_sync(rt: HostRuntime) -> Result<(), DiskFault> {
+fn a_run_is_durable_after_its_sync(rt: HostRuntime) -> Result<(), DiskFault> {
     for run in &RUNS {
         assert!(rt; is_run_so(rt.alloc(), run)?, "{run:?}");
     }
@@ -508,7 +513,7 @@ fn a_run_is_settled_by_its_sync(rt: HostRuntime) -> Result<(), DiskFault> {
 /// with a write each and one sync.
 fn is_rewritten_so(alloc: Global) -> Result<bool, DiskFault> {
     let mut below = MemDisk::new(alloc, 4, 5)?;
-    settle(&mut below)?;
+    store_old(&mut below)?;
     below.write(2, &[9; 512])?;
     let mut disk = FaultDisk::new(below, None, None);
     rewrite(&mut disk)?;

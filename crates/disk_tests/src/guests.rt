@@ -4,7 +4,7 @@ use crate::halt::Halt;
 use sector_disk::MemDisk;
 use std::alloc::Global;
 use wasi_abi::{Answer, Config};
-use wasm_syntax::Row;
+use wasm_syntax::ItemList;
 
 /// Writes a line and exits with 7.
 pub(crate) const HELLO: &[u8] = &[
@@ -150,14 +150,14 @@ pub(crate) fn config_of(alloc: Global, pages: u64) -> Result<Config, Halt> {
 
 /// The same with so many sectors of records.
 pub(crate) fn config_with(alloc: Global, pages: u64, journal: u64) -> Result<Config, Halt> {
-    let mut arguments = Row::new(alloc);
-    arguments.push(Row::from_vec(Vec::from_slice(alloc, b"worker")?))?;
-    Ok(Config::new(pages, 1, journal, arguments, Row::new(alloc))?)
+    let mut arguments = ItemList::new(alloc);
+    arguments.push(ItemList::from_vec(Vec::from_slice(alloc, b"worker")?))?;
+    Ok(Config::new(pages, 1, journal, arguments, ItemList::new(alloc))?)
 }
 
 /// The answer that is this request.
 pub(crate) fn request(alloc: Global, text: &[u8]) -> Result<Answer, Halt> {
-    let text = Row::from_vec(Vec::from_slice(alloc, text)?);
+    let text = ItemList::from_vec(Vec::from_slice(alloc, text)?);
     Ok(Answer::Request { text })
 }
 

@@ -1,4 +1,4 @@
-//! Why a test of lives has nothing to compare: one name for each want of memory.
+//! Why a test of lives has nothing to compare: one name for each case of out of memory.
 
 use disk_layout::LayoutFault;
 use record_replay::ReplayFault;
@@ -50,7 +50,7 @@ impl From<DiskFault> for Halt {
     }
 }
 
-/// The outlet of the lives fails for want of memory alone, here and in a replay.
+/// The outlet of the lives fails only when out of memory, here and in a replay.
 impl From<WorkFault> for Halt {
     fn from(fault: WorkFault) -> Halt {
         match fault {

@@ -8,7 +8,7 @@ use journal::{Journal, JournalFault};
 use sector_disk::{Disk, DiskFault, FaultDisk, MemDisk, Place};
 use std::alloc::{AllocError, Global};
 use wasi_abi::{Answer, Version};
-use wasm_syntax::Row;
+use wasm_syntax::ItemList;
 
 /// A journal of 16 sectors from sector 4 on.
 static PLACES: Geometry = Geometry {
@@ -30,7 +30,7 @@ fn empty(alloc: Global) -> Result<MemDisk, JournalFault> {
 /// What a cut leaves of a disk that keeps these fronts.
 fn cut(alloc: Global, disk: &MemDisk, tears: &[u16]) -> Result<MemDisk, JournalFault> {
     match disk.cut(alloc, tears) {
-        Ok(left) => Ok(left),
+        Ok(after_cut) => Ok(after_cut),
         Err(_) => Err(JournalFault::Memory),
     }
 }
@@ -86,8 +86,8 @@ enum Given {
     Random(&'static [u8]),
 }
 
-fn row_of(alloc: Global, bytes: &[u8]) -> Result<Row<u8>, AllocError> {
-    Ok(Row::from_vec(Vec::from_slice(alloc, bytes)?))
+fn row_of(alloc: Global, bytes: &[u8]) -> Result<ItemList<u8>, AllocError> {
+    Ok(ItemList::from_vec(Vec::from_slice(alloc, bytes)?))
 }
 
 fn answer_of(alloc: Global, given: &Given) -> Result<Answer, AllocError> {
@@ -155,7 +155,7 @@ fn append_five(alloc: Global, journal: &mut Journal) -> Result<bool, JournalFaul
     Ok(true)
 }
 
-/// Writes the five records behind one barrier, and one more behind a second one.
+/// Writes the five records after one barrier, and one more after a second one.
 fn write_twice<D: Disk>(
     alloc: Global,
     journal: &mut Journal,
@@ -239,7 +239,7 @@ fn records_of_two_barriers_byte_by_byte(rt: HostRuntime) -> Result<(), JournalFa
 fn request(alloc: Global, step: u64, len: usize) -> Result<Record, AllocError> {
     let mut text = Vec::new(alloc);
     text.resize(len, b'a')?;
-    let text = Row::from_vec(text);
+    let text = ItemList::from_vec(text);
     Ok(Record {
         step,
         answer: Answer::Request { text },
@@ -328,10 +328,10 @@ fn is_stopped<D: Disk>(
 /// Whether one record of generation 1 is left, and one that is written then is all of generation 2.
 /// The second of three sectors is torn. The third one, of generation 1, is none of generation 2.
 fn is_torn_so(alloc: Global, disk: &MemDisk) -> Result<bool, JournalFault> {
-    let mut left = cut(alloc, disk, &[512, 499, 512])?;
+    let mut after_cut = cut(alloc, disk, &[512, 499, 512])?;
     Ok(
-        scan_count(alloc, &mut left, 1)? == Some(1)
-            && write_and_scan(alloc, &mut left, 2, &[900])? == Some(1),
+        scan_count(alloc, &mut after_cut, 1)? == Some(1)
+            && write_and_scan(alloc, &mut after_cut, 2, &[900])? == Some(1),
     )
 }
 
@@ -376,7 +376,7 @@ fn run<D: Disk>(alloc: Global, journal: &mut Journal, disk: &mut D) -> Result<us
 }
 
 /// A call of the disk, and how many records were acknowledged before it. Then how many are kept
-/// where it leaves a front of at most 504 bytes, and of more. With 505 bytes a sector has its
+/// where it leaves a prefix of at most 504 bytes, and of more. With 505 bytes a sector has its
 /// stamp.
 type Kept = (u64, usize, usize, usize);
 
@@ -429,8 +429,8 @@ fn is_stopped_so(alloc: Global, kept: &Kept, front: u16) -> Result<bool, Journal
         &mut Journal::fresh(alloc, Version::One, 1),
         &mut disk,
     )?;
-    let mut left = cut(alloc, &disk.into_inner(), &[])?;
-    is_kept_so(alloc, &mut left, acknowledged, kept, front)
+    let mut after_cut = cut(alloc, &disk.into_inner(), &[])?;
+    is_kept_so(alloc, &mut after_cut, acknowledged, kept, front)
 }
 
 fn is_failed_so(alloc: Global, kept: &Kept, front: u16) -> Result<bool, JournalFault> {
@@ -552,7 +552,7 @@ fn a_barrier_is_stopped(rt: HostRuntime) -> Result<(), JournalFault> {
     Ok(())
 }
 
-/// Lengths of requests, the room behind them, the length of one more, and what that is answered.
+/// Lengths of requests, the room after them, the length of one more, and what that is answered.
 type Last = (&'static [usize], usize, usize, Result<(), JournalFault>);
 
 static LAST: [Last; 4] = [

@@ -8,7 +8,7 @@ use disk_layout::{
 use sector_disk::{Disk, DiskFault, MemDisk};
 use std::alloc::{AllocError, Global};
 use wasi_abi::Config;
-use wasm_syntax::Row;
+use wasm_syntax::ItemList;
 
 pub(crate) fn layout_fault(fault: DiskFault) -> LayoutFault {
     match fault {
@@ -17,7 +17,7 @@ pub(crate) fn layout_fault(fault: DiskFault) -> LayoutFault {
     }
 }
 
-/// Writes a sector of generation 255 at place 3 and settles it, and then writes one of generation
+/// Writes a sector of generation 255 at place 3 and syncs it, and then writes one of generation
 /// 256.
 fn write_stamps<D: Disk>(disk: &mut D) -> Result<(), DiskFault> {
     disk.write(0, &journal_sector(255, 3, b"old"))?;
@@ -30,9 +30,9 @@ fn write_stamps<D: Disk>(disk: &mut D) -> Result<(), DiskFault> {
 fn torn_stamp(alloc: Global, front: u16) -> Result<(u64, bool), DiskFault> {
     let mut disk = MemDisk::new(alloc, 1, 2)?;
     write_stamps(&mut disk)?;
-    let mut left = disk.cut(alloc, &[front])?;
+    let mut after_cut = disk.cut(alloc, &[front])?;
     let mut sector = [0; 512];
-    left.read(0, &mut sector)?;
+    after_cut.read(0, &mut sector)?;
     Ok((
         Stamp::read(&sector).shown_at(3),
         sector == journal_sector(256, 3, b"new"),
@@ -76,8 +76,8 @@ pub(crate) const PLACES: Geometry = Geometry {
     journal_sectors: 64,
 };
 
-/// Writes these bytes behind the heads where there is room, and a super with these numbers and
-/// their digest.
+/// Writes these bytes after the heads where there is room, and a super with these numbers and their
+/// digest.
 fn write_worker<D: Disk>(
     disk: &mut D,
     geometry: Geometry,
@@ -177,7 +177,7 @@ fn is_full_read(alloc: Global) -> Result<bool, LayoutFault> {
 /// `scripts/runs/refused-allocations` refuses each allocation in turn, and then this ends out of
 /// memory.
 #[test]
-fn a_super_leads_to_what_stands_behind_it(rt: HostRuntime) -> Result<(), LayoutFault> {
+fn a_super_leads_to_what_is_behind_it(rt: HostRuntime) -> Result<(), LayoutFault> {
     assert!(rt; is_full_read(rt.alloc())?);
     Ok(())
 }
@@ -192,10 +192,10 @@ pub(crate) fn are_super_faults_told(alloc: Global) -> Result<bool, DiskFault> {
     Ok(before == Some(LayoutFault::NotAWorker) && after == Some(LayoutFault::Damaged))
 }
 
-fn one_text(alloc: Global, text: &[u8]) -> Result<Row<Row<u8>>, AllocError> {
+fn one_text(alloc: Global, text: &[u8]) -> Result<ItemList<ItemList<u8>>, AllocError> {
     let mut texts = Vec::new(alloc);
-    texts.push(Row::from_vec(Vec::from_slice(alloc, text)?))?;
-    Ok(Row::from_vec(texts))
+    texts.push(ItemList::from_vec(Vec::from_slice(alloc, text)?))?;
+    Ok(ItemList::from_vec(texts))
 }
 
 /// Whether the configuration of one page, two units of files, a journal of 64 sectors, the argument

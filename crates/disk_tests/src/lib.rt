@@ -1,6 +1,6 @@
 //! What tests alone can show of a worker's disk, layer upon layer. Sectors are cut, stopped and
 //! failed. Super and heads are compared with literal bytes. Journals and snapshots are stopped at
-//! each call of the disk. Above them stand whole workers (`workers`), and what is told of lists of
+//! each call of the disk. Above them are whole workers (`workers`), and what is told of lists of
 //! their lives (`stories`).
 //!
 //! Each test is a table of rows whose expected values come from outside. Those that take memory

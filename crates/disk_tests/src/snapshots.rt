@@ -45,10 +45,12 @@ fn is_newest<D: Disk>(
     alloc: Global,
     disk: &mut D,
     generation: u64,
-    image: &[u8],
+    process_image: &[u8],
 ) -> Result<bool, SnapshotFault> {
     match read_newest(alloc, disk)? {
-        Some(found) => Ok(found.generation == generation && found.image.as_slice() == image),
+        Some(found) => Ok(
+            found.generation == generation && found.process_image.as_slice() == process_image,
+        ),
         None => Ok(generation == 0),
     }
 }
@@ -57,12 +59,12 @@ fn commit<D: Disk>(
     snapshots: &mut Snapshots,
     disk: &mut D,
     generation: u64,
-    image: &[u8],
+    process_image: &[u8],
 ) -> Result<(), SnapshotFault> {
     if disk.sectors() < 12 {
         return Err(SnapshotFault::TooBig);
     }
-    snapshots.commit(disk, &GEOMETRY, generation, image, 1)
+    snapshots.commit(disk, &GEOMETRY, generation, process_image, 1)
 }
 
 /// The same in two pieces.
@@ -75,7 +77,7 @@ fn commit_in_pieces<D: Disk>(
     if disk.sectors() < 12 {
         return Err(SnapshotFault::TooBig);
     }
-    snapshots.begin(1, 1, Writing::Changes)?;
+    snapshots.begin(1, 1, Writing::Changes, None)?;
     snapshots.push(disk, &GEOMETRY, first)?;
     snapshots.push(disk, &GEOMETRY, second)?;
     snapshots.finish(disk, &GEOMETRY)
@@ -112,8 +114,8 @@ fn is_found<D: Disk>(alloc: Global, disk: &mut D, want: &Newest) -> Result<bool,
 }
 
 /// A call at which a disk stops, and which of the two commits are acknowledged. Then the newest
-/// image where the call leaves a front of at most 504 bytes, and of more. With 505 bytes a head has
-/// its stamp.
+/// image where the call leaves a prefix of at most 504 bytes, and of more. With 505 bytes a head
+/// has its stamp.
 type Stop = (u64, (bool, bool), Newest, Newest);
 
 /// The first commit reads and writes two sectors, syncs, writes a head and syncs; the second one
@@ -149,8 +151,8 @@ fn leaves(
     tears: &[u16],
     want: &Newest,
 ) -> Result<bool, SnapshotFault> {
-    let mut left = disk.cut(alloc, tears).map_err(snapshot_fault)?;
-    is_found(alloc, &mut left, want)
+    let mut after_cut = disk.cut(alloc, tears).map_err(snapshot_fault)?;
+    is_found(alloc, &mut after_cut, want)
 }
 
 /// Whether each cut that keeps the last write as it was left leaves this image.
@@ -204,7 +206,7 @@ fn fails_what_follows<D: Disk>(snapshots: &mut Snapshots, disk: &mut FaultDisk<D
     let counts = disk.calls();
     is_told
         && commit(snapshots, disk, 3, &SHORT) == Err(SnapshotFault::Failed)
-        && snapshots.begin(3, 1, Writing::Changes) == Err(SnapshotFault::Failed)
+        && snapshots.begin(3, 1, Writing::Changes, None) == Err(SnapshotFault::Failed)
         && disk.calls() == counts
 }
 
@@ -288,12 +290,12 @@ fn commit_two<D: Disk>(snapshots: &mut Snapshots, disk: &mut D) -> Result<(), Sn
 fn is_committed_by<D: Disk>(
     snapshots: &mut Snapshots,
     disk: &mut FaultDisk<D>,
-    image: &[u8],
+    process_image: &[u8],
     calls: (u64, u64, u64),
 ) -> Result<bool, SnapshotFault> {
     commit_two(snapshots, disk)?;
     let before = disk.calls();
-    commit(snapshots, disk, 3, image)?;
+    commit(snapshots, disk, 3, process_image)?;
     Ok(more(before, disk.calls()) == Some(calls))
 }
 
@@ -308,21 +310,21 @@ fn more(before: (u64, u64, u64), after: (u64, u64, u64)) -> Option<(u64, u64, u6
 
 fn is_committed_and_found(
     alloc: Global,
-    image: &[u8],
+    process_image: &[u8],
     calls: (u64, u64, u64),
 ) -> Result<bool, SnapshotFault> {
     let mut disk = faulty_disk(alloc, None, None)?;
-    let is_so = is_committed_by(&mut Snapshots::new(), &mut disk, image, calls)?;
-    Ok(is_so && is_newest(alloc, &mut disk, 3, image)?)
+    let is_so = is_committed_by(&mut Snapshots::new(), &mut disk, process_image, calls)?;
+    Ok(is_so && is_newest(alloc, &mut disk, 3, process_image)?)
 }
 
 fn is_rewritten_so(alloc: Global, row: &Rewrite) -> Result<bool, SnapshotFault> {
-    let mut image = LONG;
+    let mut process_image = LONG;
     if row.1 {
-        image[600] = 1;
+        process_image[600] = 1;
     }
-    match image.get(..row.0) {
-        Some(image) => is_committed_and_found(alloc, image, row.2),
+    match process_image.get(..row.0) {
+        Some(process_image) => is_committed_and_found(alloc, process_image, row.2),
         None => Ok(false),
     }
 }
@@ -386,12 +388,12 @@ fn ends_in_zeros<D: Disk>(snapshots: &mut Snapshots, disk: &mut D) -> Result<boo
     commit(snapshots, disk, 3, &SHORT)?;
     let second = read(disk, 8)?;
     let third = read(disk, 9)?;
-    let (image, zeros) = second.split_at(88);
-    Ok(is_all(image, 7) && is_all(zeros, 0) && third[0] == 9)
+    let (process_image, zeros) = second.split_at(88);
+    Ok(is_all(process_image, 7) && is_all(zeros, 0) && third[0] == 9)
 }
 
 #[test]
-fn zeros_stand_behind_an_image(rt: HostRuntime) -> Result<(), SnapshotFault> {
+fn zeros_are_behind_an_image(rt: HostRuntime) -> Result<(), SnapshotFault> {
     let mut disk = empty(rt.alloc())?;
     assert!(rt; ends_in_zeros(&mut Snapshots::new(), &mut disk)?);
     Ok(())
@@ -412,10 +414,10 @@ static ONES: [u8; 1537] = [1; 1537];
 /// Whether the size is answered so. If it is refused, the disk was left alone, and the next commit
 /// is `Failed`.
 fn is_sized_so<D: Disk>(snapshots: &mut Snapshots, disk: &mut FaultDisk<D>, size: &Size) -> bool {
-    let Some((image, _)) = ONES.split_at_checked(size.1) else {
+    let Some((process_image, _)) = ONES.split_at_checked(size.1) else {
         return false;
     };
-    let answer = commit(snapshots, disk, size.0, image);
+    let answer = commit(snapshots, disk, size.0, process_image);
     answer == size.2
         && (answer.is_ok()
             || disk.calls() == (0, 0, 0)
@@ -508,8 +510,8 @@ fn leads_to_long<D: Disk>(
     let Some(head) = snapshots.newest_head(disk)? else {
         return Ok(false);
     };
-    let image = snapshots.image_of(alloc, disk, &GEOMETRY, &head)?;
-    Ok(is_head_of_long(&head) && image.as_slice() == LONG.as_slice())
+    let process_image = snapshots.process_image_of(alloc, disk, &GEOMETRY, &head)?;
+    Ok(is_head_of_long(&head) && process_image.as_slice() == LONG.as_slice())
 }
 
 fn is_written_and_found<D: Disk>(alloc: Global, disk: &mut D) -> Result<bool, SnapshotFault> {
@@ -548,7 +550,7 @@ const IO: Result<bool, SnapshotFault> = Err(SnapshotFault::Disk(DiskFault::Io));
 static DAMAGES: [Damage; 10] = [
     (Some((7, 0)), None, Err(SnapshotFault::Damaged)),
     (Some((8, 87)), None, Err(SnapshotFault::Damaged)),
-    // The bytes behind the image are not compared, nor are those of the other area.
+    // The bytes after the image are not compared, nor are those of the other area.
     (Some((8, 88)), None, Ok(true)),
     (Some((9, 0)), None, Ok(true)),
     (Some((4, 0)), None, Ok(true)),

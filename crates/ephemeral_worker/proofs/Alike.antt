@@ -24,14 +24,14 @@ within guest q xs n fuel now.Waiting h = let less : n < fuel = h.0 in omega arit
 within guest q xs n fuel (now.Ended how) h = h.0
 
 -- where a slice is over before its fuel is spent no step goes on without an answer
-stands : (guest : Guest) (q r : ProcessState) (xs : List Exchange) (n fuel : ℕ) (why : Now)
+no_step_follows : (guest : Guest) (q r : ProcessState) (xs : List Exchange) (n fuel : ℕ) (why : Now)
     → IsNow guest q xs n fuel why → n < fuel → Moves guest q None r → ⊥
-stands guest q r xs n fuel now.Spent h less moves = let spent : n ≡ fuel = h.0 in
+no_step_follows guest q r xs n fuel now.Spent h less moves = let spent : n ≡ fuel = h.0 in
     absurd (omega arith)
-stands guest q r xs n fuel now.Waiting h less moves =
+no_step_follows guest q r xs n fuel now.Waiting h less moves =
     let stopped : Leads guest (next_of guest q None) None q r = moves.leads in
     (rw h.3 at stopped)
-stands guest q r xs n fuel (now.Ended how) h less moves = let ended = h.1 in
+no_step_follows guest q r xs n fuel (now.Ended how) h less moves = let ended = h.1 in
     let running = moves.running in absurd (cc)
 
 no_longer : (guest : Guest) (p q r : ProcessState) (kept : List Kept) (xs ys : List Exchange)
@@ -41,7 +41,7 @@ no_longer guest p q r kept xs ys n m k fuel why other a b h h' e =
     let few : m ≤ fuel = within guest r ys m fuel other h' in
     let less : n < fuel = omega (arith, few, e) in
     let first = first_moves guest q r k (goes_on guest p q r kept n m k a b e) in
-    stands guest q first.0 xs n fuel why h less first.1
+    no_step_follows guest q first.0 xs n fuel why h less first.1
 
 compare : (n m : ℕ) → (n ≡ m) ⊎ (((k : ℕ) × (m ≡ n + suc k)) ⊎ ((k : ℕ) × (n ≡ m + suc k)))
 compare zero zero = inl refl

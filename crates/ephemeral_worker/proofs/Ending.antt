@@ -4,11 +4,11 @@ use Rattle.std.proofs.Common.{Option, Some, None, Ok, Err, refl, sym, ◌∙◌,
 use Rattle.std.proofs.Common.{arith}
 use Rattle.std.specs.Prelude.{Bool, true, false, Result, ◌≢◌}
 use Rattle.std.proofs.lemmas.List.{append-nil}
-use Rattle.wasi_abi.specs.declared.answer.Kind.{Kind}
-use Rattle.wasi_abi.specs.declared.answer.Kind.TheVariants as kind
+use Rattle.wasi_abi.specs.declared.answer.Question.{Question}
+use Rattle.wasi_abi.specs.declared.answer.Question.TheVariants as question
 use Rattle.wasi_abi.specs.declared.answer.Answer.{Answer}
 use Rattle.wasi_abi.specs.rules.Versions.{text_limit}
-use Rattle.wasi_calls_rules.specs.Hosts.{Line}
+use Rattle.wasi_calls_rules.specs.WasiStates.{Line}
 use Rattle.process_rules.specs.Processes.{ProcessState, Guest}
 use Rattle.process_rules.specs.Runs.{Wants, next_of}
 use Rattle.process_rules.proofs.Growing.{move_counts}
@@ -25,7 +25,7 @@ use Rattle.ephemeral_worker.specs.declared.now.Now.TheVariants as ends
 use Rattle.ephemeral_worker.specs.declared.fault.SliceFault.{SliceFault}
 use Rattle.ephemeral_worker.specs.declared.fault.SliceFault.TheVariants as fault
 use Rattle.ephemeral_worker.specs.declared.fault.Refusal.TheVariants as refusal
-use Rattle.ephemeral_worker.specs.rules.Slices.{handed_by, SliceLeadsTo, LeadsToWish, AreWanted}
+use Rattle.ephemeral_worker.specs.rules.Slices.{handed_by, SliceLeadsTo, LeadsToQuestion, AreWanted}
 use Rattle.ephemeral_worker.specs.rules.Slices.{Slices}
 use Rattle.ephemeral_worker.specs.rules.Faults.{IsBadAnswer, LeadsUpTo, Fails, IsCause}
 use Rattle.ephemeral_worker.specs.rules.Faults.{SlicesInVain}
@@ -35,7 +35,8 @@ use Rattle.record_replay.specs.rules.Waiting.{first_waiting, ReleasesAll, Releas
 use Rattle.record_replay.proofs.Emitted.{released_count}
 use Rattle.record_replay.proofs.OnTheWay.{quiet_runs, owing_runs}
 use Rattle.ephemeral_worker.proofs.Joining.{tells, wanted_ask, asked_leads}
-use Rattle.ephemeral_worker.proofs.Going.{Goes, goes_none, leads, advance_on, owing_last, wish}
+use Rattle.ephemeral_worker.proofs.Going.{Goes, goes_none, leads, advance_on, owing_last}
+use Rattle.ephemeral_worker.proofs.Going.{leads_to_question}
 use Rattle.ephemeral_worker.proofs.Going.{asked_more}
 use Rattle.ephemeral_worker.proofs.Going.{answer_on, told_wanted, told_more, release_on}
 
@@ -83,27 +84,27 @@ module _ {S O : Type 0} (gives : Giving S) (takes : Taking O) where
       (omega arith, omega arith)
 
   -- the answer that is wanted is asked for
-  pub record Wishing (old now : ProcessValue) (fuel first : ℕ) (source source' : S)
-      (outlet outlet' : O) (kind : Kind) : Type 0 where
+  pub record Questioning (old now : ProcessValue) (fuel first : ℕ) (source source' : S)
+      (outlet outlet' : O) (question : Question) : Type 0 where
     pub turning : Turning old now fuel first source source' outlet outlet'
     pub running : (guest : Guest) (p : ProcessState) (shows : ShowsProcess old guest p)
         → (turning.goes guest p shows).process.ended ≡ None
     pub wants : (guest : Guest) (p : ProcessState) (shows : ShowsProcess old guest p)
-        → next_of guest (turning.goes guest p shows).process None ≡ Wants kind
+        → next_of guest (turning.goes guest p shows).process None ≡ Wants question
     pub less : (guest : Guest) (p : ProcessState) (shows : ShowsProcess old guest p)
         → (turning.goes guest p shows).steps < fuel
     pub empty : waiting_in now ≡ []
 
-  module _ (old now new : ProcessValue) (fuel first left : ℕ) (s t : S) (o q : O)
+  module _ (old now new : ProcessValue) (fuel first fuel_left : ℕ) (s t : S) (o q : O)
       (turning : Turning old now fuel first s t o q)
-      (left_is : left ≡ fuel - (now.steps - first)) (same : new.host.released
+      (fuel_left_is : fuel_left ≡ fuel - (now.steps - first)) (same : new.host.released
       ≡ now.host.released) where
     abbrev at : (guest : Guest) (p : ProcessState) → ShowsProcess old guest p
         → Goes gives takes old now fuel guest p s t o q
     at guest p shows = turning.goes guest p shows
 
     room : (guest : Guest) (p : ProcessState) (shows : ShowsProcess old guest p)
-        → (at guest p shows).steps + left ≡ fuel
+        → (at guest p shows).steps + fuel_left ≡ fuel
     room guest p shows =
         let g = at guest p shows in
         let counted = g.counted in
@@ -114,7 +115,7 @@ module _ {S O : Type 0} (gives : Giving S) (takes : Taking O) where
     -- steps after which nothing is owed
     abbrev quietly : (guest : Guest) (p : ProcessState) (shows : ShowsProcess old guest p)
         (come : ComesQuietly new guest (at guest p shows).process) → waiting_in now ≡ []
-        → come.steps ≤ left
+        → come.steps ≤ fuel_left
         → Goes gives takes old new fuel guest p s t o q
     quietly guest p shows come empty few =
         let whole = room guest p shows in
@@ -134,7 +135,7 @@ module _ {S O : Type 0} (gives : Giving S) (takes : Taking O) where
     abbrev one_stop : Goes gives takes old now fuel one_guest one_process s t o q
     one_stop = at one_guest one_process turning.some.shows
 
-    pub spent : AdvancesProcess now left (Ok stops.Spent) new
+    pub spent : AdvancesProcess now fuel_left (Ok stops.Spent) new
         → Slices gives takes (working old) fuel ends.Spent (working new) s t o q
     unfolding advance_on
     spent advances = record {
@@ -146,7 +147,7 @@ module _ {S O : Type 0} (gives : Giving S) (takes : Taking O) where
           let come = stop.1 in
           let whole = room guest p shows in
           let all = stop.2 in
-          let few : come.steps ≤ left = omega arith in
+          let few : come.steps ≤ fuel_left = omega arith in
           let g = quietly guest p shows come stop.0 few in (
             record {
               exchanges = g.exchanges;
@@ -161,7 +162,7 @@ module _ {S O : Type 0} (gives : Giving S) (takes : Taking O) where
           );
     }
 
-    pub over : (how : ProcessEnd) → AdvancesProcess now left (Ok (stops.Ended how)) new
+    pub over : (how : ProcessEnd) → AdvancesProcess now fuel_left (Ok (stops.Ended how)) new
         → Slices gives takes (working old) fuel (ends.Ended how) (working new) s t o q
     unfolding advance_on
     over how advances = record {
@@ -187,7 +188,8 @@ module _ {S O : Type 0} (gives : Giving S) (takes : Taking O) where
 
     -- ---- what is owed
 
-    pub owes : AdvancesProcess now left (Ok stops.Owes) new → Turning old new fuel first s t o q
+    pub owes : AdvancesProcess now fuel_left (Ok stops.Owes) new
+        → Turning old new fuel first s t o q
     owes advances = record {
       goes = λ guest p shows.
           let g = at guest p shows in
@@ -206,7 +208,7 @@ module _ {S O : Type 0} (gives : Giving S) (takes : Taking O) where
     }
 
     -- less is left after what was owed is released
-    pub owes_less : AdvancesProcess now left (Ok stops.Owes) new → (after : ProcessValue)
+    pub owes_less : AdvancesProcess now fuel_left (Ok stops.Owes) new → (after : ProcessValue)
         → waiting_in after ≡ [] → after.steps ≡ new.steps
         → measure fuel first after < measure fuel first now
     unfolding advance_on
@@ -238,16 +240,16 @@ module _ {S O : Type 0} (gives : Giving S) (takes : Taking O) where
 
     -- ---- what is asked
 
-    pub asks : (kind : Kind) → AdvancesProcess now left (Ok (stops.Asks kind)) new
-        → Wishing old new fuel first s t o q kind
+    pub asks : (question : Question) → AdvancesProcess now fuel_left (Ok (stops.Asks question)) new
+        → Questioning old new fuel first s t o q question
     unfolding advance_on
-    asks kind advances = record {
+    asks question advances = record {
       turning = record {
         goes = λ guest p shows.
             let g = at guest p shows in
             let stop = advances guest g.process g.shows in
             let less = stop.2 in
-            let few : stop.1.steps ≤ left = omega arith in
+            let few : stop.1.steps ≤ fuel_left = omega arith in
             quietly guest p shows stop.1 stop.0 few;
         some = turning.some;
         first_is = turning.first_is;
@@ -265,14 +267,14 @@ module _ {S O : Type 0} (gives : Giving S) (takes : Taking O) where
     }
 
     -- no step is taken back
-    pub asks_counts : (kind : Kind) → AdvancesProcess now left (Ok (stops.Asks kind)) new
-        → now.steps ≤ new.steps
+    pub asks_counts : (question : Question) → AdvancesProcess now fuel_left
+        (Ok (stops.Asks question)) new → now.steps ≤ new.steps
     unfolding advance_on
-    asks_counts kind advances =
+    asks_counts question advances =
         let g = one_stop in
         let stop = advances one_guest g.process g.shows in
         let less = stop.2 in
-        let few : stop.1.steps ≤ left = omega arith in
+        let few : stop.1.steps ≤ fuel_left = omega arith in
         let on = quietly one_guest one_process turning.some.shows stop.1 stop.0 few in
         let more : new.steps ≡ old.steps + (g.steps + stop.1.steps) = on.counted in
         let counted = g.counted in
@@ -280,7 +282,7 @@ module _ {S O : Type 0} (gives : Giving S) (takes : Taking O) where
 
     -- ---- where no step could be taken
 
-    pub cannot_advance : (why : ProcessFault) → AdvancesProcess now left (Err why) new
+    pub cannot_advance : (why : ProcessFault) → AdvancesProcess now fuel_left (Err why) new
         → SlicesInVain gives takes (working old) fuel (slice_fault why) (failing new) s t o q
     unfolding advance_on
     cannot_advance stop.WrongAnswer advances = (
@@ -297,7 +299,7 @@ module _ {S O : Type 0} (gives : Giving S) (takes : Taking O) where
           let come = stop.1 in
           let whole = room guest p shows in
           let less = stop.2 in
-          let few : come.steps ≤ left = omega arith in
+          let few : come.steps ≤ fuel_left = omega arith in
           let g = quietly guest p shows come stop.0 few in (
             record {
               exchanges = g.exchanges;
@@ -314,7 +316,7 @@ module _ {S O : Type 0} (gives : Giving S) (takes : Taking O) where
               None,
               record {
                 front = g.exchanges;
-                kind = kind.Realtime;
+                question = question.Realtime;
                 is = sym (append-nil g.exchanges);
                 leads = leads gives takes old new new fuel guest p s t o q g come.none_waits;
                 answered = g.answered;
@@ -330,7 +332,7 @@ module _ {S O : Type 0} (gives : Giving S) (takes : Taking O) where
           let come = stop.1 in
           let whole = room guest p shows in
           let less = stop.2 in
-          let few : come.steps ≤ left = omega arith in
+          let few : come.steps ≤ fuel_left = omega arith in
           let g = quietly guest p shows come stop.0 few in (
             record {
               exchanges = g.exchanges;
@@ -346,7 +348,7 @@ module _ {S O : Type 0} (gives : Giving S) (takes : Taking O) where
               None,
               record {
                 front = g.exchanges;
-                kind = kind.Realtime;
+                question = question.Realtime;
                 is = sym (append-nil g.exchanges);
                 leads = leads gives takes old new new fuel guest p s t o q g come.none_waits;
                 answered = g.answered;
@@ -420,45 +422,46 @@ module _ {S O : Type 0} (gives : Giving S) (takes : Taking O) where
 
   -- ---- answers
 
-  module _ (old mid new : ProcessValue) (fuel first : ℕ) (s t u : S) (o q : O) (kind : Kind)
-      (wishing : Wishing old mid fuel first s t o q kind) where
+  module _ (old mid new : ProcessValue) (fuel first : ℕ) (s t u : S) (o q : O) (question : Question)
+      (questioning : Questioning old mid fuel first s t o q question) where
     abbrev so_far : (guest : Guest) (p : ProcessState) → ShowsProcess old guest p
         → Goes gives takes old mid fuel guest p s t o q
-    so_far guest p shows = wishing.turning.goes guest p shows
+    so_far guest p shows = questioning.turning.goes guest p shows
 
     wanted_now : (guest : Guest) (p : ProcessState) (shows : ShowsProcess old guest p)
-        → LeadsToWish guest p (so_far guest p shows).exchanges kind
+        → LeadsToQuestion guest p (so_far guest p shows).exchanges question
     wanted_now guest p shows =
-        wish gives takes old mid mid fuel guest p s t o q (so_far guest p shows) kind wishing.empty
-        (wishing.running guest p shows) (wishing.wants guest p shows)
+        leads_to_question gives takes old mid mid fuel guest p s t o q (so_far guest p shows)
+        question questioning.empty (questioning.running guest p shows)
+        (questioning.wants guest p shows)
 
     leads_now : (guest : Guest) (p : ProcessState) (shows : ShowsProcess old guest p)
         → SliceLeadsTo guest p (so_far guest p shows).exchanges (so_far guest p shows).steps
         (so_far guest p shows).process
     leads_now guest p shows =
-        leads gives takes old mid mid fuel guest p s t o q (so_far guest p shows) wishing.empty
+        leads gives takes old mid mid fuel guest p s t o q (so_far guest p shows) questioning.empty
 
     -- ---- no answer
 
-    module _ (said : Result (Option Answer) SourceFault) (asked : gives t kind said u) where
-      abbrev question : Ask
-      question = record { kind = kind; said = said }
+    module _ (said : Result (Option Answer) SourceFault) (asked : gives t question said u) where
+      abbrev this_ask : Ask
+      this_ask = record { question = question; said = said }
 
       -- the calls with this question
       abbrev asked_calls : (guest : Guest) (p : ProcessState) → ShowsProcess old guest p
           → List Exchange
-      asked_calls guest p shows = (so_far guest p shows).exchanges ++ (Asks question ∷ [])
+      asked_calls guest p shows = (so_far guest p shows).exchanges ++ (Asks this_ask ∷ [])
 
       asked_exchanged : (guest : Guest) (p : ProcessState) (shows : ShowsProcess old guest p)
           → Exchanges gives takes s o (asked_calls guest p shows) u q
       asked_exchanged guest p shows =
           asked_more gives takes old mid mid fuel guest p s t o q
-          (so_far guest p shows) u question asked
+          (so_far guest p shows) u this_ask asked
 
       asked_wanted : (guest : Guest) (p : ProcessState) (shows : ShowsProcess old guest p)
           → AreWanted guest p (asked_calls guest p shows)
       asked_wanted guest p shows =
-          wanted_ask guest p (so_far guest p shows).exchanges question (so_far guest p shows).wanted
+          wanted_ask guest p (so_far guest p shows).exchanges this_ask (so_far guest p shows).wanted
           (wanted_now guest p shows)
 
       shown_still : new ≡ mid
@@ -468,7 +471,7 @@ module _ {S O : Type 0} (gives : Giving S) (takes : Taking O) where
           subst (λ z. ShowsProcess z guest (so_far guest p shows).process) (sym same)
           (so_far guest p shows).shows
 
-      -- the process stands where it stood, and the call has failed for this
+      -- the process is where it stood, and the call has failed for this
       stops_here : (why : SliceFault) → new ≡ mid
           → ((guest : Guest) (p : ProcessState) (shows : ShowsProcess old guest p)
           → IsCause guest p fuel (asked_calls guest p shows) (so_far guest p shows).steps
@@ -495,22 +498,22 @@ module _ {S O : Type 0} (gives : Giving S) (takes : Taking O) where
           (so_far guest p shows).process (Some a)
       up_to a is guest p shows = record {
         front = (so_far guest p shows).exchanges;
-        kind = kind;
+        question = question;
         is = ap (λ (z : Result (Option Answer) SourceFault). (so_far guest p shows).exchanges
-            ++ (Asks (record { kind = kind; said = z }) ∷ [])) is;
+            ++ (Asks (record { question = question; said = z }) ∷ [])) is;
         leads = leads_now guest p shows;
         answered = (so_far guest p shows).answered;
       }
 
       bad_answer : (guest : Guest) (p : ProcessState) (shows : ShowsProcess old guest p)
-          → IsBadAnswer (text_limit (so_far guest p shows).process.host.version) kind said
+          → IsBadAnswer (text_limit (so_far guest p shows).process.host.version) question said
           → IsCause guest p fuel (asked_calls guest p shows) (so_far guest p shows).steps
           (so_far guest p shows).process fault.Source
       bad_answer guest p shows bad = (
-        wishing.less guest p shows,
+        questioning.less guest p shows,
         record {
           front = (so_far guest p shows).exchanges;
-          ask = question;
+          ask = this_ask;
           is = refl;
           leads = leads_now guest p shows;
           bad = bad;
@@ -522,7 +525,7 @@ module _ {S O : Type 0} (gives : Giving S) (takes : Taking O) where
       waits_for same is = record {
         had_not_failed = refl;
         has_not_failed = refl;
-        none_waits = ap waiting_in same ∙ wishing.empty;
+        none_waits = ap waiting_in same ∙ questioning.empty;
         shown = λ guest p shows. (
           record {
             exchanges = asked_calls guest p shows;
@@ -531,19 +534,19 @@ module _ {S O : Type 0} (gives : Giving S) (takes : Taking O) where
             steps = (so_far guest p shows).steps;
             process = (so_far guest p shows).process;
             leads = asked_leads guest p (so_far guest p shows).process
-                (so_far guest p shows).exchanges (so_far guest p shows).steps question
+                (so_far guest p shows).exchanges (so_far guest p shows).steps this_ask
                 (ap handed_by is) (leads_now guest p shows);
             shows = shown_still same guest p shows;
           },
           (
-            wishing.less guest p shows,
-            wishing.running guest p shows,
-            kind,
-            wishing.wants guest p shows,
+            questioning.less guest p shows,
+            questioning.running guest p shows,
+            question,
+            questioning.wants guest p shows,
             (
               (so_far guest p shows).exchanges,
               ap (λ (z : Result (Option Answer) SourceFault). (so_far guest p shows).exchanges
-                  ++ (Asks (record { kind = kind; said = z }) ∷ [])) is,
+                  ++ (Asks (record { question = question; said = z }) ∷ [])) is,
             ),
           ),
         );
@@ -560,7 +563,7 @@ module _ {S O : Type 0} (gives : Giving S) (takes : Taking O) where
     waiting_by (Ok None) answers = (answers.1, refl)
     waiting_by (Ok (Some a)) answers = absurd (not_taken answers.0 answers.2)
 
-    pub waiting : AsksOnce gives kind mid (Ok false) new t u
+    pub waiting : AsksOnce gives question mid (Ok false) new t u
         → Slices gives takes (working old) fuel ends.Waiting (working new) s u o q
     waiting once = let by = waiting_by once.said once.answers in
         waits_for once.said once.asked by.0 by.1
@@ -588,51 +591,51 @@ module _ {S O : Type 0} (gives : Giving S) (takes : Taking O) where
     given_by (Ok None) answers = absurd (let no_none = answers.0 in cc)
     given_by (Ok (Some a)) answers = given_so a answers.0 answers.1 answers.2
 
-    pub given : AsksOnce gives kind mid (Ok true) new t u → new.host.released ≡ mid.host.released
-        → Turning old new fuel first s u o q
+    pub given : AsksOnce gives question mid (Ok true) new t u → new.host.released
+        ≡ mid.host.released → Turning old new fuel first s u o q
     given once same =
         let by = given_by once.said once.answers in
-        let asked : gives t kind (Ok (Some by.answer)) u =
-        subst (λ z. gives t kind z u) by.is once.asked in
+        let asked : gives t question (Ok (Some by.answer)) u =
+        subst (λ z. gives t question z u) by.is once.asked in
         record {
           goes = λ guest p shows.
               let g = so_far guest p shows in
               let to = by.takes_it guest g.process g.shows in
-              let less = wishing.less guest p shows in
-              answer_on gives takes old mid new fuel guest p s t o q g u kind by.answer to.process
-              asked wishing.empty (wanted_now guest p shows) to.moves to.shows same
-              (omega arith);
-          some = wishing.turning.some;
-          first_is = wishing.turning.first_is;
+              let less = questioning.less guest p shows in
+              answer_on gives takes old mid new fuel guest p s t o q g u question
+              by.answer to.process asked questioning.empty (wanted_now guest p shows)
+              to.moves to.shows same (omega arith);
+          some = questioning.turning.some;
+          first_is = questioning.turning.first_is;
         }
 
-    pub given_less : AsksOnce gives kind mid (Ok true) new t u → (v : ProcessValue)
+    pub given_less : AsksOnce gives question mid (Ok true) new t u → (v : ProcessValue)
         → v.steps ≤ mid.steps → measure fuel first new < measure fuel first v
     given_less once v before =
         let by = given_by once.said once.answers in
-        let shows = wishing.turning.some.shows in
-        let guest = wishing.turning.some.guest in
-        let p = wishing.turning.some.process in
+        let shows = questioning.turning.some.shows in
+        let guest = questioning.turning.some.guest in
+        let p = questioning.turning.some.process in
         let g = so_far guest p shows in
         let to = by.takes_it guest g.process g.shows in
         let one = move_counts guest g.process to.process (Some by.answer) to.moves in
-        let less = wishing.less guest p shows in
+        let less = questioning.less guest p shows in
         let counted = g.counted in
         let shown = g.shows.steps in
         let shown_new = to.shows.steps in
-        let first_is = wishing.turning.first_is in
+        let first_is = questioning.turning.first_is in
         let few = few_wait (waiting_in new) in
         omega arith
 
     -- ---- no answer that can be taken
 
-    abbrev one_shown : ShowsProcess mid wishing.turning.some.guest
-        (so_far wishing.turning.some.guest wishing.turning.some.process
-        wishing.turning.some.shows).process
-    one_shown = (so_far wishing.turning.some.guest wishing.turning.some.process
-        wishing.turning.some.shows).shows
+    abbrev one_shown : ShowsProcess mid questioning.turning.some.guest
+        (so_far questioning.turning.some.guest questioning.turning.some.process
+        questioning.turning.some.shows).process
+    one_shown = (so_far questioning.turning.some.guest questioning.turning.some.process
+        questioning.turning.some.shows).shows
 
-    refused_by : (a : Answer) (why : ProcessFault) → gives t kind (Ok (Some a)) u
+    refused_by : (a : Answer) (why : ProcessFault) → gives t question (Ok (Some a)) u
         → GivesAnswer mid a (Err why) new
         → SlicesInVain gives takes (working old) fuel (slice_fault why) (failing new) s u o q
     refused_by a stop.WrongAnswer asked h = (
@@ -641,9 +644,9 @@ module _ {S O : Type 0} (gives : Giving S) (takes : Taking O) where
       stops_here (Ok (Some a)) asked fault.Source (h _ _ one_shown).0
           (λ guest p shows. bad_answer (Ok (Some a)) asked guest p shows
           (λ fits. (h guest (so_far guest p shows).process (so_far guest p shows).shows).1
-          wishing.empty (wishing.running guest p shows) (
-            kind,
-            wishing.wants guest p shows,
+          questioning.empty (questioning.running guest p shows) (
+            question,
+            questioning.wants guest p shows,
             fits,
           ))),
     )
@@ -653,7 +656,7 @@ module _ {S O : Type 0} (gives : Giving S) (takes : Taking O) where
       stops_here (Ok (Some a)) asked fault.Memory (h _ _ one_shown).0
           (λ guest p shows.
           let no_room = h guest (so_far guest p shows).process (so_far guest p shows).shows in (
-            wishing.less guest p shows,
+            questioning.less guest p shows,
             no_room.2,
             no_room.3,
             Some a,
@@ -666,7 +669,7 @@ module _ {S O : Type 0} (gives : Giving S) (takes : Taking O) where
       stops_here (Ok (Some a)) asked (fault.Refused refusal.StepsSpent) (h _ _ one_shown).0
           (λ guest p shows.
           let beyond = h guest (so_far guest p shows).process (so_far guest p shows).shows in (
-            wishing.less guest p shows,
+            questioning.less guest p shows,
             beyond.2,
             Some a,
             up_to (Ok (Some a)) asked a refl guest p shows,
@@ -675,7 +678,7 @@ module _ {S O : Type 0} (gives : Giving S) (takes : Taking O) where
     )
 
     given_vainly : (a : Answer) (why : SliceFault) (given : Result (Unit {0}) ProcessFault)
-        → gives t kind (Ok (Some a)) u → GivesAnswer mid a given new
+        → gives t question (Ok (Some a)) u → GivesAnswer mid a given new
         → ◌≡◌ {A = Result Bool SliceFault} (Err why) (taken_by given)
         → SlicesInVain gives takes (working old) fuel why (failing new) s u o q
     given_vainly a why (Ok done) asked h e = absurd (cc)
@@ -685,8 +688,8 @@ module _ {S O : Type 0} (gives : Giving S) (takes : Taking O) where
         λ z. SlicesInVain gives takes (working old) fuel z (failing new) s u o q in
         subst P same (refused_by a stopped asked h)
 
-    vainly_by : (said : Result (Option Answer) SourceFault) (why : SliceFault) → gives t kind said u
-        → AnswersBy mid said (Err why) new
+    vainly_by : (said : Result (Option Answer) SourceFault) (why : SliceFault)
+        → gives t question said u → AnswersBy mid said (Err why) new
         → SlicesInVain gives takes (working old) fuel why (failing new) s u o q
     vainly_by (Err e) why asked answers =
         let is = answers.0 in
@@ -703,6 +706,6 @@ module _ {S O : Type 0} (gives : Giving S) (takes : Taking O) where
     vainly_by (Ok (Some a)) why asked answers =
         given_vainly a why answers.0 asked answers.1 answers.2
 
-    pub vainly : (why : SliceFault) → AsksOnce gives kind mid (Err why) new t u
+    pub vainly : (why : SliceFault) → AsksOnce gives question mid (Err why) new t u
         → SlicesInVain gives takes (working old) fuel why (failing new) s u o q
     vainly why once = vainly_by once.said why once.asked once.answers

@@ -1,4 +1,4 @@
--- A slice that fails behind one whose fuel is spent is one slice that fails.
+-- A slice that fails after one whose fuel is spent is one slice that fails.
 use Rattle.std.proofs.Common.{◌≡◌, ℕ, ◌+◌, ◌<◌, ◌≤◌, List, ◌++◌, Option, sym, ◌∙◌, ap, arith}
 use Rattle.std.proofs.Common.{append_assoc}
 use Rattle.wasi_abi.specs.declared.answer.Answer.{Answer}
@@ -24,8 +24,8 @@ module _ (guest : Guest) (p q : ProcessState) (xs : List Exchange) (n : ℕ)
       → LeadsUpTo guest q ys k r given → LeadsUpTo guest p (xs ++ ys) (n + k) r given
   up_to_join r ys k given h = record {
     front = xs ++ h.front;
-    kind = h.kind;
-    is = ap (λ z. xs ++ z) h.is ∙ sym (append_assoc xs h.front (last_answer h.kind given));
+    question = h.question;
+    is = ap (λ z. xs ++ z) h.is ∙ sym (append_assoc xs h.front (last_answer h.question given));
     leads = leads_join guest p q r xs h.front n k leads h.leads;
     answered = answered_join xs h.front answered h.answered;
   }
@@ -67,7 +67,7 @@ module _ (guest : Guest) (p q : ProcessState) (xs : List Exchange) (n : ℕ)
     cause_join f g fault.Memory spent h = let less : k < g = h.0 in
         (omega arith, h.1, h.2, h.3, up_to_join r ys k h.3 h.4)
     cause_join f g fault.Failed spent h = absurd h
-    cause_join f g (fault.Refused (refusal.Front why)) spent h = absurd h
+    cause_join f g (fault.Refused (refusal.Module why)) spent h = absurd h
     cause_join f g (fault.Refused refusal.StepsSpent) spent h = let less : k < g = h.0 in
         (omega arith, h.1, h.2, up_to_join r ys k h.2 h.3, h.4)
 

@@ -3,10 +3,10 @@ use Rattle.std.proofs.Common.{◌≡◌, ℕ, suc, ◌+◌, ◌≤◌, List, [],
 use Rattle.std.proofs.Common.{refl, sym, ◌∙◌, ap, subst, arith, append_assoc}
 use Rattle.std.specs.Prelude.{◌≢◌}
 use Rattle.std.proofs.lemmas.List.{append-nil}
-use Rattle.wasi_abi.specs.declared.answer.Kind.{Kind}
-use Rattle.wasi_abi.specs.declared.answer.Kind.TheVariants as kind
+use Rattle.wasi_abi.specs.declared.answer.Question.{Question}
+use Rattle.wasi_abi.specs.declared.answer.Question.TheVariants as question
 use Rattle.wasi_abi.specs.declared.answer.Answer.{Answer}
-use Rattle.wasi_calls_rules.specs.Hosts.{Line}
+use Rattle.wasi_calls_rules.specs.WasiStates.{Line}
 use Rattle.process_rules.specs.Processes.{ProcessState, Guest}
 use Rattle.process_rules.specs.Runs.{Wants, next_of, Moves, Kept, Given, Runs, none, take}
 use Rattle.process_rules.proofs.Quiet.{runs_join, quiet_runs_are_runs}
@@ -17,7 +17,7 @@ use Rattle.record_replay.specs.rules.Calls.{all_taken}
 use Rattle.record_replay.proofs.Following.{exchanges_join, releases_of-append, lines_in_order}
 use Rattle.process.specs.rules.Values.{ProcessValue, ShowsProcess, waiting_in}
 use Rattle.process.specs.rules.Stops.{ComesOwing}
-use Rattle.ephemeral_worker.specs.rules.Slices.{handed, SliceLeadsTo, AreAnswered, LeadsToWish}
+use Rattle.ephemeral_worker.specs.rules.Slices.{handed, SliceLeadsTo, AreAnswered, LeadsToQuestion}
 use Rattle.ephemeral_worker.specs.rules.Slices.{AreWanted}
 use Rattle.ephemeral_worker.specs.rules.Faults.{EmitsLast}
 use Rattle.record_replay.specs.rules.Waiting.{first_waiting, ReleasesAll}
@@ -143,7 +143,7 @@ module _ {S O : Type 0} (gives : Giving S) (takes : Taking O) where
           counted = omega arith;
           leads = record {
             front = g.exchanges;
-            kind = kind.Realtime;
+            question = question.Realtime;
             is = sym (append-nil g.exchanges);
             leads = record {
               runs =
@@ -164,10 +164,11 @@ module _ {S O : Type 0} (gives : Giving S) (takes : Taking O) where
               ∙ ap (λ z. z ++ waiting_in new) (sym quiet.1);
         }
 
-    -- what was asked for is the process's wish
-    pub wish : (kind : Kind) → waiting_in now ≡ [] → g.process.ended ≡ None
-        → next_of guest g.process None ≡ Wants kind → LeadsToWish guest p g.exchanges kind
-    wish kind empty running wants = record {
+    -- what was asked for is the process's question
+    pub leads_to_question : (question : Question) → waiting_in now ≡ [] → g.process.ended ≡ None
+        → next_of guest g.process None ≡ Wants question → LeadsToQuestion guest p
+        g.exchanges question
+    leads_to_question question empty running wants = record {
       steps = g.steps;
       process = g.process;
       leads = leads empty;
@@ -177,7 +178,7 @@ module _ {S O : Type 0} (gives : Giving S) (takes : Taking O) where
     }
 
     -- one more question
-    module _ (u : S) (ask : Ask) (asked : gives t ask.kind ask.said u) where
+    module _ (u : S) (ask : Ask) (asked : gives t ask.question ask.said u) where
       asked_alone : Exchanges gives takes t q (Asks ask ∷ []) u q
       asked_alone = record { asked = (u, asked, refl); released = refl }
 
@@ -191,13 +192,13 @@ module _ {S O : Type 0} (gives : Giving S) (takes : Taking O) where
           ∙ append-nil (releases_of g.exchanges) ∙ g.released
 
     -- an answer that the process has taken
-    unfoldable pub answer_on : (u : S) (kind : Kind) (a : Answer) (r : ProcessState)
-        → gives t kind (Ok (Some a)) u → waiting_in now ≡ [] → LeadsToWish guest p g.exchanges kind
-        → Moves guest g.process (Some a) r → ShowsProcess new guest r
-        → new.host.released ≡ now.host.released → g.steps + 1 ≤ fuel
+    unfoldable pub answer_on : (u : S) (question : Question) (a : Answer) (r : ProcessState)
+        → gives t question (Ok (Some a)) u → waiting_in now ≡ []
+        → LeadsToQuestion guest p g.exchanges question → Moves guest g.process (Some a) r
+        → ShowsProcess new guest r → new.host.released ≡ now.host.released → g.steps + 1 ≤ fuel
         → Goes old new fuel guest p s u o q
-    answer_on u kind a r asked empty wish moves shows same few =
-        let ask : Ask = record { kind = kind; said = Ok (Some a) } in
+    answer_on u question a r asked empty led moves shows same few =
+        let ask : Ask = record { question = question; said = Ok (Some a) } in
         let one : Runs guest g.process (Given a ∷ []) 1 r = take moves none in
         let joined =
         runs_join guest p g.process r (handed (asks_of g.exchanges)) (Given a
@@ -205,7 +206,7 @@ module _ {S O : Type 0} (gives : Giving S) (takes : Taking O) where
         record {
           exchanges = g.exchanges ++ (Asks ask ∷ []);
           exchanged = asked_more u ask asked;
-          wanted = wanted_ask guest p g.exchanges ask g.wanted wish;
+          wanted = wanted_ask guest p g.exchanges ask g.wanted led;
           answered = answered_join g.exchanges (Asks ask
               ∷ []) g.answered (record { all = ((a, refl), tt) });
           steps = g.steps + 1;
@@ -222,7 +223,7 @@ module _ {S O : Type 0} (gives : Giving S) (takes : Taking O) where
             counted = omega arith;
             leads = record {
               front = g.exchanges;
-              kind = kind;
+              question = question;
               is = refl;
               leads = leads empty;
               answered = g.answered;

@@ -3,7 +3,7 @@ use Rattle.std.proofs.Common.{◌≡◌, ℕ, suc, ◌+◌, List, [], ◌∷◌,
 use Rattle.std.proofs.Common.{ap, subst, inl, inr, ◌⊎◌, arith, append_assoc, length-append}
 use Rattle.std.proofs.lemmas.List.{append-nil}
 use Rattle.std.specs.List.{AllByRecursion}
-use Rattle.wasi_abi.specs.declared.answer.Kind.{Kind}
+use Rattle.wasi_abi.specs.declared.answer.Question.{Question}
 use Rattle.process_rules.specs.Processes.{ProcessState, Guest}
 use Rattle.process_rules.specs.Runs.{Runs}
 use Rattle.process_rules.proofs.Quiet.{runs_join}
@@ -12,7 +12,7 @@ use Rattle.record_replay.specs.rules.Calls.{all_taken}
 use Rattle.record_replay.proofs.Following.{asks_of-append, releases_of-append, lines_in_order}
 use Rattle.ephemeral_worker.specs.rules.Slices.{handed, handed_by, SliceLeadsTo, HasAnswer}
 use Rattle.ephemeral_worker.specs.rules.Slices.{AreAnswered}
-use Rattle.ephemeral_worker.specs.rules.Slices.{LeadsToWish, AreWanted}
+use Rattle.ephemeral_worker.specs.rules.Slices.{LeadsToQuestion, AreWanted}
 
 -- ---- answers
 
@@ -43,7 +43,7 @@ answered_join xs ys h k =
           (all_answered (asks_of xs) (asks_of ys) h.all k.all);
     }
 
--- ---- where in two lists a call stands
+-- ---- where in two lists a call is
 
 cons_same : (a b : Exchange) (xs ys : List Exchange) → a ≡ b → xs ≡ ys → a ∷ xs ≡ b ∷ ys
 cons_same a b xs ys e f = cc
@@ -134,10 +134,10 @@ asked_leads guest p q xs n ask nothing a =
       released = releases_of-append xs (Asks ask ∷ []) ∙ append-nil (releases_of xs) ∙ a.released;
     }
 
-wish_join : (guest : Guest) (p q : ProcessState) (xs front : List Exchange) (n : ℕ) (kind : Kind)
-    → SliceLeadsTo guest p xs n q → AreAnswered xs → LeadsToWish guest q front kind
-    → LeadsToWish guest p (xs ++ front) kind
-wish_join guest p q xs front n kind a answered b = record {
+question_join : (guest : Guest) (p q : ProcessState) (xs front : List Exchange) (n : ℕ)
+    (question : Question) → SliceLeadsTo guest p xs n q → AreAnswered xs
+    → LeadsToQuestion guest q front question → LeadsToQuestion guest p (xs ++ front) question
+question_join guest p q xs front n question a answered b = record {
   steps = n + b.steps;
   process = b.process;
   leads = leads_join guest p q b.process xs front n b.steps a b.leads;
@@ -157,22 +157,22 @@ pub wanted_join : (guest : Guest) (p q : ProcessState) (xs ys : List Exchange) (
 wanted_join guest p q xs ys n before leads answered after = λ front rest ask e.
     elim (split_at xs ys front rest (Asks ask) e) [
       | inl k ↦ before front k.0 ask k.1
-      | inr k ↦ subst (λ z. LeadsToWish guest p z ask.kind) (sym k.1)
-          (wish_join guest p q xs k.0 n ask.kind leads answered (after k.0 rest ask k.2))
+      | inr k ↦ subst (λ z. LeadsToQuestion guest p z ask.question) (sym k.1)
+          (question_join guest p q xs k.0 n ask.question leads answered (after k.0 rest ask k.2))
     ]
 
 pub wanted_ask : (guest : Guest) (p : ProcessState) (xs : List Exchange) (ask : Ask)
-    → AreWanted guest p xs → LeadsToWish guest p xs ask.kind
+    → AreWanted guest p xs → LeadsToQuestion guest p xs ask.question
     → AreWanted guest p (xs ++ (Asks ask ∷ []))
-wanted_ask guest p xs ask before wish = λ front rest other e.
+wanted_ask guest p xs ask before led = λ front rest other e.
     elim (split_at xs (Asks ask ∷ []) front rest (Asks other) e) [
       | inl k ↦ before front k.0 other k.1
       | inr k ↦
           let alone = one_alone k.0 rest (Asks ask) (Asks other) k.2 in
           let same : ask ≡ other = asked_same ask other alone.1 in
           let there : xs ≡ front = sym (k.1 ∙ ap (λ z. xs ++ z) alone.0 ∙ append-nil xs) in
-          subst (λ z. LeadsToWish guest p front z.kind) same
-          (subst (λ z. LeadsToWish guest p z ask.kind) there wish)
+          subst (λ z. LeadsToQuestion guest p front z.question) same
+          (subst (λ z. LeadsToQuestion guest p z ask.question) there led)
     ]
   where
     asked_same : (a b : Ask) → ◌≡◌ {A = Exchange} (Asks a) (Asks b) → a ≡ b

@@ -6,9 +6,10 @@ use Rattle.machine.specs.declared.instance.fault.LinkFault.{LinkFault}
 use Rattle.machine.specs.rules.Offers.{offer}
 use Rattle.machine.specs.rules.Refusals.{IsRefused as IsUnlinked, LinkDenies as DeniesLink}
 use Rattle.record_replay.specs.rules.Calls.{Giving, Taking}
-use Rattle.machine_loader.specs.declared.fault.FrontFault.{FrontFault}
-use Rattle.machine_loader.specs.declared.fault.FrontFault.TheVariants.{Link}
-use Rattle.machine_loader.specs.rules.Acceptance.{IsRead, IsTold, IsToldOfReading, FrontDenies}
+use Rattle.machine_loader.specs.declared.fault.ModuleFault.{ModuleFault}
+use Rattle.machine_loader.specs.declared.fault.ModuleFault.TheVariants.{Link}
+use Rattle.machine_loader.specs.rules.Acceptance.{IsRead, IsReported, IsReportedOfReading}
+use Rattle.machine_loader.specs.rules.Acceptance.{ModuleFaultDenies}
 use Rattle.machine_loader.specs.rules.Acceptance.{HasNoValidModule, HasNoAcceptedModule, is_want}
 use Rattle.machine_loader.proofs.Refused.{denied, told, not_linkable}
 use Rattle.machine_loader.proofs.Wants.{no_want}
@@ -20,15 +21,15 @@ use Rattle.ephemeral_worker.specs.rules.Refusals.{refusal_by, refusal_of}
 
 -- ---- refusals
 
-refused_as : (pages : ℕ) (bytes : List ℕ) (e : FrontFault) (b : Bool) → is_want e ≡ b
-    → IsTold pages bytes e → FrontDenies e (HasNoAcceptedModule pages bytes)
+refused_as : (pages : ℕ) (bytes : List ℕ) (e : ModuleFault) (b : Bool) → is_want e ≡ b
+    → IsReported pages bytes e → ModuleFaultDenies e (HasNoAcceptedModule pages bytes)
     → IsRefusedByWorker pages bytes (refusal_by b e)
 refused_as pages bytes e true is h none = tt
 refused_as pages bytes e false is h none =
     (is, h, no_want e (HasNoAcceptedModule pages bytes) is none)
 
-pub unread : (pages : ℕ) (bytes : List ℕ) (e : FrontFault) → IsToldOfReading bytes e
-    → FrontDenies e (HasNoValidModule bytes) → IsRefusedByWorker pages bytes (refusal_of e)
+pub unread : (pages : ℕ) (bytes : List ℕ) (e : ModuleFault) → IsReportedOfReading bytes e
+    → ModuleFaultDenies e (HasNoValidModule bytes) → IsRefusedByWorker pages bytes (refusal_of e)
 unread pages bytes e h none =
     refused_as pages bytes e (is_want e) refl (told pages bytes e h) (denied pages bytes e none)
 

@@ -1,6 +1,6 @@
 -- What a worker is before and after a call has failed, and what asking for an answer does.
 use Rattle.std.specs.Prelude.{◌≡◌, Bool, true, false, Option, Some, None, Result, Ok, Err}
-use Rattle.wasi_abi.specs.declared.answer.Kind.{Kind}
+use Rattle.wasi_abi.specs.declared.answer.Question.{Question}
 use Rattle.wasi_abi.specs.declared.answer.Answer.{Answer}
 use Rattle.record_replay.specs.declared.fault.SourceFault.{SourceFault}
 use Rattle.record_replay.specs.rules.Calls.{Giving}
@@ -34,8 +34,8 @@ AnswersBy old (Ok None) result new = (result ≡ Ok false) × (new ≡ old)
 AnswersBy old (Ok (Some a)) result new = (given : Result (Unit {0}) ProcessFault)
     × GivesAnswer old a given new × (result ≡ taken_by given)
 
-pub record AsksOnce {S : Type 0} (gives : Giving S) (kind : Kind) (old : ProcessValue)
+pub record AsksOnce {S : Type 0} (gives : Giving S) (question : Question) (old : ProcessValue)
     (result : Result Bool SliceFault) (new : ProcessValue) (source source' : S) : Type 0 where
   pub said : Result (Option Answer) SourceFault
-  pub asked : gives source kind said source'
+  pub asked : gives source question said source'
   pub answers : AnswersBy old said result new

@@ -1,12 +1,12 @@
 //! Why a worker fails.
 
 ghost use Rattle.std.specs.Prelude.{◌≡◌};
-ghost use Rattle.machine_loader.specs.declared.fault.FrontFault.TheVariants as front;
+ghost use Rattle.machine_loader.specs.declared.fault.ModuleFault.TheVariants as module_fault;
 ghost use Rattle.ephemeral_worker.specs.rules.Refusals.{slice_fault, refusal_of};
 ghost use Rattle.ephemeral_worker.specs.declared.fault.SliceFault.TheVariants as slice;
 
 use machine::LinkFault;
-use machine_loader::FrontFault;
+use machine_loader::ModuleFault;
 use process::ProcessFault;
 use record_replay::OutletFault;
 use thiserror::Error;
@@ -15,7 +15,7 @@ use thiserror::Error;
 #[derive(Clone, Copy, Debug, PartialEq, Eq, Error)]
 pub enum Refusal {
     #[error("{0}")]
-    Front(FrontFault),
+    Module(ModuleFault),
     /// Steps and lines are numbered below 2^63, and the next step would go beyond.
     #[error("P3 StepsSpent")]
     StepsSpent,
@@ -58,22 +58,22 @@ impl From<OutletFault> for SliceFault {
     }
 }
 
-impl From<FrontFault> for SliceFault {
+impl From<ModuleFault> for SliceFault {
     ghost from_gives = { λ fault e. e ≡ refusal_of fault };
 
-    fn from(fault: FrontFault) -> SliceFault {
+    fn from(fault: ModuleFault) -> SliceFault {
         if fault.is_want_of_memory() {
             SliceFault::Memory
         } else {
-            SliceFault::Refused(Refusal::Front(fault))
+            SliceFault::Refused(Refusal::Module(fault))
         }
     }
 }
 
 impl From<LinkFault> for SliceFault {
-    ghost from_gives = { λ fault e. e ≡ refusal_of (front.Link fault) };
+    ghost from_gives = { λ fault e. e ≡ refusal_of (module_fault.Link fault) };
 
     fn from(fault: LinkFault) -> SliceFault {
-        SliceFault::from(FrontFault::Link(fault))
+        SliceFault::from(ModuleFault::Link(fault))
     }
 }

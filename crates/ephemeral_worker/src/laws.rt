@@ -9,7 +9,7 @@ pub fn slices_add<S: Source, O: Outlet>()
     ensures { SlicesAdd S.gives O.takes }
 {}
 
-/// A slice that fails behind one that took all its steps is one that fails.
+/// A slice that fails after one that took all its steps is one that fails.
 pub fn slices_add_in_vain<S: Source, O: Outlet>()
     ensures { SlicesAddInVain S.gives O.takes }
 {}

@@ -2,7 +2,7 @@
 //! outside.
 
 ghost use Rattle.std.specs.Prelude.{◌≡◌, [], IfOk, IfErr};
-ghost use Rattle.wasi_abi.specs.declared.answer.Kind.{Kind};
+ghost use Rattle.wasi_abi.specs.declared.answer.Question.{Question};
 ghost use Rattle.process.specs.rules.Values.{waiting_in};
 ghost use Rattle.ephemeral_worker.specs.rules.Slices.{Slices};
 ghost use Rattle.ephemeral_worker.specs.rules.Faults.{SlicesInVain};
@@ -12,7 +12,7 @@ use crate::fault::SliceFault;
 use crate::now::Now;
 use process::{Process, Stop};
 use record_replay::{Outlet, Source, release_waiting};
-use wasi_abi::Kind;
+use wasi_abi::Question;
 
 /// Takes at most `fuel` steps. Each line is released, and each answer asked for, before the next
 /// step.
@@ -31,13 +31,13 @@ pub(crate) fn work<S: Source, O: Outlet>(
 {
     let first = process.steps();
     loop {
-        let left = fuel - (process.steps() - first);
-        match process.advance(left)? {
+        let fuel_left = fuel - (process.steps() - first);
+        match process.advance(fuel_left)? {
             Stop::Owes => release_waiting(process, outlet)?,
             Stop::Ended(how) => return Ok(Now::Ended(how)),
             Stop::Spent => return Ok(Now::Spent),
-            Stop::Asks(kind) => {
-                if !ask(process, kind, source)? {
+            Stop::Asks(question) => {
+                if !ask(process, question, source)? {
                     return Ok(Now::Waiting);
                 }
             }
@@ -46,11 +46,15 @@ pub(crate) fn work<S: Source, O: Outlet>(
 }
 
 /// Asks the source once, and gives the process the answer, where there is one. Whether there was.
-fn ask<S: Source>(process: &mut Process, kind: Kind, source: &mut S) -> Result<bool, SliceFault>
-    ensures once { AsksOnce S.gives kind process.old result process.new source.old source.new }
+fn ask<S: Source>(
+    process: &mut Process,
+    question: Question,
+    source: &mut S,
+) -> Result<bool, SliceFault>
+    ensures once { AsksOnce S.gives question process.old result process.new source.old source.new }
     ensures released { process.new.host.released ≡ process.old.host.released }
 {
-    match source.answer(kind) {
+    match source.answer(question) {
         Err(_) => Err(SliceFault::Source),
         Ok(None) => Ok(false),
         Ok(Some(answer)) => match process.give(answer) {

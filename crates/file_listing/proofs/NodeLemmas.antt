@@ -56,7 +56,7 @@ own_place least (m ∷ ns) next (suc i) n rising at =
     let apart : m.number ≢ n.number = λ e. omega (arith, above, e) in
     (omega (arith, above, below), rw (ne_eqb m.number n.number apart) later.1)
 
--- what stands at a place: a node that is found by its number
+-- what is at a place: a node that is found by its number
 pub place_found : (fs : Files) (i k : ℕ) → IsFiles fs → number_at fs i ≡ Some k
     → (n : FileNode) × (slice_get fs.nodes i ≡ Some n) × (node_of fs k ≡ Some n)
     × (n.number ≡ k)

@@ -8,7 +8,7 @@ use Rattle.file_tree.specs.rules.Changes.{path_at, IsParent}
 use Rattle.file_listing.specs.rules.Listed.{path_text}
 use Rattle.file_listing.specs.Separators.{separator_behind}
 
--- the text of a path with a name behind it
+-- the text of a path with a name after it
 pub text_behind : (p : Path) (name : Name)
     → path_text (p ++ name ∷ []) ≡ path_text p ++ (separator_behind p ++ name)
 text_behind [] name = refl
@@ -36,7 +36,7 @@ top_path fs k none = by (path_of fs k) none where
   by None none = refl
   by (Some p) none = no_names p (λ front name e. none front name (ap (λ (q : Path). Some q) e))
 
--- what stands behind a directory that is below another one
+-- what is after a directory that is below another one
 pub separator_below : (fs : Files) (d above : ℕ) → IsParent fs d above
     → slash ∷ [] ≡ separator_behind (path_at fs d)
 separator_below fs d above is =
@@ -70,7 +70,7 @@ pub spelled_top : (fs : Files) (k : ℕ) (text : List ℕ)
 spelled_top fs k text none =
     sym (append-nil text) ∙ ap (λ (p : Path). text ++ path_text p) (sym (top_path fs k none))
 
--- what is put behind a text where there is memory for it
+-- what is put after a text where there is memory for it
 pub put_behind : {E : Type 0} (r : Result (Unit {0}) E) (old more new : List ℕ)
     → new ≡ (if is_ok r then old ++ more else old) → OnOk r (new ≡ old ++ more)
 put_behind (Ok done) old more new is = is

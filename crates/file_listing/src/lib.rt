@@ -3,20 +3,20 @@
 //! # Promises
 //!
 //! - `list_nodes`: the nodes that have a path, but for the root, by rising numbers. Each has its
-//!   number, whether it is a directory, its size and its path (`listing_in`). A node that was removed
-//!   isn't among them, though a descriptor may name it still.
+//!   number, whether it is a directory, its size and its path (`listing_in`). A node that was
+//!   removed isn't among them, though a descriptor may name it still.
 //! - `read_path`: the bytes of the file that is listed under a path. Or it says that no node is
-//!   listed so, or that it is a directory (`reads`).
+//!   listed so, or that it is a directory (`ReadsPath`).
 //!
 //! # Definitions to read
 //!
-//! In `specs/rules/`: `path_text`, `listing_in`, `ReadsPath` (`Listed.antt`). They speak in the words of
-//! `file_tree`.
+//! In `specs/rules/`: `path_text`, `listing_in`, `ReadsPath` (`Listed.antt`). They speak in the
+//! words of `file_tree`.
 //!
 //! # Who may touch what
 //!
-//! A tree is only asked. Both functions take memory, and want of it is the only error of the first
-//! one.
+//! A tree is only asked. Both functions take memory, and out of memory is the only error of the
+//! first one.
 //!
 //! # Choices
 //!

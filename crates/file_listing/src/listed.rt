@@ -1,6 +1,6 @@
 //! A node of a list.
 
-use wasm_syntax::Row;
+use wasm_syntax::ItemList;
 
 /// A node that has a path.
 #[derive(Debug, Drop)]
@@ -10,5 +10,5 @@ pub struct ListedNode {
     /// How many bytes a file has; a directory has none.
     pub size: u64,
     /// Its names from the root on, with a `/` between each two.
-    pub path: Row<u8>,
+    pub path: ItemList<u8>,
 }

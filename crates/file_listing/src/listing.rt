@@ -9,9 +9,9 @@ ghost use Rattle.file_listing.specs.Separators.{separator_behind};
 use crate::listed::ListedNode;
 use file_tree::Tree;
 use std::alloc::{AllocError, Global};
-use wasm_syntax::Row;
+use wasm_syntax::ItemList;
 
-/// What stands between the path of a directory and a name in it: nothing behind the root.
+/// What is between the path of a directory and a name in it: nothing after the root.
 fn separator(tree: &Tree, directory: u64) -> &'static [u8]
     ensures { result.now ≡ separator_behind (path_at tree.now directory) }
 {
@@ -21,7 +21,7 @@ fn separator(tree: &Tree, directory: u64) -> &'static [u8]
     }
 }
 
-/// Puts the text of a node's path behind another one: nothing of the root.
+/// Puts the text of a node's path after another one: nothing of the root.
 fn spell_path(tree: &Tree, number: u64, text: &mut Vec<u8>) -> Result<(), AllocError>
     ensures { OnOk result (text.new.items ≡ text.old.items ++ path_text (path_at tree.now number)) }
 {
@@ -47,11 +47,11 @@ fn listed_node(alloc: Global, tree: &Tree, number: u64) -> Result<Option<ListedN
         number,
         is_directory: tree.is_directory(number),
         size: tree.size(number),
-        path: Row::from_vec(path),
+        path: ItemList::from_vec(path),
     }))
 }
 
-/// Puts a node behind others, where there is one.
+/// Puts a node after others, where there is one.
 fn push_some(nodes: &mut Vec<ListedNode>, node: Option<ListedNode>) -> Result<(), AllocError>
     ensures { OnOk result (nodes.new.items ≡ nodes.old.items ++ option_to_list node) }
 {
@@ -61,8 +61,8 @@ fn push_some(nodes: &mut Vec<ListedNode>, node: Option<ListedNode>) -> Result<()
     Ok(())
 }
 
-/// The nodes of a tree that have a path, but for the root, by rising numbers. Only want of memory
-/// makes it fail.
+/// The nodes of a tree that have a path, but for the root, by rising numbers. It fails only when
+/// out of memory.
 pub fn list_nodes(alloc: Global, tree: &Tree) -> Result<Vec<ListedNode>, AllocError>
     ensures { IfOk result (λ nodes. nodes.items ≡ listing_in tree.now) }
 {

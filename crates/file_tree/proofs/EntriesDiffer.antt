@@ -29,7 +29,7 @@ found_held (m ∷ ns) k n e = by (eqb m.number k) (found_held ns k n) e where
   by true later e = inl (some_is m n e)
   by false later e = inr (later e)
 
--- two entries of one name stand at one place
+-- two entries of one name are at one place
 one_name : (es : List Entry) (i j : ℕ) (e f : Entry) → Ordered es → slice_get es i ≡ Some e
     → slice_get es j ≡ Some f → e.name ≡ f.name → i ≡ j
 one_name [] i j e f order a b same = absurd cc

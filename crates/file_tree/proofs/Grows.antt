@@ -15,8 +15,8 @@ use Rattle.file_tree.specs.declared.store.node.Node.{Node}
 use Rattle.file_tree.specs.rules.Files.{Name, Path, FileNode, Files, Content, IsNodeName}
 use Rattle.file_tree.specs.rules.Files.{IsSmallContent, bytes_of_content, created, path_of, at}
 use Rattle.file_tree.specs.rules.Files.{is_at}
-use Rattle.file_tree.specs.declared.kind.NodeKind.{NodeKind}
-use Rattle.file_tree.specs.declared.kind.NodeKind.TheVariants as kind
+use Rattle.file_tree.specs.declared.node_type.NodeType.{NodeType}
+use Rattle.file_tree.specs.declared.node_type.NodeType.TheVariants as node_types
 use Rattle.file_tree.specs.declared.limits.TheConstants.{NODES}
 use Rattle.file_tree.specs.rules.Changes.{IsFree, path_at, empty}
 use Rattle.file_tree.specs.Links.{Up, climb, IsTree, node_in, hook_held, hook_of, content_held}
@@ -345,19 +345,19 @@ module _ (ns : List Node) (next d : ℕ) (name : Name) (p up : Path) (c : Conten
     e,
   )
 
-pub empty_is_small : (k : NodeKind) → IsSmallContent (empty k)
+pub empty_is_small : (k : NodeType) → IsSmallContent (empty k)
     × (length (bytes_of_content (empty k)) ≡ 0)
-empty_is_small kind.Directory = (tt, refl)
-empty_is_small kind.File = ((omega arith, tt), refl)
+empty_is_small node_types.Directory = (tt, refl)
+empty_is_small node_types.File = ((omega arith, tt), refl)
 
 -- all of it, where files are what the nodes show
-pub record IsMade (ns : List Node) (next d : ℕ) (name : Name) (k : NodeKind) (n : Node)
+pub record IsMade (ns : List Node) (next d : ℕ) (name : Name) (k : NodeType) (n : Node)
     (fs : Files) : Type 0 where
   pub nodes : AreNodes (ns ++ n ∷ []) (next + 1)
   pub files_are : files (ns ++ n ∷ []) (next + 1) ≡ created (path_at fs d ++ name ∷ []) (empty k) fs
   pub used : used_in (ns ++ n ∷ []) ≡ used_in ns
 
-pub is_made : (ns : List Node) (next d : ℕ) (name : Name) (k : NodeKind) (n : Node) (fs : Files)
+pub is_made : (ns : List Node) (next d : ℕ) (name : Name) (k : NodeType) (n : Node) (fs : Files)
     → files ns next ≡ fs → AreNodes ns next → IsFree fs d name → length fs.nodes < NODES
     → n.number ≡ next → n.hook ≡ In d name → content_shown n.content ≡ empty k
     → IsMade ns next d name k n fs

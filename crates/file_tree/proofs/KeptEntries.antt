@@ -4,7 +4,7 @@ use Rattle.std.proofs.Common.{[], ◌∷◌, ◌++◌, length, map, take, Option
 use Rattle.std.proofs.Common.{subst, ◌∙◌, arith}
 use Rattle.std.specs.Prelude.{find, slice_get, is_some}
 use Rattle.std.specs.Option.{option_and_then}
-use Rattle.file_tree.specs.declared.kind.NodeKind.{NodeKind}
+use Rattle.file_tree.specs.declared.node_type.NodeType.{NodeType}
 use Rattle.file_tree.specs.declared.limits.TheConstants.{NODES}
 use Rattle.file_tree.specs.declared.store.node.Hook.TheVariants.{Removed}
 use Rattle.file_tree.specs.declared.store.node.Node.{Node}
@@ -109,15 +109,20 @@ module _ (k : ℕ) (bytes : List ℕ) where
 
 -- ---- all of it
 
-created_keeps : (fs : Files) (k : ℕ) (kind : NodeKind) → IsFiles fs → fs.next ≤ k
-    → length fs.nodes < NODES → HaveSameEntries fs (created_removed k (empty kind) fs)
-created_keeps fs k kind are most room =
-    let x : Node = record { number = k; hook = Removed; content = content_kept (empty kind) } in
+created_keeps : (fs : Files) (k : ℕ) (node_type : NodeType) → IsFiles fs → fs.next ≤ k
+    → length fs.nodes < NODES → HaveSameEntries fs (created_removed k (empty node_type) fs)
+created_keeps fs k node_type are most room =
+    let x : Node = record {
+      number = k;
+      hook = Removed;
+      content = content_kept
+          (empty node_type);
+    } in
     let added =
-    is_added (rebuilt fs are) fs.next kind x fs (rebuilt_show fs are) (rebuilt_are fs are) most room
-    refl (content_same (empty kind)) in
-    let n : FileNode = record { number = k; path = None; content = empty kind } in
-    all_same fs (created_removed k (empty kind) fs) (record {
+    is_added (rebuilt fs are) fs.next node_type x fs (rebuilt_show fs are)
+    (rebuilt_are fs are) most room refl (content_same (empty node_type)) in
+    let n : FileNode = record { number = k; path = None; content = empty node_type } in
+    all_same fs (created_removed k (empty node_type) fs) (record {
       paths = path_pushed n refl fs.nodes;
       entries = λ p. entries_pushed n refl p fs.nodes;
     })

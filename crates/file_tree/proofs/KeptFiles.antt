@@ -5,7 +5,7 @@ use Rattle.std.proofs.Common.{List, [], ◌∷◌, ◌++◌, length, get_or, Som
 use Rattle.std.proofs.Common.{ap, subst, ◌∙◌, arith}
 use Rattle.std.specs.Prelude.{is_some}
 use Rattle.std.proofs.lemmas.Bool.{eqb-true, eq-eqb}
-use Rattle.file_tree.specs.declared.kind.NodeKind.{NodeKind}
+use Rattle.file_tree.specs.declared.node_type.NodeType.{NodeType}
 use Rattle.file_tree.specs.declared.store.node.Hook.TheVariants.{In}
 use Rattle.file_tree.specs.declared.store.node.NodeContent.TheVariants as content
 use Rattle.file_tree.specs.declared.store.node.Node.{Node}
@@ -28,7 +28,7 @@ use Rattle.file_tree.proofs.IsFiles.{are_files}
 use Rattle.file_tree.proofs.Rebuilt.{content_kept, content_same, rebuilt, rebuilt_are, rebuilt_show}
 use Rattle.file_tree.proofs.Rebuilt.{there}
 
--- where a node stands that is found
+-- where a node is that is found
 pub place_in : (ns : List Node) (k : ℕ) (n : Node) → node_in ns k ≡ Some n
     → (i : ℕ) × IsPlace ns k i
 place_in [] k n e = absurd (cc)
@@ -73,7 +73,7 @@ module _ (fs : Files) (are : IsFiles fs) where
   used_kept : used_in ns ≡ used fs
   used_kept = sym (used_shown ns fs.next) ∙ ap used ns_show
 
-  pub created_files : (d : ℕ) (name : Name) (k : NodeKind) → IsFree fs d name
+  pub created_files : (d : ℕ) (name : Name) (k : NodeType) → IsFree fs d name
       → length fs.nodes < NODES
       → AreWithin (created (path_at fs d ++ name ∷ []) (empty k) fs) (used fs)
   created_files d name k free few =

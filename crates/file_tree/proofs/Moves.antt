@@ -129,7 +129,7 @@ pub record IsMoved (ns : List Node) (next k i d : ℕ) (name : Name) (fs : Files
       ≡ renamed (path_at fs k) (path_at fs d ++ name ∷ []) fs
   pub used : used_in (changed (with_hook (In d name)) i ns) ≡ used_in ns
 
--- a front of the path would be an end of the way up
+-- a prefix of the path would be an end of the way up
 not_end : (old up : Path) → is_some (path_behind (reverse old) (reverse up)) ≡ false → (xs : Path)
     → up ≡ xs ++ old → ⊥
 not_end old up none xs e =

@@ -74,7 +74,7 @@ after_if : (d : ℕ) (name other : Name) (h : Hook) → h ≡ In d other → Bef
     → comes_after d name h ≡ true
 after_if d name other h e b = rw e (rw (eq-eqb d d refl, in_front name other b) refl)
 
--- in another directory all stand on one side
+-- in another directory all are on one side
 later_directory : (d e : ℕ) (name other : Name) → d ≢ e → Before (d ∷ name) (e ∷ other) → d < e
 later_directory d e name other ne (inl lt) = lt
 later_directory d e name other ne (inr h) = absurd (ne h.0)
@@ -98,7 +98,7 @@ hook_with (In d name) ne = (d, name, refl)
 abbrev Follows : Node → Node → Type 0
 Follows n m = IsBehind (address_of n.hook) (address_of m.hook)
 
--- a node stands behind an address, or doesn't
+-- a node is after an address, or doesn't
 abbrev pub NodeBehind : List ℕ → Node → Type 0
 NodeBehind from n = IsBehind from (address_of n.hook)
 
@@ -339,7 +339,7 @@ none_nearest d name (m ∷ ns) never =
 
 -- ---- it is the first one behind the cut, if that hangs in the directory
 
--- what comes after a name stands behind the cut
+-- what comes after a name is after the cut
 after_behind : (d : ℕ) (name : Name) (ns ms : List Node) (m : Node) → AreListed ns ms
     → HasElement ns m → comes_after d name m.hook ≡ true
     → (y : Name) × (m.hook ≡ In d y) × HasElement ms m × (NodeUpTo (d ∷ name) m → ⊥)

@@ -31,7 +31,7 @@ entry_named k name = record { name = name; number = k }
 abbrev entry_with : Node → Entry
 entry_with n = entry_named n.number (name_of_hook n.hook)
 
--- entries behind the one of this number and name, where there is a name
+-- entries after the one of this number and name, where there is a name
 abbrev behind_hooked : ℕ → List Entry → Option Name → List Entry
 behind_hooked k es name = with_entry (option_map (entry_named k) name) es
 
@@ -285,7 +285,7 @@ listed_more ns d i (suc more) none =
     subst (λ (k : ℕ). node_listed ns d k ≡ None) same
     (ap (next_node ns d) (listed_more ns d i more none))
 
--- behind the last one there is none
+-- after the last one there is none
 pub none_listed : (ns : List Node) (d i place : ℕ) → i ≤ place
     → node_listed ns d i ≡ None → node_listed ns d place ≡ None
 none_listed ns d i place le none =

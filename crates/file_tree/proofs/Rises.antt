@@ -1,4 +1,4 @@
--- A higher next number, and a node without a path behind the others.
+-- A higher next number, and a node without a path after the others.
 use Rattle.std.proofs.Common.{◌≡◌, ℕ, ◌+◌, ◌<◌, ◌≤◌, inl, inr, true, List, [], ◌∷◌, ◌++◌}
 use Rattle.std.proofs.Common.{length, map, reverse, Option, Some, None, refl, sym, ap, subst, ◌∙◌}
 use Rattle.std.proofs.Common.{arith}
@@ -12,7 +12,7 @@ use Rattle.file_tree.specs.declared.store.node.Hook.TheVariants.{Removed}
 use Rattle.file_tree.specs.declared.store.node.Node.{Node}
 use Rattle.file_tree.specs.rules.Files.{Path, FileNode, Files, Content, IsSmallContent}
 use Rattle.file_tree.specs.rules.Files.{bytes_of_content, created_removed, with_next}
-use Rattle.file_tree.specs.declared.kind.NodeKind.{NodeKind}
+use Rattle.file_tree.specs.declared.node_type.NodeType.{NodeType}
 use Rattle.file_tree.specs.declared.limits.TheConstants.{NODES}
 use Rattle.file_tree.specs.rules.Changes.{empty}
 use Rattle.file_tree.specs.Links.{climb, IsTree, node_in, hook_held, hook_of, content_held}
@@ -81,7 +81,7 @@ risen_files ns next most fs e are le =
 
 -- ---- a node without a path
 
--- it stands behind the others, whose numbers are below its own
+-- it is after the others, whose numbers are below its own
 record Adds (ns : List Node) (next : ℕ) (c : Content) (n : Node) : Type 0 where
   are : AreNodes ns next
   most : next ≤ n.number
@@ -166,27 +166,28 @@ module _ (ns : List Node) (next : ℕ) (c : Content) (n : Node) (a : Adds ns nex
       omega (arith, sum_by_push (λ (x : Node). length (file_bytes_of x)) ns n, none)
 
 -- all of it, where files are what the nodes show
-pub record IsAdded (ns : List Node) (kind : NodeKind) (n : Node) (fs : Files) : Type 0 where
+pub record IsAdded (ns : List Node) (node_type : NodeType) (n : Node) (fs : Files) : Type 0 where
   pub nodes : AreNodes (ns ++ n ∷ []) (n.number + 1)
-  pub files_are : files (ns ++ n ∷ []) (n.number + 1) ≡ created_removed n.number (empty kind) fs
+  pub files_are : files (ns ++ n ∷ []) (n.number + 1) ≡ created_removed n.number
+      (empty node_type) fs
   pub used : used_in (ns ++ n ∷ []) ≡ used_in ns
 
-pub is_added : (ns : List Node) (next : ℕ) (kind : NodeKind) (n : Node) (fs : Files)
+pub is_added : (ns : List Node) (next : ℕ) (node_type : NodeType) (n : Node) (fs : Files)
     → files ns next ≡ fs → AreNodes ns next → next ≤ n.number → length fs.nodes < NODES
-    → n.hook ≡ Removed → content_shown n.content ≡ empty kind → IsAdded ns kind n fs
-is_added ns next kind n fs e are most room hook content =
-    let a : Adds ns next (empty kind) n =
+    → n.hook ≡ Removed → content_shown n.content ≡ empty node_type → IsAdded ns node_type n fs
+is_added ns next node_type n fs e are most room hook content =
+    let a : Adds ns next (empty node_type) n =
     record { are = are; most = most; hook = hook; content = content } in
     let few : length ns < NODES =
     let as_many = ap (λ (x : Files). length x.nodes) e in
     omega (arith, room, as_many, length-map ns (shown_node next (hook_of ns))) in
-    let none = empty_is_small kind in
+    let none = empty_is_small node_type in
     record {
-      nodes = added_nodes ns next (empty kind) n a few none.0;
+      nodes = added_nodes ns next (empty node_type) n a few none.0;
       files_are =
-          added_files ns next (empty kind) n a
-          ∙ ap (created_removed n.number (empty kind)) e;
-      used = added_used ns next (empty kind) n a none.1;
+          added_files ns next (empty node_type) n a
+          ∙ ap (created_removed n.number (empty node_type)) e;
+      used = added_used ns next (empty node_type) n a none.1;
     }
 
 -- none of them has its number yet

@@ -262,7 +262,7 @@ out_of d (In e other) off = elim (cases_eq e d) [
   | inr ne ↦ ap (λ (b : Bool). cond b (Some other) None) (ne_eqb e d ne)
 ]
 
--- the name behind the directory's path is that under which the node hangs there
+-- the name after the directory's path is that under which the node hangs there
 name_hooked : (hook : ℕ → Hook) (next d : ℕ) (p : Path) (k : ℕ) → Sees hook next d p k
     → option_and_then (name_behind p) (option_map reverse (climb next hook k))
     ≡ hooked_name d (hook k)

@@ -126,7 +126,7 @@ files ns next = record { nodes = map (shown_node next (hook_of ns)) ns; next = n
 
 -- ---- places
 
--- the first node with this number stands at this place
+-- the first node with this number is at this place
 abbrev pub IsPlace : List Node → ℕ → ℕ → Type 0
 IsPlace [] k place = ⊥
 IsPlace (n ∷ ns) k zero = n.number ≡ k

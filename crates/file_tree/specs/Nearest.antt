@@ -31,7 +31,7 @@ nearest_node d name nearest [] = nearest
 nearest_node d name nearest (n ∷ ns) =
     nearest_node d name (if is_nearer d name nearest n.hook then Some n else nearest) ns
 
--- the node that stands right behind one of this directory
+-- the node that is right after one of this directory
 abbrev pub next_node : List Node → ℕ → Option Node → Option Node
 next_node ns d None = None
 next_node ns d (Some n) = nearest_node d (name_of_hook n.hook) None ns
@@ -41,7 +41,7 @@ abbrev pub node_listed : List Node → ℕ → ℕ → Option Node
 node_listed ns d zero = nearest_node d [] None ns
 node_listed ns d (suc place) = next_node ns d (node_listed ns d place)
 
--- there are nodes of this directory at so many places, and none behind them
+-- there are nodes of this directory at so many places, and none after them
 pub record IsCountListed (ns : List Node) (d count : ℕ) : Type 0 where
   pub some : (i : ℕ) → i < count → node_listed ns d i ≢ None
   pub no_more : node_listed ns d count ≡ None

@@ -18,7 +18,7 @@ pub fn file_limits_are()
 {}
 
 /// Each node but the root that has a path is an entry of one directory. Its path is that of the
-/// directory with the name behind it.
+/// directory with the name after it.
 pub fn entries_tell_paths()
     ensures { EntriesTellPaths }
 {}
@@ -39,7 +39,7 @@ pub fn others_keep_entries()
     ensures { OthersKeepEntries }
 {}
 
-/// Entries that are put in one after the other by their names stand behind each other.
+/// Entries that are put in one after the other by their names are after each other.
 pub fn entries_come_in_order()
     ensures { EntriesComeInOrder }
 {}

@@ -8,7 +8,7 @@
 //! - `is_directory`, `size`, `used_bytes`, `chunks`, `has_node`, `has_path`, `child`, `entry`,
 //!   `entry_count`, `is_empty`, `is_within`, `number_at`, `next` and `len` answer what the
 //!   definitions do. `entry` goes by the order of names, `number_at` by rising numbers.
-//! - `entry_after` is the entry behind a name, whether or not an entry has that (`after`, `next`,
+//! - `entry_after` is the entry after a name, whether or not an entry has that (`after`, `next`,
 //!   `first`). `chunk` lends the bytes of a file that lie in one of its chunks.
 //! - `parent` gives the directory above a node (`above`), or says that there is none (`none`).
 //!   `name` gives the last name of its path (`last`). `read` copies as many bytes as there are and
@@ -30,7 +30,7 @@
 //!   `room`.
 //! - `laws::renaming_moves_a_subtree`: a rename moves what lies below a path, and no other path.
 //! - `limits` has the numbers that code and definitions share, as `NODES` and `FILE_BYTES`
-//!   (`laws::file_limits_are`). `NodeKind` is a directory or a file.
+//!   (`laws::file_limits_are`). `NodeType` is a directory or a file.
 //!
 //! # Definitions to read
 //!
@@ -38,7 +38,7 @@
 //! `forgotten`, `renamed`, `created_removed`, `hung`, `with_next` (`Files.antt`); `written`,
 //! `resized` (`Bytes.antt`); `chunks_of`, `chunk_of` (`Chunks.antt`); `number_at`,
 //! `number_at_place` (`Listings.antt`); `IsFree`, `CanHang`, `CanLose`, `CanMove`, `IsParent`,
-//! `read_from` (`Changes.antt`). What laws say stands in `specs/laws/`. All other files of
+//! `read_from` (`Changes.antt`). What laws say is in `specs/laws/`. All other files of
 //! `specs/` say how the code keeps nodes and bytes.
 //!
 //! # Who may touch what
@@ -47,8 +47,8 @@
 //! name. Each node names its directory by number. A file's bytes lie in chunks of one more slab,
 //! and its node has their keys and its length. `wasi_calls` changes a tree, and `state_image` reads
 //! one and builds it anew. They, `process_rules` and `wasi_calls_rules` cite the definitions. The
-//! crate stands on no other one of this repository. `new`, `create`, `create_removed`, `resize` and
-//! `ByteList::copy_of` take memory, and want of it is the only error.
+//! crate uses no other one of this repository. `new`, `create`, `create_removed`, `resize` and
+//! `ByteList::copy_of` take memory, and out of memory is the only error.
 //!
 //! # Choices
 //!
@@ -106,19 +106,19 @@
 //!   list is made: the first entry is found by halving, and each place is a step from there. What
 //!   an entry is called is `name`.
 //! - `is_within` and `parent` follow the directories' numbers and take no memory, so a walk needs
-//!   no list of the directories behind it.
+//!   no list of the directories after it.
 #![tactic(auto)]
 
 mod children;
-mod kind;
 pub mod laws;
 pub mod limits;
 mod lookup;
 mod names;
+mod node_type;
 mod store;
 mod tree;
 
 pub use crate::store::ByteList;
-pub use kind::NodeKind;
 pub use names::is_name;
+pub use node_type::NodeType;
 pub use tree::Tree;

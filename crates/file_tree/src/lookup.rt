@@ -13,7 +13,7 @@ ghost use Rattle.file_tree.specs.Store.Bodies.{InChunks};
 ghost use Rattle.file_tree.specs.Store.Joined.{AreKeptAs, kept_number, len_held, file_body};
 ghost use Rattle.file_tree.specs.Store.Joined.{new_content as seen_content};
 
-use crate::kind::NodeKind;
+use crate::node_type::NodeType;
 use crate::store::{FileChunks, FileNodes, Hook, Node, NodeContent};
 use std::alloc::Global;
 
@@ -163,12 +163,12 @@ pub fn holds_path(node: Option<&Node>) -> bool
 }
 
 /// The contents of a new node. It takes no memory.
-pub fn new_content(alloc: Global, kind: NodeKind) -> NodeContent
-    ensures shown { content_shown (seen_content result) ≡ empty kind }
+pub fn new_content(alloc: Global, node_type: NodeType) -> NodeContent
+    ensures shown { content_shown (seen_content result) ≡ empty node_type }
     ensures none { file_body result ≡ InChunks [] 0 }
 {
-    match kind {
-        NodeKind::Directory => NodeContent::Directory,
-        NodeKind::File => NodeContent::File(FileChunks::new(alloc)),
+    match node_type {
+        NodeType::Directory => NodeContent::Directory,
+        NodeType::File => NodeContent::File(FileChunks::new(alloc)),
     }
 }

@@ -17,11 +17,11 @@ ghost use Rattle.file_tree.specs.rules.Changes.{is_within, empty, path_at, read_
 ghost use Rattle.file_tree.specs.declared.limits.TheConstants.{NODES, FILE_BYTES};
 
 use crate::children::{leads_to, parent_of};
-use crate::kind::NodeKind;
 use crate::lookup::{
     chunk_held, holds_directory, holds_node, holds_path, name_held, new_content, node_of,
     number_held, place_of, read_held, size_held,
 };
+use crate::node_type::NodeType;
 use crate::store::{ByteList, FileNodes, Hook, Node, NodeContent};
 use std::alloc::{AllocError, Global};
 use std::marker::Model;
@@ -48,7 +48,7 @@ impl Model for Tree {
 }
 
 impl Tree {
-    /// A fresh tree: the root alone, which is node 1. Only want of memory makes it fail.
+    /// A fresh tree: the root alone, which is node 1. It fails only when out of memory.
     pub fn new(alloc: Global) -> Result<Self, AllocError>
         ensures { IfOk result (λ tree. tree ≡ fresh) }
     {
@@ -166,8 +166,8 @@ impl Tree {
     }
 
     /// The number of the node of a directory with the least name after this one, by the order of
-    /// names. It stands right behind the entry of this name. No bytes come before any name, so
-    /// they lead to the first entry. It takes no memory.
+    /// names. It is right after the entry of this name. No bytes come before any name, so they lead
+    /// to the first entry. It takes no memory.
     pub fn entry_after(&self, directory: u64, name: &[u8]) -> Option<u64>
         ensures after { result ≡ number_after self.now directory name.now }
         ensures next { (i : ℕ) → HasNameAtPlace self.now directory i name.now
@@ -178,7 +178,7 @@ impl Tree {
     }
 
     /// Puts a file's bytes from one of them on into `into`, as many as there are and fit, and gives
-    /// how many. What is behind them in `into` stays.
+    /// how many. What is after them in `into` stays.
     pub fn read(&self, number: u64, from: u64, into: &mut [u8]) -> usize
         ensures count { result ≡ length (read_from self.now number from (length into.old)) }
         ensures bytes { into.new ≡ read_from self.now number from (length into.old)
@@ -228,21 +228,21 @@ impl Tree {
 
     /// Makes a node under a name in a directory, and gives its number. The caller has tested that
     /// the directory is one and has a path (`is_directory`, `has_path`). The name is one
-    /// (`is_name`) under which nothing is (`child`), and there is room (`len`, `next`). Only want
-    /// of memory makes it fail, and then nothing is changed.
+    /// (`is_name`) under which nothing is (`child`), and there is room (`len`, `next`). It fails
+    /// only when out of memory, and then nothing is changed.
     pub fn create(
         &mut self,
         alloc: Global,
         directory: u64,
         name: &[u8],
-        kind: NodeKind,
+        node_type: NodeType,
     ) -> Result<u64, AllocError>
         requires free { IsFree self.old directory name.now }
         requires room { length self.old.nodes < NODES }
         requires number { self.old.next + 1 < 2 ^ 64 }
         ensures number { IfOk result (λ number. number ≡ self.old.next) }
         ensures created { OnOk result (self.new ≡ created (path_at self.old directory
-            ++ name.now ∷ []) (empty kind) self.old) }
+            ++ name.now ∷ []) (empty node_type) self.old) }
         ensures unchanged { OnErr result (self.new ≡ self.old) }
     {
         let number = self.next;
@@ -250,7 +250,7 @@ impl Tree {
         self.nodes.push(Node {
             number,
             hook: Hook::In(directory, name),
-            content: new_content(alloc, kind),
+            content: new_content(alloc, node_type),
         })?;
         self.next = number + 1;
         Ok(number)
@@ -272,10 +272,9 @@ impl Tree {
         }
     }
 
-    /// Cuts a file to so many bytes, or puts zeros behind them. The caller has tested that it is no
-    /// directory (`is_directory`), and that the size is within its limit. Only want of memory makes
-    /// it fail, and then nothing is changed. Where no node has the number nothing is changed
-    /// either.
+    /// Cuts a file to so many bytes, or puts zeros after them. The caller has tested that it is no
+    /// directory (`is_directory`), and that the size is within its limit. It fails only when out of
+    /// memory, and then nothing is changed. Where no node has the number nothing is changed either.
     pub fn resize(&mut self, number: u64, size: u64) -> Result<(), AllocError>
         requires file { is_directory self.old number ≡ false }
         requires size { size ≤ FILE_BYTES }
@@ -318,25 +317,26 @@ impl Tree {
     }
 
     /// Makes a node without a path, like one that was removed, under a number that is no less than
-    /// that of the next new node. The next one then comes behind it. The caller has tested that
+    /// that of the next new node. The next one then comes after it. The caller has tested that
     /// there is room (`len`, `next`). With `hang` and `raise_next` any file system is built from a
-    /// fresh one. Only want of memory makes it fail, and then nothing is changed.
+    /// fresh one. It fails only when out of memory, and then nothing is changed.
     pub fn create_removed(
         &mut self,
         alloc: Global,
         number: u64,
-        kind: NodeKind,
+        node_type: NodeType,
     ) -> Result<(), AllocError>
         requires next { self.old.next ≤ number }
         requires room { length self.old.nodes < NODES }
         requires number { number + 1 < 2 ^ 64 }
-        ensures created { OnOk result (self.new ≡ created_removed number (empty kind) self.old) }
+        ensures created { OnOk result (self.new ≡ created_removed number
+            (empty node_type) self.old) }
         ensures unchanged { OnErr result (self.new ≡ self.old) }
     {
         self.nodes.push(Node {
             number,
             hook: Hook::Removed,
-            content: new_content(alloc, kind),
+            content: new_content(alloc, node_type),
         })?;
         self.next = number + 1;
         Ok(())

@@ -36,7 +36,7 @@ with_lent-with_bytes from bytes m h =
     take_all (length m.bytes) (with_part m.bytes from bytes) (omega arith) in
     λ i. record { bytes = same i; limit = m.limit }
 
--- a list that begins with so many of one number, once more of them stand behind
+-- a list that begins with so many of one number, once more of them are behind
 pub filled_on : (xs ys post : List ℕ) (done part b : ℕ) → take done xs ≡ replicate done b
     → ys ≡ replicate part b
     → take (done + part) (take done xs ++ (ys ++ post)) ≡ replicate (done + part) b

@@ -18,7 +18,7 @@
 //! - `load_u8` to `load_u64` give the number at address and offset, which add without wrapping
 //!   (`there`, `number`). `store_u8` to `store_u64` put it there (`stored`), or change nothing
 //!   (`refused`).
-//! - `grow` puts pages of zeros behind the others (`grown`), exactly where the limit allows it
+//! - `grow` puts pages of zeros after the others (`grown`), exactly where the limit allows it
 //!   (`there`).
 //! - `laws::are_bytes`: each `u8` is a number below 256. `laws::page_limits_are`: what `PAGE_SIZE`
 //!   and `MOST_PAGES` are.
@@ -33,8 +33,8 @@
 //!
 //! Only this crate knows that the bytes lie in one vector with room for all pages of the limit.
 //! `machine_slots`, `machine`, `process` and `wasi_calls` use it, and most crates its definitions.
-//! It stands on no other crate of this repository. `new` alone takes memory, and `M1 Memory` is
-//! its only error. Growth takes none.
+//! It uses no other crate of this repository. `new` alone takes memory, and `M1 Memory` is its only
+//! error. Growth takes none.
 //!
 //! # Choices
 //!

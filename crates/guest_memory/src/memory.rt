@@ -61,8 +61,8 @@ impl Memory {
     ghost use Rattle.std.specs.Borrow.{sem};
     ghost use Rattle.guest_memory.specs.rules.Lends.{LendsRange};
 
-    /// So many pages of zero bytes, with room for as many as the limit. Only want of memory makes
-    /// it fail.
+    /// So many pages of zero bytes, with room for as many as the limit. It fails only when out of
+    /// memory.
     pub fn new(alloc: Global, pages: u32, limit: u32) -> Result<Memory, MemoryFault>
         requires within { pages ≤ limit }
         requires limited { limit ≤ MOST_PAGES }
@@ -309,8 +309,8 @@ impl Memory {
         Some(())
     }
 
-    /// Puts so many pages of zero bytes behind the others, and gives the number of pages before,
-    /// or changes nothing where that would pass the limit. It takes no memory.
+    /// Puts so many pages of zero bytes after the others, and gives the number of pages before, or
+    /// changes nothing where that would pass the limit. It takes no memory.
     pub fn grow(&mut self, by: u32) -> Option<u32>
         ensures there { IsSome result ↔ (pages_in self.old + by ≤ self.old.limit) }
         ensures pages { IfSome result (λ pages. pages ≡ pages_in self.old) }

@@ -2,9 +2,10 @@
 
 use std::alloc::{AllocError, Global};
 use wasi_abi::{
-    Answer, Call, Config, ConfigFault, Dirent, Errno, Fdstat, FileType, Iovec, Kind, Rights, fits,
+    Answer, Call, Config, ConfigFault, Dirent, Errno, Fdstat, FileType, Iovec, Question, Rights,
+    fits,
 };
-use wasm_syntax::Row;
+use wasm_syntax::ItemList;
 use wasm_syntax::ValueType::{self, I32, I64};
 
 /// What a constant, a call or a configuration is.
@@ -139,7 +140,14 @@ fn is_iovec_laid_out() -> bool {
 }
 
 fn are_numbers_kept(alloc: Global, pages: u64, files: u64, journal: u64) -> bool {
-    Config::new(pages, files, journal, Row::new(alloc), Row::new(alloc)).is_ok()
+    Config::new(
+        pages,
+        files,
+        journal,
+        ItemList::new(alloc),
+        ItemList::new(alloc),
+    )
+    .is_ok()
 }
 
 /// The fault of a configuration with so many of the same argument and of the same entry.
@@ -191,7 +199,7 @@ fn numbers_layouts_and_limits_are_those_of_the_profile(rt: HostRuntime) {
 /// What takes memory.
 enum Kept {
     /// How long a line may be, what is asked for, a text, and whether it fits as a request.
-    Line(usize, Kind, &'static [u8], bool),
+    Line(usize, Question, &'static [u8], bool),
     /// The end of input fits as a request.
     End,
     /// Two random bytes.
@@ -203,10 +211,10 @@ enum Kept {
 }
 
 static KEPT: [Kept; 9] = [
-    Kept::Line(9, Kind::Request, b"two words", true),
-    Kept::Line(8, Kind::Request, b"two words", false),
-    Kept::Line(9, Kind::Realtime, b"two words", false),
-    Kept::Line(9, Kind::Request, b"one\ntwo", false),
+    Kept::Line(9, Question::Request, b"two words", true),
+    Kept::Line(8, Question::Request, b"two words", false),
+    Kept::Line(9, Question::Realtime, b"two words", false),
+    Kept::Line(9, Question::Request, b"one\ntwo", false),
     Kept::End,
     Kept::Random,
     Kept::Settings,
@@ -217,12 +225,12 @@ static KEPT: [Kept; 9] = [
 fn is_line_told_so(
     alloc: Global,
     longest: usize,
-    kind: Kind,
+    question: Question,
     line: &[u8],
     is_fit: bool,
 ) -> Result<bool, AllocError> {
     let text = text(alloc, line)?;
-    Ok(fits(longest, kind, &Answer::Request { text }) == is_fit)
+    Ok(fits(longest, question, &Answer::Request { text }) == is_fit)
 }
 
 /// Whether two random bytes, one of them a newline, fit where two are asked for, and not where
@@ -231,8 +239,8 @@ fn are_two_told(alloc: Global) -> Result<bool, AllocError> {
     let bytes = text(alloc, b"\n\0")?;
     let answer = Answer::Random { bytes };
     Ok(
-        fits(0, Kind::Random { length: 2 }, &answer)
-            && !fits(0, Kind::Random { length: 3 }, &answer),
+        fits(0, Question::Random { length: 2 }, &answer)
+            && !fits(0, Question::Random { length: 3 }, &answer),
     )
 }
 
@@ -257,10 +265,10 @@ fn prints(alloc: Global, fault: &ConfigFault, text: &str) -> Result<bool, AllocE
 
 fn is_kept_so(alloc: Global, kept: &Kept) -> Result<bool, AllocError> {
     match kept {
-        Kept::Line(longest, kind, line, is_fit) => {
-            is_line_told_so(alloc, *longest, *kind, line, *is_fit)
+        Kept::Line(longest, question, line, is_fit) => {
+            is_line_told_so(alloc, *longest, *question, line, *is_fit)
         }
-        Kept::End => Ok(fits(0, Kind::Request, &Answer::End)),
+        Kept::End => Ok(fits(0, Question::Request, &Answer::End)),
         Kept::Random => are_two_told(alloc),
         Kept::Settings => are_settings_given(alloc),
         Kept::Printed(fault, text) => prints(alloc, fault, text),
@@ -277,14 +285,18 @@ fn what_is_kept_takes_memory(rt: HostRuntime) -> Result<(), AllocError> {
 }
 
 /// So many texts of these bytes.
-pub(crate) fn texts(alloc: Global, count: usize, bytes: &[u8]) -> Result<Row<Row<u8>>, AllocError> {
-    let mut texts = Row::new(alloc);
+pub(crate) fn texts(
+    alloc: Global,
+    count: usize,
+    bytes: &[u8],
+) -> Result<ItemList<ItemList<u8>>, AllocError> {
+    let mut texts = ItemList::new(alloc);
     for _ in 0..count {
         texts.push(text(alloc, bytes)?)?;
     }
     Ok(texts)
 }
 
-fn text(alloc: Global, bytes: &[u8]) -> Result<Row<u8>, AllocError> {
-    Ok(Row::from_vec(bytes.to_vec(alloc)?))
+fn text(alloc: Global, bytes: &[u8]) -> Result<ItemList<u8>, AllocError> {
+    Ok(ItemList::from_vec(bytes.to_vec(alloc)?))
 }

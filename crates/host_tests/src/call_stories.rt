@@ -2,8 +2,9 @@
 //! and refusals that change nothing. Numbers are those of WASI preview 1, and what comes of a call
 //! is what the rules of this project's profile say.
 
-use wasi_abi::{Call, Errno, Kind};
+use wasi_abi::{Call, Errno, Question};
 use wasi_calls::CallOutcome;
+use wasi_calls_rules::OutputStream;
 
 /// Where a write puts the number of its bytes, and other calls their result.
 pub(crate) const RESULT: u32 = 64;
@@ -70,34 +71,39 @@ const OPEN_A: &[u64] = &[ROOT, 0, A, 1, CREATE, FILE_RIGHTS, 0, 0, CELL];
 
 const OPEN_B: &[u64] = &[ROOT, 0, B, 1, CREATE, FILE_RIGHTS, 0, 0, CELL];
 
+/// The streams that lines are written to.
+const OUT: OutputStream = OutputStream::Stdout;
+
+const ERR: OutputStream = OutputStream::Stderr;
+
 /// How calls end that are done, and how those that are refused.
-const DONE: CallOutcome = CallOutcome::Done(None);
+const DONE: CallOutcome = CallOutcome::Done;
 
-const BADF: CallOutcome = CallOutcome::Done(Some(Errno::Badf));
+const BADF: CallOutcome = CallOutcome::Refused(Errno::Badf);
 
-const EXIST: CallOutcome = CallOutcome::Done(Some(Errno::Exist));
+const EXIST: CallOutcome = CallOutcome::Refused(Errno::Exist);
 
-const FAULT: CallOutcome = CallOutcome::Done(Some(Errno::Fault));
+const FAULT: CallOutcome = CallOutcome::Refused(Errno::Fault);
 
-const FBIG: CallOutcome = CallOutcome::Done(Some(Errno::Fbig));
+const FBIG: CallOutcome = CallOutcome::Refused(Errno::Fbig);
 
-const INVAL: CallOutcome = CallOutcome::Done(Some(Errno::Inval));
+const INVAL: CallOutcome = CallOutcome::Refused(Errno::Inval);
 
-const ISDIR: CallOutcome = CallOutcome::Done(Some(Errno::Isdir));
+const ISDIR: CallOutcome = CallOutcome::Refused(Errno::Isdir);
 
-const NAMETOOLONG: CallOutcome = CallOutcome::Done(Some(Errno::Nametoolong));
+const NAMETOOLONG: CallOutcome = CallOutcome::Refused(Errno::Nametoolong);
 
-const NOENT: CallOutcome = CallOutcome::Done(Some(Errno::Noent));
+const NOENT: CallOutcome = CallOutcome::Refused(Errno::Noent);
 
-const NOSPC: CallOutcome = CallOutcome::Done(Some(Errno::Nospc));
+const NOSPC: CallOutcome = CallOutcome::Refused(Errno::Nospc);
 
-const NOTDIR: CallOutcome = CallOutcome::Done(Some(Errno::Notdir));
+const NOTDIR: CallOutcome = CallOutcome::Refused(Errno::Notdir);
 
-const NOTEMPTY: CallOutcome = CallOutcome::Done(Some(Errno::Notempty));
+const NOTEMPTY: CallOutcome = CallOutcome::Refused(Errno::Notempty);
 
-const SPIPE: CallOutcome = CallOutcome::Done(Some(Errno::Spipe));
+const SPIPE: CallOutcome = CallOutcome::Refused(Errno::Spipe);
 
-const NOTCAPABLE: CallOutcome = CallOutcome::Done(Some(Errno::Notcapable));
+const NOTCAPABLE: CallOutcome = CallOutcome::Refused(Errno::Notcapable);
 
 /// What a call is given from outside.
 pub(crate) enum Given {
@@ -112,12 +118,13 @@ pub(crate) enum Given {
 pub(crate) enum Step {
     /// These bytes are put at a place.
     Put(u32, &'static [u8]),
-    /// So many letters are put at `BYTES`, with a newline behind them.
+    /// So many letters are put at `BYTES`, with a newline after them.
     PutLine(u32),
     /// An iovec at a place, of bytes from here on, so many.
     Name(u32, u32, u32),
-    /// A write to a stream, of so many iovecs from 0 on, with its result there. What comes of it.
-    Write(u32, u32, u32, Option<Errno>),
+    /// A write to a descriptor, of so many iovecs from 0 on, with its result there. What comes of
+    /// it.
+    Write(u32, u32, u32, CallOutcome),
     /// A call with its arguments, and what comes of it without an answer from outside.
     Call(Call, &'static [u64], CallOutcome),
     /// A call with its arguments, which is done once it is given this.
@@ -128,13 +135,13 @@ pub(crate) enum Step {
     Holds(u32, &'static [u8]),
     /// A number of four bytes lies there.
     Number(u32, u32),
-    /// Numbers of eight bytes lie there, one behind another.
+    /// Numbers of eight bytes lie there, one after another.
     Longs(u32, &'static [u64]),
     /// The streams and the lengths of the lines that wait.
-    Lines(&'static [(u8, usize)]),
+    Lines(&'static [(OutputStream, usize)]),
     /// How many lines wait, and how long the first and the last of them are.
     Lengths([usize; 3]),
-    /// How many lines a write of one iovec to stream 2 would add, an unfinished one counted.
+    /// How many lines a write of one iovec to stderr would add, an unfinished one counted.
     Begins(usize),
     /// Sixteen files are made and opened.
     OpenFiles,
@@ -154,7 +161,7 @@ static LINES: [Story; 9] = [
         &[
             Step::PutLine(4_097),
             Step::Name(0, BYTES, 4_098),
-            Step::Write(1, 1, RESULT, None),
+            Step::Write(1, 1, RESULT, DONE),
             Step::Lengths([2, 4_096, 1]),
         ],
     ),
@@ -163,7 +170,7 @@ static LINES: [Story; 9] = [
         &[
             Step::PutLine(4_096),
             Step::Name(0, BYTES, 4_097),
-            Step::Write(1, 1, RESULT, None),
+            Step::Write(1, 1, RESULT, DONE),
             Step::Lengths([1, 4_096, 4_096]),
         ],
     ),
@@ -172,7 +179,7 @@ static LINES: [Story; 9] = [
         &[
             Step::PutLine(0),
             Step::Name(0, BYTES, 1),
-            Step::Write(1, 1, RESULT, None),
+            Step::Write(1, 1, RESULT, DONE),
             Step::Lengths([1, 0, 0]),
         ],
     ),
@@ -181,7 +188,7 @@ static LINES: [Story; 9] = [
         &[
             Step::PutLine(8_192),
             Step::Name(0, BYTES, 8_193),
-            Step::Write(1, 1, RESULT, None),
+            Step::Write(1, 1, RESULT, DONE),
             Step::Lengths([2, 4_096, 4_096]),
         ],
     ),
@@ -191,13 +198,13 @@ static LINES: [Story; 9] = [
             Step::Put(BYTES, b"hi\n"),
             Step::Name(0, BYTES, 3),
             Step::Name(8, END, 1),
-            Step::Write(1, 2, RESULT, Some(Errno::Fault)),
+            Step::Write(1, 2, RESULT, FAULT),
             Step::Number(RESULT, 7),
             Step::Lines(&[]),
             Step::Name(8, END, 0),
-            Step::Write(1, 2, RESULT, None),
+            Step::Write(1, 2, RESULT, DONE),
             Step::Number(RESULT, 3),
-            Step::Lines(&[(1, 2)]),
+            Step::Lines(&[(OUT, 2)]),
         ],
     ),
     (
@@ -205,23 +212,23 @@ static LINES: [Story; 9] = [
         &[
             Step::Put(BYTES, b"hi\n"),
             Step::Name(0, BYTES, 3),
-            Step::Write(1, 1, END - 3, Some(Errno::Fault)),
+            Step::Write(1, 1, END - 3, FAULT),
             Step::Lines(&[]),
-            Step::Write(1, 1, END - 4, None),
+            Step::Write(1, 1, END - 4, DONE),
             Step::Number(END - 4, 3),
         ],
     ),
     (
         "a write names its refusals",
         &[
-            Step::Write(0, 0, RESULT, Some(Errno::Notcapable)),
-            Step::Write(1, 0, RESULT, None),
-            Step::Write(2, 1_024, RESULT, None),
-            Step::Write(2, 1_025, RESULT, Some(Errno::Inval)),
-            Step::Write(3, 0, RESULT, Some(Errno::Isdir)),
-            Step::Write(4, 0, RESULT, Some(Errno::Badf)),
-            Step::Write(64, 0, RESULT, Some(Errno::Badf)),
-            Step::Write(4_294_967_295, 0, RESULT, Some(Errno::Badf)),
+            Step::Write(0, 0, RESULT, NOTCAPABLE),
+            Step::Write(1, 0, RESULT, DONE),
+            Step::Write(2, 1_024, RESULT, DONE),
+            Step::Write(2, 1_025, RESULT, INVAL),
+            Step::Write(3, 0, RESULT, ISDIR),
+            Step::Write(4, 0, RESULT, BADF),
+            Step::Write(64, 0, RESULT, BADF),
+            Step::Write(4_294_967_295, 0, RESULT, BADF),
         ],
     ),
     (
@@ -234,7 +241,7 @@ static LINES: [Story; 9] = [
             ),
             Step::Name(0, 0, 40_000),
             Step::Name(8, 0, 40_000),
-            Step::Write(2, 2, RESULT, None),
+            Step::Write(2, 2, RESULT, DONE),
             Step::Number(RESULT, 65_536),
         ],
     ),
@@ -243,16 +250,16 @@ static LINES: [Story; 9] = [
         &[
             Step::Put(BYTES, b"a\nb\ncd"),
             Step::Name(0, BYTES, 2),
-            Step::Write(1, 1, RESULT, None),
-            // the second line, and the first letter behind it
+            Step::Write(1, 1, RESULT, DONE),
+            // the second line, and the first letter after it
             Step::Name(0, BYTES + 2, 3),
             Step::Begins(2),
-            Step::Write(2, 1, RESULT, None),
+            Step::Write(2, 1, RESULT, DONE),
             Step::Name(0, BYTES + 4, 2),
-            Step::Write(1, 1, RESULT, None),
-            Step::Lines(&[(1, 1), (2, 1)]),
+            Step::Write(1, 1, RESULT, DONE),
+            Step::Lines(&[(OUT, 1), (ERR, 1)]),
             Step::End,
-            Step::Lines(&[(1, 1), (2, 1), (1, 2), (2, 1)]),
+            Step::Lines(&[(OUT, 1), (ERR, 1), (OUT, 2), (ERR, 1)]),
         ],
     ),
 ];
@@ -269,7 +276,7 @@ static OUTSIDE: [Story; 5] = [
             Step::Call(
                 Call::ClockTimeGet,
                 &[1, 0, CELL],
-                CallOutcome::Ask(Kind::Monotonic),
+                CallOutcome::Ask(Question::Monotonic),
             ),
             Step::Give(Call::ClockTimeGet, &[1, 0, CELL], Given::Monotonic(50)),
             Step::Longs(RESULT, &[50]),
@@ -286,15 +293,15 @@ static OUTSIDE: [Story; 5] = [
             Step::Call(
                 Call::RandomGet,
                 &[CELL, 1],
-                CallOutcome::Ask(Kind::Random { length: 1 }),
+                CallOutcome::Ask(Question::Random { length: 1 }),
             ),
             Step::Call(
                 Call::RandomGet,
                 &[CELL, 4_096],
-                CallOutcome::Ask(Kind::Random { length: 4_096 }),
+                CallOutcome::Ask(Question::Random { length: 4_096 }),
             ),
             Step::Call(Call::RandomGet, &[CELL, 4_097], INVAL),
-            // the first bytes that the seed of zeros gives, and nothing behind them
+            // the first bytes that the seed of zeros gives, and nothing after them
             Step::Give(
                 Call::RandomGet,
                 &[CELL, 5],
@@ -313,7 +320,7 @@ static OUTSIDE: [Story; 5] = [
             Step::Call(
                 Call::ClockTimeGet,
                 &[0, 0, CELL],
-                CallOutcome::Ask(Kind::Realtime),
+                CallOutcome::Ask(Question::Realtime),
             ),
             Step::Give(Call::ClockTimeGet, &[0, 0, CELL], Given::Realtime(50)),
             Step::Longs(RESULT, &[50]),
@@ -328,7 +335,7 @@ static OUTSIDE: [Story; 5] = [
             Step::Call(
                 Call::FdRead,
                 &[0, 0, 1, CELL],
-                CallOutcome::Ask(Kind::Request),
+                CallOutcome::Ask(Question::Request),
             ),
             Step::Give(Call::FdRead, &[0, 0, 1, CELL], Given::Request(b"hello")),
             Step::Number(RESULT, 4),
@@ -339,7 +346,7 @@ static OUTSIDE: [Story; 5] = [
             Step::Call(
                 Call::FdRead,
                 &[0, 0, 1, CELL],
-                CallOutcome::Ask(Kind::Request),
+                CallOutcome::Ask(Question::Request),
             ),
             Step::Give(Call::FdRead, &[0, 0, 1, CELL], Given::End),
             Step::Number(RESULT, 0),
@@ -399,14 +406,14 @@ static BEGINNINGS: [Story; 2] = [
             Step::Call(Call::FdPrestatDirName, &[3, AT, 0], NAMETOOLONG),
             Step::Call(Call::FdPrestatDirName, &[3, AT, 1], DONE),
             Step::Holds(LARGE, b"/\0\0\0\x01"),
-            // the kind, base rights, and those that it hands on
+            // the file type, base rights, and those that it hands on
             Step::Call(Call::FdFdstatGet, &[0, AT], DONE),
             Step::Longs(LARGE, &[2, 0x0020_0002, 0]),
             Step::Call(Call::FdFdstatGet, &[2, AT], DONE),
             Step::Longs(LARGE, &[2, 0x0020_0040, 0]),
             Step::Call(Call::FdFdstatGet, &[3, AT], DONE),
             Step::Longs(LARGE, &[3, DIRECTORY_RIGHTS, ALL_RIGHTS]),
-            // device, node, kind, links, size and three times
+            // device, node, file type, links, size and three times
             Step::Call(Call::FdFilestatGet, &[1, AT], DONE),
             Step::Longs(LARGE, &[0, 0, 2, 1, 0, 0, 0, 0]),
             Step::Call(Call::FdFilestatGet, &[3, AT], DONE),
@@ -610,7 +617,7 @@ static NODES: [Story; 3] = [
             Step::Put(LARGE + 30, b"\x07"),
             Step::Call(Call::FdReaddir, &[3, AT, 30, 0, CELL], DONE),
             Step::Number(RESULT, 30),
-            // the next cookie, the node, and the name's length with the kind
+            // the next cookie, the node, and the name's length with the file type
             Step::Longs(LARGE, &[1, 2, 0x4_0000_0001]),
             Step::Holds(LARGE + 24, b"a\x02\0\0\0\0\x07"),
             Step::Call(Call::FdReaddir, &[3, AT, 30, 1, CELL], DONE),
@@ -735,9 +742,9 @@ static THREE_LINES: [Step; 6] = [
     Step::Put(BYTES, b"one\ntwo\nthree"),
     Step::Name(0, BYTES, 13),
     Step::Begins(3),
-    Step::Write(1, 1, RESULT, None),
+    Step::Write(1, 1, RESULT, DONE),
     Step::End,
-    Step::Lines(&[(1, 3), (1, 3), (1, 5)]),
+    Step::Lines(&[(OUT, 3), (OUT, 3), (OUT, 5)]),
 ];
 
 /// Three lines, of which the last one has no newline.

@@ -1,5 +1,5 @@
 //! What guests do by calls, step after step: what comes of each call, and what is seen then. The
-//! steps are those of `call_stories`. Also want of memory.
+//! steps are those of `call_stories`. Also out of memory.
 
 ghost use Rattle.std.specs.Prelude.{◌≡◌, true, [], ◌∷◌};
 ghost use Rattle.wasi_calls.specs.rules.Calls.{AreArguments};
@@ -12,8 +12,9 @@ use crate::call_stories::{
 use guest_memory::Memory;
 use std::alloc::{AllocError, Global};
 use wasi_abi::{Answer, Call, Config, Errno, Version};
-use wasi_calls::{CallOutcome, Host, call, lines_begun};
-use wasm_syntax::{Row, ValueType};
+use wasi_calls::{CallOutcome, WasiState, call, lines_begun};
+use wasi_calls_rules::OutputStream;
+use wasm_syntax::{ItemList, ValueType};
 
 /// Why a test has nothing to compare.
 #[derive(Clone, Copy, Debug, PartialEq, Eq)]
@@ -34,7 +35,7 @@ static NAMES: [u8; 16] = *b"abcdefghijklmnop";
 /// A host, and a page whose cell for results holds 7.
 #[derive(Drop)]
 struct Guest {
-    host: Host,
+    host: WasiState,
     memory: Memory,
 }
 
@@ -55,9 +56,9 @@ fn config(alloc: Global) -> Result<Config, CallStop> {
     }
 }
 
-fn host(alloc: Global) -> Result<Host, CallStop> {
+fn host(alloc: Global) -> Result<WasiState, CallStop> {
     let config = config(alloc)?;
-    Ok(Host::new(alloc, config, Version::One)?)
+    Ok(WasiState::new(alloc, config, Version::One)?)
 }
 
 fn page(alloc: Global) -> Result<Memory, CallStop> {
@@ -69,10 +70,10 @@ fn page(alloc: Global) -> Result<Memory, CallStop> {
 }
 
 /// Whether a number is one of its type.
-fn is_of(kind: ValueType, number: u64) -> bool
-    ensures { result ≡ true → AreArguments (kind ∷ []) (number ∷ []) }
+fn is_of(value_type: ValueType, number: u64) -> bool
+    ensures { result ≡ true → AreArguments (value_type ∷ []) (number ∷ []) }
 {
-    match kind {
+    match value_type {
         ValueType::I32 => number <= u64::from(u32::MAX),
         ValueType::I64 => true,
     }
@@ -82,13 +83,13 @@ fn is_of(kind: ValueType, number: u64) -> bool
 fn are_typed(types: &[ValueType], numbers: &[u64]) -> bool
     ensures { result ≡ true → AreArguments types.now numbers.now }
 {
-    let Some((kind, types)) = types.split_first() else {
+    let Some((value_type, types)) = types.split_first() else {
         return numbers.is_empty();
     };
     let Some((number, numbers)) = numbers.split_first() else {
         return false;
     };
-    is_of(*kind, *number) && are_typed(types, numbers)
+    is_of(*value_type, *number) && are_typed(types, numbers)
 }
 
 /// What comes of a call, or none where its arguments are of other types.
@@ -123,8 +124,8 @@ fn comes_to(
     told(alloc, guest, asked, arguments, None) == Some(wanted)
 }
 
-fn row(alloc: Global, bytes: &[u8]) -> Result<Row<u8>, AllocError> {
-    Ok(Row::from_vec(bytes.to_vec(alloc)?))
+fn row(alloc: Global, bytes: &[u8]) -> Result<ItemList<u8>, AllocError> {
+    Ok(ItemList::from_vec(bytes.to_vec(alloc)?))
 }
 
 fn answer_of(alloc: Global, given: &Given) -> Result<Answer, AllocError> {
@@ -152,10 +153,10 @@ fn is_done_with(
     given: &Given,
 ) -> Result<bool, CallStop> {
     let answer = answer_of(alloc, given)?;
-    Ok(told(alloc, guest, asked, arguments, Some(&answer)) == Some(CallOutcome::Done(None)))
+    Ok(told(alloc, guest, asked, arguments, Some(&answer)) == Some(CallOutcome::Done))
 }
 
-/// Puts so many letters, with a newline behind them.
+/// Puts so many letters, with a newline after them.
 fn is_line_put(guest: &mut Guest, letters: u32) -> bool {
     for place in 0..letters {
         if guest.memory.store_u8(BYTES, place, b'a').is_none() {
@@ -193,12 +194,12 @@ fn is_written_so(
     alloc: Global,
     guest: &mut Guest,
     outcome: CallOutcome,
-    wanted: Option<Errno>,
+    wanted: CallOutcome,
 ) -> Result<bool, CallStop> {
     if outcome == CallOutcome::Memory && is_unchanged(alloc, guest) {
         return Err(CallStop::Memory);
     }
-    Ok(outcome == CallOutcome::Done(wanted))
+    Ok(outcome == wanted)
 }
 
 /// Whether a file of this name is made, and opened as this descriptor.
@@ -216,13 +217,7 @@ fn opens(alloc: Global, guest: &mut Guest, name: u8, fd: u32) -> bool {
         cell,
     ];
     guest.memory.store_u8(BYTES, 0, name).is_some()
-        && comes_to(
-            alloc,
-            guest,
-            Call::PathOpen,
-            &arguments,
-            CallOutcome::Done(None),
-        )
+        && comes_to(alloc, guest, Call::PathOpen, &arguments, CallOutcome::Done)
         && guest.memory.load_u32(RESULT, 0) == Some(fd)
 }
 
@@ -240,7 +235,7 @@ fn opens_files(alloc: Global, guest: &mut Guest) -> bool {
 fn are_sized(alloc: Global, guest: &mut Guest, count: u32, size: u64) -> bool {
     for place in 0..count {
         let arguments = [u64::from(FIRST_FILE.wrapping_add(place)), size];
-        let wanted = CallOutcome::Done(None);
+        let wanted = CallOutcome::Done;
         if !comes_to(alloc, guest, Call::FdFilestatSetSize, &arguments, wanted) {
             return false;
         }
@@ -261,7 +256,7 @@ fn holds(guest: &Guest, at: u32, bytes: &[u8]) -> bool {
     }
 }
 
-/// Whether these numbers of eight bytes lie at a place, one behind another.
+/// Whether these numbers of eight bytes lie at a place, one after another.
 fn has_longs(guest: &Guest, at: u32, numbers: &[u64]) -> bool {
     let mut place = at;
     for number in numbers {
@@ -274,7 +269,7 @@ fn has_longs(guest: &Guest, at: u32, numbers: &[u64]) -> bool {
 }
 
 /// The lines that wait are on these streams, and so long.
-fn has_lines(guest: &Guest, wanted: &[(u8, usize)]) -> bool {
+fn has_lines(guest: &Guest, wanted: &[(OutputStream, usize)]) -> bool {
     let lines = guest.host.waiting_lines();
     if lines.len() != wanted.len() {
         return false;
@@ -430,7 +425,7 @@ fn calls_do_what_is_told_of_them(rt: HostRuntime) {
     }
 }
 
-/// Ends in want of memory where an allocation is refused, and has changed nothing then.
+/// Is out of memory where an allocation is refused, and has changed nothing then.
 #[test]
 fn writes_with_memory(rt: HostRuntime) -> Result<(), CallStop> {
     let told = count_told(rt.alloc(), three_lines())?;

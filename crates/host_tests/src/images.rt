@@ -2,15 +2,15 @@
 
 ghost use Rattle.std.specs.Prelude.{◌<◌, length};
 
-use crate::image_stop::ImageStop;
+use crate::process_image_stop::ProcessImageStop;
 use crate::processes::{ECHO, FILES, HELLO, Step, begin_with, bytes_of, restore_with, take_steps};
 use process::Process;
-use state_image::{Sink, write_image, write_image_to};
+use state_image::{Sink, write_process_image, write_process_image_to};
 use std::alloc::Global;
 
 /// The mark, steps, answers, requests, lines and the last monotonic time. It is in `_start`, no
 /// input has ended, and nothing is unread or unfinished. There are no globals. One frame is of
-/// function 2 at its first instruction, without slots. One page stands there, with the bytes of its
+/// function 2 at its first instruction, without slots. One page is there, with the bytes of its
 /// segment.
 const FRONT: [u8; 101] = [
     0x44, 0x57, 0x49, 0x4d, 0x41, 0x47, 0x45, 0x31, 0, 0, 0, 0, 0, 0, 0, 0, 0, 0, 0, 0, 0, 0, 0, 0,
@@ -34,7 +34,7 @@ const PAGE_BYTES: usize = 65_536;
 /// Takes so many pieces, and refuses every other one.
 #[derive(Drop)]
 struct Few {
-    left: u64,
+    pieces_left: u64,
     asked: u64,
 }
 
@@ -48,51 +48,63 @@ impl Sink for Few {
 
     fn push(&mut self, _bytes: &[u8]) -> Result<(), Refused> {
         self.asked = self.asked.saturating_add(1);
-        if self.left == 0 {
+        if self.pieces_left == 0 {
             return Err(Refused);
         }
-        self.left -= 1;
+        self.pieces_left -= 1;
         Ok(())
     }
 }
 
 /// Whether a sink that takes three pieces is asked for a fourth, and for no more.
 fn is_refused_once(process: &Process) -> bool {
-    let mut sink = Few { left: 3, asked: 0 };
-    write_image_to(process, &mut sink) == Err(Refused) && (sink.left, sink.asked) == (0, 4)
+    let mut sink = Few {
+        pieces_left: 3,
+        asked: 0,
+    };
+    write_process_image_to(process, &mut sink) == Err(Refused)
+        && (sink.pieces_left, sink.asked) == (0, 4)
 }
 
-/// The image of a process behind these steps.
-fn steps_and_image(
+/// The image of a process after these steps.
+fn steps_and_process_image(
     alloc: Global,
     process: &mut Process,
     steps: &[Step],
-) -> Result<Vec<u8>, ImageStop> {
+) -> Result<Vec<u8>, ProcessImageStop> {
     take_steps(alloc, process, steps)?;
-    Ok(write_image(alloc, process)?)
+    Ok(write_process_image(alloc, process)?)
 }
 
-fn image_behind(alloc: Global, process: Process, steps: &[Step]) -> Result<Vec<u8>, ImageStop> {
+fn image_behind(
+    alloc: Global,
+    process: Process,
+    steps: &[Step],
+) -> Result<Vec<u8>, ProcessImageStop> {
     let mut process = process;
-    let image = steps_and_image(alloc, &mut process, steps);
+    let process_image = steps_and_process_image(alloc, &mut process, steps);
     drop(process);
-    image
+    process_image
 }
 
 /// The same from the start of a module on.
-fn begun_image(alloc: Global, wasm: &[u8], steps: &[Step]) -> Result<Vec<u8>, ImageStop> {
+fn begun_process_image(
+    alloc: Global,
+    wasm: &[u8],
+    steps: &[Step],
+) -> Result<Vec<u8>, ProcessImageStop> {
     let process = begin_with(alloc, wasm, 1)?;
     image_behind(alloc, process, steps)
 }
 
 /// The same of the process that is made of an image, if there is one.
-fn restored_image(
+fn restored_process_image(
     alloc: Global,
     wasm: &[u8],
-    image: &[u8],
+    process_image: &[u8],
     steps: &[Step],
-) -> Result<Option<Vec<u8>>, ImageStop> {
-    match restore_with(alloc, wasm, image, 1)? {
+) -> Result<Option<Vec<u8>>, ProcessImageStop> {
+    match restore_with(alloc, wasm, process_image, 1)? {
         Some(process) => Ok(Some(image_behind(alloc, process, steps)?)),
         None => Ok(None),
     }
@@ -102,81 +114,90 @@ fn restored_image(
 enum Told {
     /// These steps are taken.
     Steps(&'static [Step]),
-    /// The image behind these steps has this length, and begins with these bytes.
-    Image(&'static [Step], usize, &'static [u8]),
-    /// An image behind the first steps is made a process. By the second steps that comes to where
+    /// The image after these steps has this length, and begins with these bytes.
+    ProcessImage(&'static [Step], usize, &'static [u8]),
+    /// An image after the first steps is made a process. By the second steps that comes to where
     /// the third ones lead from the start, and whether that is another image.
     Again(&'static [Step], &'static [Step], &'static [Step], bool),
     /// The image at the start is none without its last byte, nor with one more.
     Edge,
-    /// Bytes of the image behind these steps are others, of memory every 97th one. It begins there.
+    /// Bytes of the image after these steps are others, of memory every 97th one. It begins there.
     /// They are no image then, or that of another process.
     Bytes(&'static [Step], usize),
     /// A sink that refuses a piece of the image is asked for no more.
     Refused,
 }
 
-fn has_image(
+fn has_process_image(
     alloc: Global,
     wasm: &[u8],
     steps: &[Step],
     length: usize,
     front: &[u8],
-) -> Result<bool, ImageStop> {
-    let image = begun_image(alloc, wasm, steps)?;
-    Ok(image.len() == length && image.starts_with(front))
+) -> Result<bool, ProcessImageStop> {
+    let process_image = begun_process_image(alloc, wasm, steps)?;
+    Ok(process_image.len() == length && process_image.starts_with(front))
 }
 
 /// Whether what was made of an image is what was wanted, and another one or not.
-fn is_made_so(made: Option<&[u8]>, wanted: &[u8], image: &[u8], is_other: bool) -> bool {
-    made == Some(wanted) && (made != Some(image)) == is_other
+fn is_made_so(made: Option<&[u8]>, wanted: &[u8], process_image: &[u8], is_other: bool) -> bool {
+    made == Some(wanted) && (made != Some(process_image)) == is_other
 }
 
 fn comes_again(
     alloc: Global,
     wasm: &[u8],
-    image: &[u8],
+    process_image: &[u8],
     then: &[Step],
     whole: &[Step],
     is_other: bool,
-) -> Result<bool, ImageStop> {
-    let made = restored_image(alloc, wasm, image, then)?;
-    let wanted = begun_image(alloc, wasm, whole)?;
-    Ok(is_made_so(made.as_deref(), wanted.as_slice(), image, is_other))
+) -> Result<bool, ProcessImageStop> {
+    let made = restored_process_image(alloc, wasm, process_image, then)?;
+    let wanted = begun_process_image(alloc, wasm, whole)?;
+    Ok(is_made_so(made.as_deref(), wanted.as_slice(), process_image, is_other))
 }
 
 /// What is made of bytes: 0 for nothing, 1 for a process whose image they are, and 2 for another.
-fn made_of(alloc: Global, wasm: &[u8], image: &[u8]) -> Result<u64, ImageStop> {
-    match restored_image(alloc, wasm, image, &[])? {
-        Some(again) if again.as_slice() == image => Ok(1),
+fn made_of(alloc: Global, wasm: &[u8], process_image: &[u8]) -> Result<u64, ProcessImageStop> {
+    match restored_process_image(alloc, wasm, process_image, &[])? {
+        Some(again) if again.as_slice() == process_image => Ok(1),
         Some(_) => Ok(2),
         None => Ok(0),
     }
 }
 
-/// Whether it is none without its last byte, a zero, and none with another zero behind it.
-fn has_an_edge(alloc: Global, wasm: &[u8], image: &mut Vec<u8>) -> Result<bool, ImageStop> {
-    let last = image.pop();
-    let fewer = made_of(alloc, wasm, image.as_slice())?;
-    image.push(0)?;
-    image.push(0)?;
-    let more = made_of(alloc, wasm, image.as_slice())?;
+/// Whether it is none without its last byte, a zero, and none with another zero after it.
+fn has_an_edge(
+    alloc: Global,
+    wasm: &[u8],
+    process_image: &mut Vec<u8>,
+) -> Result<bool, ProcessImageStop> {
+    let last = process_image.pop();
+    let fewer = made_of(alloc, wasm, process_image.as_slice())?;
+    process_image.push(0)?;
+    process_image.push(0)?;
+    let more = made_of(alloc, wasm, process_image.as_slice())?;
     Ok(last == Some(0) && fewer == 0 && more == 0)
 }
 
 /// How many of four other bytes at a place make a process whose image is another one.
-fn wrong_at(alloc: Global, wasm: &[u8], image: &mut [u8], place: usize) -> Result<u32, ImageStop>
-    requires { place < length image.old }
+fn wrong_at(
+    alloc: Global,
+    wasm: &[u8],
+    process_image: &mut [u8],
+    place: usize,
+) -> Result<u32, ProcessImageStop>
+    requires { place < length process_image.old }
 {
-    let byte = image[place];
+    let byte = process_image[place];
     let mut wrong: u32 = 0;
     for other in [0, 1, 255, byte.wrapping_add(1)] {
-        image[place] = other;
-        if made_of(alloc, wasm, image)? == 2 {
+        process_image[place] = other;
+        if made_of(alloc, wasm, process_image)? == 2 {
             wrong = wrong.saturating_add(1);
         }
     }
-    image[place] = byte;
+    process_image[place] = byte;
     Ok(wrong)
 }
 
@@ -192,40 +213,49 @@ fn is_tried(place: usize, memory_at: usize) -> bool {
 fn wrong_of(
     alloc: Global,
     wasm: &[u8],
-    image: &mut [u8],
+    process_image: &mut [u8],
     memory_at: usize,
-) -> Result<u32, ImageStop> {
+) -> Result<u32, ProcessImageStop> {
     let mut wrong: u32 = 0;
-    for place in 0..image.len() {
+    for place in 0..process_image.len() {
         if is_tried(place, memory_at) {
-            wrong = wrong.saturating_add(wrong_at(alloc, wasm, image, place)?);
+            wrong = wrong.saturating_add(wrong_at(alloc, wasm, process_image, place)?);
         }
     }
     Ok(wrong)
 }
 
-fn is_refused(alloc: Global, wasm: &[u8]) -> Result<bool, ImageStop> {
+fn is_refused(alloc: Global, wasm: &[u8]) -> Result<bool, ProcessImageStop> {
     let process = begin_with(alloc, wasm, 1)?;
     let is_so = is_refused_once(&process);
     drop(process);
     Ok(is_so)
 }
 
-fn is_so(alloc: Global, wasm: &[u8], told: &Told) -> Result<bool, ImageStop> {
+fn is_so(alloc: Global, wasm: &[u8], told: &Told) -> Result<bool, ProcessImageStop> {
     match told {
         Told::Steps(steps) => {
-            let _image = begun_image(alloc, wasm, steps)?;
+            let _image = begun_process_image(alloc, wasm, steps)?;
             Ok(true)
         }
-        Told::Image(steps, length, front) => has_image(alloc, wasm, steps, *length, front),
+        Told::ProcessImage(steps, length, front) => has_process_image(
+            alloc, wasm, steps, *length, front,
+        ),
         Told::Again(steps, then, whole, is_other) => {
-            let image = begun_image(alloc, wasm, steps)?;
-            comes_again(alloc, wasm, image.as_slice(), then, whole, *is_other)
+            let process_image = begun_process_image(alloc, wasm, steps)?;
+            comes_again(
+                alloc,
+                wasm,
+                process_image.as_slice(),
+                then,
+                whole,
+                *is_other,
+            )
         }
-        Told::Edge => has_an_edge(alloc, wasm, &mut begun_image(alloc, wasm, &[])?),
+        Told::Edge => has_an_edge(alloc, wasm, &mut begun_process_image(alloc, wasm, &[])?),
         Told::Bytes(steps, memory_at) => {
-            let mut image = begun_image(alloc, wasm, steps)?;
-            Ok(wrong_of(alloc, wasm, image.as_mut_slice(), *memory_at)? == 0)
+            let mut process_image = begun_process_image(alloc, wasm, steps)?;
+            Ok(wrong_of(alloc, wasm, process_image.as_mut_slice(), *memory_at)? == 0)
         }
         Told::Refused => is_refused(alloc, wasm),
     }
@@ -234,7 +264,7 @@ fn is_so(alloc: Global, wasm: &[u8], told: &Told) -> Result<bool, ImageStop> {
 /// A name, the texts of a module, and what is told of its images.
 type Row = (&'static str, &'static [&'static str], Told);
 
-fn is_told_so(alloc: Global, row: &Row) -> Result<bool, ImageStop> {
+fn is_told_so(alloc: Global, row: &Row) -> Result<bool, ProcessImageStop> {
     let wasm = bytes_of(alloc, row.1)?;
     is_so(alloc, wasm.as_slice(), &row.2)
 }
@@ -305,7 +335,7 @@ static LIVES: [Row; 11] = [
     (
         "the image of echo from step 6",
         &ECHO,
-        Told::Image(ASKED, 65_819, &[]),
+        Told::ProcessImage(ASKED, 65_819, &[]),
     ),
     (
         "echo comes back from step 6",
@@ -333,7 +363,7 @@ fn processes_and_images_are_told(rt: HostRuntime) {
     }
 }
 
-/// Other bytes of an image at the start of `echo`, and of one behind its first request.
+/// Other bytes of an image at the start of `echo`, and of one after its first request.
 static FRESH_BYTES: Row = ("fresh", &ECHO, Told::Bytes(&[], FRESH_AT));
 
 static ASKED_BYTES: Row = ("step 6", &ECHO, Told::Bytes(ASKED, ASKED_AT));
@@ -351,14 +381,14 @@ fn other_bytes_of_an_image_of_step_6_are_refused_or_others(rt: HostRuntime) {
 }
 
 static IMAGES: [Row; 6] = [
-    ("hello", &HELLO, Told::Image(&[], 65_811, &FRONT)),
-    ("fresh echo", &ECHO, Told::Image(&[], 65_811, &[])),
+    ("hello", &HELLO, Told::ProcessImage(&[], 65_811, &FRONT)),
+    ("fresh echo", &ECHO, Told::ProcessImage(&[], 65_811, &[])),
     (
         "fresh echo comes back",
         &ECHO,
         Told::Again(&[], &[], &[], false),
     ),
-    ("files", &FILES, Told::Image(ASKS, FILES_BYTES, &[])),
+    ("files", &FILES, Told::ProcessImage(ASKS, FILES_BYTES, &[])),
     (
         "files come back",
         &FILES,
@@ -374,7 +404,7 @@ static IMAGES: [Row; 6] = [
 /// `scripts/runs/refused-allocations` refuses each allocation in turn, and then this ends out of
 /// memory.
 #[test]
-fn images_come_back_with_memory(rt: HostRuntime) -> Result<(), ImageStop> {
+fn images_come_back_with_memory(rt: HostRuntime) -> Result<(), ProcessImageStop> {
     for row in &IMAGES {
         assert!(rt; is_told_so(rt.alloc(), row)?, "{}", row.0);
     }

@@ -1,10 +1,10 @@
 //! Images of a process with 16 pages. What two of these tests differ by is what a step costs:
 //! `docs/PERFORMANCE.md` says how that is measured.
 
-use crate::image_stop::ImageStop;
+use crate::process_image_stop::ProcessImageStop;
 use crate::processes::{LARGE_ECHO, begin_with, bytes_of, restore_with};
 use process::Process;
-use state_image::{Sink, write_image, write_image_to};
+use state_image::{Sink, write_process_image, write_process_image_to};
 use std::alloc::Global;
 
 /// The most pages, the bytes of so many, and the bytes of the image of `echo` with them.
@@ -31,13 +31,13 @@ impl Sink for Counted {
     }
 }
 
-fn begin(alloc: Global) -> Result<Process, ImageStop> {
+fn begin(alloc: Global) -> Result<Process, ProcessImageStop> {
     let wasm = bytes_of(alloc, &LARGE_ECHO)?;
     begin_with(alloc, wasm.as_slice(), PAGES)
 }
 
 #[test]
-fn a_large_process_begins(rt: HostRuntime) -> Result<(), ImageStop> {
+fn a_large_process_begins(rt: HostRuntime) -> Result<(), ProcessImageStop> {
     let process = begin(rt.alloc())?;
     let length = process.memory().len();
     drop(process);
@@ -48,12 +48,12 @@ fn a_large_process_begins(rt: HostRuntime) -> Result<(), ImageStop> {
 /// How many bytes are pushed.
 fn count_pushed(process: &Process) -> usize {
     let mut sink = Counted { bytes: 0 };
-    let _pushed = write_image_to(process, &mut sink);
+    let _pushed = write_process_image_to(process, &mut sink);
     sink.bytes
 }
 
 #[test]
-fn a_large_image_is_pushed(rt: HostRuntime) -> Result<(), ImageStop> {
+fn a_large_image_is_pushed(rt: HostRuntime) -> Result<(), ProcessImageStop> {
     let process = begin(rt.alloc())?;
     let length = count_pushed(&process);
     drop(process);
@@ -61,24 +61,24 @@ fn a_large_image_is_pushed(rt: HostRuntime) -> Result<(), ImageStop> {
     Ok(())
 }
 
-fn written_image(alloc: Global) -> Result<Vec<u8>, ImageStop> {
+fn written_process_image(alloc: Global) -> Result<Vec<u8>, ProcessImageStop> {
     let process = begin(alloc)?;
-    let image = write_image(alloc, &process);
+    let process_image = write_process_image(alloc, &process);
     drop(process);
-    Ok(image?)
+    Ok(process_image?)
 }
 
 #[test]
-fn a_large_image_is_written(rt: HostRuntime) -> Result<(), ImageStop> {
-    let image = written_image(rt.alloc())?;
-    assert!(rt; image.len() == IMAGE_BYTES);
+fn a_large_image_is_written(rt: HostRuntime) -> Result<(), ProcessImageStop> {
+    let process_image = written_process_image(rt.alloc())?;
+    assert!(rt; process_image.len() == IMAGE_BYTES);
     Ok(())
 }
 
 /// How many bytes the memory of the process of an image has.
-fn length_restored(alloc: Global, image: &[u8]) -> Result<usize, ImageStop> {
+fn length_restored(alloc: Global, process_image: &[u8]) -> Result<usize, ProcessImageStop> {
     let wasm = bytes_of(alloc, &LARGE_ECHO)?;
-    let Some(process) = restore_with(alloc, wasm.as_slice(), image, PAGES)? else {
+    let Some(process) = restore_with(alloc, wasm.as_slice(), process_image, PAGES)? else {
         return Ok(0);
     };
     let length = process.memory().len();
@@ -87,8 +87,8 @@ fn length_restored(alloc: Global, image: &[u8]) -> Result<usize, ImageStop> {
 }
 
 #[test]
-fn a_large_image_comes_back(rt: HostRuntime) -> Result<(), ImageStop> {
-    let image = written_image(rt.alloc())?;
-    assert!(rt; length_restored(rt.alloc(), image.as_slice())? == MEMORY_BYTES);
+fn a_large_image_comes_back(rt: HostRuntime) -> Result<(), ProcessImageStop> {
+    let process_image = written_process_image(rt.alloc())?;
+    assert!(rt; length_restored(rt.alloc(), process_image.as_slice())? == MEMORY_BYTES);
     Ok(())
 }

@@ -14,11 +14,11 @@ mod call_stories;
 #[cfg(test)]
 mod calls;
 #[cfg(test)]
-mod image_stop;
-#[cfg(test)]
 mod images;
 #[cfg(test)]
 mod large_images;
+#[cfg(test)]
+mod process_image_stop;
 #[cfg(test)]
 mod processes;
 #[cfg(test)]

@@ -1,13 +1,14 @@
 //! Processes of small modules, and what they do step after step.
 
-use crate::image_stop::ImageStop;
+use crate::process_image_stop::ProcessImageStop;
 use hex::decode;
-use machine_loader::{FrontFault, read};
+use machine_loader::{ModuleFault, read};
 use process::{Process, ProcessEnd, ProcessFault, Stop};
 use state_image::restoring::{RestoreFault, restore};
 use std::alloc::Global;
-use wasi_abi::{Answer, Config, Kind};
-use wasm_syntax::Row;
+use wasi_abi::{Answer, Config, Question};
+use wasi_calls_rules::OutputStream;
+use wasm_syntax::ItemList;
 
 /// Writes a line and exits with 7.
 pub(crate) const HELLO: [&str; 4] = [
@@ -17,7 +18,7 @@ pub(crate) const HELLO: [&str; 4] = [
     "02000a13011100410141004101411010001a410710010b0b11010041000b0b080000000300000068690a",
 ];
 
-/// `echo` up to the number of its pages, and behind it.
+/// `echo` up to the number of its pages, and after it.
 const BEFORE_PAGES: &str = "\
      0061736d01000000010c0260000060047f7f7f7f017f02440216776173695f736e617073686f745f\
      70726576696577310766645f72656164000116776173695f736e617073686f745f70726576696577\
@@ -35,7 +36,7 @@ pub(crate) const ECHO: [&str; 3] = [BEFORE_PAGES, "01", BEHIND_PAGES];
 pub(crate) const LARGE_ECHO: [&str; 3] = [BEFORE_PAGES, "10", BEHIND_PAGES];
 
 /// Makes directories and files, writes into both, and removes one that stays open. Then it leaves a
-/// line of stream 1 unfinished, and reads in a function that it calls.
+/// line of stdout unfinished, and reads in a function that it calls.
 pub(crate) const FILES: [&str; 14] = [
     "0061736d0100000001250560037f7f7f017f60097f7f7f7f7f7e7e7f7f017f60047f7f7f7f017f600000",
     "60017f017f02c0010516776173695f736e617073686f745f707265766965773115706174685f63726561",
@@ -54,15 +55,15 @@ pub(crate) const FILES: [&str; 14] = [
 ];
 
 /// A process of the module that these bytes spell, at its start.
-fn start(alloc: Global, wasm: &[u8], config: Config) -> Result<Process, ImageStop> {
+fn start(alloc: Global, wasm: &[u8], config: Config) -> Result<Process, ProcessImageStop> {
     let module = read(alloc, wasm)?;
     match Process::start(alloc, module, config) {
         Ok(process) => Ok(process),
-        Err(fault) => Err(ImageStop::from(FrontFault::from(fault))),
+        Err(fault) => Err(ProcessImageStop::from(ModuleFault::from(fault))),
     }
 }
 
-pub(crate) fn bytes_of(alloc: Global, texts: &[&str]) -> Result<Vec<u8>, ImageStop> {
+pub(crate) fn bytes_of(alloc: Global, texts: &[&str]) -> Result<Vec<u8>, ProcessImageStop> {
     let mut bytes = Vec::new(alloc);
     for text in texts {
         bytes.extend_from_slice(decode(alloc, *text)?.as_slice())?;
@@ -70,35 +71,39 @@ pub(crate) fn bytes_of(alloc: Global, texts: &[&str]) -> Result<Vec<u8>, ImageSt
     Ok(bytes)
 }
 
-fn config(alloc: Global, pages: u64) -> Result<Config, ImageStop> {
-    Ok(Config::new(pages, 1, 64, Row::new(alloc), Row::new(alloc))?)
+fn config(alloc: Global, pages: u64) -> Result<Config, ProcessImageStop> {
+    Ok(Config::new(pages, 1, 64, ItemList::new(alloc), ItemList::new(alloc))?)
 }
 
 /// A process that begins, whose memory may have so many pages.
-pub(crate) fn begin_with(alloc: Global, wasm: &[u8], pages: u64) -> Result<Process, ImageStop> {
+pub(crate) fn begin_with(
+    alloc: Global,
+    wasm: &[u8],
+    pages: u64,
+) -> Result<Process, ProcessImageStop> {
     start(alloc, wasm, config(alloc, pages)?)
 }
 
 /// The process that was made, if the bytes were an image.
-fn process_of(made: Result<Process, RestoreFault>) -> Result<Option<Process>, ImageStop> {
+fn process_of(made: Result<Process, RestoreFault>) -> Result<Option<Process>, ProcessImageStop> {
     match made {
         Ok(process) => Ok(Some(process)),
         Err(RestoreFault::NotAnImage) => Ok(None),
-        Err(fault) => Err(ImageStop::from(fault)),
+        Err(fault) => Err(ProcessImageStop::from(fault)),
     }
 }
 
-/// The process of an image, if there is one, whose memory may have so many pages. No `?` stands
+/// The process of an image, if there is one, whose memory may have so many pages. No `?` is
 /// while the module is owned.
 pub(crate) fn restore_with(
     alloc: Global,
     wasm: &[u8],
-    image: &[u8],
+    process_image: &[u8],
     pages: u64,
-) -> Result<Option<Process>, ImageStop> {
+) -> Result<Option<Process>, ProcessImageStop> {
     let settings = config(alloc, pages)?;
     let module = read(alloc, wasm)?;
-    process_of(restore(alloc, module, settings, image))
+    process_of(restore(alloc, module, settings, process_image))
 }
 
 /// What a process does, or how it stops.
@@ -116,7 +121,7 @@ pub(crate) enum Step {
     Stop(u64, [u64; 4]),
     /// It has taken so many steps and answers.
     Taken(u64, u64),
-    /// One line waits on stream 1, with this text.
+    /// One line waits on stdout, with this text.
     Owe(&'static [u8]),
     /// All lines that wait are taken.
     Release,
@@ -124,8 +129,8 @@ pub(crate) enum Step {
     Exit,
 }
 
-fn hello(alloc: Global) -> Result<Answer, ImageStop> {
-    let text = Row::from_vec(Vec::from_slice(alloc, b"hello")?);
+fn hello(alloc: Global) -> Result<Answer, ProcessImageStop> {
+    let text = ItemList::from_vec(Vec::from_slice(alloc, b"hello")?);
     Ok(Answer::Request { text })
 }
 
@@ -133,7 +138,7 @@ fn stop_of(process: &mut Process, fuel: u64) -> [u64; 4] {
     let why = match process.advance(fuel) {
         Ok(Stop::Spent) => 1,
         Ok(Stop::Owes) => 2,
-        Ok(Stop::Asks(Kind::Request)) => 3,
+        Ok(Stop::Asks(Question::Request)) => 3,
         Ok(Stop::Ended(ProcessEnd::Exited(0))) => 4,
         _ => 0,
     };
@@ -144,7 +149,9 @@ fn stop_of(process: &mut Process, fuel: u64) -> [u64; 4] {
 fn owes(process: &Process, text: &[u8]) -> bool {
     let waiting = process.waiting();
     match waiting.first() {
-        Some(line) => waiting.len() == 1 && line.stream() == 1 && line.text() == text,
+        Some(line) => {
+            waiting.len() == 1 && line.stream() == OutputStream::Stdout && line.text() == text
+        }
         None => false,
     }
 }
@@ -184,7 +191,7 @@ fn is_done(process: &mut Process, step: &Step) -> bool {
     }
 }
 
-fn goes_so(alloc: Global, process: &mut Process, step: &Step) -> Result<bool, ImageStop> {
+fn goes_so(alloc: Global, process: &mut Process, step: &Step) -> Result<bool, ProcessImageStop> {
     match step {
         Step::Run(fuel) => {
             let _stop = process.advance(*fuel)?;
@@ -207,10 +214,10 @@ pub(crate) fn take_steps(
     alloc: Global,
     process: &mut Process,
     steps: &[Step],
-) -> Result<(), ImageStop> {
+) -> Result<(), ProcessImageStop> {
     for (place, step) in steps.iter().enumerate() {
         if !goes_so(alloc, process, step)? {
-            return Err(ImageStop::Wrong(place));
+            return Err(ProcessImageStop::Wrong(place));
         }
     }
     Ok(())

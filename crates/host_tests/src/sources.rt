@@ -1,5 +1,8 @@
+//! Sources hand out their answers in order, and outlets take lines.
+
 ghost use Rattle.std.specs.Prelude.{⊤, List, Option, IfOk, OnOk, IsErr, map};
 ghost use Rattle.wasi_abi.specs.declared.answer.Answer.{Answer};
+ghost use Rattle.wasi_calls_rules.specs.declared.output_stream.OutputStream.TheVariants.{Stdout};
 ghost use Rattle.record_replay.specs.rules.Calls.{Releases, all_taken};
 ghost use Rattle.record_replay.specs.rules.Lists.{HandsOut};
 
@@ -10,19 +13,21 @@ use record_replay::{
 use std::alloc::{AllocError, Global};
 use std::cell::Cell;
 use std::rc::Rc;
-use wasi_abi::{Answer, Kind};
-use wasm_syntax::Row;
+use wasi_abi::{Answer, Question};
+use wasi_calls_rules::OutputStream;
+use wasm_syntax::ItemList;
 
 /// What a list of answers says first, through a box.
 fn ask_first(
     alloc: Global,
     answers: AnswerList,
-    kind: Kind,
+    question: Question,
 ) -> Result<Result<Option<Answer>, SourceFault>, AllocError>
-    ensures { IfOk result (λ said. (left : List Answer) × HandsOut answers said left) }
+    ensures { IfOk result (λ said. (answers_left : List Answer)
+        × HandsOut answers said answers_left) }
 {
     let mut any = AnySource(Box::new(alloc, answers)?);
-    Ok(any.answer(kind))
+    Ok(any.answer(question))
 }
 
 /// What an outlet that refuses the first line says of it, through a box.
@@ -31,36 +36,36 @@ fn release_first(alloc: Global) -> Result<Result<(), OutletFault>, AllocError>
 {
     let refusing = RefusingOutlet::new(LineList::new(alloc), 1);
     let mut any = AnyOutlet(Box::new(alloc, refusing)?);
-    Ok(any.release(1, 2, b"line"))
+    Ok(any.release(1, OutputStream::Stderr, b"line"))
 }
 
 /// Asks for the time, and then for a request.
 fn ask_twice<S: Source>(source: &mut S) -> Result<Option<Answer>, SourceFault>
     ensures { IfOk result (λ second. (between : S) × (first : Option Answer)
-        × S.gives source.old Kind.Realtime (Ok first) between
-        × S.gives between Kind.Request (Ok second) source.new) }
+        × S.gives source.old Question.Realtime (Ok first) between
+        × S.gives between Question.Request (Ok second) source.new) }
 {
-    let _first = source.answer(Kind::Realtime)?;
-    source.answer(Kind::Request)
+    let _first = source.answer(Question::Realtime)?;
+    source.answer(Question::Request)
 }
 
-/// Releases these texts on stream 1, each once and in order, with the numbers from 1 on. At a fault
+/// Releases these texts on stdout, each once and in order, with the numbers from 1 on. At a fault
 /// it stops.
-fn tell_all<O: Outlet>(outlet: &mut O, texts: &[Row<u8>]) -> Result<(), OutletFault>
+fn tell_all<O: Outlet>(outlet: &mut O, texts: &[ItemList<u8>]) -> Result<(), OutletFault>
     ensures { OnOk result
         (Releases O.takes outlet.old (all_taken 1 (map (λ text. record {
-          stream = 1;
+          stream = Stdout;
           text = text;
         }) texts.now)) outlet.new) }
 {
     for (i, text) in texts.iter().enumerate() {
-        outlet.release(i as u64 + 1, 1, text.as_slice())?;
+        outlet.release(i as u64 + 1, OutputStream::Stdout, text.as_slice())?;
     }
     Ok(())
 }
 
 fn request(alloc: Global, text: &[u8]) -> Result<Answer, AllocError> {
-    let text = Row::from_vec(text.to_vec(alloc)?);
+    let text = ItemList::from_vec(text.to_vec(alloc)?);
     Ok(Answer::Request { text })
 }
 
@@ -85,25 +90,25 @@ fn is_seven(said: &Result<Option<Answer>, SourceFault>) -> bool {
     }
 }
 
-fn says_seven<S: Source>(source: &mut S, kind: Kind) -> bool {
-    let said = source.answer(kind);
+fn says_seven<S: Source>(source: &mut S, question: Question) -> bool {
+    let said = source.answer(question);
     is_seven(&said)
 }
 
-fn says_hello<S: Source>(source: &mut S, kind: Kind) -> bool {
-    let said = source.answer(kind);
+fn says_hello<S: Source>(source: &mut S, question: Question) -> bool {
+    let said = source.answer(question);
     is_hello(&said)
 }
 
 fn says_nothing<S: Source>(source: &mut S) -> bool {
-    matches!(&source.answer(Kind::Request), Ok(None))
+    matches!(&source.answer(Question::Request), Ok(None))
 }
 
 fn are_in_order(alloc: Global) -> Result<bool, AllocError> {
     let mut source = clock_and_request(alloc)?;
     Ok(
-        says_seven(&mut source, Kind::Monotonic)
-            && says_hello(&mut source, Kind::Random { length: 3 })
+        says_seven(&mut source, Question::Monotonic)
+            && says_hello(&mut source, Question::Random { length: 3 })
             && says_nothing(&mut source)
             && says_nothing(&mut source),
     )
@@ -117,7 +122,7 @@ fn answers_are_handed_out_in_order(rt: HostRuntime) -> Result<(), AllocError> {
 }
 
 fn is_first_in_box(alloc: Global) -> Result<bool, AllocError> {
-    let said = ask_first(alloc, clock_and_request(alloc)?, Kind::Realtime)?;
+    let said = ask_first(alloc, clock_and_request(alloc)?, Question::Realtime)?;
     Ok(is_seven(&said))
 }
 
@@ -136,18 +141,20 @@ fn is_second_of_list(alloc: Global) -> Result<bool, AllocError> {
     Ok(is_second(&mut clock_and_request(alloc)?))
 }
 
-fn is_line(line: &NumberedLine, number: u64, stream: u8, text: &[u8]) -> bool {
+fn is_line(line: &NumberedLine, number: u64, stream: OutputStream, text: &[u8]) -> bool {
     (line.number, line.stream) == (number, stream) && line.text.as_slice() == text
 }
 
 /// Releases two lines, the second one empty.
 fn release_two(outlet: &mut LineList) -> Result<(), OutletFault> {
-    outlet.release(1, 1, b"hello")?;
-    outlet.release(2, 2, b"")
+    outlet.release(1, OutputStream::Stdout, b"hello")?;
+    outlet.release(2, OutputStream::Stderr, b"")
 }
 
 fn are_two(lines: &[NumberedLine]) -> bool {
-    lines.len() == 2 && is_line(&lines[0], 1, 1, b"hello") && is_line(&lines[1], 2, 2, b"")
+    lines.len() == 2
+        && is_line(&lines[0], 1, OutputStream::Stdout, b"hello")
+        && is_line(&lines[1], 2, OutputStream::Stderr, b"")
 }
 
 fn are_two_kept(alloc: Global) -> bool {
@@ -155,10 +162,10 @@ fn are_two_kept(alloc: Global) -> bool {
     release_two(&mut outlet) == Ok(()) && are_two(outlet.lines())
 }
 
-fn three_texts(alloc: Global) -> Result<Vec<Row<u8>>, AllocError> {
+fn three_texts(alloc: Global) -> Result<Vec<ItemList<u8>>, AllocError> {
     let mut texts = Vec::new(alloc);
     for text in [b"a", b"b", b"c"] {
-        texts.push(Row::from_vec(text.to_vec(alloc)?))?;
+        texts.push(ItemList::from_vec(text.to_vec(alloc)?))?;
     }
     Ok(texts)
 }
@@ -172,9 +179,10 @@ fn are_told_so(alloc: Global, refused: u64, count: usize) -> Result<bool, AllocE
 }
 
 fn release_three<O: Outlet>(outlet: &mut O) -> [bool; 3] {
-    let first = outlet.release(1, 1, b"line").is_ok();
-    let second = outlet.release(2, 1, b"line").is_ok();
-    [first, second, outlet.release(3, 1, b"line").is_ok()]
+    let stream = OutputStream::Stdout;
+    let first = outlet.release(1, stream, b"line").is_ok();
+    let second = outlet.release(2, stream, b"line").is_ok();
+    [first, second, outlet.release(3, stream, b"line").is_ok()]
 }
 
 /// Whether three releases are answered so, and each of them is handed on.
@@ -190,9 +198,18 @@ struct Sum(Rc<Cell<u64>>);
 impl Outlet for Sum {
     ghost takes = { λ _ _ _ _ _. ⊤ };
 
-    fn release(&mut self, number: u64, stream: u8, text: &[u8]) -> Result<(), OutletFault> {
+    fn release(
+        &mut self,
+        number: u64,
+        stream: OutputStream,
+        text: &[u8],
+    ) -> Result<(), OutletFault> {
         let first = u64::from(text.first().copied().unwrap_or(0));
-        let all = (number % 10) * 10_000 + u64::from(stream) * 1_000 + first;
+        let place = match stream {
+            OutputStream::Stdout => 1,
+            OutputStream::Stderr => 2,
+        };
+        let all = (number % 10) * 10_000 + place * 1_000 + first;
         self.0.set(self.0.get().wrapping_add(all));
         if number < 10 {
             Ok(())
@@ -204,9 +221,9 @@ impl Outlet for Sum {
 
 /// Whether a line is taken once, and one with a great number is refused.
 fn adds_up(any: &mut AnyOutlet, sum: &Cell<u64>) -> bool {
-    any.release(3, 2, b"a") == Ok(())
+    any.release(3, OutputStream::Stderr, b"a") == Ok(())
         && sum.get() == 32_097
-        && any.release(10, 1, b"") == Err(OutletFault)
+        && any.release(10, OutputStream::Stdout, b"") == Err(OutletFault)
         && sum.get() == 33_097
 }
 

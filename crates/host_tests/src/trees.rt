@@ -2,7 +2,7 @@
 //! of it.
 
 use file_tree::limits::NODES;
-use file_tree::{ByteList, NodeKind, Tree, is_name};
+use file_tree::{ByteList, NodeType, Tree, is_name};
 use std::alloc::{AllocError, Global};
 
 fn make_node(
@@ -10,7 +10,7 @@ fn make_node(
     tree: &mut Tree,
     directory: u64,
     name: &[u8],
-    kind: NodeKind,
+    node_type: NodeType,
 ) -> Result<u64, AllocError> {
     if !tree.is_directory(directory) || !tree.has_path(directory) || !is_name(name) {
         return Ok(0);
@@ -18,7 +18,7 @@ fn make_node(
     if tree.child(directory, name).is_some() || tree.len() >= NODES || tree.next() >= 1_000 {
         return Ok(0);
     }
-    tree.create(alloc, directory, name, kind)
+    tree.create(alloc, directory, name, node_type)
 }
 
 fn move_node(
@@ -72,12 +72,12 @@ fn add_node(
     alloc: Global,
     tree: &mut Tree,
     number: u64,
-    kind: NodeKind,
+    node_type: NodeType,
 ) -> Result<bool, AllocError> {
     if number < tree.next() || number >= 1_000 || tree.len() >= NODES {
         return Ok(false);
     }
-    tree.create_removed(alloc, number, kind)?;
+    tree.create_removed(alloc, number, node_type)?;
     Ok(true)
 }
 
@@ -102,8 +102,8 @@ fn hang_node(
 /// What is done to a tree, where it may be, or what is seen of it then. Nodes have numbers, of
 /// which the root is 1.
 enum Step {
-    /// A directory, a name, a kind, and the number of the node that is made so.
-    Make(u64, &'static [u8], NodeKind, u64),
+    /// A directory, a name, a type, and the number of the node that is made so.
+    Make(u64, &'static [u8], NodeType, u64),
     /// A node goes into a directory, as `a`.
     Move(u64, u64),
     Remove(u64),
@@ -112,7 +112,7 @@ enum Step {
     /// Bytes are written into a file, from here on.
     Put(u64, u64, &'static [u8]),
     /// A node with this number is made that has no path.
-    Add(u64, NodeKind),
+    Add(u64, NodeType),
     /// It goes into a directory, under a name.
     Hang(u64, u64, &'static [u8]),
     /// The next number is this one at least.
@@ -140,8 +140,8 @@ enum Step {
 
 /// A file is made, moved, written and removed.
 const CHANGES: &[Step] = &[
-    Step::Make(1, b"a", NodeKind::File, 2),
-    Step::Make(1, b"d", NodeKind::Directory, 3),
+    Step::Make(1, b"a", NodeType::File, 2),
+    Step::Make(1, b"d", NodeType::Directory, 3),
     Step::Move(2, 3),
     Step::Child(1, b"a", None),
     Step::Child(3, b"a", Some(2)),
@@ -165,12 +165,12 @@ const CHANGES: &[Step] = &[
     Step::Used(4),
     Step::Forget(2),
     Step::Used(0),
-    Step::Make(1, b"a", NodeKind::File, 4),
+    Step::Make(1, b"a", NodeType::File, 4),
 ];
 
 /// Bytes that were cut off are zeros.
 const CUTS: &[Step] = &[
-    Step::Make(1, b"a", NodeKind::File, 2),
+    Step::Make(1, b"a", NodeType::File, 2),
     Step::Resize(2, 5_000),
     Step::Put(2, 0, &[b'a'; 5_000]),
     Step::Chunks(2),
@@ -185,8 +185,8 @@ const CUTS: &[Step] = &[
 
 /// A tree is built anew: of nodes without a path, which go into directories then.
 const BUILT: &[Step] = &[
-    Step::Add(3, NodeKind::File),
-    Step::Add(5, NodeKind::Directory),
+    Step::Add(3, NodeType::File),
+    Step::Add(5, NodeType::Directory),
     Step::RaiseNext(8),
     Step::Next(8),
     Step::HasPath(3, false),
@@ -265,12 +265,12 @@ fn is_done(tree: &mut Tree, step: &Step) -> bool {
 /// Whether a step goes so.
 fn goes_so(alloc: Global, tree: &mut Tree, step: &Step) -> Result<bool, AllocError> {
     match step {
-        Step::Make(directory, name, kind, number) => {
-            Ok(make_node(alloc, tree, *directory, name, *kind)? == *number)
+        Step::Make(directory, name, node_type, number) => {
+            Ok(make_node(alloc, tree, *directory, name, *node_type)? == *number)
         }
         Step::Move(number, directory) => move_node(alloc, tree, *number, *directory),
         Step::Resize(number, size) => set_size(tree, *number, *size),
-        Step::Add(number, kind) => add_node(alloc, tree, *number, *kind),
+        Step::Add(number, node_type) => add_node(alloc, tree, *number, *node_type),
         Step::Hang(number, directory, name) => hang_node(alloc, tree, *number, *directory, name),
         step => Ok(is_done(tree, step)),
     }

@@ -23,9 +23,9 @@
 //! # Who may touch what
 //!
 //! There is no representation to hide: integers are Rust's own. `machine_slots` and `machine_frame`
-//! call the operators, and `wasm_semantics` cites the definitions. It stands on `wasm_syntax`,
-//! which names operators and traps. It takes no memory. Its only errors are `Trap::DivideByZero`
-//! and `Trap::IntegerOverflow`.
+//! call the operators, and `wasm_semantics` cites the definitions. It uses `wasm_syntax`, which
+//! names operators and traps. It takes no memory. Its only errors are `Trap::DivideByZero` and
+//! `Trap::IntegerOverflow`.
 #![tactic(auto)]
 
 ghost use Rattle.std.specs.Prelude.{◌≡◌, ◌<◌, ◌%◌, ◌^◌};

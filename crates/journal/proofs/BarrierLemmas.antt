@@ -1,19 +1,20 @@
 -- A barrier, on what a cut may leave.
 use Rattle.std.proofs.Common.{◌≡◌, ◌≤◌, ◌<◌, ◌+◌, ◌^◌, ℕ, zero, suc, ◌-◌, List, [], ◌∷◌, ◌++◌}
-use Rattle.std.proofs.Common.{length, take, drop, refl, sym, ap, ◌∙◌, subst, arith}
+use Rattle.std.proofs.Common.{Bool, false, length, take, drop, refl, sym, ap, ◌∙◌, subst, arith}
 use Rattle.std.proofs.lemmas.List.{append-nil, take_all, drop_all}
 use Rattle.std.proofs.lemmas.Grind.{flat_map-append}
-use Rattle.sector_disk.specs.rules.Image.{Image, sector_at}
+use Rattle.sector_disk.specs.rules.DiskImage.{DiskImage, sector_at}
 use Rattle.sector_disk.specs.rules.Medium.{Medium, After, Follows, LeavesOnly, Passes}
 use Rattle.sector_disk.specs.rules.Run.{IsTornRun, IsWrittenRun}
-use Rattle.sector_disk.proofs.Moments.{started, weaker, leaves_only, shows_left, leaves_weaker}
+use Rattle.sector_disk.proofs.Moments.{started, weaker, leaves_only, shows_crashed, leaves_weaker}
 use Rattle.wasi_abi.specs.declared.version.Version.{Version}
 use Rattle.disk_layout.specs.rules.Places.{Geometry, journal_place, total_sectors}
 use Rattle.disk_layout.specs.rules.Journal.{Record, record_bytes}
 use Rattle.disk_layout.proofs.JournalLemmas.{length-journal_sector}
 use Rattle.journal.specs.rules.Packed.{packed, sectors_for}
-use Rattle.journal.specs.rules.Steps.{HoldsBytes, RecordsStand, AppendsFront, IsOn, records_bytes}
-use Rattle.journal.specs.laws.Laws.{FreshStands, ScansWhatStands, ScansNoneOfLater}
+use Rattle.journal.specs.rules.State.{state}
+use Rattle.journal.specs.rules.Steps.{HoldsBytes, HoldsRecords, AppendsFront, IsOn, records_bytes}
+use Rattle.journal.specs.laws.Laws.{FreshHoldsNone, ScansWhatIsHeld, ScansNoneOfLater}
 use Rattle.journal.proofs.PackedLemmas.{packed_at}
 use Rattle.journal.proofs.RunLemmas.{IsRun, all_bytes, none_after, is_new, front_of_kept}
 use Rattle.journal.proofs.RunLemmas.{none_later, others_same, holds_all}
@@ -21,13 +22,13 @@ use Rattle.journal.proofs.RecordLemmas.{scan_of}
 
 module _ (geometry : Geometry) (v : Version) (g used : ℕ) (bytes : List ℕ)
     (records kept : List Record) (old : Medium)
-    (on : IsOn geometry v g used bytes records kept old.may_leave)
+    (on : IsOn geometry v g used bytes records kept old.crash_images)
     (size : total_sectors geometry ≤ old.sectors) where
   -- where nothing is written
-  stays_so : (image : Image) → old.may_leave image
+  stays_so : (image : DiskImage) → old.crash_images image
       → AppendsFront geometry v g used records kept image image
-  stays_so image left =
-      let holds = on.stands image left in
+  stays_so image crashed =
+      let holds = on.holds_records image crashed in
       let all = all_bytes geometry g used (records_bytes v records) image holds in
       let front = scan_of v geometry image g 0 records kept on.fit on.fit_kept (all
       ∙ sym (append-nil (records_bytes v records))) in
@@ -40,14 +41,15 @@ module _ (geometry : Geometry) (v : Version) (g used : ℕ) (bytes : List ℕ)
       }
 
   pub nothing_written : LeavesOnly old old
-      (After (AppendsFront geometry v g used records kept) old.may_leave)
+      (After (AppendsFront geometry v g used records kept) old.crash_images)
   nothing_written =
-      leaves_only old old _ (started old _) (λ image left. (image, left, stays_so image left))
+      leaves_only old old _ (started old _) (λ image crashed.
+      (image, crashed, stays_so image crashed))
 
-  pub still_stands : length bytes ≡ 0 → (image : Image) → old.may_leave image
-      → RecordsStand geometry v g used (records ++ kept) image
-  still_stands none image left =
-      let holds = on.stands image left in
+  pub still_held : length bytes ≡ 0 → (image : DiskImage) → old.crash_images image
+      → HoldsRecords geometry v g used (records ++ kept) image
+  still_held none image crashed =
+      let holds = on.holds_records image crashed in
       let empty : records_bytes v (records ++ kept) ≡ records_bytes v records =
       flat_map-append (record_bytes v) records kept
       ∙ ap (λ l. records_bytes v records ++ l) (sym on.spells)
@@ -61,13 +63,13 @@ module _ (geometry : Geometry) (v : Version) (g used : ℕ) (bytes : List ℕ)
 
   module _ (room : used + sectors_for (length bytes) ≤ geometry.journal_sectors)
       (bound : geometry.journal_sectors < 2 ^ 32) where
-    run_of : (image : Image) → old.may_leave image
+    run_of : (image : DiskImage) → old.crash_images image
         → IsRun geometry g used (sectors_for (length bytes)) (records_bytes v records) bytes image
-    run_of image left =
-        let is = old.is_image image left in
+    run_of image crashed =
+        let is = old.is_disk_image image crashed in
         let full = is.full in
         record {
-          stands = on.stands image left;
+          holds_bytes = on.holds_records image crashed;
           count = refl;
           room = room;
           full = λ k lt. full (journal_place geometry + k) (omega arith);
@@ -75,14 +77,14 @@ module _ (geometry : Geometry) (v : Version) (g used : ℕ) (bytes : List ℕ)
           places = omega arith;
         }
 
-    pub appends : (old_image new_image : Image) → old.may_leave old_image
+    pub appends : (old_image new_image : DiskImage) → old.crash_images old_image
         → IsTornRun (journal_place geometry + used)
         (packed g (used + 1) (sectors_for (length bytes)) bytes)
         (sectors_for (length bytes)) old_image new_image
         → AppendsFront geometry v g used records kept old_image new_image
-    appends old_image new_image left torn =
+    appends old_image new_image crashed torn =
         let n = sectors_for (length bytes) in
-        let run = run_of old_image left in
+        let run = run_of old_image crashed in
         let front = front_of_kept geometry g used n (records_bytes v records) bytes old_image
         new_image run torn in
         let scanned = scan_of v geometry new_image g front.0 records kept on.fit on.fit_kept
@@ -102,8 +104,8 @@ module _ (geometry : Geometry) (v : Version) (g used : ℕ) (bytes : List ℕ)
         → LeavesOnly old new
         (After (IsTornRun (journal_place geometry + used)
         (packed g (used + 1) (sectors_for (length bytes)) bytes) (sectors_for (length bytes)))
-        old.may_leave)
-        → LeavesOnly old new (After (AppendsFront geometry v g used records kept) old.may_leave)
+        old.crash_images)
+        → LeavesOnly old new (After (AppendsFront geometry v g used records kept) old.crash_images)
     any_moment new leaves =
         leaves_weaker old new _ _ leaves (λ image was. (
           was.0,
@@ -111,17 +113,17 @@ module _ (geometry : Geometry) (v : Version) (g used : ℕ) (bytes : List ℕ)
           appends was.0 image was.1 was.2,
         ))
 
-    torn_of_written : (old_image new_image : Image) → old.may_leave old_image
+    torn_of_written : (old_image new_image : DiskImage) → old.crash_images old_image
         → IsWrittenRun (journal_place geometry + used)
         (packed g (used + 1) (sectors_for (length bytes)) bytes)
         (sectors_for (length bytes)) old_image new_image
         → IsTornRun (journal_place geometry + used)
         (packed g (used + 1) (sectors_for (length bytes)) bytes)
         (sectors_for (length bytes)) old_image new_image
-    torn_of_written old_image new_image left written =
+    torn_of_written old_image new_image crashed written =
         let n = sectors_for (length bytes) in
-        let run = run_of old_image left in
-        let is = old.is_image old_image left in
+        let run = run_of old_image crashed in
+        let is = old.is_disk_image old_image crashed in
         let full = is.full in
         record {
           count = written.count;
@@ -150,14 +152,14 @@ module _ (geometry : Geometry) (v : Version) (g used : ℕ) (bytes : List ℕ)
     pub durable : (new : Medium)
         → Follows (IsWrittenRun (journal_place geometry + used)
         (packed g (used + 1) (sectors_for (length bytes)) bytes) (sectors_for (length bytes)))
-        old.shows new.may_leave
-        → (image : Image) → new.may_leave image
-        → RecordsStand geometry v g (used + sectors_for (length bytes)) (records ++ kept) image
-    durable new stored image left =
+        old.shows new.crash_images
+        → (image : DiskImage) → new.crash_images image
+        → HoldsRecords geometry v g (used + sectors_for (length bytes)) (records ++ kept) image
+    durable new stored image crashed =
         let n = sectors_for (length bytes) in
-        let was = stored image left in
+        let was = stored image crashed in
         let written = was.2 in
-        let before = shows_left old was.0 was.1 in
+        let before = shows_crashed old was.0 was.1 in
         let run = run_of was.0 before in
         let torn = torn_of_written was.0 image before written in
         let all = holds_all geometry g used n (records_bytes v records) bytes was.0 image run torn
@@ -172,18 +174,18 @@ pub any_moment_at : (geometry : Geometry) (v : Version) (g used : ℕ) (bytes : 
     (records kept : List Record) (old new : Medium) (at h u : ℕ) (b : List ℕ)
     → at ≡ journal_place geometry → h ≡ g → u ≡ used
     → b ≡ bytes
-    → IsOn geometry v g used bytes records kept old.may_leave → total_sectors geometry ≤ old.sectors
-    → used + sectors_for (length bytes) ≤ geometry.journal_sectors
-    → geometry.journal_sectors < 2 ^ 32
+    → IsOn geometry v g used bytes records kept old.crash_images
+    → total_sectors geometry ≤ old.sectors → used + sectors_for (length bytes) ≤
+    geometry.journal_sectors → geometry.journal_sectors < 2 ^ 32
     → LeavesOnly old new (After (IsTornRun (at + u) (packed h (u + 1) (sectors_for (length b)) b)
-    (sectors_for (length b))) old.may_leave)
-    → LeavesOnly old new (After (AppendsFront geometry v g used records kept) old.may_leave)
+    (sectors_for (length b))) old.crash_images)
+    → LeavesOnly old new (After (AppendsFront geometry v g used records kept) old.crash_images)
 any_moment_at geometry v g used bytes records kept old new at h u b at-is h-is u-is b-is on size
     room bound leaves =
     let P : ℕ → ℕ → ℕ → List ℕ → Type 0 =
     λ at h u b. LeavesOnly old new
     (After (IsTornRun (at + u) (packed h (u + 1) (sectors_for (length b)) b)
-    (sectors_for (length b))) old.may_leave) in
+    (sectors_for (length b))) old.crash_images) in
     let one = subst (λ (x : ℕ). P x h u b) at-is leaves in
     let two = subst (λ (x : ℕ). P (journal_place geometry) x u b) h-is one in
     let three = subst (λ (x : ℕ). P (journal_place geometry) g x b) u-is two in
@@ -194,32 +196,40 @@ pub durable_at : (geometry : Geometry) (v : Version) (g used : ℕ) (bytes : Lis
     (records kept : List Record) (old new : Medium) (w : Version) (at h u n : ℕ) (b : List ℕ)
     → w ≡ v → at ≡ journal_place geometry → h ≡ g → u ≡ used
     → b ≡ bytes → n ≡ sectors_for (length bytes)
-    → IsOn geometry v g used bytes records kept old.may_leave → total_sectors geometry ≤ old.sectors
-    → used + sectors_for (length bytes) ≤ geometry.journal_sectors
-    → geometry.journal_sectors < 2 ^ 32
+    → IsOn geometry v g used bytes records kept old.crash_images
+    → total_sectors geometry ≤ old.sectors → used + sectors_for (length bytes) ≤
+    geometry.journal_sectors → geometry.journal_sectors < 2 ^ 32
     → Follows (IsWrittenRun (at + u) (packed h (u + 1) (sectors_for (length b)) b)
-    (sectors_for (length b))) old.shows new.may_leave
-    → (image : Image) → new.may_leave image
-    → RecordsStand geometry w h (u + n) (records ++ kept) image
+    (sectors_for (length b))) old.shows new.crash_images
+    → (image : DiskImage) → new.crash_images image
+    → HoldsRecords geometry w h (u + n) (records ++ kept) image
 durable_at geometry v g used bytes records kept old new w at h u n b w-is at-is h-is u-is b-is n-is
-    on size room bound stored image left =
+    on size room bound stored image crashed =
     let P : ℕ → ℕ → ℕ → List ℕ → Type 0 =
     λ at h u b. Follows (IsWrittenRun (at + u) (packed h (u + 1) (sectors_for (length b)) b)
-    (sectors_for (length b))) old.shows new.may_leave in
+    (sectors_for (length b))) old.shows new.crash_images in
     let one = subst (λ (x : ℕ). P x h u b) at-is stored in
     let two = subst (λ (x : ℕ). P (journal_place geometry) x u b) h-is one in
     let three = subst (λ (x : ℕ). P (journal_place geometry) g x b) u-is two in
     let four = subst (λ (x : List ℕ). P (journal_place geometry) g used x) b-is three in
     let five = durable geometry v g used bytes records kept old on size room bound new four image
-    left in
-    let six = subst (λ (x : ℕ). RecordsStand geometry v x (used + sectors_for (length bytes))
+    crashed in
+    let six = subst (λ (x : ℕ). HoldsRecords geometry v x (used + sectors_for (length bytes))
     (records ++ kept) image) (sym h-is) five in
-    let seven = subst (λ (x : ℕ). RecordsStand geometry v h (x + sectors_for (length bytes))
+    let seven = subst (λ (x : ℕ). HoldsRecords geometry v h (x + sectors_for (length bytes))
     (records ++ kept) image) (sym u-is) six in
-    let eight = subst (λ (x : ℕ). RecordsStand geometry v h (u + x) (records
+    let eight = subst (λ (x : ℕ). HoldsRecords geometry v h (u + x) (records
     ++ kept) image) (sym n-is) seven in
-    subst (λ (x : Version). RecordsStand geometry x h (u + n) (records ++ kept) image) (sym w-is)
+    subst (λ (x : Version). HoldsRecords geometry x h (u + n) (records ++ kept) image) (sym w-is)
     eight
+
+-- where memory alone holds no record, the journal is as after a barrier
+pub none_kept : (v : Version) (g used : ℕ) (kept : List ℕ) (has_failed : Bool) → length kept ≡ 0
+    → has_failed ≡ false
+    → state v g used kept has_failed ≡ state v g (used + sectors_for (length kept)) [] false
+none_kept v g used [] has_failed none works =
+    rw works (ap (λ (n : ℕ). state v g n [] false) (let e : used ≡ used + 0 = omega arith in e))
+none_kept v g used (x ∷ kept) has_failed none works = absurd (omega arith)
 
 -- there is room for what was counted
 pub room_for : (used journal len counted : ℕ) → counted ≡ sectors_for len → (len ≡ 0 → ⊥)
@@ -227,7 +237,7 @@ pub room_for : (used journal len counted : ℕ) → counted ≡ sectors_for len 
 room_for used journal len counted is some le = omega arith
 
 -- time and room go on
-pub goes : (old new : Medium) (P : Image → Type 0) → LeavesOnly old new P
+pub goes : (old new : Medium) (P : DiskImage → Type 0) → LeavesOnly old new P
     → Passes old new (λ _. Unit {0})
 goes old new P leaves = weaker old new P (λ _. Unit {0}) leaves.passes (λ image here. tt)
 
@@ -236,8 +246,8 @@ goes_not m = started m (λ _. Unit {0})
 
 -- ---- laws
 
-pub fresh_stands : FreshStands
-fresh_stands geometry v g image earlier =
+pub fresh_holds_none : FreshHoldsNone
+fresh_holds_none geometry v g image earlier =
     record {
       within = omega arith;
       written = λ k lt. absurd (omega arith);
@@ -245,8 +255,8 @@ fresh_stands geometry v g image earlier =
       clean = λ k le lt. earlier k lt;
     }
 
-pub scans_what_stands : ScansWhatStands
-scans_what_stands geometry v g used records image holds fit =
+pub scans_what_is_held : ScansWhatIsHeld
+scans_what_is_held geometry v g used records image holds fit =
     let front = scan_of v geometry image g 0 records [] fit tt
     (all_bytes geometry g used (records_bytes v records) image holds
     ∙ sym (append-nil (records_bytes v records))) in
@@ -258,4 +268,4 @@ scans_what_stands geometry v g used records image holds fit =
 
 pub scans_none_of_later : ScansNoneOfLater
 scans_none_of_later geometry v g image earlier =
-    scans_what_stands geometry v g 0 [] image (fresh_stands geometry v g image earlier) tt
+    scans_what_is_held geometry v g 0 [] image (fresh_holds_none geometry v g image earlier) tt

@@ -2,14 +2,14 @@
 use Rattle.std.proofs.Common.{◌≡◌, ℕ, zero, suc, ◌+◌, ◌<◌, ◌≤◌, Bool, true, List, []}
 use Rattle.std.proofs.Common.{length, get_or, if◌then◌else◌, lit<, lit≤, refl, sym, ap, subst}
 use Rattle.std.proofs.Common.{arith}
-use Rattle.sector_disk.specs.rules.Image.{Image, sector_at}
+use Rattle.sector_disk.specs.rules.DiskImage.{DiskImage, sector_at}
 use Rattle.sector_disk.proofs.ExampleLemmas.{below_two, peel, differ}
 use Rattle.disk_layout.specs.rules.Journal.{is_of}
 use Rattle.disk_layout.specs.rules.Sectors.{shown_generation}
 use Rattle.disk_layout.specs.laws.RecordExamples.{bare, spread, two_records}
 use Rattle.disk_layout.specs.laws.RecordExamples.{two_wide_records}
 use Rattle.journal.specs.rules.Steps.{SameOthers, ShowsNoneAfter}
-use Rattle.journal.specs.laws.Examples.{FittingExamples, StandingExamples, BarrierExamples}
+use Rattle.journal.specs.laws.Examples.{FittingExamples, HoldingExamples, BarrierExamples}
 use Rattle.journal.specs.laws.Examples.{before_one_of, behind_hello, only_hello, whole_end}
 use Rattle.journal.specs.laws.Examples.{torn_end, with_end}
 
@@ -58,14 +58,14 @@ fitting_examples = record {
   too_long_in_two = λ text long f. (let h = f.payload in omega (arith, h, long));
 }
 
--- ---- what stands
+-- ---- what is held
 
-abbrev stamped : ℕ → Image → ℕ → Type 0
+abbrev stamped : ℕ → DiskImage → ℕ → Type 0
 stamped g image k = is_of g (1 + k) (sector_at image (3 + k)) ≡ true
 
-pub standing_examples : StandingExamples
-standing_examples = record {
-  stands = record {
+pub holding_examples : HoldingExamples
+holding_examples = record {
+  in_two_sectors = record {
     within = omega arith;
     written = below_two (stamped 5 (spread 12 two_records)) refl refl;
     holds = refl;
@@ -99,7 +99,7 @@ standing_examples = record {
 
 -- ---- what a barrier may leave
 
-abbrev same_at : Image → ℕ → Type 0
+abbrev same_at : DiskImage → ℕ → Type 0
 same_at new k = sector_at new k ≡ sector_at only_hello k
 
 -- only the journal's second and third sectors differ
@@ -110,7 +110,7 @@ others_same second third = record {
   above = from_six (same_at (behind_hello second third)) (λ k. refl);
 }
 
-none_after : (image : Image) → shown_generation 1 (sector_at image 3) ≤ 5
+none_after : (image : DiskImage) → shown_generation 1 (sector_at image 3) ≤ 5
     → shown_generation 2 (sector_at image 4) ≤ 5 → shown_generation 3 (sector_at image 5) ≤ 5
     → ShowsNoneAfter bare 5 image
 none_after image first second third =

@@ -2,18 +2,18 @@
 use Rattle.std.proofs.Common.{◌≡◌, ℕ, zero, suc, ◌+◌, ◌-◌, ◌<◌, ◌≤◌, true, false}
 use Rattle.std.proofs.Common.{refl, ap, ◌∙◌, subst, ⊎_elim, arith}
 use Rattle.std.proofs.lemmas.Bool.{cases_lt, cond-true, cond-false}
-use Rattle.sector_disk.specs.rules.Image.{Image, sector_at}
+use Rattle.sector_disk.specs.rules.DiskImage.{DiskImage, sector_at}
 use Rattle.disk_layout.specs.rules.Places.{journal_place}
 use Rattle.disk_layout.specs.rules.Journal.{is_of}
 use Rattle.disk_layout.proofs.JournalLemmas.{is_of_other}
 use Rattle.journal.specs.rules.Filled.{filled_from}
-use Rattle.journal.specs.laws.Filled.{FillsWhatStands}
+use Rattle.journal.specs.laws.Filled.{FillsWhatIsHeld}
 
 -- the first n sectors from s on, whose places are counted from p, are of generation g
-abbrev pub AreOn : Image → ℕ → ℕ → ℕ → ℕ → Type 0
+abbrev pub AreOn : DiskImage → ℕ → ℕ → ℕ → ℕ → Type 0
 AreOn image g s p n = (k : ℕ) → k < n → is_of g (p + k) (sector_at image (s + k)) ≡ true
 
-here_on : (image : Image) (g s p n : ℕ) → AreOn image g s p (suc n)
+here_on : (image : DiskImage) (g s p n : ℕ) → AreOn image g s p (suc n)
     → is_of g p (sector_at image s) ≡ true
 here_on image g s p n on =
     let e : s + 0 ≡ s = omega arith in
@@ -21,7 +21,7 @@ here_on image g s p n on =
     subst (λ (q : ℕ). is_of g q (sector_at image s) ≡ true) f
     (subst (λ (t : ℕ). is_of g (p + 0) (sector_at image t) ≡ true) e (on 0 (omega arith)))
 
-rest_on : (image : Image) (g s p n : ℕ) → AreOn image g s p (suc n)
+rest_on : (image : DiskImage) (g s p n : ℕ) → AreOn image g s p (suc n)
     → AreOn image g (s + 1) (p + 1) n
 rest_on image g s p n on k lt =
     let e : s + suc k ≡ s + 1 + k = omega arith in
@@ -31,7 +31,7 @@ rest_on image g s p n on k lt =
     (on (suc k) (omega arith)))
 
 -- they are counted, and then those after them
-filled_split : (image : Image) (g s p n m : ℕ) → AreOn image g s p n
+filled_split : (image : DiskImage) (g s p n m : ℕ) → AreOn image g s p n
     → filled_from image g s p (n + m) ≡ n + filled_from image g (s + n) (p + n) m
 filled_split image g s p zero m on =
     ap (λ k. filled_from image g s p k) (let e : 0 + m ≡ m = omega arith in e)
@@ -55,7 +55,7 @@ filled_split image g s p (suc n) m on =
     plus_suc : (x : ℕ) → suc (n + x) ≡ suc n + x
     plus_suc x = omega arith
 
-filled_off : (image : Image) (g s p m : ℕ) → is_of g p (sector_at image s) ≡ false
+filled_off : (image : DiskImage) (g s p m : ℕ) → is_of g p (sector_at image s) ≡ false
     → filled_from image g s p m ≡ 0
 filled_off image g s p zero off = refl
 filled_off image g s p (suc m) off =
@@ -63,14 +63,14 @@ filled_off image g s p (suc m) off =
     (suc (filled_from image g (s + 1) (p + 1) m)) 0 off
 
 -- all are filled
-pub filled_all : (image : Image) (g s p n : ℕ) → AreOn image g s p n
+pub filled_all : (image : DiskImage) (g s p n : ℕ) → AreOn image g s p n
     → filled_from image g s p n ≡ n
 filled_all image g s p n on =
     ap (λ k. filled_from image g s p k) (let e : n ≡ n + 0 = omega arith in e)
     ∙ filled_split image g s p n 0 on ∙ (let e : n + 0 ≡ n = omega arith in e)
 
 -- a sector of another kind ends them
-pub filled_up_to : (image : Image) (g s p n count : ℕ) → n ≤ count → AreOn image g s p n
+pub filled_up_to : (image : DiskImage) (g s p n count : ℕ) → n ≤ count → AreOn image g s p n
     → is_of g (p + n) (sector_at image (s + n)) ≡ false
     → filled_from image g s p count ≡ n
 filled_up_to image g s p n count le on off =
@@ -80,7 +80,7 @@ filled_up_to image g s p n count le on off =
     ∙ (let e : n + 0 ≡ n = omega arith in e)
 
 -- one more is of the generation
-pub one_more_on : (image : Image) (g s k : ℕ) → AreOn image g s 1 k
+pub one_more_on : (image : DiskImage) (g s k : ℕ) → AreOn image g s 1 k
     → is_of g (1 + k) (sector_at image (s + k)) ≡ true → AreOn image g s 1 (k + 1)
 one_more_on image g s k on here i lt =
     ⊎_elim (λ (before : i < k). on i before)
@@ -88,8 +88,8 @@ one_more_on image g s k on here i lt =
     subst (λ (n : ℕ). is_of g (1 + n) (sector_at image (s + n)) ≡ true) e here)
     (cases_lt i k)
 
-pub fills_what_stands : FillsWhatStands
-fills_what_stands geometry v g used records image holds =
+pub fills_what_is_held : FillsWhatIsHeld
+fills_what_is_held geometry v g used records image holds =
     ⊎_elim
     (λ (more : used < geometry.journal_sectors).
     let earlier = holds.clean used (omega arith) more in

@@ -5,7 +5,7 @@ use Rattle.std.proofs.Common.{⊎_elim, arith, length-drop, append_assoc}
 use Rattle.std.proofs.lemmas.Bool.{cases_lt, cond-true, cond-false}
 use Rattle.std.proofs.lemmas.List.{take-append-drop, drop-drop, take_all, nil_from_length}
 use Rattle.guest_memory.specs.rules.Bytes.{part}
-use Rattle.sector_disk.specs.rules.Image.{Image, sector_at}
+use Rattle.sector_disk.specs.rules.DiskImage.{DiskImage, sector_at}
 use Rattle.disk_layout.specs.rules.Sectors.{shown_generation}
 use Rattle.disk_layout.specs.rules.Journal.{journal_sector, is_of, payloads_from}
 use Rattle.disk_layout.proofs.JournalLemmas.{IsUsedSector, is_of_true, is_of_other}
@@ -37,14 +37,14 @@ packed_at g p (suc n) bytes (suc i) lt =
 
 -- ---- payloads
 
-pub pay_on : (image : Image) (g s p n : ℕ) → is_of g p (sector_at image s) ≡ true
+pub pay_on : (image : DiskImage) (g s p n : ℕ) → is_of g p (sector_at image s) ≡ true
     → payloads_from image g s p (suc n) ≡ payload_of_sector (sector_at image s)
     ++ payloads_from image g (s + 1) (p + 1) n
 pay_on image g s p n on =
     cond-true (is_of g p (sector_at image s)) (payload_of_sector (sector_at image s)
     ++ payloads_from image g (s + 1) (p + 1) n) [] on
 
-pub pay_off : (image : Image) (g s p n : ℕ) → is_of g p (sector_at image s) ≡ false
+pub pay_off : (image : DiskImage) (g s p n : ℕ) → is_of g p (sector_at image s) ≡ false
     → payloads_from image g s p n ≡ []
 pay_off image g s p zero off = refl
 pay_off image g s p (suc n) off =
@@ -52,10 +52,10 @@ pay_off image g s p (suc n) off =
     ++ payloads_from image g (s + 1) (p + 1) n) [] off
 
 -- sectors whose places are told by an index
-abbrev At : (ℕ → List ℕ → Type 0) → Image → ℕ → ℕ → ℕ → Type 0
+abbrev At : (ℕ → List ℕ → Type 0) → DiskImage → ℕ → ℕ → ℕ → Type 0
 At P image s p i = P (p + i) (sector_at image (s + i))
 
-at_next : (P : ℕ → List ℕ → Type 0) (image : Image) (s p i : ℕ) → At P image s p (suc i)
+at_next : (P : ℕ → List ℕ → Type 0) (image : DiskImage) (s p i : ℕ) → At P image s p (suc i)
     → At P image (s + 1) (p + 1) i
 at_next P image s p i h =
     let e : s + suc i ≡ s + 1 + i = omega arith in
@@ -63,7 +63,7 @@ at_next P image s p i h =
     subst (λ (q : ℕ). P q (sector_at image (s + 1 + i))) f
     (subst (λ (t : ℕ). P (p + suc i) (sector_at image t)) e h)
 
-at_first : (P : ℕ → List ℕ → Type 0) (image : Image) (s p : ℕ) → At P image s p 0
+at_first : (P : ℕ → List ℕ → Type 0) (image : DiskImage) (s p : ℕ) → At P image s p 0
     → P p (sector_at image s)
 at_first P image s p h =
     let e : s + 0 ≡ s = omega arith in
@@ -74,7 +74,7 @@ at_first P image s p h =
 abbrev IsOn : ℕ → ℕ → List ℕ → Type 0
 IsOn g p sector = is_of g p sector ≡ true
 
-pub payloads_split : (image : Image) (g s p n m : ℕ)
+pub payloads_split : (image : DiskImage) (g s p n m : ℕ)
     → ((k : ℕ) → k < n → is_of g (p + k) (sector_at image (s + k)) ≡ true)
     → payloads_from image g s p (n + m) ≡ payloads_from image g s p n
     ++ payloads_from image g (s + n) (p + n) m
@@ -101,7 +101,7 @@ payloads_split image g s p (suc n) m on =
 abbrev payloads_step : ℕ → ℕ → List ℕ → List ℕ → List ℕ
 payloads_step g p t rest = cond (is_of g p t) (payload_of_sector t ++ rest) []
 
-pub payloads_same : (a b : Image) (g s p n : ℕ)
+pub payloads_same : (a b : DiskImage) (g s p n : ℕ)
     → ((k : ℕ) → k < n → sector_at a (s + k) ≡ sector_at b (s + k))
     → payloads_from a g s p n ≡ payloads_from b g s p n
 payloads_same a b g s p zero same = refl
@@ -117,7 +117,7 @@ payloads_same a b g s p (suc n) same =
 
 -- ---- what torn sectors give
 
-pub torn_front : (image : Image) (g s p m : ℕ) (bytes : List ℕ)
+pub torn_front : (image : DiskImage) (g s p m : ℕ) (bytes : List ℕ)
     → ((i : ℕ) → i < m → (shown_generation (p + i) (sector_at image (s + i)) < g)
     ⊎ (IsUsedSector g (p + i) (sector_at image (s + i))
     × (payload_of_sector (sector_at image (s + i)) ≡ part bytes (494 * i) 494)))
@@ -149,7 +149,7 @@ torn_front image g s p (suc m) bytes each =
     ⊎ (IsUsedSector g q t × (payload_of_sector t ≡ part bytes (494 * 0) 494))) image s p
     (each 0 (omega arith)))
 
-pub whole_run : (image : Image) (g s p n : ℕ) (bytes : List ℕ) → length bytes ≤ 494 * n
+pub whole_run : (image : DiskImage) (g s p n : ℕ) (bytes : List ℕ) → length bytes ≤ 494 * n
     → ((i : ℕ) → i < n → IsUsedSector g (p + i) (sector_at image (s + i))
     × (payload_of_sector (sector_at image (s + i)) ≡ part bytes (494 * i) 494))
     → payloads_from image g s p n ≡ bytes

@@ -14,7 +14,7 @@ use Rattle.wasi_abi.proofs.VersionLemmas.{lengths_fit}
 use Rattle.wasi_abi.specs.rules.Layouts.{u64_bytes}
 use Rattle.wasi_abi.specs.declared.answer.Answer.{Answer}
 use Rattle.wasi_abi.specs.declared.answer.Answer.TheVariants as answer
-use Rattle.sector_disk.specs.rules.Image.{Image}
+use Rattle.sector_disk.specs.rules.DiskImage.{DiskImage}
 use Rattle.disk_layout.specs.rules.Places.{Geometry, journal_place}
 use Rattle.disk_layout.specs.rules.Journal.{Record, record_bytes, record_head_bytes, kind_number}
 use Rattle.disk_layout.specs.rules.Journal.{payload_of}
@@ -50,7 +50,7 @@ module _ (v : Version) where
       let room = lengths_fit v in
       number_of-bytes_of (length_bytes v) (length (payload_of r.answer)) (omega (arith, le, room))
 
-  -- what stands behind kind and step
+  -- what is after kind and step
   behind_step : (r : Record) (rest : List ℕ) → drop 9 (record_bytes v r ++ rest)
       ≡ spelled_length r ++ (payload_of r.answer ++ rest)
   behind_step r rest = append_assoc (spelled_length r) (payload_of r.answer) rest
@@ -63,7 +63,7 @@ module _ (v : Version) where
       (take_at (spelled_length r) (payload_of r.answer ++ rest) (length_bytes v) (length-spelled r))
       ∙ number_read r fits
 
-  -- what stands behind its head
+  -- what is after its head
   behind_head : (r : Record) (rest : List ℕ) → drop (record_head_bytes v) (record_bytes v r ++ rest)
       ≡ payload_of r.answer ++ rest
   behind_head r rest =
@@ -175,7 +175,7 @@ module _ (v : Version) where
       (record_read r rest fits)
       ∙ ap (λ l. r ∷ records_at v n l) (rest_read r rest fits)
 
-  -- a front of the bytes of records holds a front of them
+  -- a prefix of the bytes of records holds a prefix of them
   pub cut_front : (records : List Record) (m n : ℕ) → AllRecordsFit v records
       → length (take m (records_bytes v records)) ≤ n
       → (k : ℕ) × (k ≤ length records)
@@ -221,7 +221,7 @@ module _ (v : Version) where
       ))
       (cases_lt m (length (record_bytes v r)))
 
-  -- records, and a front of the bytes of further ones
+  -- records, and a prefix of the bytes of further ones
   pub scan_front : (records kept : List Record) (c n : ℕ) → AllRecordsFit v records
       → AllRecordsFit v kept
       → length (records_bytes v records ++ take c (records_bytes v kept)) ≤ n
@@ -248,7 +248,7 @@ module _ (v : Version) where
             ∙ ap (λ l. r ∷ l) rest.2,
       )
 
-  pub scan_of : (geometry : Geometry) (image : Image) (g c : ℕ) (records kept : List Record)
+  pub scan_of : (geometry : Geometry) (image : DiskImage) (g c : ℕ) (records kept : List Record)
       → AllRecordsFit v records → AllRecordsFit v kept
       → payloads_from image g (journal_place geometry) 1 geometry.journal_sectors
       ≡ records_bytes v records ++ take c (records_bytes v kept)

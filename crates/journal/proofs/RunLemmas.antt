@@ -5,7 +5,7 @@ use Rattle.std.proofs.Common.{length-drop}
 use Rattle.std.proofs.lemmas.Bool.{cases_lt}
 use Rattle.std.proofs.lemmas.List.{append-nil, length-take-le, take_all}
 use Rattle.guest_memory.specs.rules.Bytes.{part}
-use Rattle.sector_disk.specs.rules.Image.{Image, sector_at, front_over}
+use Rattle.sector_disk.specs.rules.DiskImage.{DiskImage, sector_at, front_over}
 use Rattle.sector_disk.specs.rules.Run.{IsTornRun}
 use Rattle.disk_layout.specs.rules.Places.{Geometry, journal_place}
 use Rattle.disk_layout.specs.rules.Sectors.{shown_generation}
@@ -19,7 +19,7 @@ use Rattle.journal.proofs.PackedLemmas.{packed_at, pay_off, payloads_split, payl
 use Rattle.journal.proofs.PackedLemmas.{torn_front, whole_run}
 
 -- all that the journal holds is in the sectors that are written
-pub all_bytes : (geometry : Geometry) (g used : ℕ) (bytes : List ℕ) (image : Image)
+pub all_bytes : (geometry : Geometry) (g used : ℕ) (bytes : List ℕ) (image : DiskImage)
     → HoldsBytes geometry g used bytes image
     → payloads_from image g (journal_place geometry) 1 geometry.journal_sectors ≡ bytes
 all_bytes geometry g used bytes image holds =
@@ -39,7 +39,7 @@ all_bytes geometry g used bytes image holds =
     ∙ append-nil (payloads_from image g j 1 used) ∙ holds.holds
 
 -- sectors that are written, or to come
-pub none_after : (geometry : Geometry) (g used : ℕ) (bytes : List ℕ) (image : Image)
+pub none_after : (geometry : Geometry) (g used : ℕ) (bytes : List ℕ) (image : DiskImage)
     → HoldsBytes geometry g used bytes image → ShowsNoneAfter geometry g image
 none_after geometry g used bytes image holds k lt =
     ⊎_elim
@@ -48,10 +48,10 @@ none_after geometry g used bytes image holds k lt =
     (λ (later : used ≤ k). let c = holds.clean k later lt in omega arith)
     (cases_lt k used)
 
--- a run of packed sectors behind those that are written
+-- a run of packed sectors after those that are written
 pub record IsRun (geometry : Geometry) (g used n : ℕ) (bytes kept : List ℕ)
-    (old : Image) : Type 0 where
-  pub stands : HoldsBytes geometry g used bytes old
+    (old : DiskImage) : Type 0 where
+  pub holds_bytes : HoldsBytes geometry g used bytes old
   pub count : n ≡ sectors_for (length kept)
   pub room : used + n ≤ geometry.journal_sectors
   pub full : (k : ℕ) → k < geometry.journal_sectors
@@ -59,7 +59,7 @@ pub record IsRun (geometry : Geometry) (g used n : ℕ) (bytes kept : List ℕ)
   pub generation : g < 2 ^ 64
   pub places : used + n + 1 < 2 ^ 64
 
-module _ (geometry : Geometry) (g used n : ℕ) (bytes kept : List ℕ) (old new : Image)
+module _ (geometry : Geometry) (g used n : ℕ) (bytes kept : List ℕ) (old new : DiskImage)
     (run : IsRun geometry g used n bytes kept old) where
   pub is_new : (i : ℕ) → i < n → IsNewSector g (used + 1 + i) (part kept (494 * i) 494)
   is_new i lt =
@@ -88,7 +88,7 @@ module _ (geometry : Geometry) (g used n : ℕ) (bytes kept : List ℕ) (old new
 
   module _ (torn : IsTornRun (journal_place geometry + used) (packed g (used + 1) n kept) n old new)
     where
-      -- each sector behind those that are written
+      -- each sector after those that are written
       pub behind_at : (i : ℕ) → i < geometry.journal_sectors - used
           → (shown_generation (1 + used + i) (sector_at new (journal_place geometry + used + i))
           < g)
@@ -96,7 +96,7 @@ module _ (geometry : Geometry) (g used n : ℕ) (bytes kept : List ℕ) (old new
           × (payload_of_sector (sector_at new (journal_place geometry + used + i))
           ≡ part kept (494 * i) 494))
       behind_at i lt =
-          let holds = run.stands in
+          let holds = run.holds_bytes in
           let at : journal_place geometry + used + i ≡ journal_place geometry + (used + i) =
           omega arith in
           let p : 1 + used + i ≡ 1 + (used + i) = omega arith in
@@ -132,19 +132,19 @@ module _ (geometry : Geometry) (g used n : ℕ) (bytes kept : List ℕ) (old new
 
       pub still_written : (k : ℕ) → k < used
           → is_of g (1 + k) (sector_at new (journal_place geometry + k)) ≡ true
-      still_written k lt = let holds = run.stands in ap (λ s. is_of g (1 + k) s) (written_same k lt)
-          ∙ holds.written k lt
+      still_written k lt = let holds = run.holds_bytes in ap (λ s. is_of g (1 + k) s)
+          (written_same k lt) ∙ holds.written k lt
 
       pub still_holds : payloads_from new g (journal_place geometry) 1 used ≡ bytes
-      still_holds = let holds = run.stands in
+      still_holds = let holds = run.holds_bytes in
           payloads_same new old g (journal_place geometry) 1 used written_same ∙ holds.holds
 
-      -- a front of what was kept
+      -- a prefix of what was kept
       pub front_of_kept : (c : ℕ)
           × (payloads_from new g (journal_place geometry) 1 geometry.journal_sectors ≡ bytes
           ++ take c kept)
       front_of_kept =
-          let holds = run.stands in
+          let holds = run.holds_bytes in
           let rest = geometry.journal_sectors - used in
           let count : geometry.journal_sectors ≡ used + rest = let w = holds.within in omega arith
           in
@@ -233,7 +233,7 @@ module _ (geometry : Geometry) (g used n : ℕ) (bytes kept : List ℕ) (old new
                   ++ l) (whole_run new g (journal_place geometry + used) (1 + used) n kept
                   (omega arith) whole_at);
               clean = λ k le lt.
-                  let holds = run.stands in
+                  let holds = run.holds_bytes in
                   let same = torn.above (journal_place geometry + k) (omega arith) in
                   subst (λ (s : List ℕ). shown_generation (1 + k) s
                   < g) (sym same) (holds.clean k (omega arith) lt);

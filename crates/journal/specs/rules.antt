@@ -1,3 +1,4 @@
+pub mod Barriers
 pub mod Filled
 pub mod Packed
 pub mod State

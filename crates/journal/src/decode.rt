@@ -1,4 +1,4 @@
-// Records from bytes.
+//! Records from bytes.
 ghost use Rattle.std.specs.Prelude.{◌≡◌, ◌+◌, ◌≤◌, length, IfOk, IsSome};
 ghost use Rattle.disk_layout.specs.rules.Journal.{answer_of, payload_length, record_at, records_at};
 ghost use Rattle.disk_layout.specs.rules.Journal.{record_head_bytes};
@@ -9,9 +9,9 @@ use disk_layout::{
 };
 use std::alloc::{AllocError, Global};
 use wasi_abi::{Answer, Version};
-use wasm_syntax::Row;
+use wasm_syntax::ItemList;
 
-/// The records at the front, until one is cut or not well formed. It fails only for want of memory.
+/// The records at the front, until one is cut or not well formed. It fails only when out of memory.
 pub(crate) fn records_from(
     alloc: Global,
     version: Version,
@@ -67,7 +67,7 @@ fn answer_from(
         if payload.len() > limit {
             return Ok(None);
         }
-        let text = Row::from_vec(Vec::from_slice(alloc, payload)?);
+        let text = ItemList::from_vec(Vec::from_slice(alloc, payload)?);
         return Ok(Some(Answer::Request { text }));
     }
     if kind == END_KIND {
@@ -93,6 +93,6 @@ fn answer_from(
     if kind != RANDOM_KIND || payload.len() > limit {
         return Ok(None);
     }
-    let bytes = Row::from_vec(Vec::from_slice(alloc, payload)?);
+    let bytes = ItemList::from_vec(Vec::from_slice(alloc, payload)?);
     Ok(Some(Answer::Random { bytes }))
 }

@@ -1,4 +1,4 @@
-// Why a journal's call failed.
+//! Why a journal's call failed.
 use sector_disk::DiskFault;
 use thiserror::Error;
 

@@ -1,6 +1,6 @@
-// Counting the sectors of a journal.
+//! Counting the sectors of a journal.
 ghost use Rattle.std.specs.Prelude.{◌≡◌, ◌<◌, ◌≤◌, IfOk, OnErr};
-ghost use Rattle.sector_disk.specs.rules.Image.{Image};
+ghost use Rattle.sector_disk.specs.rules.DiskImage.{DiskImage};
 ghost use Rattle.sector_disk.specs.rules.Medium.{CallsUpTo};
 ghost use Rattle.disk_layout.specs.rules.Places.{total_sectors};
 ghost use Rattle.disk_layout.specs.rules.Stored.{OnlyReads};
@@ -19,7 +19,7 @@ pub fn count_filled<D: Disk>(
 ) -> Result<u64, DiskFault>
     requires { total_sectors geometry.now ≤ (D.medium disk.old).sectors }
     ensures reads { OnlyReads (D.medium disk.old) (D.medium disk.new) }
-    ensures counts { IfOk result (λ count. (image : Image) → (D.medium disk.new).shows image
+    ensures counts { IfOk result (λ count. (image : DiskImage) → (D.medium disk.new).shows image
         → count ≡ sectors_filled geometry.now image generation) }
     ensures within { IfOk result (λ count. count ≤ geometry.now.journal_sectors) }
     ensures cause { OnErr result ((D.medium disk.old).faults < (D.medium disk.new).faults) }

@@ -1,16 +1,14 @@
-// The journal of a generation.
-ghost use Rattle.std.specs.Prelude.{◌≡◌, ◌↔◌, ◌⊎◌, ◌+◌, ◌<◌, ◌≤◌, ◌++◌, [], true, false, ℕ, List};
-ghost use Rattle.std.specs.Prelude.{length, OnOk, OnErr, IfOk, IfErr, IsErrOf};
-ghost use Rattle.sector_disk.specs.rules.Image.{Image};
-ghost use Rattle.sector_disk.specs.rules.Medium.{LeavesOnly, After, Passes, IsAllSynced};
-ghost use Rattle.sector_disk.specs.rules.Medium.{CallsUpTo, MakesCalls, spare, CountsUpTo};
+//! The journal of a generation.
+ghost use Rattle.std.specs.Prelude.{◌≡◌, ◌↔◌, ◌⊎◌, ◌+◌, ◌<◌, ◌≤◌, ◌++◌, [], true, false};
+ghost use Rattle.std.specs.Prelude.{length, OnOk, OnErr, IfOk, IfErr};
+ghost use Rattle.sector_disk.specs.rules.DiskImage.{DiskImage};
+ghost use Rattle.sector_disk.specs.rules.Medium.{CallsUpTo};
 ghost use Rattle.disk_layout.specs.rules.Places.{total_sectors};
-ghost use Rattle.disk_layout.specs.rules.Journal.{Record, record_bytes, payload_of, scan};
+ghost use Rattle.disk_layout.specs.rules.Journal.{record_bytes, payload_of, scan};
 ghost use Rattle.disk_layout.specs.rules.Stored.{OnlyReads};
+ghost use Rattle.journal.specs.rules.Barriers.{StoresKept};
 ghost use Rattle.journal.specs.rules.State.{state, room_of};
-ghost use Rattle.journal.specs.rules.Packed.{sectors_for};
-ghost use Rattle.journal.specs.rules.Steps.{AppendsFront, RecordsStand, IsOn, RecordFits};
-ghost use Rattle.journal.specs.rules.Steps.{barrier_calls};
+ghost use Rattle.journal.specs.rules.Steps.{RecordFits};
 ghost use Rattle.wasi_abi.specs.rules.Versions.{text_limit};
 
 use crate::decode::records_from;
@@ -68,11 +66,11 @@ impl Journal {
     ) -> Result<Vec<Record>, JournalFault>
         requires { total_sectors geometry.now ≤ (D.medium disk.old).sectors }
         ensures reads { OnlyReads (D.medium disk.old) (D.medium disk.new) }
-        ensures scans { IfOk result (λ v. (image : Image) → (D.medium disk.new).shows image
+        ensures scans { IfOk result (λ v. (image : DiskImage) → (D.medium disk.new).shows image
             → v.items ≡ scan geometry.now version image generation) }
         ensures cause { (fault : DiskFault) → result ≡ Err (JournalFault.Disk fault)
             → (D.medium disk.old).faults < (D.medium disk.new).faults }
-        ensures kind { IfErr result (λ e. e ≡ JournalFault.Memory
+        ensures which_fault { IfErr result (λ e. e ≡ JournalFault.Memory
             ⊎ ((fault : DiskFault) × (e ≡ JournalFault.Disk fault))) }
         ensures asks { CallsUpTo geometry.now.journal_sectors (D.medium disk.old)
             (D.medium disk.new) }
@@ -155,67 +153,11 @@ impl Journal {
         geometry: &Geometry,
     ) -> Result<(), JournalFault>
         requires { total_sectors geometry.now ≤ (D.medium disk.old).sectors }
-        ensures ok { OnOk result (self.new
-            ≡ state self.old.version self.old.generation
-            (self.old.used + sectors_for (length self.old.kept)) [] false) }
-        ensures err { OnErr result (self.new
-            ≡ state self.old.version self.old.generation self.old.used self.old.kept true) }
-
-        // When each error comes.
-        ensures failed { (result ≡ Err JournalFault.Failed) ↔ (self.old.has_failed ≡ true) }
-        ensures full { (result ≡ Err JournalFault.Full) ↔
-            ((self.old.has_failed ≡ false) × (0 < length self.old.kept)
-            × (geometry.now.journal_sectors
-            < self.old.used + sectors_for (length self.old.kept))) }
-        ensures cause { (fault : DiskFault) → result ≡ Err (JournalFault.Disk fault)
-            → (spare (D.medium disk.old) < sectors_for (length self.old.kept))
-            ⊎ ((D.medium disk.old).faults < (D.medium disk.new).faults) }
-        ensures no_memory { IsErrOf result JournalFault.Memory → ⊥ }
-        ensures not_too_long { IsErrOf result JournalFault.TooLong → ⊥ }
+        ensures stores { StoresKept geometry.now self.old self.new result (D.medium disk.old)
+            (D.medium disk.new) }
         ensures quiet { length self.old.kept ≡ 0 → disk.new ≡ disk.old }
         ensures untouched { (result ≡ Err JournalFault.Full) ⊎ (result ≡ Err JournalFault.Failed)
             → disk.new ≡ disk.old }
-
-        // A cut at any moment leaves a front of the records that holds all that stood before, and
-        // nothing else is changed.
-        ensures any_moment { (records kept : List Record)
-            → IsOn geometry.now self.old.version self.old.generation self.old.used self.old.kept
-            records kept (D.medium disk.old).may_leave →
-            LeavesOnly (D.medium disk.old) (D.medium disk.new)
-            (After (AppendsFront geometry.now self.old.version self.old.generation self.old.used
-            records kept) (D.medium disk.old).may_leave) }
-
-        // Once it has answered Ok, each cut leaves all of them.
-        ensures durable { (records kept : List Record)
-            → IsOn geometry.now self.old.version self.old.generation self.old.used self.old.kept
-            records kept (D.medium disk.old).may_leave →
-            OnOk result ((image : Image) → (D.medium disk.new).may_leave image
-            → RecordsStand geometry.now self.new.version self.new.generation self.new.used
-            (records ++ kept) image) }
-        ensures passes { Passes (D.medium disk.old) (D.medium disk.new) (λ _. Unit {0}) }
-        ensures settled { OnOk result ((length self.old.kept ≡ 0)
-            ⊎ IsAllSynced (D.medium disk.new)) }
-        ensures unsynced { (D.medium disk.new).unsynced ≤ (D.medium disk.old).unsynced
-            + sectors_for (length self.old.kept) }
-
-        // It writes each sector once, in rising order, and then syncs once. After an error these
-        // calls are begun.
-        ensures calls { MakesCalls (barrier_calls geometry.now self.old) result
-            (D.medium disk.old) (D.medium disk.new) }
-
-        // No sync stands between its writes: at some moment all of them were unsynced.
-        ensures together { OnOk result ((D.medium disk.new).unsynced_since
-            (D.medium disk.old).moment
-            ((D.medium disk.old).unsynced + sectors_for (length self.old.kept))) }
-
-        // Nor were there more writes that no sync had settled at any moment in between.
-        ensures counts { CountsUpTo
-            ((D.medium disk.old).unsynced + sectors_for (length self.old.kept))
-            (D.medium disk.old) (D.medium disk.new) }
-
-        // One call for each sector of the journal at most, and the sync.
-        ensures asks { CallsUpTo (geometry.now.journal_sectors + 1) (D.medium disk.old)
-            (D.medium disk.new) }
     {
         if self.has_failed {
             return Err(JournalFault::Failed);

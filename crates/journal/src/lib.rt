@@ -8,38 +8,38 @@
 //! - `append` keeps a record in memory (`ok`). `TooLong` and `Full` come exactly where the
 //!   payload is longer than the version allows, or the record than the room (`too_long`, `full`).
 //! - `barrier` puts the kept records on the disk. A cut at any moment leaves all records that
-//!   stood, and a front of those kept, and no other sector is changed (`any_moment`). After Ok all
-//!   stand (`durable`).
+//!   stood, and a prefix of those kept, and no other sector is changed (`any_moment`). After Ok all
+//!   are held (`durable`).
 //! - `barrier` fails for a cause: an earlier error, too little journal, no room for its writes, or
 //!   the disk (`failed`, `full`, `cause`). It never has more unsynced writes than its own sectors
-//!   beyond those before (`counts`). No sync stands between them (`together`). It writes them in
+//!   beyond those before (`counts`). No sync is between them (`together`). It writes them in
 //!   rising order, each once, and then syncs once (`calls`).
 //! - `Journal::scan` gives the records that the definitions read of what the disk shows (`scans`).
 //!   It only reads (`reads`).
 //! - `count_filled` gives how many sectors the records of a generation fill (`counts`). It only
-//!   reads. `laws::what_stands_fills`: they are as many as the journal has written. So the others
+//!   reads. `laws::what_is_held_fills`: they are as many as the journal has written. So the others
 //!   are what a next barrier can write (`full`).
 //! - After an error of `append` or `barrier`, each call of these answers `Failed` (`err`,
 //!   `failed`). Whatever `append` answers, version, generation and sectors are as before
 //!   (`stays`).
-//! - `laws::what_stands_is_scanned`: a scan gives what stands, and nothing of a generation that no
-//!   sector shows. `laws::worked_examples`: records that fit, what stands, and what a barrier may
-//!   leave.
+//! - `laws::what_is_held_is_scanned`: a scan gives what is held, and nothing of a generation that
+//!   no sector shows. `laws::worked_examples`: records that fit, what is held, and what a barrier
+//!   may leave.
 //!
 //! # Definitions to read
 //!
-//! In `specs/rules/`: `JournalState`, `room_of` (`State.antt`); `RecordsStand`, `IsOn`,
-//! `AppendsFront`, `RecordFits`, `barrier_calls` (`Steps.antt`); `sectors_for` (`Packed.antt`),
-//! `sectors_filled` (`Filled.antt`). Of `disk_layout`: `record_bytes` and `scan`
-//! (`specs/rules/Journal.antt`). Of `wasi_abi`: `Version`.
+//! In `specs/rules/`: `JournalState`, `room_of` (`State.antt`); `HoldsRecords`, `IsOn`,
+//! `AppendsFront`, `RecordFits`, `barrier_calls` (`Steps.antt`); `StoresKept`, which is what
+//! `barrier` does (`Barriers.antt`); `sectors_for` (`Packed.antt`), `sectors_filled`
+//! (`Filled.antt`). Of `disk_layout`: `record_bytes` and `scan` (`specs/rules/Journal.antt`). Of
+//! `wasi_abi`: `Version`.
 //!
 //! # Who may touch what
 //!
 //! Only this crate knows which bytes wait for a barrier. It is handed the disk at each call, and
-//! keeps none. `worker_store` uses it, and `worker` to count sectors. It stands on `disk_layout`
-//! and `sector_disk`. `append` and `scan` take memory, `fresh` and `barrier` take none
-//! (`no_memory`). A failed barrier leaves its records in memory (`err`), and of the disk what
-//! `any_moment` says.
+//! keeps none. `worker_store` uses it, and `worker` to count sectors. It uses `disk_layout` and
+//! `sector_disk`. `append` and `scan` take memory, `fresh` and `barrier` take none (`no_memory`). A
+//! failed barrier leaves its records in memory (`err`), and of the disk what `any_moment` says.
 //!
 //! # Choices
 //!

@@ -1,4 +1,4 @@
-// Records as bytes.
+//! Records as bytes.
 ghost use Rattle.std.specs.Prelude.{◌≡◌, ◌+◌, ◌≤◌, ◌<◌, ◌^◌, ◌++◌, ◌∷◌, length, OnOk};
 ghost use Rattle.guest_memory.specs.rules.Bytes.{bytes_of};
 ghost use Rattle.wasi_abi.specs.rules.Layouts.{u64_bytes};
@@ -26,7 +26,7 @@ pub(crate) fn payload_len(entry: &Record) -> usize
     }
 }
 
-/// Puts a record's bytes behind these. Its payload is copied once.
+/// Puts a record's bytes after these. Its payload is copied once.
 pub(crate) fn put_record(
     bytes: &mut Vec<u8>,
     version: Version,

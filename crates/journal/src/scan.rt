@@ -1,6 +1,6 @@
-// Reading a journal.
+//! Reading a journal.
 ghost use Rattle.std.specs.Prelude.{◌≡◌, ◌⊎◌, ◌+◌, ◌<◌, ◌≤◌, ℕ, true, length, IfOk, IfErr};
-ghost use Rattle.sector_disk.specs.rules.Image.{Image};
+ghost use Rattle.sector_disk.specs.rules.DiskImage.{DiskImage};
 ghost use Rattle.sector_disk.specs.rules.Medium.{CallsUpTo};
 ghost use Rattle.disk_layout.specs.rules.Places.{journal_place, total_sectors};
 ghost use Rattle.disk_layout.specs.rules.Journal.{payloads_from};
@@ -21,12 +21,12 @@ pub(crate) fn read_payloads<D: Disk>(
 ) -> Result<Vec<u8>, JournalFault>
     requires { total_sectors geometry.now ≤ (D.medium disk.old).sectors }
     ensures reads { OnlyReads (D.medium disk.old) (D.medium disk.new) }
-    ensures payloads { IfOk result (λ v. (image : Image) → (D.medium disk.new).shows image
+    ensures payloads { IfOk result (λ v. (image : DiskImage) → (D.medium disk.new).shows image
         → payloads_from image generation (journal_place geometry.now) 1 geometry.now.journal_sectors
         ≡ v.items) }
     ensures cause { (fault : DiskFault) → result ≡ Err (JournalFault.Disk fault)
         → (D.medium disk.old).faults < (D.medium disk.new).faults }
-    ensures kind { IfErr result (λ e. e ≡ JournalFault.Memory
+    ensures which_fault { IfErr result (λ e. e ≡ JournalFault.Memory
         ⊎ ((fault : DiskFault) × (e ≡ JournalFault.Disk fault))) }
     ensures asks { CallsUpTo geometry.now.journal_sectors (D.medium disk.old) (D.medium disk.new) }
 {

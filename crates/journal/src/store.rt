@@ -1,7 +1,7 @@
-// Bytes on sectors of a journal.
+//! Bytes on sectors of a journal.
 ghost use Rattle.std.specs.Prelude.{◌≡◌, ◌⊎◌, ◌+◌, ◌<◌, ◌≤◌, ◌^◌, length, OnOk, IsErr};
 ghost use Rattle.sector_disk.specs.rules.Medium.{LeavesOnly, After, Follows, IsAllSynced};
-ghost use Rattle.sector_disk.specs.rules.Medium.{CallsUpTo, CountsUpTo, MakesCalls, spare};
+ghost use Rattle.sector_disk.specs.rules.Medium.{CallsUpTo, CountsUpTo, PerformsCalls, spare};
 ghost use Rattle.sector_disk.specs.rules.Calls.{synced_writes};
 ghost use Rattle.sector_disk.specs.rules.Run.{IsTornRun, IsWrittenRun};
 ghost use Rattle.journal.specs.rules.Packed.{packed, sectors_for};
@@ -30,19 +30,19 @@ pub(crate) fn store_packed<D: Disk>(
     requires places { place + sectors_for (length bytes.now) < 2 ^ 64 }
     ensures any_moment { LeavesOnly (D.medium disk.old) (D.medium disk.new)
         (After (IsTornRun at (packed generation place (sectors_for (length bytes.now)) bytes.now)
-        (sectors_for (length bytes.now))) (D.medium disk.old).may_leave) }
+        (sectors_for (length bytes.now))) (D.medium disk.old).crash_images) }
     ensures stored { OnOk result
         (Follows (IsWrittenRun at
         (packed generation place (sectors_for (length bytes.now)) bytes.now)
-        (sectors_for (length bytes.now))) (D.medium disk.old).shows (D.medium disk.new).may_leave) }
-    ensures settled { OnOk result (IsAllSynced (D.medium disk.new)) }
+        (sectors_for (length bytes.now))) (D.medium disk.old).shows (D.medium disk.new).crash_images) }
+    ensures all_synced { OnOk result (IsAllSynced (D.medium disk.new)) }
     ensures unsynced { (D.medium disk.new).unsynced ≤ (D.medium disk.old).unsynced
         + sectors_for (length bytes.now) }
     ensures together { OnOk result ((D.medium disk.new).unsynced_since (D.medium disk.old).moment
         ((D.medium disk.old).unsynced + sectors_for (length bytes.now))) }
     ensures counts { CountsUpTo ((D.medium disk.old).unsynced + sectors_for (length bytes.now))
         (D.medium disk.old) (D.medium disk.new) }
-    ensures calls { MakesCalls (synced_writes at (sectors_for (length bytes.now))) result
+    ensures calls { PerformsCalls (synced_writes at (sectors_for (length bytes.now))) result
         (D.medium disk.old) (D.medium disk.new) }
     ensures cause { IsErr result → (spare (D.medium disk.old) < sectors_for (length bytes.now))
         ⊎ ((D.medium disk.old).faults < (D.medium disk.new).faults) }

@@ -14,16 +14,17 @@ use Rattle.wasm_semantics.specs.Typing.{Context, body_context}
 use Rattle.wasm_semantics.specs.Validity.{module_context}
 use Rattle.wasm_semantics.specs.Configuration.{Own, Program, Label, Thread, FrameOf}
 use Rattle.wasm_semantics.specs.Configuration.{Configuration, Traps, Stuck}
-use Rattle.wasm_semantics.specs.Steps.{rule, rule_of, stopped, answered, IsEnded, Settles}
+use Rattle.wasm_semantics.specs.Steps.{counted_step, counted_step_of, stopped, answered, IsEnded}
+use Rattle.wasm_semantics.specs.Steps.{ReducesTo}
 use Rattle.wasm_semantics.specs.Steps.{Advances, Steps, none, more}
-use Rattle.wasm_semantics.proofs.OneRun.{one_run, settles_once}
+use Rattle.wasm_semantics.proofs.OneRun.{one_run, reduces_once}
 use Rattle.machine_slots.specs.rules.Places.{ShownFrame, IsCallOf, ShowsRunning, ShowsWaiting}
 use Rattle.machine_slots.specs.rules.Places.{IsFrameOf, ShowsCallers, ShowsThread}
 use Rattle.machine_slots.proofs.ShapePositions.{labels_tell}
-use Rattle.machine.specs.declared.turns.pause.HostCall.{HostCall}
-use Rattle.machine.specs.declared.turns.pause.Pause.{Pause}
-use Rattle.machine.specs.declared.turns.pause.Pause.TheVariants as pause
-use Rattle.machine.specs.declared.turns.pause.Paused.{Paused}
+use Rattle.machine.specs.declared.execution.pause.HostCall.{HostCall}
+use Rattle.machine.specs.declared.execution.pause.Pause.{Pause}
+use Rattle.machine.specs.declared.execution.pause.Pause.TheVariants as pause
+use Rattle.machine.specs.declared.execution.pause.Paused.{Paused}
 use Rattle.machine.specs.rules.Values.{MachineValue, IsProgramIn, ShowsIn}
 use Rattle.machine.specs.rules.Runs.{AsksFor, RunsFor}
 use Rattle.machine.specs.laws.Alike.{OneMachineShows, MachinesRunAlike, MachinesAnswerAlike}
@@ -33,14 +34,14 @@ use Rattle.machine.proofs.OneShown.{running_of, waiting_of}
 -- ---- one position
 
 -- a call, and what follows it
-call_length : (c : Context) (s : Sequence) (kind : FunctionType) (takes : List ValueType)
-    (rest : Sequence) → IsCallOf c s kind takes rest
+call_length : (c : Context) (s : Sequence) (signature : FunctionType) (takes : List ValueType)
+    (rest : Sequence) → IsCallOf c s signature takes rest
     → length (spelled s) ≡ suc (length (spelled rest))
-call_length c (Plain (instr.Call x) after) kind takes rest h =
+call_length c (Plain (instr.Call x) after) signature takes rest h =
     ap (λ z. suc (length (spelled z))) (sym h.2)
-call_length c (Plain (instr.CallIndirect x) after) kind takes rest h =
+call_length c (Plain (instr.CallIndirect x) after) signature takes rest h =
     ap (λ z. suc (length (spelled z))) (sym h.2)
-call_length c _ kind takes rest h = absurd h
+call_length c _ signature takes rest h = absurd h
 
 module _ (c : Context) (body : Sequence) (a b : ShownFrame) (ls : List Value) (labels : List Label)
     (vs : List Value) (rest : Sequence) where
@@ -72,11 +73,11 @@ one_frame a b f p s =
 -- the function of a frame has one type, one list of declared locals and one body
 module _ (c : Context) (program : Program) (a b : ShownFrame) (f : ℕ) (h : IsFrameOf c program a f)
     (k : IsFrameOf c program b f) where
-  same_own : Own k.kind k.declared k.body ≡ Own h.kind h.declared h.body
+  same_own : Own k.signature k.declared k.body ≡ Own h.signature h.declared h.body
   same_own = let x = h.is in let y = k.is in cc
 
-  same_kind : k.kind ≡ h.kind
-  same_kind = let e = same_own in cc
+  same_signature : k.signature ≡ h.signature
+  same_signature = let e = same_own in cc
 
   same_declared : k.declared ≡ h.declared
   same_declared = let e = same_own in cc
@@ -85,27 +86,29 @@ module _ (c : Context) (program : Program) (a b : ShownFrame) (f : ℕ) (h : IsF
   same_body = let e = same_own in cc
 
   module _ (ls : List Value) (labels : List Label) (vs : List Value) (rest : Sequence) where
-    one_running : ShowsRunning (body_context c h.kind h.declared) h.body a ls labels vs rest
-        → ShowsRunning (body_context c k.kind k.declared) k.body b ls labels vs rest → a ≡ b
+    one_running : ShowsRunning (body_context c h.signature h.declared) h.body a ls labels vs rest
+        → ShowsRunning (body_context c k.signature k.declared) k.body b ls labels vs rest → a ≡ b
     one_running x y =
-        let there : ShowsRunning (body_context c h.kind h.declared) h.body b ls labels vs rest =
-        running_of c b ls labels vs rest k.kind h.kind k.declared h.declared k.body h.body same_kind
+        let there : ShowsRunning (body_context c h.signature h.declared) h.body b ls
+        labels vs rest = running_of c b ls labels vs rest k.signature h.signature k.declared
+        h.declared k.body h.body same_signature
         same_declared same_body y in
         one_frame a b (h.same
-        ∙ sym k.same) (one_running_place (body_context c h.kind h.declared) h.body a b ls labels
-        vs rest x there) (x.slots ∙ sym y.slots)
+        ∙ sym k.same) (one_running_place (body_context c h.signature h.declared)
+        h.body a b ls labels vs rest x there) (x.slots ∙ sym y.slots)
 
     one_waiting : (above other : FunctionType)
-        → ShowsWaiting (body_context c h.kind h.declared) h.body a above ls labels vs rest
-        → ShowsWaiting (body_context c k.kind k.declared) k.body b other ls labels vs rest → a ≡ b
+        → ShowsWaiting (body_context c h.signature h.declared) h.body a above ls labels vs rest
+        → ShowsWaiting (body_context c k.signature k.declared) k.body b other ls labels
+        vs rest → a ≡ b
     one_waiting above other x y =
-        let there : ShowsWaiting (body_context c h.kind h.declared) h.body b other ls labels vs
+        let there : ShowsWaiting (body_context c h.signature h.declared) h.body b other ls labels vs
         rest =
-        waiting_of c b ls labels vs rest k.kind h.kind k.declared h.declared k.body h.body same_kind
-        same_declared same_body other y in
+        waiting_of c b ls labels vs rest k.signature h.signature k.declared h.declared k.body h.body
+        same_signature same_declared same_body other y in
         one_frame a b (h.same
-        ∙ sym k.same) (one_waiting_place (body_context c h.kind h.declared) h.body a b ls labels
-        vs rest above other x there) (x.slots ∙ sym y.slots)
+        ∙ sym k.same) (one_waiting_place (body_context c h.signature h.declared)
+        h.body a b ls labels vs rest above other x there) (x.slots ∙ sym y.slots)
 
 -- ---- one machine
 
@@ -123,7 +126,7 @@ one_callers c program above other (a ∷ frames) (b ∷ others) (FrameOf f ls la
     ∷ thread) h k =
     let first : a ≡ b = one_waiting c program a b f h.0 k.0 ls labels vs rest above other h.1 k.1 in
     let behind : frames ≡ others =
-    one_callers c program h.0.kind k.0.kind frames others thread h.2 k.2 in
+    one_callers c program h.0.signature k.0.signature frames others thread h.2 k.2 in
     cc
 
 one_frames : (c : Context) (program : Program) (frames others : List ShownFrame) (thread : Thread)
@@ -136,7 +139,7 @@ one_frames c program (a ∷ frames) [] (FrameOf f ls labels vs rest ∷ thread) 
 one_frames c program (a ∷ frames) (b ∷ others) (FrameOf f ls labels vs rest ∷ thread) h k =
     let first : a ≡ b = one_running c program a b f h.0 k.0 ls labels vs rest h.1 k.1 in
     let behind : frames ≡ others =
-    one_callers c program h.0.kind k.0.kind frames others thread h.2 k.2 in
+    one_callers c program h.0.signature k.0.signature frames others thread h.2 k.2 in
     cc
 
 abbrev pub machine_with : Module → ℕ → List (Option ℕ) → List ShownFrame → List ℕ → List ℕ
@@ -186,7 +189,7 @@ one_machine v w program d guest h k =
 
 -- ---- where a run halts
 
--- a rule that leads nowhere
+-- a counted step that leads nowhere
 abbrev Stays : Program → Configuration → Type 0
 Stays program e = (f : Configuration) → Advances program e f → ⊥
 
@@ -209,8 +212,8 @@ same_length program m n fuel d e f (more {n = j} {c = c} {d = g} a rest)
     ap suc others
 
 -- nothing applies once the program has ended
-stuck : (program : Program) (e : Configuration) → IsEnded e → rule program e ≡ Stuck
-stuck program e h = ap (λ t. rule_of program e t) h.returned
+stuck : (program : Program) (e : Configuration) → IsEnded e → counted_step program e ≡ Stuck
+stuck program e h = ap (λ t. counted_step_of program e t) h.returned
 
 -- the configuration that is shown after a pause
 abbrev shown_after : Pause → Configuration → Configuration
@@ -219,27 +222,28 @@ shown_after _ e = e
 
 -- why a machine pauses after so many steps, with so much of the fuel left
 abbrev IsPauseAt : Module → Program → Configuration → ℕ → ℕ → ℕ → Pause → Type 0
-IsPauseAt m program e steps fuel left pause.Spent = (e.thread ≢ []) × (left ≡ 0)
-    × (steps + left ≡ fuel)
-IsPauseAt m program e steps fuel left (pause.Host asked) =
-    AsksFor m program e asked.call asked.arguments × (0 < left) × (steps + left ≡ fuel)
-IsPauseAt m program e steps fuel left pause.Returned = IsEnded e × (steps + left ≡ fuel)
-IsPauseAt m program e steps fuel left (pause.Trapped why) = (rule program e ≡ Traps why)
-    × (suc steps + left ≡ fuel)
+IsPauseAt m program e steps fuel fuel_left pause.Spent = (e.thread ≢ []) × (fuel_left ≡ 0)
+    × (steps + fuel_left ≡ fuel)
+IsPauseAt m program e steps fuel fuel_left (pause.Host asked) =
+    AsksFor m program e asked.call asked.arguments × (0 < fuel_left) × (steps + fuel_left ≡ fuel)
+IsPauseAt m program e steps fuel fuel_left pause.Returned = IsEnded e × (steps + fuel_left ≡ fuel)
+IsPauseAt m program e steps fuel fuel_left (pause.Trapped why) =
+    (counted_step program e ≡ Traps why) × (suc steps + fuel_left ≡ fuel)
 
-record Halts (new : MachineValue) (program : Program) (d : Configuration) (fuel left : ℕ)
+record Halts (new : MachineValue) (program : Program) (d : Configuration) (fuel fuel_left : ℕ)
     (why : Pause) : Type 0 where
   end : Configuration
   steps : ℕ
   ran : Steps program steps d end
   within : steps ≤ fuel
   stays : steps < fuel → Stays program end
-  is : IsPauseAt new.guest program end steps fuel left why
+  is : IsPauseAt new.guest program end steps fuel fuel_left why
   shows : ShowsIn new program (shown_after why end)
 
-halts : (new : MachineValue) (program : Program) (d : Configuration) (fuel left : ℕ) (why : Pause)
-    → RunsFor new program d fuel left why → Halts new program d fuel left why
-halts new program d fuel left pause.Spent h =
+halts : (new : MachineValue) (program : Program) (d : Configuration)
+    (fuel fuel_left : ℕ) (why : Pause) → RunsFor new program d fuel fuel_left why
+    → Halts new program d fuel fuel_left why
+halts new program d fuel fuel_left pause.Spent h =
     let a = h.0 in let used = a.used in let nothing = h.2 in
     record {
       end = a.configuration;
@@ -250,7 +254,7 @@ halts new program d fuel left pause.Spent h =
       is = (h.1, h.2, used);
       shows = a.shows;
     }
-halts new program d fuel left (pause.Host asked) h =
+halts new program d fuel fuel_left (pause.Host asked) h =
     let a = h.0 in let used = a.used in
     record {
       end = a.configuration;
@@ -261,7 +265,7 @@ halts new program d fuel left (pause.Host asked) h =
       is = (h.1, h.2, used);
       shows = a.shows;
     }
-halts new program d fuel left pause.Returned h =
+halts new program d fuel fuel_left pause.Returned h =
     let a = h.0 in let used = a.used in
     record {
       end = a.configuration;
@@ -273,7 +277,7 @@ halts new program d fuel left pause.Returned h =
       is = (h.1, used);
       shows = a.shows;
     }
-halts new program d fuel left (pause.Trapped why) h =
+halts new program d fuel fuel_left (pause.Trapped why) h =
     let used = h.used in
     record {
       end = h.configuration;
@@ -296,7 +300,7 @@ some_once (x ∷ xs) (y ∷ ys) e = let others = some_once xs ys (cc) in cc
 abbrev call_of : Call → List ℕ → HostCall
 call_of call arguments = record { call = call; arguments = arguments }
 
--- a rule asks for one call
+-- a counted step asks for one call
 asks_once : (m : Module) (program : Program) (e : Configuration) (a b : HostCall)
     → AsksFor m program e a.call a.arguments → AsksFor m program e b.call b.arguments → a ≡ b
 asks_once m program e a b h k =
@@ -312,12 +316,13 @@ asks_once m program e a b h k =
     in
     whole
 
-module _ (m : Module) (program : Program) (e : Configuration) (steps fuel left left' : ℕ) where
+module _ (m : Module) (program : Program) (e : Configuration)
+    (steps fuel fuel_left fuel_left' : ℕ) where
   abbrev One : Pause → Pause → Type 0
-  One x y = (x ≡ y) × (left ≡ left')
+  One x y = (x ≡ y) × (fuel_left ≡ fuel_left')
 
-  one_pause : (x y : Pause) → IsPauseAt m program e steps fuel left x
-      → IsPauseAt m program e steps fuel left' y → One x y
+  one_pause : (x y : Pause) → IsPauseAt m program e steps fuel fuel_left x
+      → IsPauseAt m program e steps fuel fuel_left' y → One x y
   one_pause pause.Spent pause.Spent h k = let a = h.1 in let b = k.1 in (refl, omega (arith, a, b))
   one_pause (pause.Host asked) (pause.Host other) h k =
       let used = h.2 in let used' = k.2 in (
@@ -356,12 +361,12 @@ module _ (m : Module) (program : Program) (e : Configuration) (steps fuel left l
 -- ---- two machines
 
 abbrev paused_with : Pause → ℕ → Paused
-paused_with why left = record { why = why; left = left }
+paused_with why fuel_left = record { why = why; fuel_left = fuel_left }
 
 pub run_alike : MachinesRunAlike
 run_alike v w v' w' program d fuel x y guest same same' shows shows' runs runs' =
-    let a = halts v' program d fuel x.left x.why (runs program d shows) in
-    let b = halts w' program d fuel y.left y.why (runs' program d shows') in
+    let a = halts v' program d fuel x.fuel_left x.why (runs program d shows) in
+    let b = halts w' program d fuel y.fuel_left y.why (runs' program d shows') in
     let length : a.steps ≡ b.steps =
     same_length program a.steps b.steps fuel d a.end b.end a.ran b.ran a.within b.within a.stays
     b.stays in
@@ -369,33 +374,35 @@ run_alike v w v' w' program d fuel x y guest same same' shows shows' runs runs' 
     one_run program b.steps d a.end b.end (subst (λ n. Steps program n d a.end) length a.ran)
     b.ran in
     let guests : v'.guest ≡ w'.guest = same.guest ∙ guest ∙ sym same'.guest in
-    let here : IsPauseAt v'.guest program a.end a.steps fuel y.left y.why =
-    subst (λ m. IsPauseAt m program a.end a.steps fuel y.left y.why) (sym guests)
-    (subst (λ z. IsPauseAt w'.guest program z a.steps fuel y.left y.why) (sym end)
-    (subst (λ n. IsPauseAt w'.guest program b.end n fuel y.left y.why) (sym length) b.is)) in
-    let one = one_pause v'.guest program a.end a.steps fuel x.left y.left x.why y.why a.is here in
+    let here : IsPauseAt v'.guest program a.end a.steps fuel y.fuel_left y.why =
+    subst (λ m. IsPauseAt m program a.end a.steps fuel y.fuel_left y.why) (sym guests)
+    (subst (λ z. IsPauseAt w'.guest program z a.steps fuel y.fuel_left y.why) (sym end)
+    (subst (λ n. IsPauseAt w'.guest program b.end n fuel y.fuel_left y.why) (sym length) b.is)) in
+    let one = one_pause v'.guest program a.end a.steps fuel x.fuel_left y.fuel_left x.why
+    y.why a.is here in
     let why : x.why ≡ y.why = one.0 in
-    let left : x.left ≡ y.left = one.1 in
-    let whole : paused_with x.why x.left ≡ paused_with y.why y.left = rw (why, left) refl in
+    let fuel_left : x.fuel_left ≡ y.fuel_left = one.1 in
+    let whole : paused_with x.why x.fuel_left ≡ paused_with y.why y.fuel_left = rw
+    (why, fuel_left) refl in
     let shown : ShowsIn w' program (shown_after x.why a.end) =
     subst (λ z. ShowsIn w' program (shown_after x.why z)) (sym end)
     (subst (λ z. ShowsIn w' program (shown_after z b.end)) (sym why) b.shows) in
     (whole, one_machine v' w' program (shown_after x.why a.end) guests a.shows shown)
 
 pub answer_alike : MachinesAnswerAlike
-answer_alike v w v' w' program d results f arguments waits kind guest same same' shows shows' asks
-    there gives answers answers' =
-    let a = answers program d f arguments waits kind shows asks there gives in
-    let b = answers' program d f arguments waits kind shows' asks there gives in
+answer_alike v w v' w' program d results f arguments waits signature guest same same'
+    shows shows' asks there gives answers answers' =
+    let a = answers program d f arguments waits signature shows asks there gives in
+    let b = answers' program d f arguments waits signature shows' asks there gives in
     let memory : w.state.memory ≡ v.state.memory =
     ap (λ (z : MachineValue). z.state.memory)
     (sym (one_machine v w program d guest shows shows')) in
-    let settles =
-    subst (λ bytes. Settles program (answered d bytes results waits) b.configuration) memory
-    b.settles in
+    let reduces =
+    subst (λ bytes. ReducesTo program (answered d bytes results waits) b.configuration) memory
+    b.reduces in
     let one : b.configuration ≡ a.configuration =
-    settles_once program (answered d v.state.memory results waits) b.configuration
-    a.configuration settles a.settles in
+    reduces_once program (answered d v.state.memory results waits) b.configuration
+    a.configuration reduces a.reduces in
     let guests : v'.guest ≡ w'.guest = same.guest ∙ guest ∙ sym same'.guest in
     one_machine v' w' program a.configuration guests a.shows
     (subst (λ z. ShowsIn w' program z) one b.shows)

@@ -10,11 +10,12 @@ use Rattle.wasm_syntax.specs.declared.instruction.Instruction.{Instruction}
 use Rattle.wasm_syntax.specs.declared.instruction.Instruction.TheVariants as instr
 use Rattle.wasm_syntax.specs.rules.Sequence.{Sequence, Plain}
 use Rattle.wasm_semantics.specs.Types.{takes_of, is_same_function_type}
-use Rattle.wasm_semantics.specs.Configuration.{Callee, Host, Own, Program, Label, Frame, FrameOf}
+use Rattle.wasm_semantics.specs.Configuration.{Callee, Imported, Own, Program, Label, Frame}
+use Rattle.wasm_semantics.specs.Configuration.{FrameOf}
 use Rattle.wasm_semantics.specs.Configuration.{Thread, Configuration, Outcome, Traps, Asks}
-use Rattle.wasm_semantics.specs.Steps.{where_some, topmost, called, calls_entry, kind_of}
-use Rattle.wasm_semantics.specs.Steps.{entered, execute, rule_of, rule}
-use Rattle.machine.proofs.TurnLemmas.Asking.{IsCall, no_entering, only_calls}
+use Rattle.wasm_semantics.specs.Steps.{where_some, topmost, called, calls_entry, signature_of}
+use Rattle.wasm_semantics.specs.Steps.{entered, execute, counted_step_of, counted_step}
+use Rattle.machine.proofs.CycleLemmas.Asking.{IsCall, no_entering, only_calls}
 use Rattle.machine.specs.laws.Laws.{with_memory_bytes}
 
 module _ (f : ℕ) (arguments : List Value) (waits : Thread) where
@@ -25,10 +26,10 @@ module _ (f : ℕ) (arguments : List Value) (waits : Thread) where
       → Frame) (vs : List Value) (frames : Thread) where
     called_again : (g : ℕ) (callee : Callee) → Asking (called g callee d caller vs frames)
         → Asking (called g callee e caller vs frames)
-    called_again g (Host kind) h = h
-    called_again g (Own kind declared body) h =
-        absurd (no_entering f arguments waits (topmost (length (takes_of kind)) vs) d (λ given.
-        entered g kind declared body given ∷ caller (drop (length (takes_of kind)) vs)
+    called_again g (Imported signature) h = h
+    called_again g (Own signature declared body) h =
+        absurd (no_entering f arguments waits (topmost (length (takes_of signature)) vs) d (λ given.
+        entered g signature declared body given ∷ caller (drop (length (takes_of signature)) vs)
         ∷ frames) h)
 
     calls_again : (g : ℕ) (o : Option Callee)
@@ -45,28 +46,29 @@ module _ (f : ℕ) (arguments : List Value) (waits : Thread) where
     same_again g callee false h = h
     same_again g callee true h = called_again g callee h
 
-    callee_again : (kind : FunctionType) (g : ℕ) (o : Option Callee)
-        → Asking (where_some o (λ callee. if is_same_function_type kind (kind_of callee)
+    callee_again : (signature : FunctionType) (g : ℕ) (o : Option Callee)
+        → Asking (where_some o (λ callee. if is_same_function_type signature (signature_of callee)
         then called g callee d caller vs frames else Traps trap.IndirectCallTypeMismatch))
-        → Asking (where_some o (λ callee. if is_same_function_type kind (kind_of callee)
+        → Asking (where_some o (λ callee. if is_same_function_type signature (signature_of callee)
         then called g callee e caller vs frames else Traps trap.IndirectCallTypeMismatch))
-    callee_again kind g None h = h
-    callee_again kind g (Some callee) h =
-        same_again g callee (is_same_function_type kind (kind_of callee)) h
+    callee_again signature g None h = h
+    callee_again signature g (Some callee) h =
+        same_again g callee (is_same_function_type signature (signature_of callee)) h
 
-    entry_again : (program : Program) (kind : FunctionType) (entry : Option (Option ℕ))
-        → Asking (calls_entry program entry kind d caller vs frames)
-        → Asking (calls_entry program entry kind e caller vs frames)
-    entry_again program kind None h = h
-    entry_again program kind (Some None) h = h
-    entry_again program kind (Some (Some g)) h =
-        callee_again kind g (slice_get program.functions g) h
+    entry_again : (program : Program) (signature : FunctionType) (entry : Option (Option ℕ))
+        → Asking (calls_entry program entry signature d caller vs frames)
+        → Asking (calls_entry program entry signature e caller vs frames)
+    entry_again program signature None h = h
+    entry_again program signature (Some None) h = h
+    entry_again program signature (Some (Some g)) h =
+        callee_again signature g (slice_get program.functions g) h
 
     indirect_again : (program : Program) (o : Option FunctionType) (entry : Option (Option ℕ))
-        → Asking (where_some o (λ kind. calls_entry program entry kind d caller vs frames))
-        → Asking (where_some o (λ kind. calls_entry program entry kind e caller vs frames))
+        → Asking (where_some o (λ signature. calls_entry program entry signature d
+        caller vs frames)) → Asking (where_some o (λ signature. calls_entry program entry signature
+        e caller vs frames))
     indirect_again program None entry h = h
-    indirect_again program (Some kind) entry h = entry_again program kind entry h
+    indirect_again program (Some signature) entry h = entry_again program signature entry h
 
   module _ (program : Program) (d : Configuration) (bytes : List ℕ) where
     plain_again : (g : ℕ) (ls : List Value) (labels : List Label) (i : Instruction)
@@ -87,20 +89,21 @@ module _ (f : ℕ) (arguments : List Value) (waits : Thread) where
 
     again_of : (g : ℕ) (ls : List Value) (labels : List Label) (vs : List Value) (rest : Sequence)
         (frames : Thread) → (i : Instruction) × (after : Sequence) × (rest ≡ Plain i after)
-        × IsCall i → Asking (rule_of program d (FrameOf g ls labels vs rest ∷ frames))
-        → Asking (rule_of program (with_memory_bytes d bytes) (FrameOf g ls labels vs rest
+        × IsCall i → Asking (counted_step_of program d (FrameOf g ls labels vs rest ∷ frames))
+        → Asking (counted_step_of program (with_memory_bytes d bytes) (FrameOf g ls labels vs rest
         ∷ frames))
     again_of g ls labels vs rest frames call h =
         let here : Asking (execute program d g ls labels call.0 vs call.1 frames) = (rw call.2 at h)
         in
         rw call.2 (plain_again g ls labels call.0 vs call.1 frames call.3 here)
 
-    thread_again : (thread : Thread) → Asking (rule_of program d thread)
-        → Asking (rule_of program (with_memory_bytes d bytes) thread)
+    thread_again : (thread : Thread) → Asking (counted_step_of program d thread)
+        → Asking (counted_step_of program (with_memory_bytes d bytes) thread)
     thread_again [] h = absurd (cc)
     thread_again (FrameOf g ls labels vs rest ∷ frames) h =
         again_of g ls labels vs rest frames
         (only_calls f arguments waits program d g ls labels vs rest frames h) h
 
-    pub asks_again : Asking (rule program d) → Asking (rule program (with_memory_bytes d bytes))
+    pub asks_again : Asking (counted_step program d) → Asking
+        (counted_step program (with_memory_bytes d bytes))
     asks_again h = thread_again d.thread h

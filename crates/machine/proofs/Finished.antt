@@ -7,24 +7,24 @@ use Rattle.guest_memory.specs.rules.Bytes.{IsByte}
 use Rattle.guest_memory.specs.rules.Memories.{IsWithinLimit}
 use Rattle.wasm_semantics.specs.Configuration.{Program, Configuration}
 use Rattle.wasm_semantics.specs.Steps.{answered}
-use Rattle.machine.specs.declared.turns.code.Executable.{Executable}
-use Rattle.machine.specs.declared.turns.state.State.{State}
-use Rattle.machine.specs.declared.turns.pause.Paused.{Paused}
-use Rattle.machine.specs.Turns.Codes.{Stands, IsStanding}
-use Rattle.machine.specs.Turns.Pauses.{Pauses}
+use Rattle.machine.specs.declared.execution.code.Executable.{Executable}
+use Rattle.machine.specs.declared.execution.state.State.{State}
+use Rattle.machine.specs.declared.execution.pause.Paused.{Paused}
+use Rattle.machine.specs.Execution.Codes.{StateStandsFor, StandsForSome}
+use Rattle.machine.specs.Execution.Pauses.{Pauses}
 use Rattle.machine.specs.rules.Answers.{IsWaiting, IsAnswered}
 use Rattle.machine.specs.rules.Values.{HoldsMemory}
 use Rattle.machine.specs.rules.Runs.{WaitsFor, Answers}
-use Rattle.machine.specs.Insides.{seen, IsSettledIn, IsMachine, with_memory_of}
-use Rattle.machine.proofs.Inside.{memory_in, holds_settled, settled_with, shown, stood_for}
+use Rattle.machine.specs.Insides.{seen, IsReducedIn, IsMachine, with_memory_of}
+use Rattle.machine.proofs.Inside.{memory_in, holds_reduced, reduced_with, shown, stood_for}
 use Rattle.machine.proofs.OneProgram.{one_program, one_list}
-use Rattle.machine.proofs.AtOnce.{SettlesIn, at_once}
+use Rattle.machine.proofs.AtOnce.{ReducesIn, at_once}
 
 module _ (code : Executable) (old : State) (most : ℕ) (results : List Value)
     (machine : IsMachine code old most) (shape : IsWithinLimit old.memory)
     (bytes : AllByRecursion IsByte old.memory.bytes) (waits : WaitsFor results (seen code old most))
   where
-    stands_old : Stands code old waits.shows.functions waits.program waits.configuration
+    stands_old : StateStandsFor code old waits.shows.functions waits.program waits.configuration
     stands_old =
         stood_for code old most machine shape bytes waits.program waits.configuration waits.shows
 
@@ -37,9 +37,9 @@ module _ (code : Executable) (old : State) (most : ℕ) (results : List Value)
       function = waits.function;
       arguments = waits.arguments;
       waits = waits.waits;
-      kind = waits.kind;
+      signature = waits.signature;
       asks = waits.asks;
-      is_host = waits.is_host;
+      is_imported = waits.is_imported;
       gives = waits.gives;
     }
 
@@ -47,13 +47,14 @@ module _ (code : Executable) (old : State) (most : ℕ) (results : List Value)
       abbrev there : Configuration
       there = answered waits.configuration old.memory.bytes results waits.waits
 
-      stands_there : Stands code mid waits.shows.functions waits.program there
+      stands_there : StateStandsFor code mid waits.shows.functions waits.program there
       stands_there =
           answers waits.shows.functions waits.program waits.configuration waits.function
-          waits.arguments waits.waits waits.kind stands_old waits.asks waits.is_host waits.gives
+          waits.arguments waits.waits waits.signature stands_old waits.asks
+          waits.is_imported waits.gives
 
-      pub is_standing_there : IsStanding code mid
-      is_standing_there = record {
+      pub stands_for_some_there : StandsForSome code mid
+      stands_for_some_there = record {
         functions = waits.shows.functions;
         program = waits.program;
         configuration = there;
@@ -61,14 +62,14 @@ module _ (code : Executable) (old : State) (most : ℕ) (results : List Value)
       }
 
       module _ (new : State) (paused : Paused) (pauses : Pauses code mid 0 paused new) where
-        settles_from : (functions : List FunctionType) (program : Program) (d : Configuration)
-            → Stands code mid functions program d → SettlesIn code new functions program d
-        settles_from functions program d stands =
-            at_once code new functions program d paused.left paused.why
+        reduces_from : (functions : List FunctionType) (program : Program) (d : Configuration)
+            → StateStandsFor code mid functions program d → ReducesIn code new functions program d
+        reduces_from functions program d stands =
+            at_once code new functions program d paused.fuel_left paused.why
             (pauses functions program d stands)
 
-        after : SettlesIn code new waits.shows.functions waits.program there
-        after = settles_from waits.shows.functions waits.program there stands_there
+        after : ReducesIn code new waits.shows.functions waits.program there
+        after = reduces_from waits.shows.functions waits.program there stands_there
 
         pub machine_finished : IsMachine code new most
         machine_finished = record {
@@ -77,35 +78,36 @@ module _ (code : Executable) (old : State) (most : ℕ) (results : List Value)
           is = machine.is;
           own = machine.own;
           fits = machine.fits;
-          settled = λ memory functions program is_memory is.
+          reduced = λ memory functions program is_memory is.
               let programs : waits.program ≡ program =
               one_program code.«module» most waits.shows.functions functions waits.program program
               waits.shows.is is in
               let lists : waits.shows.functions ≡ functions =
               one_list code.«module» most waits.shows.functions functions waits.program program
               waits.shows.is is in
-              let here = settled_with code new waits.shows.functions waits.program
-              after.configuration after.stands memory after.settled
+              let here = reduced_with code new waits.shows.functions waits.program
+              after.configuration after.stands memory after.reduced
               (memory_in code.«module» most waits.shows.functions waits.program waits.shows.is
               memory is_memory) in
-              subst (λ z. IsSettledIn code (with_memory_of new memory) functions z) programs
-              (subst (λ z. IsSettledIn code (with_memory_of new memory) z waits.program) lists
+              subst (λ z. IsReducedIn code (with_memory_of new memory) functions z) programs
+              (subst (λ z. IsReducedIn code (with_memory_of new memory) z waits.program) lists
               here);
         }
 
         pub holds_finished : HoldsMemory (seen code new most)
-        holds_finished = holds_settled code new waits.shows.functions waits.program
+        holds_finished = holds_reduced code new waits.shows.functions waits.program
             after.configuration after.stands most waits.shows.is
 
         pub answers_finished : Answers results (seen code old most) (seen code new most)
-        answers_finished program d f arguments waiter kind shows asks there gives =
+        answers_finished program d f arguments waiter signature shows asks there gives =
             let stands = stood_for code old most machine shape bytes program d shows in
-            let end = settles_from shows.functions program
+            let end = reduces_from shows.functions program
             (answered d old.memory.bytes results waiter)
-            (answers shows.functions program d f arguments waiter kind stands asks there gives) in
+            (answers shows.functions program d f arguments waiter signature stands asks
+            there gives) in
             record {
               configuration = end.configuration;
-              settles = end.settles;
+              reduces = end.reduces;
               shows = shown code new shows.functions program end.configuration end.stands most
-                  shows.is end.settled;
+                  shows.is end.reduced;
             }

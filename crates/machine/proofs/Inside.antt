@@ -7,18 +7,18 @@ use Rattle.guest_memory.specs.rules.Bytes.{IsByte, page_size}
 use Rattle.guest_memory.specs.rules.Memories.{LinearMemory, IsWithinLimit}
 use Rattle.wasm_semantics.specs.Validity.{module_context}
 use Rattle.wasm_semantics.specs.Configuration.{Program, Configuration}
-use Rattle.wasm_semantics.specs.Steps.{IsSettled}
+use Rattle.wasm_semantics.specs.Steps.{IsReduced}
 use Rattle.wasm_semantics.specs.Typed.{IsTypedMemory}
-use Rattle.machine_frame.proofs.Threads.Showing.{settled_is_shown, shown_stands}
+use Rattle.machine_frame.proofs.Threads.Showing.{reduced_is_shown, shown_stands}
 use Rattle.machine.specs.Routines.Routines.{opcodes_in, tables_in}
-use Rattle.machine.specs.declared.turns.code.Executable.{Executable}
-use Rattle.machine.specs.declared.turns.state.State.{State}
-use Rattle.machine.specs.Turns.Codes.{parts_of_state, Stands}
-use Rattle.machine.proofs.TurnLemmas.Advancing.{ready}
+use Rattle.machine.specs.declared.execution.code.Executable.{Executable}
+use Rattle.machine.specs.declared.execution.state.State.{State}
+use Rattle.machine.specs.Execution.Codes.{parts_of_state, StateStandsFor}
+use Rattle.machine.proofs.CycleLemmas.Advancing.{ready}
 use Rattle.machine.specs.rules.Values.{IsProgramIn, HoldsMemory, ShowsIn, least_of}
-use Rattle.machine.specs.Insides.{seen, IsMemoryFor, IsSettledIn, IsMachine, with_memory_of}
+use Rattle.machine.specs.Insides.{seen, IsMemoryFor, IsReducedIn, IsMachine, with_memory_of}
 use Rattle.machine.specs.laws.Laws.{with_memory_bytes}
-use Rattle.machine.proofs.Settled.{another_store}
+use Rattle.machine.proofs.Reduced.{another_store}
 
 -- a memory of this limit is one of such a program
 pub typed_memory : (program : Program) (memory : LinearMemory)
@@ -68,10 +68,11 @@ module _ (m : Module) (most : ℕ) (functions : List FunctionType) (program : Pr
       (subst (λ z. program.least_pages ≤ z) is.most fits)
 
 module _ (code : Executable) (s : State) (functions : List FunctionType) (program : Program)
-    (d : Configuration) (stands : Stands code s functions program d) where
+    (d : Configuration) (stands : StateStandsFor code s functions program d) where
   pub with_another : (memory : LinearMemory)
       → IsMemoryFor program.least_pages program.most_pages memory
-      → Stands code (with_memory_of s memory) functions program (with_memory_bytes d memory.bytes)
+      → StateStandsFor code (with_memory_of s memory) functions program
+      (with_memory_bytes d memory.bytes)
   with_another memory h =
       let k = stands.stands in
       record {
@@ -99,20 +100,20 @@ module _ (code : Executable) (s : State) (functions : List FunctionType) (progra
         };
       }
 
-  pub settled_with : (memory : LinearMemory) → IsSettled program d
+  pub reduced_with : (memory : LinearMemory) → IsReduced program d
       → IsMemoryFor program.least_pages program.most_pages memory
-      → IsSettledIn code (with_memory_of s memory) functions program
-  settled_with memory e h = record {
+      → IsReducedIn code (with_memory_of s memory) functions program
+  reduced_with memory e h = record {
     configuration = with_memory_bytes d memory.bytes;
     stands = with_another memory h;
-    settled = another_store program d.thread d.later d.store
+    reduced = another_store program d.thread d.later d.store
         (record d.store { memory = memory.bytes }) e;
   }
 
   -- it has the memory that it should
-  pub holds_settled : (most : ℕ) → IsProgramIn code.«module» most functions program
+  pub holds_reduced : (most : ℕ) → IsProgramIn code.«module» most functions program
       → HoldsMemory (seen code s most)
-  holds_settled most is = record {
+  holds_reduced most is = record {
     limit = stands.stands.shown.limit_is ∙ is.most;
     least = has_least code.«module» most functions program is s.memory.bytes
         (subst (IsTypedMemory program) (sym stands.stands.shown.bytes_are)
@@ -121,12 +122,12 @@ module _ (code : Executable) (s : State) (functions : List FunctionType) (progra
 
   -- what it stands for is shown
   module _ (most : ℕ) (is : IsProgramIn code.«module» most functions program) where
-    pub shown : IsSettled program d → ShowsIn (seen code s most) program d
+    pub shown : IsReduced program d → ShowsIn (seen code s most) program d
     shown e = record {
       functions = functions;
       is = is;
-      holds = holds_settled most is;
-      shows = settled_is_shown (module_context code.«module» functions) program
+      holds = holds_reduced most is;
+      shows = reduced_is_shown (module_context code.«module» functions) program
           (opcodes_in code.«module») (tables_in code.«module» code.routines.items) code.table.items
           (parts_of_state s) d (ready code s functions program d stands) stands.stands e;
     }
@@ -134,7 +135,8 @@ module _ (code : Executable) (s : State) (functions : List FunctionType) (progra
 -- and what is shown, it stands for
 pub shown_is_stood_for : (code : Executable) (s : State) (most : ℕ) (program : Program)
     (d e : Configuration) → (shows : ShowsIn (seen code s most) program d)
-    → Stands code s shows.functions program e → Stands code s shows.functions program d
+    → StateStandsFor code s shows.functions program e → StateStandsFor code s
+    shows.functions program d
 shown_is_stood_for code s most program d e shows stands = record {
   is_code = stands.is_code;
   stands = shown_stands (module_context code.«module» shows.functions) program code.table.items
@@ -145,7 +147,7 @@ shown_is_stood_for code s most program d e shows stands = record {
 pub stood_for : (code : Executable) (s : State) (most : ℕ) → IsMachine code s most
     → IsWithinLimit s.memory → AllByRecursion IsByte s.memory.bytes
     → (program : Program) (d : Configuration) → (shows : ShowsIn (seen code s most) program d)
-    → Stands code s shows.functions program d
+    → StateStandsFor code s shows.functions program d
 stood_for code s most machine shape bytes program d shows =
     let memory : IsMemoryFor (least_of code.«module») most s.memory = record {
       limit = shows.holds.limit;
@@ -153,5 +155,5 @@ stood_for code s most machine shape bytes program d shows =
       shape = shape;
       bytes = bytes;
     } in
-    let some = machine.settled s.memory shows.functions program memory shows.is in
+    let some = machine.reduced s.memory shows.functions program memory shows.is in
     shown_is_stood_for code s most program d some.configuration shows some.stands

@@ -1,4 +1,4 @@
-pub mod Settled
+pub mod Reduced
 pub mod Inside
 pub mod Ran
 pub mod OneProgram
@@ -13,7 +13,7 @@ pub mod Stopped
 pub mod Telling
 pub mod Placed
 pub mod RoutineLemmas
-pub mod TurnLemmas
+pub mod CycleLemmas
 pub mod InstanceLemmas
 pub mod HostingLemmas
 pub mod LoadingLemmas

@@ -5,26 +5,26 @@ use Rattle.wasm_syntax.specs.declared.module.Module.{Module}
 use Rattle.wasm_semantics.specs.Validity.{AreFunctionTypes}
 use Rattle.wasm_semantics.specs.Configuration.{Program, Store, Configuration}
 use Rattle.wasm_semantics.specs.Instantiation.{IsProgram, calls_of, Begins}
-use Rattle.wasm_semantics.specs.Steps.{Settles}
+use Rattle.wasm_semantics.specs.Steps.{ReducesTo}
 use Rattle.wasm_semantics.specs.Typed.{IsTypedMemory}
-use Rattle.wasm_semantics.proofs.OneRun.{settles_once}
+use Rattle.wasm_semantics.proofs.OneRun.{reduces_once}
 use Rattle.wasm_semantics.proofs.OneStore.{store_once}
-use Rattle.machine.specs.declared.turns.state.State.{State}
-use Rattle.machine.specs.declared.turns.pause.Paused.{Paused}
-use Rattle.machine.specs.Turns.Codes.{IsStanding}
-use Rattle.machine.specs.Turns.Pauses.{Pauses}
+use Rattle.machine.specs.declared.execution.state.State.{State}
+use Rattle.machine.specs.declared.execution.pause.Paused.{Paused}
+use Rattle.machine.specs.Execution.Codes.{StandsForSome}
+use Rattle.machine.specs.Execution.Pauses.{Pauses}
 use Rattle.machine.specs.declared.hosting.starting.MachineStart.{MachineStart}
 use Rattle.machine.specs.Hosting.Beginnings.{first, StartStands as HasStarted}
 use Rattle.machine.specs.rules.Values.{IsProgramIn, ShowsIn}
 use Rattle.machine.specs.rules.Runs.{HasBegun}
 use Rattle.machine.specs.Insides.{seen, IsMachine}
-use Rattle.machine.proofs.Inside.{memory_in, has_least, least_fits, settled_with, shown}
+use Rattle.machine.proofs.Inside.{memory_in, has_least, least_fits, reduced_with, shown}
 use Rattle.machine.proofs.InstanceLemmas.Begun.{own_memories}
-use Rattle.machine.proofs.AtOnce.{SettlesIn, at_once}
+use Rattle.machine.proofs.AtOnce.{ReducesIn, at_once}
 
 module _ (pages : ℕ) (m : Module) (b : MachineStart) (few : pages
     ≤ 2 ^ 16) (h : HasStarted pages m b) where
-  pub begin_stands : IsStanding b.code b.state
+  pub begin_stands : StandsForSome b.code b.state
   begin_stands = record {
     functions = h.functions;
     program = h.program;
@@ -33,13 +33,13 @@ module _ (pages : ℕ) (m : Module) (b : MachineStart) (few : pages
   }
 
   module _ (state : State) (paused : Paused) (pauses : Pauses b.code b.state 0 paused state) where
-    settles : (functions : List FunctionType) (program : Program) → AreFunctionTypes m functions
+    reduces : (functions : List FunctionType) (program : Program) → AreFunctionTypes m functions
         → IsProgram m pages program
-        → SettlesIn b.code state functions program
+        → ReducesIn b.code state functions program
         (first h.linkable.store (calls_of m.start h.linkable.entry))
-    settles functions program types is =
+    reduces functions program types is =
         let start = first h.linkable.store (calls_of m.start h.linkable.entry) in
-        at_once b.code state functions program start paused.left paused.why
+        at_once b.code state functions program start paused.fuel_left paused.why
         (pauses functions program start (h.stands functions program types is))
 
     program_in : (functions : List FunctionType) (program : Program) → AreFunctionTypes m functions
@@ -69,9 +69,9 @@ module _ (pages : ℕ) (m : Module) (b : MachineStart) (few : pages
           subst (λ z. AreFunctionTypes z functions) h.guest is.types,
         )
 
-    settled_memory : IsTypedMemory h.program state.memory.bytes
-    settled_memory =
-        let after = settles h.functions h.program h.types h.is_program in
+    reduced_memory : IsTypedMemory h.program state.memory.bytes
+    reduced_memory =
+        let after = reduces h.functions h.program h.types h.is_program in
         let stands = after.stands.stands in
         subst (IsTypedMemory h.program) (sym stands.shown.bytes_are) stands.typed.store.memory
 
@@ -83,50 +83,50 @@ module _ (pages : ℕ) (m : Module) (b : MachineStart) (few : pages
       own = rw h.guest (own_memories m h.linkable.imports);
       fits = least_fits b.code.«module» b.state.memory.limit h.functions h.program
           (program_in h.functions h.program h.types h.is_program) state.memory.bytes
-          settled_memory;
-      settled = λ memory functions program is_memory is.
+          reduced_memory;
+      reduced = λ memory functions program is_memory is.
           let under = under_pages functions program is in
-          let after = settles functions program under.1 under.0 in
-          settled_with b.code state functions program after.configuration after.stands memory
-          after.settled
+          let after = reduces functions program under.1 under.0 in
+          reduced_with b.code state functions program after.configuration after.stands memory
+          after.reduced
           (memory_in b.code.«module» b.state.memory.limit functions program is memory is_memory);
     }
 
     same_limit : state.memory.limit ≡ b.state.memory.limit
     same_limit =
-        let after = settles h.functions h.program h.types h.is_program in
+        let after = reduces h.functions h.program h.types h.is_program in
         after.stands.stands.shown.limit_is ∙ h.is_program.most_pages ∙ sym h.limit
 
-    -- where the module begins is where the beginning settles
+    -- where the module begins is what the beginning reduces to
     shows_begun : (program : Program) (d : Configuration)
         → Begins m pages h.linkable.entry program d
         → ShowsIn (seen b.code state b.state.memory.limit) program d
     shows_begun program d begins =
-        let after = settles h.functions program h.types begins.is_program in
+        let after = reduces h.functions program h.types begins.is_program in
         let stores : begins.store ≡ h.linkable.store =
         store_once m begins.store h.linkable.store begins.is_store h.linkable.segments in
         let P : Store → Type 0 =
-        λ z. Settles program (first z (calls_of m.start h.linkable.entry)) d in
+        λ z. ReducesTo program (first z (calls_of m.start h.linkable.entry)) d in
         let same : after.configuration ≡ d =
-        settles_once program (first h.linkable.store (calls_of m.start h.linkable.entry))
-        after.configuration d after.settles (subst P stores begins.settles) in
+        reduces_once program (first h.linkable.store (calls_of m.start h.linkable.entry))
+        after.configuration d after.reduces (subst P stores begins.reduces) in
         let Q : Configuration → Type 0 =
         λ z. ShowsIn (seen b.code state b.state.memory.limit) program z in
         subst Q same (shown b.code state h.functions program after.configuration after.stands
         b.state.memory.limit (program_in h.functions program h.types begins.is_program)
-        after.settled)
+        after.reduced)
 
     some_begins : (program : Program) × (d : Configuration)
         × Begins m pages h.linkable.entry program d
     some_begins =
-        let after = settles h.functions h.program h.types h.is_program in (
+        let after = reduces h.functions h.program h.types h.is_program in (
           h.program,
           after.configuration,
           record {
             is_program = h.is_program;
             store = h.linkable.store;
             is_store = h.linkable.segments;
-            settles = after.settles;
+            reduces = after.reduces;
           },
         )
 
@@ -138,7 +138,7 @@ module _ (pages : ℕ) (m : Module) (b : MachineStart) (few : pages
         limit = same_limit;
         least = has_least b.code.«module» b.state.memory.limit h.functions h.program
             (program_in h.functions h.program h.types h.is_program) state.memory.bytes
-            settled_memory;
+            reduced_memory;
       };
       shows = shows_begun;
       begins = some_begins;

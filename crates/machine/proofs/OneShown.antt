@@ -115,14 +115,14 @@ same_shape : (c : Context) (body : Sequence) (p : ℕ) (shape shape' : Shape)
 same_shape c body p shape shape' a b = cc
 
 -- a call takes the same of the operands
-same_call : (c : Context) (s : Sequence) (kind : FunctionType) (takes takes' : List ValueType)
-    (rest rest' : Sequence) → IsCallOf c s kind takes rest → IsCallOf c s kind takes' rest'
-    → (takes ≡ takes') × (rest ≡ rest')
-same_call c (Plain (instr.Call x) after) kind takes takes' rest rest' h k =
+same_call : (c : Context) (s : Sequence) (signature : FunctionType) (takes takes' : List ValueType)
+    (rest rest' : Sequence) → IsCallOf c s signature takes rest
+    → IsCallOf c s signature takes' rest' → (takes ≡ takes') × (rest ≡ rest')
+same_call c (Plain (instr.Call x) after) signature takes takes' rest rest' h k =
     (h.1 ∙ sym k.1, h.2 ∙ sym k.2)
-same_call c (Plain (instr.CallIndirect x) after) kind takes takes' rest rest' h k =
+same_call c (Plain (instr.CallIndirect x) after) signature takes takes' rest rest' h k =
     (h.1 ∙ sym k.1, h.2 ∙ sym k.2)
-same_call c _ kind takes takes' rest rest' h k = absurd h
+same_call c _ signature takes takes' rest rest' h k = absurd h
 
 module _ (c : Context) (body : Sequence) (place : ShownFrame) (f f' : ℕ) (ls ms : List Value)
     (labels others : List Label) (vs ws : List Value) (rest rest' : Sequence) where
@@ -141,14 +141,14 @@ module _ (c : Context) (body : Sequence) (place : ShownFrame) (f f' : ℕ) (ls m
       let a = frame.locals in let b = frame.labels_are in let d = frame.values in
       cc
 
-  one_waiting : (kind : FunctionType) → f ≡ f' → ShowsWaiting c body place kind ls labels vs rest
-      → ShowsWaiting c body place kind ms others ws rest'
+  one_waiting : (signature : FunctionType) → f ≡ f' → ShowsWaiting c body place signature ls
+      labels vs rest → ShowsWaiting c body place signature ms others ws rest'
       → FrameOf f ls labels vs rest ≡ FrameOf f' ms others ws rest'
-  one_waiting kind same h k =
+  one_waiting signature same h k =
       let shape : k.shape ≡ h.shape =
       same_shape c body place.position k.shape h.shape k.reached h.reached in
-      let call = same_call c h.shape.rest kind h.takes k.takes rest rest' h.calls
-      (subst (λ (z : Shape). IsCallOf c z.rest kind k.takes rest') shape k.calls) in
+      let call = same_call c h.shape.rest signature h.takes k.takes rest rest' h.calls
+      (subst (λ (z : Shape). IsCallOf c z.rest signature k.takes rest') shape k.calls) in
       let split : h.takes ++ h.types ≡ h.takes ++ k.types =
       sym h.split ∙ sym (ap (λ (z : Shape). z.operands) shape) ∙ k.split
       ∙ ap (λ (z : List ValueType). z ++ k.types) (sym call.0) in
@@ -166,16 +166,16 @@ module _ (c : Context) (body : Sequence) (place : ShownFrame) (f f' : ℕ) (ls m
 
 -- equal functions are shown by the same frames
 module _ (c : Context) (place : ShownFrame) (ls : List Value) (labels : List Label)
-    (vs : List Value) (rest : Sequence) (kind kind' : FunctionType)
-    (declared declared' : List ValueType) (body body' : Sequence) (a : kind ≡ kind') (b : declared
-    ≡ declared') (d : body ≡ body') where
-  pub running_of : ShowsRunning (body_context c kind declared) body place ls labels vs rest
-      → ShowsRunning (body_context c kind' declared') body' place ls labels vs rest
+    (vs : List Value) (rest : Sequence) (signature signature' : FunctionType)
+    (declared declared' : List ValueType) (body body' : Sequence) (a : signature
+    ≡ signature') (b : declared ≡ declared') (d : body ≡ body') where
+  pub running_of : ShowsRunning (body_context c signature declared) body place ls labels vs rest
+      → ShowsRunning (body_context c signature' declared') body' place ls labels vs rest
   running_of h = rw (← a, ← b, ← d) h
 
   pub waiting_of : (above : FunctionType)
-      → ShowsWaiting (body_context c kind declared) body place above ls labels vs rest
-      → ShowsWaiting (body_context c kind' declared') body' place above ls labels vs rest
+      → ShowsWaiting (body_context c signature declared) body place above ls labels vs rest
+      → ShowsWaiting (body_context c signature' declared') body' place above ls labels vs rest
   waiting_of above h = rw (← a, ← b, ← d) h
 
 -- a place has one function, with one type, one list of declared locals and one body
@@ -184,11 +184,11 @@ module _ (c : Context) (program : Program) (place : ShownFrame) (f f' : ℕ)
   same_function : f ≡ f'
   same_function = sym h.same ∙ k.same
 
-  same_own : Own k.kind k.declared k.body ≡ Own h.kind h.declared h.body
+  same_own : Own k.signature k.declared k.body ≡ Own h.signature h.declared h.body
   same_own = let same = same_function in let a = h.is in let b = k.is in cc
 
-  same_kind : k.kind ≡ h.kind
-  same_kind = let e = same_own in cc
+  same_signature : k.signature ≡ h.signature
+  same_signature = let e = same_own in cc
 
   same_declared : k.declared ≡ h.declared
   same_declared = let e = same_own in cc
@@ -197,30 +197,31 @@ module _ (c : Context) (program : Program) (place : ShownFrame) (f f' : ℕ)
   same_body = let e = same_own in cc
 
   same_callers : (places : List ShownFrame) (thread : Thread)
-      → ShowsCallers c program k.kind places thread → ShowsCallers c program h.kind places thread
+      → ShowsCallers c program k.signature places thread → ShowsCallers c program
+      h.signature places thread
   same_callers places thread =
-      subst (λ (z : FunctionType). ShowsCallers c program z places thread) same_kind
+      subst (λ (z : FunctionType). ShowsCallers c program z places thread) same_signature
 
   module _ (ls ms : List Value) (labels others : List Label) (vs ws : List Value)
       (rest rest' : Sequence) where
-    running_frame : ShowsRunning (body_context c h.kind h.declared) h.body place ls labels vs rest
-        → ShowsRunning (body_context c k.kind k.declared) k.body place ms others ws rest'
-        → FrameOf f ls labels vs rest ≡ FrameOf f' ms others ws rest'
+    running_frame : ShowsRunning (body_context c h.signature h.declared) h.body place ls
+        labels vs rest → ShowsRunning (body_context c k.signature k.declared) k.body place ms
+        others ws rest' → FrameOf f ls labels vs rest ≡ FrameOf f' ms others ws rest'
     running_frame a b =
-        one_running (body_context c h.kind h.declared) h.body place f f' ls ms labels others vs ws
-        rest rest' same_function a
-        (running_of c place ms others ws rest' k.kind h.kind k.declared h.declared k.body h.body
-        same_kind same_declared same_body b)
+        one_running (body_context c h.signature h.declared) h.body place f f' ls ms
+        labels others vs ws rest rest' same_function a
+        (running_of c place ms others ws rest' k.signature h.signature k.declared
+        h.declared k.body h.body same_signature same_declared same_body b)
 
     waiting_frame : (above : FunctionType)
-        → ShowsWaiting (body_context c h.kind h.declared) h.body place above ls labels vs rest
-        → ShowsWaiting (body_context c k.kind k.declared) k.body place above ms others ws rest'
+        → ShowsWaiting (body_context c h.signature h.declared) h.body place above ls labels vs rest
+        → ShowsWaiting (body_context c k.signature k.declared) k.body place above ms others ws rest'
         → FrameOf f ls labels vs rest ≡ FrameOf f' ms others ws rest'
     waiting_frame above a b =
-        one_waiting (body_context c h.kind h.declared) h.body place f f' ls ms labels others vs ws
-        rest rest' above same_function a
-        (waiting_of c place ms others ws rest' k.kind h.kind k.declared h.declared k.body h.body
-        same_kind same_declared same_body above b)
+        one_waiting (body_context c h.signature h.declared) h.body place f f' ls ms
+        labels others vs ws rest rest' above same_function a
+        (waiting_of c place ms others ws rest' k.signature h.signature k.declared
+        h.declared k.body h.body same_signature same_declared same_body above b)
 
 one_caller : (c : Context) (program : Program) (above : FunctionType) (places : List ShownFrame)
     (thread other : Thread) → ShowsCallers c program above places thread
@@ -235,7 +236,7 @@ one_caller c program above (place ∷ places) (FrameOf f ls labels vs rest
     let frame = waiting_frame c program place f f' h.0 k.0 ls ms labels labels' vs ws rest rest'
     above h.1 k.1 in
     let behind =
-    one_caller c program h.0.kind places frames others h.2
+    one_caller c program h.0.signature places frames others h.2
     (same_callers c program place f f' h.0 k.0 places others k.2) in
     cc
 
@@ -251,7 +252,7 @@ one_thread c program (place ∷ places) (FrameOf f ls labels vs rest
     let frame = running_frame c program place f f' h.0 k.0 ls ms labels labels' vs ws rest rest' h.1
     k.1 in
     let behind =
-    one_caller c program h.0.kind places frames others h.2
+    one_caller c program h.0.signature places frames others h.2
     (same_callers c program place f f' h.0 k.0 places others k.2) in
     cc
 

@@ -14,10 +14,10 @@ use Rattle.wasm_semantics.specs.Instantiation.{most_pages_of}
 use Rattle.wasm_semantics.specs.Validity.{module_context, memories_of}
 use Rattle.machine_frame.specs.rules.Stacked.{AreStacked}
 use Rattle.machine_frame.proofs.Threads.Showing.{frames_stacked}
-use Rattle.machine.specs.declared.turns.code.Executable.{Executable}
-use Rattle.machine.specs.declared.turns.state.State.{State}
+use Rattle.machine.specs.declared.execution.code.Executable.{Executable}
+use Rattle.machine.specs.declared.execution.state.State.{State}
 use Rattle.machine.specs.rules.Values.{IsProgramIn, least_of}
-use Rattle.machine.specs.Insides.{IsMemoryFor, IsSettledIn, IsMachine, with_memory_of}
+use Rattle.machine.specs.Insides.{IsMemoryFor, IsReducedIn, IsMachine, with_memory_of}
 
 most_below : (memories : List MemoryType) (pages : ℕ) → pages ≤ 2 ^ 16
     → most_pages_of memories pages ≤ 2 ^ 16
@@ -29,11 +29,11 @@ most_below (t ∷ memories) pages h = limited t.limits.maximum
     limited (Some most) = omega arith
 
 -- With its least pages in memory, it stands for some configuration of each program.
-pub settled_zeroed : (code : Executable) (s : State) (most : ℕ) → IsMachine code s most
+pub reduced_zeroed : (code : Executable) (s : State) (most : ℕ) → IsMachine code s most
     → (functions : List FunctionType) (program : Program)
     → IsProgramIn code.«module» most functions program
-    → IsSettledIn code (with_memory_of s (zeroed (least_of code.«module») most)) functions program
-settled_zeroed code s most machine functions program is =
+    → IsReducedIn code (with_memory_of s (zeroed (least_of code.«module») most)) functions program
+reduced_zeroed code s most machine functions program is =
     let memories = memories_of code.«module» in
     let below = most_below memories is.pages is.few in
     let limit = sym is.most ∙ is.is_program.most_pages in
@@ -51,11 +51,11 @@ settled_zeroed code s most machine functions program is =
       };
       bytes = all_replicate IsByte (least * page_size) 0 (omega arith);
     } in
-    machine.settled (zeroed least most) functions program is_memory is
+    machine.reduced (zeroed least most) functions program is_memory is
 
 pub stacked : (code : Executable) (s : State) (most : ℕ) → IsMachine code s most
     → AreStacked s.frames s.slots
 stacked code s most machine =
-    let some = settled_zeroed code s most machine machine.functions machine.program machine.is in
+    let some = reduced_zeroed code s most machine machine.functions machine.program machine.is in
     frames_stacked (module_context code.«module» machine.functions) machine.program s.frames
     s.slots some.configuration.thread some.stands.stands.frames

@@ -6,25 +6,27 @@ use Rattle.guest_memory.specs.rules.Bytes.{IsByte}
 use Rattle.guest_memory.specs.rules.Memories.{IsWithinLimit}
 use Rattle.wasi_abi.specs.declared.call.Call.{Call}
 use Rattle.wasm_semantics.specs.Configuration.{Program, Configuration}
-use Rattle.wasm_semantics.specs.Steps.{stopped, IsSettled}
-use Rattle.machine_frame.proofs.Standing.Walking.{walks_are_steps}
-use Rattle.machine.specs.declared.turns.code.Executable.{Executable}
-use Rattle.machine.specs.declared.turns.state.State.{State}
-use Rattle.machine.specs.declared.turns.pause.Pause.{Pause}
-use Rattle.machine.specs.declared.turns.pause.Pause.TheVariants as pause
-use Rattle.machine.specs.declared.turns.pause.Paused.{Paused}
-use Rattle.machine.specs.Turns.Codes.{Stands, IsStanding}
-use Rattle.machine.specs.Turns.Pauses.{ComesToState, RuleAsksFor as CodeAsksFor, PausesFor, Pauses}
+use Rattle.wasm_semantics.specs.Steps.{stopped, IsReduced}
+use Rattle.machine_frame.proofs.FramePosition.Walking.{walks_are_steps}
+use Rattle.machine.specs.declared.execution.code.Executable.{Executable}
+use Rattle.machine.specs.declared.execution.state.State.{State}
+use Rattle.machine.specs.declared.execution.pause.Pause.{Pause}
+use Rattle.machine.specs.declared.execution.pause.Pause.TheVariants as pause
+use Rattle.machine.specs.declared.execution.pause.Paused.{Paused}
+use Rattle.machine.specs.Execution.Codes.{StateStandsFor, StandsForSome}
+use Rattle.machine.specs.Execution.Pauses.{ComesToState, StepAsksFor as CodeAsksFor, PausesFor}
+use Rattle.machine.specs.Execution.Pauses.{Pauses}
 use Rattle.machine.specs.rules.Values.{IsProgramIn, HoldsMemory, least_of}
 use Rattle.machine.specs.rules.Runs.{Arrives, AsksFor, RunsFor, RunsOnFuel}
-use Rattle.machine.specs.Insides.{seen, IsMemoryFor, IsSettledIn, IsMachine}
-use Rattle.machine.proofs.Settled.{ended_settled, asking_settled, trapping_settled}
-use Rattle.machine.proofs.Inside.{memory_in, holds_settled, settled_with, shown, stood_for}
+use Rattle.machine.specs.Insides.{seen, IsMemoryFor, IsReducedIn, IsMachine}
+use Rattle.machine.proofs.Reduced.{ended_reduced, asking_reduced, trapping_reduced}
+use Rattle.machine.proofs.Inside.{memory_in, holds_reduced, reduced_with, shown, stood_for}
 
--- what the code's rule asks for, the machine's does
+-- what the code's counted step asks for, the machine's does
 pub asks_for : (code : Executable) (s : State) (functions : List FunctionType) (program : Program)
-    (e : Configuration) (call : Call) (arguments : List ℕ) → Stands code s functions program e
-    → CodeAsksFor code program e call arguments → AsksFor code.«module» program e call arguments
+    (e : Configuration) (call : Call) (arguments : List ℕ) → StateStandsFor code s
+    functions program e → CodeAsksFor code program e call arguments
+    → AsksFor code.«module» program e call arguments
 asks_for code s functions program e call arguments stands h = record {
   function = h.function;
   operands = h.operands;
@@ -33,44 +35,45 @@ asks_for code s functions program e call arguments stands h = record {
   calls = code.calls.items;
   are_calls = stands.is_code.calls;
   is_call = h.is_call;
-  is_host = h.is_host;
+  is_imported = h.is_imported;
   typed = h.typed;
   are = h.are;
 }
 
 module _ (code : Executable) (new : State) (most : ℕ) (functions : List FunctionType)
     (program : Program) (d : Configuration) where
-  -- a pause leaves something settled
-  pub pause_settles : (fuel left : ℕ) (why : Pause)
-      → PausesFor code new functions program d fuel left why
-      → IsSettledIn code new functions program
-  pause_settles fuel left pause.Spent h = record {
+  -- a pause leaves something reduced
+  pub pause_reduces : (fuel fuel_left : ℕ) (why : Pause)
+      → PausesFor code new functions program d fuel fuel_left why
+      → IsReducedIn code new functions program
+  pause_reduces fuel fuel_left pause.Spent h = record {
     configuration = h.0.configuration;
     stands = h.0.stands;
-    settled = h.1;
+    reduced = h.1;
   }
-  pause_settles fuel left (pause.Host asked) h = record {
+  pause_reduces fuel fuel_left (pause.Host asked) h = record {
     configuration = h.0.configuration;
     stands = h.0.stands;
-    settled = asking_settled program h.0.configuration h.1.function h.1.operands h.1.waits
+    reduced = asking_reduced program h.0.configuration h.1.function h.1.operands h.1.waits
         h.1.asks;
   }
-  pause_settles fuel left pause.Returned h = record {
+  pause_reduces fuel fuel_left pause.Returned h = record {
     configuration = h.0.configuration;
     stands = h.0.stands;
-    settled = ended_settled program h.0.configuration h.1;
+    reduced = ended_reduced program h.0.configuration h.1;
   }
-  pause_settles fuel left (pause.Trapped why) h = record {
+  pause_reduces fuel fuel_left (pause.Trapped why) h = record {
     configuration = stopped h.configuration;
     stands = h.stands;
-    settled = refl;
+    reduced = refl;
   }
 
   module _ (is : IsProgramIn code.«module» most functions program)
-      (before : IsSettled program d) where
-    arrives : (fuel left : ℕ) (come : ComesToState code new functions program d fuel left)
-        → IsSettled program come.configuration → Arrives (seen code new most) program d fuel left
-    arrives fuel left come e = record {
+      (before : IsReduced program d) where
+    arrives : (fuel fuel_left : ℕ) (come : ComesToState code new functions program d fuel fuel_left)
+        → IsReduced program come.configuration → Arrives (seen code new most) program d
+        fuel fuel_left
+    arrives fuel fuel_left come e = record {
       configuration = come.configuration;
       steps = come.steps;
       used = come.used;
@@ -78,26 +81,26 @@ module _ (code : Executable) (new : State) (most : ℕ) (functions : List Functi
       shows = shown code new functions program come.configuration come.stands most is e;
     }
 
-    pub runs_for : (fuel left : ℕ) (why : Pause)
-        → PausesFor code new functions program d fuel left why
-        → RunsFor (seen code new most) program d fuel left why
+    pub runs_for : (fuel fuel_left : ℕ) (why : Pause)
+        → PausesFor code new functions program d fuel fuel_left why
+        → RunsFor (seen code new most) program d fuel fuel_left why
     unfolding arrives
-    runs_for fuel left pause.Spent h = (arrives fuel left h.0 h.1, h.2, h.3)
-    runs_for fuel left (pause.Host asked) h =
+    runs_for fuel fuel_left pause.Spent h = (arrives fuel fuel_left h.0 h.1, h.2, h.3)
+    runs_for fuel fuel_left (pause.Host asked) h =
         let e = h.0.configuration in (
-          arrives fuel left h.0
-              (asking_settled program e h.1.function h.1.operands h.1.waits h.1.asks),
+          arrives fuel fuel_left h.0
+              (asking_reduced program e h.1.function h.1.operands h.1.waits h.1.asks),
           asks_for code new functions program e asked.call asked.arguments h.0.stands h.1,
           h.2,
         )
-    runs_for fuel left pause.Returned h =
-        (arrives fuel left h.0 (ended_settled program h.0.configuration h.1), h.1)
-    runs_for fuel left (pause.Trapped why) h = record {
+    runs_for fuel fuel_left pause.Returned h =
+        (arrives fuel fuel_left h.0 (ended_reduced program h.0.configuration h.1), h.1)
+    runs_for fuel fuel_left (pause.Trapped why) h = record {
       configuration = h.configuration;
       steps = h.steps;
       used = h.used;
       ran = walks_are_steps program h.steps d h.configuration h.walks before
-          (trapping_settled program h.configuration why h.traps);
+          (trapping_reduced program h.configuration why h.traps);
       traps = h.traps;
       shows = shown code new functions program (stopped h.configuration) h.stands most is refl;
     }
@@ -115,13 +118,13 @@ module _ (code : Executable) (old new : State) (most : ℕ) (machine : IsMachine
     bytes = bytes;
   }
 
-  settled_old : (functions : List FunctionType) (program : Program)
-      → IsProgramIn code.«module» most functions program → IsSettledIn code old functions program
-  settled_old functions program is = machine.settled old.memory functions program old_memory is
+  reduced_old : (functions : List FunctionType) (program : Program)
+      → IsProgramIn code.«module» most functions program → IsReducedIn code old functions program
+  reduced_old functions program is = machine.reduced old.memory functions program old_memory is
 
-  pub is_standing : IsStanding code old
-  is_standing =
-      let some = settled_old machine.functions machine.program machine.is in
+  pub stands_for_some : StandsForSome code old
+  stands_for_some =
+      let some = reduced_old machine.functions machine.program machine.is in
       record {
         functions = machine.functions;
         program = machine.program;
@@ -137,27 +140,27 @@ module _ (code : Executable) (old new : State) (most : ℕ) (machine : IsMachine
     is = machine.is;
     own = machine.own;
     fits = machine.fits;
-    settled = λ memory functions program h is.
-        let some = settled_old functions program is in
-        let after = pause_settles code new most functions program some.configuration fuel
-        paused.left paused.why (pauses functions program some.configuration some.stands) in
-        settled_with code new functions program after.configuration after.stands memory
-        after.settled (memory_in code.«module» most functions program is memory h);
+    reduced = λ memory functions program h is.
+        let some = reduced_old functions program is in
+        let after = pause_reduces code new most functions program some.configuration fuel
+        paused.fuel_left paused.why (pauses functions program some.configuration some.stands) in
+        reduced_with code new functions program after.configuration after.stands memory
+        after.reduced (memory_in code.«module» most functions program is memory h);
   }
 
   pub holds_again : (fuel : ℕ) (paused : Paused) → Pauses code old fuel paused new
       → HoldsMemory (seen code new most)
   holds_again fuel paused pauses =
-      let some = settled_old machine.functions machine.program machine.is in
-      let after = pause_settles code new most machine.functions machine.program some.configuration
-      fuel paused.left paused.why
+      let some = reduced_old machine.functions machine.program machine.is in
+      let after = pause_reduces code new most machine.functions machine.program some.configuration
+      fuel paused.fuel_left paused.why
       (pauses machine.functions machine.program some.configuration some.stands) in
-      holds_settled code new machine.functions machine.program after.configuration after.stands
+      holds_reduced code new machine.functions machine.program after.configuration after.stands
       most machine.is
 
   pub runs : (fuel : ℕ) (paused : Paused) → Pauses code old fuel paused new
       → RunsOnFuel (seen code old most) fuel paused (seen code new most)
   runs fuel paused pauses program d shows =
       let stands = stood_for code old most machine shape bytes program d shows in
-      runs_for code new most shows.functions program d shows.is shows.shows.settled fuel paused.left
-      paused.why (pauses shows.functions program d stands)
+      runs_for code new most shows.functions program d shows.is shows.shows.reduced fuel
+      paused.fuel_left paused.why (pauses shows.functions program d stands)

@@ -10,22 +10,22 @@ use Rattle.wasm_semantics.specs.Configuration.{Program}
 use Rattle.wasm_semantics.specs.Steps.{stopped}
 use Rattle.machine_slots.specs.rules.Places.{ShownFrame, ShowsThread}
 use Rattle.machine_frame.specs.rules.Threads.{places_of}
-use Rattle.machine.specs.declared.turns.code.Executable.{Executable}
-use Rattle.machine.specs.declared.turns.state.State.{State}
-use Rattle.machine.specs.Turns.Turns.{IsCleared}
-use Rattle.machine.proofs.TurnLemmas.Advancing.{cleared_stands}
+use Rattle.machine.specs.declared.execution.code.Executable.{Executable}
+use Rattle.machine.specs.declared.execution.state.State.{State}
+use Rattle.machine.specs.Execution.Cycles.{IsCleared}
+use Rattle.machine.proofs.CycleLemmas.Advancing.{cleared_stands}
 use Rattle.machine.specs.rules.Values.{IsProgramIn, HoldsMemory, least_of}
 use Rattle.machine.specs.rules.Runs.{Stops}
-use Rattle.machine.specs.Insides.{seen, IsMemoryFor, IsSettledIn, IsMachine, with_memory_of}
+use Rattle.machine.specs.Insides.{seen, IsMemoryFor, IsReducedIn, IsMachine, with_memory_of}
 
 module _ (code : Executable) (old new : State) (most : ℕ) (cleared : IsCleared old new) where
-  settled_with : IsMachine code old most
+  reduced_with : IsMachine code old most
       → (memory : LinearMemory) (functions : List FunctionType) (program : Program)
       → IsMemoryFor (least_of code.«module») most memory
       → IsProgramIn code.«module» most functions program
-      → IsSettledIn code (with_memory_of new memory) functions program
-  settled_with machine memory functions program h is =
-      let some = machine.settled memory functions program h is in
+      → IsReducedIn code (with_memory_of new memory) functions program
+  reduced_with machine memory functions program h is =
+      let some = machine.reduced memory functions program h is in
       let there : IsCleared (with_memory_of old memory) (with_memory_of new memory) =
       record {
         frames = cleared.frames;
@@ -40,7 +40,7 @@ module _ (code : Executable) (old new : State) (most : ℕ) (cleared : IsCleared
         stands = cleared_stands code functions program (with_memory_of old memory)
             (with_memory_of new memory) some.configuration some.stands.is_code k.typed k.shown
             k.same_table there;
-        settled = refl;
+        reduced = refl;
       }
 
   pub machine_stopped : IsMachine code old most → IsMachine code new most
@@ -50,7 +50,7 @@ module _ (code : Executable) (old new : State) (most : ℕ) (cleared : IsCleared
     is = machine.is;
     own = machine.own;
     fits = machine.fits;
-    settled = settled_with machine;
+    reduced = reduced_with machine;
   }
 
   no_places : places_of new.frames new.slots ≡ []
@@ -72,7 +72,7 @@ module _ (code : Executable) (old new : State) (most : ℕ) (cleared : IsCleared
         holds = still_holds h.holds;
         shows = record {
           typed = record { store = s.typed.store; thread = tt; later = tt };
-          settled = refl;
+          reduced = refl;
           memory = ap (λ (m : LinearMemory). m.bytes) cleared.memory ∙ s.memory;
           globals = ap (λ v. v.items) cleared.globals ∙ s.globals;
           same_table = s.same_table;

@@ -8,16 +8,16 @@ use Rattle.wasm_syntax.specs.declared.types.FunctionType.{FunctionType}
 use Rattle.wasm_semantics.specs.Validity.{module_context}
 use Rattle.wasm_semantics.specs.Typing.{Context}
 use Rattle.wasm_semantics.specs.Configuration.{Program, Thread, Configuration}
-use Rattle.wasm_semantics.specs.Steps.{left_by}
+use Rattle.wasm_semantics.specs.Steps.{exited_by}
 use Rattle.machine_slots.specs.rules.Places.{ShowsThread}
 use Rattle.machine_frame.specs.declared.rules.frame.StackFrame.{StackFrame}
 use Rattle.machine_frame.specs.rules.Threads.{places_of}
 use Rattle.machine_frame.proofs.Threads.Fitting.{nothing_later}
-use Rattle.machine.specs.declared.turns.code.Executable.{Executable}
-use Rattle.machine.specs.declared.turns.state.State.{State}
-use Rattle.machine.specs.declared.turns.pause.HostCall.{HostCall}
-use Rattle.machine.specs.Turns.Codes.{Stands}
-use Rattle.machine.specs.Turns.Waiting.{CodeTellsCall, TellsOfState}
+use Rattle.machine.specs.declared.execution.code.Executable.{Executable}
+use Rattle.machine.specs.declared.execution.state.State.{State}
+use Rattle.machine.specs.declared.execution.pause.HostCall.{HostCall}
+use Rattle.machine.specs.Execution.Codes.{StateStandsFor}
+use Rattle.machine.specs.Execution.Waiting.{CodeTellsCall, TellsOfState}
 use Rattle.machine.specs.rules.Runs.{TellsCall, TellsWaiting, TellsEnd}
 use Rattle.machine.specs.Insides.{seen, IsMachine}
 use Rattle.machine.proofs.Inside.{stood_for}
@@ -26,7 +26,7 @@ use Rattle.machine.proofs.Ran.{asks_for}
 -- ---- what waits
 
 module _ (code : Executable) (s : State) (functions : List FunctionType) (program : Program)
-    (d : Configuration) (stands : Stands code s functions program d) where
+    (d : Configuration) (stands : StateStandsFor code s functions program d) where
   told_of : (told : Option HostCall) → CodeTellsCall code program d told
       → TellsCall code.«module» program d told
   told_of None h = h
@@ -60,7 +60,8 @@ tells_end code s most told is = λ program d shows.
           record {
             returned = thread;
             nothing_later = nothing_later program d.later d.store shows.shows.typed.later
-                (subst (λ t. left_by program t d.later d.store ≡ None) thread shows.shows.settled);
+                (subst (λ t. exited_by program t d.later d.store
+                ≡ None) thread shows.shows.reduced);
           },
       λ ended. is.1 (same.1 ended.returned),
     )

@@ -7,7 +7,7 @@ use Rattle.wasm_semantics.specs.Configuration.{Program}
 use Rattle.wasm_semantics.specs.Typed.{IsTypedMemory}
 use Rattle.machine.specs.laws.Laws.{with_memory_bytes, ShowsWhatIsWritten, WaitsForTheCall}
 use Rattle.machine.proofs.AskingAgain.{asks_again}
-use Rattle.machine.proofs.Settled.{another_store}
+use Rattle.machine.proofs.Reduced.{another_store}
 
 as_many_bytes : (program : Program) (old new : List ℕ) → length new ≡ length old
     → AllByRecursion IsByte new → IsTypedMemory program old → IsTypedMemory program new
@@ -40,8 +40,8 @@ shows_what_is_written v memory program d count bytes limit h =
           thread = s.typed.thread;
           later = s.typed.later;
         };
-        settled = another_store program d.thread d.later d.store
-            (record d.store { memory = memory.bytes }) s.settled;
+        reduced = another_store program d.thread d.later d.store
+            (record d.store { memory = memory.bytes }) s.reduced;
         memory = refl;
         globals = s.globals;
         same_table = s.same_table;
@@ -61,8 +61,8 @@ waits_for_the_call v memory program d call numbers results count bytes limit sho
       function = asks.function;
       arguments = asks.operands;
       waits = asks.waits;
-      kind = call_type_of call;
+      signature = call_type_of call;
       asks = asks_again asks.function asks.operands asks.waits program d memory.bytes asks.asks;
-      is_host = asks.is_host;
+      is_imported = asks.is_imported;
       gives = gives;
     }

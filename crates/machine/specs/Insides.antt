@@ -7,13 +7,13 @@ use Rattle.guest_memory.specs.rules.Bytes.{IsByte, page_size}
 use Rattle.guest_memory.specs.rules.Memories.{LinearMemory, IsWithinLimit}
 use Rattle.wasm_semantics.specs.Validity.{memories_of}
 use Rattle.wasm_semantics.specs.Configuration.{Program, Configuration}
-use Rattle.wasm_semantics.specs.Steps.{IsSettled}
+use Rattle.wasm_semantics.specs.Steps.{IsReduced}
 use Rattle.wasm_semantics.specs.Typed.{IsTypedEntry}
 use Rattle.machine_frame.specs.rules.Stacked.{AreStacked}
 use Rattle.machine_frame.specs.rules.Threads.{machine_state_of}
-use Rattle.machine.specs.declared.turns.code.Executable.{Executable}
-use Rattle.machine.specs.declared.turns.state.State.{State}
-use Rattle.machine.specs.Turns.Codes.{parts_of_state, IsExecutable, Stands}
+use Rattle.machine.specs.declared.execution.code.Executable.{Executable}
+use Rattle.machine.specs.declared.execution.state.State.{State}
+use Rattle.machine.specs.Execution.Codes.{parts_of_state, IsExecutable, StateStandsFor}
 use Rattle.machine.specs.rules.Values.{MachineValue, IsProgramIn, least_of}
 
 -- what is seen of them
@@ -33,12 +33,12 @@ pub record IsMemoryFor (least_pages most_pages : ℕ) (memory : LinearMemory) : 
   pub shape : IsWithinLimit memory
   pub bytes : AllByRecursion IsByte memory.bytes
 
--- it stands for some settled configuration of the program
-pub record IsSettledIn (code : Executable) (s : State) (functions : List FunctionType)
+-- it stands for some reduced configuration of the program
+pub record IsReducedIn (code : Executable) (s : State) (functions : List FunctionType)
     (program : Program) : Type 0 where
   pub configuration : Configuration
-  pub stands : Stands code s functions program configuration
-  pub settled : IsSettled program configuration
+  pub stands : StateStandsFor code s functions program configuration
+  pub reduced : IsReduced program configuration
 
 abbrev pub with_memory_of : State → LinearMemory → State
 with_memory_of s memory = record s { memory = memory }
@@ -48,17 +48,17 @@ abbrev pub HasOwnMemories : Module → Type 0
 HasOwnMemories m = memories_of m ≡ m.memories
 
 -- The code has a program, whose memory has room for its least pages. With each memory that may be
--- in the place of the state's own, the state stands for some settled configuration of each program.
+-- in the place of the state's own, the state stands for some reduced configuration of each program.
 pub record IsMachine (code : Executable) (s : State) (most_pages : ℕ) : Type 0 where
   pub functions : List FunctionType
   pub program : Program
   pub is : IsProgramIn code.«module» most_pages functions program
   pub own : HasOwnMemories code.«module»
   pub fits : least_of code.«module» ≤ most_pages
-  pub settled : (memory : LinearMemory) (functions : List FunctionType) (program : Program)
+  pub reduced : (memory : LinearMemory) (functions : List FunctionType) (program : Program)
       → IsMemoryFor (least_of code.«module») most_pages memory
       → IsProgramIn code.«module» most_pages functions program
-      → IsSettledIn code (with_memory_of s memory) functions program
+      → IsReducedIn code (with_memory_of s memory) functions program
 
 -- ---- a machine that is put together
 

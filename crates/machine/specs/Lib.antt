@@ -1,6 +1,6 @@
 pub mod Insides
 pub mod Routines
-pub mod Turns
+pub mod Execution
 pub mod Hosting
 pub mod Loading
 pub mod laws

@@ -9,7 +9,7 @@ use machine_slots::limits::FRAMES;
 use std::alloc::{AllocError, Global};
 use std::marker::Model;
 
-/// What stands where no frame does.
+/// What is where no frame does.
 const NO_FRAME: StackFrame = StackFrame {
     function: 0,
     position: 0,
@@ -37,7 +37,7 @@ impl Model for Frames {
 }
 
 impl Frames {
-    /// No frames yet. Only want of memory makes it fail.
+    /// No frames yet. It fails only when out of memory.
     pub fn new(alloc: Global) -> Result<Frames, AllocError>
         ensures { IfOk result (λ s. s ≡ []) }
     {

@@ -4,14 +4,14 @@
 //! # Promises
 //!
 //! - `link`: the machine shows where the module begins (`begun`). A fault names the first thing
-//!   that isn't there (`refused`), and but for want of memory the module can't be linked (`only`).
-//! - `Machine::run`: on so much fuel it comes to where that many counted rules lead. It pauses
+//!   that isn't there (`refused`), and unless memory runs out the module can't be linked (`only`).
+//! - `Machine::run`: on so much fuel it comes to where that many counted steps lead. It pauses
 //!   spent, at a call of the host, ended or trapped, as the rules say (`runs`).
 //! - `finish`: what the host's answer makes of the configuration that waits is then shown
 //!   (`answers`). It asks that such a call waits (its `requires`).
-//! - `waits` tells the call of the host that waits, and its arguments: exactly what the next rule
-//!   asks for, or that it asks for nothing. `has_ended` tells whether the program is over. Neither
-//!   runs anything.
+//! - `waits` tells the call of the host that waits, and its arguments: exactly what the next
+//!   counted step asks for, or that it asks for nothing. `has_ended` tells whether the program is
+//!   over. Neither runs anything.
 //! - `stop` drops the thread. What was shown is shown without it (`stops`).
 //! - `globals`, `frame_count`, `place` and `is_starting` tell what a machine shows beside memory.
 //!   That is the numbers of the globals, the frames from the outermost one in, and whether `_start`
@@ -50,7 +50,7 @@
 //! changes frames, slots or positions. Callers have `Machine`, `Pause`, `HostCall` with its
 //! `Arguments`, and `FramePlace`, which lends a frame. `machine_loader`, `process` and
 //! `state_image` use it. `link` takes all memory that running needs, and translates bodies into
-//! forms; where it fails the module is gone. The other calls take none and have no errors.
+//! register code; where it fails the module is gone. The other calls take none and have no errors.
 //!
 //! # Choices
 //!
@@ -59,7 +59,7 @@
 //! - Whether segments are inside is decided before any memory is taken, from sizes alone.
 //! - An instance has public fields, so that `hosting` can take it apart and keep each part.
 //! - The machine's invariant holds whatever its memory is: with each memory of the program's limit,
-//!   its state stands for a settled configuration. So the memory can be lent whole, and any memory
+//!   its state stands for a reduced configuration. So the memory can be lent whole, and any memory
 //!   may be written back. What runs asks only that the memory's limit is the one that the machine
 //!   was linked with. Whole pages and bytes below 256 are known by types.
 //! - Contracts see a machine's module, the pages that its program may have, its table, its state
@@ -67,7 +67,7 @@
 //!   shows: no clause of theirs names a slot, a frame or a routine.
 //! - **A machine is asked what it waits for and whether it is over; nothing runs to learn it.**
 //!   Both answers are read off the innermost frame, and their contracts are exact both ways. So a
-//!   process settles a configuration once a call. A machine that was just made at a call, and never
+//!   process reduces a configuration once a call. A machine that was just made at a call, and never
 //!   ran, answers the same.
 //! - A contract is stated for every configuration that is shown, and asks that there is one. So
 //!   nothing has to be known of which it is.
@@ -78,15 +78,16 @@
 //! - How many words a waiting call takes is read from the types. At a `call` that is the function's
 //!   type. At a `call_indirect` it is the one that it names, which the called function has. So an
 //!   answer looks into no table, and a pause has nothing to keep.
-//! - **Calls and returns between functions that run by forms stay in one loop** (`run_by_forms`).
-//!   What it keeps of the running frame is where that enters its forms, with its routine and its
-//!   first slot. So no frame is looked up that was just entered. A call that can't stay, as one of
-//!   the host or one without room, is a turn as any other.
+//! - **Calls and returns between functions that run by register code remain in one loop**
+//!   (`run_by_register_code`). What it keeps of the running frame is where that enters its register
+//!   code, with its routine and its first slot. So no frame is looked up that was just entered. A
+//!   call that can't remain, as one of the host or one without room, is a cycle as any other.
 //! - Only a call asks the host for something, and what it asks for is no question of the bytes in
 //!   memory. So the host may write them while a call waits. A law says that the machine then shows
 //!   what is written, and waits at the same call.
 #![tactic(auto)]
 
+mod execution;
 mod frames;
 mod hosting;
 mod instance;
@@ -95,12 +96,11 @@ mod linking;
 mod loading;
 mod places;
 mod routines;
-mod running;
-mod turns;
+mod running_machine;
 
+pub use execution::{Arguments, HostCall, Pause, Paused};
 pub use instance::{LinkFault, entry_of};
 pub use linking::link;
 pub use loading::{LoadFault, Loading};
 pub use places::FramePlace;
-pub use running::Machine;
-pub use turns::{Arguments, HostCall, Pause, Paused};
+pub use running_machine::Machine;

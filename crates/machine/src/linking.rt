@@ -6,10 +6,10 @@ ghost use Rattle.machine.specs.rules.Offers.{offer};
 ghost use Rattle.machine.specs.rules.Refusals.{IsRefused, LinkDenies};
 ghost use Rattle.machine.specs.rules.Runs.{HasBegun};
 
+use crate::execution::go_on;
 use crate::hosting::{MachineStart, begin};
 use crate::instance::LinkFault;
-use crate::running::Machine;
-use crate::turns::go_on;
+use crate::running_machine::Machine;
 use guest_memory::MOST_PAGES;
 use std::alloc::Global;
 use wasm_validate::ValidModule;

@@ -10,7 +10,7 @@ ghost use Rattle.machine_frame.specs.rules.Threads.{places_of};
 ghost use Rattle.machine.specs.rules.LentFrames.{lent_frame};
 
 use crate::frames::Frames;
-use crate::running::Machine;
+use crate::running_machine::Machine;
 use machine_slots::Slots;
 
 /// A frame: its function, the position of an opcode in its body, and its slots. Positions count

@@ -1,5 +1,5 @@
 pub mod Words
-pub mod Rules
+pub mod CountedSteps
 pub mod Running
 pub mod Waiting
 pub mod Returning

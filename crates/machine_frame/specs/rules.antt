@@ -1,6 +1,6 @@
 pub mod Fitting
 pub mod Stacked
-pub mod Standing
+pub mod FramePosition
 pub mod Threads
 pub mod Walks
 pub mod laws

@@ -2,7 +2,7 @@ pub mod Runs
 pub mod Places
 pub mod MovesHold
 pub mod Closers
-pub mod Standing
+pub mod OpenParts
 pub mod Stepping
 pub mod TableRight
 pub mod Low

@@ -7,7 +7,7 @@ use Rattle.wasm_syntax.specs.declared.instruction.Instruction.{Instruction}
 use Rattle.wasm_syntax.specs.declared.instruction.Instruction.TheVariants as instr
 use Rattle.wasm_syntax.specs.rules.Sequence.{Sequence, Stop, Plain, InBlock, InLoop, InIf, InIfElse}
 use Rattle.wasm_syntax.specs.rules.Sequence.{spelled, IsPlain}
-use Rattle.wasm_semantics.specs.Typing.{Context, HasRule}
+use Rattle.wasm_semantics.specs.Typing.{Context, HasInstructionType}
 use Rattle.wasm_semantics.specs.Shapes.{Shape, LabelShape, ShapeOf}
 use Rattle.machine_jumps.specs.Jumps.{HasShape}
 use Rattle.machine_jumps.specs.Moves.{opcodes_of, HasOpcode, IsTypedBody, IsFirst, OpcodesAreFirst}
@@ -24,16 +24,16 @@ get_dropped (suc p) [] ys y e = absurd (cc)
 get_dropped zero (x ∷ xs) ys y e = cc
 get_dropped (suc p) (x ∷ xs) ys y e = get_dropped p xs ys y e
 
-pub rule_plain : (c : Context) (labels : List (List ValueType)) (i : Instruction)
-    (p q : List ValueType) → HasRule c labels i p q → IsPlain i
-rule_plain c labels (instr.Block t) p q h = absurd h
-rule_plain c labels (instr.Loop t) p q h = absurd h
-rule_plain c labels (instr.If t) p q h = absurd h
-rule_plain c labels instr.Else p q h = absurd h
-rule_plain c labels instr.End p q h = absurd h
-rule_plain c labels _ p q h = tt
+pub typed_plain : (c : Context) (labels : List (List ValueType)) (i : Instruction)
+    (p q : List ValueType) → HasInstructionType c labels i p q → IsPlain i
+typed_plain c labels (instr.Block t) p q h = absurd h
+typed_plain c labels (instr.Loop t) p q h = absurd h
+typed_plain c labels (instr.If t) p q h = absurd h
+typed_plain c labels instr.Else p q h = absurd h
+typed_plain c labels instr.End p q h = absurd h
+typed_plain c labels _ p q h = tt
 
--- the place at a position inside of labels, or behind the last end
+-- the place at a position inside of labels, or after the last end
 at_label : (c : Context) (body : Sequence) (p : ℕ) (label : LabelShape) (labels : List LabelShape)
     (ts : List ValueType) (rest : Sequence) → IsTypedBody c body
     → HasShape c body p (label ∷ labels) ts rest → Place c body p (label ∷ labels) ts rest
@@ -116,7 +116,7 @@ opcodes_first c body p (ShapeOf takes target below after which) labels ts rest t
       get_dropped p (opcodes_of body) (spelled rest ++ a.tail) i a.code,
       (
         refl,
-        rule_plain c (takes
+        typed_plain c (takes
             ∷ branches_of labels) i a.runs.typed.0 a.runs.typed.1 a.runs.typed.4,
       ),
     )

@@ -1,4 +1,4 @@
--- What stands at a position that typing reaches, and what closes it.
+-- What is at a position that typing reaches, and what closes it.
 use Rattle.std.proofs.Common.{◌≡◌, ◌⊎◌, inl, inr, ⊎_elim, ℕ, zero, suc, ◌+◌, ◌-◌, ◌<◌, ◌≤◌, List}
 use Rattle.std.proofs.Common.{[], ◌∷◌, ◌++◌, length, drop, Bool, true, false, Option, Some, None}
 use Rattle.std.proofs.Common.{refl, sym, ap, ◌∙◌, subst, arith, append_assoc, length-append}
@@ -24,7 +24,7 @@ use Rattle.machine_jumps.proofs.Runs.{run_block_behind, run_loop_in, run_loop_be
 use Rattle.machine_jumps.proofs.Runs.{run_if_behind, run_choice_first, run_choice_second}
 use Rattle.machine_jumps.proofs.Runs.{run_choice_behind}
 
--- The opcodes behind a sequence that ends at position e begin with its end, behind which its values
+-- The opcodes after a sequence that ends at position e begin with its end, after which its values
 -- have joined those below its label; or with the `else` that ends a first part.
 pub record IsEnded (c : Context) (body : Sequence) (labels : List LabelShape)
     (operands : List ValueType) (after : Sequence) (e : ℕ) (tail : List Instruction) : Type 0 where
@@ -57,7 +57,7 @@ drop_one : (p : ℕ) (y : Instruction) (xs ys : List Instruction) → drop p xs 
 drop_one p y xs ys e = let same : suc p ≡ p + 1 = omega arith in ap (λ z. drop z xs) same
     ∙ drop_more p 1 xs (y ∷ ys) e
 
--- behind what closes a sequence
+-- after what closes a sequence
 drop_closed : (p : ℕ) (y : Instruction) (xs front ys : List Instruction)
     → drop p xs ≡ front ++ (y ∷ ys) → drop (suc (p + length front)) xs ≡ ys
 drop_closed p y xs front ys e =
@@ -363,7 +363,7 @@ module _ (c : Context) (body : Sequence) where
       (chosen (n - (L + 1)) M _ _ s h.1))
       (chosen n L _ _ s e)
 
-  -- behind the last end
+  -- after the last end
   abbrev end_shape : Shape
   end_shape = record { labels = []; operands = c.returns; rest = Stop }
 
@@ -421,7 +421,7 @@ module _ (c : Context) (body : Sequence) where
     });
   }
 
-  -- a position is inside of the body or behind its last end
+  -- a position is inside of the body or after its last end
   pub where_position : (p : ℕ) (s : Shape) → body_shape c body p ≡ Some s
       → ((p ≤ length (spelled body))
       × (shape_at c (ShapeOf c.returns Stop [] Stop Main ∷ []) body [] p ≡ Some s))

@@ -15,7 +15,7 @@ use Rattle.wasm_semantics.specs.Types.{results_of}
 use Rattle.wasm_semantics.specs.Typing.{Context, HasType}
 use Rattle.wasm_semantics.specs.Shapes.{Shape, LabelShape, ShapeOf, types_behind, shape_at}
 use Rattle.wasm_semantics.specs.Shapes.{body_shape}
-use Rattle.wasm_semantics.proofs.TypedShape.{IsBehind, rule_behind, closed_length}
+use Rattle.wasm_semantics.proofs.TypedShape.{IsBehind, typed_behind, closed_length}
 use Rattle.wasm_validate.proofs.Algorithm.Reaching.{chosen}
 
 -- what branches to the labels take
@@ -65,7 +65,7 @@ pub record RunsFrom (c : Context) (body : Sequence) (p : ℕ) (labels : List Lab
   pub typed : HasType c (branches_of labels) rest ts gives
   pub covers : Agrees c body p (length (spelled rest)) (λ n. shape_at c labels rest ts n)
 
--- what stands there
+-- what is there
 pub runs_here : (c : Context) (body : Sequence) (p : ℕ) (labels : List LabelShape) (rest : Sequence)
     (ts gives : List ValueType) → RunsFrom c body p labels rest ts gives
     → body_shape c body p ≡ Some (record { labels = labels; operands = ts; rest = rest })
@@ -81,7 +81,7 @@ module _ (c : Context) (body : Sequence) (p : ℕ) (labels : List LabelShape)
       let h = r.typed in
       let b : IsBehind (types_behind c i ts) (h.1 ++ h.2) =
       subst (λ z. IsBehind (types_behind c i z) (h.1 ++ h.2)) (sym h.3)
-      (rule_behind c (branches_of labels) i h.0 h.1 h.2 h.4) in
+      (typed_behind c (branches_of labels) i h.0 h.1 h.2 h.4) in
       let same : us ≡ h.1 ++ h.2 = rw e at b in
       let a = agrees_behind c body p (suc (length (spelled rest))) (length (spelled rest)) (λ n.
       shape_at c labels (Plain i rest) ts n) r.covers refl in

@@ -17,5 +17,5 @@ pub record GivesOnes (code : ModuleContext) : Type 0 where
 
 -- The table is right about the sequence that the body spells, if the body has its function's type.
 abbrev pub IsTableOf : Typing → FunctionType → Code → Table → Type 0
-IsTableOf c kind code table = (has : HasBody c kind code)
-    → IsTable (body_context c kind code.locals) has.sequence table
+IsTableOf c signature code table = (has : HasBody c signature code)
+    → IsTable (body_context c signature code.locals) has.sequence table

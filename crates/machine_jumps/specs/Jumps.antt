@@ -22,7 +22,7 @@ pub record JumpsTo (c : Context) (body : Sequence) (kept below : List ValueType)
   pub reached : HasShape c body jump.to outer (kept ++ below) target
 
 -- The jump is a branch to the label with this number, the innermost being 0. The last label is the
--- function's own: behind the last end are its results.
+-- function's own: after the last end are its results.
 abbrev pub IsJump : Context → Sequence → List LabelShape → ℕ → Jump → Type 0
 IsJump c body [] l jump = ⊥
 IsJump c body (ShapeOf takes target below after which ∷ outer) zero jump =

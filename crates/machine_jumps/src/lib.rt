@@ -10,8 +10,8 @@
 //! - `BranchTable::jump` is the jump with this number of an opcode (`entry`). Of an opcode without
 //!   such a jump it is another one, or none.
 //! - `BranchTable::jump_at` is the same where there is such a jump.
-//! - `laws::opcodes_are_first`, `laws::positions_lead_on`: what stands at a position of a typed
-//!   body, and at the next one where no jump is made.
+//! - `laws::opcodes_are_first`, `laws::positions_lead_on`: what is at a position of a typed body,
+//!   and at the next one where no jump is made.
 //! - `laws::tables_are_right`: the table of one pass over the opcodes of a typed body is right.
 //!
 //! # Definitions to read
@@ -24,9 +24,9 @@
 //! # Who may touch what
 //!
 //! Only this crate knows how jumps are stored and found. `machine` makes tables, and
-//! `machine_frame` reads them. It stands on `wasm_validate`, for what typing looks up and for the
-//! stack that a walk uses. `branch_table` takes memory, and want of it is its only error. Looking
-//! up a jump takes none.
+//! `machine_frame` reads them. It uses `wasm_validate`, for what typing looks up and for the stack
+//! that a walk uses. `branch_table` takes memory, and out of memory is its only error. Looking up a
+//! jump takes none.
 //!
 //! # Choices
 //!

@@ -17,10 +17,10 @@ use Rattle.machine.specs.declared.instance.fault.LinkFault.{LinkFault}
 use Rattle.machine.specs.declared.instance.fault.LinkFault.TheVariants as link
 use Rattle.machine.specs.rules.Refusals.{LinkDenies as DeniesLink}
 use Rattle.machine.specs.rules.Offers.{offer}
-use Rattle.machine_loader.specs.declared.fault.FrontFault.TheVariants.{Decode, Valid, Link}
-use Rattle.machine_loader.specs.declared.fault.FrontFault.{FrontFault}
-use Rattle.machine_loader.specs.rules.Acceptance.{FrontDenies, HasNoAcceptedModule}
-use Rattle.machine_loader.specs.rules.Acceptance.{HasNoValidModule, IsTold, IsToldOfReading}
+use Rattle.machine_loader.specs.declared.fault.ModuleFault.TheVariants.{Decode, Valid, Link}
+use Rattle.machine_loader.specs.declared.fault.ModuleFault.{ModuleFault}
+use Rattle.machine_loader.specs.rules.Acceptance.{ModuleFaultDenies, HasNoAcceptedModule}
+use Rattle.machine_loader.specs.rules.Acceptance.{HasNoValidModule, IsReported, IsReportedOfReading}
 
 one : BytesSpellAtMostOneModule
 one bytes m n is_m is_n =
@@ -28,14 +28,14 @@ one bytes m n is_m is_n =
 
 module _ (bytes : List ℕ) where
   pub not_spelled : (e : DecodeFault) → (e ≢ decode.Memory → HasNoModule bytes)
-      → FrontDenies (Decode e) (HasNoValidModule bytes)
+      → ModuleFaultDenies (Decode e) (HasNoValidModule bytes)
   not_spelled decode.Memory h = tt
   not_spelled (decode.Malformed at) h = λ m a. h (λ e. absurd (cc)) m a.spelled a.limits
   not_spelled (decode.Float at) h = λ m a. h (λ e. absurd (cc)) m a.spelled a.limits
   not_spelled (decode.Limit passed) h = λ m a. h (λ e. absurd (cc)) m a.spelled a.limits
 
   pub not_valid : (m : Module) → IsModule bytes m → (e : ValidFault) → DeniesValid e (IsValid m)
-      → FrontDenies (Valid e) (HasNoValidModule bytes)
+      → ModuleFaultDenies (Valid e) (HasNoValidModule bytes)
   not_valid m spelled valid.Memory h = tt
   not_valid m spelled valid.Typing h =
       λ n a. h (subst IsValid (one bytes n m a.spelled spelled) a.valid)
@@ -52,8 +52,8 @@ module _ (pages : ℕ) (bytes : List ℕ) where
   none_accepted none m a =
       none m (record { spelled = a.spelled; limits = a.limits; valid = a.valid })
 
-  pub denied : (e : FrontFault) → FrontDenies e (HasNoValidModule bytes)
-      → FrontDenies e (HasNoAcceptedModule pages bytes)
+  pub denied : (e : ModuleFault) → ModuleFaultDenies e (HasNoValidModule bytes)
+      → ModuleFaultDenies e (HasNoAcceptedModule pages bytes)
   denied (Decode decode.Memory) h = tt
   denied (Decode (decode.Malformed at)) h = none_accepted h
   denied (Decode (decode.Float at)) h = none_accepted h
@@ -72,14 +72,14 @@ module _ (pages : ℕ) (bytes : List ℕ) where
   denied (Link link.TooManyPages) h = none_accepted h
 
   -- what refuses to read the module refuses it
-  pub told : (e : FrontFault) → IsToldOfReading bytes e → IsTold pages bytes e
+  pub told : (e : ModuleFault) → IsReportedOfReading bytes e → IsReported pages bytes e
   told (Decode fault) h = h
   told (Valid fault) h = h
   told (Link fault) h = absurd h
 
   module _ (m : Module) (spelled : IsModule bytes m) where
     pub not_linkable : (e : LinkFault) → DeniesLink (IsLinkable offer pages m) e
-        → FrontDenies (Link e) (HasNoAcceptedModule pages bytes)
+        → ModuleFaultDenies (Link e) (HasNoAcceptedModule pages bytes)
     not_linkable link.Memory h = tt
     not_linkable link.NoStart h =
         λ n a. h (subst (λ z. IsLinkable offer pages z)

@@ -1,13 +1,13 @@
--- What a fault says that is no want of memory.
+-- What a fault says other than out of memory.
 use Rattle.std.proofs.Common.{◌≡◌, false}
 use Rattle.wasm_decode.specs.declared.fault.DecodeFault.TheVariants as decode
 use Rattle.wasm_validate.specs.declared.parts.fault.ValidFault.TheVariants as valid
 use Rattle.machine.specs.declared.instance.fault.LinkFault.TheVariants as link
-use Rattle.machine_loader.specs.declared.fault.FrontFault.{FrontFault}
-use Rattle.machine_loader.specs.declared.fault.FrontFault.TheVariants.{Decode, Valid, Link}
-use Rattle.machine_loader.specs.rules.Acceptance.{FrontDenies, is_want}
+use Rattle.machine_loader.specs.declared.fault.ModuleFault.{ModuleFault}
+use Rattle.machine_loader.specs.declared.fault.ModuleFault.TheVariants.{Decode, Valid, Link}
+use Rattle.machine_loader.specs.rules.Acceptance.{ModuleFaultDenies, is_want}
 
-pub no_want : (e : FrontFault) (P : Type 0) → is_want e ≡ false → FrontDenies e P → P
+pub no_want : (e : ModuleFault) (P : Type 0) → is_want e ≡ false → ModuleFaultDenies e P → P
 no_want (Decode decode.Memory) P w h = absurd (cc)
 no_want (Decode (decode.Malformed at)) P w h = h
 no_want (Decode (decode.Float at)) P w h = h

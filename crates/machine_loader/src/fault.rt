@@ -2,7 +2,7 @@
 
 ghost use Rattle.std.specs.Prelude.{◌≡◌};
 ghost use Rattle.machine_loader.specs.rules.Acceptance.{is_want, passed_in, place_in};
-ghost use Rattle.machine_loader.specs.declared.fault.FrontFault.TheVariants as front;
+ghost use Rattle.machine_loader.specs.declared.fault.ModuleFault.TheVariants as module_fault;
 
 use machine::LinkFault;
 use thiserror::Error;
@@ -12,7 +12,7 @@ use wasm_validate::ValidFault;
 /// The fault of the first of the three steps that refuses the module. It is printed as that step's
 /// fault.
 #[derive(Clone, Copy, Debug, PartialEq, Eq, Error)]
-pub enum FrontFault {
+pub enum ModuleFault {
     #[error("{0}")]
     Decode(DecodeFault),
     #[error("{0}")]
@@ -21,14 +21,14 @@ pub enum FrontFault {
     Link(LinkFault),
 }
 
-impl FrontFault {
-    /// Where in the bytes the item at fault stands, for those of the decoder that have a place.
+impl ModuleFault {
+    /// Where in the bytes the item at fault is, for those of the decoder that have a place.
     pub fn place(&self) -> Option<usize>
         ensures { result ≡ place_in self.now }
     {
         match self {
-            FrontFault::Decode(fault) => fault.place(),
-            FrontFault::Valid(_) | FrontFault::Link(_) => None,
+            ModuleFault::Decode(fault) => fault.place(),
+            ModuleFault::Valid(_) | ModuleFault::Link(_) => None,
         }
     }
 
@@ -37,8 +37,8 @@ impl FrontFault {
         ensures { result ≡ passed_in self.now }
     {
         match self {
-            FrontFault::Decode(fault) => fault.passed_limit(),
-            FrontFault::Valid(_) | FrontFault::Link(_) => None,
+            ModuleFault::Decode(fault) => fault.passed_limit(),
+            ModuleFault::Valid(_) | ModuleFault::Link(_) => None,
         }
     }
 
@@ -48,33 +48,33 @@ impl FrontFault {
     {
         matches!(
             self,
-            FrontFault::Decode(DecodeFault::Memory)
-                | FrontFault::Valid(ValidFault::Memory)
-                | FrontFault::Link(LinkFault::Memory)
+            ModuleFault::Decode(DecodeFault::Memory)
+                | ModuleFault::Valid(ValidFault::Memory)
+                | ModuleFault::Link(LinkFault::Memory)
         )
     }
 }
 
-impl From<DecodeFault> for FrontFault {
-    ghost from_gives = { λ fault e. e ≡ front.Decode fault };
+impl From<DecodeFault> for ModuleFault {
+    ghost from_gives = { λ fault e. e ≡ module_fault.Decode fault };
 
-    fn from(fault: DecodeFault) -> FrontFault {
-        FrontFault::Decode(fault)
+    fn from(fault: DecodeFault) -> ModuleFault {
+        ModuleFault::Decode(fault)
     }
 }
 
-impl From<ValidFault> for FrontFault {
-    ghost from_gives = { λ fault e. e ≡ front.Valid fault };
+impl From<ValidFault> for ModuleFault {
+    ghost from_gives = { λ fault e. e ≡ module_fault.Valid fault };
 
-    fn from(fault: ValidFault) -> FrontFault {
-        FrontFault::Valid(fault)
+    fn from(fault: ValidFault) -> ModuleFault {
+        ModuleFault::Valid(fault)
     }
 }
 
-impl From<LinkFault> for FrontFault {
-    ghost from_gives = { λ fault e. e ≡ front.Link fault };
+impl From<LinkFault> for ModuleFault {
+    ghost from_gives = { λ fault e. e ≡ module_fault.Link fault };
 
-    fn from(fault: LinkFault) -> FrontFault {
-        FrontFault::Link(fault)
+    fn from(fault: LinkFault) -> ModuleFault {
+        ModuleFault::Link(fault)
     }
 }

@@ -8,26 +8,26 @@
 //! - `accept`: the machine is of the accepted module that the bytes spell, and has begun
 //!   (`accepted`).
 //! - Either refusal is that of the first step that refuses, and says what that step found
-//!   (`told`). But for want of memory no such module is spelled by the bytes (`only`).
-//! - `FrontFault::place` is where in the bytes the fault is, for those faults of the decoder that
-//!   say it. `FrontFault::passed_limit` is the limit that `B3 Limit` is about, with its place.
-//! - `FrontFault::is_want_of_memory` tells the three wants of memory from all other faults.
+//!   (`reported`). Unless memory runs out no such module is spelled by the bytes (`only`).
+//! - `ModuleFault::place` is where in the bytes the fault is, for those faults of the decoder that
+//!   say it. `ModuleFault::passed_limit` is the limit that `B3 Limit` is about, with its place.
+//! - `ModuleFault::is_want_of_memory` tells the three wants of memory from all other faults.
 //!
 //! A fault is printed as that of its step.
 //!
 //! # Definitions to read
 //!
 //! In `specs/rules/Acceptance.antt`: `Accepts`, `IsRead`, `HasNoAcceptedModule`,
-//! `HasNoValidModule`, `IsTold`, `IsToldOfReading`, `FrontDenies`, `is_want`, `place_in`,
-//! `passed_in`. They lead to `IsAccepted` of `wasm_semantics`, and to `HasBegun` and `IsRefused`
-//! of `machine`.
+//! `HasNoValidModule`, `IsReported`, `IsReportedOfReading`, `ModuleFaultDenies`, `is_want`,
+//! `place_in`, `passed_in`. They lead to `IsAccepted` of `wasm_semantics`, and to `HasBegun` and
+//! `IsRefused` of `machine`.
 //!
 //! # Who may touch what
 //!
 //! The crate holds nothing of its own. It is the one place where the three steps are joined.
-//! `ephemeral_worker` uses `read`, and `wasmhost_commands` uses `accept`. It stands on
-//! `wasm_decode`, `wasm_validate` and `machine`. Each step takes memory, and has its own fault for
-//! want of it. After an error nothing is left of the module.
+//! `ephemeral_worker` uses `read`, and `wasmhost_commands` uses `accept`. It uses `wasm_decode`,
+//! `wasm_validate` and `machine`. Each step takes memory, and has its own fault for that. After an
+//! error nothing is left of the module.
 //!
 //! # Choices
 //!
@@ -38,5 +38,5 @@
 mod fault;
 mod steps;
 
-pub use fault::FrontFault;
+pub use fault::ModuleFault;
 pub use steps::{accept, read};

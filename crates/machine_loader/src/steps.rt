@@ -1,11 +1,12 @@
 //! Decoding, validation and linking, one after another.
 
 ghost use Rattle.std.specs.Prelude.{◌≤◌, IfOk, IfErr};
-ghost use Rattle.machine_loader.specs.rules.Acceptance.{Accepts, FrontDenies, HasNoAcceptedModule};
-ghost use Rattle.machine_loader.specs.rules.Acceptance.{HasNoValidModule, IsRead, IsTold};
-ghost use Rattle.machine_loader.specs.rules.Acceptance.{IsToldOfReading};
+ghost use Rattle.machine_loader.specs.rules.Acceptance.{Accepts, ModuleFaultDenies};
+ghost use Rattle.machine_loader.specs.rules.Acceptance.{HasNoAcceptedModule};
+ghost use Rattle.machine_loader.specs.rules.Acceptance.{HasNoValidModule, IsRead, IsReported};
+ghost use Rattle.machine_loader.specs.rules.Acceptance.{IsReportedOfReading};
 
-use crate::fault::FrontFault;
+use crate::fault::ModuleFault;
 use guest_memory::MOST_PAGES;
 use machine::{Machine, link};
 use std::alloc::Global;
@@ -13,25 +14,25 @@ use wasm_decode::decode;
 use wasm_validate::{ValidModule, validate};
 
 /// The valid module that the bytes spell, within the limits. A refusal is that of the first of the
-/// two steps that refuses. Other than for want of memory it says that the bytes spell no valid
+/// two steps that refuses. Unless it is out of memory, it says that the bytes spell no valid
 /// module.
-pub fn read(alloc: Global, bytes: &[u8]) -> Result<ValidModule, FrontFault>
+pub fn read(alloc: Global, bytes: &[u8]) -> Result<ValidModule, ModuleFault>
     ensures read { IfOk result (IsRead bytes.now) }
-    ensures told { IfErr result (IsToldOfReading bytes.now) }
-    ensures only { IfErr result (λ e. FrontDenies e (HasNoValidModule bytes.now)) }
+    ensures reported { IfErr result (IsReportedOfReading bytes.now) }
+    ensures only { IfErr result (λ e. ModuleFaultDenies e (HasNoValidModule bytes.now)) }
 {
     let decoded = decode(alloc, bytes)?;
     Ok(validate(alloc, decoded)?)
 }
 
 /// The machine of the module that the bytes spell, where its memory may have so many pages. A
-/// refusal is that of the first step that refuses. Other than for want of memory it says that the
+/// refusal is that of the first step that refuses. Unless it is out of memory, it says that the
 /// bytes spell no module that is accepted.
-pub fn accept(alloc: Global, bytes: &[u8], pages: u32) -> Result<Machine, FrontFault>
+pub fn accept(alloc: Global, bytes: &[u8], pages: u32) -> Result<Machine, ModuleFault>
     requires { pages ≤ MOST_PAGES }
     ensures accepted { IfOk result (Accepts pages bytes.now) }
-    ensures told { IfErr result (IsTold pages bytes.now) }
-    ensures only { IfErr result (λ e. FrontDenies e (HasNoAcceptedModule pages bytes.now)) }
+    ensures reported { IfErr result (IsReported pages bytes.now) }
+    ensures only { IfErr result (λ e. ModuleFaultDenies e (HasNoAcceptedModule pages bytes.now)) }
 {
     let valid = read(alloc, bytes)?;
     Ok(link(alloc, valid, pages)?)

@@ -68,7 +68,7 @@ leads zero f g ls ms (LabelOf keeps target' below after which ∷ labels) outer 
     here (Some kept) h e =
         let t = topmost_is keeps vs kept h in
         let same : labels ≡ outer = cc in
-        let left : kept ++ below ≡ values = cc in
+        let parts_are : kept ++ below ≡ values = cc in
         record {
           kept = kept;
           spare = drop keeps vs;
@@ -78,7 +78,7 @@ leads zero f g ls ms (LabelOf keeps target' below after which ∷ labels) outer 
           height = held_all (LabelOf keeps target' below after which ∷ labels)
               ∙ ap (λ z. length (below ++ all_below z)) same;
           operands = t.1;
-          leaves = sym left;
+          leaves = sym parts_are;
           all = ap (λ z. below ++ all_below z) same;
         }
 leads (suc l) f g ls ms (LabelOf keeps target' below after which
@@ -121,7 +121,7 @@ branch_splits l f g ls ms labels outer vs values target callers e =
     (map number_in inner) tail)
     ∙ ap (λ z. map number_in r.kept
     ++ z) (sym (append_assoc (map number_in r.spare) (map number_in r.skipped) under)) in
-    let left : map number_in r.kept ++ under
+    let parts_are : map number_in r.kept ++ under
     ≡ frame_words ls values (map number_in (all_below outer)) callers =
     ap (λ z. map number_in r.kept ++ (z ++ tail)) (map-append number_in r.below (all_below outer))
     ∙ ap (λ z. map number_in r.kept
@@ -145,7 +145,7 @@ branch_splits l f g ls ms labels outer vs values target callers e =
         length-reverse ls,
       );
       before = split;
-      after = sym left;
+      after = sym parts_are;
     }
 
 -- so does a return, which keeps the results and none of its frame

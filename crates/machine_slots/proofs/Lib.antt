@@ -5,3 +5,4 @@ pub mod Outcomes
 pub mod Places
 pub mod ShapePositions
 pub mod TypedFrames
+pub mod WordLemmas

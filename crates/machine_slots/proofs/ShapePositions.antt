@@ -19,7 +19,7 @@ use Rattle.wasm_semantics.proofs.TypedShape.{closed_length}
 use Rattle.machine_slots.specs.rules.Places.{HaveShape}
 use Rattle.machine_slots.specs.laws.Laws.{ShapesTellPositions, LabelsTellPositions}
 
--- ---- where a shape stands
+-- ---- where a shape is
 
 -- what of a label tells its place: what follows the block, and which part of its instruction this
 -- is
@@ -69,7 +69,7 @@ as_part marks n m n' m' v e l h =
     (λ (k : IsDeeper marks m v). inr (k.0, omega (arith, k.1), k.2))
     h
 
--- whatever stands in a block is inside of its mark
+-- whatever is in a block is inside of its mark
 in_block : (mark : Mark) (marks : List Mark) (n m : ℕ) (v : Seen) → IsFrom (mark ∷ marks) n m v
     → IsUnder mark marks v
 in_block mark marks n m v h =
@@ -112,7 +112,7 @@ level_tells marks n m k v h other =
     (λ (g : IsDeeper marks k v). absurd (no_longer g.2.0 marks g.0 (sym h.0 ∙ g.2.1)))
     other
 
--- what stands in a block doesn't stand behind it
+-- what is in a block doesn't be after it
 apart : (mark : Mark) (marks : List Mark) (n m : ℕ) (v : Seen) → IsUnder mark marks v
     → IsFrom marks n m v → m ≤ after_length mark → ⊥
 apart mark marks n m v h other few =
@@ -178,7 +178,7 @@ abbrev shape_of : List LabelShape → List ValueType → Sequence → Shape
 shape_of labels ts rest = record { labels = labels; operands = ts; rest = rest }
 
 module _ (c : Context) where
-  -- what stands in a block, or behind it
+  -- what is in a block, or after it
   module _ (label : LabelShape) (labels : List LabelShape) (inner rest : Sequence)
       (us : List ValueType) (v : Seen) where
     block_shape : ℕ → Option Shape

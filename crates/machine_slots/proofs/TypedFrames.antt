@@ -12,7 +12,7 @@ use Rattle.wasm_syntax.specs.declared.value.Value.TheVariants as value
 use Rattle.wasm_syntax.specs.declared.instruction.Instruction.{Instruction}
 use Rattle.guest_memory.specs.rules.Memories.{LinearMemory}
 use Rattle.wasm_semantics.specs.Types.{AreOf, number_in}
-use Rattle.wasm_semantics.specs.Typing.{Context, HasRule}
+use Rattle.wasm_semantics.specs.Typing.{Context, HasInstructionType}
 use Rattle.wasm_semantics.specs.Configuration.{Program, Store, Label}
 use Rattle.wasm_semantics.specs.Effects.{Effect, Gives, Fails, Wrong, effect, IsEffect}
 use Rattle.wasm_semantics.specs.Typed.{IsTypedStore}
@@ -40,20 +40,20 @@ typed_not_wrong c program few after Wrong h = absurd h
 pub typed_ready : (c : Context) (program : Program) (labels : List (List ValueType))
     (i : Instruction) (p q types : List ValueType) (base : ℕ) (words globals : List ℕ)
     (memory : LinearMemory) (store : Store) (ls vs : List Value) (below callers : List ℕ)
-    → program.most_pages ≤ 2 ^ 16 → IsEffect i → HasRule c labels i p q
+    → program.most_pages ≤ 2 ^ 16 → IsEffect i → HasInstructionType c labels i p q
     → IsTypedStore c program store → AreOf c.locals ls → AreOf (p ++ types) vs
     → base ≡ length callers → words ≡ frame_words ls vs below callers
     → ShowsStore program store globals memory
     → IsReady program i base words globals memory store ls vs below callers
 typed_ready c program labels i p q types base words globals memory store ls vs below callers few is
-    rule typed locals operands at words_are shown =
+    typing typed locals operands at words_are shown =
     record {
       at = at;
       words_are = words_are;
       shown = shown;
       fits = typed_fit (p ++ types) vs operands;
       has = typed_not_wrong c program few (q ++ types) (effect program i store ls vs)
-          (effect_has c program few labels i p q types store ls vs is rule typed locals operands);
+          (effect_has c program few labels i p q types store ls vs is typing typed locals operands);
     }
 
 -- how many words a frame has, with those of the frames that wait

@@ -14,12 +14,12 @@
 //!   `apply_comparison`, `apply_conversion`, `constant`, `drop_top`, `select`, `local_get`,
 //!   `local_set`, `local_tee`, `global_get`, `global_set`, `load`, `store`, `memory_size`,
 //!   `memory_grow`, `memory_copy` and `memory_fill`. `copy_bytes` and `fill_bytes` do the last two
-//!   to memory alone.
+//!   to memory alone. `loaded_word` and `store_word` do a load and a store of any word.
 //! - `typed_frames_are_ready`: a typed frame that is shown has the operands of its instruction.
 //! - `words_are_slots`, `jumps_are_falls`: words and slots are the same list in either order, and
 //!   branches, returns and entries are moves of words.
-//! - `shapes_tell_positions`: no two positions of a body have one shape, so that what stands in a
-//!   frame tells its position.
+//! - `shapes_tell_positions`: no two positions of a body have one shape, so that what is in a frame
+//!   tells its position.
 //! - `limits` has the limits of the stack, and `SLOTS` is how many words there is room for.
 //!
 //! # Definitions to read
@@ -32,9 +32,9 @@
 //! # Who may touch what
 //!
 //! Only this crate knows that the words lie in one vector of fixed size. `machine` and
-//! `machine_frame` use it, and `state_image` cites its definitions. It stands on `int_ops` and
-//! `guest_memory`. `Slots::new` takes all memory. Want of it is the only error beside traps, which
-//! leave globals and memory as they were.
+//! `machine_frame` use it, and `state_image` cites its definitions. It uses `int_ops` and
+//! `guest_memory`. `Slots::new` takes all memory. Out of memory is the only error beside traps,
+//! which leave globals and memory as they were.
 //!
 //! # Choices
 //!
@@ -63,7 +63,8 @@ pub use effects::operate;
 pub use integers::{apply_binary, apply_comparison, apply_conversion, apply_unary, eqz};
 pub use laws::{jumps_are_falls, shapes_tell_positions, typed_frames_are_ready, words_are_slots};
 pub use linear_memory::{
-    copy_bytes, fill_bytes, load, memory_copy, memory_fill, memory_grow, memory_size, store,
+    copy_bytes, fill_bytes, load, loaded_word, memory_copy, memory_fill, memory_grow, memory_size,
+    store, store_word,
 };
 pub use outcome::EffectOutcome;
 pub use parametric::{constant, drop_top, select};

@@ -32,7 +32,7 @@ impl Model for Slots {
 }
 
 impl Slots {
-    /// No words yet. Only want of memory makes it fail.
+    /// No words yet. It fails only when out of memory.
     pub fn new(alloc: Global) -> Result<Slots, AllocError>
         ensures { IfOk result (λ s. s ≡ []) }
     {

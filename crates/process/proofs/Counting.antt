@@ -4,8 +4,8 @@ use Rattle.std.proofs.Common.{[], Option, Some, None, refl, sym, ap, ◌∙◌, 
 use Rattle.std.specs.Prelude.{Result, Ok, Err}
 use Rattle.wasi_abi.specs.declared.answer.Answer.{Answer}
 use Rattle.wasi_abi.specs.declared.version.Version.{Version}
-use Rattle.wasi_calls_rules.specs.Hosts.{Line, Host}
-use Rattle.wasi_calls.specs.rules.Held.{HeldHost, ShowsHost}
+use Rattle.wasi_calls_rules.specs.WasiStates.{Line, WasiState}
+use Rattle.wasi_calls.specs.rules.Held.{HeldWasiState, ShowsWasiState}
 use Rattle.machine.specs.rules.Values.{MachineValue}
 use Rattle.process_rules.specs.Processes.{ProcessState, Guest}
 use Rattle.process_rules.specs.Runs.{Next, On, Over, Wants, Nowhere, next_of, taken, request_taken}
@@ -13,7 +13,7 @@ use Rattle.process_rules.specs.Runs.{stepped, LeadsTo, Moves}
 use Rattle.process_rules.specs.Owing.{RunsQuietly, none, more}
 use Rattle.process_rules.proofs.Counted.{closed_answers, closed_requests}
 use Rattle.process_rules.proofs.Growing.{move_counts}
-use Rattle.process_rules.proofs.Hosted.{move_version}
+use Rattle.process_rules.proofs.ReachedStates.{move_version}
 use Rattle.process.specs.declared.stop.ProcessEnd.{ProcessEnd}
 use Rattle.process.specs.declared.stop.Stop.{Stop}
 use Rattle.process.specs.declared.stop.Stop.TheVariants as stop
@@ -39,7 +39,7 @@ leads_answers guest (On c h) given p q to =
     ap (λ (z : ProcessState). z.answers) to.2
     ∙ closed_answers to.0.thread to.0.later (stepped given to.0 h p)
 leads_answers guest (Over why c h) given p q to = ap (λ (z : ProcessState). z.answers) to
-leads_answers guest (Wants kind) given p q to = absurd to
+leads_answers guest (Wants question) given p q to = absurd to
 leads_answers guest Nowhere given p q to = absurd to
 
 leads_requests : (guest : Guest) (next : Next) (given : Option Answer) (p q : ProcessState)
@@ -48,7 +48,7 @@ leads_requests guest (On c h) given p q to =
     ap (λ (z : ProcessState). z.requests) to.2
     ∙ closed_requests to.0.thread to.0.later (stepped given to.0 h p)
 leads_requests guest (Over why c h) given p q to = ap (λ (z : ProcessState). z.requests) to
-leads_requests guest (Wants kind) given p q to = absurd to
+leads_requests guest (Wants question) given p q to = absurd to
 leads_requests guest Nowhere given p q to = absurd to
 
 -- one step later, with an answer or without
@@ -118,7 +118,7 @@ module _ (guest : Guest) (p q : ProcessState) (fuel n : ℕ) (waiting : List Lin
   comes_counted (Ok stop.Owes) h = owes_counted h
   comes_counted (Ok (stop.Ended how)) h = runs_counted guest p q n h.0.runs
   comes_counted (Ok stop.Spent) h = runs_counted guest p q n h.0.runs
-  comes_counted (Ok (stop.Asks kind)) h = runs_counted guest p q n h.0.runs
+  comes_counted (Ok (stop.Asks question)) h = runs_counted guest p q n h.0.runs
   comes_counted (Err fault.Memory) h = runs_counted guest p q n h.0.runs
   comes_counted (Err fault.StepsSpent) h = runs_counted guest p q n h.0.runs
   comes_counted (Err fault.WrongAnswer) h = absurd h
@@ -130,7 +130,7 @@ module _ (guest : Guest) (p q : ProcessState) (fuel n : ℕ) (waiting : List Lin
       omega (arith, are, within)
   comes_within (Some (Ok (stop.Ended how))) h = h.2
   comes_within (Some (Ok stop.Spent)) h = let e = h.2 in omega (arith, e)
-  comes_within (Some (Ok (stop.Asks kind))) h = let e = h.2 in omega (arith, e)
+  comes_within (Some (Ok (stop.Asks question))) h = let e = h.2 in omega (arith, e)
   comes_within (Some (Err fault.Memory)) h = let e = h.2 in omega (arith, e)
   comes_within (Some (Err fault.StepsSpent)) h = let e = h.2 in omega (arith, e)
   comes_within (Some (Err fault.WrongAnswer)) h = absurd h
@@ -138,11 +138,11 @@ module _ (guest : Guest) (p q : ProcessState) (fuel n : ℕ) (waiting : List Lin
 -- ---- what the process then shows
 
 -- where the process that is shown has kept its version, so has the host that shows it
-pub shown_version : (old held : HeldHost) (p q : ProcessState) → ShowsHost old p.host
-    → ShowsHost held q.host → q.host.version ≡ p.host.version
+pub shown_version : (old held : HeldWasiState) (p q : ProcessState) → ShowsWasiState old p.host
+    → ShowsWasiState held q.host → q.host.version ≡ p.host.version
     → held.host.version ≡ old.host.version
 shown_version old held p q a b same =
-    let version : Host → Version = λ h. h.version in
+    let version : WasiState → Version = λ h. h.version in
     sym (ap version b.is) ∙ same ∙ ap version a.is
 
 pub parts_of : (v : ProcessValue) (guest : Guest) (p : ProcessState) → ShowsProcess v guest p
@@ -154,7 +154,7 @@ parts_of v guest p s = record {
   closed = s.closed;
 }
 
-module _ (old : ProcessValue) (machine : MachineValue) (held : HeldHost) (guest : Guest)
+module _ (old : ProcessValue) (machine : MachineValue) (held : HeldWasiState) (guest : Guest)
     (p : ProcessState) (shows : ShowsProcess old guest p) (fuel n : ℕ) (ended : Option ProcessEnd)
     (s : Result Stop ProcessFault)
     (come : ComesToShown machine held guest p fuel (record {
@@ -231,7 +231,7 @@ module _ (old : ProcessValue) (machine : MachineValue) (held : HeldHost) (guest 
           inl (omega (arith, counts, steps, spent, last)),
         )
     ends_for false cut whole (Ok stop.Spent) e h = (none_waits, quiet h.0, h.2 ∙ whole refl, h.1)
-    ends_for is_cut cut whole (Ok (stop.Asks kind)) e h =
+    ends_for is_cut cut whole (Ok (stop.Asks question)) e h =
         (none_waits, quiet h.0, (let w = h.2 in omega (arith, w, within)), h.1, h.3)
     ends_for is_cut cut whole (Err fault.Memory) e h =
         (none_waits, quiet h.0, (let w = h.2 in omega (arith, w, within)), h.1, h.3)

@@ -5,13 +5,13 @@ use Rattle.std.specs.Prelude.{is_some, Ok, Err}
 use Rattle.std.specs.Option.{option_map}
 use Rattle.wasi_abi.specs.declared.answer.Answer.{Answer}
 use Rattle.wasi_abi.specs.declared.call.Call.{Call}
-use Rattle.wasi_calls.specs.rules.Held.{HeldHost}
+use Rattle.wasi_calls.specs.rules.Held.{HeldWasiState}
 use Rattle.machine.specs.rules.Values.{MachineValue}
 use Rattle.process_rules.specs.Processes.{ProcessState, Guest}
 use Rattle.process_rules.specs.Runs.{request_taken, Moves, IsWanted}
 use Rattle.wasi_abi.specs.rules.Versions.{widenings}
 use Rattle.process_rules.proofs.Counted.{one_request}
-use Rattle.process_rules.proofs.Hosted.{move_version}
+use Rattle.process_rules.proofs.ReachedStates.{move_version}
 use Rattle.process.specs.declared.calling.Called.TheVariants as called
 use Rattle.process.specs.declared.fault.ProcessFault.{ProcessFault}
 use Rattle.process.specs.declared.fault.ProcessFault.TheVariants as fault
@@ -20,7 +20,7 @@ use Rattle.process.specs.rules.Values.{ProcessValue, ShowsProcess, IsProcess, pr
 use Rattle.process.specs.rules.Values.{waiting_in}
 use Rattle.process.specs.rules.Stops.{CallsHost, EndsNot, TakesAnswer, GivesFor}
 use Rattle.process.specs.Parts.{ShowsParts, IsAtCall, HasFewLines}
-use Rattle.process.specs.Callings.{MakesCall, AnswersFor}
+use Rattle.process.specs.Callings.{PerformsCall, AnswersFor}
 use Rattle.process.proofs.Counting.{counted_by, shown_version}
 
 calls_host : (guest : Guest) (p : ProcessState) (c : Call) (arguments : List ℕ)
@@ -33,23 +33,24 @@ calls_host guest p c arguments at ends_not = record {
   ends_not = ends_not;
 }
 
-module _ (old new : MachineValue) (old_held held : HeldHost) (c : Call) (arguments : List ℕ)
+module _ (old new : MachineValue) (old_held held : HeldWasiState) (c : Call) (arguments : List ℕ)
     (answer : Answer) (guest : Guest) (p : ProcessState) (shows : ShowsParts old old_held guest p)
     (running : p.ended ≡ None) (at : IsAtCall guest p.configuration c arguments) where
-  -- a call that isn't made leaves all as it was
-  pub not_made : (f : ProcessFault)
-      → MakesCall old old_held c arguments (Some answer) (Err f) new held
+  -- a call that isn't performed leaves all as it was
+  pub not_performed : (f : ProcessFault)
+      → PerformsCall old old_held c arguments (Some answer) (Err f) new held
       → AnswersFor old old_held new held guest p answer (Err f)
-  not_made fault.WrongAnswer calls = absurd (calls guest p shows running at)
-  not_made fault.Memory calls =
+  not_performed fault.WrongAnswer calls = absurd (calls guest p shows running at)
+  not_performed fault.Memory calls =
       let made = calls guest p shows running at in
       (made.0, made.1, calls_host guest p c arguments at made.2)
-  not_made fault.StepsSpent calls = calls guest p shows running at
+  not_performed fault.StepsSpent calls = calls guest p shows running at
 
-  pub is_made : (synced : Bool) (ended : Option ProcessEnd)
-      → MakesCall old old_held c arguments (Some answer) (Ok (called.Made synced ended)) new held
-      → IsWanted guest p (Some answer) → AnswersFor old old_held new held guest p answer (Ok ended)
-  is_made synced ended calls wanted = (wanted, (calls guest p shows running at).0)
+  pub is_performed : (synced : Bool) (ended : Option ProcessEnd)
+      → PerformsCall old old_held c arguments (Some answer)
+      (Ok (called.Performed synced ended)) new held → IsWanted guest p (Some answer)
+      → AnswersFor old old_held new held guest p answer (Ok ended)
+  is_performed synced ended calls wanted = (wanted, (calls guest p shows running at).0)
 
 -- ---- the process then
 
@@ -58,7 +59,7 @@ pub running_when : (ended : Option ProcessEnd) → is_some ended ≡ false
 running_when None e = refl
 running_when (Some how) e = absurd (cc)
 
-module _ (m new : MachineValue) (h held : HeldHost) (steps answers requests : ℕ)
+module _ (m new : MachineValue) (h held : HeldWasiState) (steps answers requests : ℕ)
     (ended : Option ProcessEnd) (answer : Answer) (guest : Guest) (p : ProcessState) where
   abbrev old : ProcessValue
   old = process_of m h steps answers requests ended

@@ -1,7 +1,7 @@
 pub mod Lines
-pub mod Making
+pub mod Performing
 pub mod Holding
-pub mod Made
+pub mod Performed
 pub mod Beyond
 pub mod Named
 pub mod NumberLaws

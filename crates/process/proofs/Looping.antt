@@ -3,7 +3,7 @@ use Rattle.std.proofs.Common.{◌≡◌, inr, ℕ, ◌+◌, ◌-◌, ◌<◌, �
 use Rattle.std.proofs.Common.{sym, ap, ◌∙◌, subst, arith}
 use Rattle.std.specs.Prelude.{Result, Ok, Err}
 use Rattle.wasi_abi.specs.declared.call.Call.{Call}
-use Rattle.wasi_calls.specs.rules.Held.{HeldHost}
+use Rattle.wasi_calls.specs.rules.Held.{HeldWasiState}
 use Rattle.machine.specs.rules.Values.{MachineValue, HoldsMemory}
 use Rattle.process_rules.specs.Processes.{ProcessState, Guest}
 use Rattle.process_rules.specs.Runs.{Moves}
@@ -14,31 +14,31 @@ use Rattle.process.specs.declared.calling.Called.TheVariants as called
 use Rattle.process.specs.declared.stop.Stop.{Stop}
 use Rattle.process.specs.declared.fault.ProcessFault.{ProcessFault}
 use Rattle.process.specs.declared.fault.ProcessFault.TheVariants as fault
-use Rattle.process.specs.declared.turn.Stretch.{Stretch}
+use Rattle.process.specs.declared.stretch.Stretch.{Stretch}
 use Rattle.process.specs.Parts.{ShowsParts, IsRunning, HasFewLines}
-use Rattle.process.specs.Callings.{MakesCall}
+use Rattle.process.specs.Callings.{PerformsCall}
 use Rattle.process.specs.Stretches.{ComesBy, ComesToShown, Stretches, StepsAt, stretch_of}
 use Rattle.process.proofs.Stretching.{joined, after_step}
 use Rattle.process.proofs.Counting.{comes_within}
 
 -- ---- the step of a call
 
-module _ (old new : MachineValue) (old_held held : HeldHost) (c : Call) (arguments : List ℕ)
+module _ (old new : MachineValue) (old_held held : HeldWasiState) (c : Call) (arguments : List ℕ)
     (released : held.released ≡ old_held.released) (none_waits : old_held.host.lines ≡ []) where
   as_before : new ≡ old → held ≡ old_held → (guest : Guest) (p : ProcessState)
       → ShowsParts old old_held guest p → ShowsParts new held guest p
   as_before e f guest p shows =
       let P : MachineValue → Type 0 = λ m. ShowsParts m old_held guest p in
-      let Q : HeldHost → Type 0 = λ h. ShowsParts new h guest p in
+      let Q : HeldWasiState → Type 0 = λ h. ShowsParts new h guest p in
       subst Q (sym f) (subst P (sym e) shows)
 
   still_none : held ≡ old_held → held.host.lines ≡ []
-  still_none f = ap (λ (h : HeldHost). h.host.lines) f ∙ none_waits
+  still_none f = ap (λ (h : HeldWasiState). h.host.lines) f ∙ none_waits
 
   pub steps_of : (r : Result Called ProcessFault)
-      → MakesCall old old_held c arguments None r new held
+      → PerformsCall old old_held c arguments None r new held
       → StepsAt old old_held c arguments (stretch_of r held.host.lines) new held
-  steps_of (Ok (called.Made synced ended)) calls guest p fuel shows running at some =
+  steps_of (Ok (called.Performed synced ended)) calls guest p fuel shows running at some =
       let k = calls guest p shows running at in
       let l = k.0 in
       let moves : Moves guest p None l.process = record {
@@ -53,7 +53,7 @@ module _ (old new : MachineValue) (old_held held : HeldHost) (c : Call) (argumen
         comes = after_step guest p p l.process 0 fuel no_run moves some old_held held shows.host
             l.shows.host released none_waits synced (k.1 refl) ended l.ended held.host.lines refl;
       }
-  steps_of (Ok (called.Asks kind)) calls guest p fuel shows running at some =
+  steps_of (Ok (called.Asks question)) calls guest p fuel shows running at some =
       let k = calls guest p shows running at in
       record {
         process = p;
@@ -94,15 +94,15 @@ module _ (old new : MachineValue) (old_held held : HeldHost) (c : Call) (argumen
 -- ---- the loop
 
 -- so many steps after which nothing is owed have led to a process that is shown and runs on
-pub record Reached (machine : MachineValue) (held : HeldHost) (guest : Guest) (p : ProcessState)
-    (steps : ℕ) : Type 0 where
+pub record Reached (machine : MachineValue) (held : HeldWasiState) (guest : Guest)
+    (p : ProcessState) (steps : ℕ) : Type 0 where
   pub process : ProcessState
   pub runs : RunsQuietly guest p steps process
   pub shows : ShowsParts machine held guest process
   pub running : process.ended ≡ None
 
-pub record IsOn (first : MachineValue) (first_held : HeldHost) (fuel : ℕ) (machine : MachineValue)
-    (held : HeldHost) (steps : ℕ) : Type 0 where
+pub record IsOn (first : MachineValue) (first_held : HeldWasiState) (fuel : ℕ)
+    (machine : MachineValue) (held : HeldWasiState) (steps : ℕ) : Type 0 where
   pub holds : HoldsMemory machine
   pub few : HasFewLines held
   pub released : held.released ≡ first_held.released
@@ -113,7 +113,7 @@ pub record IsOn (first : MachineValue) (first_held : HeldHost) (fuel : ℕ) (mac
   pub on : (guest : Guest) (p : ProcessState) → ShowsParts first first_held guest p → p.ended ≡ None
       → Reached machine held guest p steps
 
-pub begins : (machine : MachineValue) (held : HeldHost) (fuel : ℕ) → HoldsMemory machine
+pub begins : (machine : MachineValue) (held : HeldWasiState) (fuel : ℕ) → HoldsMemory machine
     → HasFewLines held → held.host.lines ≡ [] → IsRunning machine held
     → IsOn machine held fuel machine held 0
 begins machine held fuel holds few none_waits runs = record {
@@ -132,9 +132,9 @@ begins machine held fuel holds few none_waits runs = record {
   };
 }
 
-module _ (first : MachineValue) (first_held : HeldHost) (fuel : ℕ) (mid : MachineValue)
-    (mid_held : HeldHost) (steps : ℕ) (is_on : IsOn first first_held fuel mid mid_held steps)
-    (new : MachineValue) (held : HeldHost) (next : Stretch) (stretches : Stretches mid mid_held
+module _ (first : MachineValue) (first_held : HeldWasiState) (fuel : ℕ) (mid : MachineValue)
+    (mid_held : HeldWasiState) (steps : ℕ) (is_on : IsOn first first_held fuel mid mid_held steps)
+    (new : MachineValue) (held : HeldWasiState) (next : Stretch) (stretches : Stretches mid mid_held
     (fuel - steps) next new held) where
   -- the next stretch, from where the loop has come to
   onwards : (guest : Guest) (p : ProcessState) → ShowsParts first first_held guest p

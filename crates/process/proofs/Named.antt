@@ -66,13 +66,13 @@ offered_as from name c e = of_module from name c (bytes_eq from module_name) ref
 -- what is offered under the name of a call is that call, and has its type
 pub offers_calls : OffersCalls offer
 unfolding offer
-offers_calls c kind e = by_call (offered_call module_name (name_of c)) refl e where
+offers_calls c signature e = by_call (offered_call module_name (name_of c)) refl e where
   by_call : (o : Option Call) → offered_call module_name (name_of c) ≡ o
-      → option_map call_type_of o ≡ Some kind → kind ≡ call_type_of c
+      → option_map call_type_of o ≡ Some signature → signature ≡ call_type_of c
   by_call None t e = absurd (cc)
   by_call (Some d) t e =
       let same : c ≡ d = one_name c d (offered_as module_name (name_of c) d t).named in
-      let there : call_type_of d ≡ kind = cc in
+      let there : call_type_of d ≡ signature = cc in
       sym there ∙ ap call_type_of (sym same)
 
 -- ---- the calls of a module

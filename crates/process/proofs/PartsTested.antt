@@ -6,8 +6,9 @@ use mathlib.Core.Bool.{not}
 use Rattle.std.specs.Option.{option_map}
 use Rattle.std.proofs.lemmas.List.{length-replicate}
 use Rattle.wasm_semantics.specs.Steps.{IsEnded}
-use Rattle.wasi_calls_rules.specs.Hosts.{Line}
-use Rattle.wasi_calls.specs.rules.Held.{HeldHost, ShowsHost, behind_lines}
+use Rattle.wasi_calls_rules.specs.WasiStates.{Line}
+use Rattle.wasi_calls_rules.specs.declared.output_stream.OutputStream.TheVariants.{Stdout}
+use Rattle.wasi_calls.specs.rules.Held.{HeldWasiState, ShowsWasiState, behind_lines}
 use Rattle.machine.specs.rules.Values.{MachineValue}
 use Rattle.machine.specs.rules.Loading.{ShowsSome}
 use Rattle.process_rules.specs.Processes.{Ending}
@@ -20,13 +21,14 @@ use Rattle.process.proofs.Named.{some_calls}
 
 -- nothing is known of a line that was released, so that any will do
 any_line : Line
-any_line = record { stream = 1; text = [] }
+any_line = record { stream = Stdout; text = [] }
 
 some_lines : ℕ → List Line
 some_lines n = replicate n any_line
 
 -- a host shows one
-some_host : (held : HeldHost) → ShowsHost held (behind_lines (some_lines held.released) held.host)
+some_host : (held : HeldWasiState) → ShowsWasiState held (behind_lines
+    (some_lines held.released) held.host)
 unfolding some_lines
 some_host held = record {
   before = some_lines held.released;
@@ -43,7 +45,7 @@ pub tells_not : (told : Bool) (E : Type 0) → (IsTrue told ↔ E) → IsTrue (n
 tells_not true E tells = (λ e. absurd (cc), λ none. absurd (none (tells.0 refl)))
 tells_not false E tells = (λ e over. both_ways false refl (tells.1 over), λ none. refl)
 
-module _ (machine : MachineValue) (held : HeldHost) (steps answers requests : ℕ)
+module _ (machine : MachineValue) (held : HeldWasiState) (steps answers requests : ℕ)
     (ended : Option ProcessEnd) where
   pub from_parts : (some : ShowsSome machine) → HasLinkableGuest machine
       → AreCounted held.host.version steps answers requests → HasFewLines held

@@ -9,8 +9,8 @@ use Rattle.wasm_semantics.specs.Configuration.{Program, Configuration}
 use Rattle.wasm_semantics.specs.Instantiation.{Begins}
 use Rattle.wasi_abi.specs.declared.call.Call.{Call}
 use Rattle.wasi_abi.specs.rules.Configs.{Settings}
-use Rattle.wasi_calls_rules.specs.Hosts.{Host}
-use Rattle.wasi_calls.specs.rules.Held.{HeldHost, ShowsHost, held_ended}
+use Rattle.wasi_calls_rules.specs.WasiStates.{WasiState}
+use Rattle.wasi_calls.specs.rules.Held.{HeldWasiState, ShowsWasiState, held_ended}
 use Rattle.machine.specs.rules.Values.{MachineValue, ShowsIn}
 use Rattle.machine.specs.rules.Runs.{HasBegun}
 use Rattle.process_rules.specs.Processes.{Exited, ProcessState, Guest, AreCalls, IsStart, host_of}
@@ -22,9 +22,9 @@ use Rattle.process.specs.rules.Values.{ShowsProcess, IsProcess, HasStarted, endi
 use Rattle.process.specs.Parts.{HasFewLines}
 use Rattle.process.specs.Callings.{EndsAt, IsEndedBy}
 use Rattle.process.proofs.Named.{some_calls}
-use Rattle.process.proofs.Making.{closed_over}
+use Rattle.process.proofs.Performing.{closed_over}
 
--- the process before its first rule
+-- the process before its first counted step
 abbrev pub first_process : Settings → Configuration → ProcessState
 first_process config d = record {
   configuration = d;
@@ -35,14 +35,14 @@ first_process config d = record {
   ended = None;
 }
 
-abbrev pub first_held : Settings → HeldHost
+abbrev pub first_held : Settings → HeldWasiState
 first_held config = record { released = 0; host = host_of config }
 
 module _ (m : Module) (config : Settings) (valid : IsValid m) (machine : MachineValue)
     (begun : HasBegun config.pages m machine)
-    (held last : HeldHost) (held_is : held ≡ first_held config) where
-  first_shown : ShowsHost held (host_of config)
-  first_shown = let P : HeldHost → Type 0 = λ z. ShowsHost z (host_of config) in
+    (held last : HeldWasiState) (held_is : held ≡ first_held config) where
+  first_shown : ShowsWasiState held (host_of config)
+  first_shown = let P : HeldWasiState → Type 0 = λ z. ShowsWasiState z (host_of config) in
       subst P (sym held_is) (record { before = []; count = refl; is = refl })
 
   calls_of : (guest : Guest) → AreCalls m.imports guest.calls
@@ -99,13 +99,14 @@ module _ (m : Module) (config : Settings) (valid : IsValid m) (machine : Machine
       })
 
   none_at_first : (ended : Option ProcessEnd) → IsEndedBy ended held last → last.host.lines ≡ []
-  none_at_first None e = ap (λ (z : HeldHost). z.host.lines) e
-      ∙ ap (λ (z : HeldHost). z.host.lines) held_is
-  none_at_first (Some how) e = ap (λ (z : HeldHost). z.host.lines) e
-      ∙ ap (λ (z : HeldHost). (held_ended z).host.lines) held_is
+  none_at_first None e = ap (λ (z : HeldWasiState). z.host.lines) e
+      ∙ ap (λ (z : HeldWasiState). z.host.lines) held_is
+  none_at_first (Some how) e = ap (λ (z : HeldWasiState). z.host.lines) e
+      ∙ ap (λ (z : HeldWasiState). (held_ended z).host.lines) held_is
 
-  module _ (ended : Option ProcessEnd) (ends : (program : Program) (d : Configuration) (h : Host)
-      → ShowsIn machine program d → ShowsHost held h → EndsAt d last h ended) where
+  module _ (ended : Option ProcessEnd) (ends : (program : Program) (d : Configuration)
+      (h : WasiState) → ShowsIn machine program d → ShowsWasiState held h
+      → EndsAt d last h ended) where
     shows_start : (guest : Guest) (p : ProcessState) → IsStart m config guest p
         → ShowsProcess (process_of machine last 0 0 0 ended) guest p
     shows_start guest p s =

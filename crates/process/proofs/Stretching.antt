@@ -9,12 +9,12 @@ use Rattle.wasm_semantics.specs.Configuration.{Program, Configuration}
 use Rattle.wasm_semantics.specs.Steps.{stopped, IsEnded, Steps, none, more}
 use Rattle.wasi_abi.specs.declared.call.Call.{Call}
 use Rattle.wasi_abi.specs.rules.Calls.{parameters_of}
-use Rattle.wasi_calls_rules.specs.Hosts.{Host, Line}
+use Rattle.wasi_calls_rules.specs.WasiStates.{WasiState, Line}
 use Rattle.wasi_calls_rules.specs.Lines.{lines_ended}
-use Rattle.wasi_calls.specs.rules.Held.{HeldHost, ShowsHost, held_ended}
+use Rattle.wasi_calls.specs.rules.Held.{HeldWasiState, ShowsWasiState, held_ended}
 use Rattle.wasi_calls.specs.rules.Calls.{AreArguments}
-use Rattle.machine.specs.declared.turns.pause.Pause.{Pause}
-use Rattle.machine.specs.declared.turns.pause.Pause.TheVariants as pause
+use Rattle.machine.specs.declared.execution.pause.Pause.{Pause}
+use Rattle.machine.specs.declared.execution.pause.Pause.TheVariants as pause
 use Rattle.machine.specs.rules.Values.{MachineValue, ShowsIn, IsSameMachine}
 use Rattle.machine.specs.rules.Runs.{Arrives, RunsFor}
 use Rattle.process_rules.specs.Processes.{Exited, Trapped, ProcessState, Guest, AreCalls, over}
@@ -22,8 +22,8 @@ use Rattle.process_rules.specs.Runs.{Moves}
 use Rattle.process_rules.specs.Behind.{Syncs}
 use Rattle.process_rules.specs.Owing.{RunsQuietly, MovesQuietly, none as no_run, more as more_runs}
 use Rattle.process_rules.specs.laws.Laws.{EndsAfter}
-use Rattle.process_rules.proofs.Quiet.{quiet_runs_join, rules_are_quiet, last_rule_ends, trap_ends}
-use Rattle.process_rules.proofs.Quiet.{no_rule}
+use Rattle.process_rules.proofs.Quiet.{quiet_runs_join, steps_are_quiet, last_step_ends, trap_ends}
+use Rattle.process_rules.proofs.Quiet.{none_counted}
 use Rattle.process_rules.proofs.Growing.{move_emits}
 use Rattle.process.specs.declared.stop.ProcessEnd.{ProcessEnd}
 use Rattle.process.specs.declared.stop.ProcessEnd.TheVariants as end
@@ -31,7 +31,7 @@ use Rattle.process.specs.declared.stop.Stop.{Stop}
 use Rattle.process.specs.declared.stop.Stop.TheVariants as stop
 use Rattle.process.specs.declared.fault.ProcessFault.{ProcessFault}
 use Rattle.process.specs.declared.fault.ProcessFault.TheVariants as fault
-use Rattle.process.specs.declared.turn.Stretch.{Stretch}
+use Rattle.process.specs.declared.stretch.Stretch.{Stretch}
 use Rattle.process.specs.rules.Values.{ending_of}
 use Rattle.process.specs.Parts.{ShowsParts, IsAtCall, WaitsAtCall}
 use Rattle.process.specs.Stretches.{ComesOn, ComesBy, ComesToShown, StepsAt, stop_after}
@@ -60,7 +60,7 @@ module _ (guest : Guest) (p m q : ProcessState) (k : ℕ) (runs : RunsQuietly gu
   }
   joined (Some (Ok (stop.Ended how))) h = let within = h.2 in (on h.0, h.1, omega (arith, within))
   joined (Some (Ok stop.Spent)) h = (on h.0, h.1, ap (λ z. k + z) h.2)
-  joined (Some (Ok (stop.Asks kind))) h = let within = h.2 in
+  joined (Some (Ok (stop.Asks question))) h = let within = h.2 in
       (on h.0, h.1, omega (arith, within), h.3)
   joined (Some (Err fault.Memory)) h = let within = h.2 in (on h.0, h.1, omega (arith, within), h.3)
   joined (Some (Err fault.StepsSpent)) h = let within = h.2 in
@@ -71,8 +71,9 @@ module _ (guest : Guest) (p m q : ProcessState) (k : ℕ) (runs : RunsQuietly gu
 
 module _ (guest : Guest) (p before q : ProcessState) (k fuel : ℕ)
     (runs : RunsQuietly guest p k before) (moves : Moves guest before None q) (within : k < fuel)
-    (old held : HeldHost) (first : ShowsHost old before.host) (last : ShowsHost held q.host)
-    (released : held.released ≡ old.released) (none_waits : old.host.lines ≡ []) where
+    (old held : HeldWasiState) (first : ShowsWasiState old before.host)
+    (last : ShowsWasiState held q.host) (released : held.released
+    ≡ old.released) (none_waits : old.host.lines ≡ []) where
   quietly : (synced : Bool) → synced ≡ false → (IsTrue synced ↔ Syncs guest before)
       → [] ≡ held.host.lines → ComesOn guest p q (suc k) []
   quietly synced off syncs waits =
@@ -118,13 +119,16 @@ module _ (guest : Guest) (p before q : ProcessState) (k fuel : ℕ)
 
 -- ---- where the machine pauses
 
-pub left_within : (new : MachineValue) (program : Program) (d : Configuration) (fuel left : ℕ)
-    (why : Pause) → RunsFor new program d fuel left why → left ≤ fuel
-left_within new program d fuel left pause.Spent h = let used = h.0.used in omega (arith, used)
-left_within new program d fuel left (pause.Host asked) h = let used = h.0.used in
+pub fuel_left_within : (new : MachineValue) (program : Program) (d : Configuration)
+    (fuel fuel_left : ℕ) (why : Pause) → RunsFor new program d fuel fuel_left why → fuel_left ≤ fuel
+fuel_left_within new program d fuel fuel_left pause.Spent h = let used = h.0.used in
     omega (arith, used)
-left_within new program d fuel left pause.Returned h = let used = h.0.used in omega (arith, used)
-left_within new program d fuel left (pause.Trapped why) h = let used = h.used in omega (arith, used)
+fuel_left_within new program d fuel fuel_left (pause.Host asked) h = let used = h.0.used in
+    omega (arith, used)
+fuel_left_within new program d fuel fuel_left pause.Returned h = let used = h.0.used in
+    omega (arith, used)
+fuel_left_within new program d fuel fuel_left (pause.Trapped why) h = let used = h.used in
+    omega (arith, used)
 
 -- what leads to an end is some step
 some_step : (program : Program) (n : ℕ) (d e : Configuration) → Steps program n d e
@@ -132,8 +136,9 @@ some_step : (program : Program) (n : ℕ) (d e : Configuration) → Steps progra
 some_step program n d e (none {c = c}) runs ends = absurd (runs ends)
 some_step program n d e (more {n = k} {c = c} {d = f} {e = g} first rest) runs ends = (k, refl)
 
-module _ (old new : MachineValue) (held : HeldHost) (same : IsSameMachine old new) (guest : Guest)
-    (p : ProcessState) (shows : ShowsParts old held guest p) (running : p.ended ≡ None) where
+module _ (old new : MachineValue) (held : HeldWasiState) (same : IsSameMachine old new)
+    (guest : Guest) (p : ProcessState) (shows : ShowsParts old held guest p)
+    (running : p.ended ≡ None) where
   calls_still : AreCalls new.guest.imports guest.calls
   calls_still = let P : Module → Type 0 = λ m. AreCalls m.imports guest.calls in
       subst P (sym same.guest) shows.calls
@@ -142,8 +147,8 @@ module _ (old new : MachineValue) (held : HeldHost) (same : IsSameMachine old ne
   abbrev pub ran : Configuration → ℕ → ProcessState
   ran d n = record p { configuration = d; steps = p.steps + n }
 
-  module _ (fuel left : ℕ) where
-    pub ran_shows : (a : Arrives new guest.program p.configuration fuel left)
+  module _ (fuel fuel_left : ℕ) where
+    pub ran_shows : (a : Arrives new guest.program p.configuration fuel fuel_left)
         → (IsEnded a.configuration → ⊥) → ShowsParts new held guest (ran a.configuration a.steps)
     ran_shows a open_yet = record {
       calls = calls_still;
@@ -152,18 +157,19 @@ module _ (old new : MachineValue) (held : HeldHost) (same : IsSameMachine old ne
       closed = λ _. open_yet;
     }
 
-    pub ran_quietly : (a : Arrives new guest.program p.configuration fuel left)
+    pub ran_quietly : (a : Arrives new guest.program p.configuration fuel fuel_left)
         → (IsEnded a.configuration → ⊥) → RunsQuietly guest p a.steps (ran a.configuration a.steps)
-    ran_quietly a open_yet = rules_are_quiet guest p a.steps a.configuration running a.ran open_yet
+    ran_quietly a open_yet = steps_are_quiet guest p a.steps a.configuration running a.ran open_yet
 
-    used_up : (a : Arrives new guest.program p.configuration fuel left) → a.steps ≡ fuel - left
+    used_up : (a : Arrives new guest.program p.configuration fuel fuel_left) → a.steps
+        ≡ fuel - fuel_left
     used_up a = let used = a.used in omega (arith, used)
 
     -- ---- the fuel is spent
     pub spent : held.host.lines ≡ []
-        → RunsFor new guest.program p.configuration fuel left pause.Spent
+        → RunsFor new guest.program p.configuration fuel fuel_left pause.Spent
         → ComesToShown new held guest p fuel (record {
-          steps = fuel - left;
+          steps = fuel - fuel_left;
           ended = None;
           stop = Some (Ok stop.Spent);
         })
@@ -188,15 +194,16 @@ module _ (old new : MachineValue) (held : HeldHost) (same : IsSameMachine old ne
 
     -- ---- a call waits
     module _ (c : Call) (arguments : List ℕ)
-        (h : RunsFor new guest.program p.configuration fuel left (pause.Host (record {
+        (h : RunsFor new guest.program p.configuration fuel fuel_left (pause.Host (record {
           call = c;
           arguments = arguments;
         }))) where
-      abbrev a : Arrives new guest.program p.configuration fuel left
+      abbrev a : Arrives new guest.program p.configuration fuel fuel_left
       a = h.0
 
       asks_open : IsEnded a.configuration → ⊥
-      asks_open e = let stuck = no_rule guest.program a.configuration e in let asks = h.1.asks in cc
+      asks_open e = let stuck = none_counted guest.program a.configuration e in let asks =
+          h.1.asks in cc
 
       pub is_at : IsAtCall guest a.configuration c arguments
       is_at = at_call new guest calls_still a.configuration c arguments h.1
@@ -213,21 +220,21 @@ module _ (old new : MachineValue) (held : HeldHost) (same : IsSameMachine old ne
         at = is_at;
       }
 
-      pub stepped_on : (last : MachineValue) (last_held : HeldHost) (s : Stretch)
+      pub stepped_on : (last : MachineValue) (last_held : HeldWasiState) (s : Stretch)
           → StepsAt new held c arguments s last last_held
           → ComesToShown last last_held guest p fuel (record {
-            steps = (fuel - left) + s.steps;
+            steps = (fuel - fuel_left) + s.steps;
             ended = s.ended;
             stop = s.stop;
           })
       stepped_on last last_held s steps =
           let m : ProcessState = ran a.configuration a.steps in
           let some = h.2 in
-          let next : ComesToShown last last_held guest m left s =
-          steps guest m left (ran_shows a asks_open) running is_at some in
-          let whole : ComesBy guest p next.process (a.steps + left) (a.steps
+          let next : ComesToShown last last_held guest m fuel_left s =
+          steps guest m fuel_left (ran_shows a asks_open) running is_at some in
+          let whole : ComesBy guest p next.process (a.steps + fuel_left) (a.steps
           + s.steps) last_held.host.lines s.stop =
-          joined guest p m next.process a.steps (ran_quietly a asks_open) left s.steps
+          joined guest p m next.process a.steps (ran_quietly a asks_open) fuel_left s.steps
           last_held.host.lines s.stop next.comes in
           let P : ℕ → Type 0 =
           λ n. ComesBy guest p next.process n (a.steps + s.steps) last_held.host.lines s.stop in
@@ -241,8 +248,8 @@ module _ (old new : MachineValue) (held : HeldHost) (same : IsSameMachine old ne
           }
 
     -- ---- the process ends
-    ended_so : (last : HeldHost) → last ≡ held_ended held → held.host.lines ≡ []
-        → (last_shows : ShowsHost last (lines_ended p.host))
+    ended_so : (last : HeldWasiState) → last ≡ held_ended held → held.host.lines ≡ []
+        → (last_shows : ShowsWasiState last (lines_ended p.host))
         → (k : ℕ) (q : ProcessState) (how : ProcessEnd) → k < fuel
         → EndsAfter guest p k q → q.host ≡ lines_ended p.host → q.ended ≡ Some (ending_of how)
         → ShowsIn new guest.program q.configuration → (steps : ℕ) → suc k ≡ steps
@@ -253,10 +260,10 @@ module _ (old new : MachineValue) (held : HeldHost) (same : IsSameMachine old ne
         })
     ended_so last is none_waits last_shows k q how within ends host over_so configuration steps
         counts =
-        let P : Host → Type 0 = λ g. ShowsHost held g in
-        let Q : Host → Type 0 = λ g. ShowsHost last g in
+        let P : WasiState → Type 0 = λ g. ShowsWasiState held g in
+        let Q : WasiState → Type 0 = λ g. ShowsWasiState last g in
         let shows_last = subst Q (sym host) last_shows in
-        let released : last.released ≡ held.released = ap (λ (v : HeldHost). v.released) is in
+        let released : last.released ≡ held.released = ap (λ (v : HeldWasiState). v.released) is in
         let no_sync = ends.no_sync in
         let comes : ComesBy guest p q fuel (suc k) last.host.lines (stop_after false last.host.lines
         (Some how)) =
@@ -278,11 +285,11 @@ module _ (old new : MachineValue) (held : HeldHost) (same : IsSameMachine old ne
           comes = subst R counts comes;
         }
 
-    pub returned : (last : HeldHost) → last ≡ held_ended held → held.host.lines ≡ []
-        → ShowsHost last (lines_ended p.host)
-        → RunsFor new guest.program p.configuration fuel left pause.Returned
+    pub returned : (last : HeldWasiState) → last ≡ held_ended held → held.host.lines ≡ []
+        → ShowsWasiState last (lines_ended p.host)
+        → RunsFor new guest.program p.configuration fuel fuel_left pause.Returned
         → ComesToShown new last guest p fuel (record {
-          steps = fuel - left;
+          steps = fuel - fuel_left;
           ended = Some (end.Exited 0);
           stop = stop_after false last.host.lines (Some (end.Exited 0));
         })
@@ -296,14 +303,14 @@ module _ (old new : MachineValue) (held : HeldHost) (same : IsSameMachine old ne
         let P : ℕ → Type 0 = λ n. Steps guest.program n p.configuration a.configuration in
         ended_so last is none_waits last_shows k (over (Exited 0) (ran a.configuration (suc k)))
         (end.Exited 0) (omega (arith, used, is_some))
-        (last_rule_ends guest p k a.configuration running (subst P is_some a.ran) h.1) refl refl
-        a.shows (fuel - left) (omega (arith, used, is_some))
+        (last_step_ends guest p k a.configuration running (subst P is_some a.ran) h.1) refl refl
+        a.shows (fuel - fuel_left) (omega (arith, used, is_some))
 
-    pub trapped : (last : HeldHost) → last ≡ held_ended held → held.host.lines ≡ []
-        → ShowsHost last (lines_ended p.host) → (why : Trap)
-        → RunsFor new guest.program p.configuration fuel left (pause.Trapped why)
+    pub trapped : (last : HeldWasiState) → last ≡ held_ended held → held.host.lines ≡ []
+        → ShowsWasiState last (lines_ended p.host) → (why : Trap)
+        → RunsFor new guest.program p.configuration fuel fuel_left (pause.Trapped why)
         → ComesToShown new last guest p fuel (record {
-          steps = fuel - left;
+          steps = fuel - fuel_left;
           ended = Some (end.Trapped why);
           stop = stop_after false last.host.lines (Some (end.Trapped why));
         })
@@ -313,4 +320,4 @@ module _ (old new : MachineValue) (held : HeldHost) (same : IsSameMachine old ne
         (over (Trapped why) (ran (stopped h.configuration) (suc h.steps))) (end.Trapped why)
         (omega (arith, used))
         (trap_ends guest p h.steps h.configuration why running h.ran h.traps) refl refl h.shows
-        (fuel - left) (omega (arith, used))
+        (fuel - fuel_left) (omega (arith, used))

@@ -2,18 +2,18 @@
 use Rattle.std.proofs.Common.{◌≡◌, ◌+◌, ap, arith}
 use Rattle.wasi_abi.specs.declared.version.Version.TheVariants.{One, Two}
 use Rattle.wasi_abi.specs.rules.Versions.{widenings}
-use Rattle.wasi_calls_rules.specs.Hosts.{Host}
-use Rattle.wasi_calls.specs.rules.Held.{HeldHost, ShowsHost, held_widened}
+use Rattle.wasi_calls_rules.specs.WasiStates.{WasiState}
+use Rattle.wasi_calls.specs.rules.Held.{HeldWasiState, ShowsWasiState, held_widened}
 use Rattle.process_rules.specs.Processes.{ProcessState, Guest}
 use Rattle.process_rules.specs.Runs.{widened}
 use Rattle.process.specs.rules.Values.{ProcessValue, ShowsProcess, IsProcess}
 
-host_widened : (held : HeldHost) (h : Host) → ShowsHost held h
-    → ShowsHost (held_widened held) (record h { version = Two })
+host_widened : (held : HeldWasiState) (h : WasiState) → ShowsWasiState held h
+    → ShowsWasiState (held_widened held) (record h { version = Two })
 host_widened held h shows = record {
   before = shows.before;
   count = shows.count;
-  is = ap (λ (z : Host). record z { version = Two }) shows.is;
+  is = ap (λ (z : WasiState). record z { version = Two }) shows.is;
 }
 
 -- the value of the widened process

@@ -3,8 +3,8 @@ use Rattle.std.specs.Prelude.{◌≡◌, ℕ, suc, ◌<◌, ◌≤◌, Bool, tru
 use Rattle.std.specs.Prelude.{None, Result, Ok, Err}
 use Rattle.std.specs.Option.{option_map}
 use Rattle.wasi_abi.specs.declared.call.Call.{Call}
-use Rattle.wasi_calls_rules.specs.Hosts.{Line}
-use Rattle.wasi_calls.specs.rules.Held.{HeldHost}
+use Rattle.wasi_calls_rules.specs.WasiStates.{Line}
+use Rattle.wasi_calls.specs.rules.Held.{HeldWasiState}
 use Rattle.machine.specs.rules.Values.{MachineValue}
 use Rattle.process_rules.specs.Processes.{ProcessState, Guest}
 use Rattle.process_rules.specs.Runs.{Wants, next_of, Moves}
@@ -16,7 +16,7 @@ use Rattle.process.specs.declared.fault.ProcessFault.{ProcessFault}
 use Rattle.process.specs.declared.fault.ProcessFault.TheVariants as fault
 use Rattle.process.specs.declared.calling.Called.{Called}
 use Rattle.process.specs.declared.calling.Called.TheVariants as called
-use Rattle.process.specs.declared.turn.Stretch.{Stretch}
+use Rattle.process.specs.declared.stretch.Stretch.{Stretch}
 use Rattle.process.specs.rules.Values.{ending_of}
 use Rattle.process.specs.rules.Stops.{CallsHost, IsBeyond}
 use Rattle.process.specs.Parts.{ShowsParts, IsAtCall}
@@ -47,8 +47,8 @@ ComesBy guest p q fuel steps waiting (Some (Ok (stop.Ended how))) = ComesOn gues
     × (q.ended ≡ Some (ending_of how)) × (steps ≤ fuel)
 ComesBy guest p q fuel steps waiting (Some (Ok stop.Spent)) = ComesOn guest p q steps waiting
     × (q.ended ≡ None) × (steps ≡ fuel)
-ComesBy guest p q fuel steps waiting (Some (Ok (stop.Asks kind))) = ComesOn guest p q steps waiting
-    × (q.ended ≡ None) × (steps < fuel) × (next_of guest q None ≡ Wants kind)
+ComesBy guest p q fuel steps waiting (Some (Ok (stop.Asks question))) = ComesOn guest p
+    q steps waiting × (q.ended ≡ None) × (steps < fuel) × (next_of guest q None ≡ Wants question)
 ComesBy guest p q fuel steps waiting (Some (Err fault.Memory)) = ComesOn guest p q steps waiting
     × (q.ended ≡ None) × (steps < fuel) × CallsHost guest q
 ComesBy guest p q fuel steps waiting (Some (Err fault.StepsSpent)) = ComesOn guest p q steps waiting
@@ -56,7 +56,7 @@ ComesBy guest p q fuel steps waiting (Some (Err fault.StepsSpent)) = ComesOn gue
 ComesBy guest p q fuel steps waiting (Some (Err fault.WrongAnswer)) = ⊥
 
 -- it leads to a process that is then shown
-pub record ComesToShown (machine : MachineValue) (held : HeldHost) (guest : Guest)
+pub record ComesToShown (machine : MachineValue) (held : HeldWasiState) (guest : Guest)
     (p : ProcessState) (fuel : ℕ) (s : Stretch) : Type 0 where
   pub process : ProcessState
   pub shows : ShowsParts machine held guest process
@@ -64,7 +64,8 @@ pub record ComesToShown (machine : MachineValue) (held : HeldHost) (guest : Gues
   pub comes : ComesBy guest p process fuel s.steps held.host.lines s.stop
 
 -- whichever process was shown that has not ended
-abbrev pub Stretches : MachineValue → HeldHost → ℕ → Stretch → MachineValue → HeldHost → Type 0
+abbrev pub Stretches : MachineValue → HeldWasiState → ℕ → Stretch → MachineValue
+    → HeldWasiState → Type 0
 Stretches old old_held fuel s new held =
     (guest : Guest) (p : ProcessState) → ShowsParts old old_held guest p → p.ended ≡ None
     → ComesToShown new held guest p fuel s
@@ -77,8 +78,8 @@ stop_after false [] (Some how) = Some (Ok (stop.Ended how))
 stop_after false [] None = None
 
 -- whichever process was shown that is at this call, where any fuel is left
-abbrev pub StepsAt : MachineValue → HeldHost → Call → List ℕ → Stretch → MachineValue → HeldHost
-    → Type 0
+abbrev pub StepsAt : MachineValue → HeldWasiState → Call → List ℕ → Stretch → MachineValue
+    → HeldWasiState → Type 0
 StepsAt old old_held call arguments s new held =
     (guest : Guest) (p : ProcessState) (fuel : ℕ) → ShowsParts old old_held guest p → p.ended ≡ None
     → IsAtCall guest p.configuration call arguments → 0 < fuel
@@ -86,14 +87,14 @@ StepsAt old old_held call arguments s new held =
 
 -- the stretch of a call's step
 abbrev pub stretch_of : Result Called ProcessFault → List Line → Stretch
-stretch_of (Ok (called.Made synced ended)) waiting = record {
+stretch_of (Ok (called.Performed synced ended)) waiting = record {
   steps = 1;
   ended = ended;
   stop = stop_after synced waiting ended;
 }
-stretch_of (Ok (called.Asks kind)) waiting = record {
+stretch_of (Ok (called.Asks question)) waiting = record {
   steps = 0;
   ended = None;
-  stop = Some (Ok (stop.Asks kind));
+  stop = Some (Ok (stop.Asks question));
 }
 stretch_of (Err fault) waiting = record { steps = 0; ended = None; stop = Some (Err fault) }

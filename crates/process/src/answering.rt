@@ -9,13 +9,13 @@ ghost use Rattle.process_rules.specs.Runs.{IsWanted, request_taken};
 ghost use Rattle.process.specs.Parts.{ShowsParts, IsAtCall, IsRunning, HasFewLines};
 ghost use Rattle.process.specs.Callings.{AnswersCall};
 
-use crate::calling::{Called, make};
+use crate::calling::{Called, perform};
 use crate::fault::ProcessFault;
 use crate::stop::ProcessEnd;
 use machine::Machine;
 use std::alloc::Global;
 use wasi_abi::{Answer, Call, fits};
-use wasi_calls::{Host, wanted_answer};
+use wasi_calls::{WasiState, wanted_answer};
 
 /// How many requests such an answer counts as: one, or none.
 pub fn count_requests(answer: &Answer) -> u64
@@ -28,14 +28,20 @@ pub fn count_requests(answer: &Answer) -> u64
 }
 
 /// Whether a call that waits wants this answer.
-fn wants(machine: &Machine, host: &Host, call: Call, arguments: &[u64], answer: &Answer) -> bool
+fn wants(
+    machine: &Machine,
+    host: &WasiState,
+    call: Call,
+    arguments: &[u64],
+    answer: &Answer,
+) -> bool
     requires typed { AreArguments (parameters_of call) arguments.now }
     ensures { (guest : Guest) (p : ProcessState) → ShowsParts machine.now host.now guest p
         → IsAtCall guest p.configuration call arguments.now
         → IsTrue result ↔ IsWanted guest p (Some answer.now) }
 {
     match wanted_answer(host, machine.memory(), call, arguments) {
-        Some(kind) => fits(host.version().text_limit(), kind, answer),
+        Some(question) => fits(host.version().text_limit(), question, answer),
         None => false,
     }
 }
@@ -45,7 +51,7 @@ fn wants(machine: &Machine, host: &Host, call: Call, arguments: &[u64], answer: 
 pub fn answer_call(
     alloc: Global,
     machine: &mut Machine,
-    host: &mut Host,
+    host: &mut WasiState,
     answer: &Answer,
 ) -> Result<Option<ProcessEnd>, ProcessFault>
     requires holds { HoldsMemory machine.old }
@@ -64,8 +70,8 @@ pub fn answer_call(
     if !wants(machine, host, asked.call, arguments, answer) {
         return Err(ProcessFault::WrongAnswer);
     }
-    match make(alloc, machine, host, asked.call, arguments, Some(answer))? {
-        Called::Made { ended, .. } => Ok(ended),
+    match perform(alloc, machine, host, asked.call, arguments, Some(answer))? {
+        Called::Performed { ended, .. } => Ok(ended),
         Called::Asks(_) => unreachable!(),
     }
 }

@@ -4,15 +4,15 @@
 //! # Promises
 //!
 //! - `Process::start`: the process shows each start of the module under its configuration
-//!   (`started`). A fault names the first thing that isn't there (`refused`), and but for want of
-//!   memory the module can't be linked (`only`).
+//!   (`started`). A fault names the first thing that isn't there (`refused`), and unless memory
+//!   runs out the module can't be linked (`only`).
 //! - `Process::from_parts`: there is a process with these parts exactly where a process has them
 //!   (`exact`), and then it has them (`made`). The machine shows some configuration of a module
 //!   that can be linked.
 //! - `advance`: whichever process it showed, it takes steps after which nothing is owed, and then
 //!   at most one after which something is. Each stop and each error is true of the process that it
 //!   then shows (`advances`).
-//! - `give` takes an answer only where that is wanted and no line waits (`gives`). It makes the
+//! - `give` takes an answer only where that is wanted and no line waits (`gives`). It performs the
 //!   waiting call with it, as one step, and runs nothing else. After an error nothing has changed.
 //! - `advance` and `give` keep the machine's module (`guest`).
 //! - `released` takes the first lines off that wait, and changes nothing else.
@@ -28,16 +28,17 @@
 //!
 //! In `specs/rules/`: `ProcessValue`, `ShowsProcess`, `IsProcess`, `HasStarted`, `HasReleased`,
 //! `HasWidened` (`Values.antt`); `AdvancesProcess`, `StopsFor`, `FailsFor`, `GivesAnswer`,
-//! `IsBeyond` (`Stops.antt`); `process_from`, `HasLinkableGuest` (`Restored.antt`). A process of the rules is
-//! `ProcessState` of `process_rules`. All other files of `specs/` are about the parts of one step.
+//! `IsBeyond` (`Stops.antt`); `process_from`, `HasLinkableGuest` (`Restored.antt`). A process of
+//! the rules is `ProcessState` of `process_rules`. All other files of `specs/` are about the parts
+//! of one step.
 //!
 //! # Who may touch what
 //!
 //! Only this crate puts the machine and its host together, and lends the guest's memory to a call.
 //! `record_replay`, `ephemeral_worker` and `worker` run it. `state_image` reads what it holds, and
-//! makes it again of its parts. It stands on `machine`, `wasi_calls` and `process_rules`. `start`
-//! takes all memory that the machine needs. Later only a step of the host's calls takes any. After
-//! an error the process is as it was after its last whole step.
+//! makes it again of its parts. It uses `machine`, `wasi_calls` and `process_rules`. `start` takes
+//! all memory that the machine needs. Later only a step of the host's calls takes any. After an
+//! error the process is as it was after its last whole step.
 //!
 //! # Choices
 //!
@@ -47,16 +48,16 @@
 //!   determined, so that there is such a run says that there is no other.
 //! - Lines are numbered below 2^63 - 2, and those that an end would emit are counted among them: so
 //!   an end always has numbers (`HasLineNumbers`). `StepsSpent` is answered to the call whose lines
-//!   would go beyond, and to step 2^63. The lines that a call begins are counted before it is made.
-//!   Near step 2^63 `advance` may answer `StepsSpent` where it would answer `Spent` or `Asks` with
-//!   more numbers.
+//!   would go beyond, and to step 2^63. The lines that a call begins are counted before it is
+//!   performed. Near step 2^63 `advance` may answer `StepsSpent` where it would answer `Spent` or
+//!   `Asks` with more numbers.
 //! - `give` has no `requires`: an answer that isn't wanted is a wrong answer. It asks
-//!   `wanted_answer` which one the waiting call wants, and then makes the call with it. Its proof
-//!   names no call. It takes from the rules that a call with an answer that fits wants no other
-//!   (`RowsAskOnce`). At the last step that can be counted `give` answers `StepsSpent` to every
-//!   answer.
-//! - A process that a machine's last rule, a trap or `proc_exit` ends has a machine without a
-//!   thread (`Machine::stop`). So what is kept of it is its memory and its globals.
+//!   `wanted_answer` which one the waiting call wants, and then performs the call with it. Its
+//!   proof names no call. It takes from the rules that a call with an answer that fits wants no
+//!   other (`CallRulesAskOnce`). At the last step that can be counted `give` answers `StepsSpent`
+//!   to every answer.
+//! - A process that a machine's last counted step, a trap or `proc_exit` ends has a machine without
+//!   a thread (`Machine::stop`). So what is kept of it is its memory and its globals.
 #![tactic(auto)]
 
 mod answering;
@@ -65,9 +66,9 @@ mod fault;
 pub mod laws;
 mod process;
 mod restoring;
-mod running;
+mod running_process;
 mod stop;
-mod turn;
+mod stretch;
 
 pub use fault::ProcessFault;
 pub use process::Process;

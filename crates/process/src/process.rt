@@ -13,7 +13,7 @@ use machine::{LinkFault, Machine, link};
 use std::alloc::Global;
 use std::marker::Model;
 use wasi_abi::{Config, Version};
-use wasi_calls::{Host, Line};
+use wasi_calls::{Line, WasiState};
 use wasm_validate::ValidModule;
 
 /// What holds of a module by its type.
@@ -29,7 +29,7 @@ fn is_valid(module: &ValidModule)
 pub struct Process {
     pub(crate) alloc: Global,
     pub(crate) machine: Machine,
-    pub(crate) host: Host,
+    pub(crate) host: WasiState,
     pub(crate) steps: u64,
     pub(crate) answers: u64,
     pub(crate) requests: u64,
@@ -62,7 +62,7 @@ impl Process {
     {
         is_valid(&module);
         let machine = link(alloc, module, config.pages())?;
-        let mut host = Host::new(alloc, config, Version::One)?;
+        let mut host = WasiState::new(alloc, config, Version::One)?;
         let ended = end_with_program(alloc, &machine, &mut host);
         Ok(Process {
             alloc,
@@ -106,7 +106,7 @@ impl Process {
     }
 
     /// The lines that were emitted and not released yet, in their order. The first one has the
-    /// number behind those that were released.
+    /// number after those that were released.
     pub fn waiting(&self) -> &[Line]
         ensures { result.now ≡ waiting_in self.now }
     {
@@ -121,7 +121,7 @@ impl Process {
     }
 
     /// Its host.
-    pub fn host(&self) -> &Host
+    pub fn host(&self) -> &WasiState
         ensures { result.now ≡ self.now.host }
     {
         &self.host

@@ -16,7 +16,7 @@ use crate::stop::ProcessEnd;
 use machine::Machine;
 use std::alloc::Global;
 use wasi_abi::NUMBERS_END;
-use wasi_calls::Host;
+use wasi_calls::WasiState;
 
 /// What a process is made of.
 #[derive(Drop)]
@@ -24,7 +24,7 @@ pub struct ProcessParts {
     /// Its machine.
     pub machine: Machine,
     /// The host's side of it.
-    pub host: Host,
+    pub host: WasiState,
     /// How many counted steps were taken.
     pub steps: u64,
     /// How many answers from outside were taken.
@@ -48,7 +48,7 @@ fn are_counted(parts: &ProcessParts) -> bool
 }
 
 /// Whether the lines can be numbered, unfinished ones counted.
-fn has_few_lines(host: &Host) -> bool
+fn has_few_lines(host: &WasiState) -> bool
     ensures { IsTrue result ↔ HasFewLines host.now }
 {
     let waiting = host.waiting_lines().len() as u64;

@@ -1,6 +1,6 @@
 //! Where a process stops.
 
-use wasi_abi::Kind;
+use wasi_abi::Question;
 use wasm_syntax::Trap;
 
 /// How a process has ended.
@@ -21,5 +21,5 @@ pub enum Stop {
     /// No fuel is left.
     Spent,
     /// The next step wants this answer.
-    Asks(Kind),
+    Asks(Question),
 }

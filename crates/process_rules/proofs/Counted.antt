@@ -7,23 +7,24 @@ use Rattle.wasm_syntax.specs.declared.module.Module.{Module}
 use Rattle.wasm_semantics.specs.Types.{number_in}
 use Rattle.wasm_semantics.specs.Configuration.{Configuration, Thread, Outcome, Goes, Traps, Asks}
 use Rattle.wasm_semantics.specs.Configuration.{Stuck}
-use Rattle.wasm_semantics.specs.Steps.{rule, stopped, IsEnded}
+use Rattle.wasm_semantics.specs.Steps.{counted_step, stopped, IsEnded}
 use Rattle.wasi_abi.specs.declared.answer.Answer.{Answer}
 use Rattle.wasi_abi.specs.declared.answer.Answer.TheVariants as answer
 use Rattle.wasi_abi.specs.declared.call.Call.{Call}
 use Rattle.wasi_abi.specs.rules.Configs.{Settings}
 use Rattle.wasi_abi.specs.rules.Versions.{widenings}
-use Rattle.wasi_calls_rules.specs.Hosts.{Host}
-use Rattle.wasi_calls_rules.specs.Checks.{Refuses, Ends, Asks as Wishes, Ruling}
-use Rattle.wasi_calls_rules.specs.Rows.{row}
+use Rattle.wasi_calls_rules.specs.WasiStates.{WasiState}
+use Rattle.wasi_calls_rules.specs.Checks.{Refuses, Ends, Asks as Inquires, Ruling}
+use Rattle.wasi_calls_rules.specs.CallRules.{call_rule}
 use Rattle.process_rules.specs.Processes.{Ending, ProcessState, Guest, IsStart, closed_at}
-use Rattle.process_rules.specs.Runs.{Next, On, Over, Wants, Nowhere, after_row, after_call}
-use Rattle.process_rules.specs.Runs.{after_rule, next_of, taken, request_taken, stepped, LeadsTo}
+use Rattle.process_rules.specs.Runs.{Next, On, Over, Wants, Nowhere, after_call_rule, after_call}
+use Rattle.process_rules.specs.Runs.{after_counted_step, next_of, taken, request_taken, stepped}
+use Rattle.process_rules.specs.Runs.{LeadsTo}
 use Rattle.process_rules.specs.Runs.{Moves, Kept, widened, IsWidening, Runs, none, step, take}
 use Rattle.process_rules.specs.Runs.{widen}
 use Rattle.process_rules.specs.laws.Laws.{ReachedAreCounted, IsClosed, ReachedAreClosed}
 use Rattle.process_rules.proofs.Growing.{move_counts, runs_count, start_counts}
-use Rattle.process_rules.proofs.Hosted.{beginning, move_version}
+use Rattle.process_rules.proofs.ReachedStates.{beginning, move_version}
 
 -- ---- where a process ends
 
@@ -31,34 +32,34 @@ use Rattle.process_rules.proofs.Hosted.{beginning, move_version}
 abbrev StopsIn : Next → Type 0
 StopsIn (On c h) = Unit {0}
 StopsIn (Over why c h) = IsEnded c
-StopsIn (Wants kind) = Unit {0}
+StopsIn (Wants question) = Unit {0}
 StopsIn Nowhere = Unit {0}
 
 stopped_ends : (c : Configuration) → IsEnded (stopped c)
 stopped_ends c = record { returned = refl; nothing_later = refl }
 
-row_stops : (c : Call) (r : Ruling) (before : Configuration) (h : Host) (waits : Thread)
-    → StopsIn (after_row c r before h waits)
-row_stops c (Ok done) before h waits = tt
-row_stops c (Err (Refuses e)) before h waits = tt
-row_stops c (Err (Ends code)) before h waits = stopped_ends before
-row_stops c (Err (Wishes kind)) before h waits = tt
+call_rule_stops : (c : Call) (r : Ruling) (before : Configuration) (h : WasiState) (waits : Thread)
+    → StopsIn (after_call_rule c r before h waits)
+call_rule_stops c (Ok done) before h waits = tt
+call_rule_stops c (Err (Refuses e)) before h waits = tt
+call_rule_stops c (Err (Ends code)) before h waits = stopped_ends before
+call_rule_stops c (Err (Inquires question)) before h waits = tt
 
 call_stops : (o : Option Call) (arguments : List Value) (given : Option Answer)
-    (before : Configuration) (h : Host) (waits : Thread)
+    (before : Configuration) (h : WasiState) (waits : Thread)
     → StopsIn (after_call o arguments given before h waits)
 call_stops None arguments given before h waits = tt
 call_stops (Some c) arguments given before h waits =
-    row_stops c (row c (reverse (map number_in arguments)) given before.store.memory h) before h
-    waits
+    call_rule_stops c (call_rule c (reverse (map number_in arguments)) given
+    before.store.memory h) before h waits
 
-rule_stops : (guest : Guest) (outcome : Outcome) (given : Option Answer) (before : Configuration)
-    (h : Host) → StopsIn (after_rule guest outcome given before h)
-rule_stops guest (Goes next) given before h = tt
-rule_stops guest (Traps why) given before h = stopped_ends before
-rule_stops guest (Asks f arguments waits) given before h =
+step_stops : (guest : Guest) (outcome : Outcome) (given : Option Answer) (before : Configuration)
+    (h : WasiState) → StopsIn (after_counted_step guest outcome given before h)
+step_stops guest (Goes next) given before h = tt
+step_stops guest (Traps why) given before h = stopped_ends before
+step_stops guest (Asks f arguments waits) given before h =
     call_stops (slice_get guest.calls f) arguments given before h waits
-rule_stops guest Stuck given before h = tt
+step_stops guest Stuck given before h = tt
 
 abbrev IsClosedHere : ProcessState → Type 0
 IsClosedHere p = IsClosed p.ended p
@@ -111,14 +112,14 @@ leads_count guest (On c h) given p q stops to =
 leads_count guest (Over why c h) given p q stops to =
     subst (CountsOn given p) (sym to)
     (record { answers = refl; requests = refl; closed = (stops, refl, refl) })
-leads_count guest (Wants kind) given p q stops to = absurd to
+leads_count guest (Wants question) given p q stops to = absurd to
 leads_count guest Nowhere given p q stops to = absurd to
 
 move_counted : (guest : Guest) (p q : ProcessState) (given : Option Answer)
     → Moves guest p given q → CountsOn given p q
 move_counted guest p q given moves =
     leads_count guest (next_of guest p given) given p q
-    (rule_stops guest (rule guest.program p.configuration) given p.configuration p.host)
+    (step_stops guest (counted_step guest.program p.configuration) given p.configuration p.host)
     moves.leads
 
 pub one_request : (a : Answer) → request_taken (Some a) ≤ 1

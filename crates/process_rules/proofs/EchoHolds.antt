@@ -7,25 +7,27 @@ use Rattle.wasm_syntax.specs.declared.instruction.Instruction.{Instruction}
 use Rattle.wasm_syntax.specs.declared.instruction.Instruction.TheVariants as instr
 use Rattle.wasm_syntax.specs.rules.Sequence.{Sequence, Stop, Plain}
 use Rattle.wasm_syntax.specs.laws.Examples.{echo, no_type, transfer_type}
-use Rattle.wasm_semantics.specs.Configuration.{Host, Own, LabelOf, FrameOf, Thread}
+use Rattle.wasm_semantics.specs.Configuration.{Imported, Own, LabelOf, FrameOf, Thread}
 use Rattle.wasm_semantics.specs.Configuration.{Configuration, Goes, Main}
 use Rattle.wasm_semantics.specs.laws.Examples.{v}
 use Rattle.wasm_semantics.specs.Instantiation.{filled_memory, empty_memory}
-use Rattle.wasm_semantics.specs.Steps.{rule, loop_label, IsSettled, here, on}
+use Rattle.wasm_semantics.specs.Steps.{counted_step, loop_label, IsReduced, here, on}
 use Rattle.wasm_semantics.specs.Validity.{memories_of}
-use Rattle.wasi_abi.specs.declared.answer.Kind.{Kind}
-use Rattle.wasi_abi.specs.declared.answer.Kind.TheVariants as kind
+use Rattle.wasi_abi.specs.declared.answer.Question.{Question}
+use Rattle.wasi_abi.specs.declared.answer.Question.TheVariants as question
 use Rattle.wasi_abi.specs.declared.answer.Answer.{Answer}
 use Rattle.wasi_abi.specs.declared.answer.Answer.TheVariants as answer
 use Rattle.wasi_abi.specs.declared.call.Call.TheVariants as call
 use Rattle.wasi_abi.specs.rules.Answers.{Fits, IsRequestText}
 use Rattle.wasi_abi.specs.rules.Configs.{Settings}
-use Rattle.wasi_calls_rules.specs.Hosts as host
+use Rattle.wasi_calls_rules.specs.WasiStates as host
+use Rattle.wasi_calls_rules.specs.declared.output_stream.OutputStream.TheVariants.{Stdout}
 use Rattle.wasi_calls_rules.specs.Checks.{Bytes}
 use Rattle.wasi_abi.specs.declared.version.Version.TheVariants.{One}
 use Rattle.wasi_abi.specs.rules.Versions.{text_limit}
 use Rattle.process_rules.specs.Processes.{ProcessState, Guest, Exited, IsStart, host_of, closed}
-use Rattle.process_rules.specs.Runs.{On, Wants, next_of, after_rule, stepped, IsWanted, LeadsTo}
+use Rattle.process_rules.specs.Runs.{On, Wants, next_of, after_counted_step, stepped, IsWanted}
+use Rattle.process_rules.specs.Runs.{LeadsTo}
 use Rattle.process_rules.specs.Runs.{Moves, Given, Wider, widened, Runs, Reaches, none, step, take}
 use Rattle.process_rules.specs.Runs.{widen}
 use Rattle.process_rules.specs.laws.Examples.{ComesTo, at_rest, abc_and_end, echo_memory, echo_end}
@@ -40,7 +42,7 @@ abbrev guest_of : Settings → Guest
 guest_of config = record {
   program = record {
     types = no_type ∷ transfer_type ∷ [];
-    functions = Host transfer_type ∷ Host transfer_type ∷ Own no_type [] looping ∷ [];
+    functions = Imported transfer_type ∷ Imported transfer_type ∷ Own no_type [] looping ∷ [];
     least_pages = 1;
     most_pages = config.pages;
   };
@@ -97,7 +99,7 @@ inside values rest =
     FrameOf 2 [] (loop_label None round [] Stop ∷ LabelOf 0 Stop [] Stop Main ∷ []) values rest ∷ []
 
 -- after n steps, that many answers
-abbrev after : ℕ → ℕ → host.Host → Configuration → ProcessState
+abbrev after : ℕ → ℕ → host.WasiState → Configuration → ProcessState
 after n answers h c = record {
   configuration = c;
   host = h;
@@ -107,10 +109,12 @@ after n answers h c = record {
   ended = None;
 }
 
-abbrev wrote : Settings → host.Host
-wrote config = record (host_of config) { lines = record { stream = 1; text = codes "abc" } ∷ [] }
+abbrev wrote : Settings → host.WasiState
+wrote config = record (host_of config) {
+  lines = record { stream = Stdout; text = codes "abc" } ∷ [];
+}
 
-abbrev ended_input : Settings → host.Host
+abbrev ended_input : Settings → host.WasiState
 ended_input config = record (wrote config) { input_ended = true }
 
 abbrev abc : Answer
@@ -121,25 +125,25 @@ last config memory = record (echo_end config) { configuration = at_rest memory }
 
 -- ---- steps
 
--- a step that the next thing leads to, which is settled
+-- a step that the next thing leads to, which is reduced
 pub leads_on : (guest : Guest) (p : ProcessState) (given : Option Answer) (c : Configuration)
-    (h : host.Host) → p.ended ≡ None → IsWanted guest p given → next_of guest p given ≡ On c h
-    → IsSettled guest.program c → Moves guest p given (closed (stepped given c h p))
-leads_on guest p given c h running wanted e settled =
+    (h : host.WasiState) → p.ended ≡ None → IsWanted guest p given → next_of guest p given ≡ On c h
+    → IsReduced guest.program c → Moves guest p given (closed (stepped given c h p))
+leads_on guest p given c h running wanted e reduced =
     record {
       running = running;
       wanted = wanted;
       leads = subst (λ z. LeadsTo guest z given p (closed (stepped given c h p))) (sym e) (
         c,
-        here settled,
+        here reduced,
         refl,
       );
     }
 
 -- an instruction after which the loop goes on
-goes : (config : Settings) {n answers : ℕ} {h : host.Host} {m m' : Bytes} {values values' :
+goes : (config : Settings) {n answers : ℕ} {h : host.WasiState} {m m' : Bytes} {values values' :
     List Value} {i j : Instruction} {rest rest' : Sequence}
-    → rule (guest_of config).program (blank (inside values (Plain i rest)) m)
+    → counted_step (guest_of config).program (blank (inside values (Plain i rest)) m)
     ≡ Goes (blank (inside values' (Plain j rest')) m')
     → Moves (guest_of config) (after n answers h (blank (inside values (Plain i rest)) m)) None
     (after (n + 1) (answers + 0) h (blank (inside values' (Plain j rest')) m'))
@@ -147,29 +151,29 @@ goes config {n = n} {answers = answers} {h = h} {m = m} {m' = m'} {values = valu
     {values' = values'} {i = i} {j = j} {rest = rest} {rest' = rest'} e =
     leads_on (guest_of config) (after n answers h (blank (inside values (Plain i rest)) m)) None
     (blank (inside values' (Plain j rest')) m') h refl tt
-    (ap (λ o. after_rule (guest_of config) o None (blank (inside values (Plain i rest)) m) h) e)
-    refl
+    (ap (λ o. after_counted_step (guest_of config) o None (blank
+    (inside values (Plain i rest)) m) h) e) refl
 
-enters : (config : Settings) (n answers : ℕ) (h : host.Host) (m : Bytes)
+enters : (config : Settings) (n answers : ℕ) (h : host.WasiState) (m : Bytes)
     → Moves (guest_of config) (after n answers h (blank around m)) None
     (after (n + 1) (answers + 0) h (blank (inside [] round) m))
 enters config n answers h m = record { running = refl; wanted = tt; leads = (_, here refl, refl) }
 
-turns : (config : Settings) (n answers : ℕ) (h : host.Host) (m : Bytes)
+turns : (config : Settings) (n answers : ℕ) (h : host.WasiState) (m : Bytes)
     → Moves (guest_of config) (after n answers h (blank (inside [] (Plain (instr.Br 0) Stop)) m))
     None (after (n + 1) (answers + 0) h (blank around m))
 turns config n answers h m = record { running = refl; wanted = tt; leads = (_, here refl, refl) }
 
 -- ---- steps that read memory or write it
 
-abbrev at_read : ℕ → ℕ → host.Host → Bytes → ProcessState
+abbrev at_read : ℕ → ℕ → host.WasiState → Bytes → ProcessState
 at_read n answers h m =
     after n answers h (blank (inside (v 16 ∷ v 1 ∷ v 0 ∷ v 0 ∷ []) (Plain (instr.Call 0) testing))
     m)
 
 wants_first : (config : Settings)
     → next_of (guest_of config) (at_read 5 0 (host_of config) first_memory) None
-    ≡ Wants kind.Request
+    ≡ Wants question.Request
 unfolding first_memory
 wants_first config = refl
 
@@ -181,7 +185,7 @@ reads_first config = refl
 
 wants_last : (config : Settings)
     → next_of (guest_of config) (at_read 27 1 (wrote config) memory_written) None
-    ≡ Wants kind.Request
+    ≡ Wants question.Request
 unfolding memory_written
 wants_last config = refl
 
@@ -203,21 +207,21 @@ unfolding memory_copied memory_written
 writes config = refl
 
 loads_four : (config : Settings) (values : List Value) (rest : Sequence)
-    → rule (guest_of config).program
+    → counted_step (guest_of config).program
     (blank (inside (v 16 ∷ values) (Plain load_there rest)) memory_read)
     ≡ Goes (blank (inside (v 4 ∷ values) rest) memory_read)
 unfolding memory_read
 loads_four config values rest = refl
 
 loads_none : (config : Settings) (rest : Sequence)
-    → rule (guest_of config).program
+    → counted_step (guest_of config).program
     (blank (inside (v 16 ∷ []) (Plain load_there rest)) last_memory)
     ≡ Goes (blank (inside (v 0 ∷ []) rest) last_memory)
 unfolding last_memory
 loads_none config rest = refl
 
 stores_four : (config : Settings) (rest : Sequence)
-    → rule (guest_of config).program
+    → counted_step (guest_of config).program
     (blank (inside (v 4 ∷ v 12 ∷ []) (Plain store_there rest)) memory_read)
     ≡ Goes (blank (inside [] rest) memory_copied)
 unfolding memory_read memory_copied
@@ -243,7 +247,7 @@ last_round config =
     (step (goes config refl)
     (step (goes config refl) (step (goes config refl) (step (goes config refl)
     (take (leads_on (guest_of config) _ (Some answer.End) _ _ refl (
-      kind.Request,
+      question.Request,
       wants_last config,
       tt,
     ) (reads_last config) refl)
@@ -275,7 +279,7 @@ runs config =
     (step (goes config refl)
     (step (goes config refl) (step (goes config refl) (step (goes config refl)
     (take (leads_on (guest_of config) _ (Some abc) _ _ refl (
-      kind.Request,
+      question.Request,
       wants_first config,
       abc_fits,
     ) (reads_first config) refl)
@@ -299,7 +303,7 @@ begins config = record {
     };
     store = (blank [] first_memory).store;
     is_store = record { globals = tt; table = refl; memory = filled };
-    settles = on refl (here refl);
+    reduces = on refl (here refl);
   };
   is = refl;
 }
@@ -315,14 +319,14 @@ pub record EchoAsks (config : Settings) : Type 0 where
   pub asking : ProcessState
   pub to_asking : Runs guest start [] 5 asking
   pub no_line : asking.host.lines ≡ []
-  pub asks : next_of guest asking None ≡ Wants kind.Request
+  pub asks : next_of guest asking None ≡ Wants question.Request
   pub wants_request : IsWanted guest asking (Some (answer.Request (codes "abc")))
   pub taken : ProcessState
   pub to_taken : Runs guest start (Given (answer.Request (codes "abc")) ∷ []) 6 taken
   pub still_no_line : taken.host.lines ≡ []
   pub asking_again : ProcessState
   pub to_asking_again : Runs guest start (Given (answer.Request (codes "abc")) ∷ []) 27 asking_again
-  pub one_line : asking_again.host.lines ≡ record { stream = 1; text = codes "abc" } ∷ []
+  pub one_line : asking_again.host.lines ≡ record { stream = Stdout; text = codes "abc" } ∷ []
   pub wants_end : IsWanted guest asking_again (Some answer.End)
 
 -- from the first answer on to the second
@@ -354,7 +358,7 @@ asked_once config n q rest = rw (sym (plus_six n))
     (step (goes config refl)
     (step (goes config refl) (step (goes config refl) (step (goes config refl)
     (take (leads_on (guest_of config) _ (Some abc) _ _ refl
-    (kind.Request, wants_first config, abc_fits) (reads_first config) refl)
+    (question.Request, wants_first config, abc_fits) (reads_first config) refl)
     rest))))))
   where
     plus_six : (n : ℕ) → suc (suc (suc (suc (suc (suc n))))) ≡ n + 6
@@ -372,21 +376,21 @@ echo_asks config = record {
       (step (goes config refl) (step (goes config refl) none))));
   no_line = refl;
   asks = wants_first config;
-  wants_request = (kind.Request, wants_first config, abc_fits);
+  wants_request = (question.Request, wants_first config, abc_fits);
   taken = after 6 1 (host_of config) (blank (inside (v 0 ∷ []) testing) memory_read);
   to_taken = asked_once config 0 _ none;
   still_no_line = refl;
   asking_again = at_read 27 1 (wrote config) memory_written;
   to_asking_again = asked_once config 21 _ (rereads config);
   one_line = refl;
-  wants_end = (kind.Request, wants_last config, tt);
+  wants_end = (question.Request, wants_last config, tt);
 }
 
 -- ---- widened where it asks
 
 wants_wide : (config : Settings)
     → next_of (guest_of config) (widened (at_read 5 0 (host_of config) first_memory)) None
-    ≡ Wants kind.Request
+    ≡ Wants question.Request
 unfolding first_memory
 wants_wide config = refl
 
@@ -396,10 +400,10 @@ wants_short : (config : Settings) (text : List ℕ) → 4096 < length text
     (Some (answer.Request text)) → ⊥
 wants_short config text long wanted =
     let first = wants_first config in
-    let asked : wanted.0 ≡ kind.Request =
+    let asked : wanted.0 ≡ question.Request =
     let there = wanted.1 in cc in
     let fits : IsRequestText 4096 text =
-    subst (λ (k : Kind). Fits 4096 k (answer.Request text)) asked wanted.2 in
+    subst (λ (k : Question). Fits 4096 k (answer.Request text)) asked wanted.2 in
     let short = fits.short in
     omega (arith, long, short)
 
@@ -425,7 +429,7 @@ echo_wants_more config =
         runs = runs_join (guest_of config) start asking (widened asking) [] (Wider 5 ∷ []) 5 0
             five (widen (record { narrow = refl; at = refl }) none);
       };
-      wanted = λ text fits. (kind.Request, wants_wide config, fits);
+      wanted = λ text fits. (question.Request, wants_wide config, fits);
     }
 
 pub echo_ends : (config : Settings) → EchoEnds config

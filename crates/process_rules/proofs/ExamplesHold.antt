@@ -12,13 +12,14 @@ use Rattle.wasm_semantics.specs.Configuration.{Main}
 use Rattle.wasm_semantics.specs.laws.Examples.{program_of_hello as hello_program, hello_sequence}
 use Rattle.wasm_semantics.specs.laws.Examples.{in_hello, rest_behind_call, const_32, v}
 use Rattle.wasm_semantics.specs.Instantiation.{filled_memory, empty_memory}
-use Rattle.wasm_semantics.specs.Steps.{Settles, here, on}
+use Rattle.wasm_semantics.specs.Steps.{ReducesTo, here, on}
 use Rattle.wasm_semantics.specs.Validity.{IsValid, memories_of}
 use Rattle.wasi_abi.specs.declared.call.Call.TheVariants as call
 use Rattle.wasi_abi.specs.rules.Configs.{Settings}
-use Rattle.wasi_calls_rules.specs.Hosts.{Line}
+use Rattle.wasi_calls_rules.specs.WasiStates.{Line}
+use Rattle.wasi_calls_rules.specs.declared.output_stream.OutputStream.TheVariants.{Stdout}
 use Rattle.wasi_calls_rules.specs.Checks.{Bytes}
-use Rattle.wasi_calls_rules.specs.Rows.{row}
+use Rattle.wasi_calls_rules.specs.CallRules.{call_rule}
 use Rattle.process_rules.specs.Processes.{ProcessState, Guest, Exited, Trapped, IsStart, host_of}
 use Rattle.process_rules.specs.Processes.{closed}
 use Rattle.process_rules.specs.Runs.{Moves, Runs, Reaches, none, step}
@@ -31,7 +32,7 @@ use Rattle.process_rules.proofs.ExamplesValid.{hello_spells, hello_is_valid, alo
 -- ---- hello
 
 abbrev pub hi_line : Line
-hi_line = record { stream = 1; text = codes "hi" }
+hi_line = record { stream = Stdout; text = codes "hi" }
 
 -- the memory of `hello` at its start: its one segment, and zeros
 unfoldable pub first_memory : Bytes
@@ -47,7 +48,7 @@ filled = refl
 
 -- the call that writes the line
 written : (config : Settings)
-    → row call.FdWrite (1 ∷ 0 ∷ 1 ∷ 16 ∷ []) None first_memory (host_of config)
+    → call_rule call.FdWrite (1 ∷ 0 ∷ 1 ∷ 16 ∷ []) None first_memory (host_of config)
     ≡ Ok (record { memory = last_memory; host = record (host_of config) { lines = hi_line ∷ [] } })
 unfolding first_memory last_memory
 written config = refl
@@ -90,7 +91,7 @@ begins config = record {
     };
     store = record { memory = first_memory; globals = []; table = [] };
     is_store = record { globals = tt; table = refl; memory = filled };
-    settles = on refl (here refl);
+    reduces = on refl (here refl);
   };
   is = refl;
 }
@@ -205,14 +206,14 @@ alone config body =
 
 alone_begins : (config : Settings) (opcodes : List Instruction) (body : Sequence) (thread : Thread)
     → Spells opcodes body
-    → Settles (alone config body).program (record {
+    → ReducesTo (alone config body).program (record {
       store = (blank []).store;
       thread = [];
       later = 0 ∷ [];
     }) (blank thread)
     → IsStart (idle_with_code [] opcodes) config (alone config body)
     (closed (at_first config thread))
-alone_begins config opcodes body thread spells settles = record {
+alone_begins config opcodes body thread spells reduces = record {
   entry = 0;
   first = blank thread;
   exported = inl (refl, refl);
@@ -226,7 +227,7 @@ alone_begins config opcodes body thread spells settles = record {
     };
     store = (blank []).store;
     is_store = record { globals = tt; table = refl; memory = nothing_filled };
-    settles = settles;
+    reduces = reduces;
   };
   is = refl;
 }

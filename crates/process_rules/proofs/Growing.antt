@@ -1,4 +1,4 @@
--- A step is counted, and its lines stand behind those that were there.
+-- A step is counted, and its lines are after those that were there.
 use Rattle.std.proofs.Common.{◌≡◌, ℕ, ◌+◌, List, [], ◌∷◌, ◌++◌, Option, Some, None, refl, ◌∙◌, ap}
 use Rattle.std.proofs.Common.{arith, append_assoc}
 use Rattle.std.specs.Prelude.{Ok, Err, reverse, map, slice_get}
@@ -7,23 +7,24 @@ use Rattle.wasm_syntax.specs.declared.value.Value.{Value}
 use Rattle.wasm_semantics.specs.Types.{number_in}
 use Rattle.wasm_semantics.specs.Configuration.{Configuration, Thread, Outcome, Goes, Traps, Asks}
 use Rattle.wasm_semantics.specs.Configuration.{Stuck}
-use Rattle.wasm_semantics.specs.Steps.{rule}
+use Rattle.wasm_semantics.specs.Steps.{counted_step}
 use Rattle.wasi_abi.specs.declared.answer.Answer.{Answer}
 use Rattle.wasi_abi.specs.declared.call.Call.{Call}
 use Rattle.wasi_abi.specs.rules.Configs.{Settings}
-use Rattle.wasi_calls_rules.specs.Hosts.{Host}
-use Rattle.wasi_calls_rules.specs.Checks.{Refuses, Ends, Asks as Wishes, Done, Ruling}
+use Rattle.wasi_calls_rules.specs.WasiStates.{WasiState}
+use Rattle.wasi_calls_rules.specs.Checks.{Refuses, Ends, Asks as Inquires, Done, Ruling}
 use Rattle.wasi_calls_rules.specs.Lines.{lines_ended}
-use Rattle.wasi_calls_rules.specs.Rows.{row}
+use Rattle.wasi_calls_rules.specs.CallRules.{call_rule}
 use Rattle.wasi_calls_rules.specs.laws.Laws.{Emits}
-use Rattle.wasi_calls_rules.proofs.EmitsLines.{emits_none, rows_emit}
+use Rattle.wasi_calls_rules.proofs.EmitsLines.{emits_none, call_rules_emit}
 use Rattle.process_rules.specs.Processes.{ProcessState, Guest, IsStart, closed, closed_at}
-use Rattle.process_rules.specs.Runs.{Next, On, Over, Wants, Nowhere, after_row, after_call}
-use Rattle.process_rules.specs.Runs.{after_rule, next_of, stepped, LeadsTo, Moves, none, step, take}
+use Rattle.process_rules.specs.Runs.{Next, On, Over, Wants, Nowhere, after_call_rule, after_call}
+use Rattle.process_rules.specs.Runs.{after_counted_step, next_of, stepped, LeadsTo, Moves, none}
+use Rattle.process_rules.specs.Runs.{step, take}
 use Rattle.process_rules.specs.Runs.{widened, widen}
 use Rattle.process_rules.specs.laws.Laws.{RunsCount, RunsEmit}
 
-pub emits_on : (g h k : Host) → Emits g h → Emits h k → Emits g k
+pub emits_on : (g h k : WasiState) → Emits g h → Emits h k → Emits g k
 emits_on g h k a b = record {
   lines = a.lines ++ b.lines;
   are = rw b.are (rw a.are (append_assoc g.lines a.lines b.lines));
@@ -31,7 +32,7 @@ emits_on g h k a b = record {
 
 -- ---- a step
 
-ended_emits : (h : Host) → Emits h (lines_ended h)
+ended_emits : (h : WasiState) → Emits h (lines_ended h)
 ended_emits h = record { lines = _; are = refl }
 
 closed_emits : (thread : Thread) (later : List ℕ) (p : ProcessState)
@@ -49,36 +50,36 @@ closed_counts (frame ∷ frames) [] p = refl
 closed_counts (frame ∷ frames) (f ∷ later) p = refl
 
 -- the host that the next thing leads to has emitted lines
-abbrev EmitsTo : Host → Next → Type 0
+abbrev EmitsTo : WasiState → Next → Type 0
 EmitsTo h (On c after) = Emits h after
 EmitsTo h (Over why c after) = Emits h after
-EmitsTo h (Wants kind) = Unit {0}
+EmitsTo h (Wants question) = Unit {0}
 EmitsTo h Nowhere = Unit {0}
 
-row_emits_to : (c : Call) (r : Ruling) (before : Configuration) (h : Host) (waits : Thread)
-    → ((done : Done) → r ≡ Ok done → Emits h done.host)
-    → EmitsTo h (after_row c r before h waits)
-row_emits_to c (Ok done) before h waits emits = emits done refl
-row_emits_to c (Err (Refuses e)) before h waits emits = emits_none h h refl
-row_emits_to c (Err (Ends code)) before h waits emits = emits_none h h refl
-row_emits_to c (Err (Wishes kind)) before h waits emits = tt
+call_rule_emits_to : (c : Call) (r : Ruling) (before : Configuration) (h : WasiState)
+    (waits : Thread) → ((done : Done) → r ≡ Ok done → Emits h done.host)
+    → EmitsTo h (after_call_rule c r before h waits)
+call_rule_emits_to c (Ok done) before h waits emits = emits done refl
+call_rule_emits_to c (Err (Refuses e)) before h waits emits = emits_none h h refl
+call_rule_emits_to c (Err (Ends code)) before h waits emits = emits_none h h refl
+call_rule_emits_to c (Err (Inquires question)) before h waits emits = tt
 
 call_emits_to : (o : Option Call) (arguments : List Value) (given : Option Answer)
-    (before : Configuration) (h : Host) (waits : Thread)
+    (before : Configuration) (h : WasiState) (waits : Thread)
     → EmitsTo h (after_call o arguments given before h waits)
 call_emits_to None arguments given before h waits = tt
 call_emits_to (Some c) arguments given before h waits =
-    row_emits_to c (row c (reverse (map number_in arguments)) given before.store.memory h) before h
-    waits
-    (rows_emit c (reverse (map number_in arguments)) given before.store.memory h)
+    call_rule_emits_to c (call_rule c (reverse (map number_in arguments)) given
+    before.store.memory h) before h waits
+    (call_rules_emit c (reverse (map number_in arguments)) given before.store.memory h)
 
-rule_emits_to : (guest : Guest) (outcome : Outcome) (given : Option Answer) (before : Configuration)
-    (h : Host) → EmitsTo h (after_rule guest outcome given before h)
-rule_emits_to guest (Goes next) given before h = emits_none h h refl
-rule_emits_to guest (Traps why) given before h = emits_none h h refl
-rule_emits_to guest (Asks f arguments waits) given before h =
+step_emits_to : (guest : Guest) (outcome : Outcome) (given : Option Answer) (before : Configuration)
+    (h : WasiState) → EmitsTo h (after_counted_step guest outcome given before h)
+step_emits_to guest (Goes next) given before h = emits_none h h refl
+step_emits_to guest (Traps why) given before h = emits_none h h refl
+step_emits_to guest (Asks f arguments waits) given before h =
     call_emits_to (slice_get guest.calls f) arguments given before h waits
-rule_emits_to guest Stuck given before h = tt
+step_emits_to guest Stuck given before h = tt
 
 -- one more step was counted, and lines were emitted
 record Grows (p q : ProcessState) : Type 0 where
@@ -88,26 +89,26 @@ record Grows (p q : ProcessState) : Type 0 where
 leads_grow : (guest : Guest) (next : Next) (given : Option Answer) (p q : ProcessState)
     → EmitsTo p.host next → LeadsTo guest next given p q → Grows p q
 leads_grow guest (On c h) given p q emits to =
-    let settled : Configuration = to.0 in
-    let after : ProcessState = stepped given settled h p in
+    let reduced : Configuration = to.0 in
+    let after : ProcessState = stepped given reduced h p in
     record {
       counts = ap (λ (z : ProcessState). z.steps) to.2
-          ∙ closed_counts settled.thread settled.later after;
+          ∙ closed_counts reduced.thread reduced.later after;
       emits = rw to.2 (emits_on p.host h (closed after).host emits
-          (closed_emits settled.thread settled.later after));
+          (closed_emits reduced.thread reduced.later after));
     }
 leads_grow guest (Over why c h) given p q emits to = record {
   counts = ap (λ (z : ProcessState). z.steps) to;
   emits = rw to (emits_on p.host h (lines_ended h) emits (ended_emits h));
 }
-leads_grow guest (Wants kind) given p q emits to = absurd to
+leads_grow guest (Wants question) given p q emits to = absurd to
 leads_grow guest Nowhere given p q emits to = absurd to
 
 move_grows : (guest : Guest) (p q : ProcessState) (given : Option Answer) → Moves guest p given q
     → Grows p q
 move_grows guest p q given moves =
     leads_grow guest (next_of guest p given) given p q
-    (rule_emits_to guest (rule guest.program p.configuration) given p.configuration p.host)
+    (step_emits_to guest (counted_step guest.program p.configuration) given p.configuration p.host)
     moves.leads
 
 pub move_counts : (guest : Guest) (p q : ProcessState) (given : Option Answer)

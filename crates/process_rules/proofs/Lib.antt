@@ -11,7 +11,7 @@ pub mod EchoHolds
 pub mod SyncingValid
 pub mod SyncingHolds
 pub mod MemoryKept
-pub mod Hosted
+pub mod ReachedStates
 pub mod Counted
 pub mod ReachedTyped
 pub mod WideningHolds

@@ -1,4 +1,4 @@
--- Memory holds bytes at the beginning, and after each rule.
+-- Memory holds bytes at the beginning, and after each counted step.
 use Rattle.std.proofs.Common.{◌≡◌, ℕ, zero, suc, ◌+◌, ◌*◌, ◌^◌, ◌<◌, Bool, true, false, List, []}
 use Rattle.std.proofs.Common.{◌∷◌, ◌++◌, length, drop, Option, Some, None, Result, Ok, Err}
 use Rattle.std.proofs.Common.{refl, sym, ap, subst, ◌∙◌, arith}
@@ -26,7 +26,7 @@ use Rattle.wasm_semantics.specs.Types.{loaded_type, stored_type, stored_width, b
 use Rattle.wasm_semantics.specs.Types.{gives_of, takes_of, conversion_takes}
 use Rattle.wasm_semantics.specs.Types.{is_same_function_type}
 use Rattle.wasm_semantics.specs.Validity.{IsDataValid, IsValid, memories_of}
-use Rattle.wasm_semantics.specs.Configuration.{Callee, Host, Own, Program, Store, Label}
+use Rattle.wasm_semantics.specs.Configuration.{Callee, Imported, Own, Program, Store, Label}
 use Rattle.wasm_semantics.specs.Configuration.{Frame, FrameOf, Thread, Configuration}
 use Rattle.wasm_semantics.specs.Configuration.{Outcome, Goes, Traps, Asks}
 use Rattle.wasm_semantics.specs.Effects.{Effect, Gives, Fails, Wrong, with_top, effect_of_some}
@@ -36,8 +36,9 @@ use Rattle.wasm_semantics.specs.Instantiation.{offset_of, with_segment, filled_m
 use Rattle.wasm_semantics.specs.Instantiation.{empty_memory, Begins}
 use Rattle.wasm_semantics.specs.Steps.{where_some, topmost, branch, is_exhausted, entered}
 use Rattle.wasm_semantics.specs.Steps.{called}
-use Rattle.wasm_semantics.specs.Steps.{calls, kind_of, calls_entry, after_effect, execute}
-use Rattle.wasm_semantics.specs.Steps.{rule_of, rule, left, begun, left_by, Settles, here, on}
+use Rattle.wasm_semantics.specs.Steps.{calls, signature_of, calls_entry, after_effect, execute}
+use Rattle.wasm_semantics.specs.Steps.{counted_step_of, counted_step, exited, begun, exited_by}
+use Rattle.wasm_semantics.specs.Steps.{ReducesTo, here, on}
 use Rattle.wasm_semantics.proofs.Soundness.Beginning.{and_then_some}
 use Rattle.wasi_abi.specs.rules.Answers.{AreBytes}
 
@@ -185,7 +186,7 @@ effect_bytes program (instr.Convert o) s ls vs h =
     top_bytes (conversion_takes o) vs _ (λ a vs. h)
 effect_bytes program _ s ls vs h = tt
 
--- ---- what a rule does
+-- ---- what a counted step does
 
 abbrev pub GoesToBytes : Outcome → Type 0
 GoesToBytes (Goes next) = AreBytes next.store.memory
@@ -199,14 +200,14 @@ where_bytes (Some x) go f = f x
 called_bytes : (f : ℕ) (callee : Callee) (c : Configuration) (caller : List Value → Frame)
     (vs : List Value) (frames : Thread) → AreBytes c.store.memory
     → GoesToBytes (called f callee c caller vs frames)
-called_bytes f (Host kind) c caller vs frames h =
-    where_bytes (topmost (length (takes_of kind)) vs)
-    (λ arguments. Asks f arguments (caller (drop (length (takes_of kind)) vs) ∷ frames))
+called_bytes f (Imported signature) c caller vs frames h =
+    where_bytes (topmost (length (takes_of signature)) vs)
+    (λ arguments. Asks f arguments (caller (drop (length (takes_of signature)) vs) ∷ frames))
     (λ arguments. tt)
-called_bytes f (Own kind declared body) c caller vs frames h =
-    where_bytes (topmost (length (takes_of kind)) vs) _ (λ arguments.
-    either (entered f kind declared body arguments
-    ∷ caller (drop (length (takes_of kind)) vs) ∷ frames))
+called_bytes f (Own signature declared body) c caller vs frames h =
+    where_bytes (topmost (length (takes_of signature)) vs) _ (λ arguments.
+    either (entered f signature declared body arguments
+    ∷ caller (drop (length (takes_of signature)) vs) ∷ frames))
   where
     either : (thread : Thread)
         → GoesToBytes (if is_exhausted thread then Traps trap.StackExhausted
@@ -225,16 +226,16 @@ calls_bytes program f c caller vs frames h =
     where_bytes (slice_get program.functions f) _ (λ callee.
     called_bytes f callee c caller vs frames h)
 
-entry_bytes : (program : Program) (o : Option (Option ℕ)) (kind : FunctionType) (c : Configuration)
-    (caller : List Value → Frame) (vs : List Value) (frames : Thread) → AreBytes c.store.memory
-    → GoesToBytes (calls_entry program o kind c caller vs frames)
-entry_bytes program None kind c caller vs frames h = tt
-entry_bytes program (Some None) kind c caller vs frames h = tt
-entry_bytes program (Some (Some f)) kind c caller vs frames h =
+entry_bytes : (program : Program) (o : Option (Option ℕ)) (signature : FunctionType)
+    (c : Configuration) (caller : List Value → Frame) (vs : List Value) (frames : Thread)
+    → AreBytes c.store.memory → GoesToBytes (calls_entry program o signature c caller vs frames)
+entry_bytes program None signature c caller vs frames h = tt
+entry_bytes program (Some None) signature c caller vs frames h = tt
+entry_bytes program (Some (Some f)) signature c caller vs frames h =
     where_bytes (slice_get program.functions f) _ (λ callee. by_test callee (is_same callee))
   where
     is_same : Callee → Bool
-    is_same callee = is_same_function_type kind (kind_of callee)
+    is_same callee = is_same_function_type signature (signature_of callee)
 
     by_test : (callee : Callee) (b : Bool)
         → GoesToBytes (if b then called f callee c caller vs frames
@@ -260,21 +261,21 @@ execute_bytes program c f ls labels (instr.BrTable table last) (value.I32 n ∷ 
     where_bytes (branch (unwrap_or (slice_get table n) last) f ls labels vs) _ (λ frame. h)
 execute_bytes program c f ls labels instr.Return vs rest frames h =
     where_bytes (slice_get program.functions f) _ (λ callee.
-    where_bytes (topmost (length (gives_of (kind_of callee))) vs) _ (λ results. h))
+    where_bytes (topmost (length (gives_of (signature_of callee))) vs) _ (λ results. h))
 execute_bytes program c f ls labels (instr.Call g) vs rest frames h =
     calls_bytes program g c _ vs frames h
 execute_bytes program c f ls labels (instr.CallIndirect t) (value.I32 i ∷ vs) rest frames h =
-    where_bytes (slice_get program.types t) _ (λ kind.
-    entry_bytes program (slice_get c.store.table i) kind c _ vs frames h)
+    where_bytes (slice_get program.types t) _ (λ signature.
+    entry_bytes program (slice_get c.store.table i) signature c _ vs frames h)
 execute_bytes program c f ls labels i vs rest frames h =
     after_bytes (effect program i c.store ls vs) c
     (λ ls' vs'. FrameOf f ls' labels vs' rest ∷ frames)
     (effect_bytes program i c.store ls vs h)
 
-pub rule_bytes : (program : Program) (c : Configuration) → AreBytes c.store.memory
-    → GoesToBytes (rule program c)
-rule_bytes program c h = by_thread c.thread where
-  by_thread : (thread : Thread) → GoesToBytes (rule_of program c thread)
+pub step_bytes : (program : Program) (c : Configuration) → AreBytes c.store.memory
+    → GoesToBytes (counted_step program c)
+step_bytes program c h = by_thread c.thread where
+  by_thread : (thread : Thread) → GoesToBytes (counted_step_of program c thread)
   by_thread (FrameOf f ls labels vs (Plain i rest) ∷ frames) =
       execute_bytes program c f ls labels i vs rest frames h
   by_thread (FrameOf f ls labels vs (InBlock t body rest) ∷ frames) = h
@@ -286,12 +287,12 @@ rule_bytes program c h = by_thread c.thread where
       h
   by_thread _ = tt
 
--- ---- rules that aren't counted
+-- ---- administrative steps
 
-left_store : (program : Program) (thread : Thread) (later : List ℕ) (store : Store)
-    (d : Configuration) → left_by program thread later store ≡ Some d → d.store ≡ store
-left_store program [] [] store d e = absurd (cc)
-left_store program [] (f ∷ later) store d e =
+exited_store : (program : Program) (thread : Thread) (later : List ℕ) (store : Store)
+    (d : Configuration) → exited_by program thread later store ≡ Some d → d.store ≡ store
+exited_store program [] [] store d e = absurd (cc)
+exited_store program [] (f ∷ later) store d e =
     by_thread (begun (slice_get program.functions f) f) e where
       by_thread : (o : Option Thread)
           → option_map (λ (thread : Thread).
@@ -305,8 +306,8 @@ left_store program [] (f ∷ later) store d e =
         kept d thread e =
             let same : record { store = store; thread = thread; later = later } ≡ d = cc in
             ap (λ (x : Configuration). x.store) (sym same)
-left_store program (FrameOf f ls labels vs rest ∷ frames) later store d e =
-    by_thread (left rest f ls labels vs frames) e
+exited_store program (FrameOf f ls labels vs rest ∷ frames) later store d e =
+    by_thread (exited rest f ls labels vs frames) e
   where
     by_thread : (o : Option Thread)
         → option_map (λ (thread : Thread).
@@ -317,11 +318,12 @@ left_store program (FrameOf f ls labels vs rest ∷ frames) later store d e =
         let same : record { store = store; thread = thread; later = later } ≡ d = cc in
         ap (λ (x : Configuration). x.store) (sym same)
 
-pub settled_store : (program : Program) (c d : Configuration) → Settles program c d
+pub reduced_store : (program : Program) (c d : Configuration) → ReducesTo program c d
     → d.store ≡ c.store
-settled_store program c d (here s) = refl
-settled_store program c d (on {c = c'} {d = between} e rest) =
-    settled_store program between d rest ∙ left_store program c'.thread c'.later c'.store between e
+reduced_store program c d (here s) = refl
+reduced_store program c d (on {c = c'} {d = between} e rest) =
+    reduced_store program between d rest ∙ exited_store program c'.thread c'.later
+    c'.store between e
 
 -- ---- the beginning
 
@@ -364,4 +366,4 @@ pub begins_with_bytes : (m : Module) (pages entry : ℕ) (program : Program) (c 
 begins_with_bytes m pages entry program c valid begins =
     let first = filled_bytes m begins.store.globals m.data_segments (empty_memory (memories_of m))
     begins.store.memory valid.data_segments (empty_bytes (memories_of m)) begins.is_store.memory in
-    subst (λ (s : Store). AreBytes s.memory) (sym (settled_store program _ c begins.settles)) first
+    subst (λ (s : Store). AreBytes s.memory) (sym (reduced_store program _ c begins.reduces)) first

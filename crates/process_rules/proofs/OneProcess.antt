@@ -1,7 +1,7 @@
 -- The same answers lead to the same process in the same number of steps.
 use Rattle.std.proofs.Common.{◌≡◌, ℕ, ◌≤◌, List, ◌∷◌, ◌++◌, [], Option, Some, None, refl, sym, ap}
 use Rattle.std.proofs.Common.{◌∙◌, subst, arith, suc}
-use Rattle.wasm_semantics.proofs.OneRun.{settles_once}
+use Rattle.wasm_semantics.proofs.OneRun.{reduces_once}
 use Rattle.wasi_abi.specs.declared.answer.Answer.{Answer}
 use Rattle.process_rules.specs.Processes.{ProcessState, Guest, closed}
 use Rattle.process_rules.specs.Runs.{Next, On, Over, Wants, Nowhere, next_of, stepped, LeadsTo}
@@ -14,10 +14,10 @@ use Rattle.process_rules.proofs.Growing.{move_counts, runs_count}
 leads_once : (guest : Guest) (next : Next) (given : Option Answer) (p q r : ProcessState)
     → LeadsTo guest next given p q → LeadsTo guest next given p r → q ≡ r
 leads_once guest (On c h) given p q r a b =
-    let same : a.0 ≡ b.0 = settles_once guest.program c a.0 b.0 a.1 b.1 in
+    let same : a.0 ≡ b.0 = reduces_once guest.program c a.0 b.0 a.1 b.1 in
     a.2 ∙ ap (λ z. closed (stepped given z h p)) same ∙ sym b.2
 leads_once guest (Over why c h) given p q r a b = a ∙ sym b
-leads_once guest (Wants kind) given p q r a b = absurd a
+leads_once guest (Wants question) given p q r a b = absurd a
 leads_once guest Nowhere given p q r a b = absurd a
 
 pub moves_once : (guest : Guest) (p q r : ProcessState) (given : Option Answer)

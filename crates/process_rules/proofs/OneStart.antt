@@ -12,10 +12,10 @@ use Rattle.wasm_semantics.specs.Validity.{HaveDistinctNames, IsValid}
 use Rattle.wasm_semantics.specs.Configuration.{Program, Store, Configuration}
 use Rattle.wasm_semantics.specs.Instantiation.{IsProgram}
 use Rattle.wasm_semantics.specs.Instantiation.{calls_of, Begins}
-use Rattle.wasm_semantics.specs.Steps.{Settles}
+use Rattle.wasm_semantics.specs.Steps.{ReducesTo}
 use Rattle.wasm_semantics.specs.Linking.{Exports}
 use Rattle.wasm_semantics.proofs.OneProgram.{one_program}
-use Rattle.wasm_semantics.proofs.OneRun.{settles_once}
+use Rattle.wasm_semantics.proofs.OneRun.{reduces_once}
 use Rattle.wasm_semantics.proofs.OneStore.{store_once}
 use Rattle.wasi_abi.specs.declared.call.Call.{Call}
 use Rattle.wasi_abi.specs.declared.call.Call.TheVariants as call
@@ -120,8 +120,8 @@ first_once m pages x y p c d e a b =
     let same : a.store ≡ b.store = store_once m a.store b.store a.is_store b.is_store in
     let begin : begun a.store (calls_of m.start x) ≡ begun b.store (calls_of m.start y) =
     rw (same, e) refl in
-    settles_once p (begun a.store (calls_of m.start x)) c d a.settles
-    (subst (λ z. Settles p z d) (sym begin) b.settles)
+    reduces_once p (begun a.store (calls_of m.start x)) c d a.reduces
+    (subst (λ z. ReducesTo p z d) (sym begin) b.reduces)
 
 pub item_number : (x y : ℕ) → export.Function x ≡ export.Function y → x ≡ y
 item_number x y e = cc

@@ -8,24 +8,25 @@ use Rattle.wasm_syntax.specs.declared.instruction.Instruction.{Instruction}
 use Rattle.wasm_syntax.specs.declared.instruction.Instruction.TheVariants as instr
 use Rattle.wasm_syntax.specs.rules.Sequence.{Sequence, Stop, Plain}
 use Rattle.wasm_syntax.specs.laws.Examples.{no_type, transfer_type}
-use Rattle.wasm_semantics.specs.Configuration.{Host, Own, LabelOf, FrameOf, Thread}
+use Rattle.wasm_semantics.specs.Configuration.{Imported, Own, LabelOf, FrameOf, Thread}
 use Rattle.wasm_semantics.specs.Configuration.{Configuration, Goes, Asks, Main}
 use Rattle.wasm_semantics.specs.laws.Examples.{v}
 use Rattle.wasm_semantics.specs.Instantiation.{filled_memory, empty_memory}
-use Rattle.wasm_semantics.specs.Steps.{rule, here, on}
+use Rattle.wasm_semantics.specs.Steps.{counted_step, here, on}
 use Rattle.wasm_semantics.specs.Validity.{memories_of}
-use Rattle.wasi_abi.specs.declared.answer.Kind.TheVariants as kind
+use Rattle.wasi_abi.specs.declared.answer.Question.TheVariants as question
 use Rattle.wasi_abi.specs.declared.answer.Answer.{Answer}
 use Rattle.wasi_abi.specs.declared.answer.Answer.TheVariants as answer
 use Rattle.wasi_abi.specs.declared.call.Call.{Call}
 use Rattle.wasi_abi.specs.declared.call.Call.TheVariants as call
 use Rattle.wasi_abi.specs.rules.Configs.{Settings}
-use Rattle.wasi_calls_rules.specs.Hosts as host
-use Rattle.wasi_calls_rules.specs.Hosts.{Line}
+use Rattle.wasi_calls_rules.specs.WasiStates as host
+use Rattle.wasi_calls_rules.specs.WasiStates.{Line}
 use Rattle.wasi_calls_rules.specs.Checks.{Bytes}
-use Rattle.wasi_calls_rules.specs.Rows.{IsSync}
+use Rattle.wasi_calls_rules.specs.CallRules.{IsSync}
 use Rattle.process_rules.specs.Processes.{ProcessState, Guest, Exited, IsStart, host_of}
-use Rattle.process_rules.specs.Runs.{Kept, Given, Wider, On, Wants, next_of, after_rule, Runs}
+use Rattle.process_rules.specs.Runs.{Kept, Given, Wider, On, Wants, next_of, after_counted_step}
+use Rattle.process_rules.specs.Runs.{Runs}
 use Rattle.process_rules.specs.Runs.{Reaches}
 use Rattle.process_rules.specs.Behind.{AnswersBehindLine, IsLine, Syncs, AnswersBehindSync}
 use Rattle.process_rules.specs.Behind.{IsNarrowTo}
@@ -44,8 +45,8 @@ abbrev guest_of : Settings → Guest
 guest_of config = record {
   program = record {
     types = no_type ∷ transfer_type ∷ sync_type ∷ [];
-    functions = Host transfer_type ∷ Host sync_type ∷ Host transfer_type ∷ Own no_type [] reading
-        ∷ [];
+    functions = Imported transfer_type ∷ Imported sync_type ∷ Imported transfer_type
+        ∷ Own no_type [] reading ∷ [];
     least_pages = 1;
     most_pages = config.pages;
   };
@@ -134,14 +135,15 @@ begins config = record {
     };
     store = record { memory = first_memory; globals = []; table = [] };
     is_store = record { globals = tt; table = refl; memory = filled };
-    settles = on refl (here refl);
+    reduces = on refl (here refl);
   };
   is = refl;
 }
 
 -- ---- calls
 
-wants : (config : Settings) → next_of (guest_of config) (at_read config) None ≡ Wants kind.Request
+wants : (config : Settings) → next_of (guest_of config) (at_read config) None
+    ≡ Wants question.Request
 unfolding first_memory
 wants config = refl
 
@@ -180,7 +182,7 @@ record IsOfCall (guest : Guest) (p : ProcessState) (c : Call) (arguments : List 
   arguments_are : s.arguments ≡ arguments
 
 of_call : (guest : Guest) (p : ProcessState) (f : ℕ) (arguments : List Value) (waits : Thread)
-    (c : Call) → rule guest.program p.configuration ≡ Asks f arguments waits
+    (c : Call) → counted_step guest.program p.configuration ≡ Asks f arguments waits
     → slice_get guest.calls f ≡ Some c → (s : Syncs guest p) → IsOfCall guest p c arguments s
 of_call guest p f arguments waits c asks is_call s =
     let asked = s.asks in
@@ -240,7 +242,7 @@ GoesOn config = Along (guest_of config) (IsKnown config)
 plain : (config : Settings) (n a : ℕ) {k : ℕ} {lines : List Line} {memory : Bytes}
     {values values' : List Value} {i j : Instruction} {rest rest' : Sequence} {kept : List Kept}
     {r : ProcessState} → HasLines a lines
-    → rule (guest_of config).program (inside memory values (Plain i rest))
+    → counted_step (guest_of config).program (inside memory values (Plain i rest))
     ≡ Goes (inside memory values' (Plain j rest'))
     → GoesOn config (n + 1) a (after config (n + 1) (a + 0) lines (inside memory values'
     (Plain j rest'))) kept k r
@@ -250,12 +252,12 @@ plain config n a {lines = lines} {memory = memory} {values = values}
     {values' = values'} {i = i} {j = j} {rest = rest} {rest' = rest'} has e along =
     let before : Configuration = inside memory values (Plain i rest) in
     let behind : Configuration = inside memory values' (Plain j rest') in
-    let h : host.Host = record (host_of config) { lines = lines } in
+    let h : host.WasiState = record (host_of config) { lines = lines } in
     goes (record {
       sync = λ s. absurd (goes_syncs_not (guest_of config) before behind h n a a e s);
       lines = has;
     }) (leads_on (guest_of config) (after config n a lines before) None behind h refl tt
-    (ap (λ o. after_rule (guest_of config) o None before h) e) refl) along
+    (ap (λ o. after_counted_step (guest_of config) o None before h) e) refl) along
 
 -- so many steps more
 abbrev seven_more : ℕ → ℕ
@@ -268,7 +270,7 @@ to_failure config along =
     plain config 0 0 (inl refl) refl (plain config 1 0 (inl refl) refl
     (plain config 2 0 (inl refl) refl (plain config 3 0 (inl refl) refl
     (takes (record { sync = λ s. absurd (reads_no_sync config s); lines = inl refl })
-    (leads_on (guest_of config) _ (Some abc) _ _ refl (kind.Request, wants config, abc_fits)
+    (leads_on (guest_of config) _ (Some abc) _ _ refl (question.Request, wants config, abc_fits)
     (reads config) refl)
     (plain config 5 1 (inl refl) refl (plain config 6 1 (inl refl) refl along))))))
 

@@ -9,7 +9,7 @@ use Rattle.wasm_semantics.specs.laws.Examples.{rest_behind_call, const_32, v}
 use Rattle.wasi_abi.specs.declared.call.Call.TheVariants as call
 use Rattle.wasi_abi.specs.declared.version.Version.TheVariants.{Two}
 use Rattle.wasi_abi.specs.rules.Configs.{Settings}
-use Rattle.wasi_calls_rules.specs.Rows.{row}
+use Rattle.wasi_calls_rules.specs.CallRules.{call_rule}
 use Rattle.process_rules.specs.Processes.{ProcessState, Exited, host_of}
 use Rattle.process_rules.specs.Runs.{Wider, widened, Moves, Runs, Reaches, none, step, widen}
 use Rattle.process_rules.specs.Behind.{AnswersBehindLine}
@@ -29,7 +29,7 @@ use Rattle.process_rules.proofs.Quiet.{runs_join}
 
 -- the call that writes the line
 written : (config : Settings)
-    → row call.FdWrite (1 ∷ 0 ∷ 1 ∷ 16 ∷ []) None first_memory
+    → call_rule call.FdWrite (1 ∷ 0 ∷ 1 ∷ 16 ∷ []) None first_memory
     (record (host_of config) { version = Two })
     ≡ Ok (record {
       memory = last_memory;

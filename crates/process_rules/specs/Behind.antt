@@ -7,12 +7,12 @@ use Rattle.wasm_syntax.specs.declared.value.Value.{Value}
 use Rattle.wasm_syntax.specs.declared.module.Module.{Module}
 use Rattle.wasm_semantics.specs.Types.{number_in}
 use Rattle.wasm_semantics.specs.Configuration.{Thread, Asks}
-use Rattle.wasm_semantics.specs.Steps.{rule}
+use Rattle.wasm_semantics.specs.Steps.{counted_step}
 use Rattle.wasi_abi.specs.declared.call.Call.{Call}
 use Rattle.wasi_abi.specs.rules.Configs.{Settings}
-use Rattle.wasi_calls_rules.specs.Hosts.{Line}
+use Rattle.wasi_calls_rules.specs.WasiStates.{Line}
 use Rattle.wasi_calls_rules.specs.Checks.{Done}
-use Rattle.wasi_calls_rules.specs.Rows.{row, IsSync}
+use Rattle.wasi_calls_rules.specs.CallRules.{call_rule, IsSync}
 use Rattle.process_rules.specs.Processes.{ProcessState, Guest}
 use Rattle.process_rules.specs.Runs.{Kept, Wider, Reaches}
 
@@ -32,7 +32,7 @@ pub record AnswersBehindLine (m : Module) (config : Settings) (kept : List Kept)
   pub up_to : IsNarrowTo (drop a kept) steps
   pub emitted : i ≤ length process.host.lines
 
--- line i, counted from 1, of what a front of the kept answers leads to
+-- line i, counted from 1, of what a prefix of the kept answers leads to
 pub record IsLine (m : Module) (config : Settings) (kept : List Kept) (i : ℕ)
     (line : Line) : Type 0 where
   pub answers : ℕ
@@ -52,11 +52,11 @@ pub record Syncs (guest : Guest) (p : ProcessState) : Type 0 where
   pub call : Call
   pub done : Done
   pub running : p.ended ≡ None
-  pub asks : rule guest.program p.configuration ≡ Asks function arguments waits
+  pub asks : counted_step guest.program p.configuration ≡ Asks function arguments waits
   pub is_call : slice_get guest.calls function ≡ Some call
   pub is_sync : IsSync call
-  pub answers_zero : row call (reverse (map number_in arguments)) None p.configuration.store.memory
-      p.host ≡ Ok done
+  pub answers_zero : call_rule call (reverse (map number_in arguments)) None
+      p.configuration.store.memory p.host ≡ Ok done
 
 -- the first a of the kept answers, exactly, lead to the guest sync that is step k
 pub record AnswersBehindSync (m : Module) (config : Settings) (kept : List Kept)

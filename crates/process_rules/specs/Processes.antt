@@ -12,7 +12,7 @@ use Rattle.wasi_abi.specs.declared.call.Call.{Call}
 use Rattle.wasi_abi.specs.rules.Configs.{Settings}
 use Rattle.wasi_abi.specs.rules.Calls.{module_name, name_of}
 use Rattle.file_tree.specs.declared.limits.TheConstants.{UNIT_BYTES}
-use Rattle.wasi_calls_rules.specs.Hosts.{Host, first_host}
+use Rattle.wasi_calls_rules.specs.WasiStates.{WasiState, first_host}
 use Rattle.wasi_calls_rules.specs.Lines.{lines_ended}
 use Rattle.wasi_abi.specs.declared.version.Version.TheVariants.{One}
 use Rattle.std.specs.Prelude.{codes}
@@ -26,7 +26,7 @@ pub data Ending : Type 0 where
 -- `requests` those of them that are a request or the end of input.
 pub record ProcessState : Type 0 where
   pub configuration : Configuration
-  pub host : Host
+  pub host : WasiState
   pub steps : ℕ
   pub answers : ℕ
   pub requests : ℕ
@@ -46,13 +46,13 @@ AreCalls [] (c ∷ calls) = ⊥
 AreCalls (i ∷ imports) [] = ⊥
 
 -- Lines are numbered below 2 ^ 63 - 2: those that were emitted, and those that an end would emit.
-abbrev pub HasLineNumbers : Host → Type 0
+abbrev pub HasLineNumbers : WasiState → Type 0
 HasLineNumbers h = length (lines_ended h).lines + 2 < 2 ^ 63
 
 -- ---- the beginning
 
 -- the host with which a process begins under this configuration, in version 1
-abbrev pub host_of : Settings → Host
+abbrev pub host_of : Settings → WasiState
 host_of config =
     first_host (config.files * UNIT_BYTES) One config.arguments config.environment
 

@@ -7,8 +7,8 @@ use Rattle.wasm_syntax.specs.declared.module.Module.{Module}
 use Rattle.wasm_semantics.specs.Types.{number_in}
 use Rattle.wasm_semantics.specs.Configuration.{Configuration, Thread, Outcome, Goes, Traps, Asks}
 use Rattle.wasm_semantics.specs.Configuration.{Stuck}
-use Rattle.wasm_semantics.specs.Steps.{rule, answered, stopped, Settles}
-use Rattle.wasi_abi.specs.declared.answer.Kind.{Kind}
+use Rattle.wasm_semantics.specs.Steps.{counted_step, answered, stopped, ReducesTo}
+use Rattle.wasi_abi.specs.declared.answer.Question.{Question}
 use Rattle.wasi_abi.specs.declared.answer.Answer.{Answer}
 use Rattle.wasi_abi.specs.declared.answer.Answer.TheVariants as answer
 use Rattle.wasi_abi.specs.declared.call.Call.{Call}
@@ -19,20 +19,20 @@ use Rattle.wasi_abi.specs.rules.Answers.{Fits}
 use Rattle.wasi_abi.specs.declared.version.Version.{Version}
 use Rattle.wasi_abi.specs.declared.version.Version.TheVariants.{One, Two}
 use Rattle.wasi_abi.specs.rules.Versions.{text_limit}
-use Rattle.wasi_calls_rules.specs.Hosts.{Host}
-use Rattle.wasi_calls_rules.specs.Checks.{Refuses, Ends, Asks as Wishes, Ruling}
-use Rattle.wasi_calls_rules.specs.Rows.{row}
+use Rattle.wasi_calls_rules.specs.WasiStates.{WasiState}
+use Rattle.wasi_calls_rules.specs.Checks.{Refuses, Ends, Asks as Inquires, Ruling}
+use Rattle.wasi_calls_rules.specs.CallRules.{call_rule}
 use Rattle.process_rules.specs.Processes.{Ending, Exited, Trapped, ProcessState, Guest, IsStart}
 use Rattle.process_rules.specs.Processes.{over, closed}
 
 -- ---- one counted step
 
--- What a counted step leads to: a configuration that is then settled and a host, an end, or a wish
--- for an outside answer.
+-- What a counted step leads to: a configuration that is then reduced and a host, an end, or a
+-- question for an outside answer.
 pub data Next : Type 0 where
-  On : (configuration : Configuration) (host : Host) → Next
-  Over : (why : Ending) (configuration : Configuration) (host : Host) → Next
-  Wants : (kind : Kind) → Next
+  On : (configuration : Configuration) (host : WasiState) → Next
+  Over : (why : Ending) (configuration : Configuration) (host : WasiState) → Next
+  Wants : (question : Question) → Next
   Nowhere : Next
 
 -- what a call gives: its error number, but for the end of the process
@@ -40,35 +40,36 @@ abbrev pub given_by : Call → ℕ → List Value
 given_by call.ProcExit number = []
 given_by _ number = value.I32 number ∷ []
 
--- where a call's rule leads: on with its result or its error, to the end, or to a wish
-abbrev pub after_row : Call → Ruling → Configuration → Host → Thread → Next
-after_row c (Ok done) before h waits =
+-- where a call's rule leads: on with its result or its error, to the end, or to a question
+abbrev pub after_call_rule : Call → Ruling → Configuration → WasiState → Thread → Next
+after_call_rule c (Ok done) before h waits =
     On (answered before done.memory (given_by c 0) waits) done.host
-after_row c (Err (Refuses e)) before h waits =
+after_call_rule c (Err (Refuses e)) before h waits =
     On (answered before before.store.memory (given_by c (errno_number e)) waits) h
-after_row c (Err (Ends code)) before h waits = Over (Exited code) (stopped before) h
-after_row c (Err (Wishes kind)) before h waits = Wants kind
+after_call_rule c (Err (Ends code)) before h waits = Over (Exited code) (stopped before) h
+after_call_rule c (Err (Inquires question)) before h waits = Wants question
 
 -- where a call with these arguments leads; an import that is no call leads nowhere
-abbrev pub after_call : Option Call → List Value → Option Answer → Configuration → Host → Thread
-    → Next
+abbrev pub after_call : Option Call → List Value → Option Answer → Configuration
+    → WasiState → Thread → Next
 after_call None arguments given before h waits = Nowhere
 after_call (Some c) arguments given before h waits =
-    after_row c (row c (reverse (map number_in arguments)) given before.store.memory h) before h
-    waits
+    after_call_rule c (call_rule c (reverse (map number_in arguments)) given
+    before.store.memory h) before h waits
 
--- where the rule that applies leads: on, to a trap, or to a call of the host
-abbrev pub after_rule : Guest → Outcome → Option Answer → Configuration → Host → Next
-after_rule guest (Goes next) given before h = On next h
-after_rule guest (Traps why) given before h = Over (Trapped why) (stopped before) h
-after_rule guest (Asks f arguments waits) given before h =
+-- where the counted step that applies leads: on, to a trap, or to a call of the host
+abbrev pub after_counted_step : Guest → Outcome → Option Answer → Configuration → WasiState → Next
+after_counted_step guest (Goes next) given before h = On next h
+after_counted_step guest (Traps why) given before h = Over (Trapped why) (stopped before) h
+after_counted_step guest (Asks f arguments waits) given before h =
     after_call (slice_get guest.calls f) arguments given before h waits
-after_rule guest Stuck given before h = Nowhere
+after_counted_step guest Stuck given before h = Nowhere
 
 -- where the next thing of a process leads, given this answer or none
 abbrev pub next_of : Guest → ProcessState → Option Answer → Next
 next_of guest p given =
-    after_rule guest (rule guest.program p.configuration) given p.configuration p.host
+    after_counted_step guest (counted_step guest.program p.configuration) given
+    p.configuration p.host
 
 -- ---- a step of a process
 
@@ -84,7 +85,7 @@ request_taken (Some answer.End) = 1
 request_taken _ = 0
 
 -- the process after a step that took this answer, or none
-abbrev pub stepped : Option Answer → Configuration → Host → ProcessState → ProcessState
+abbrev pub stepped : Option Answer → Configuration → WasiState → ProcessState → ProcessState
 stepped given c h p = record {
   configuration = c;
   host = h;
@@ -94,22 +95,22 @@ stepped given c h p = record {
   ended = None;
 }
 
--- where the next thing leads, the rules that aren't counted included
+-- where the next thing leads, the administrative steps included
 abbrev pub LeadsTo : Guest → Next → Option Answer → ProcessState → ProcessState → Type 0
-LeadsTo guest (On c h) given p q = (settled : Configuration) × Settles guest.program c settled
-    × (q ≡ closed (stepped given settled h p))
+LeadsTo guest (On c h) given p q = (reduced : Configuration) × ReducesTo guest.program c reduced
+    × (q ≡ closed (stepped given reduced h p))
 LeadsTo guest (Over why c h) given p q = q ≡ over why (stepped given c h p)
-LeadsTo guest (Wants kind) given p q = ⊥
+LeadsTo guest (Wants question) given p q = ⊥
 LeadsTo guest Nowhere given p q = ⊥
 
 -- The answer that a step takes is one that it wants: none where it goes on without, else one that
 -- fits.
 abbrev pub IsWanted : Guest → ProcessState → Option Answer → Type 0
 IsWanted guest p None = Unit {0}
-IsWanted guest p (Some a) = (kind : Kind) × (next_of guest p None ≡ Wants kind)
-    × Fits (text_limit p.host.version) kind a
+IsWanted guest p (Some a) = (question : Question) × (next_of guest p None ≡ Wants question)
+    × Fits (text_limit p.host.version) question a
 
--- One counted step, with the rules that settle it. A process that has ended takes none.
+-- One counted step, with the steps that reduce it. A process that has ended takes none.
 pub record Moves (guest : Guest) (p : ProcessState) (given : Option Answer) (q : ProcessState) :
     Type 0 where
   pub running : p.ended ≡ None

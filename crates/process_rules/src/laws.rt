@@ -4,10 +4,10 @@ ghost use Rattle.std.specs.Prelude.{List};
 ghost use Rattle.process_rules.specs.laws.Laws.{OneProcess, OneProcessRun, RunsJoin, RunsCount};
 ghost use Rattle.process_rules.specs.laws.Laws.{RunsEmit, QuietRunsJoin, QuietRunsAreRuns};
 ghost use Rattle.process_rules.specs.laws.Laws.{WideningIsAll, WidenedOnce};
-ghost use Rattle.process_rules.specs.laws.Laws.{RulesAreQuiet, LastRuleEnds, TrapEnds};
+ghost use Rattle.process_rules.specs.laws.Laws.{StepsAreQuiet, LastStepEnds, TrapEnds};
 ghost use Rattle.process_rules.specs.laws.Laws.{ReachedAreConfigured, NodesAreFew};
 ghost use Rattle.process_rules.specs.laws.Laws.{ReachedVersions, ReachedInputIsShort};
-ghost use Rattle.process_rules.specs.laws.Laws.{ReachedHaveHosts};
+ghost use Rattle.process_rules.specs.laws.Laws.{ReachedHaveWasiStates};
 ghost use Rattle.process_rules.specs.laws.Laws.{ReachedAreCounted, ReachedAreClosed};
 ghost use Rattle.process_rules.specs.laws.Laws.{ReachedAreTyped};
 ghost use Rattle.wasi_abi.specs.rules.Configs.{Settings};
@@ -51,16 +51,16 @@ pub fn quiet_runs_join()
 {}
 
 /// After rules that ask the host for nothing, and don't end the process, nothing is owed.
-pub fn rules_are_quiet()
-    ensures { RulesAreQuiet }
+pub fn steps_are_quiet()
+    ensures { StepsAreQuiet }
 {}
 
-/// The rule that leads to the program's end is the last step.
-pub fn last_rule_ends()
-    ensures { LastRuleEnds }
+/// The counted step that leads to the program's end is the last step.
+pub fn last_step_ends()
+    ensures { LastStepEnds }
 {}
 
-/// So is the rule that traps.
+/// So is the counted step that traps.
 pub fn trap_ends()
     ensures { TrapEnds }
 {}
@@ -76,14 +76,13 @@ pub fn reached_hosts_are_bounded()
 {}
 
 /// A reached process has counted its steps and its answers: one a step at most, and its widening.
-/// It has ended exactly where its program
-/// has come to its end, and has then no unfinished line.
+/// It has ended exactly where its program has come to its end, and has then no unfinished line.
 pub fn reached_processes_are_counted()
     ensures counted { ReachedAreCounted }
     ensures closed { ReachedAreClosed }
 {}
 
-/// What a valid module reaches that can be linked is typed and settled, and exits with a code of 32
+/// What a valid module reaches that can be linked is typed and reduced, and exits with a code of 32
 /// bits.
 pub fn reached_processes_are_typed()
     ensures { ReachedAreTyped }
@@ -91,7 +90,7 @@ pub fn reached_processes_are_typed()
 
 /// What a valid module reaches has a host, where its arguments and environment are bytes.
 pub fn reached_processes_have_hosts()
-    ensures { ReachedHaveHosts }
+    ensures { ReachedHaveWasiStates }
 {}
 
 /// Whole modules come to their ends, under any configuration. One writes a line and exits with a

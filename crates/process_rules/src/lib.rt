@@ -21,10 +21,10 @@
 //!   a step at most, and its widening (`counted`). It has ended exactly where its program has
 //!   (`closed`).
 //! - `reached_processes_are_typed`: what a valid module reaches that can be linked is typed and
-//!   settled, and the code of its exit has 32 bits.
+//!   reduced, and the code of its exit has 32 bits.
 //! - `quiet_runs_join`: steps after which nothing is owed join (`joined`), and are a run without
 //!   answers that emits no line (`runs`).
-//! - `rules_are_quiet`, `last_rule_ends`, `trap_ends`: rules that ask the host for nothing leave
+//! - `steps_are_quiet`, `last_step_ends`, `trap_ends`: rules that ask the host for nothing leave
 //!   nothing owed, up to the end or a trap.
 //! - `worked_examples`: what four whole modules come to, under any configuration. A fifth shows the
 //!   exact step and answers of its one sync and of its one line (`syncing`).
@@ -43,13 +43,13 @@
 //!
 //! There is no code here but the empty functions of `laws`. Nothing here knows positions, slots,
 //! fuel, generations or sectors. `process`, `ephemeral_worker`, `wasmhost_commands`, `state_image`
-//! and `restart_theorem` cite the definitions. They stand on those of `wasm_semantics` and
+//! and `restart_theorem` cite the definitions. They are on those of `wasm_semantics` and
 //! `wasi_calls_rules`. The crate takes no memory, and has no errors.
 //!
 //! # Choices
 //!
 //! - **Steps, answers and requests are in the process state.** The kept answers are a list of a
-//!   type of their own (`Kept`). That a process was widened stands among them, and counts as one.
+//!   type of their own (`Kept`). That a process was widened is among them, and counts as one.
 //! - **Demands are by covering**: on so many answers, or fewer, a line is emitted. No minimum is
 //!   ever computed.
 #![tactic(auto)]

@@ -7,8 +7,9 @@ use process::{Process, ProcessEnd, ProcessFault, Stop};
 use record_replay::{AnswerList, LineList};
 use std::alloc::Global;
 use std::test::Fail;
-use wasi_abi::{Answer, Config, Kind};
-use wasm_syntax::Row;
+use wasi_abi::{Answer, Config, Question};
+use wasi_calls_rules::OutputStream;
+use wasm_syntax::ItemList;
 
 /// Reads a line, writes it, and goes on until nothing is read.
 pub(crate) const ECHO: [&str; 9] = [
@@ -25,7 +26,7 @@ pub(crate) const ECHO: [&str; 9] = [
 
 /// One page, one file unit, 64 journal sectors and no argument.
 pub(crate) fn config(alloc: Global) -> Result<Config, Fail> {
-    Ok(Config::new(1, 1, 64, Row::new(alloc), Row::new(alloc))?)
+    Ok(Config::new(1, 1, 64, ItemList::new(alloc), ItemList::new(alloc))?)
 }
 
 /// A worker of a module, before its first step.
@@ -47,13 +48,13 @@ fn echo(alloc: Global) -> Result<Process, Fail> {
 }
 
 pub(crate) fn hello(alloc: Global) -> Result<Answer, Fail> {
-    let text = Row::from_vec(Vec::from_slice(alloc, b"hello")?);
+    let text = ItemList::from_vec(Vec::from_slice(alloc, b"hello")?);
     Ok(Answer::Request { text })
 }
 
 /// Whether it asks for a request.
 fn asks(process: &mut Process) -> bool {
-    process.advance(100) == Ok(Stop::Asks(Kind::Request))
+    process.advance(100) == Ok(Stop::Asks(Question::Request))
 }
 
 /// Whether it refuses a time.
@@ -66,13 +67,15 @@ fn has_taken(process: &Process, steps: u64, answers: u64) -> bool {
     process.steps() == steps && process.answers() == answers
 }
 
-/// Whether it owes one line, `hello` on stream 1.
+/// Whether it owes one line, `hello` on stdout.
 fn owes_hello(process: &mut Process) -> bool {
     let stop = process.advance(100);
     let waiting = process.waiting();
     stop == Ok(Stop::Owes)
         && waiting.len() == 1
-        && waiting.iter().all(|line| line.stream() == 1 && line.text() == b"hello".as_slice())
+        && waiting.iter().all(|line| {
+            line.stream() == OutputStream::Stdout && line.text() == b"hello".as_slice()
+        })
 }
 
 /// Whether it takes `hello`, and owes it.

@@ -202,7 +202,7 @@ fn faults(rt: HostRuntime) -> Result<(), Fail> {
 }
 
 /// Imports that the host doesn't offer, or with another type; a byte of data at the last place of
-/// memory, and one behind it; as many pages as `check` allows, and one more.
+/// memory, and one after it; as many pages as `check` allows, and one more.
 static HOST: [Row; 6] = [
     (
         &[HEADER, TYPES, UNKNOWN_CALL, BEHIND_IMPORTS],
@@ -294,12 +294,12 @@ fn status_of(alloc: Global, bytes: &[u8]) -> u8 {
     check_bytes(alloc, bytes, &mut Printer::new(Vec::new(alloc), false))
 }
 
-/// The length of `ECHO`, and the place behind its code section, where a module may end as well.
+/// The length of `ECHO`, and the place after its code section, where a module may end as well.
 const ECHO_LENGTH: usize = 193;
 
 const CODE_END: usize = 173;
 
-/// Whether a front of `ECHO` is accepted where it should be, and else refused.
+/// Whether a prefix of `ECHO` is accepted where it should be, and else refused.
 fn is_front_told_so(alloc: Global, bytes: &[u8], end: usize) -> bool {
     let is_whole = end == CODE_END || end == ECHO_LENGTH;
     match bytes.get(..end) {
@@ -321,7 +321,7 @@ fn fronts(rt: HostRuntime) -> Result<(), Fail> {
     Ok(())
 }
 
-/// The statuses of the small module and of a front of it, both in one room of 8 bytes.
+/// The statuses of the small module and of a prefix of it, both in one room of 8 bytes.
 fn statuses_without_room(alloc: Global) -> [u8; 2] {
     let mut room = [0u8; 8];
     let room: &mut [u8] = &mut room;
@@ -348,7 +348,7 @@ fn accept_small(alloc: Global) -> Result<(), Refused> {
 }
 
 /// `scripts/runs/refused-allocations` refuses each allocation in turn, and then the status is that
-/// of want of memory.
+/// of out of memory.
 #[test]
 fn small_module(rt: HostRuntime) -> Result<(), Fail> {
     accept_small(rt.alloc())?;

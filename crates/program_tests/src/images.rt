@@ -4,11 +4,11 @@ use crate::asking::{ECHO, create_worker};
 use crate::check::bytes_of;
 use ephemeral_worker::{EphemeralWorker, SliceFault};
 use record_replay::{AnswerList, LineList, NumberedLine};
-use state_image::write_image;
+use state_image::write_process_image;
 use std::alloc::Global;
 use std::test::Fail;
 use wasi_abi::Answer;
-use wasm_syntax::Row;
+use wasm_syntax::ItemList;
 
 /// Both requests are taken, and both lines are told, after so many steps.
 const STEPS: u64 = 42;
@@ -16,12 +16,12 @@ const STEPS: u64 = 42;
 /// What two slices of `echo` on two requests come to.
 #[derive(Drop)]
 struct Sliced {
-    image: Vec<u8>,
+    process_image: Vec<u8>,
     told: LineList,
 }
 
 fn request(alloc: Global, text: &[u8]) -> Result<Answer, Fail> {
-    let text = Row::from_vec(Vec::from_slice(alloc, text)?);
+    let text = ItemList::from_vec(Vec::from_slice(alloc, text)?);
     Ok(Answer::Request { text })
 }
 
@@ -55,16 +55,16 @@ fn run(
     let ran = slice_twice(worker, first, &mut source, told);
     drop(source);
     ran?;
-    Ok(write_image(alloc, worker.process())?)
+    Ok(write_process_image(alloc, worker.process())?)
 }
 
 fn in_two_slices(alloc: Global, wasm: &[u8], first: u64) -> Result<Sliced, Fail> {
     let mut worker = create_worker(alloc, wasm)?;
     let mut told = LineList::new(alloc);
-    let image = run(alloc, &mut worker, first, &mut told);
+    let process_image = run(alloc, &mut worker, first, &mut told);
     drop(worker);
     Ok(Sliced {
-        image: image?,
+        process_image: process_image?,
         told,
     })
 }
@@ -80,7 +80,7 @@ fn are_same_lines(some: &[NumberedLine], others: &[NumberedLine]) -> bool {
 }
 
 fn are_alike(parts: &Sliced, whole: &Sliced) -> bool {
-    parts.image.as_slice() == whole.image.as_slice()
+    parts.process_image.as_slice() == whole.process_image.as_slice()
         && are_same_lines(parts.told.lines(), whole.told.lines())
 }
 

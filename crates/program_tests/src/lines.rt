@@ -5,7 +5,8 @@ use std::alloc::{AllocError, Global};
 use std::io::{self, BufRead, ErrorKind, Read, Write};
 use std::test::Fail;
 use std::time::{Clock, Duration};
-use wasi_abi::{Answer, Kind, Version};
+use wasi_abi::{Answer, Question, Version};
+use wasi_calls_rules::OutputStream;
 use wasmhost_commands::{
     BufferedLines, LineFault, LineOutlet, Outside, Request, RequestSource, read_request, seeded,
 };
@@ -81,15 +82,20 @@ impl Write for Flushed {
     }
 }
 
-/// A line's number, stream and text, and all that is out behind it.
-static RELEASED: [(u64, u8, &[u8], &[u8]); 3] = [
-    (1, 1, b"hi", b"1 o hi\n"),
-    (2, 2, b"", b"1 o hi\n2 e \n"),
-    (3, 1, b"\xff", b"1 o hi\n2 e \n3 o \xff\n"),
+/// A line's number, stream and text, and all that is out after it.
+static RELEASED: [(u64, OutputStream, &[u8], &[u8]); 3] = [
+    (1, OutputStream::Stdout, b"hi", b"1 o hi\n"),
+    (2, OutputStream::Stderr, b"", b"1 o hi\n2 e \n"),
+    (
+        3,
+        OutputStream::Stdout,
+        b"\xff",
+        b"1 o hi\n2 e \n3 o \xff\n",
+    ),
 ];
 
 /// Whether a release is answered well, puts this out, and is the write of its number.
-fn prints_so(outlet: &mut LineOutlet<Flushed>, row: &(u64, u8, &[u8], &[u8])) -> bool {
+fn prints_so(outlet: &mut LineOutlet<Flushed>, row: &(u64, OutputStream, &[u8], &[u8])) -> bool {
     outlet.release(row.0, row.1, row.2) == Ok(())
         && outlet.writer().out.as_slice() == row.3
         && outlet.writer().writes == row.0
@@ -102,7 +108,8 @@ fn flushed_outlet(alloc: Global) -> Result<LineOutlet<Flushed>, AllocError> {
 
 /// Whether nothing waits for a flush after the release of a line.
 fn leaves_none(outlet: &mut LineOutlet<Flushed>, number: u64, text: &[u8]) -> bool {
-    outlet.release(number, 1, text) == Ok(()) && outlet.writer().waiting.is_empty()
+    outlet.release(number, OutputStream::Stdout, text) == Ok(())
+        && outlet.writer().waiting.is_empty()
 }
 
 /// Each line is out after its release, by one write, an empty and a long one too.
@@ -126,7 +133,7 @@ fn prints_with_memory(rt: HostRuntime) -> Result<(), LineFault> {
     let Ok(mut outlet) = LineOutlet::new(rt.alloc(), &mut rest) else {
         return Err(LineFault::Memory);
     };
-    assert!(rt; outlet.release(u64::MAX, 2, &[b'x'; 4096]) == Ok(()));
+    assert!(rt; outlet.release(u64::MAX, OutputStream::Stderr, &[b'x'; 4096]) == Ok(()));
     drop(outlet);
     Ok(())
 }
@@ -136,13 +143,13 @@ fn a_full_writer_is_a_fault(rt: HostRuntime) -> Result<(), Fail> {
     let mut room = [0; 4];
     let mut rest = room.as_mut_slice();
     let mut outlet = LineOutlet::new(rt.alloc(), &mut rest)?;
-    assert!(rt; outlet.release(1, 1, b"hi") == Err(OutletFault));
+    assert!(rt; outlet.release(1, OutputStream::Stdout, b"hi") == Err(OutletFault));
     drop(outlet);
     Ok(())
 }
 
-/// What is said of a request, as a letter and, behind `t`, the first byte of a text: `e` for
-/// the end, `-` for no answer, `!` for a fault.
+/// What is said of a request, as a letter and, after `t`, the first byte of a text: `e` for the
+/// end, `-` for no answer, `!` for a fault.
 fn letters(said: &Result<Option<Answer>, SourceFault>) -> (u8, Option<u8>) {
     let Ok(found) = said else {
         return (b'!', None);
@@ -177,7 +184,7 @@ pub const OUTSIDE: Outside = Outside {
     clock: Some(5),
 };
 
-/// A source over the lines of a reader, behind so many requests.
+/// A source over the lines of a reader, after so many requests.
 fn source_over<R: BufRead + Drop>(
     alloc: Global,
     reader: R,
@@ -193,7 +200,7 @@ fn collect_answers<R: BufRead + Drop>(
     out: &mut Vec<u8>,
 ) -> Result<(), AllocError> {
     for _ in 0..times {
-        let (letter, first) = letters(&source.answer(Kind::Request));
+        let (letter, first) = letters(&source.answer(Question::Request));
         out.push(letter)?;
         if let Some(first) = first {
             out.push(first)?;
@@ -287,7 +294,7 @@ fn a_failed_read_is_a_fault(rt: HostRuntime) -> Result<(), Fail> {
 /// Whether the first request of a line is answered, and the fault.
 fn answer_to(alloc: Global, line: &[u8]) -> (bool, Option<LineFault>) {
     let mut source = source_over(alloc, line, 0);
-    let answer = source.answer(Kind::Request);
+    let answer = source.answer(Question::Request);
     let is_answered = answer.is_ok();
     drop(answer);
     let fault = source.fault();
@@ -295,8 +302,8 @@ fn answer_to(alloc: Global, line: &[u8]) -> (bool, Option<LineFault>) {
     (is_answered, fault)
 }
 
-/// `scripts/runs/refused-allocations` refuses each allocation in turn, and then the fault is want
-/// of memory.
+/// `scripts/runs/refused-allocations` refuses each allocation in turn, and then the fault is out of
+/// memory.
 #[test]
 fn answers_with_memory(rt: HostRuntime) -> Result<(), LineFault> {
     let (is_answered, fault) = answer_to(rt.alloc(), b"1 r hi\n");
@@ -357,7 +364,7 @@ fn refuses_a_longer_text(rt: HostRuntime) -> Result<(), Fail> {
 /// The number of a last request.
 const LAST: u64 = 9_223_372_036_854_775_806;
 
-/// How many requests were taken, a front, how many `x` and what behind them, what is said of three
+/// How many requests were taken, a front, how many `x` and what after them, what is said of three
 /// requests, and the fault.
 type Long = (
     u64,
@@ -384,8 +391,8 @@ fn says_long_so(alloc: Global, row: &Long) -> Result<bool, AllocError> {
     Ok(said.0.as_slice() == row.4 && said.1 == row.5)
 }
 
-/// Lines of each number, long enough that a request of their own seems to stand where the
-/// reader stops.
+/// Lines of each number, long enough that a request of their own seems to be where the reader
+/// stops.
 #[test]
 fn no_part_of_a_line_is_read(rt: HostRuntime) -> Result<(), Fail> {
     for row in &LONG {
@@ -405,9 +412,9 @@ fn is_random(said: &Result<Option<Answer>, SourceFault>, wanted: &[u8]) -> bool 
     }
 }
 
-/// Whether a source gives these bytes for a wish of so many.
+/// Whether a source gives these bytes for a question of so many.
 fn draws_so(source: &mut Bare, length: u32, wanted: &[u8]) -> bool {
-    let said = source.answer(Kind::Random { length });
+    let said = source.answer(Question::Random { length });
     is_random(&said, wanted)
 }
 
@@ -416,7 +423,7 @@ const WORDS: [u8; 16] = [
     0xef, 0x3f, 0xdf, 0xd6, 0xc6, 0x15, 0x78, 0xfb, 0xf5, 0xcf, 0x35, 0xbd, 0x3d, 0xd3, 0x3b, 0x80,
 ];
 
-/// A word is four bytes, of which a wish drops those that it doesn't want.
+/// A word is four bytes, of which a question drops those that it doesn't want.
 #[test]
 fn draws_word_after_word(rt: HostRuntime) -> Result<(), Fail> {
     let mut source = source_over(rt.alloc(), b"".as_slice(), 0);
@@ -450,16 +457,16 @@ fn time_in(said: &Result<Option<Answer>, SourceFault>) -> Option<u64> {
 }
 
 /// The time that a source gives, or none.
-fn time_of(source: &mut Bare, kind: Kind) -> Option<u64> {
-    let said = source.answer(kind);
+fn time_of(source: &mut Bare, question: Question) -> Option<u64> {
+    let said = source.answer(question);
     time_in(&said)
 }
 
 #[test]
 fn shows_the_fixed_time(rt: HostRuntime) -> Result<(), Fail> {
     let mut source = source_over(rt.alloc(), b"".as_slice(), 0);
-    for kind in [Kind::Realtime, Kind::Monotonic, Kind::Realtime] {
-        assert!(rt; time_of(&mut source, kind) == Some(5), "{kind:?}");
+    for question in [Question::Realtime, Question::Monotonic, Question::Realtime] {
+        assert!(rt; time_of(&mut source, question) == Some(5), "{question:?}");
     }
     drop(source);
     Ok(())
@@ -505,8 +512,8 @@ fn shows_clock(alloc: Global, row: &(u64, u32, u64)) -> bool {
         ..OUTSIDE
     };
     let mut source = RequestSource::new(alloc, reader, clock, outside, 0);
-    let realtime = source.answer(Kind::Realtime);
-    let monotonic = source.answer(Kind::Monotonic);
+    let realtime = source.answer(Question::Realtime);
+    let monotonic = source.answer(Question::Monotonic);
     drop(source);
     time_in(&realtime) == Some(row.2) && time_in(&monotonic) == Some(row.2)
 }
@@ -521,9 +528,9 @@ fn shows_the_time_of_the_clock(rt: HostRuntime) -> Result<(), Fail> {
 
 /// Whether it shows no time, has this fault, and refuses a request from then on.
 fn has_failed(source: &mut Bare, fault: LineFault) -> bool {
-    time_of(source, Kind::Realtime).is_none()
+    time_of(source, Question::Realtime).is_none()
         && source.fault() == Some(fault)
-        && source.answer(Kind::Request).is_err()
+        && source.answer(Question::Request).is_err()
 }
 
 #[test]

@@ -310,8 +310,8 @@ fn whole_run(rt: HostRuntime) -> Result<(), Refused> {
 }
 
 /// The status of `hello` in so much room for its line, and so much for its last words.
-fn status_within(alloc: Global, room: usize, left: usize) -> Result<Option<u8>, Fail>
-    requires { (room ≤ 32) × (left ≤ 32) }
+fn status_within(alloc: Global, room: usize, words_left: usize) -> Result<Option<u8>, Fail>
+    requires { (room ≤ 32) × (words_left ≤ 32) }
 {
     let mut disk = fresh_disk(alloc, &HELLO)?;
     let pace = pace_of(100, EVERY)?;
@@ -322,7 +322,7 @@ fn status_within(alloc: Global, room: usize, left: usize) -> Result<Option<u8>, 
         &mut disk,
         pace,
         &mut lines[..room],
-        &mut words[..left],
+        &mut words[..words_left],
     ) {
         Ok(status) => Ok(Some(status)),
         Err(_) => Ok(None),

@@ -36,7 +36,7 @@ pub(crate) struct Unwatched;
 impl Watcher for Unwatched {
     ghost use Rattle.std.specs.Prelude.{true};
 
-    ghost is_told = { λ _ _ _. true };
+    ghost is_notified = { λ _ _ _. true };
 
     fn tell(&self, _worker: &Worker, _now: Now) {}
 }
@@ -56,7 +56,7 @@ fn status_on<E: Write + Drop>(
 /// Whether the error output is a terminal, and what is told there.
 type Told = (bool, &'static str);
 
-/// The request of `echo` is taken in step 6, and nothing is kept behind it. So that many steps are
+/// The request of `echo` is taken in step 6, and nothing is kept after it. So that many steps are
 /// replayed. The creation is generation 1.
 static TOLD: [Told; 2] = [
     (
@@ -107,7 +107,7 @@ static AHEAD: Run = (
     6,
 );
 
-/// What stands on the disk behind both runs: each of them saves as it opens and as it ends.
+/// What is on the disk after both runs: each of them saves as it opens and as it ends.
 const BEHIND: Shown = Shown {
     out: "generation 5 steps 49 answers 2 lines 2 records 0 version 1\n",
     err: "",

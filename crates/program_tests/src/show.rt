@@ -135,7 +135,7 @@ pub(crate) fn fresh_disk(alloc: Global, texts: &[&str]) -> Result<MemDisk, Fail>
     Ok(disk)
 }
 
-/// The disk of `echo` behind one slice, in which it has taken a request and told its line. Nothing
+/// The disk of `echo` after one slice, in which it has taken a request and told its line. Nothing
 /// was saved since the creation.
 pub(crate) fn after_one_slice(alloc: Global) -> Result<MemDisk, Fail> {
     let mut disk = zeros(alloc)?;
@@ -151,8 +151,8 @@ fn is_shown(alloc: Global, course: &Course) -> Result<bool, Fail> {
     Ok(shows(alloc, &mut disk, &course.shown) && shows(alloc, &mut disk, &course.shown))
 }
 
-/// The request is taken in step 6, and its line is told in step 20. A record stands behind the
-/// snapshot until the next one is taken.
+/// The request is taken in step 6, and its line is told in step 20. A record is after the snapshot
+/// until the next one is taken.
 static COURSES: [Course; 5] = [
     Course {
         fuel: 0,

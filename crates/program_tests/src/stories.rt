@@ -210,7 +210,7 @@ fn judge_story(status: u8, out: &[u8], err: &[u8]) -> Result<(), Refused> {
 }
 
 /// `scripts/runs/refused-allocations` refuses each allocation in turn. Then nothing is printed and
-/// the status is that of want of memory, or a life is told that has ended for it. The script, the
+/// the status is that of out of memory, or a life is told that has ended for it. The script, the
 /// module and what is printed take no memory here.
 #[test]
 fn a_story_with_memory(rt: HostRuntime) -> Result<(), Refused> {

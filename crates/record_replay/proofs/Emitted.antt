@@ -3,9 +3,9 @@ use Rattle.std.proofs.Common.{◌≡◌, ℕ, suc, ◌+◌, ◌-◌, ◌≤◌, 
 use Rattle.std.proofs.Common.{sym, ◌∙◌, ap, subst, Err, arith, append_assoc, length-append}
 use Rattle.std.proofs.lemmas.List.{append-nil, drop_all, drop-append-le, length-drop}
 use Rattle.std.proofs.Math.Seq.{drop-append_seam}
-use Rattle.wasi_calls_rules.specs.Hosts.{Line, Host}
+use Rattle.wasi_calls_rules.specs.WasiStates.{Line, WasiState}
 use Rattle.wasi_calls_rules.specs.laws.Laws.{Emits}
-use Rattle.wasi_calls.specs.rules.Held.{HeldHost, ShowsHost}
+use Rattle.wasi_calls.specs.rules.Held.{HeldWasiState, ShowsWasiState}
 use Rattle.process_rules.specs.Processes.{ProcessState, Guest}
 use Rattle.process.specs.rules.Values.{ProcessValue, ShowsProcess, waiting_in}
 use Rattle.record_replay.specs.rules.Calls.{Taking, Begun, Released, Releases, all_taken}
@@ -27,13 +27,14 @@ same_cut (x ∷ a) b (y ∷ c) d e n =
     same_cut a b c d tails sizes
 
 -- where no line waited, those that wait are those that were emitted
-pub lines_on : (old new : HeldHost) (g h : Host) → ShowsHost old g → ShowsHost new h → Emits g h
-    → old.host.lines ≡ [] → new.released ≡ old.released → h.lines ≡ g.lines ++ new.host.lines
+pub lines_on : (old new : HeldWasiState) (g h : WasiState) → ShowsWasiState old g
+    → ShowsWasiState new h → Emits g h → old.host.lines ≡ [] → new.released ≡ old.released → h.lines
+    ≡ g.lines ++ new.host.lines
 lines_on old new g h s t emits empty same =
-    let lines_g : g.lines ≡ s.before ++ old.host.lines = ap (λ (z : Host). z.lines) s.is in
+    let lines_g : g.lines ≡ s.before ++ old.host.lines = ap (λ (z : WasiState). z.lines) s.is in
     let before_g : g.lines ≡ s.before = lines_g ∙ ap (λ z. s.before ++ z) empty
     ∙ append-nil s.before in
-    let lines_h : h.lines ≡ t.before ++ new.host.lines = ap (λ (z : Host). z.lines) t.is in
+    let lines_h : h.lines ≡ t.before ++ new.host.lines = ap (λ (z : WasiState). z.lines) t.is in
     let both : g.lines ++ emits.lines ≡ t.before ++ new.host.lines = sym emits.are ∙ lines_h in
     let sizes : length g.lines ≡ length t.before = ap length before_g ∙ s.count ∙ sym same
     ∙ sym t.count in
@@ -41,10 +42,11 @@ lines_on old new g h s t emits empty same =
     ∙ ap (λ z. g.lines ++ z) (same_cut g.lines emits.lines t.before new.host.lines both sizes)
 
 -- how many lines were released, where so many were and others wait
-pub released_count : (v : HeldHost) (h : Host) (front told : List Line) → ShowsHost v h
-    → h.lines ≡ front ++ (told ++ v.host.lines) → v.released ≡ length front + length told
+pub released_count : (v : HeldWasiState) (h : WasiState) (front told : List Line)
+    → ShowsWasiState v h → h.lines ≡ front ++ (told ++ v.host.lines) → v.released
+    ≡ length front + length told
 released_count v h front told s e =
-    let lines : h.lines ≡ s.before ++ v.host.lines = ap (λ (z : Host). z.lines) s.is in
+    let lines : h.lines ≡ s.before ++ v.host.lines = ap (λ (z : WasiState). z.lines) s.is in
     let one : length h.lines ≡ length s.before + length v.host.lines =
     ap length lines ∙ length-append s.before v.host.lines in
     let two : length h.lines ≡ length front + length (told ++ v.host.lines) =
@@ -59,7 +61,7 @@ released_count v h front told s e =
 module _ (v : ProcessValue) (guest : Guest) (p : ProcessState) (shows : ShowsProcess v guest p)
   where
     emitted : p.host.lines ≡ shows.host.before ++ waiting_in v
-    emitted = ap (λ (z : Host). z.lines) shows.host.is
+    emitted = ap (λ (z : WasiState). z.lines) shows.host.is
 
     -- no more were released than were emitted
     pub released_few : v.host.released ≤ length p.host.lines
@@ -78,7 +80,7 @@ module _ (v : ProcessValue) (guest : Guest) (p : ProcessState) (shows : ShowsPro
         let count = shows.host.count in
         omega arith
 
-    -- those that wait are behind the released ones
+    -- those that wait are after the released ones
     pub waiting_behind : drop v.host.released p.host.lines ≡ waiting_in v
     waiting_behind =
         let same : v.host.released ≡ length shows.host.before = sym shows.host.count in
@@ -140,9 +142,9 @@ module _ {O : Type 0} (takes : Taking O) where
 
     size : suc released + length before ≡ suc (length p.host.lines)
     size =
-        let left : length before ≡ length p.host.lines - released =
+        let count_left : length before ≡ length p.host.lines - released =
         length-drop released p.host.lines in
-        omega (arith, left, few)
+        omega (arith, count_left, few)
 
     in_order : (lines : List Line) → all_taken (suc released) (before ++ lines)
         ≡ all_taken (suc released) before ++ all_taken (suc (length p.host.lines)) lines

@@ -1,7 +1,7 @@
 -- Lists of calls follow one another.
 use Rattle.std.proofs.Common.{◌≡◌, ℕ, ◌+◌, List, [], ◌∷◌, ◌++◌, length, refl, Ok, sym, ap, subst}
 use Rattle.std.proofs.Common.{arith}
-use Rattle.wasi_calls_rules.specs.Hosts.{Line}
+use Rattle.wasi_calls_rules.specs.WasiStates.{Line}
 use Rattle.record_replay.specs.rules.Calls.{Leads, Giving, Taking, Asked, Released, AnswersInOrder}
 use Rattle.record_replay.specs.rules.Calls.{Releases, Exchange, Asks, Tells, asks_of, releases_of}
 use Rattle.record_replay.specs.rules.Calls.{Exchanges, all_taken}

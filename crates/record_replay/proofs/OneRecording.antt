@@ -150,10 +150,10 @@ fits guest p last next others recorded nowhere =
 from_here : (guest : Guest) (p last q : ProcessState) (rest : List Record) (n : ℕ)
     → Recorded guest p rest last → Runs guest p [] n q → n ≤ steps_before p rest
     → Emits q.host last.host × NextFits guest p rest
-from_here guest p last q [] n recorded runs few = (standing, tt)
+from_here guest p last q [] n recorded runs few = (emits_nothing, tt)
   where
-    standing : Emits q.host last.host
-    standing =
+    emits_nothing : Emits q.host last.host
+    emits_nothing =
         let none_left : n ≡ 0 = omega (arith, few) in
         let here : p ≡ q = runs_once guest p p q [] 0 no_step
         (subst (λ z. Runs guest p [] z q) none_left runs) in

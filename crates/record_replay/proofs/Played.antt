@@ -58,23 +58,23 @@ module _ {O : Type 0} (takes : Taking O) (v w x : ProcessValue) (entry : Record)
       let next = here guest p shows in
       omega arith
 
-  abbrev stands : (guest : Guest) (p : ProcessState) (shows : ShowsProcess v guest p)
+  abbrev replays_up_to : (guest : Guest) (p : ProcessState) (shows : ShowsProcess v guest p)
       → ReplaysUpTo guest p (entry ∷ [])
-  stands guest p shows =
+  replays_up_to guest p shows =
       let g = on guest p shows in
       let next = number guest p shows in
       up_to guest p g.process g.steps entry g.runs (omega arith)
 
   pub copied_in_vain : ReplaysInVain takes v (entry ∷ []) fault.Memory o o'
   copied_in_vain guest p shows =
-      (stands guest p shows, ((on guest p shows).told, inr (here guest p shows)))
+      (replays_up_to guest p shows, ((on guest p shows).told, inr (here guest p shows)))
 
   pub given_in_vain : (why : ProcessFault) → GivesAnswer w entry.answer (Err why) x
       → ReplaysInVain takes v (entry ∷ []) (replay_fault why) o o'
   given_in_vain stop.WrongAnswer gives guest p shows =
       let g = on guest p shows in
       let refused = gives guest g.process g.shows in (
-        stands guest p shows,
+        replays_up_to guest p shows,
         (
           g.told,
           inl (refused_fits_nowhere guest p g.process g.steps entry g.runs
@@ -86,12 +86,12 @@ module _ {O : Type 0} (takes : Taking O) (v w x : ProcessValue) (entry : Record)
       let g = on guest p shows in
       let refused = gives guest g.process g.shows in
       let next = here guest p shows in
-      (stands guest p shows, (g.told, inl (refused.2, omega arith, refused.3)))
+      (replays_up_to guest p shows, (g.told, inl (refused.2, omega arith, refused.3)))
   given_in_vain stop.StepsSpent gives guest p shows =
       let g = on guest p shows in
       let refused = gives guest g.process g.shows in
       let next = here guest p shows in (
-        stands guest p shows,
+        replays_up_to guest p shows,
         (
           g.told,
           inr (

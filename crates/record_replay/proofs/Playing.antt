@@ -4,7 +4,7 @@ use Rattle.std.proofs.Common.{◌++◌, length, Option, Some, None, Ok, Err, ref
 use Rattle.std.proofs.Common.{subst, arith, length-append}
 use Rattle.std.specs.Prelude.{if◌then◌else◌, Bool}
 use Rattle.std.proofs.lemmas.Bool.{eq-eqb, ne_eqb}
-use Rattle.wasi_abi.specs.declared.answer.Kind.{Kind}
+use Rattle.wasi_abi.specs.declared.answer.Question.{Question}
 use Rattle.wasi_abi.specs.declared.answer.Answer.{Answer}
 use Rattle.disk_layout.specs.declared.record.Record.{Record}
 use Rattle.process_rules.specs.Processes.{ProcessState, Guest}
@@ -49,9 +49,9 @@ due_before p next less =
     too_large n m less e = omega (arith, less, e)
 
 -- where an answer is wanted, no step goes on without
-wants_still : (guest : Guest) (q : ProcessState) (kind : Kind)
-    → next_of guest q None ≡ Wants kind → (r : ProcessState) → Moves guest q None r → ⊥
-wants_still guest q kind wants r moves =
+wants_still : (guest : Guest) (q : ProcessState) (question : Question)
+    → next_of guest q None ≡ Wants question → (r : ProcessState) → Moves guest q None r → ⊥
+wants_still guest q question wants r moves =
     let stopped : LeadsTo guest (next_of guest q None) None q r = moves.leads in
     (rw wants at stopped)
 
@@ -123,8 +123,8 @@ module _ {O : Type 0} (takes : Taking O) where
         (g.0.told, inl (behind_fits_nowhere guest p entry first)),
       )
 
-  module _ (v w x : ProcessValue) (entry : Record) (left : ℕ) (o o' : O)
-      (going : Going v w entry o o') (is_left : w.steps + suc left ≡ entry.step)
+  module _ (v w x : ProcessValue) (entry : Record) (fuel_left : ℕ) (o o' : O)
+      (going : Going v w entry o o') (is_fuel_left : w.steps + suc fuel_left ≡ entry.step)
       (same : x.host.released ≡ w.host.released) where
     abbrev at : (guest : Guest) (p : ProcessState) → ShowsProcess v guest p
         → RunsOnward takes v w guest p o o'
@@ -132,7 +132,7 @@ module _ {O : Type 0} (takes : Taking O) where
 
     -- how many steps more can be taken
     room : (guest : Guest) (p : ProcessState) (shows : ShowsProcess v guest p)
-        → suc (p.steps + ((at guest p shows).steps + left)) ≡ entry.step
+        → suc (p.steps + ((at guest p shows).steps + fuel_left)) ≡ entry.step
     room guest p shows =
         let g = at guest p shows in
         let counted = runs_count guest p g.process [] g.steps g.runs in
@@ -159,7 +159,7 @@ module _ {O : Type 0} (takes : Taking O) where
         }
 
     abbrev stops_at : (guest : Guest) (p : ProcessState) (shows : ShowsProcess v guest p)
-        (come : ComesQuietly x guest (at guest p shows).process) → come.steps ≤ left
+        (come : ComesQuietly x guest (at guest p shows).process) → come.steps ≤ fuel_left
         → ReplaysUpTo guest p (entry ∷ [])
     stops_at guest p shows come few =
         let on = quietly guest p shows come in
@@ -175,7 +175,7 @@ module _ {O : Type 0} (takes : Taking O) where
         let counted = runs_count guest p on.process [] on.steps on.runs in
         omega arith
 
-    pub spent : IsProcess w → AdvancesProcess w left (Ok stops.Spent) x
+    pub spent : IsProcess w → AdvancesProcess w fuel_left (Ok stops.Spent) x
         → RunsToStep takes entry.step v x o o'
     spent some advances =
         let one = advances some.guest some.process some.shows in
@@ -192,24 +192,24 @@ module _ {O : Type 0} (takes : Taking O) where
               (advances guest (at guest p shows).process (at guest p shows).shows).1;
         }
 
-    pub asks : (kind : Kind) → AdvancesProcess w left (Ok (stops.Asks kind)) x
+    pub asks : (question : Question) → AdvancesProcess w fuel_left (Ok (stops.Asks question)) x
         → ReplaysInVain takes v (entry ∷ []) fault.Diverged o o'
-    asks kind advances guest p shows =
+    asks question advances guest p shows =
         let stop = advances guest (at guest p shows).process (at guest p shows).shows in
         let on = quietly guest p shows stop.1 in
         let whole = room guest p shows in
         let less = stop.2 in
-        let few : stop.1.steps ≤ left = omega arith in
+        let few : stop.1.steps ≤ fuel_left = omega arith in
         let before : suc (p.steps + on.steps) < entry.step = omega arith in (
           stops_at guest p shows stop.1 few,
           (
             on.told,
             inl (still_fits_nowhere guest p on.process on.steps entry on.runs
-                (wants_still guest on.process kind stop.4) before),
+                (wants_still guest on.process question stop.4) before),
           ),
         )
 
-    pub ended : (how : ProcessEnd) → AdvancesProcess w left (Ok (stops.Ended how)) x
+    pub ended : (how : ProcessEnd) → AdvancesProcess w fuel_left (Ok (stops.Ended how)) x
         → ReplaysInVain takes v (entry ∷ []) fault.Diverged o o'
     ended how advances guest p shows =
         let stop = advances guest (at guest p shows).process (at guest p shows).shows in
@@ -239,7 +239,7 @@ module _ {O : Type 0} (takes : Taking O) where
 
     -- ---- where no step could be taken
 
-    pub cannot_advance : (why : ProcessFault) → AdvancesProcess w left (Err why) x
+    pub cannot_advance : (why : ProcessFault) → AdvancesProcess w fuel_left (Err why) x
         → ReplaysInVain takes v (entry ∷ []) (replay_fault why) o o'
     cannot_advance stop.WrongAnswer advances guest p shows =
         absurd (advances guest (at guest p shows).process (at guest p shows).shows)
@@ -249,7 +249,7 @@ module _ {O : Type 0} (takes : Taking O) where
         let whole = room guest p shows in
         let number = next_step guest p shows stop.1 in
         let less = stop.2 in
-        let few : stop.1.steps ≤ left = omega arith in
+        let few : stop.1.steps ≤ fuel_left = omega arith in
         let before : on.process.steps < entry.step = omega arith in (
           stops_at guest p shows stop.1 few,
           (on.told, inl (stop.3, before, stop.4)),
@@ -260,7 +260,7 @@ module _ {O : Type 0} (takes : Taking O) where
         let whole = room guest p shows in
         let number = next_step guest p shows stop.1 in
         let less = stop.2 in
-        let few : stop.1.steps ≤ left = omega arith in
+        let few : stop.1.steps ≤ fuel_left = omega arith in
         let before : on.process.steps < entry.step = omega arith in
         let not_yet : suc on.process.steps < entry.step = omega arith in (
           stops_at guest p shows stop.1 few,
@@ -277,8 +277,9 @@ module _ {O : Type 0} (takes : Taking O) where
 
     -- ---- what is owed
 
-    abbrev owing : AdvancesProcess w left (Ok stops.Owes) x → (guest : Guest) (q : ProcessState)
-        → ShowsProcess w guest q → (come : ComesOwing x guest q) × (come.steps < left)
+    abbrev owing : AdvancesProcess w fuel_left (Ok stops.Owes) x
+        → (guest : Guest) (q : ProcessState) → ShowsProcess w guest q
+        → (come : ComesOwing x guest q) × (come.steps < fuel_left)
     owing advances guest q shows =
         elim (advances guest q shows) [
           | inl k ↦ absurd (k.0 going.none_waits)
@@ -305,7 +306,7 @@ module _ {O : Type 0} (takes : Taking O) where
         runs_join guest p g.process come.process [] [] g.steps (come.steps + 1) g.runs
         (owing_runs x guest g.process come)
 
-    pub owes : (y : ProcessValue) (o'' : O) → AdvancesProcess w left (Ok stops.Owes) x
+    pub owes : (y : ProcessValue) (o'' : O) → AdvancesProcess w fuel_left (Ok stops.Owes) x
         → ReleasesAll takes x y o' o'' → Going v y entry o o''
     owes y o'' advances all = record {
       none_waits = released_none takes x y o' o'' all;
@@ -334,7 +335,7 @@ module _ {O : Type 0} (takes : Taking O) where
 
     -- less is left
     pub owes_less : (y : ProcessValue) (o'' : O) → IsProcess w
-        → AdvancesProcess w left (Ok stops.Owes) x → ReleasesAll takes x y o' o''
+        → AdvancesProcess w fuel_left (Ok stops.Owes) x → ReleasesAll takes x y o' o''
         → (w.steps < y.steps) × (y.steps < entry.step)
     owes_less y o'' some advances all =
         let come = owing advances some.guest some.process some.shows in
@@ -347,7 +348,7 @@ module _ {O : Type 0} (takes : Taking O) where
         let less = come.1 in
         (omega arith, omega arith)
 
-    pub owes_in_vain : (y : ProcessValue) (o'' : O) → AdvancesProcess w left (Ok stops.Owes) x
+    pub owes_in_vain : (y : ProcessValue) (o'' : O) → AdvancesProcess w fuel_left (Ok stops.Owes) x
         → ReleasesSome takes x y o' o'' → ReplaysInVain takes v (entry ∷ []) fault.Outlet o o''
     owes_in_vain y o'' advances some guest p shows =
         let g = at guest p shows in

@@ -5,7 +5,8 @@ use Rattle.std.specs.Prelude.{Bool, true, false, Result}
 use Rattle.std.specs.Result.{is_err}
 use Rattle.std.proofs.lemmas.List.{take_more, length-take-le}
 use Rattle.std.proofs.Math.Seq.{split_at}
-use Rattle.wasi_calls_rules.specs.Hosts.{Line}
+use Rattle.wasi_calls_rules.specs.WasiStates.{Line}
+use Rattle.wasi_calls_rules.specs.declared.output_stream.OutputStream.{OutputStream}
 use Rattle.record_replay.specs.declared.fault.OutletFault.{OutletFault}
 use Rattle.record_replay.specs.rules.Calls.{Taking, Begun, Released, Releases, all_taken}
 use Rattle.record_replay.proofs.Following.{leads_on, tells_on}
@@ -24,10 +25,10 @@ refused_or_not (Ok done) b is fault = absurd (cc)
 refused_or_not (Err e) b is fault = refl
 
 module _ {O : Type 0} (takes : Taking O) (v : ProcessValue) (o p q : O) (lines : List Line)
-    (i count stream : ℕ) (text : List ℕ) (line : Line) (said : Result (Unit {0}) OutletFault)
-    (b : Bool) (waiting : lines ≡ waiting_in v) (counted : count ≡ lines_in v)
-    (within : i < length lines) (at : line ≡ get_or lines i line)
-    (same_stream : stream ≡ line.stream) (same_text : text ≡ line.text)
+    (i count : ℕ) (stream : OutputStream) (text : List ℕ) (line : Line)
+    (said : Result (Unit {0}) OutletFault) (b : Bool) (waiting : lines
+    ≡ waiting_in v) (counted : count ≡ lines_in v) (within : i < length lines) (at : line
+    ≡ get_or lines i line) (same_stream : stream ≡ line.stream) (same_text : text ≡ line.text)
     (told : Releases takes o (all_taken (first_waiting v) (take i (waiting_in v))) p)
     (is_told : takes p ((count - length lines) + i + 1)
     (record { stream = stream; text = text }) said q) (tells : b ≡ is_err said) where

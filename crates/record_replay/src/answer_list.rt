@@ -5,13 +5,13 @@ ghost use Rattle.std.specs.Prelude.{◌≡◌};
 use crate::{Source, SourceFault};
 use std::collections::VecDeque;
 use std::marker::Model;
-use wasi_abi::{Answer, Kind};
+use wasi_abi::{Answer, Question};
 
 /// Answers that are handed out in their order, whatever is asked for. Contracts see the list of
 /// those that are left. It never fails, and handing one out takes no memory.
 #[derive(Debug, Drop)]
 pub struct AnswerList {
-    left: VecDeque<Answer>,
+    answers_left: VecDeque<Answer>,
 }
 
 impl Model for AnswerList {
@@ -20,7 +20,7 @@ impl Model for AnswerList {
 
     ghost Value = { List Answer };
 
-    ghost view = { λ a. a.left.items };
+    ghost view = { λ a. a.answers_left.items };
 }
 
 impl AnswerList {
@@ -29,7 +29,7 @@ impl AnswerList {
         ensures { result ≡ answers.items }
     {
         AnswerList {
-            left: VecDeque::from(answers),
+            answers_left: VecDeque::from(answers),
         }
     }
 }
@@ -39,7 +39,7 @@ impl Source for AnswerList {
 
     ghost gives = { λ old _ said new. HandsOut old said new };
 
-    fn answer(&mut self, _kind: Kind) -> Result<Option<Answer>, SourceFault> {
-        Ok(self.left.pop_front())
+    fn answer(&mut self, _question: Question) -> Result<Option<Answer>, SourceFault> {
+        Ok(self.answers_left.pop_front())
     }
 }

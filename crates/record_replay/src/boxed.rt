@@ -1,7 +1,8 @@
 //! Any source and any outlet, in boxes that `main` or a test makes.
 
 use crate::{Outlet, OutletFault, Source, SourceFault};
-use wasi_abi::{Answer, Kind};
+use wasi_abi::{Answer, Question};
+use wasi_calls_rules::OutputStream;
 
 /// A source that is known only when the program runs. It means what the source in the box means.
 #[derive(Drop)]
@@ -11,11 +12,11 @@ impl Source for AnySource {
     ghost use Rattle.std.specs.Prelude.{◌≡◌};
 
     // The source in the box answered, and the box holds what it became.
-    ghost gives = { λ s kind said after. (x : _) × (Source-box s.0).gives s.0.value kind said x
-        × (after ≡ record s { 0 = record s.0 { value = x } }) };
+    ghost gives = { λ s question said after. (x : _) × (Source-box s.0).gives s.0.value
+        question said x × (after ≡ record s { 0 = record s.0 { value = x } }) };
 
-    fn answer(&mut self, kind: Kind) -> Result<Option<Answer>, SourceFault> {
-        (*self.0).answer(kind)
+    fn answer(&mut self, question: Question) -> Result<Option<Answer>, SourceFault> {
+        (*self.0).answer(question)
     }
 }
 
@@ -31,7 +32,12 @@ impl Outlet for AnyOutlet {
         × (Outlet-box o.0).takes o.0.value number line said x
         × (after ≡ record o { 0 = record o.0 { value = x } }) };
 
-    fn release(&mut self, number: u64, stream: u8, text: &[u8]) -> Result<(), OutletFault> {
+    fn release(
+        &mut self,
+        number: u64,
+        stream: OutputStream,
+        text: &[u8],
+    ) -> Result<(), OutletFault> {
         (*self.0).release(number, stream, text)
     }
 }

@@ -1,4 +1,4 @@
-//! What stands outside a worker: where its answers come from, and where its lines go. Also the
+//! What is outside a worker: where its answers come from, and where its lines go. Also the
 //! replay of answers that are on record (this project's own).
 //!
 //! # Promises
@@ -36,11 +36,11 @@
 //!
 //! A source or an outlet keeps for its owner what it met; its fault says only that it failed. No
 //! value stores a history. Only `release_waiting` releases lines of a process: in a replay, and in
-//! a slice of `ephemeral_worker` or `worker`, which also ask through the traits. `wasmhost_commands`
-//! implements them. The crate stands on `process`, and on the records of `disk_layout`. `LineList`
-//! takes memory; where that is wanting, it keeps what it had. A replay takes some for a copy of
-//! each answer, and its process for calls of the host. After an error of a replay its process is
-//! dropped.
+//! a slice of `ephemeral_worker` or `worker`, which also ask through the traits.
+//! `wasmhost_commands` implements them. The crate uses `process`, and the records of `disk_layout`.
+//! `LineList` takes memory; where that is wanting, it keeps what it had. A replay takes some for a
+//! copy of each answer, and its process for calls of the host. After an error of a replay its
+//! process is dropped.
 //!
 //! # Choices
 //!

@@ -5,17 +5,18 @@ ghost use Rattle.std.specs.Prelude.{◌≡◌, [], ◌++◌, ◌∷◌};
 use crate::{Outlet, OutletFault};
 use std::alloc::Global;
 use std::marker::Model;
-use wasm_syntax::Row;
+use wasi_calls_rules::OutputStream;
+use wasm_syntax::ItemList;
 
-/// A line, its number from 1 on, and the stream, 1 or 2, that it was written to.
+/// A line, its number from 1 on, and the stream that it was written to.
 #[derive(Debug, Drop)]
 pub struct NumberedLine {
     pub number: u64,
-    pub stream: u8,
-    pub text: Row<u8>,
+    pub stream: OutputStream,
+    pub text: ItemList<u8>,
 }
 
-/// The lines that were released to it, in order. Contracts see their list. It fails only for want
+/// The lines that were released to it, in order. Contracts see their list. It fails only when out
 /// of memory, and then it keeps what it had.
 #[derive(Debug, Drop)]
 pub struct LineList {
@@ -54,14 +55,19 @@ impl Outlet for LineList {
 
     ghost takes = { λ old number line said new. KeepsLine old number line said new };
 
-    fn release(&mut self, number: u64, stream: u8, text: &[u8]) -> Result<(), OutletFault> {
+    fn release(
+        &mut self,
+        number: u64,
+        stream: OutputStream,
+        text: &[u8],
+    ) -> Result<(), OutletFault> {
         let Ok(text) = text.to_vec(self.alloc) else {
             return Err(OutletFault);
         };
         let line = NumberedLine {
             number,
             stream,
-            text: Row::from_vec(text),
+            text: ItemList::from_vec(text),
         };
         match self.lines.push(line) {
             Ok(()) => Ok(()),

@@ -3,6 +3,7 @@
 ghost use Rattle.std.specs.Prelude.{◌≡◌};
 
 use crate::{Outlet, OutletFault};
+use wasi_calls_rules::OutputStream;
 
 /// Hands every line on to the outlet inside. One of the releases, counted from 1, it answers by a
 /// fault, whatever the outlet inside said.
@@ -43,7 +44,12 @@ impl<O: Outlet> Outlet for RefusingOutlet<O> {
 
     ghost takes = { λ old number line said new. Refuses O.takes old number line said new };
 
-    fn release(&mut self, number: u64, stream: u8, text: &[u8]) -> Result<(), OutletFault> {
+    fn release(
+        &mut self,
+        number: u64,
+        stream: OutputStream,
+        text: &[u8],
+    ) -> Result<(), OutletFault> {
         let said = self.inner.release(number, stream, text);
         let is_refused = self.until_fault == 1;
         self.until_fault = self.until_fault.saturating_sub(1);

@@ -14,7 +14,7 @@ use process::{Process, Stop};
 use std::alloc::Global;
 
 /// Runs a process to where its records lead, and releases each line that it emits on the way, or
-/// that waited. It takes the step of the last record, and none behind that. Gives the process, and
+/// that waited. It takes the step of the last record, and none after that. Gives the process, and
 /// how many steps were taken. After an error the process is dropped.
 pub fn replay<O: Outlet>(
     alloc: Global,
@@ -92,10 +92,10 @@ fn run_to_step<O: Outlet>(
         (λ why. ReplaysInVain O.takes process.old (entry.now ∷ []) why outlet.old outlet.new) }
 {
     loop {
-        let Some(left) = entry.step.checked_sub(process.steps() + 1) else {
+        let Some(fuel_left) = entry.step.checked_sub(process.steps() + 1) else {
             return Err(ReplayFault::Diverged);
         };
-        match process.advance(left)? {
+        match process.advance(fuel_left)? {
             Stop::Owes => release_waiting(process, outlet)?,
             Stop::Spent => return Ok(()),
             Stop::Asks(_) | Stop::Ended(_) => return Err(ReplayFault::Diverged),

@@ -1,21 +1,21 @@
 //! Where answers come from.
 
 use crate::SourceFault;
-use wasi_abi::{Answer, Kind};
+use wasi_abi::{Answer, Question};
 
 /// Whoever answers what a process asks of the outside. What a contract says of a source it says by
 /// one relation of each call, `gives`; lists of calls are folded with it.
 pub trait Source {
-    ghost use Rattle.wasi_abi.specs.declared.answer.Kind.{Kind};
+    ghost use Rattle.wasi_abi.specs.declared.answer.Question.{Question};
     ghost use Rattle.wasi_abi.specs.declared.answer.Answer.{Answer};
     ghost use Rattle.record_replay.specs.declared.fault.SourceFault.{SourceFault};
     ghost use Rattle.std.specs.Prelude.{Option, Result};
 
     // The source before, what was asked, what it said, and the source after.
-    ghost gives: { Self → Kind → Result (Option Answer) SourceFault → Self → Type 0 };
+    ghost gives: { Self → Question → Result (Option Answer) SourceFault → Self → Type 0 };
 
     /// The next answer, or none where there is none yet. Whether it fits what was asked is for the
     /// caller to look at.
-    fn answer(&mut self, kind: Kind) -> Result<Option<Answer>, SourceFault>
-        ensures { gives self.old kind result self.new };
+    fn answer(&mut self, question: Question) -> Result<Option<Answer>, SourceFault>
+        ensures { gives self.old question result self.new };
 }

@@ -12,15 +12,15 @@ use Rattle.wasi_abi.specs.rules.Configs.{Settings}
 use Rattle.wasi_abi.specs.rules.Versions.{version_number}
 use Rattle.process_rules.specs.Runs.{Kept, Runs}
 use Rattle.process_rules.proofs.Growing.{move_counts, runs_count, start_counts}
-use Rattle.process_rules.proofs.Hosted.{reached_versions}
+use Rattle.process_rules.proofs.ReachedStates.{reached_versions}
 use Rattle.process_rules.proofs.Quiet.{runs_join}
-use Rattle.state_image.specs.rules.Image.{image}
-use Rattle.sector_disk.specs.rules.Image.{Image, sector_at}
+use Rattle.state_image.specs.rules.ProcessImage.{process_image}
+use Rattle.sector_disk.specs.rules.DiskImage.{DiskImage, sector_at}
 use Rattle.disk_layout.specs.rules.Places.{Geometry, geometry_of, config_bytes, head_place}
 use Rattle.disk_layout.specs.rules.Places.{journal_place, total_sectors}
 use Rattle.disk_layout.specs.declared.superblock.TheConstants.{SUPER_END_MARK}
 use Rattle.disk_layout.specs.rules.Sectors.{IsMarked, super_bytes, stamp_of, shown_generation}
-use Rattle.disk_layout.specs.rules.Sectors.{HoldsImage}
+use Rattle.disk_layout.specs.rules.Sectors.{HoldsProcessImage}
 use Rattle.disk_layout.specs.rules.Journal.{is_of, payloads_from, scan}
 use Rattle.disk_layout.specs.declared.fault.LayoutFault.{LayoutFault}
 use Rattle.disk_layout.specs.declared.reading.contents.Contents.{Contents}
@@ -32,8 +32,10 @@ use Rattle.disk_layout.proofs.JournalLemmas.{is_of_other}
 use Rattle.record_replay.specs.rules.Records.{none as no_record, more, given_in}
 use Rattle.record_replay.proofs.Recordings.{recorded_runs}
 use Rattle.restart_theorem.specs.Stands.{ShowsNoneLater, StandsFor}
-use Rattle.restart_theorem.specs.laws.Disks.{StandsForWhatIsReached, RecordsAscend, StandsByItsParts}
-use Rattle.restart_theorem.specs.laws.Disks.{BlankStandsForNone, NoLaterImage, NoLaterPayload}
+use Rattle.restart_theorem.specs.laws.Disks.{StandsForWhatIsReached, RecordsAscend}
+use Rattle.restart_theorem.specs.laws.Disks.{StandsByItsParts}
+use Rattle.restart_theorem.specs.laws.Disks.{BlankStandsForNone, NoLaterProcessImage}
+use Rattle.restart_theorem.specs.laws.Disks.{NoLaterPayload}
 use Rattle.restart_theorem.specs.laws.Disks.{OneGeneration, tiny, tiny_disk, DiskExamples}
 use Rattle.restart_theorem.specs.laws.Disks.{OneSpelledWorker, StandsWithin, BlankIsWithin}
 use Rattle.restart_theorem.specs.laws.Disks.{HeadsTellWidenings}
@@ -90,8 +92,8 @@ stands_by_its_parts disk m config kept n stands =
       size = limits.size;
       pages = range.pages;
       worker = stands.worker;
-      image = subst (λ v. HoldsImage (geometry_of config (length stands.wasm)) disk
-          stands.generation (version_number v) (image stands.saved)) version stands.holds;
+      held_image = subst (λ v. HoldsProcessImage (geometry_of config (length stands.wasm)) disk
+          stands.generation (version_number v) (process_image stands.saved)) version stands.holds;
       records = sym (subst (λ v. scan (geometry_of config (length stands.wasm)) v disk
           stands.generation ≡ stands.records) version stands.scanned);
       kept_answers = stands.rest;
@@ -121,7 +123,7 @@ shown_where : (place : ℕ) (sector : List ℕ) → (stamp_of sector).place ≡ 
 shown_where place sector e = ap (λ (b : Bool). if b then (stamp_of sector).generation else 0)
     (eq-eqb (stamp_of sector).place place e)
 
-head_below : (geometry : Geometry) (disk : Image) (g x : ℕ) → x < 2
+head_below : (geometry : Geometry) (disk : DiskImage) (g x : ℕ) → x < 2
     → ShowsNoneLater geometry disk g → shown_generation 1 (sector_at disk (1 + x)) ≤ g
 head_below geometry disk g zero h shows = shows.first_head
 head_below geometry disk g (suc zero) h shows = shows.second_head
@@ -130,8 +132,8 @@ head_below geometry disk g (suc (suc x)) h shows = absurd (too_large x h)
     too_large : (x : ℕ) → suc (suc x) < 2 → ⊥
     too_large x h = omega (arith, h)
 
-pub no_later_image : NoLaterImage
-no_later_image geometry shape disk g h version bytes shows holds =
+pub no_later_process_image : NoLaterProcessImage
+no_later_process_image geometry shape disk g h version bytes shows holds =
     let below = head_below geometry disk g (h % 2) (omega arith) shows in
     let sector : List ℕ = sector_at disk (head_place h) in
     let same : h ≡ (stamp_of sector).generation = ap (λ z. z.generation) holds.newest.is in
@@ -139,9 +141,9 @@ no_later_image geometry shape disk g h version bytes shows holds =
 
 pub one_generation : OneGeneration
 one_generation disk m other config settings kept others n k left right =
-    let up = no_later_image _ _ disk right.generation left.generation _ _ right.none_later
+    let up = no_later_process_image _ _ disk right.generation left.generation _ _ right.none_later
     left.holds in
-    let down = no_later_image _ _ disk left.generation right.generation _ _ left.none_later
+    let down = no_later_process_image _ _ disk left.generation right.generation _ _ left.none_later
     right.holds in
     omega (arith, up, down)
 
@@ -154,7 +156,7 @@ contents_of config wasm = record {
 }
 
 -- so they are read on any disk that has room
-gives_contents : (disk : Image) (m : Module) (config : Settings) (kept : List Kept)
+gives_contents : (disk : DiskImage) (m : Module) (config : Settings) (kept : List Kept)
     (n sectors : ℕ) (stands : StandsFor disk m config kept n)
     → total_sectors (geometry_of config (length stands.wasm)) ≤ sectors
     → GivesContents sectors disk (Ok (contents_of config stands.wasm))
@@ -190,7 +192,7 @@ pub blank_is_within : BlankIsWithin
 blank_is_within disk latest sectors blank m config kept n stands =
     absurd (blank_stands_for_none disk m config kept n blank stands)
 
-no_payloads : (disk : Image) (h sector place count : ℕ)
+no_payloads : (disk : DiskImage) (h sector place count : ℕ)
     → is_of h place (sector_at disk sector) ≡ false → payloads_from disk h sector place count ≡ []
 no_payloads disk h sector place zero e = refl
 no_payloads disk h sector place (suc count) e = rw e refl

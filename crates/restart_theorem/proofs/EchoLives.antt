@@ -4,9 +4,9 @@ use Rattle.std.proofs.Common.{None, refl, sym, ap, ◌∙◌, subst, arith, leng
 use Rattle.std.proofs.lemmas.Option.{slice_get_within}
 use Rattle.wasm_syntax.specs.laws.Examples.{echo}
 use Rattle.wasi_abi.specs.rules.Configs.{Settings}
-use Rattle.wasi_abi.specs.declared.answer.Kind.{Kind}
-use Rattle.wasi_abi.specs.declared.answer.Kind.TheVariants as kind
-use Rattle.wasi_calls_rules.specs.Hosts.{Line}
+use Rattle.wasi_abi.specs.declared.answer.Question.{Question}
+use Rattle.wasi_abi.specs.declared.answer.Question.TheVariants as questions
+use Rattle.wasi_calls_rules.specs.WasiStates.{Line}
 use Rattle.process_rules.specs.Processes.{ProcessState, Guest}
 use Rattle.process_rules.specs.Runs.{Kept, Wants, Runs, Reaches, next_of, LeadsTo, none, step}
 use Rattle.process_rules.specs.Runs.{take, widen}
@@ -29,15 +29,15 @@ reaches_asking config = let asks = echo_asks config in record {
 -- ---- what is no life
 
 -- A process that wants an answer takes no step without one.
-stays_asking : (guest : Guest) (p q : ProcessState) (wish : Kind) (kept : List Kept) (n : ℕ)
-    → Runs guest p kept n q → kept ≡ [] → next_of guest p None ≡ Wants wish → q ≡ p
-stays_asking guest p q wish kept n (none {p = p'}) e asks = refl
-stays_asking guest p q wish kept n (step {p = p'} {q = q'} m rest) e asks =
+stays_asking : (guest : Guest) (p q : ProcessState) (question : Question) (kept : List Kept) (n : ℕ)
+    → Runs guest p kept n q → kept ≡ [] → next_of guest p None ≡ Wants question → q ≡ p
+stays_asking guest p q question kept n (none {p = p'}) e asks = refl
+stays_asking guest p q question kept n (step {p = p'} {q = q'} m rest) e asks =
     let stopped : LeadsTo guest (next_of guest p' None) None p' q' = m.leads in
     absurd (rw asks at stopped)
-stays_asking guest p q wish kept n (take {p = p'} m rest) e asks =
+stays_asking guest p q question kept n (take {p = p'} m rest) e asks =
     absurd (let none_taken = e in cc)
-stays_asking guest p q wish kept n (widen at rest) e asks = absurd (let none_taken = e in cc)
+stays_asking guest p q question kept n (widen at rest) e asks = absurd (let none_taken = e in cc)
 
 -- so before its first answer `echo` tells nothing
 no_line_unasked : (config : Settings) (n : ℕ) (p : ProcessState) → Reaches echo config [] n p
@@ -51,7 +51,7 @@ no_line_unasked config n p reached = go
 
     go : OneLeadsOn asks.guest asks.asking p [] [] → length p.host.lines ≡ 0
     go (inl on) =
-        let same = stays_asking asks.guest asks.asking p kind.Request on.kept on.steps on.runs
+        let same = stays_asking asks.guest asks.asking p questions.Request on.kept on.steps on.runs
         on.front asks.asks in
         ap (λ (z : ProcessState). length z.host.lines) same ∙ ap length asks.no_line
     go (inr on) =
@@ -62,10 +62,10 @@ no_line_unasked config n p reached = go
         omega (arith, counted, none_there)
 
 -- and what it then asks for is a request
-asks_a_request : (config : Settings) (n : ℕ) (p : ProcessState) (wish : Kind)
-    → (reached : Reaches echo config [] n p) → next_of reached.guest p None ≡ Wants wish
-    → wish ≡ kind.Request
-asks_a_request config n p wish reached wanted =
+asks_a_request : (config : Settings) (n : ℕ) (p : ProcessState) (question : Question)
+    → (reached : Reaches echo config [] n p) → next_of reached.guest p None ≡ Wants question
+    → question ≡ questions.Request
+asks_a_request config n p question reached wanted =
     go (fronts_lead_on echo config [] 0 0 n 5 p asks.asking echo_is_valid reached
     (reaches_asking config) tt tt)
   where
@@ -76,21 +76,22 @@ asks_a_request config n p wish reached wanted =
     guests = (start_once echo config reached.guest asks.guest reached.start asks.start
         echo_is_valid reached.begins asks.begins).0
 
-    asks_here : next_of reached.guest asks.asking None ≡ Wants kind.Request
-    asks_here = subst (λ g. next_of g asks.asking None ≡ Wants kind.Request) (sym guests) asks.asks
+    asks_here : next_of reached.guest asks.asking None ≡ Wants questions.Request
+    asks_here = subst (λ g. next_of g asks.asking None ≡ Wants questions.Request)
+        (sym guests) asks.asks
 
-    one_wish : (k : Kind) → Wants k ≡ Wants kind.Request → k ≡ kind.Request
-    one_wish k e = cc
+    one_question : (k : Question) → Wants k ≡ Wants questions.Request → k ≡ questions.Request
+    one_question k e = cc
 
-    is_request : p ≡ asks.asking → wish ≡ kind.Request
-    is_request same = one_wish wish (sym wanted
-        ∙ subst (λ z. next_of reached.guest z None ≡ Wants kind.Request) (sym same) asks_here)
+    is_request : p ≡ asks.asking → question ≡ questions.Request
+    is_request same = one_question question (sym wanted
+        ∙ subst (λ z. next_of reached.guest z None ≡ Wants questions.Request) (sym same) asks_here)
 
-    go : OneLeadsOn reached.guest p asks.asking [] [] → wish ≡ kind.Request
-    go (inl on) = is_request (sym (stays_asking reached.guest p asks.asking wish on.kept on.steps
-        on.runs on.front wanted))
-    go (inr on) = is_request (stays_asking reached.guest asks.asking p kind.Request on.kept on.steps
-        on.runs on.front asks_here)
+    go : OneLeadsOn reached.guest p asks.asking [] [] → question ≡ questions.Request
+    go (inl on) = is_request (sym (stays_asking reached.guest p asks.asking question
+        on.kept on.steps on.runs on.front wanted))
+    go (inr on) = is_request (stays_asking reached.guest asks.asking p questions.Request
+        on.kept on.steps on.runs on.front asks_here)
 
 -- a line that is told before any answer
 unasked_line : (config : Settings) (i : ℕ) (line : Line) → IsLine echo config [] i line → ⊥
@@ -102,7 +103,7 @@ unasked_line config i line is =
     let no_lines = no_line_unasked config is.steps is.process reached in
     omega (arith, there, no_lines)
 
--- a line behind no answer
+-- a line after no answer
 behind_none : (config : Settings) (kept : List Kept) (a : ℕ) → a ≤ 0
     → AnswersBehindLine echo config kept 1 a → ⊥
 behind_none config kept zero h behind =
@@ -111,11 +112,11 @@ behind_none config kept zero h behind =
     omega (arith, there, no_lines)
 behind_none config kept (suc a) h behind = omega (arith, h)
 
-wish_kept : (config : Settings) (kept : List Kept) (steps : ℕ) (wish : Kind) → kept ≡ []
+question_kept : (config : Settings) (kept : List Kept) (steps : ℕ) (question : Question) → kept ≡ []
     → (p : ProcessState) → (reached : Reaches echo config kept steps p)
-    → next_of reached.guest p None ≡ Wants wish → wish ≡ kind.Request
-wish_kept config kept steps wish empty p reached wants =
-    asks_a_request config steps p wish (record {
+    → next_of reached.guest p None ≡ Wants question → question ≡ questions.Request
+question_kept config kept steps question empty p reached wants =
+    asks_a_request config steps p question (record {
       guest = reached.guest;
       start = reached.start;
       begins = reached.begins;
@@ -130,6 +131,6 @@ echo_refusals_hold config = record {
   tells_unasked = λ so_far stage r is_taken empty is.
       unasked_line config r.number r.line
       (subst (λ z. IsLine echo config z r.number r.line) empty is.is_line);
-  asks_for_another = λ so_far stage steps wish said fits empty is.
-      wish_kept config so_far.kept steps wish empty is.process is.reached is.wants;
+  asks_for_another = λ so_far stage steps question said fits empty is.
+      question_kept config so_far.kept steps question empty is.process is.reached is.wants;
 }

@@ -22,8 +22,8 @@ opens_with : (m : Module) (config : Settings) (so_far : Promise) (a n : ℕ) (ev
 opens_with m config so_far a n [] kept h k = tt
 opens_with m config so_far a n (Told r t ∷ events) kept h k =
     opens_with m config (after so_far (Told r t)) a n events kept.1 h k
-opens_with m config so_far a n (Asked steps kind said fits ∷ events) kept h k =
-    opens_with m config (after so_far (Asked steps kind said fits)) a n events kept.1 h k
+opens_with m config so_far a n (Asked steps question said fits ∷ events) kept h k =
+    opens_with m config (after so_far (Asked steps question said fits)) a n events kept.1 h k
 opens_with m config so_far a n (Opened held shown ∷ events) kept h k =
     let more_answers : so_far.answers ≤ held = kept.0.kept.holds.answers in
     let more_steps : so_far.steps ≤ shown.steps = kept.0.kept.holds.steps_held in (
@@ -46,8 +46,8 @@ tells_beyond m config so_far n (Told r t ∷ events) kept h =
       omega (arith, h, beyond),
       tells_beyond m config (after so_far (Told r t)) n events kept.1 h,
     )
-tells_beyond m config so_far n (Asked steps kind said fits ∷ events) kept h =
-    tells_beyond m config (after so_far (Asked steps kind said fits)) n events kept.1 h
+tells_beyond m config so_far n (Asked steps question said fits ∷ events) kept h =
+    tells_beyond m config (after so_far (Asked steps question said fits)) n events kept.1 h
 tells_beyond m config so_far n (Opened held shown ∷ events) kept h =
     tells_beyond m config (after so_far (Opened held shown)) n events kept.1 (omega (arith, h))
 tells_beyond m config so_far n (Ended act reply held shown ∷ events) kept h =
@@ -80,16 +80,16 @@ syncs_held m config so_far k a (Opened count shown ∷ events) kept (inr held) =
       syncs_held m config (after so_far (Opened count shown)) k a events kept.1
           (inr (omega (arith, held))),
     )
-syncs_held m config so_far k a (Asked n kind said fits ∷ events) kept (inl held) =
+syncs_held m config so_far k a (Asked n question said fits ∷ events) kept (inl held) =
     let before : k ≤ so_far.synced = held.0 in
-    syncs_held m config (after so_far (Asked n kind said fits)) k a events kept.1
+    syncs_held m config (after so_far (Asked n question said fits)) k a events kept.1
     (inl (
       omega (arith, before),
       behind_more m config so_far.kept (kept_of_said said fits) k a (said_widens_none said fits k)
           held.1,
     ))
-syncs_held m config so_far k a (Asked n kind said fits ∷ events) kept (inr held) =
-    syncs_held m config (after so_far (Asked n kind said fits)) k a events kept.1 (inr held)
+syncs_held m config so_far k a (Asked n question said fits ∷ events) kept (inr held) =
+    syncs_held m config (after so_far (Asked n question said fits)) k a events kept.1 (inr held)
 syncs_held m config so_far k a (Ended act reply count shown ∷ events) kept (inl held) =
     let before : k ≤ so_far.synced = held.0 in
     syncs_held m config (after so_far (Ended act reply count shown)) k a events kept.1

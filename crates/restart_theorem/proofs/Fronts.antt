@@ -9,7 +9,7 @@ use Rattle.wasm_syntax.specs.declared.module.Module.{Module}
 use Rattle.wasm_semantics.specs.Validity.{IsValid}
 use Rattle.wasi_abi.specs.declared.answer.Answer.{Answer}
 use Rattle.wasi_abi.specs.rules.Configs.{Settings}
-use Rattle.wasi_calls_rules.specs.Hosts.{Line}
+use Rattle.wasi_calls_rules.specs.WasiStates.{Line}
 use Rattle.process_rules.specs.Processes.{ProcessState, Guest}
 use Rattle.process_rules.specs.Runs.{Kept, Given, Wider, widened, IsWidening, Moves, Runs, Reaches}
 use Rattle.process_rules.specs.Runs.{none, step, take as takes, widen}
@@ -261,7 +261,7 @@ none_widens (suc n) k = tt
 
 -- ---- what is kept more
 
--- a line stays the line of its number where a front is kept that is behind it
+-- a line stays the line of its number where a front is kept that is after it
 pub line_of_front : (m : Module) (config : Settings) (kept : List Kept) (i answers a : ℕ)
     (line : Line) → IsValid m → IsLine m config kept i line → a ≤ answers
     → AnswersBehindLine m config kept i a

@@ -6,8 +6,9 @@ use Rattle.std.proofs.lemmas.Option.{slice_get_within, same_Some}
 use Rattle.wasm_syntax.specs.laws.Examples.{hello}
 use Rattle.wasm_semantics.specs.Steps.{IsEnded}
 use Rattle.wasi_abi.specs.rules.Configs.{Settings}
-use Rattle.wasi_abi.specs.declared.answer.Kind.{Kind}
-use Rattle.wasi_calls_rules.specs.Hosts.{Line}
+use Rattle.wasi_abi.specs.declared.answer.Question.{Question}
+use Rattle.wasi_calls_rules.specs.WasiStates.{Line}
+use Rattle.wasi_calls_rules.specs.declared.output_stream.OutputStream.TheVariants.{Stdout, Stderr}
 use Rattle.process_rules.specs.Processes.{ProcessState, Guest, Exited}
 use Rattle.process_rules.specs.Runs.{Kept, Wants, Runs, Reaches, next_of, LeadsTo, none, step, take}
 use Rattle.process_rules.specs.Runs.{widen}
@@ -15,7 +16,7 @@ use Rattle.process_rules.specs.Behind.{IsNarrowTo, AnswersBehindLine, IsLine}
 use Rattle.process_rules.specs.laws.Examples.{hello_end}
 use Rattle.process_rules.proofs.ExamplesValid.{hello_is_valid}
 use Rattle.process_rules.proofs.ExamplesHold.{hello_ends}
-use Rattle.process_rules.proofs.Quiet.{no_rule}
+use Rattle.process_rules.proofs.Quiet.{none_counted}
 use Rattle.process_rules.proofs.Growing.{runs_emit}
 use Rattle.restart_theorem.specs.Lives.{Act, Slice, Checkpoint, Inputs, Over, Event, Told, Opened}
 use Rattle.restart_theorem.specs.Lives.{Ended}
@@ -82,7 +83,7 @@ hi_behind config i h =
 
 -- ---- what is no life
 
--- behind the end there is nothing
+-- after the end there is nothing
 end_stays : (guest : Guest) (p q : ProcessState) (kept : List Kept) (n : ℕ) → Runs guest p kept n q
     → kept ≡ [] → p.ended ≡ Some (Exited 7) → q ≡ p
 end_stays guest p q kept n (none {p = p'}) e over = refl
@@ -90,29 +91,29 @@ end_stays guest p q kept n (step {p = p'} m rest) e over = absurd (let running =
 end_stays guest p q kept n (take {p = p'} m rest) e over = absurd (let running = m.running in cc)
 end_stays guest p q kept n (widen at rest) e over = absurd (let nothing = e in cc)
 
-wants_nothing : (guest : Guest) (p : ProcessState) (kind : Kind) → IsEnded p.configuration
-    → next_of guest p None ≡ Wants kind → ⊥
-wants_nothing guest p kind rests wants =
-    let stuck = no_rule guest.program p.configuration rests in
+wants_nothing : (guest : Guest) (p : ProcessState) (question : Question) → IsEnded p.configuration
+    → next_of guest p None ≡ Wants question → ⊥
+wants_nothing guest p question rests wants =
+    let stuck = none_counted guest.program p.configuration rests in
     let asks = wants in
     let nowhere = (rw stuck at asks) in
     cc
 
 -- nor does anything want an answer that leads there without one
-wants_none : (guest : Guest) (p q : ProcessState) (kind : Kind) (kept : List Kept) (n : ℕ)
+wants_none : (guest : Guest) (p q : ProcessState) (question : Question) (kept : List Kept) (n : ℕ)
     → Runs guest p kept n q → kept ≡ [] → IsEnded q.configuration
-    → next_of guest p None ≡ Wants kind → ⊥
-wants_none guest p q kind kept n (none {p = p'}) e rests wants =
-    wants_nothing guest p' kind rests wants
-wants_none guest p q kind kept n (step {p = p'} {q = q'} m rest) e rests wants =
+    → next_of guest p None ≡ Wants question → ⊥
+wants_none guest p q question kept n (none {p = p'}) e rests wants =
+    wants_nothing guest p' question rests wants
+wants_none guest p q question kept n (step {p = p'} {q = q'} m rest) e rests wants =
     let stopped : LeadsTo guest (next_of guest p' None) None p' q' = m.leads in
     (rw wants at stopped)
-wants_none guest p q kind kept n (take {p = p'} m rest) e rests wants = cc
-wants_none guest p q kind kept n (widen at rest) e rests wants = cc
+wants_none guest p q question kept n (take {p = p'} m rest) e rests wants = cc
+wants_none guest p q question kept n (widen at rest) e rests wants = cc
 
-asks_nothing : (config : Settings) (n : ℕ) (p : ProcessState) (kind : Kind)
-    → (reached : Reaches hello config [] n p) → next_of reached.guest p None ≡ Wants kind → ⊥
-asks_nothing config n p kind reached wants =
+asks_nothing : (config : Settings) (n : ℕ) (p : ProcessState) (question : Question)
+    → (reached : Reaches hello config [] n p) → next_of reached.guest p None ≡ Wants question → ⊥
+asks_nothing config n p question reached wants =
     go (fronts_lead_on hello config [] 0 0 n 8 p end.process hello_is_valid reached end.reached tt
     tt)
   where
@@ -120,10 +121,10 @@ asks_nothing config n p kind reached wants =
     end = hello_at_end config
 
     go : OneLeadsOn reached.guest p end.process [] [] → ⊥
-    go (inl on) = wants_none reached.guest p end.process kind on.kept on.steps on.runs on.front
+    go (inl on) = wants_none reached.guest p end.process question on.kept on.steps on.runs on.front
         end.rests wants
     go (inr on) =
-        wants_nothing reached.guest p kind
+        wants_nothing reached.guest p question
         (subst (λ z. IsEnded z.configuration)
         (sym (end_stays reached.guest end.process p on.kept on.steps on.runs on.front end.over))
         end.rests) wants
@@ -161,12 +162,12 @@ no_second_line config line is =
     let counted = is.counted in
     omega (arith, few, there, counted)
 
-no_other_line : (config : Settings) (line : Line) → IsLine hello config [] 1 line → line.stream ≡ 2
-    → ⊥
+no_other_line : (config : Settings) (line : Line) → IsLine hello config [] 1 line
+    → line.stream ≡ Stderr → ⊥
 no_other_line config line is second =
-    let same : line.stream ≡ 1 = ap (λ (l : Line). l.stream)
+    let same : line.stream ≡ Stdout = ap (λ (l : Line). l.stream)
     (one_line hello config [] 1 line hi_told.line hello_is_valid is (hi_is_line config)) in
-    omega (arith, same, second)
+    absurd (cc)
 
 -- what is reached in eight steps is the end
 at_eight : (config : Settings) (n : ℕ) (p : ProcessState) → n ≡ 8 → Reaches hello config [] n p
@@ -368,22 +369,22 @@ hello_lives_hold config = record {
       code_of code (sym is ∙ was ∙ ap (λ (z : ProcessState). z.ended) same
       ∙ (hello_at_end config).over));
   tells_another_line = λ so_far stage is_taken empty kept.
-      no_other_line config (record { stream = 2; text = codes "hi" })
-      (subst (λ z. IsLine hello config z 1 (record { stream = 2; text = codes "hi" })) empty
+      no_other_line config (record { stream = Stderr; text = codes "hi" })
+      (subst (λ z. IsLine hello config z 1 (record { stream = Stderr; text = codes "hi" })) empty
       kept.is_line) refl;
   tells_a_second_line = λ so_far stage is_taken empty kept.
       no_second_line config hi_told.line
       (subst (λ z. IsLine hello config z 2 hi_told.line) empty kept.is_line);
-  asks = λ so_far stage steps kind said fits empty kept.
-      asks_kept config so_far steps kind empty kept.process kept.reached kept.wants;
+  asks = λ so_far stage steps question said fits empty kept.
+      asks_kept config so_far steps question empty kept.process kept.reached kept.wants;
 }
   where
-    asks_kept : (config : Settings) (so_far : Promise) (steps : ℕ) (kind : Kind)
+    asks_kept : (config : Settings) (so_far : Promise) (steps : ℕ) (question : Question)
         → so_far.kept ≡ [] → (p : ProcessState)
         → (reached : Reaches hello config so_far.kept steps p)
-        → next_of reached.guest p None ≡ Wants kind → ⊥
-    asks_kept config so_far steps kind empty p reached wants =
-        asks_nothing config steps p kind (record {
+        → next_of reached.guest p None ≡ Wants question → ⊥
+    asks_kept config so_far steps question empty p reached wants =
+        asks_nothing config steps p question (record {
           guest = reached.guest;
           start = reached.start;
           begins = reached.begins;

@@ -13,7 +13,7 @@ use Rattle.process_rules.specs.laws.Examples.{at_rest, hello_end}
 use Rattle.process_rules.proofs.ExamplesValid.{hello_is_valid, functions}
 use Rattle.process_rules.proofs.ExamplesHold.{hello_ends, all_memory, last_memory}
 use Rattle.process_rules.proofs.OneStart.{start_once}
-use Rattle.state_image.specs.rules.Image.{Saved, SavedShowsProcess}
+use Rattle.state_image.specs.rules.ProcessImage.{Saved, SavedShowsProcess}
 use Rattle.state_image.specs.laws.Examples.{fresh_process}
 use Rattle.state_image.proofs.HelloWellTyped.{is_first, program_under, guest_of}
 use Rattle.state_image.proofs.HelloWellTyped.{first_of, begins, context, first_shown}
@@ -94,7 +94,7 @@ module _ (config : Settings) (some : 1 ≤ config.pages) (few : config.pages ≤
     version = refl;
     machine = record {
       typed = last_typed;
-      settled = refl;
+      reduced = refl;
       memory = refl;
       globals = refl;
       same_table = refl;

@@ -179,7 +179,7 @@ module _ (config : Settings) (pages : 1 ≤ config.pages) (few : config.pages �
   abbrev reopened : Event
   reopened = Opened 1 wide_last
 
-  -- its line is behind no answer, and not beyond the widening
+  -- its line is after no answer, and not beyond the widening
   line_behind : (i : ℕ) → i ≤ 1 → AnswersBehindLine hello config (Wider 8 ∷ []) i 0
   line_behind i h =
       let end = hello_at_end config in

@@ -169,7 +169,7 @@ module _ {m : Module} {config : Settings} (t : Teller m config) (u : Upgraded t)
 
   -- ---- restarts
 
-  -- the line is behind the answer, and not behind the widening
+  -- the line is after the answer, and not after the widening
   line_behind : (i : ℕ) → i ≤ 1 → AnswersBehindLine m config kept_wide i 1
   line_behind i few =
       let e = t.emitted.counted in
@@ -246,7 +246,7 @@ module _ {m : Module} {config : Settings} (t : Teller m config) (u : Upgraded t)
         ),
       )
 
-  -- no sync up to there is behind the widening
+  -- no sync up to there is after the widening
   sync_before : (k a : ℕ) → k ≤ 20 → AnswersBehindSync m config kept_wide k a → a ≤ 1
   sync_before k zero early b = omega arith
   sync_before k (suc zero) early b = omega arith

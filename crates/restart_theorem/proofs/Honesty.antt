@@ -215,7 +215,7 @@ module _ {m : Module} {config : Settings} (t : Teller m config) where
     abbrev sliced_stage : Stage
     sliced_stage = next_stage told_both_stage spent_all
 
-  -- what is promised behind the slice, all of it, is held by both answers and so many steps
+  -- what is promised after the slice, all of it, is held by both answers and so many steps
   holds : (so_far : Promise) (steps : ℕ) → so_far.answers ≤ 2 → so_far.steps ≤ steps
       → so_far.begun ≡ 2 → HoldsAll m config kept_both so_far 2 steps
   holds so_far steps answers many two = record {
@@ -553,7 +553,7 @@ module _ {m : Module} {config : Settings} (t : Teller m config) where
   told_now_stage = next_stage open_stage (Told (line_one t) true)
 
   abbrev none_there : Event
-  none_there = Asked 27 t.kind (Ok None) true
+  none_there = Asked 27 t.question (Ok None) true
 
   asks_now : IsKept m config told_now told_now_stage none_there
   asks_now = let e = t.answered.counted in record {

@@ -38,7 +38,7 @@ calls_join m config so_far stage (e ∷ first) then kept further =
 
 -- ---- the events of all lives, in one list
 
--- An event keeps what was promised before it, wherever a life stands, however much has happened,
+-- An event keeps what was promised before it, wherever a life is, however much has happened,
 -- and whether or not a creation was begun.
 pub record IsKeptSomewhere (m : Module) (config : Settings) (so_far : Promise) (e : Event)
     : Type 0 where

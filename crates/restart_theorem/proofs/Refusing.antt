@@ -6,10 +6,10 @@ use Rattle.std.proofs.lemmas.Option.{same_Some}
 use Rattle.wasm_syntax.specs.declared.module.Module.{Module}
 use Rattle.wasm_semantics.specs.Validity.{IsValid}
 use Rattle.wasi_abi.specs.rules.Configs.{Settings}
-use Rattle.wasi_calls_rules.specs.Hosts.{Line}
+use Rattle.wasi_calls_rules.specs.WasiStates.{Line}
 use Rattle.process_rules.specs.Runs.{Kept, Reaches}
 use Rattle.process_rules.proofs.OneProcess.{one_process}
-use Rattle.state_image.specs.rules.Image.{Saved}
+use Rattle.state_image.specs.rules.ProcessImage.{Saved}
 use Rattle.restart_theorem.specs.Lives.{Act, Slice, Checkpoint, Upgrade, SourceSaid, Cause, OfDisk}
 use Rattle.restart_theorem.specs.Lives.{OfSource, OfAnswer, OfOutlet, OfMemory, OfBounds, OfJournal}
 use Rattle.restart_theorem.specs.Lives.{OfLines, Reply, Spent, kept_by_end}
@@ -71,7 +71,7 @@ module _ (m : Module) (config : Settings) (so_far : Promise) (stage : Stage) whe
       → IsKept m config so_far stage e → ⊥
   closed cause (Told r t) is kept =
       subst (λ (q : Phase). IsToldIn q stage.acts stage.step kept.is_line.steps) is kept.in_time
-  closed cause (Asked steps kind said fits) is kept =
+  closed cause (Asked steps question said fits) is kept =
       subst (λ (q : Phase). IsAskedIn q stage.acts stage.step steps) is kept.in_time
   closed cause (Opened held shown) is kept = shut_is (sym is ∙ kept.shut)
   closed cause (Ended act reply held shown) is kept = no_end act reply held shown kept.reply
@@ -164,7 +164,7 @@ module _ (m : Module) (config : Settings) (so_far : Promise) (stage : Stage) whe
 
   pub refused_events : RefusedEvents m config so_far stage
   refused_events = record {
-    asks_before_it_opens = λ steps kind said fits is kept.
+    asks_before_it_opens = λ steps question said fits is kept.
         subst (λ (q : Phase). IsAskedIn q stage.acts stage.step steps) is kept.in_time;
     opens_twice = λ held shown is kept. open_is (sym kept.shut ∙ is);
     opens_uncreated = λ held shown is kept.
@@ -293,7 +293,7 @@ module _ (m : Module) (config : Settings) where
     idle = λ inputs fuel calls ends first last some same goes.
         (let e = goes.0.kept.1.0.reply.1 in omega (arith, e, same, some));
     unasked = λ inputs fuel calls ends first last goes. none_is goes.0.kept.1.0.reply.0;
-    deaf = λ answer says acts steps calls kind events ends first goes.
+    deaf = λ answer says acts steps calls question events ends first goes.
         subst SaysSome (sym goes.0.kept.1.0.heard) tt;
     undone = λ act acts says calls ends first goes.
         undone_ends act acts says calls first ends goes.0.ends;
@@ -305,8 +305,8 @@ module _ (m : Module) (config : Settings) where
     other_process = λ i j calls more ends others first second rest valid none zero goes.
         same_process [] first.steps second.steps first second valid (none ∙ sym zero)
         goes.0.kept.0.at goes.1.0.kept.0.at;
-    asks_early = λ inputs p steps calls kind said fits events ends first valid reached waits goes.
-        (let asking = goes.0.kept.1.0 in
+    asks_early = λ inputs p steps calls question said fits events ends first valid
+        reached waits goes. (let asking = goes.0.kept.1.0 in
         let one : asking.process ≡ p =
         one_process m config [] steps asking.process p valid asking.reached reached in
         let count : first.lines ≡ length asking.process.host.lines =
@@ -325,8 +325,8 @@ module _ (m : Module) (config : Settings) where
         (let none = goes.0.kept.1.0.none_skipped in omega (arith, none));
     unheard = λ i j calls more held ends others first second text rest some goes.
         (let all = goes.1.0.kept.0.all_heard in omega (arith, all, some));
-    lost_behind_sync = λ i j answer kind fuel steps k calls more ends others first last second rest
-        within behind goes.
+    lost_behind_sync = λ i j answer question fuel steps k calls more ends others first
+        last second rest within behind goes.
         (let held = goes.1.0.kept.0.holds.syncs k 1 (omega (arith, within)) behind in
         omega (arith, held));
     empty_checkpoint = λ i j held less calls more ends others first last second rest fewer goes.

@@ -2,16 +2,16 @@
 use Rattle.std.proofs.Common.{◌≡◌, ◌≢◌, ⊎_elim, ◌≤◌, ℕ, Bool, true, false, List, []}
 use Rattle.std.proofs.Common.{◌∷◌, ◌++◌, length, take, Some, Ok, refl, sym, ap, ◌∙◌, subst, arith}
 use Rattle.wasm_syntax.specs.declared.module.Module.{Module}
-use Rattle.wasi_abi.specs.declared.answer.Kind.TheVariants as kind
+use Rattle.wasi_abi.specs.declared.answer.Question.TheVariants as questions
 use Rattle.wasi_abi.specs.declared.answer.Answer.TheVariants as answer
 use Rattle.wasi_abi.specs.declared.version.Version.TheVariants.{One, Two}
 use Rattle.wasi_abi.specs.rules.Answers.{IsRequestText}
 use Rattle.wasi_abi.specs.rules.Configs.{Settings}
 use Rattle.wasi_abi.specs.rules.Versions.{text_limit}
 use Rattle.process_rules.specs.Runs.{Kept, Wider, version_after}
-use Rattle.process_rules.proofs.Hosted.{reached_versions}
+use Rattle.process_rules.proofs.ReachedStates.{reached_versions}
 use Rattle.disk_layout.specs.rules.Journal.{TakesRecords}
-use Rattle.state_image.specs.rules.Image.{Saved}
+use Rattle.state_image.specs.rules.ProcessImage.{Saved}
 use Rattle.restart_theorem.specs.Lives.{Act, Upgrade, Cause, OfDisk, OfSource, OfAnswer, OfOutlet}
 use Rattle.restart_theorem.specs.Lives.{OfMemory, OfBounds, OfJournal, OfLines, Reply, Done, Asked}
 use Rattle.restart_theorem.specs.Lives.{Opened, Ended, kept_by_end}
@@ -125,7 +125,7 @@ module _ (m : Module) (config : Settings) (so_far : Promise) (stage : Stage) whe
         omega (arith, few, more));
     tells_a_line = λ acts r is_taken opens is kept.
         tells stage.phase stage.acts kept.is_line.steps opens acts is kept.in_time;
-    asks = λ acts steps wish said fits opens is kept.
+    asks = λ acts steps question said fits opens is kept.
         asks_in stage.phase stage.acts steps opens acts is kept.in_time;
     widens_before_a_line = λ reply held shown narrow wide fewer kept.
         (let told = (may_widen reply held shown narrow wide kept).lines in
@@ -161,7 +161,7 @@ module _ (m : Module) (config : Settings) (so_far : Promise) (stage : Stage) whe
     where
       refuses : (text : List ℕ) (steps : ℕ) → version_after so_far.kept ≡ Two
           → IsRequestText 65536 text → IsKept m config so_far stage
-          (Asked steps kind.Request (Ok (Some (answer.Request text))) false) → ⊥
+          (Asked steps questions.Request (Ok (Some (answer.Request text))) false) → ⊥
       refuses text steps wide is kept =
           let two = reached_versions m config so_far.kept steps kept.process kept.reached ∙ wide in
           kept.fitting (subst (λ v. IsRequestText (text_limit v) text) (sym two) is)
@@ -186,8 +186,8 @@ module _ (m : Module) (config : Settings) where
         (let ended = goes.1.0.kept.1.0 in
         let told = (ended.widens (widens_it [] third refl ended.reply.2)).lines in
         omega (arith, told, fewer));
-    pleads_after_a_question = λ inputs steps fuel held late calls wish said fits ends first second
-        third rest goes.
+    pleads_after_a_question = λ inputs steps fuel held late calls question said fits
+        ends first second third rest goes.
         true_is_not_false true refl goes.0.kept.1.1.1.0.reply.0.2;
     created_wide = λ inputs held calls ends shown rest wide goes.
         (let at = goes.0.kept.0.at in

@@ -7,7 +7,7 @@ use Rattle.wasm_syntax.specs.declared.module.Module.{Module}
 use Rattle.wasi_abi.specs.declared.version.Version.TheVariants.{One, Two}
 use Rattle.wasi_abi.specs.rules.Configs.{Settings}
 use Rattle.process_rules.specs.Runs.{Kept, version_after}
-use Rattle.state_image.specs.rules.Image.{Saved}
+use Rattle.state_image.specs.rules.ProcessImage.{Saved}
 use Rattle.restart_theorem.specs.Lives.{Act, Slice, Checkpoint, Upgrade, SourceSaid, Reply, Spent}
 use Rattle.restart_theorem.specs.Lives.{Waits, Over, Done, Fails, Cause, Event, Told, Asked, Opened}
 use Rattle.restart_theorem.specs.Lives.{Ended, kept_of_said, kept_by_end}
@@ -33,7 +33,7 @@ said_is_narrow (Ok None) fits = refl
 said_is_narrow (Err e) fits = refl
 
 module _ (m : Module) (config : Settings) where
-  -- what a front of them shows
+  -- what a prefix of them shows
   shows_one : (kept : List Kept) (held : ℕ) (shown : Saved) → version_after kept ≡ One
       → IsAt m config (take held kept) shown.steps shown → shown.version ≡ One
   shows_one kept held shown narrow at =
@@ -99,8 +99,8 @@ module _ (m : Module) (config : Settings) where
   open_in_two so_far a n [] kept h k wide = tt
   open_in_two so_far a n (Told r t ∷ events) kept h k wide =
       open_in_two (after so_far (Told r t)) a n events kept.1 h k wide
-  open_in_two so_far a n (Asked steps kind said fits ∷ events) kept h k wide =
-      open_in_two (after so_far (Asked steps kind said fits)) a n events kept.1 h k
+  open_in_two so_far a n (Asked steps question said fits ∷ events) kept h k wide =
+      open_in_two (after so_far (Asked steps question said fits)) a n events kept.1 h k
       (wide_more so_far.answers so_far.kept (kept_of_said said fits) wide)
   open_in_two so_far a n (Opened held shown ∷ events) kept h k wide =
       let answers : so_far.answers ≤ held = kept.0.kept.holds.answers in

@@ -10,15 +10,15 @@ use Rattle.wasm_semantics.specs.Validity.{IsValid}
 use Rattle.wasi_abi.specs.declared.version.Version.{Version}
 use Rattle.wasi_abi.specs.declared.version.Version.TheVariants.{One, Two}
 use Rattle.wasi_abi.specs.rules.Configs.{Settings}
-use Rattle.wasi_calls_rules.specs.Hosts.{Line}
+use Rattle.wasi_calls_rules.specs.WasiStates.{Line}
 use Rattle.process_rules.specs.Processes.{ProcessState, Guest}
 use Rattle.process_rules.specs.Runs.{Kept, Given, Wider, widened, version_after, IsWidening, Moves}
 use Rattle.process_rules.specs.Runs.{Runs, Reaches, none, step, take as takes, widen}
 use Rattle.process_rules.specs.Behind.{IsNarrowTo, AnswersBehindSync, IsLine}
 use Rattle.process_rules.proofs.Growing.{runs_count}
-use Rattle.process_rules.proofs.Hosted.{reached_versions}
+use Rattle.process_rules.proofs.ReachedStates.{reached_versions}
 use Rattle.process_rules.proofs.Quiet.{runs_join}
-use Rattle.state_image.specs.rules.Image.{Saved}
+use Rattle.state_image.specs.rules.ProcessImage.{Saved}
 use Rattle.restart_theorem.specs.Lives.{Act, Slice, Checkpoint, Upgrade, Reply, kept_by_widening}
 use Rattle.restart_theorem.specs.Lives.{kept_by_end}
 use Rattle.restart_theorem.specs.Courses.{Stage}
@@ -71,7 +71,7 @@ wide_more (suc a) [] more wide = absurd (one_is_not_two One refl wide)
 wide_more (suc a) (Given x ∷ kept) more wide = wide_more a kept more wide
 wide_more (suc a) (Wider s ∷ kept) more wide = refl
 
--- a front of what doesn't widen doesn't, nor do two such
+-- a prefix of what doesn't widen doesn't, nor do two such
 pub narrow_front : (a : ℕ) (kept : List Kept) → version_after kept ≡ One
     → version_after (take a kept) ≡ One
 narrow_front zero [] narrow = refl

@@ -1,4 +1,4 @@
--- Where a life stands between two events, and how it may end (this project's own).
+-- Where a life is between two events, and how it may end (this project's own).
 use Rattle.std.specs.Prelude.{◌≡◌, ℕ, ◌+◌, ◌<◌, ◌≤◌, Bool, true, false, List, [], ◌∷◌}
 use Rattle.std.specs.Prelude.{Option, Some, None, Ok, Err}
 use Rattle.wasi_abi.specs.declared.numbers.TheConstants.{NUMBERS_END}
@@ -22,7 +22,7 @@ pub data Phase : Type 0 where
   -- a call has answered an error
   Closed : (cause : Cause) → Phase
 
--- where a life stands
+-- where a life is
 pub record Stage : Type 0 where
   pub phase : Phase
   -- what the source is still to say, the outlet to take, and the worker to do
@@ -93,14 +93,14 @@ abbrev pub abreast_by : Reply → Bool → Bool
 abreast_by (Over why) is_abreast = true
 abreast_by _ is_abreast = is_abreast
 
--- where a life stands after an event
+-- where a life is after an event
 abbrev pub next_stage : Stage → Event → Stage
 next_stage stage (Told r is_taken) = record stage {
   phase = phase_told stage.phase is_taken;
   takes = without_first stage.takes;
   line = Some r.number;
 }
-next_stage stage (Asked steps kind said fits) = record stage {
+next_stage stage (Asked steps question said fits) = record stage {
   phase = phase_asked steps said fits;
   says = without_first stage.says;
   is_abreast = true;
@@ -118,7 +118,7 @@ next_stage stage (Ended act reply held shown) = record stage {
   is_abreast = abreast_by reply stage.is_abreast;
 }
 
--- where it stands after these
+-- where it is after these
 abbrev pub stage_after : Stage → List Event → Stage
 stage_after stage [] = stage
 stage_after stage (e ∷ events) = stage_after (next_stage stage e) events

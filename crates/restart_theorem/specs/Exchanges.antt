@@ -23,4 +23,4 @@ pub data AreEvents : List Exchange → List Event → Type 0 where
       (Told (release_of begun) (was_taken begun.said) ∷ events)
   asked : {ask : Ask} {steps : ℕ} {fits : Bool} {exchanges : List Exchange} {events : List Event}
       → AreEvents exchanges events
-      → AreEvents (Asks ask ∷ exchanges) (Asked steps ask.kind ask.said fits ∷ events)
+      → AreEvents (Asks ask ∷ exchanges) (Asked steps ask.question ask.said fits ∷ events)

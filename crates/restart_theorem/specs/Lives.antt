@@ -2,15 +2,15 @@
 -- own).
 use Rattle.std.specs.Prelude.{ℕ, Bool, true, false, List, [], ◌∷◌, ◌++◌, take}
 use Rattle.std.specs.Prelude.{Option, Some, None, Result, Ok, Err}
-use Rattle.wasi_abi.specs.declared.answer.Kind.{Kind}
+use Rattle.wasi_abi.specs.declared.answer.Question.{Question}
 use Rattle.wasi_abi.specs.declared.answer.Answer.{Answer}
 use Rattle.wasi_abi.specs.declared.version.Version.{Version}
 use Rattle.wasi_abi.specs.declared.version.Version.TheVariants.{One, Two}
-use Rattle.wasi_calls_rules.specs.Hosts.{Line}
+use Rattle.wasi_calls_rules.specs.WasiStates.{Line}
 use Rattle.process_rules.specs.Processes.{Ending}
 use Rattle.process_rules.specs.Runs.{Kept, Given, Wider, version_after}
 use Rattle.record_replay.specs.declared.fault.SourceFault.{SourceFault}
-use Rattle.state_image.specs.rules.Image.{Saved}
+use Rattle.state_image.specs.rules.ProcessImage.{Saved}
 
 -- ---- what is put into a life
 
@@ -74,7 +74,7 @@ pub data Event : Type 0 where
   -- a release was begun, and whether the outlet took it
   Told : (release : Release) (is_taken : Bool) → Event
   -- a process of so many steps has asked, and what the source said: an answer fits or it doesn't
-  Asked : (steps : ℕ) (kind : Kind) (said : SourceSaid) (fits : Bool) → Event
+  Asked : (steps : ℕ) (question : Question) (said : SourceSaid) (fits : Bool) → Event
   -- the life opened with this process
   Opened : (held : ℕ) (shown : Saved) → Event
   -- a call ended, by Ok or not, with this process
@@ -129,13 +129,13 @@ kept_by_end act shown kept = kept
 abbrev pub kept_after : List Kept → List Event → List Kept
 kept_after kept [] = kept
 kept_after kept (Told r is_taken ∷ events) = kept_after kept events
-kept_after kept (Asked steps kind said fits ∷ events) =
+kept_after kept (Asked steps question said fits ∷ events) =
     kept_after (kept ++ kept_of_said said fits) events
 kept_after kept (Opened held shown ∷ events) = kept_after (take held kept) events
 kept_after kept (Ended act reply held shown ∷ events) =
     kept_after (kept_by_end act shown kept) events
 
--- the kept answers: those that the lives so far stand on
+-- the kept answers: those that the lives so far build on
 abbrev pub kept_answers : List Life → List Kept
 kept_answers lives = kept_after [] (events_of lives)
 
@@ -143,7 +143,7 @@ kept_answers lives = kept_after [] (events_of lives)
 abbrev pub told_in : List Event → List Release
 told_in [] = []
 told_in (Told r is_taken ∷ events) = r ∷ told_in events
-told_in (Asked steps kind said fits ∷ events) = told_in events
+told_in (Asked steps question said fits ∷ events) = told_in events
 told_in (Opened held shown ∷ events) = told_in events
 told_in (Ended act reply held shown ∷ events) = told_in events
 

@@ -5,19 +5,19 @@ use Rattle.wasm_syntax.specs.declared.module.Module.{Module}
 use Rattle.wasm_syntax.specs.declared.types.FunctionType.{FunctionType}
 use Rattle.wasm_semantics.specs.Validity.{module_context, AreFunctionTypes}
 use Rattle.wasi_abi.specs.declared.numbers.TheConstants.{NUMBERS_END}
-use Rattle.wasi_abi.specs.declared.answer.Kind.{Kind}
+use Rattle.wasi_abi.specs.declared.answer.Question.{Question}
 use Rattle.wasi_abi.specs.declared.answer.Answer.{Answer}
 use Rattle.wasi_abi.specs.rules.Answers.{Fits}
 use Rattle.wasi_abi.specs.rules.Configs.{Settings}
 use Rattle.wasi_abi.specs.declared.version.Version.TheVariants.{One, Two}
 use Rattle.wasi_abi.specs.rules.Versions.{text_limit}
 use Rattle.wasm_semantics.specs.Configuration.{Configuration}
-use Rattle.wasi_calls_rules.specs.Hosts.{Host}
+use Rattle.wasi_calls_rules.specs.WasiStates.{WasiState}
 use Rattle.process_rules.specs.Processes.{ProcessState, HasLineNumbers}
 use Rattle.process_rules.specs.Runs.{Kept, On, Wants, next_of, version_after, Reaches}
 use Rattle.process_rules.specs.Behind.{IsNarrowTo, AnswersBehindLine, AnswersBehindSync, IsLine}
 use Rattle.disk_layout.specs.rules.Journal.{TakesRecords}
-use Rattle.state_image.specs.rules.Image.{Saved, SavedShowsProcess}
+use Rattle.state_image.specs.rules.ProcessImage.{Saved, SavedShowsProcess}
 use Rattle.restart_theorem.specs.Lives.{Act, Slice, Checkpoint, Upgrade, SourceSaid, Inputs}
 use Rattle.restart_theorem.specs.Lives.{Release, Cause, OfJournal, OfLines}
 use Rattle.restart_theorem.specs.Lives.{OfBounds, Reply, Spent, Waits, Over, Done, Fails}
@@ -83,16 +83,16 @@ abbrev pub heard_by : Bool → ℕ → ℕ
 heard_by true number = number
 heard_by false number = 0
 
--- What is promised after an event. A life that opens stands where it opened. What an earlier one
+-- What is promised after an event. A life that opens is where it opened. What an earlier one
 -- did beyond that is undone, the guest's syncs there included. Their answers are among those that
--- every later life opens with. A process that asks has all its syncs behind it.
+-- every later life opens with. A process that asks has all its syncs after it.
 abbrev pub after : Promise → Event → Promise
 after so_far (Told r is_taken) = record so_far {
   begun = max r.number so_far.begun;
   heard = max (heard_by is_taken r.number) so_far.heard;
   events = so_far.events + 1;
 }
-after so_far (Asked steps kind said fits) = record so_far {
+after so_far (Asked steps question said fits) = record so_far {
   kept = so_far.kept ++ kept_of_said said fits;
   synced = max steps so_far.synced;
   events = so_far.events + 1;
@@ -149,9 +149,9 @@ pub record IsAt (m : Module) (config : Settings) (kept : List Kept) (steps : ℕ
   pub shown : SavedShowsProcess (module_context m functions) reached.guest.program table saved
       process
 
--- A line that is told is the line of its number on the kept answers, and this slice has come to
--- it. In a life numbers follow one another. Over lives none is left out that no outlet has taken,
--- and none is told again behind which something was saved.
+-- A line that is told is the line of its number on the kept answers, and this slice has come to it.
+-- In a life numbers follow one another. Over lives none is left out that no outlet has taken, and
+-- none is told again after which something was saved.
 pub record IsTelling (m : Module) (config : Settings) (so_far : Promise) (stage : Stage)
     (r : Release) (is_taken : Bool) : Type 0 where
   pub is_line : IsLine m config so_far.kept r.number r.line
@@ -162,33 +162,34 @@ pub record IsTelling (m : Module) (config : Settings) (so_far : Promise) (stage 
   pub heard : is_taken ≡ first_taken stage.takes
 
 -- what is said of an answer is so
-abbrev pub IsFitting : ℕ → Kind → SourceSaid → Bool → Type 0
-IsFitting limit kind (Ok (Some a)) true = Fits limit kind a
-IsFitting limit kind (Ok (Some a)) false = Fits limit kind a → ⊥
-IsFitting limit kind _ fits = Unit {0}
+abbrev pub IsFitting : ℕ → Question → SourceSaid → Bool → Type 0
+IsFitting limit question (Ok (Some a)) true = Fits limit question a
+IsFitting limit question (Ok (Some a)) false = Fits limit question a → ⊥
+IsFitting limit question _ fits = Unit {0}
 
 -- a question of a process of so many steps, and what the source says to it
-pub record Question : Type 0 where
+pub record Inquiry : Type 0 where
   pub steps : ℕ
-  pub kind : Kind
+  pub question : Question
   pub said : SourceSaid
   pub fits : Bool
 
 -- The process that all kept answers lead to asks for this; each of its lines was told. The source
 -- says what it was to say next.
 pub record IsInquiring (m : Module) (config : Settings) (so_far : Promise) (stage : Stage)
-    (question : Question) : Type 0 where
+    (inquiry : Inquiry) : Type 0 where
   pub process : ProcessState
-  pub reached : Reaches m config so_far.kept question.steps process
+  pub reached : Reaches m config so_far.kept inquiry.steps process
   pub running : process.ended ≡ None
-  pub wants : next_of reached.guest process None ≡ Wants question.kind
-  pub in_time : IsAskedIn stage.phase stage.acts stage.step question.steps
+  pub wants : next_of reached.guest process None ≡ Wants inquiry.question
+  pub in_time : IsAskedIn stage.phase stage.acts stage.step inquiry.steps
   pub all_told : stage.line ≡ Some (length process.host.lines)
-  pub fitting : IsFitting (text_limit process.host.version) question.kind question.said question.fits
-  pub heard : question.said ≡ first_said stage.says
+  pub fitting : IsFitting (text_limit process.host.version) inquiry.question
+      inquiry.said inquiry.fits
+  pub heard : inquiry.said ≡ first_said stage.says
 
--- A front of so many kept answers, with a process of so many steps, holds all that was promised. It
--- has as many answers and steps, and has not run past a widening that is kept next. It has the
+-- A prefix of so many kept answers, with a process of so many steps, holds all that was promised.
+-- It has as many answers and steps, and has not run past a widening that is kept next. It has the
 -- answers behind each line whose release was begun, and those behind each sync of the guest that
 -- returned.
 pub record HoldsAll (m : Module) (config : Settings) (kept : List Kept) (so_far : Promise)
@@ -201,7 +202,7 @@ pub record HoldsAll (m : Module) (config : Settings) (kept : List Kept) (so_far 
       → (a : ℕ) × (a ≤ held) × AnswersBehindLine m config kept i a
   pub syncs : (k a : ℕ) → k ≤ so_far.synced → AnswersBehindSync m config kept k a → a ≤ held
 
--- A life opens only where a creation was begun, by it or before it. It opens exactly where a front
+-- A life opens only where a creation was begun, by it or before it. It opens exactly where a prefix
 -- of the kept answers leads that holds all that was promised. An outlet has taken every line up to
 -- there, and this recovery has told none beyond it.
 pub record IsOpening (m : Module) (config : Settings) (so_far : Promise) (stage : Stage) (held : ℕ)
@@ -271,7 +272,7 @@ pub record HasLastLines {m : Module} {config : Settings} {kept : List Kept} {ste
     {saved : Saved} (at : IsAt m config kept steps saved) : Type 0 where
   pub given : Option Answer
   pub configuration : Configuration
-  pub host : Host
+  pub host : WasiState
   pub leads : next_of at.reached.guest at.process given ≡ On configuration host
   pub no_numbers : HasLineNumbers host → ⊥
 
@@ -302,7 +303,7 @@ pub record CallEnd : Type 0 where
 abbrev pub kept_then : Promise → CallEnd → List Kept
 kept_then so_far end = kept_by_end end.act end.shown so_far.kept
 
--- The next act ends with a process that a front of the answers leads to that are kept then, and
+-- The next act ends with a process that a prefix of the answers leads to that are kept then, and
 -- takes no step back. It has widened that process only where it may.
 pub record IsEnding (m : Module) (config : Settings) (so_far : Promise) (stage : Stage)
     (end : CallEnd) : Type 0 where
@@ -316,11 +317,11 @@ pub record IsEnding (m : Module) (config : Settings) (so_far : Promise) (stage :
 
 -- ---- lives
 
--- an event keeps what was promised before it, where a life stands so
+-- an event keeps what was promised before it, where a life is so
 abbrev pub IsKept : Module → Settings → Promise → Stage → Event → Type 0
 IsKept m config so_far stage (Told r is_taken) = IsTelling m config so_far stage r is_taken
-IsKept m config so_far stage (Asked steps kind said fits) = IsInquiring m config so_far stage
-    (record { steps = steps; kind = kind; said = said; fits = fits })
+IsKept m config so_far stage (Asked steps question said fits) = IsInquiring m config so_far stage
+    (record { steps = steps; question = question; said = said; fits = fits })
 IsKept m config so_far stage (Opened held shown) = IsOpening m config so_far stage held shown
 IsKept m config so_far stage (Ended act reply held shown) = IsEnding m config so_far stage
     (record { act = act; reply = reply; held = held; shown = shown })

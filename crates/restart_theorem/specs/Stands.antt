@@ -9,16 +9,17 @@ use Rattle.wasi_abi.specs.rules.Versions.{version_number}
 use Rattle.machine.specs.rules.Offers.{offer}
 use Rattle.process_rules.specs.Processes.{ProcessState, HasLineNumbers}
 use Rattle.process_rules.specs.Runs.{Kept, Reaches}
-use Rattle.state_image.specs.rules.Image.{Saved, SavedShowsProcess, image}
-use Rattle.sector_disk.specs.rules.Image.{Image, sector_at}
+use Rattle.state_image.specs.rules.ProcessImage.{Saved, SavedShowsProcess, process_image}
+use Rattle.sector_disk.specs.rules.DiskImage.{DiskImage, sector_at}
 use Rattle.disk_layout.specs.rules.Places.{Geometry, geometry_of, journal_place}
-use Rattle.disk_layout.specs.rules.Sectors.{HasMarks, HasWorker, HoldsImage, shown_generation}
+use Rattle.disk_layout.specs.rules.Sectors.{HasMarks, HasWorker, HoldsProcessImage}
+use Rattle.disk_layout.specs.rules.Sectors.{shown_generation}
 use Rattle.disk_layout.specs.rules.Journal.{Record, TakesRecords, scan}
 use Rattle.record_replay.specs.rules.Records.{Recorded, given_in}
 use Rattle.disk_layout.specs.declared.head.TheConstants.{HEAD_STAMP_PLACE}
 
 -- no head and no journal sector shows a later generation
-pub record ShowsNoneLater (geometry : Geometry) (disk : Image) (g : ℕ) : Type 0 where
+pub record ShowsNoneLater (geometry : Geometry) (disk : DiskImage) (g : ℕ) : Type 0 where
   pub first_head : shown_generation HEAD_STAMP_PLACE (sector_at disk 1) ≤ g
   pub second_head : shown_generation HEAD_STAMP_PLACE (sector_at disk 2) ≤ g
   pub journal : (k : ℕ) → k < geometry.journal_sectors
@@ -29,13 +30,13 @@ pub record IsNumbered (p : ProcessState) : Type 0 where
   pub steps : p.steps < 2 ^ 63
   pub lines : HasLineNumbers p.host
 
--- On the disk stand a configuration within its limits, and bytes that are accepted as the module.
+-- On the disk are a configuration within its limits, and bytes that are accepted as the module.
 -- The newest complete head names an image there, of a process to which the module comes on the
 -- first of the kept answers. All others are the records of the journal of that generation, one by
 -- one, each at its step. Head, image and records are of the version of that process, and the
 -- journal takes the longest record of it. Step n is that of the last record, or, if there are no
 -- records, of the image. Up to there all numbers are below their ends.
-pub record StandsFor (disk : Image) (m : Module) (config : Settings) (kept : List Kept) (n : ℕ)
+pub record StandsFor (disk : DiskImage) (m : Module) (config : Settings) (kept : List Kept) (n : ℕ)
     : Type 0 where
   pub wasm : List ℕ
   pub accepted : IsAccepted offer config.pages wasm m
@@ -43,8 +44,8 @@ pub record StandsFor (disk : Image) (m : Module) (config : Settings) (kept : Lis
   pub worker : HasWorker config wasm disk
   pub generation : ℕ
   pub saved : Saved
-  pub holds : HoldsImage (geometry_of config (length wasm)) disk generation
-      (version_number saved.version) (image saved)
+  pub holds : HoldsProcessImage (geometry_of config (length wasm)) disk generation
+      (version_number saved.version) (process_image saved)
   pub front : List Kept
   pub steps : ℕ
   pub process : ProcessState
@@ -65,5 +66,5 @@ pub record StandsFor (disk : Image) (m : Module) (config : Settings) (kept : Lis
   pub room : TakesRecords saved.version config.journal
 
 -- there is no worker on the disk: a mark of the super is missing
-abbrev pub IsBlank : Image → Type 0
+abbrev pub IsBlank : DiskImage → Type 0
 IsBlank disk = HasMarks disk → ⊥

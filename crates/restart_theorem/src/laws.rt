@@ -11,7 +11,8 @@ ghost use Rattle.restart_theorem.specs.laws.Laws.{SavedLinesAreToldNoMore};
 ghost use Rattle.restart_theorem.specs.laws.Upgrades.{OnlyUpgradesWiden, EndsWidenOnce};
 ghost use Rattle.restart_theorem.specs.laws.Upgrades.{UpgradesAreForGood, WideOpeningsAreForGood};
 ghost use Rattle.restart_theorem.specs.laws.Upgrades.{UpgradedStayWide, UpgradedLinesAreToldNoMore};
-ghost use Rattle.restart_theorem.specs.laws.Found.{FoundWasLeft, FoundIsAsLong, FoundIsSettled};
+ghost use Rattle.restart_theorem.specs.laws.Found.{FoundWasCrashImage, FoundIsAsLong};
+ghost use Rattle.restart_theorem.specs.laws.Found.{FoundSyncedOrSame};
 ghost use Rattle.restart_theorem.specs.laws.Found.{NoWorkerComes};
 ghost use Rattle.restart_theorem.specs.laws.Found.{NextLifeFindsIt, NextLifeIsWithin, LivesGoOn};
 ghost use Rattle.restart_theorem.specs.laws.Disks.{StandsForWhatIsReached, RecordsAscend};
@@ -19,7 +20,8 @@ ghost use Rattle.restart_theorem.specs.laws.Disks.{StandsByItsParts, BlankStands
 ghost use Rattle.restart_theorem.specs.laws.Disks.{HeadsTellWidenings};
 ghost use Rattle.restart_theorem.specs.laws.Disks.{RunsKeepNumbers, RecordsKeepNumbers};
 ghost use Rattle.restart_theorem.specs.laws.Disks.{SavedAreNumbered};
-ghost use Rattle.restart_theorem.specs.laws.Disks.{NoLaterImage, NoLaterPayload, OneGeneration};
+ghost use Rattle.restart_theorem.specs.laws.Disks.{NoLaterProcessImage, NoLaterPayload};
+ghost use Rattle.restart_theorem.specs.laws.Disks.{OneGeneration};
 ghost use Rattle.restart_theorem.specs.laws.Disks.{OneSpelledWorker, StandsWithin, BlankIsWithin};
 ghost use Rattle.restart_theorem.specs.laws.Disks.{DiskExamples};
 ghost use Rattle.restart_theorem.specs.laws.Examples.{LivesExamples, PromiseExamples};
@@ -53,7 +55,7 @@ pub fn promises_are_for_good()
     ensures syncs { SyncsAreForGood }
 {}
 
-/// Where it holds, no line is told again behind which a life has opened or a checkpoint was done.
+/// Where it holds, no line is told again after which a life has opened or a checkpoint was done.
 pub fn passed_lines_are_told_no_more()
     ensures openings { OpenedLinesAreToldNoMore }
     ensures checkpoints { SavedLinesAreToldNoMore }
@@ -85,9 +87,9 @@ pub fn calls_join()
 pub fn next_life_finds_it<D: Disk>()
     ensures keeps { NextLifeFindsIt D.medium }
     ensures within { NextLifeIsWithin D.medium }
-    ensures was_left { FoundWasLeft D.medium }
+    ensures was_crash_image { FoundWasCrashImage D.medium }
     ensures as_long { FoundIsAsLong D.medium }
-    ensures settled { FoundIsSettled D.medium }
+    ensures synced_or_same { FoundSyncedOrSame D.medium }
     ensures no_worker { NoWorkerComes D.medium }
 {}
 
@@ -105,7 +107,7 @@ pub fn disks_stand_for_what_is_reached()
     ensures versions { HeadsTellWidenings }
 {}
 
-/// All that leads to where a disk stands has numbers below their ends.
+/// All that leads to where a disk is has numbers below their ends.
 pub fn numbers_only_grow()
     ensures runs { RunsKeepNumbers }
     ensures records { RecordsKeepNumbers }
@@ -116,7 +118,7 @@ pub fn numbers_only_grow()
 /// Without the marks of one it stands for none.
 pub fn disks_stand_by_one_generation()
     ensures blank { BlankStandsForNone }
-    ensures image { NoLaterImage }
+    ensures process_image { NoLaterProcessImage }
     ensures payload { NoLaterPayload }
     ensures one { OneGeneration }
     ensures spelled { OneSpelledWorker }
@@ -125,7 +127,7 @@ pub fn disks_stand_by_one_generation()
     ensures examples { DiskExamples }
 {}
 
-/// Events that break a promise are refused, whatever was promised and wherever a life stands.
+/// Events that break a promise are refused, whatever was promised and wherever a life is.
 pub fn refused_events()
     ensures { (m : Module) (config : Settings) (so_far : Promise) (stage : Stage)
         → RefusedEvents m config so_far stage }
@@ -136,7 +138,7 @@ pub fn refused_workers()
     ensures { (m : Module) (config : Settings) → RefusedWorkers m config }
 {}
 
-/// Upgrades that nobody wants are refused, wherever a life stands and in whole lives. So are
+/// Upgrades that nobody wants are refused, wherever a life is and in whole lives. So are
 /// slices, checkpoints, openings and questions that take the wrong version.
 pub fn refused_upgrades()
     ensures events { (m : Module) (config : Settings) (so_far : Promise) (stage : Stage)
@@ -144,8 +146,8 @@ pub fn refused_upgrades()
     ensures lives { (m : Module) (config : Settings) → RefusedUpgraders m config }
 {}
 
-/// Honest stories are satisfied. They have a restart from the journal, one behind a checkpoint, one
-/// behind a recovery that was cut, and a refused line told again.
+/// Honest stories are satisfied. They have a restart from the journal, one after a checkpoint, one
+/// after a recovery that was cut, and a refused line told again.
 pub fn honest_stories()
     ensures { (m : Module) (config : Settings) (t : Teller m config) → HonestStories t }
 {}
@@ -156,7 +158,7 @@ pub fn honest_upgrades()
         → HonestUpgrades t u }
 {}
 
-/// Two lives with a cut between them, what events promise, and where a life stands behind them.
+/// Two lives with a cut between them, what events promise, and where a life is after them.
 pub fn worked_examples()
     ensures lives { LivesExamples }
     ensures promises { PromiseExamples }

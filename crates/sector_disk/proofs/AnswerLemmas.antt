@@ -45,7 +45,7 @@ module _ (n : ℕ) (fits fits-new : n < 2 ^ 64) {which : Failure} {bytes : List 
 
   failed_stays : Stays (answered_medium n fits old) (answered_medium n fits-new new)
   failed_stays = record {
-    may = λ shown image both.
+    crash_pairs = λ shown image both.
         subst (λ (a : AnsweredCalls). Explains n a shown image) is both;
     since = λ t shown image le both. failed_since n t new old image shown is le both;
     unsynced = let e = fewer in omega arith;
@@ -60,16 +60,16 @@ module _ (n : ℕ) (fits fits-new : n < 2 ^ 64) {which : Failure} {bytes : List 
   }
 
   failed_passes : Passes (answered_medium n fits old) (answered_medium n fits-new new)
-      (answered_medium n fits-new new).may_leave
+      (answered_medium n fits-new new).crash_images
   failed_passes = record {
     sectors = refl;
-    told = refl;
+    fault_plan = refl;
     room = refl;
     faults = let e = faults in omega arith;
     later = let e = later in omega arith;
-    nothing_else = λ t image le left. inl (
-      left.0,
-      failed_since n t new old image left.0 is le left.1,
+    nothing_else = λ t image le crashed. inl (
+      crashed.0,
+      failed_since n t new old image crashed.0 is le crashed.1,
     );
   }
 
@@ -98,7 +98,7 @@ module _ (n : ℕ) (fits fits-new : n < 2 ^ 64) {which : Failure} {bytes : List 
   pub failed_syncs : SyncsMedium {T = Unit {0}} (Err Io) (answered_medium n fits old)
       (answered_medium n fits-new new)
   failed_syncs = record {
-    settles = tt;
+    all_synced = tt;
     stays = failed_stays;
     unsynced = fewer;
     counts = failed_counts;

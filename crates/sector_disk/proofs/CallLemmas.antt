@@ -5,12 +5,12 @@ use Rattle.std.proofs.Math.Seq.{drop-append_seam, drop-append-add}
 use Rattle.std.proofs.lemmas.List.{drop_all, drop-append-le, drop-drop}
 use Rattle.std.proofs.lemmas.Bool.{cases_lt}
 use Rattle.std.proofs.lemmas.Result.{on_ok_weaker}
-use Rattle.sector_disk.specs.rules.Medium.{Medium, BeginsCalls, MakesCalls}
+use Rattle.sector_disk.specs.rules.Medium.{Medium, BeginsCalls, PerformsCalls}
 use Rattle.sector_disk.specs.rules.Calls.{rising_writes}
 use Rattle.sector_disk.specs.declared.disk_call.DiskCall.{DiskCall}
 use Rattle.sector_disk.specs.declared.disk_call.DiskCall.TheVariants.{WriteOf}
 
--- two lists with the same behind them
+-- two lists with the same after them
 onto : {a b : List DiskCall} (before : List DiskCall) → a ≡ b → a ++ before ≡ b ++ before
 onto before e = ap (λ (l : List DiskCall). l ++ before) e
 
@@ -44,10 +44,10 @@ begun_then earlier later old mid new made begun =
     ))
     (cases_lt n (length later))
 
-pub made_then : {T E : Type 0} (earlier later : List DiskCall) (result : Result T E)
-    (old mid new : Medium) → mid.calls ≡ earlier ++ old.calls → MakesCalls later result mid new
-    → MakesCalls (later ++ earlier) result old new
-made_then earlier later result old mid new made makes = record {
+pub performed_then : {T E : Type 0} (earlier later : List DiskCall) (result : Result T E)
+    (old mid new : Medium) → mid.calls ≡ earlier ++ old.calls → PerformsCalls later result mid new
+    → PerformsCalls (later ++ earlier) result old new
+performed_then earlier later result old mid new made makes = record {
   all = on_ok_weaker result
       (λ (all : new.calls ≡ later ++ mid.calls).
       all ∙ ap (λ (l : List DiskCall). later ++ l) made
@@ -70,10 +70,10 @@ pub begun_since : (calls : List DiskCall) (old mid new : Medium) → mid.calls �
 begun_since calls old mid new same begun =
     (begun.0, begun.1 ∙ ap (λ (l : List DiskCall). drop begun.0 calls ++ l) same)
 
-pub made_since : {T E : Type 0} (calls : List DiskCall) (result : Result T E)
-    (old mid new : Medium) → mid.calls ≡ old.calls → MakesCalls calls result mid new
-    → MakesCalls calls result old new
-made_since calls result old mid new same makes = record {
+pub performed_since : {T E : Type 0} (calls : List DiskCall) (result : Result T E)
+    (old mid new : Medium) → mid.calls ≡ old.calls → PerformsCalls calls result mid new
+    → PerformsCalls calls result old new
+performed_since calls result old mid new same makes = record {
   all = on_ok_weaker result
       (λ (all : new.calls ≡ calls ++ mid.calls).
       all ∙ ap (λ (l : List DiskCall). calls ++ l) same)

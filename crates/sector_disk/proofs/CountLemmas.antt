@@ -49,29 +49,29 @@ counts_more few most old new le counts = record {
 
 -- ---- a disk in memory, one entry on
 
-pub had_keeps : (settled : Vec (List ℕ) Global) (pending : Vec Write Global)
+pub had_keeps : (durable : Vec (List ℕ) Global) (pending : Vec Write Global)
     (past new : List (Vec (List ℕ) Global × Vec Write Global)) (count t n : ℕ)
-    → new ≡ (settled, pending) ∷ past → t ≤ length past
+    → new ≡ (durable, pending) ∷ past → t ≤ length past
     → (n ≡ length pending.items) ⊎ HadCount t past n → (n ≡ count) ⊎ HadCount t new n
-had_keeps settled pending past new count t n is le since =
+had_keeps durable pending past new count t n is le since =
     let P : List (Vec (List ℕ) Global × Vec Write Global) → Type 0 =
     λ l. (n ≡ count) ⊎ HadCount t l n in
     subst P (sym is)
     (inr (⊎_elim (λ (e : n ≡ length pending.items).
-    (let r : HadCount t ((settled, pending) ∷ past) n = inl (le, e) in
+    (let r : HadCount t ((durable, pending) ∷ past) n = inl (le, e) in
     r)) (λ (had : HadCount t past n). inr had) since))
 
-pub had_grows : (settled : Vec (List ℕ) Global) (pending : Vec Write Global)
+pub had_grows : (durable : Vec (List ℕ) Global) (pending : Vec Write Global)
     (past new : List (Vec (List ℕ) Global × Vec Write Global)) (count most t n : ℕ)
-    → new ≡ (settled, pending) ∷ past → count ≤ most
+    → new ≡ (durable, pending) ∷ past → count ≤ most
     → (n ≡ count) ⊎ HadCount t new n → ((n ≡ length pending.items) ⊎ HadCount t past n) ⊎ (n ≤ most)
-had_grows settled pending past new count most t n is le since =
+had_grows durable pending past new count most t n is le since =
     let P : List (Vec (List ℕ) Global × Vec Write Global) → Type 0 =
     λ l. (n ≡ count) ⊎ HadCount t l n in
     let R : Type 0 = ((n ≡ length pending.items) ⊎ HadCount t past n) ⊎ (n ≤ most) in
     ⊎_elim
     (λ (e : n ≡ count). (let r : R = inr (omega arith) in r))
-    (λ (had : HadCount t ((settled, pending) ∷ past) n).
+    (λ (had : HadCount t ((durable, pending) ∷ past) n).
     ⊎_elim (λ (here : (t ≤ length past) × (n ≡ length pending.items)). (let r : R = inl (inl here.1)
     in r)) (λ (before : HadCount t past n). inl (inr before)) had)
     (subst P is since)

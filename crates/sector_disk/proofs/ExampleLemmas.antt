@@ -1,7 +1,7 @@
 -- Worked examples of runs of writes.
 use Rattle.std.proofs.Common.{◌≡◌, ℕ, zero, suc, ◌+◌, ◌<◌, ◌≤◌, List, [], ◌∷◌, length}
 use Rattle.std.proofs.Common.{replicate, get_or, refl, sym, ap, arith}
-use Rattle.sector_disk.specs.rules.Image.{Image, sector_at, front_over, with_front}
+use Rattle.sector_disk.specs.rules.DiskImage.{DiskImage, sector_at, front_over, with_front}
 use Rattle.sector_disk.specs.laws.Examples.{three, with_both, eights_and_nines, RunExamples}
 
 pub differ : (a b : ℕ) → a ≡ b → a < b → ⊥
@@ -44,28 +44,28 @@ from_two P here more = peel P 1 (peel (λ k. P (suc k)) 0 (λ k le. at_two k))
     at_two (suc k) = more k
 
 -- the sector is as it was
-abbrev is_same : Image → ℕ → Type 0
+abbrev is_same : DiskImage → ℕ → Type 0
 is_same new k = sector_at new k ≡ sector_at three k
 
--- the sector is that of the run, or a front of it
-abbrev is_run : Image → ℕ → Type 0
+-- the sector is that of the run, or a prefix of it
+abbrev is_run : DiskImage → ℕ → Type 0
 is_run new j = sector_at new (1 + j) ≡ sector_at eights_and_nines j
 
-abbrev is_front : Image → ℕ → Type 0
+abbrev is_front : DiskImage → ℕ → Type 0
 is_front new j = (front : ℕ) × (front ≤ 512)
     × (sector_at new (1 + j)
     ≡ front_over front (sector_at eights_and_nines j) (sector_at three (1 + j)))
 
-abbrev whole : Image
+abbrev whole : DiskImage
 whole = with_both (8 ∷ 8 ∷ []) (9 ∷ 9 ∷ [])
 
-abbrev first : Image
+abbrev first : DiskImage
 first = with_both (8 ∷ 8 ∷ []) (3 ∷ 3 ∷ [])
 
-abbrev torn : Image
+abbrev torn : DiskImage
 torn = with_both (8 ∷ 2 ∷ []) (3 ∷ 3 ∷ [])
 
--- a front of at most one byte isn't both
+-- a prefix of at most one byte isn't both
 not_both : (front : ℕ) → front ≤ 1
     → with_both (8 ∷ 8 ∷ []) (3 ∷ 3 ∷ []) ≡ with_front three 1 front (8 ∷ 8 ∷ []) → ⊥
 not_both zero le e = differ 2 8 (sym (byte_of 1 (ap (λ i. sector_at i 1) e))) (omega arith)

@@ -29,7 +29,7 @@ in_current path none = rw any refl
     any = list_any_none is_slash path (λ k d within.
         ap is_slash (get_or_default path k d 0 within) ∙ no_slash_at path none k within)
 
--- a slash stands at i, and behind it none
+-- a slash is at i, and after it none
 pub before_slash : (path front : List ℕ) (i j : ℕ) → HasCharAt slash path i j
     → NoCharPasses (λ c. eqb c slash) (drop j path) → front ≡ take i path → j ≤ length path
     → folder_of path ≡ or_root front
@@ -48,9 +48,9 @@ before_slash path front i j at none front_is within = rw (any, before) refl
     later k after inside =
         let seam : j + (k - j) ≡ k = omega (arith, next) in
         let same = get_or-drop j path (k - j) 0 ∙ ap (λ n. get_or path n 0) seam in
-        let left : k - j < length (drop j path) = omega (arith, length-drop j path, next) in
+        let before_end : k - j < length (drop j path) = omega (arith, length-drop j path, next) in
         ap (λ byte. not (is_slash byte)) (sym same)
-        ∙ ap not (no_slash_at (drop j path) none (k - j) left)
+        ∙ ap not (no_slash_at (drop j path) none (k - j) before_end)
 
     ends : 0 < i + 1 → not (is_slash (get_or path (i + 1 - 1) 0)) ≡ false
     ends some =

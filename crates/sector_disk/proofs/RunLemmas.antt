@@ -3,17 +3,19 @@ use Rattle.std.proofs.Common.{◌≡◌, ◌≢◌, ◌≤◌, ◌<◌, ◌+◌,
 use Rattle.std.proofs.Common.{arith, refl}
 use Rattle.std.proofs.lemmas.List.{length-set}
 use Rattle.std.proofs.lemmas.Bool.{cases_lt}
-use Rattle.sector_disk.specs.rules.Image.{Image, sector_at, with_sector, front_over, IsImage}
-use Rattle.sector_disk.specs.rules.Image.{IsTorn, IsWritten}
+use Rattle.sector_disk.specs.rules.DiskImage.{DiskImage, sector_at, with_sector, front_over}
+use Rattle.sector_disk.specs.rules.DiskImage.{IsDiskImage}
+use Rattle.sector_disk.specs.rules.DiskImage.{IsTorn, IsWritten}
 use Rattle.sector_disk.specs.rules.Medium.{Medium, After, Follows, BothFollow, Passes, LeavesOnly}
 use Rattle.sector_disk.specs.rules.Medium.{Tears, TakesWrite, HasCause, FailsInside}
 use Rattle.sector_disk.specs.declared.fault.DiskFault.{DiskFault}
 use Rattle.sector_disk.specs.rules.Run.{IsTornRun, IsWrittenRun, HoldsRun}
 use Rattle.sector_disk.specs.laws.Fronts.{sector-with_sector, sector-with_other}
-use Rattle.sector_disk.proofs.Moments.{left_follow, shows_left, both_then, goes_on, leaves_only}
+use Rattle.sector_disk.proofs.Moments.{crashed_follow, shows_crashed, both_then, goes_on}
+use Rattle.sector_disk.proofs.Moments.{leaves_only}
 
 -- before the first write
-pub run_none : (at : ℕ) (sectors image : Image) → IsTornRun at sectors 0 image image
+pub run_none : (at : ℕ) (sectors image : DiskImage) → IsTornRun at sectors 0 image image
 run_none at sectors image = record {
   count = refl;
   below = λ k lt. refl;
@@ -21,7 +23,7 @@ run_none at sectors image = record {
   each = λ j lt. absurd (omega arith);
 }
 
-pub written_none : (at : ℕ) (sectors image : Image) → IsWrittenRun at sectors 0 image image
+pub written_none : (at : ℕ) (sectors image : DiskImage) → IsWrittenRun at sectors 0 image image
 written_none at sectors image = record {
   count = refl;
   below = λ k lt. refl;
@@ -30,7 +32,7 @@ written_none at sectors image = record {
 }
 
 -- of the writes that were not made no byte is left
-pub run_longer : (at : ℕ) (sectors : Image) (n m : ℕ) (old new : Image) → n ≤ m
+pub run_longer : (at : ℕ) (sectors : DiskImage) (n m : ℕ) (old new : DiskImage) → n ≤ m
     → IsTornRun at sectors n old new → IsTornRun at sectors m old new
 run_longer at sectors n m old new le run = record {
   count = run.count;
@@ -44,19 +46,19 @@ run_longer at sectors n m old new le run = record {
 }
 
 -- the sectors beside the one that is written
-others : (at n : ℕ) (mid new : Image) (bytes : List ℕ) → new ≡ with_sector mid (at + n) bytes
+others : (at n : ℕ) (mid new : DiskImage) (bytes : List ℕ) → new ≡ with_sector mid (at + n) bytes
     → (k : ℕ) → k ≢ at + n → sector_at new k ≡ sector_at mid k
-others at n mid new bytes is k ne = ap (λ (i : Image). sector_at i k) is
+others at n mid new bytes is k ne = ap (λ (i : DiskImage). sector_at i k) is
     ∙ sector-with_other mid k (at + n) bytes ne
 
-pub run_more : (at : ℕ) (sectors : Image) (n : ℕ) (old mid new : Image) → at + n < length mid
-    → IsTornRun at sectors n old mid → IsTorn (at + n) (sector_at sectors n) mid new
-    → IsTornRun at sectors (n + 1) old new
+pub run_more : (at : ℕ) (sectors : DiskImage) (n : ℕ) (old mid new : DiskImage) → at
+    + n < length mid → IsTornRun at sectors n old mid → IsTorn (at
+    + n) (sector_at sectors n) mid new → IsTornRun at sectors (n + 1) old new
 run_more at sectors n old mid new lt run torn =
     let other = others at n mid new _ torn.is in
     let here : sector_at new (at + n)
     ≡ front_over torn.front (sector_at sectors n) (sector_at old (at + n)) =
-    ap (λ (i : Image). sector_at i (at + n)) torn.is ∙ sector-with_sector mid (at + n) _ lt
+    ap (λ (i : DiskImage). sector_at i (at + n)) torn.is ∙ sector-with_sector mid (at + n) _ lt
     ∙ ap (λ (l : List ℕ). front_over torn.front (sector_at sectors n) l)
     (run.above (at + n) (omega arith)) in
     record {
@@ -76,9 +78,9 @@ run_more at sectors n old mid new lt run torn =
           (cases_lt j n);
     }
 
-pub written_more : (at : ℕ) (sectors : Image) (n : ℕ) (old mid new : Image) → at + n < length mid
-    → IsWrittenRun at sectors n old mid → IsWritten (at + n) (sector_at sectors n) mid new
-    → IsWrittenRun at sectors (n + 1) old new
+pub written_more : (at : ℕ) (sectors : DiskImage) (n : ℕ) (old mid new : DiskImage) → at
+    + n < length mid → IsWrittenRun at sectors n old mid → IsWritten (at
+    + n) (sector_at sectors n) mid new → IsWrittenRun at sectors (n + 1) old new
 written_more at sectors n old mid new lt run written =
     let other = others at n mid new _ written in
     record {
@@ -91,64 +93,65 @@ written_more at sectors n old mid new lt run written =
           (λ (last : n ≤ j).
           let e : n ≡ j = omega arith in
           let P : ℕ → Type 0 = λ i. sector_at new (at + i) ≡ sector_at sectors i in
-          subst P e (ap (λ (i : Image). sector_at i (at + n)) written
+          subst P e (ap (λ (i : DiskImage). sector_at i (at + n)) written
           ∙ sector-with_sector mid (at + n) _ lt))
           (cases_lt j n);
     }
 
 -- the same of a disk
-module _ (at : ℕ) (sectors : Image) (n : ℕ) (old mid new : Medium) (lt : at + n < mid.sectors) where
-  in_image : (image : Image) → IsImage mid.sectors image → at + n < length image
-  in_image image is = let c = is.count in omega arith
+module _ (at : ℕ) (sectors : DiskImage) (n : ℕ) (old mid new : Medium) (lt : at
+    + n < mid.sectors) where
+  in_disk_image : (image : DiskImage) → IsDiskImage mid.sectors image → at + n < length image
+  in_disk_image image is = let c = is.count in omega arith
 
   pub both_tear : BothFollow (IsTornRun at sectors n) (IsTornRun at sectors n) old mid
       → Tears (at + n) (sector_at sectors n) mid new
       → BothFollow (IsTornRun at sectors (n + 1)) (IsTornRun at sectors (n + 1)) old new
   both_tear so_far tears = both_then old mid new _ _ _ _ _ _
-      (λ a b c is run torn. run_more at sectors n a b c (in_image b is) run torn)
-      (λ a b c is run torn. run_more at sectors n a b c (in_image b is) run torn)
+      (λ a b c is run torn. run_more at sectors n a b c (in_disk_image b is) run torn)
+      (λ a b c is run torn. run_more at sectors n a b c (in_disk_image b is) run torn)
       so_far tears.both
 
   pub both_take : BothFollow (IsWrittenRun at sectors n) (IsTornRun at sectors n) old mid
       → TakesWrite (at + n) (sector_at sectors n) mid new
       → BothFollow (IsWrittenRun at sectors (n + 1)) (IsTornRun at sectors (n + 1)) old new
   both_take so_far takes = both_then old mid new _ _ _ _ _ _
-      (λ a b c is run written. written_more at sectors n a b c (in_image b is) run written)
-      (λ a b c is run torn. run_more at sectors n a b c (in_image b is) run torn)
+      (λ a b c is run written. written_more at sectors n a b c (in_disk_image b is) run written)
+      (λ a b c is run torn. run_more at sectors n a b c (in_disk_image b is) run torn)
       so_far takes.both
 
 -- for either side alone
-pub left_run_more : (at : ℕ) (sectors : Image) (n : ℕ) (old mid new : Medium) → at + n < mid.sectors
-    → Follows (IsTornRun at sectors n) old.may_leave mid.may_leave
+pub crashed_run_more : (at : ℕ) (sectors : DiskImage) (n : ℕ) (old mid new : Medium) → at
+    + n < mid.sectors → Follows (IsTornRun at sectors n) old.crash_images mid.crash_images
     → Tears (at + n) (sector_at sectors n) mid new
-    → Follows (IsTornRun at sectors (n + 1)) old.may_leave new.may_leave
-left_run_more at sectors n old mid new lt so_far tears image left =
-    let torn = left_follow mid new _ _ tears.both image left in
+    → Follows (IsTornRun at sectors (n + 1)) old.crash_images new.crash_images
+crashed_run_more at sectors n old mid new lt so_far tears image crashed =
+    let torn = crashed_follow mid new _ _ tears.both image crashed in
     let run = so_far torn.0 torn.1 in
-    let inside : at + n < length torn.0 = let is = mid.is_image torn.0 torn.1 in
+    let inside : at + n < length torn.0 = let is = mid.is_disk_image torn.0 torn.1 in
     omega (arith, is.count) in
     (run.0, run.1, run_more at sectors n run.0 torn.0 image inside run.2 torn.2)
 
-pub shown_run_more : (at : ℕ) (sectors : Image) (n : ℕ) (mid new : Medium) → at + n < mid.sectors
-    → HoldsRun mid at sectors n
+pub shown_run_more : (at : ℕ) (sectors : DiskImage) (n : ℕ) (mid new : Medium) → at
+    + n < mid.sectors → HoldsRun mid at sectors n
     → Follows (IsWritten (at + n) (sector_at sectors n)) mid.shows new.shows
     → HoldsRun new at sectors (n + 1)
 shown_run_more at sectors n mid new lt so_far written image shows j below =
     let was = written image shows in
-    let inside : at + n < length was.0 = let is = mid.is_image was.0 (shows_left mid was.0 was.1) in
-    omega (arith, is.count) in
+    let inside : at + n < length was.0 = let is = mid.is_disk_image was.0
+    (shows_crashed mid was.0 was.1) in omega (arith, is.count) in
     ⊎_elim
     (λ (earlier : j < n). others at n was.0 image _ was.2 (at + j) (omega arith)
     ∙ so_far was.0 was.1 j earlier)
     (λ (last : n ≤ j).
     let e : n ≡ j = omega arith in
     let P : ℕ → Type 0 = λ i. sector_at image (at + i) ≡ sector_at sectors i in
-    subst P e (ap (λ (i : Image). sector_at i (at + n)) was.2
+    subst P e (ap (λ (i : DiskImage). sector_at i (at + n)) was.2
     ∙ sector-with_sector was.0 (at + n) _ inside))
     (cases_lt j n)
 
 -- before the first write
-pub both_none : (at : ℕ) (sectors : Image) (m : Medium)
+pub both_none : (at : ℕ) (sectors : DiskImage) (m : Medium)
     → BothFollow (IsTornRun at sectors 0) (IsTornRun at sectors 0) m m
 both_none at sectors m = λ shown image both. (
   shown,
@@ -158,7 +161,7 @@ both_none at sectors m = λ shown image both. (
   run_none at sectors image,
 )
 
-pub both_written_none : (at : ℕ) (sectors : Image) (m : Medium)
+pub both_written_none : (at : ℕ) (sectors : DiskImage) (m : Medium)
     → BothFollow (IsWrittenRun at sectors 0) (IsTornRun at sectors 0) m m
 both_written_none at sectors m =
     λ shown image both. (
@@ -170,7 +173,7 @@ both_written_none at sectors m =
     )
 
 -- writes that were not made
-pub both_longer : (at : ℕ) (sectors : Image) (n m : ℕ) (old new : Medium) → n ≤ m
+pub both_longer : (at : ℕ) (sectors : DiskImage) (n m : ℕ) (old new : Medium) → n ≤ m
     → BothFollow (IsTornRun at sectors n) (IsTornRun at sectors n) old new
     → BothFollow (IsTornRun at sectors m) (IsTornRun at sectors m) old new
 both_longer at sectors n m old new le so_far = λ shown image both.
@@ -183,32 +186,33 @@ both_longer at sectors n m old new le so_far = λ shown image both.
     )
 
 -- what a cut leaves within the run
-pub left_longer : (at : ℕ) (sectors : Image) (n m : ℕ) (old new : Medium) → n ≤ m
-    → BothFollow (IsTornRun at sectors n) (IsTornRun at sectors n) old new → (image : Image)
-    → new.may_leave image → After (IsTornRun at sectors m) old.may_leave image
-left_longer at sectors n m old new le so_far =
-    left_follow old new _ _ (both_longer at sectors n m old new le so_far)
+pub crashed_longer : (at : ℕ) (sectors : DiskImage) (n m : ℕ) (old new : Medium) → n ≤ m
+    → BothFollow (IsTornRun at sectors n) (IsTornRun at sectors n) old new → (image : DiskImage)
+    → new.crash_images image → After (IsTornRun at sectors m) old.crash_images image
+crashed_longer at sectors n m old new le so_far =
+    crashed_follow old new _ _ (both_longer at sectors n m old new le so_far)
 
 -- one write on, and at the end
-pub run_passes : (at : ℕ) (sectors : Image) (n m : ℕ) (old mid new : Medium) → n ≤ m
-    → Passes old mid (After (IsTornRun at sectors m) old.may_leave)
+pub run_passes : (at : ℕ) (sectors : DiskImage) (n m : ℕ) (old mid new : Medium) → n ≤ m
+    → Passes old mid (After (IsTornRun at sectors m) old.crash_images)
     → BothFollow (IsTornRun at sectors n) (IsTornRun at sectors n) old new
-    → Passes mid new new.may_leave → Passes old new (After (IsTornRun at sectors m) old.may_leave)
+    → Passes mid new new.crash_images → Passes old new (After (IsTornRun at sectors m)
+    old.crash_images)
 run_passes at sectors n m old mid new le so_far both passes =
-    goes_on old mid new _ _ so_far passes (left_longer at sectors n m old new le both)
+    goes_on old mid new _ _ so_far passes (crashed_longer at sectors n m old new le both)
 
-pub run_leaves_only : (at : ℕ) (sectors : Image) (m : ℕ) (old new : Medium)
-    → Passes old new (After (IsTornRun at sectors m) old.may_leave)
-    → LeavesOnly old new (After (IsTornRun at sectors m) old.may_leave)
+pub run_leaves_only : (at : ℕ) (sectors : DiskImage) (m : ℕ) (old new : Medium)
+    → Passes old new (After (IsTornRun at sectors m) old.crash_images)
+    → LeavesOnly old new (After (IsTornRun at sectors m) old.crash_images)
 run_leaves_only at sectors m old new passes =
-    leaves_only old new _ passes (λ image left. (
+    leaves_only old new _ passes (λ image crashed. (
       image,
-      left,
+      crashed,
       run_longer at sectors 0 m image image (omega arith) (run_none at sectors image),
     ))
 
 -- what reads give
-pub written_holds : (at : ℕ) (sectors : Image) (n : ℕ) (old new : Medium)
+pub written_holds : (at : ℕ) (sectors : DiskImage) (n : ℕ) (old new : Medium)
     → Follows (IsWrittenRun at sectors n) old.shows new.shows → HoldsRun new at sectors n
 written_holds at sectors n old new written image shows j lt = let was = written image shows in
     let run = was.2 in run.each j lt

@@ -1,5 +1,8 @@
 pub mod Answered
+pub mod Counts
+pub mod Examples
+pub mod File
 pub mod Fronts
+pub mod Memory
 pub mod Pending
 pub mod Sizes
-pub mod Examples

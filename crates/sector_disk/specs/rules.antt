@@ -4,7 +4,7 @@ pub mod Counts
 pub mod FaultDisk
 pub mod File
 pub mod Folder
-pub mod Image
+pub mod DiskImage
 pub mod Medium
 pub mod Memory
 pub mod Open

@@ -1,4 +1,4 @@
-// Whether a file is a block device.
+//! Whether a file is a block device.
 use std::fs::File;
 use std::io;
 use std::os::unix::fs::FileTypeExt;

@@ -1,4 +1,4 @@
-// What each disk does.
+//! What each disk does.
 ghost use Rattle.std.specs.Prelude.{◌≡◌};
 ghost use Rattle.sector_disk.specs.rules.Medium.{Medium, Reads, Writes, SyncsMedium};
 
@@ -23,7 +23,7 @@ pub trait Disk {
     fn write(&mut self, sector: u64, from: &[u8; SECTOR_SIZE]) -> Result<(), DiskFault>
         ensures { Writes sector from.now result (medium self.old) (medium self.new) };
 
-    /// After it, a cut leaves what reads give. One that fails settles nothing.
+    /// After it, a cut leaves what reads give. One that fails makes nothing durable.
     fn sync(&mut self) -> Result<(), DiskFault>
         ensures { SyncsMedium result (medium self.old) (medium self.new) };
 }

@@ -1,4 +1,4 @@
-// A disk that stops or fails at a call that it is told.
+//! A disk that stops or fails at a call that it is told.
 ghost use Rattle.std.specs.Prelude.{◌≡◌, ◌+◌, ◌<◌, ◌≤◌, IsTrue, IfSome, IfNone, length, false, ℕ};
 ghost use Rattle.std.specs.Prelude.{Bool};
 ghost use Rattle.sector_disk.specs.rules.Trouble.{is_met};
@@ -10,8 +10,8 @@ use crate::{Disk, DiskFault, Place, SECTOR_SIZE};
 
 /// Hands calls on to the disk below, and counts them. It stops at one that it is told. That call
 /// and each later one is `Cut`, and none of them reaches the disk below. But of a stopped write the
-/// told front is left there. Or it fails one that it is told (`Io`, and of a write the told front
-/// is left), and later calls work.
+/// given prefix is left there. Or it fails one that it is told (`Io`, and of a write the given
+/// prefix is left), and later calls work.
 #[derive(Drop)]
 pub struct FaultDisk<D> {
     inner: D,
@@ -20,7 +20,7 @@ pub struct FaultDisk<D> {
     reads: u64,
     writes: u64,
     syncs: u64,
-    has_left_front: bool,
+    has_torn_front: bool,
     /// One item for each trouble. Only clauses read it.
     faults: Log<(), ()>,
     ghost was_met: { 0 < length faults.items
@@ -29,7 +29,7 @@ pub struct FaultDisk<D> {
 
 impl<D> FaultDisk<D> {
     ghost use Rattle.sector_disk.specs.rules.FaultDisk.{disk_below, stop_of, fail_of};
-    ghost use Rattle.sector_disk.specs.rules.FaultDisk.{call_counts_of, trouble_of, left_front_of};
+    ghost use Rattle.sector_disk.specs.rules.FaultDisk.{call_counts_of, trouble_of, torn_front_of};
 
     /// It stops at the one call, and fails at the other. Where both are the same call, it stops.
     pub fn new(inner: D, stop: Option<Place>, fail: Option<Place>) -> Self
@@ -37,7 +37,7 @@ impl<D> FaultDisk<D> {
         ensures stop { stop_of result ≡ stop }
         ensures fail { fail_of result ≡ fail }
         ensures calls { call_counts_of result ≡ record { reads = 0; writes = 0; syncs = 0 } }
-        ensures left_front { left_front_of result ≡ false }
+        ensures torn_front { torn_front_of result ≡ false }
     {
         FaultDisk {
             inner,
@@ -46,7 +46,7 @@ impl<D> FaultDisk<D> {
             reads: 0,
             writes: 0,
             syncs: 0,
-            has_left_front: false,
+            has_torn_front: false,
             faults: Log::new(),
         }
     }
@@ -63,12 +63,12 @@ impl<D> FaultDisk<D> {
         (self.reads, self.writes, self.syncs)
     }
 
-    /// Whether it stopped at a write that the disk below took a front of, were it of no byte. That
-    /// write is then the last below that no sync has settled.
-    pub fn has_left_front(&self) -> bool
-        ensures { result ≡ left_front_of self.now }
+    /// Whether it stopped at a write that the disk below took a prefix of, were it of no byte. That
+    /// write is then the last below that no sync has made durable.
+    pub fn has_torn_front(&self) -> bool
+        ensures { result ≡ torn_front_of self.now }
     {
-        self.has_left_front
+        self.has_torn_front
     }
 
     /// The disk below.
@@ -82,7 +82,7 @@ impl<D> FaultDisk<D> {
             reads: _,
             writes: _,
             syncs: _,
-            has_left_front: _,
+            has_torn_front: _,
             faults: _,
         } = self;
         inner
@@ -115,7 +115,7 @@ impl<D> FaultDisk<D> {
 
 impl<D: Disk> Disk for FaultDisk<D> {
     ghost use Rattle.sector_disk.specs.rules.FaultDisk.{disk_below, stop_of, fail_of};
-    ghost use Rattle.sector_disk.specs.rules.FaultDisk.{call_counts_of, trouble_of, left_front_of};
+    ghost use Rattle.sector_disk.specs.rules.FaultDisk.{call_counts_of, trouble_of, torn_front_of};
     ghost use Rattle.sector_disk.specs.rules.Medium.{Reads, Writes, SyncsMedium};
     ghost use Rattle.sector_disk.specs.rules.Trouble.{counted, trouble_fault, troubled};
     ghost use Rattle.sector_disk.specs.rules.Trouble.{LeavesFront};
@@ -134,7 +134,7 @@ impl<D: Disk> Disk for FaultDisk<D> {
             ≡ record (call_counts_of self.old) { reads = counted (call_counts_of self.old).reads } }
         ensures stop { stop_of self.new ≡ stop_of self.old }
         ensures fail { fail_of self.new ≡ fail_of self.old }
-        ensures left_front { left_front_of self.new ≡ left_front_of self.old }
+        ensures torn_front { torn_front_of self.new ≡ torn_front_of self.old }
         ensures trouble { IfSome (trouble_of self.new) (λ trouble. (result
             ≡ Err (trouble_fault trouble)) × (into.new ≡ into.old)
             × (disk_below self.new ≡ disk_below self.old)) }
@@ -164,7 +164,7 @@ impl<D: Disk> Disk for FaultDisk<D> {
         ensures trouble { IfSome (trouble_of self.new) (λ trouble. result
             ≡ Err (trouble_fault trouble)) }
         ensures stops { (front : ℕ) → trouble_of self.new ≡ Some (Trouble.Stops front)
-            → LeavesFront front sector from.now (left_front_of self.new)
+            → LeavesFront front sector from.now (torn_front_of self.new)
             (D.medium (disk_below self.old)) (D.medium (disk_below self.new)) }
         ensures fails { (front : ℕ) → trouble_of self.new ≡ Some (Trouble.Fails front)
             → (is_taken : Bool)
@@ -172,8 +172,8 @@ impl<D: Disk> Disk for FaultDisk<D> {
             (D.medium (disk_below self.new)) }
         ensures stopped { trouble_of self.new ≡ Some Trouble.Stopped
             → disk_below self.new ≡ disk_below self.old }
-        ensures left_front { ((front : ℕ) → trouble_of self.new ≡ Some (Trouble.Stops front) → ⊥)
-            → left_front_of self.new ≡ left_front_of self.old }
+        ensures torn_front { ((front : ℕ) → trouble_of self.new ≡ Some (Trouble.Stops front) → ⊥)
+            → torn_front_of self.new ≡ torn_front_of self.old }
         ensures passed_on { IfNone (trouble_of self.new)
             (Writes sector from.now result (D.medium (disk_below self.old))
             (D.medium (disk_below self.new))) }
@@ -183,7 +183,7 @@ impl<D: Disk> Disk for FaultDisk<D> {
             None => self.inner.write(sector, from),
             Some(Trouble::Stops(front)) => {
                 self.faults = self.faults.and(&(), &());
-                self.has_left_front = write_front(&mut self.inner, sector, from, front);
+                self.has_torn_front = write_front(&mut self.inner, sector, from, front);
                 Err(DiskFault::Cut)
             }
             Some(Trouble::Stopped) => {
@@ -205,7 +205,7 @@ impl<D: Disk> Disk for FaultDisk<D> {
             ≡ record (call_counts_of self.old) { syncs = counted (call_counts_of self.old).syncs } }
         ensures stop { stop_of self.new ≡ stop_of self.old }
         ensures fail { fail_of self.new ≡ fail_of self.old }
-        ensures left_front { left_front_of self.new ≡ left_front_of self.old }
+        ensures torn_front { torn_front_of self.new ≡ torn_front_of self.old }
         ensures trouble { IfSome (trouble_of self.new) (λ trouble. (result
             ≡ Err (trouble_fault trouble)) × (disk_below self.new ≡ disk_below self.old)) }
         ensures passed_on { IfNone (trouble_of self.new)

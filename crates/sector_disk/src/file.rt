@@ -1,4 +1,4 @@
-// A disk in a file of the operating system.
+//! A disk in a file of the operating system.
 ghost use Rattle.std.specs.Prelude.{◌≡◌, ◌<◌, ◌≤◌, ◌^◌, ◌*◌, ◌/◌, ◌↔◌, ℕ, [], IfErr, IfOk};
 ghost use Rattle.std.specs.Prelude.{IsErrOf, IsTrue, OnOk, false, true};
 ghost use Rattle.sector_disk.specs.declared.open_fault.OpenFault.TheVariants.{Io};
@@ -64,7 +64,7 @@ impl<F: OpenFile + FileExt + LockFile + SizeFile> FileDisk<F> {
             return Err(OpenFault::Io(OpenCause::TooLarge));
         }
         let file = files.make_new(path)?;
-        match settle(files, path, &file, sectors) {
+        match fill_new_file(files, path, &file, sectors) {
             Ok(()) => Ok(FileDisk {
                 file,
                 count: sectors,
@@ -77,9 +77,10 @@ impl<F: OpenFile + FileExt + LockFile + SizeFile> FileDisk<F> {
         }
     }
 
-    /// Takes so many sectors of a block device that is there, locks it, and writes zeros to them. It
-    /// fails where the path is no block device, where the device has fewer sectors, and from 2^54
-    /// sectors on. What the device has behind these sectors stays. It makes and removes no file.
+    /// Takes so many sectors of a block device that is there, locks it, and writes zeros to them.
+    /// It fails where the path is no block device, where the device has fewer sectors, and from
+    /// 2^54 sectors on. What the device has after these sectors stays. It makes and removes no
+    /// file.
     pub fn create_on_device<R: Files<File = F>>(
         files: &R,
         path: &str,
@@ -145,7 +146,7 @@ fn lock<F: LockFile>(file: &F) -> Result<(), OpenFault>
 
 /// Locks a new file, fills it with so many sectors of zeros, and makes it durable with its entry in
 /// its folder.
-fn settle<F: OpenFile + FileExt + LockFile + SizeFile, R: Files>(
+fn fill_new_file<F: OpenFile + FileExt + LockFile + SizeFile, R: Files>(
     files: &R,
     path: &str,
     file: &F,

@@ -1,6 +1,6 @@
 use crate::SECTOR_SIZE;
 
-/// A call that a file was asked for, with its answer. Its bytes stand beside it in the log, and are
+/// A call that a file was asked for, with its answer. Its bytes are beside it in the log, and are
 /// `NO_BYTES` of a call that has none.
 #[derive(Clone, Copy, Debug)]
 pub(crate) enum FileCall {
@@ -8,7 +8,7 @@ pub(crate) enum FileCall {
     Read(u64),
     /// It wrote these bytes to this sector.
     Wrote(u64),
-    /// It failed to write these bytes to this sector, and may have left a front of them.
+    /// It failed to write these bytes to this sector, and may have left a prefix of them.
     Tore(u64),
     Synced,
     /// A call that failed and wrote nothing.

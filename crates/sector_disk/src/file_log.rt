@@ -1,4 +1,4 @@
-// What a file answered, and whether it is asked further.
+//! What a file answered, and whether it is asked further.
 ghost use Rattle.std.specs.Prelude.{◌≡◌, [], ◌∷◌};
 ghost use Rattle.sector_disk.specs.rules.Answered.{is_given_up, gives_up_on};
 

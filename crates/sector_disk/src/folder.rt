@@ -1,4 +1,4 @@
-// The folder that has a path's entry.
+//! The folder that has a path's entry.
 ghost use Rattle.std.specs.Prelude.{◌≡◌};
 ghost use Rattle.sector_disk.specs.rules.Folder.{folder_of};
 

@@ -1,7 +1,7 @@
 //! Laws of the disk model. The functions do nothing: what they ensure is the law.
 
 ghost use Rattle.sector_disk.specs.laws.Sizes.{SectorSizeNumber};
-ghost use Rattle.sector_disk.specs.laws.Examples.{ImageExamples, RunExamples, CountExamples};
+ghost use Rattle.sector_disk.specs.laws.Examples.{DiskImageExamples, RunExamples, CountExamples};
 ghost use Rattle.sector_disk.specs.laws.Examples.{CallExamples, FolderExamples};
 
 /// How many bytes a sector has.
@@ -11,7 +11,7 @@ pub fn sector_size_is()
 
 /// Worked examples: images, runs of writes, what is counted, which calls there were, and folders.
 pub fn worked_examples()
-    ensures images { ImageExamples }
+    ensures images { DiskImageExamples }
     ensures runs { RunExamples }
     ensures counts { CountExamples }
     ensures calls { CallExamples }

@@ -7,12 +7,12 @@
 //!   `Writes` and `SyncsMedium` say. These say what a cut may leave, also inside a call, and what
 //!   an error's cause is. They say which writes and syncs a disk was asked for, in order
 //!   (`calls`). No call counts as two (`counted`).
-//! - `MemDisk` answers exactly as its state says (`answer`, `done`). `cut` leaves the told front
+//! - `MemDisk` answers exactly as its state says (`answer`, `done`). `cut` leaves the given prefix
 //!   of each write since the last good sync (`cut`). Each image that a cut may leave is had so
 //!   (`every`). `unsynced_count` is how many such writes there were.
 //! - `FaultDisk` stops or fails at the call that it is told (`trouble`, `stops`, `fails`), and
 //!   hands all others on (`passed_on`). Its `medium` counts its calls, up to the greatest number
-//!   of 64 bits; the other two count none. `has_left_front` says whether it stopped within a
+//!   of 64 bits; the other two count none. `has_torn_front` says whether it stopped within a
 //!   write, and `into_inner` gives the disk below.
 //! - `FileDisk` logs each call that it made of its file, with the answer. After a write or a sync
 //!   that failed every call answers `Io`, and the file isn't asked (`logged`). `create` gives a
@@ -27,7 +27,7 @@
 //! - `rewrite` writes each sector of a disk back as it reads it, and syncs. At no moment does it
 //!   add an image to what reads give or to what a cut may leave (`same`, `any_moment`).
 //! - `write_run` and `store_run` write sectors one after another. `store_run`: a cut at any moment
-//!   leaves of each some front (`any_moment`). After Ok each cut leaves all of them (`stored`).
+//!   leaves of each some prefix (`any_moment`). After Ok each cut leaves all of them (`stored`).
 //!   There are never more unsynced writes than before and these (`counts`). They are written in
 //!   rising order, and `store_run` then syncs once (`calls`).
 //! - `LockFile`, `SizeFile` and `DeviceFile` are what a file must answer for its lock, its length
@@ -37,20 +37,20 @@
 //!
 //! # Definitions to read
 //!
-//! In `specs/rules/`: `Image`, `with_front`, `IsTorn` (`Image.antt`); `Medium`, `LeavesOnly`,
-//! `Reads`, `Writes`, `SyncsMedium`, `MakesCalls` (`Medium.antt`); `rising_writes`
+//! In `specs/rules/`: `DiskImage`, `with_front`, `IsTorn` (`DiskImage.antt`); `Medium`,
+//! `LeavesOnly`, `Reads`, `Writes`, `SyncsMedium`, `PerformsCalls` (`Medium.antt`); `rising_writes`
 //! (`Calls.antt`); `IsTornRun` (`Run.antt`); `AddsNothing` (`Rewrite.antt`). Three disks have a
-//! state: `MemDisk` (`Memory.antt`, `Pending.antt`), `FaultDisk` (`Trouble.antt`,
-//! `FaultDisk.antt`) and `FileDisk` (`Answered.antt`, `Counts.antt`, `File.antt`). Which error of
-//! the operating system is which cause stands in `Open.antt`, with `IsUnmade`. Which folder has a
-//! path's entry stands in `Folder.antt`.
+//! state: `MemDisk` (`Memory.antt`, `Pending.antt`), `FaultDisk` (`Trouble.antt`, `FaultDisk.antt`)
+//! and `FileDisk` (`Answered.antt`, `Counts.antt`, `File.antt`). Which error of the operating
+//! system is which cause is in `Open.antt`, with `IsUnmade`. Which folder has a path's entry is in
+//! `Folder.antt`.
 //!
 //! # Who may touch what
 //!
 //! What a cut may leave is defined here alone. All crates above that write on a disk use any
-//! `Disk`, and `wasmhost` opens a `FileDisk`. The crate stands on no other one of this repository.
-//! A `MemDisk` takes memory in `new` and `cut` alone. That a file behaves as a disk of the model is
-//! a premise: of one that doesn't, clauses say nothing. A file is locked as long as its `FileDisk`
+//! `Disk`, and `wasmhost` opens a `FileDisk`. The crate uses no other one of this repository. A
+//! `MemDisk` takes memory in `new` and `cut` alone. That a file behaves as a disk of the model is a
+//! premise: of one that doesn't, clauses say nothing. A file is locked as long as its `FileDisk`
 //! lives, so that no second host reads or writes it.
 //!
 //! # Choices
@@ -68,10 +68,10 @@
 //!   far as code can know. So a body that opens without it isn't proved. `File` says nothing more
 //!   of its handles. Where a file system has no locks, its files aren't opened (`Other`).
 //! - **A disk has the length that its file said.** The kit's contracts say nothing of what a file
-//!   answers, so `SizeFile` stands for it as `LockFile` does for the lock. The impl for `File` seeks
-//!   the end, and hands its place on: the length that the system tells of a block device is 0.
-//!   `create` makes a file as long by it (`is_resized_to`). That the file is then filled and synced
-//!   could be said so too, but not that it is in this order. So that is left to
+//!   answers, so `SizeFile` stands for it as `LockFile` does for the lock. The impl for `File`
+//!   seeks the end, and hands its place on: the length that the system tells of a block device is
+//!   0. `create` makes a file as long by it (`is_resized_to`). That the file is then filled and
+//!   synced could be said so too, but not that it is in this order. So that is left to
 //!   `scripts/runs/file-calls`.
 //! - **A device is taken only where one is asked for**, since what it holds is lost. A call of its
 //!   own does so, and it refuses a path that isn't a block device. Only a handle that was found to

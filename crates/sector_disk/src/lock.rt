@@ -1,4 +1,4 @@
-// The lock that keeps a file to one host.
+//! The lock that keeps a file to one host.
 use std::fs::{File, TryLockError};
 
 /// A handle of a file with one lock for the whole file, which at most one handle holds.

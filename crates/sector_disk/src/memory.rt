@@ -1,9 +1,9 @@
-// A disk in memory. It keeps the sectors of the last good sync and the writes since, so that it can
-// be cut.
+//! A disk in memory. It keeps the sectors of the last good sync and the writes since, so that it
+//! can be cut.
 ghost use Rattle.std.specs.Prelude.{◌≡◌, ◌<◌, ◌≤◌, List, ℕ, [], length, drop, replicate, All};
 ghost use Rattle.std.specs.Prelude.{vec_capacity, IfOk, IfErr, OnOk, OnErr};
 ghost use Rattle.sector_disk.specs.declared.sector.TheConstants.{SECTOR_SIZE};
-ghost use Rattle.sector_disk.specs.rules.Image.{Image, IsImage, sector_at};
+ghost use Rattle.sector_disk.specs.rules.DiskImage.{DiskImage, IsDiskImage, sector_at};
 ghost use Rattle.sector_disk.specs.rules.Pending.{IsWriteWithin, first_front, replayed as all_of};
 
 use crate::disk_call::DiskCall;
@@ -21,20 +21,20 @@ type Sector = [u8; SECTOR_SIZE];
 #[derive(Drop)]
 pub struct MemDisk {
     /// What the last good sync left.
-    settled: Vec<Sector>,
+    durable: Vec<Sector>,
     /// What reads give.
     shown: Vec<Sector>,
     /// The writes since the last good sync, the oldest first.
     pending: Vec<Write>,
     /// How many writes there is room for between two syncs.
     limit: usize,
-    /// What was settled, and the writes since, before each write and sync. Only clauses read it.
+    /// What was durable, and the writes since, before each write and sync. Only clauses read it.
     past: Log<Vec<Sector>, Vec<Write>>,
     /// Each write and sync that it took. Only clauses read it.
     calls: Log<DiskCall, ()>,
-    ghost full: { IsImage (length settled.items) settled.items },
-    ghost within: { All (IsWriteWithin (length settled.items)) pending.items },
-    ghost replayed: { shown.items ≡ all_of pending.items settled.items },
+    ghost full: { IsDiskImage (length durable.items) durable.items },
+    ghost within: { All (IsWriteWithin (length durable.items)) pending.items },
+    ghost replayed: { shown.items ≡ all_of pending.items durable.items },
     ghost fits: { length pending.items ≤ limit },
     ghost reserved: { limit ≤ vec_capacity pending },
 }
@@ -44,24 +44,24 @@ impl MemDisk {
     ghost use Rattle.sector_disk.specs.rules.Memory.{memory_medium, memory_state_of, shown_by};
     ghost use Rattle.sector_disk.specs.rules.Memory.{after_cut, IsEveryCut};
 
-    /// So many sectors of zeros, with room for so many writes between two syncs. It fails only for
-    /// want of memory.
+    /// So many sectors of zeros, with room for so many writes between two syncs. It fails only when
+    /// out of memory.
     pub fn new(alloc: Global, sectors: u64, writes: usize) -> Result<MemDisk, DiskFault>
         ensures made { IfOk result (λ d. memory_state_of d
             ≡ record {
-              settled = replicate sectors (replicate SECTOR_SIZE 0);
+              durable = replicate sectors (replicate SECTOR_SIZE 0);
               pending = [];
               limit = writes;
             }) }
         ensures zeros { IfOk result (λ d.
             (memory_medium d).shows (replicate sectors (replicate SECTOR_SIZE 0))) }
-        ensures settled { IfOk result (λ d. IsAllSynced (memory_medium d)) }
+        ensures all_synced { IfOk result (λ d. IsAllSynced (memory_medium d)) }
         ensures fresh { IfOk result (λ d. (memory_medium d).calls ≡ []) }
         ensures err { IfErr result (λ e. e ≡ DiskFault.Memory) }
     {
-        let mut settled = Vec::new(alloc);
-        settled.resize(sectors as usize, [0; SECTOR_SIZE])?;
-        MemDisk::from_sectors(alloc, settled, writes)
+        let mut durable = Vec::new(alloc);
+        durable.resize(sectors as usize, [0; SECTOR_SIZE])?;
+        MemDisk::from_sectors(alloc, durable, writes)
     }
 
     /// How many writes there were since the last good sync.
@@ -73,22 +73,22 @@ impl MemDisk {
 
     /// What a cut leaves that keeps these fronts, in bytes, of the writes since the last good sync,
     /// the oldest first. A missing number, or a larger one than a sector has bytes, keeps all of
-    /// its write. It fails only for want of memory.
+    /// its write. It fails only when out of memory.
     pub fn cut(&self, alloc: Global, tears: &[u16]) -> Result<MemDisk, DiskFault>
         ensures cut { IfOk result (λ d. memory_state_of d
             ≡ after_cut (memory_state_of self.now) tears.now) }
 
         // It is one of the images that a cut now may leave, and each of those is had so.
-        ensures left { (memory_medium self.now).may_leave
-            (after_cut (memory_state_of self.now) tears.now).settled }
+        ensures crash_image { (memory_medium self.now).crash_images
+            (after_cut (memory_state_of self.now) tears.now).durable }
         ensures every { IsEveryCut self.now }
         ensures shows { IfOk result (λ d.
-            (memory_medium d).shows (after_cut (memory_state_of self.now) tears.now).settled) }
-        ensures settled { IfOk result (λ d. IsAllSynced (memory_medium d)) }
+            (memory_medium d).shows (after_cut (memory_state_of self.now) tears.now).durable) }
+        ensures all_synced { IfOk result (λ d. IsAllSynced (memory_medium d)) }
         ensures fresh { IfOk result (λ d. (memory_medium d).calls ≡ []) }
         ensures err { IfErr result (λ e. e ≡ DiskFault.Memory) }
     {
-        let mut image = Vec::from_slice(alloc, &self.settled)?;
+        let mut image = Vec::from_slice(alloc, &self.durable)?;
         for (i, write) in self.pending.iter().enumerate() {
             leave_front(
                 &mut image[write.sector],
@@ -99,21 +99,21 @@ impl MemDisk {
         MemDisk::from_sectors(alloc, image, self.limit)
     }
 
-    fn from_sectors(alloc: Global, settled: Vec<Sector>, limit: usize) -> Result<MemDisk, DiskFault>
-        requires { IsImage (length settled.items) settled.items }
+    fn from_sectors(alloc: Global, durable: Vec<Sector>, limit: usize) -> Result<MemDisk, DiskFault>
+        requires { IsDiskImage (length durable.items) durable.items }
         ensures made { IfOk result (λ d. memory_state_of d ≡ record {
-          settled = settled.items;
+          durable = durable.items;
           pending = [];
           limit = limit;
         }) }
-        ensures shows { IfOk result (λ d. (memory_medium d).shows settled.items) }
-        ensures settled { IfOk result (λ d. IsAllSynced (memory_medium d)) }
+        ensures shows { IfOk result (λ d. (memory_medium d).shows durable.items) }
+        ensures all_synced { IfOk result (λ d. IsAllSynced (memory_medium d)) }
         ensures fresh { IfOk result (λ d. (memory_medium d).calls ≡ []) }
         ensures err { IfErr result (λ e. e ≡ DiskFault.Memory) }
     {
-        let shown = Vec::from_slice(alloc, &settled)?;
+        let shown = Vec::from_slice(alloc, &durable)?;
         Ok(MemDisk {
-            settled,
+            durable,
             shown,
             pending: Vec::with_capacity(alloc, limit)?,
             limit,
@@ -144,7 +144,7 @@ impl Disk for MemDisk {
     ghost medium = { memory_medium };
 
     fn sectors(&self) -> u64 {
-        self.settled.len() as u64
+        self.durable.len() as u64
     }
 
     fn read(&mut self, sector: u64, into: &mut [u8; SECTOR_SIZE]) -> Result<(), DiskFault>
@@ -179,7 +179,7 @@ impl Disk for MemDisk {
             return Err(DiskFault::Io);
         }
         let at = sector as usize;
-        let past = self.past.and(&self.settled, &self.pending);
+        let past = self.past.and(&self.durable, &self.pending);
         let Ok(()) = self.pending.push(Write {
             sector: at,
             bytes: *from,
@@ -199,8 +199,8 @@ impl Disk for MemDisk {
         ensures done { memory_state_of self.new ≡ after_sync (memory_state_of self.old) }
         ensures kept { Keeps (memory_medium self.old) (memory_medium self.new) }
     {
-        let past = self.past.and(&self.settled, &self.pending);
-        self.settled.copy_from_slice(&self.shown);
+        let past = self.past.and(&self.durable, &self.pending);
+        self.durable.copy_from_slice(&self.shown);
         self.pending.clear();
         self.past = past;
         self.calls = self.calls.and(&DiskCall::Sync, &());

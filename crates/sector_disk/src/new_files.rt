@@ -1,4 +1,4 @@
-// Files that are made where there is none, and removed again.
+//! Files that are made where there is none, and removed again.
 use std::fs::File;
 use std::io;
 use std::rt::Files;

@@ -1,4 +1,4 @@
-// What an error of the operating system says of a path.
+//! What an error of the operating system says of a path.
 ghost use Rattle.std.specs.Prelude.{◌≡◌};
 ghost use Rattle.std.specs.IoError.{error_kind};
 ghost use Rattle.sector_disk.specs.rules.Open.{open_cause, lock_fault};

@@ -1,4 +1,4 @@
-// Why a file can't be made or opened as a disk.
+//! Why a file can't be made or opened as a disk.
 use thiserror::Error;
 
 #[derive(Clone, Copy, Debug, PartialEq, Eq, Error)]

@@ -1,6 +1,7 @@
-// All sectors of a disk, written back as they are read.
+//! All sectors of a disk, written back as they are read.
 ghost use Rattle.std.specs.Prelude.{◌⊎◌, ◌*◌, ◌+◌, ◌<◌, [], ◌∷◌, OnOk, IsErr};
-ghost use Rattle.sector_disk.specs.rules.Medium.{LeavesOnly, IsAllSynced, CountsUpTo, MakesCalls};
+ghost use Rattle.sector_disk.specs.rules.Medium.{LeavesOnly, IsAllSynced, CountsUpTo};
+ghost use Rattle.sector_disk.specs.rules.Medium.{PerformsCalls};
 ghost use Rattle.sector_disk.specs.rules.Medium.{CallsUpTo, FailsInside, spare};
 ghost use Rattle.sector_disk.specs.rules.Calls.{rising_writes, synced_writes};
 ghost use Rattle.sector_disk.specs.rules.Rewrite.{AddsNothing, WritesBack};
@@ -38,24 +39,24 @@ pub fn rewrite<D: Disk>(disk: &mut D) -> Result<(), DiskFault>
 
     // A cut at any moment leaves only what one before could have left.
     ensures any_moment { LeavesOnly (D.medium disk.old) (D.medium disk.new)
-        (D.medium disk.old).may_leave }
+        (D.medium disk.old).crash_images }
 
     // Once it has answered Ok, each cut leaves what reads give.
-    ensures settled { OnOk result (IsAllSynced (D.medium disk.new)) }
+    ensures all_synced { OnOk result (IsAllSynced (D.medium disk.new)) }
 
     // At no moment in between were there more unsynced writes than before and one a sector.
     ensures counts { CountsUpTo ((D.medium disk.old).unsynced + (D.medium disk.old).sectors)
         (D.medium disk.old) (D.medium disk.new) }
 
     // One write to each sector, in rising order, and then one sync. After an error these are begun.
-    ensures calls { MakesCalls (synced_writes 0 (D.medium disk.old).sectors) result
+    ensures calls { PerformsCalls (synced_writes 0 (D.medium disk.old).sectors) result
         (D.medium disk.old) (D.medium disk.new) }
 
     // It fails only where the disk does, or where there is no room for so many writes before a
     // sync.
     ensures cause { IsErr result → (spare (D.medium disk.old) < (D.medium disk.old).sectors)
         ⊎ ((D.medium disk.old).faults < (D.medium disk.new).faults) }
-    ensures kind { FailsInside result }
+    ensures which_fault { FailsInside result }
 
     // Two calls for each of the sectors, and the sync.
     ensures asks { CallsUpTo (2 * (D.medium disk.old).sectors + 1) (D.medium disk.old)

@@ -1,4 +1,4 @@
-// How long a file is.
+//! How long a file is.
 use std::fs::File;
 use std::io;
 use std::io::{Seek, SeekFrom};
@@ -7,13 +7,13 @@ use std::io::{Seek, SeekFrom};
 pub trait SizeFile {
     ghost use Rattle.std.specs.Prelude.{ℕ, Bool, IsTrue, IfOk, OnOk};
 
-    // Whether this handle found the end of its file behind so many bytes, and whether it made it so
+    // Whether this handle found the end of its file after so many bytes, and whether it made it so
     // long.
     ghost is_measured_at: { Self → ℕ → Bool };
 
     ghost is_resized_to: { Self → ℕ → Bool };
 
-    /// How many bytes stand before the end of the file.
+    /// How many bytes are before the end of the file.
     fn measure(&self) -> io::Result<u64>
         ensures measured { IfOk result (λ bytes. IsTrue (is_measured_at self.now bytes)) };
 

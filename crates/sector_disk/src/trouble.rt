@@ -1,10 +1,10 @@
-// What a call meets on a disk that is told to stop or to fail.
+//! What a call meets on a disk that is told to stop or to fail.
 ghost use Rattle.std.specs.Prelude.{◌≡◌};
 ghost use Rattle.sector_disk.specs.rules.Trouble.{trouble_fault};
 
 use crate::DiskFault;
 
-/// What a call meets in place of the disk below. A write leaves a front of so many bytes.
+/// What a call meets in place of the disk below. A write leaves a prefix of so many bytes.
 #[derive(Clone, Copy, Debug)]
 pub(crate) enum Trouble {
     /// The machine stops at this call.

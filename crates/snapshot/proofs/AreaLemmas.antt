@@ -2,7 +2,7 @@
 use Rattle.std.proofs.Common.{◌≡◌, ◌⊎◌, ℕ, zero, suc, ◌+◌, ◌-◌, ◌*◌, ◌%◌, ◌<◌, ◌≤◌, List, ◌++◌}
 use Rattle.std.proofs.Common.{length, take, max, refl, sym, ap, ◌∙◌, subst, inl, inr, ⊎_elim, arith}
 use Rattle.std.proofs.lemmas.Bool.{cases_lt, cases_eq}
-use Rattle.sector_disk.specs.rules.Image.{Image, sector_at}
+use Rattle.sector_disk.specs.rules.DiskImage.{DiskImage, sector_at}
 use Rattle.disk_layout.specs.declared.geometry.Geometry.{Geometry}
 use Rattle.disk_layout.specs.declared.head.Head.{Head}
 use Rattle.disk_layout.specs.rules.Places.{head_place, area_place, journal_place}
@@ -18,7 +18,7 @@ parity n = ⊎_elim (λ (lt : n % 2 < 1). inl (omega arith)) (λ (ge : 1 ≤ n %
 
 -- ---- heads
 
-pub none_at : (image : Image) → HasNone image → (n : ℕ)
+pub none_at : (image : DiskImage) → HasNone image → (n : ℕ)
     → IsComplete (n % 2) (sector_at image (head_place n)) → ⊥
 none_at image none n c =
     ⊎_elim
@@ -26,7 +26,7 @@ none_at image none n c =
     (λ (e : n % 2 ≡ 1). none.second (subst (λ (p : ℕ). IsComplete p (sector_at image (1 + p))) e c))
     (parity n)
 
-pub none_from : (image : Image) → ((n : ℕ) → IsComplete (n % 2) (sector_at image (head_place n))
+pub none_from : (image : DiskImage) → ((n : ℕ) → IsComplete (n % 2) (sector_at image (head_place n))
     → ⊥) → HasNone image
 none_from image all = record { first = all 0; second = all 1 }
 
@@ -34,12 +34,12 @@ pub shown_complete : (area : ℕ) (s : List ℕ) → IsComplete area s
     → shown_generation 1 s ≡ (stamp_of s).generation
 shown_complete area s c = shows_there 1 (stamp_of s).place (stamp_of s).generation c.place
 
-pub newest_complete : (image : Image) (g : ℕ) (h : Head) → IsNewest image g h
+pub newest_complete : (image : DiskImage) (g : ℕ) (h : Head) → IsNewest image g h
     → (stamp_of (sector_at image (head_place g))).generation ≡ g
 newest_complete image g h is = ap (λ (x : Head). x.generation) (sym is.is) ∙ is.same
 
-pub one_newest : (image : Image) (a b : ℕ) (h k : Head) → IsNewest image a h → IsNewest image b k
-    → a ≡ b
+pub one_newest : (image : DiskImage) (a b : ℕ) (h k : Head) → IsNewest image a h
+    → IsNewest image b k → a ≡ b
 one_newest image a b h k is-a is-b =
     let ga = newest_complete image a h is-a in
     let gb = newest_complete image b k is-b in
@@ -61,7 +61,7 @@ one_newest image a b h k is-a is-b =
     (cases_eq (a % 2) (b % 2))
 
 -- both sectors of heads
-pub heads_split : (image : Image) (g : ℕ)
+pub heads_split : (image : DiskImage) (g : ℕ)
     → heads_to image
     ≡ max (shown_generation 1 (sector_at image (head_place g)))
     (shown_generation 1 (sector_at image (head_place (g + 1))))
@@ -84,7 +84,7 @@ heads_split image g =
     (parity g)
 
 -- a newest head of this generation is the one before
-pub ready_newest : (g : ℕ) (image : Image) → IsReadyForHead g image → (n : ℕ) (h : Head)
+pub ready_newest : (g : ℕ) (image : DiskImage) → IsReadyForHead g image → (n : ℕ) (h : Head)
     → IsNewest image n h → n + 1 ≡ g
 ready_newest g image ready n h is =
     ⊎_elim
@@ -99,7 +99,7 @@ ready_newest g image ready n h is =
 
 -- ---- heads that stay
 
-pub newest_moves : (old new : Image) (g : ℕ) (h : Head)
+pub newest_moves : (old new : DiskImage) (g : ℕ) (h : Head)
     → ((n : ℕ) → sector_at new (head_place n) ≡ sector_at old (head_place n)) → IsNewest old g h
     → IsNewest new g h
 newest_moves old new g h same is = record {
@@ -111,7 +111,7 @@ newest_moves old new g h same is = record {
       subst (λ (s : List ℕ). (stamp_of s).generation < g) (sym (same (g + 1))) older;
 }
 
-pub heads_move : (old new : Image)
+pub heads_move : (old new : DiskImage)
     → ((n : ℕ) → sector_at new (head_place n) ≡ sector_at old (head_place n))
     → heads_to new ≡ heads_to old
 heads_move old new same =
@@ -121,7 +121,7 @@ heads_move old new same =
 
 -- ---- areas
 
-pub bytes_same : (old new : Image) (place count : ℕ) → ((k : ℕ) → place ≤ k → k < place + count
+pub bytes_same : (old new : DiskImage) (place count : ℕ) → ((k : ℕ) → place ≤ k → k < place + count
     → sector_at new k ≡ sector_at old k) → bytes_from new place count ≡ bytes_from old place count
 bytes_same old new place zero same = refl
 bytes_same old new place (suc count) same =
@@ -161,14 +161,14 @@ area_in geometry g k below =
 
 -- ---- what newest finds
 
-pub keeps : (geometry : Geometry) (old new : Image) → (HasNone old → HasNone new)
+pub keeps : (geometry : Geometry) (old new : DiskImage) → (HasNone old → HasNone new)
     → ((g : ℕ) (h : Head) → IsNewest old g h → IsNewest new g h
     × (bytes_from new (area_place geometry g) geometry.area_sectors
     ≡ bytes_from old (area_place geometry g) geometry.area_sectors))
     → heads_to new ≡ heads_to old → KeepsNewest geometry old new
 keeps geometry old new none moves heads = record {
   none = none;
-  image = λ g version bytes is.
+  process_image = λ g version bytes is.
       let m = moves g _ is.newest in
       record { newest = m.0; area = ap (λ (l : List ℕ). take (length bytes) l) m.1 ∙ is.area };
   damaged = λ d.
@@ -190,18 +190,19 @@ keeps geometry old new none moves heads = record {
   heads = heads;
 }
 
-pub keeps_then : (geometry : Geometry) (old mid new : Image) → KeepsNewest geometry old mid
+pub keeps_then : (geometry : Geometry) (old mid new : DiskImage) → KeepsNewest geometry old mid
     → KeepsNewest geometry mid new → KeepsNewest geometry old new
 keeps_then geometry old mid new one two = record {
   none = λ n. two.none (one.none n);
-  image = λ g version bytes is. two.image g version bytes (one.image g version bytes is);
+  process_image = λ g version bytes is. two.process_image g version bytes
+      (one.process_image g version bytes is);
   damaged = λ d. two.damaged (one.damaged d);
   heads = two.heads ∙ one.heads;
 }
 
 -- ---- an area that is filled
 
-module _ (geometry : Geometry) (g : ℕ) (old new : Image) (others : (k : ℕ)
+module _ (geometry : Geometry) (g : ℕ) (old new : DiskImage) (others : (k : ℕ)
     → IsOutsideArea geometry g k → sector_at new k ≡ sector_at old k) where
   pub same_heads : (n : ℕ) → sector_at new (head_place n) ≡ sector_at old (head_place n)
   same_heads n = others (head_place n) (inl (omega arith))
@@ -230,7 +231,7 @@ module _ (geometry : Geometry) (g : ℕ) (old new : Image) (others : (k : ℕ)
     none_later = let e = heads_move old new same_heads in omega (arith, e, ready.none_later);
   }
 
-pub fills : (geometry : Geometry) (g : ℕ) (old new : Image) → length new ≡ length old
+pub fills : (geometry : Geometry) (g : ℕ) (old new : DiskImage) → length new ≡ length old
     → ((k : ℕ) → IsOutsideArea geometry g k → sector_at new k ≡ sector_at old k)
     → Fills geometry g old new
 fills geometry g old new count others = record {
@@ -239,15 +240,15 @@ fills geometry g old new count others = record {
   newest = filled_keeps geometry g old new others;
 }
 
-pub fills_none : (geometry : Geometry) (g : ℕ) (image : Image) → Fills geometry g image image
+pub fills_none : (geometry : Geometry) (g : ℕ) (image : DiskImage) → Fills geometry g image image
 fills_none geometry g image = fills geometry g image image refl (λ k out. refl)
 
-pub fills_then : (geometry : Geometry) (g : ℕ) (old mid new : Image) → Fills geometry g old mid
+pub fills_then : (geometry : Geometry) (g : ℕ) (old mid new : DiskImage) → Fills geometry g old mid
     → Fills geometry g mid new → Fills geometry g old new
 fills_then geometry g old mid new one two =
     fills geometry g old new (two.count ∙ one.count) (λ k out. two.others k out ∙ one.others k out)
 
-pub fills_commits : (geometry : Geometry) (g version : ℕ) (bytes : List ℕ) (old new : Image)
+pub fills_commits : (geometry : Geometry) (g version : ℕ) (bytes : List ℕ) (old new : DiskImage)
     → Fills geometry g old new → Commits geometry g version bytes old new
 fills_commits geometry g version bytes old new one =
     record {
@@ -256,7 +257,7 @@ fills_commits geometry g version bytes old new one =
       newest = λ ready. inl (one.newest ready);
     }
 
-pub then_commits : (geometry : Geometry) (g version : ℕ) (bytes : List ℕ) (old mid new : Image)
+pub then_commits : (geometry : Geometry) (g version : ℕ) (bytes : List ℕ) (old mid new : DiskImage)
     → Fills geometry g old mid → Commits geometry g version bytes mid new
     → Commits geometry g version bytes old new
 then_commits geometry g version bytes old mid new one two = record {
@@ -266,7 +267,7 @@ then_commits geometry g version bytes old mid new one two = record {
       (λ now. inr now) (two.newest (filled_ready geometry g old mid one.others ready));
 }
 
-pub then_replaces : (geometry : Geometry) (g version : ℕ) (bytes : List ℕ) (old mid new : Image)
+pub then_replaces : (geometry : Geometry) (g version : ℕ) (bytes : List ℕ) (old mid new : DiskImage)
     → Fills geometry g old mid → Replaces geometry g version bytes mid new
     → Replaces geometry g version bytes old new
 then_replaces geometry g version bytes old mid new one two = record {

@@ -2,7 +2,7 @@
 use Rattle.std.proofs.Common.{◌≡◌, ◌≢◌, ℕ, ◌+◌, ◌-◌, ◌<◌, ◌≤◌, [], length, lit<}
 use Rattle.std.proofs.Common.{lit≤, refl, sym, subst, inl, inr, ⊎_elim, arith}
 use Rattle.sha2.specs.Sha256.{sha256}
-use Rattle.sector_disk.specs.rules.Image.{Image, sector_at}
+use Rattle.sector_disk.specs.rules.DiskImage.{DiskImage, sector_at}
 use Rattle.sector_disk.proofs.ExampleLemmas.{byte_of, differ}
 use Rattle.disk_layout.specs.declared.head.Head.{Head}
 use Rattle.disk_layout.specs.rules.Sectors.{IsComplete, IsNewest}
@@ -86,7 +86,7 @@ not_six out = ⊎_elim (λ (h : 6 < 5). omega (arith, h)) (λ (h : 7 ≤ 6). ome
 before : (k : ℕ) → k < 5 → IsOutsideArea areas 3 k
 before k less = inl less
 
-no_step : (k : ℕ) (new : Image) → k < 5 → k ≢ 2
+no_step : (k : ℕ) (new : DiskImage) → k < 5 → k ≢ 2
     → (sector_at new k ≡ sector_at (area_disk [] [] [] []) k → ⊥) → NoStep new
 no_step k new less ne changed = record {
   fills = λ f. changed (f.others k (before k less));

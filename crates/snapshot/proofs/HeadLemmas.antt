@@ -5,7 +5,7 @@ use Rattle.std.proofs.lemmas.Bool.{cases_eq}
 use Rattle.std.proofs.lemmas.List.{take-take, drop-take}
 use Rattle.sha2.specs.Sha256.{sha256}
 use Rattle.guest_memory.specs.rules.Bytes.{part, number_of}
-use Rattle.sector_disk.specs.rules.Image.{Image, sector_at}
+use Rattle.sector_disk.specs.rules.DiskImage.{DiskImage, sector_at}
 use Rattle.disk_layout.specs.declared.geometry.Geometry.{Geometry}
 use Rattle.disk_layout.specs.declared.head.Head.{Head}
 use Rattle.disk_layout.specs.rules.Places.{head_place, area_place, rounded_up}
@@ -47,13 +47,13 @@ shown_has s g some shows =
     omega (arith, none, shows, some)))
     (cases_eq (stamp_of s).place 1)
 
-pub shown_within : (image : Image) (g : ℕ)
+pub shown_within : (image : DiskImage) (g : ℕ)
     → shown_generation 1 (sector_at image (head_place g)) ≤ heads_to image
 shown_within image g = let e = heads_split image g in omega (arith, e)
 
 -- ---- the sector of a head, and what is over it
 
--- a sector that shows the head's generation, and has all of it that stands before the stamp
+-- a sector that shows the head's generation, and has all of it that is before the stamp
 pub record IsHeadSector (h : Head) (s : List ℕ) : Type 0 where
   pub shows : shown_generation 1 s ≡ h.generation
   pub first : take 496 s ≡ take 496 (head_bytes h)
@@ -89,7 +89,7 @@ is_complete h s some is =
 
 -- ---- an image whose area holds the bytes, with a sector in place of its head
 
-module _ (geometry : Geometry) (g version : ℕ) (bytes : List ℕ) (x y : Image)
+module _ (geometry : Geometry) (g version : ℕ) (bytes : List ℕ) (x y : DiskImage)
     (ready : IsReadyForHead g x)
     (others : (k : ℕ) → k ≢ head_place g
     → sector_at y k
@@ -153,7 +153,7 @@ module _ (geometry : Geometry) (g version : ℕ) (bytes : List ℕ) (x y : Image
       complete_less c = let s = shown_complete (g % 2) (sector_at y (head_place g)) c in
           let p = c.parity in omega (arith, s, p, less)
 
-      -- a complete head stands where one was, or it is earlier than the one before this one
+      -- a complete head is where one was, or it is earlier than the one before this one
       complete_was : (n : ℕ) → IsComplete (n % 2) (sector_at y (head_place n))
           → IsComplete (n % 2) (sector_at x (head_place n))
           ⊎ (((stamp_of (sector_at y (head_place n))).generation + 2 ≤ g)

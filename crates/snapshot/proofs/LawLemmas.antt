@@ -1,24 +1,25 @@
 -- An image shows one newest snapshot at most.
 use Rattle.std.proofs.Common.{◌≡◌, ℕ, ◌+◌, ◌-◌, List, length, take, IsErr, refl, sym, ap, ◌∙◌}
 use Rattle.std.proofs.Common.{subst, inl, inr, arith}
-use Rattle.sector_disk.specs.rules.Image.{Image, sector_at}
+use Rattle.sector_disk.specs.rules.DiskImage.{DiskImage, sector_at}
 use Rattle.disk_layout.specs.declared.geometry.Geometry.{Geometry}
 use Rattle.disk_layout.specs.declared.head.Head.{Head}
 use Rattle.sha2.specs.Sha256.{sha256}
 use Rattle.disk_layout.specs.rules.Places.{head_place, area_place}
-use Rattle.disk_layout.specs.rules.Sectors.{bytes_from, head_of, IsNewest, HoldsImage}
+use Rattle.disk_layout.specs.rules.Sectors.{bytes_from, head_of, IsNewest, HoldsProcessImage}
 use Rattle.snapshot.specs.rules.Newest.{IsDamaged}
-use Rattle.snapshot.specs.laws.Laws.{ImageShowsOne, CanBeginAgain, FailsForGood}
+use Rattle.snapshot.specs.laws.Laws.{DiskImageShowsOne, CanBeginAgain, FailsForGood}
 use Rattle.snapshot.proofs.AreaLemmas.{none_at, one_newest}
 
-one_head : (x : Image) (a b : ℕ) (h k : Head) → IsNewest x a h → IsNewest x b k → h ≡ k
+one_head : (x : DiskImage) (a b : ℕ) (h k : Head) → IsNewest x a h → IsNewest x b k → h ≡ k
 one_head x a b h k one two =
     one.is ∙ ap (λ (n : ℕ). head_of (sector_at x (head_place n))) (one_newest x a b h k one two)
     ∙ sym two.is
 
-same_image : (geometry : Geometry) (x : Image) (g h v w : ℕ) (a b : List ℕ)
-    → HoldsImage geometry x g v a → HoldsImage geometry x h w b → (g ≡ h) × (v ≡ w) × (a ≡ b)
-same_image geometry x g h v w a b one two =
+same_process_image : (geometry : Geometry) (x : DiskImage) (g h v w : ℕ) (a b : List ℕ)
+    → HoldsProcessImage geometry x g v a → HoldsProcessImage geometry x h w b → (g ≡ h)
+    × (v ≡ w) × (a ≡ b)
+same_process_image geometry x g h v w a b one two =
     let same = one_newest x g h _ _ one.newest two.newest in
     let head = one_head x g h _ _ one.newest two.newest in
     let len : length a ≡ length b = ap (λ (k : Head). k.length_in_bytes) head in (
@@ -31,8 +32,8 @@ same_image geometry x g h v w a b one two =
           ∙ two.area,
     )
 
-not_damaged : (geometry : Geometry) (x : Image) (g v : ℕ) (a : List ℕ) → HoldsImage geometry x g v a
-    → IsDamaged geometry x → ⊥
+not_damaged : (geometry : Geometry) (x : DiskImage) (g v : ℕ) (a : List ℕ)
+    → HoldsProcessImage geometry x g v a → IsDamaged geometry x → ⊥
 not_damaged geometry x g v a one d =
     let head = one_head x d.generation g d.head _ d.newest one.newest in
     d.other a (record {
@@ -43,9 +44,9 @@ not_damaged geometry x g v a one d =
           head ∙ one.area;
     })
 
-pub shows_one : ImageShowsOne
+pub shows_one : DiskImageShowsOne
 shows_one = record {
-  same = same_image;
+  same = same_process_image;
   some = λ geometry x g v a one none. let n = one.newest in none_at x none g n.complete;
   whole = not_damaged;
   headed = λ geometry x d none. let n = d.newest in none_at x none d.generation n.complete;
@@ -60,7 +61,7 @@ can_begin_again = record {
     none_later = let h = keeps.heads in omega (arith, earlier, h);
   };
   later = λ geometry g version bytes old new holds earlier keeps.
-      let held = keeps.image g version bytes holds in
+      let held = keeps.process_image g version bytes holds in
       let head : Head = record {
         version = version;
         length_in_bytes = length bytes;

@@ -9,5 +9,6 @@ pub mod ByteLemmas
 pub mod SnapshotLemmas
 pub mod LawLemmas
 mod ExampleLemmas
+mod HashingLemmas
 mod CallExamples
 mod StateLemmas

@@ -7,17 +7,17 @@ use Rattle.std.proofs.lemmas.List.{length-take, take-append-le}
 use Rattle.std.proofs.Math.ListN.{get_or-eq_default}
 use Rattle.std.specs.Result.{IsErrAnd}
 use Rattle.sha2.specs.Sha256.{sha256}
-use Rattle.sector_disk.specs.rules.Image.{Image, sector_at, IsImage}
+use Rattle.sector_disk.specs.rules.DiskImage.{DiskImage, sector_at, IsDiskImage}
 use Rattle.disk_layout.specs.declared.geometry.Geometry.{Geometry}
 use Rattle.disk_layout.specs.declared.head.Head.{Head}
 use Rattle.disk_layout.specs.rules.Places.{area_place}
-use Rattle.disk_layout.specs.rules.Sectors.{bytes_from, IsNewest, HoldsImage}
-use Rattle.snapshot.specs.rules.Newest.{NamesBytes, ReadsImage, FindsNewest}
+use Rattle.disk_layout.specs.rules.Sectors.{bytes_from, IsNewest, HoldsProcessImage}
+use Rattle.snapshot.specs.rules.Newest.{NamesBytes, ReadsProcessImage, FindsNewest}
 use Rattle.snapshot.specs.declared.fault.SnapshotFault.{SnapshotFault}
 use Rattle.snapshot.specs.declared.fault.SnapshotFault.TheVariants.{TooBig, Damaged, Disk, Memory}
 use Rattle.snapshot.specs.declared.fault.SnapshotFault.TheVariants.{Failed}
 
-pub bytes_joined : (image : Image) (place n m : ℕ)
+pub bytes_joined : (image : DiskImage) (place n m : ℕ)
     → bytes_from image place (n + m) ≡ bytes_from image place n ++ bytes_from image (place + n) m
 bytes_joined image place zero m =
     ap (λ (k : ℕ). bytes_from image place k) (let e : 0 + m ≡ m = omega arith in e)
@@ -31,7 +31,7 @@ bytes_joined image place (suc n) m =
     ++ bytes_from image k m) (let e : place + 1 + n ≡ place + suc n = omega arith in e)
 
 -- a front is the same of more sectors
-pub front_of_more : (image : Image) (place n count len : ℕ) → n ≤ count
+pub front_of_more : (image : DiskImage) (place n count len : ℕ) → n ≤ count
     → len ≤ length (bytes_from image place n)
     → take len (bytes_from image place n) ≡ take len (bytes_from image place count)
 front_of_more image place n count len le long =
@@ -41,7 +41,7 @@ front_of_more image place n count len le long =
     ∙ ap (λ (k : ℕ). take len (bytes_from image place k)) (let e : n + (count - n)
     ≡ count = omega arith in e)
 
-sector_at_most : (sectors : ℕ) (image : Image) → IsImage sectors image → (k : ℕ)
+sector_at_most : (sectors : ℕ) (image : DiskImage) → IsDiskImage sectors image → (k : ℕ)
     → length (sector_at image k) ≤ 512
 sector_at_most sectors image is k =
     ⊎_elim
@@ -51,8 +51,8 @@ sector_at_most sectors image is k =
     omega (arith, none))
     (cases_lt k sectors)
 
-pub bytes_at_most : (sectors : ℕ) (image : Image) → IsImage sectors image → (place count : ℕ)
-    → length (bytes_from image place count) ≤ 512 * count
+pub bytes_at_most : (sectors : ℕ) (image : DiskImage) → IsDiskImage sectors image
+    → (place count : ℕ) → length (bytes_from image place count) ≤ 512 * count
 bytes_at_most sectors image is place zero = omega arith
 bytes_at_most sectors image is place (suc count) =
     omega (
@@ -71,8 +71,8 @@ front_within bytes all e =
 
 -- ---- what a head names
 
-pub names_within : (sectors : ℕ) (geometry : Geometry) (image : Image) (h : Head) (bytes : List ℕ)
-    → IsImage sectors image → NamesBytes geometry image h bytes
+pub names_within : (sectors : ℕ) (geometry : Geometry) (image : DiskImage) (h : Head)
+    (bytes : List ℕ) → IsDiskImage sectors image → NamesBytes geometry image h bytes
     → h.length_in_bytes ≤ 512 * geometry.area_sectors
 names_within sectors geometry image h bytes is names =
     let w = front_within bytes
@@ -81,7 +81,7 @@ names_within sectors geometry image h bytes is names =
     in
     omega (arith, w, m, names.len)
 
-pub names_only : (geometry : Geometry) (image : Image) (h : Head) (bytes found : List ℕ)
+pub names_only : (geometry : Geometry) (image : DiskImage) (h : Head) (bytes found : List ℕ)
     → found ≡ take h.length_in_bytes
     (bytes_from image (area_place geometry h.generation) geometry.area_sectors)
     → NamesBytes geometry image h bytes
@@ -94,7 +94,7 @@ names_only geometry image h bytes found is names =
     take n (bytes_from image (area_place geometry h.generation) geometry.area_sectors))
     names.len ∙ same))
 
-pub is_named : (geometry : Geometry) (image : Image) (h : Head) (found : List ℕ)
+pub is_named : (geometry : Geometry) (image : DiskImage) (h : Head) (found : List ℕ)
     → length found ≡ h.length_in_bytes
     → found ≡ take h.length_in_bytes
     (bytes_from image (area_place geometry h.generation) geometry.area_sectors)
@@ -108,9 +108,9 @@ is_named geometry image h found len is digest = record {
 }
 
 -- the newest head and what it names
-pub named_holds : (geometry : Geometry) (image : Image) (h : Head) (bytes : List ℕ)
+pub named_holds : (geometry : Geometry) (image : DiskImage) (h : Head) (bytes : List ℕ)
     → IsNewest image h.generation h → NamesBytes geometry image h bytes
-    → HoldsImage geometry image h.generation h.version bytes
+    → HoldsProcessImage geometry image h.generation h.version bytes
 named_holds geometry image h bytes newest names =
     let len = names.len in
     let digest = names.digest in
@@ -130,8 +130,8 @@ named_holds geometry image h bytes newest names =
       area = names.area;
     }
 
-pub fault_found : (geometry : Geometry) (image : Image) (h : Head) (fault : SnapshotFault)
-    → IsNewest image h.generation h → ReadsImage geometry image h (Err fault)
+pub fault_found : (geometry : Geometry) (image : DiskImage) (h : Head) (fault : SnapshotFault)
+    → IsNewest image h.generation h → ReadsProcessImage geometry image h (Err fault)
     → FindsNewest geometry image (Err fault)
 fault_found geometry image h TooBig newest reads = reads
 fault_found geometry image h Damaged newest reads = record {

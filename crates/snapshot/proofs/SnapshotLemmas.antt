@@ -34,39 +34,41 @@ begun_pushed geometry m g v told s is = begun_given geometry m g v told s.state 
 
 module _ (geometry : Geometry) (g v : ℕ) (bytes : List ℕ) where
   pub filled_commits : (old new : Medium)
-      → LeavesOnly old new (After (Fills geometry g) old.may_leave)
-      → LeavesOnly old new (After (Commits geometry g v bytes) old.may_leave)
+      → LeavesOnly old new (After (Fills geometry g) old.crash_images)
+      → LeavesOnly old new (After (Commits geometry g v bytes) old.crash_images)
   filled_commits old new one =
-      leaves_weaker old new (After (Fills geometry g) old.may_leave)
-      (After (Commits geometry g v bytes) old.may_leave) one (λ image a. (
+      leaves_weaker old new (After (Fills geometry g) old.crash_images)
+      (After (Commits geometry g v bytes) old.crash_images) one (λ image a. (
         a.0,
         a.1,
         fills_commits geometry g v bytes a.0 image a.2,
       ))
 
-  pub none_commits : (m : Medium) → LeavesOnly m m (After (Commits geometry g v bytes) m.may_leave)
+  pub none_commits : (m : Medium) → LeavesOnly m m (After (Commits geometry g v bytes)
+      m.crash_images)
   none_commits m = filled_commits m m (none_fills geometry g m)
 
   module _ (old mid new : Medium)
-      (one : LeavesOnly old mid (After (Fills geometry g) old.may_leave)) where
-    pub committed : LeavesOnly mid new (After (Commits geometry g v bytes) mid.may_leave)
-        → LeavesOnly old new (After (Commits geometry g v bytes) old.may_leave)
+      (one : LeavesOnly old mid (After (Fills geometry g) old.crash_images)) where
+    pub committed : LeavesOnly mid new (After (Commits geometry g v bytes) mid.crash_images)
+        → LeavesOnly old new (After (Commits geometry g v bytes) old.crash_images)
     committed two =
-        leaves_then old mid new (After (Fills geometry g) old.may_leave)
-        (After (Commits geometry g v bytes) mid.may_leave)
-        (After (Commits geometry g v bytes) old.may_leave) one two
+        leaves_then old mid new (After (Fills geometry g) old.crash_images)
+        (After (Commits geometry g v bytes) mid.crash_images)
+        (After (Commits geometry g v bytes) old.crash_images) one two
         (λ image a. (a.0, a.1, fills_commits geometry g v bytes a.0 image a.2))
-        (λ image a. let b = leaves_now old mid (After (Fills geometry g) old.may_leave) one a.0 a.1
+        (λ image a. let b = leaves_now old mid (After (Fills geometry g)
+        old.crash_images) one a.0 a.1
         in (b.0, b.1, then_commits geometry g v bytes b.0 a.0 image b.2 a.2))
-        (λ image left. (
+        (λ image crashed. (
           image,
-          left,
+          crashed,
           fills_commits geometry g v bytes image image (fills_none geometry g image),
         ))
 
-    pub committed_whole : Follows (Replaces geometry g v bytes) mid.may_leave new.may_leave
-        → Follows (Replaces geometry g v bytes) old.may_leave new.may_leave
-    committed_whole two = λ image left.
-        let a = two image left in
-        let b = leaves_now old mid (After (Fills geometry g) old.may_leave) one a.0 a.1 in
+    pub committed_whole : Follows (Replaces geometry g v bytes) mid.crash_images new.crash_images
+        → Follows (Replaces geometry g v bytes) old.crash_images new.crash_images
+    committed_whole two = λ image crashed.
+        let a = two image crashed in
+        let b = leaves_now old mid (After (Fills geometry g) old.crash_images) one a.0 a.1 in
         (b.0, b.1, then_replaces geometry g v bytes b.0 a.0 image b.2 a.2)

@@ -2,10 +2,10 @@
 use Rattle.std.proofs.Common.{◌≡◌, ℕ, ◌+◌, ◌*◌, ◌<◌, ◌≤◌, max, List, [], length, refl, sym, ap, ◌∙◌}
 use Rattle.std.proofs.Common.{subst, arith}
 use Rattle.std.proofs.lemmas.List.{set-get_or}
-use Rattle.sector_disk.specs.rules.Image.{Image, sector_at, with_sector, IsTorn, IsWritten}
+use Rattle.sector_disk.specs.rules.DiskImage.{DiskImage, sector_at, with_sector, IsTorn, IsWritten}
 use Rattle.sector_disk.specs.rules.Medium.{Medium, Follows, BothFollow, CountsUpTo, Holds}
 use Rattle.sector_disk.specs.laws.Fronts.{sector-with_sector, sector-with_other}
-use Rattle.sector_disk.proofs.Moments.{shows_follow, shows_left}
+use Rattle.sector_disk.proofs.Moments.{shows_follow, shows_crashed}
 use Rattle.sector_disk.proofs.CountLemmas.{counts_same, counts_then, unsynced_within}
 use Rattle.snapshot.specs.Writing.{GaveSectors, SparesSectors, SparesAllButHead}
 use Rattle.snapshot.specs.declared.snapshots.State.{State}
@@ -22,27 +22,27 @@ spares_none place n m = record {
 -- a sector that is stored
 pub spares_one : (place n : ℕ) (bytes : List ℕ) (old new : Medium) → place + n < old.sectors
     → BothFollow (IsWritten (place + n) bytes) (IsTorn (place + n) bytes) old new
-    → ((image : Image) → new.shows image → Holds old (place + n) bytes
+    → ((image : DiskImage) → new.shows image → Holds old (place + n) bytes
     → CountsUpTo old.unsynced old new) → SparesSectors place n (n + 1) old new
 spares_one place n bytes old new inside whole told = record {
   spared = λ image shows gave.
       let was = shows_follow old new _ _ whole image shows in
-      let full = old.is_image was.0 (shows_left old was.0 was.1) in
+      let full = old.is_disk_image was.0 (shows_crashed old was.0 was.1) in
       let long : place + n < length was.0 = omega (arith, full.count, inside) in
       let here : sector_at image (place + n) ≡ bytes =
-      ap (λ (i : Image). sector_at i (place + n)) was.2
+      ap (λ (i : DiskImage). sector_at i (place + n)) was.2
       ∙ sector-with_sector was.0 (place + n) bytes long in
       let holds : Holds old (place + n) bytes =
       λ x given. gave n (omega arith) (omega arith) x given ∙ here in
       let same : image ≡ was.0 =
       was.2 ∙ ap (λ (l : List ℕ). with_sector was.0 (place + n) l) (sym (holds was.0 was.1))
       ∙ set-get_or was.0 (place + n) (let none : List ℕ = [] in none) in
-      (told image shows holds, subst (λ (i : Image). old.shows i) (sym same) was.1);
+      (told image shows holds, subst (λ (i : DiskImage). old.shows i) (sym same) was.1);
   behind = λ image shows.
       let was = shows_follow old new _ _ whole image shows in (
         was.0,
         was.1,
-        λ k le. ap (λ (i : Image). sector_at i (place + k)) was.2
+        λ k le. ap (λ (i : DiskImage). sector_at i (place + k)) was.2
             ∙ sector-with_other was.0 (place + k) (place + n) bytes (λ (e : place + k ≡ place + n).
             omega (arith, e, le)),
       );
@@ -74,13 +74,13 @@ spares_then place a b c old mid new ab bc later one two = record {
 -- a head that is written before the area
 pub spares_head : (place a b k : ℕ) (bytes : List ℕ) (old mid new : Medium) → k < place
     → old.moment ≤ mid.moment → SparesSectors place a b old mid
-    → Follows (IsWritten k bytes) mid.shows new.may_leave
+    → Follows (IsWritten k bytes) mid.shows new.crash_images
     → CountsUpTo (max mid.unsynced 1) mid new → SparesAllButHead place a b old new
 spares_head place a b k bytes old mid new before later one written two = record {
   spared = λ image shows gave.
-      let was = written image (shows_left new image shows) in
+      let was = written image (shows_crashed new image shows) in
       let same : (j : ℕ) → sector_at image (place + j) ≡ sector_at was.0 (place + j) =
-      λ j. ap (λ (i : Image). sector_at i (place + j)) was.2
+      λ j. ap (λ (i : DiskImage). sector_at i (place + j)) was.2
       ∙ sector-with_other was.0 (place + j) k bytes (λ (e : place + j ≡ k). omega (
         arith,
         e,

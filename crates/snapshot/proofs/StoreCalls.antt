@@ -5,13 +5,13 @@ use Rattle.sector_disk.specs.rules.Medium.{Medium, BeginsCalls}
 use Rattle.sector_disk.specs.rules.Calls.{rising_writes}
 use Rattle.sector_disk.specs.declared.disk_call.DiskCall.{DiskCall}
 use Rattle.sector_disk.specs.declared.disk_call.DiskCall.TheVariants.{WriteOf, Sync}
-use Rattle.sector_disk.proofs.CallLemmas.{no_calls, begun_then, begun_first, made_then}
+use Rattle.sector_disk.proofs.CallLemmas.{no_calls, begun_then, begun_first, performed_then}
 use Rattle.sector_disk.proofs.CallLemmas.{rising_longer}
 use Rattle.disk_layout.specs.rules.Places.{head_place}
 use Rattle.snapshot.specs.declared.writing.Writing.{Writing}
 use Rattle.snapshot.specs.declared.writing.Writing.TheVariants.{Whole, Changes}
-use Rattle.snapshot.specs.rules.Calls.{SomeRising, AreStores, AreaStores, MakesStores}
-use Rattle.snapshot.specs.rules.Calls.{MakesStoresAndHead, with_head}
+use Rattle.snapshot.specs.rules.Calls.{SomeRising, AreStores, AreaStores, PerformsStores}
+use Rattle.snapshot.specs.rules.Calls.{PerformsStoresAndHead, with_head}
 
 abbrev pub stores : Writing → ℕ → ℕ → AreaStores
 stores writing at n = record { writing = writing; first = at; count = n }
@@ -132,12 +132,12 @@ module _ (writing : Writing) (at n m : ℕ) (old mid new : Medium)
   )
 
   pub head_then : {T E : Type 0} (g : ℕ) (result : Result T E)
-      → MakesStoresAndHead (stores writing (at + n) m) g result mid new
-      → MakesStoresAndHead (stores writing at (n + m)) g result old new
+      → PerformsStoresAndHead (stores writing (at + n) m) g result mid new
+      → PerformsStoresAndHead (stores writing at (n + m)) g result old new
   head_then g result two = (
     two.0 ++ one.0,
     both_are two.0 two.1,
-    made_then one.0 (with_head g two.0) result old mid new one.2 two.2,
+    performed_then one.0 (with_head g two.0) result old mid new one.2 two.2,
   )
 
 -- the head is never begun
@@ -171,14 +171,14 @@ pub begun_at : {one other : AreaStores} (old new : Medium) → one ≡ other
 begun_at old new e begun =
     subst (λ (s : AreaStores). BeginsStores s.writing s.first s.count old new) e begun
 
-pub makes_at : {T E : Type 0} {one other : AreaStores} (result : Result T E) (old new : Medium)
-    → one ≡ other → MakesStores one result old new → MakesStores other result old new
-makes_at result old new e makes =
-    subst (λ (s : AreaStores). MakesStores s result old new) e makes
+pub performs_at : {T E : Type 0} {one other : AreaStores} (result : Result T E) (old new : Medium)
+    → one ≡ other → PerformsStores one result old new → PerformsStores other result old new
+performs_at result old new e makes =
+    subst (λ (s : AreaStores). PerformsStores s result old new) e makes
 
 pub head_at : {T E : Type 0} {one other : AreaStores} (g h : ℕ) (result : Result T E)
-    (old new : Medium) → one ≡ other → h ≡ g → MakesStoresAndHead one h result old new
-    → MakesStoresAndHead other g result old new
+    (old new : Medium) → one ≡ other → h ≡ g → PerformsStoresAndHead one h result old new
+    → PerformsStoresAndHead other g result old new
 head_at {one = one} {other = other} g h result old new e whose makes =
-    let same = subst (λ (s : AreaStores). MakesStoresAndHead s h result old new) e makes in
-    subst (λ (j : ℕ). MakesStoresAndHead other j result old new) whose same
+    let same = subst (λ (s : AreaStores). PerformsStoresAndHead s h result old new) e makes in
+    subst (λ (j : ℕ). PerformsStoresAndHead other j result old new) whose same

@@ -9,10 +9,11 @@ use Rattle.sha2.specs.Sha256.{sha256}
 use Rattle.sha2.proofs.Facts256.{length-sha256}
 use Rattle.guest_memory.specs.rules.Bytes.{IsByte, number_of, with_part}
 use Rattle.wasi_abi.specs.rules.Layouts.{padding}
-use Rattle.sector_disk.specs.rules.Image.{Image, sector_at, front_over, IsImage, IsTorn, IsWritten}
+use Rattle.sector_disk.specs.rules.DiskImage.{DiskImage, sector_at, front_over, IsDiskImage, IsTorn}
+use Rattle.sector_disk.specs.rules.DiskImage.{IsWritten}
 use Rattle.sector_disk.specs.rules.Medium.{Medium, After, Follows, BothFollow, LeavesOnly}
 use Rattle.sector_disk.specs.laws.Fronts.{sector-with_sector, sector-with_other}
-use Rattle.sector_disk.proofs.Moments.{started, leaves_only, shows_follow, shows_left}
+use Rattle.sector_disk.proofs.Moments.{started, leaves_only, shows_follow, shows_crashed}
 use Rattle.sector_disk.proofs.Moments.{leaves_weaker}
 use Rattle.disk_layout.specs.declared.geometry.Geometry.{Geometry}
 use Rattle.disk_layout.specs.declared.head.Head.{Head}
@@ -33,7 +34,7 @@ use Rattle.snapshot.proofs.StoreLemmas.{leaves_then, leaves_now}
 
 -- ---- the area alone
 
-pub torn_fills : (geometry : Geometry) (g k : ℕ) (bytes : List ℕ) (old new : Image)
+pub torn_fills : (geometry : Geometry) (g k : ℕ) (bytes : List ℕ) (old new : DiskImage)
     → area_place geometry g ≤ k → k < area_place geometry g + geometry.area_sectors
     → IsTorn k bytes old new → Fills geometry g old new
 torn_fills geometry g k bytes old new from below torn =
@@ -50,52 +51,54 @@ torn_fills geometry g k bytes old new from below torn =
       below,
     )) out in
     fills geometry g old new
-    (ap (λ (i : Image). length i) torn.is ∙ length-set old k _)
-    (λ n out. ap (λ (i : Image). sector_at i n) torn.is ∙ sector-with_other old n k _ (apart n out))
+    (ap (λ (i : DiskImage). length i) torn.is ∙ length-set old k _)
+    (λ n out. ap (λ (i : DiskImage). sector_at i n) torn.is
+    ∙ sector-with_other old n k _ (apart n out))
 
 pub store_fills : (geometry : Geometry) (g k : ℕ) (bytes : List ℕ) (old new : Medium)
     → area_place geometry g ≤ k → k < area_place geometry g + geometry.area_sectors
-    → LeavesOnly old new (After (IsTorn k bytes) old.may_leave)
-    → LeavesOnly old new (After (Fills geometry g) old.may_leave)
+    → LeavesOnly old new (After (IsTorn k bytes) old.crash_images)
+    → LeavesOnly old new (After (Fills geometry g) old.crash_images)
 store_fills geometry g k bytes old new from below one =
-    leaves_weaker old new (After (IsTorn k bytes) old.may_leave)
-    (After (Fills geometry g) old.may_leave) one (λ image a. (
+    leaves_weaker old new (After (IsTorn k bytes) old.crash_images)
+    (After (Fills geometry g) old.crash_images) one (λ image a. (
       a.0,
       a.1,
       torn_fills geometry g k bytes a.0 image from below a.2,
     ))
 
 pub none_fills : (geometry : Geometry) (g : ℕ) (m : Medium)
-    → LeavesOnly m m (After (Fills geometry g) m.may_leave)
+    → LeavesOnly m m (After (Fills geometry g) m.crash_images)
 none_fills geometry g m =
-    leaves_only m m (After (Fills geometry g) m.may_leave)
-    (started m (After (Fills geometry g) m.may_leave)) (λ image left. (
+    leaves_only m m (After (Fills geometry g) m.crash_images)
+    (started m (After (Fills geometry g) m.crash_images)) (λ image crashed. (
       image,
-      left,
+      crashed,
       fills_none geometry g image,
     ))
 
 pub more_fills : (geometry : Geometry) (g : ℕ) (old mid new : Medium)
-    → LeavesOnly old mid (After (Fills geometry g) old.may_leave)
-    → LeavesOnly mid new (After (Fills geometry g) mid.may_leave)
-    → LeavesOnly old new (After (Fills geometry g) old.may_leave)
+    → LeavesOnly old mid (After (Fills geometry g) old.crash_images)
+    → LeavesOnly mid new (After (Fills geometry g) mid.crash_images)
+    → LeavesOnly old new (After (Fills geometry g) old.crash_images)
 more_fills geometry g old mid new one two =
-    leaves_then old mid new (After (Fills geometry g) old.may_leave)
-    (After (Fills geometry g) mid.may_leave) (After (Fills geometry g) old.may_leave) one two
+    leaves_then old mid new (After (Fills geometry g) old.crash_images)
+    (After (Fills geometry g) mid.crash_images) (After (Fills geometry g) old.crash_images) one two
     (λ image a. a)
-    (λ image a. let b = leaves_now old mid (After (Fills geometry g) old.may_leave) one a.0 a.1 in
-    (b.0, b.1, fills_then geometry g b.0 a.0 image b.2 a.2))
-    (λ image left. (image, left, fills_none geometry g image))
+    (λ image a. let b = leaves_now old mid (After (Fills geometry g) old.crash_images)
+    one a.0 a.1 in (b.0, b.1, fills_then geometry g b.0 a.0 image b.2 a.2))
+    (λ image crashed. (image, crashed, fills_none geometry g image))
 
 -- ---- bytes that are given
 
 -- What is unsynced now (u), and the sectors that are still to be filled. s sectors are written and
 -- f bytes wait, of t and e before.
-pub sectors_left : (u v s t f e at len left : ℕ) → u + t ≤ v + s → 512 * s + f ≡ 512 * t + e + at
-    → at ≤ len → f < 512 → e < 512 → left ≡ len - at → u + (f + left) / 512 ≤ v + (e + len) / 512
-sectors_left u v s t f e at len left few is within less was left-is = omega arith
+pub sectors_left : (u v s t f e at len bytes_left : ℕ) → u + t ≤ v + s → 512 * s + f
+    ≡ 512 * t + e + at → at ≤ len → f < 512 → e < 512 → bytes_left ≡ len - at → u
+    + (f + bytes_left) / 512 ≤ v + (e + len) / 512
+sectors_left u v s t f e at len bytes_left few is within less was bytes_left-is = omega arith
 
--- a sector's front with bytes put behind it
+-- a sector's front with bytes put after it
 pub put_behind : (filled : ℕ) (sector chunk : List ℕ) → filled + length chunk ≤ length sector
     → take (filled + length chunk) (with_part sector filled chunk) ≡ take filled sector ++ chunk
 put_behind filled sector chunk room =
@@ -128,25 +131,25 @@ given_more area filled sector chunk before room is =
     ap (λ (l : List ℕ). area ++ l) (put_behind filled sector chunk room)
     ∙ sym (append_assoc area (take filled sector) chunk) ∙ ap (λ (l : List ℕ). l ++ chunk) is
 
--- a sector that was stored behind those of the area
+-- a sector that was stored after those of the area
 pub stored_more : (place n : ℕ) (front chunk stored before : List ℕ) (old new : Medium)
     → place + n < old.sectors → stored ≡ front ++ chunk
     → BothFollow (IsWritten (place + n) stored) (IsTorn (place + n) stored) old new
-    → ((image : Image) → old.shows image → bytes_from image place n ++ front ≡ before)
-    → (image : Image) → new.shows image → bytes_from image place (n + 1) ≡ before ++ chunk
+    → ((image : DiskImage) → old.shows image → bytes_from image place n ++ front ≡ before)
+    → (image : DiskImage) → new.shows image → bytes_from image place (n + 1) ≡ before ++ chunk
 stored_more place n front chunk stored before old new inside is whole held image shows =
     let was = shows_follow old new _ _ whole image shows in
-    let full = old.is_image was.0 (shows_left old was.0 was.1) in
+    let full = old.is_disk_image was.0 (shows_crashed old was.0 was.1) in
     let long : place + n < length was.0 = omega (arith, full.count, inside) in
     let others =
-    bytes_same was.0 image place n (λ k from below. ap (λ (i : Image). sector_at i k) was.2
+    bytes_same was.0 image place n (λ k from below. ap (λ (i : DiskImage). sector_at i k) was.2
     ∙ sector-with_other was.0 k (place + n) stored (λ (e : k ≡ place + n). omega (
       arith,
       e,
       below,
     ))) in
     let here : sector_at image (place + n) ≡ front ++ chunk =
-    ap (λ (i : Image). sector_at i (place + n)) was.2
+    ap (λ (i : DiskImage). sector_at i (place + n)) was.2
     ∙ sector-with_sector was.0 (place + n) stored long ∙ is in
     bytes_from-more image place n
     ∙ ap (λ (l : List ℕ). l ++ sector_at image (place + n)) others
@@ -154,8 +157,8 @@ stored_more place n front chunk stored before old new inside is whole held image
     ∙ sym (append_assoc (bytes_from was.0 place n) front chunk)
     ∙ ap (λ (l : List ℕ). l ++ chunk) (held was.0 was.1)
 
--- the image's bytes are the front of the area, whatever stands behind them
-pub area_holds : (image : Image) (place n count : ℕ) (bytes rest : List ℕ) → n ≤ count
+-- the image's bytes are the front of the area, whatever is after them
+pub area_holds : (image : DiskImage) (place n count : ℕ) (bytes rest : List ℕ) → n ≤ count
     → bytes_from image place n ≡ bytes ++ rest → SectorsHold image place count bytes
 area_holds image place n count bytes rest le is =
     let long : length bytes ≤ length (bytes_from image place n) =
@@ -164,9 +167,9 @@ area_holds image place n count bytes rest le is =
     ∙ ap (λ (l : List ℕ). take (length bytes) l) is ∙ take-append_seam bytes rest
 
 -- the same with zeros up to the end of the last sector
-pub zeros_held : (image : Image) (place n z : ℕ) (bytes : List ℕ) → n ≡ rounded_up (length bytes)
-    → z ≡ 512 * n - length bytes → bytes_from image place n ≡ bytes ++ padding z
-    → bytes_from image place (rounded_up (length bytes)) ≡ bytes
+pub zeros_held : (image : DiskImage) (place n z : ℕ) (bytes : List ℕ) → n
+    ≡ rounded_up (length bytes) → z ≡ 512 * n - length bytes → bytes_from image place n
+    ≡ bytes ++ padding z → bytes_from image place (rounded_up (length bytes)) ≡ bytes
     ++ padding (512 * rounded_up (length bytes) - length bytes)
 zeros_held image place n z bytes n-is z-is is =
     ap (λ (k : ℕ). bytes_from image place k) (sym n-is) ∙ is
@@ -221,15 +224,15 @@ module _ (geometry : Geometry) (h : Head) (bytes : List ℕ) (is : IsHead h) (le
     generation = h.generation;
   }
 
-  module _ (x y : Image) (sectors : ℕ) (image : IsImage sectors x) (inside : 3
+  module _ (x y : DiskImage) (sectors : ℕ) (image : IsDiskImage sectors x) (inside : 3
       ≤ sectors) (zeros : HoldsWithZeros geometry h.generation bytes x) where
     area : SectorsHold x (area_place geometry h.generation) geometry.area_sectors bytes
     area = area_holds x (area_place geometry h.generation)
         (rounded_up (length bytes)) geometry.area_sectors bytes
         (padding (512 * rounded_up (length bytes) - length bytes)) few zeros
 
-    in_image : head_place h.generation < length x
-    in_image = let c = image.count in omega (arith, c, inside)
+    in_disk_image : head_place h.generation < length x
+    in_disk_image = let c = image.count in omega (arith, c, inside)
 
     full_head : length (sector_at x (head_place h.generation)) ≡ 512
     full_head = image.full (head_place h.generation) (omega (arith, inside))
@@ -238,14 +241,15 @@ module _ (geometry : Geometry) (h : Head) (bytes : List ℕ) (is : IsHead h) (le
         → Commits geometry h.generation h.version bytes x y
     torn_commits torn =
         let others : (k : ℕ) → k ≢ head_place h.generation → sector_at y k ≡ sector_at x k =
-        λ k ne. ap (λ (i : Image). sector_at i k) torn.is
+        λ k ne. ap (λ (i : DiskImage). sector_at i k) torn.is
         ∙ sector-with_other x k (head_place h.generation) _ ne in
         let here : sector_at y (head_place h.generation)
         ≡ front_over torn.front (head_bytes h) (sector_at x (head_place h.generation)) =
-        ap (λ (i : Image). sector_at i (head_place h.generation)) torn.is
-        ∙ sector-with_sector x (head_place h.generation) _ in_image in
+        ap (λ (i : DiskImage). sector_at i (head_place h.generation)) torn.is
+        ∙ sector-with_sector x (head_place h.generation) _ in_disk_image in
         record {
-          count = ap (λ (i : Image). length i) torn.is ∙ length-set x (head_place h.generation) _;
+          count = ap (λ (i : DiskImage). length i) torn.is ∙ length-set x
+              (head_place h.generation) _;
           others = λ k out ne. others k ne;
           newest = λ ready.
               let later : shown_generation 1 (sector_at x (head_place h.generation))
@@ -277,13 +281,14 @@ module _ (geometry : Geometry) (h : Head) (bytes : List ℕ) (is : IsHead h) (le
         → Replaces geometry h.generation h.version bytes x y
     whole_replaces written =
         let others : (k : ℕ) → k ≢ head_place h.generation → sector_at y k ≡ sector_at x k =
-        λ k ne. ap (λ (i : Image). sector_at i k) written
+        λ k ne. ap (λ (i : DiskImage). sector_at i k) written
         ∙ sector-with_other x k (head_place h.generation) _ ne in
         let here : sector_at y (head_place h.generation) ≡ head_bytes h =
-        ap (λ (i : Image). sector_at i (head_place h.generation)) written
-        ∙ sector-with_sector x (head_place h.generation) _ in_image in
+        ap (λ (i : DiskImage). sector_at i (head_place h.generation)) written
+        ∙ sector-with_sector x (head_place h.generation) _ in_disk_image in
         record {
-          count = ap (λ (i : Image). length i) written ∙ length-set x (head_place h.generation) _;
+          count = ap (λ (i : DiskImage). length i) written ∙ length-set x
+              (head_place h.generation) _;
           others = λ k out ne. others k ne;
           newest = λ ready.
               new_head geometry h.generation h.version bytes x y ready others area h is.fits
@@ -293,68 +298,72 @@ module _ (geometry : Geometry) (h : Head) (bytes : List ℕ) (is : IsHead h) (le
               });
         }
 
-  -- ---- a head behind a settled area
+  -- ---- a head behind a durable area
 
   module _ (old mid new : Medium) (inside : 3
-      ≤ mid.sectors) (one : LeavesOnly old mid (After (Fills geometry h.generation) old.may_leave))
-      (holds : (image : Image) → mid.shows image
+      ≤ mid.sectors) (one : LeavesOnly old mid (After (Fills geometry h.generation)
+      old.crash_images)) (holds : (image : DiskImage) → mid.shows image
       → HoldsWithZeros geometry h.generation bytes image) where
-    fills_left : (image : Image) → old.may_leave image
-        → After (Commits geometry h.generation h.version bytes) old.may_leave image
-    fills_left image left = (
+    fills_crashed : (image : DiskImage) → old.crash_images image
+        → After (Commits geometry h.generation h.version bytes) old.crash_images image
+    fills_crashed image crashed = (
       image,
-      left,
+      crashed,
       fills_commits geometry h.generation h.version bytes image image
           (fills_none geometry h.generation image),
     )
 
-    filled_commits : (image : Image) → After (Fills geometry h.generation) old.may_leave image
-        → After (Commits geometry h.generation h.version bytes) old.may_leave image
+    filled_commits : (image : DiskImage) → After (Fills geometry h.generation)
+        old.crash_images image → After (Commits geometry h.generation h.version bytes)
+        old.crash_images image
     filled_commits image a =
         (a.0, a.1, fills_commits geometry h.generation h.version bytes a.0 image a.2)
 
     pub not_finished : LeavesOnly old mid
-        (After (Commits geometry h.generation h.version bytes) old.may_leave)
+        (After (Commits geometry h.generation h.version bytes) old.crash_images)
     not_finished =
-        leaves_weaker old mid (After (Fills geometry h.generation) old.may_leave)
-        (After (Commits geometry h.generation h.version bytes) old.may_leave) one filled_commits
+        leaves_weaker old mid (After (Fills geometry h.generation) old.crash_images)
+        (After (Commits geometry h.generation h.version bytes) old.crash_images) one filled_commits
 
-    pub finished : LeavesOnly mid new (λ image. mid.may_leave image
+    pub finished : LeavesOnly mid new (λ image. mid.crash_images image
         ⊎ After (IsTorn (head_place h.generation) (head_bytes h)) mid.shows image)
-        → LeavesOnly old new (After (Commits geometry h.generation h.version bytes) old.may_leave)
+        → LeavesOnly old new (After (Commits geometry h.generation h.version bytes)
+        old.crash_images)
     finished two =
-        leaves_then old mid new (After (Fills geometry h.generation) old.may_leave) (λ image.
-        mid.may_leave image
+        leaves_then old mid new (After (Fills geometry h.generation) old.crash_images) (λ image.
+        mid.crash_images image
         ⊎ After (IsTorn (head_place h.generation) (head_bytes h)) mid.shows image)
-        (After (Commits geometry h.generation h.version bytes) old.may_leave) one two filled_commits
-        (λ image q.
+        (After (Commits geometry h.generation h.version bytes) old.crash_images) one two
+        filled_commits (λ image q.
         ⊎_elim
-        (λ left. filled_commits image
-        (leaves_now old mid (After (Fills geometry h.generation) old.may_leave) one image left))
-        (λ a.
-        let left = shows_left mid a.0 a.1 in
-        let b = leaves_now old mid (After (Fills geometry h.generation) old.may_leave) one a.0 left
+        (λ crashed. filled_commits image
+        (leaves_now old mid (After (Fills geometry h.generation) old.crash_images) one
+        image crashed)) (λ a.
+        let crashed = shows_crashed mid a.0 a.1 in
+        let b = leaves_now old mid (After (Fills geometry h.generation) old.crash_images)
+        one a.0 crashed
         in (
           b.0,
           b.1,
           then_commits geometry h.generation h.version bytes b.0 a.0 image b.2
-              (torn_commits a.0 image mid.sectors (mid.is_image a.0 left) inside
+              (torn_commits a.0 image mid.sectors (mid.is_disk_image a.0 crashed) inside
               (holds a.0 a.1) a.2),
         ))
         q)
-        fills_left
+        fills_crashed
 
     pub replaced : Follows (IsWritten (head_place h.generation) (head_bytes h)) mid.shows
-        new.may_leave
-        → Follows (Replaces geometry h.generation h.version bytes) old.may_leave new.may_leave
-    replaced written = λ image left.
-        let a = written image left in
-        let was = shows_left mid a.0 a.1 in
-        let b = leaves_now old mid (After (Fills geometry h.generation) old.may_leave) one a.0 was
+        new.crash_images
+        → Follows (Replaces geometry h.generation h.version bytes) old.crash_images new.crash_images
+    replaced written = λ image crashed.
+        let a = written image crashed in
+        let was = shows_crashed mid a.0 a.1 in
+        let b = leaves_now old mid (After (Fills geometry h.generation)
+        old.crash_images) one a.0 was
         in (
           b.0,
           b.1,
           then_replaces geometry h.generation h.version bytes b.0 a.0 image b.2
-              (whole_replaces a.0 image mid.sectors (mid.is_image a.0 was) inside
+              (whole_replaces a.0 image mid.sectors (mid.is_disk_image a.0 was) inside
               (holds a.0 a.1) a.2),
         )

@@ -1,8 +1,8 @@
-// Bytes at a place of a sector.
+//! Bytes at a place of a sector.
 ghost use Rattle.std.specs.Prelude.{◌≡◌, ◌+◌, ◌≤◌, length, replicate};
 ghost use Rattle.guest_memory.specs.rules.Bytes.{with_part};
 ghost use Rattle.sector_disk.specs.declared.sector.TheConstants.{SECTOR_SIZE};
-ghost use Rattle.sector_disk.specs.rules.Image.{front_over};
+ghost use Rattle.sector_disk.specs.rules.DiskImage.{front_over};
 
 use sector_disk::SECTOR_SIZE;
 
@@ -15,7 +15,7 @@ pub(crate) fn put(sector: &mut [u8; SECTOR_SIZE], at: usize, bytes: &[u8])
     sector[at..at + bytes.len()].copy_from_slice(bytes);
 }
 
-/// A front of a sector, and zeros behind it.
+/// A prefix of a sector, and zeros after it.
 pub(crate) fn pad(sector: &[u8; SECTOR_SIZE], front: usize) -> [u8; SECTOR_SIZE]
     requires { front ≤ SECTOR_SIZE }
     ensures { result ≡ front_over front sector.now (replicate SECTOR_SIZE 0) }

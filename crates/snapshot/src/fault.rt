@@ -1,4 +1,4 @@
-// Why a snapshot isn't read or written.
+//! Why a snapshot isn't read or written.
 ghost use Rattle.std.specs.Prelude.{◌≡◌};
 ghost use Rattle.snapshot.specs.declared.fault.SnapshotFault.TheVariants.{Disk, Memory};
 

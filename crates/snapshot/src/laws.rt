@@ -2,12 +2,12 @@
 
 ghost use Rattle.snapshot.specs.laws.Examples.{NextCanFollow, ReadyExamples, CommitCallExamples};
 ghost use Rattle.snapshot.specs.laws.Examples.{AreaExamples, StateExamples};
-ghost use Rattle.snapshot.specs.laws.Laws.{ImageShowsOne, CanBeginAgain, FailsForGood};
+ghost use Rattle.snapshot.specs.laws.Laws.{DiskImageShowsOne, CanBeginAgain, FailsForGood};
 
 /// A disk shows one newest snapshot at most, and a damaged one or none only where it shows no whole
 /// one.
 pub fn newest_is_one()
-    ensures { ImageShowsOne }
+    ensures { DiskImageShowsOne }
 {}
 
 /// Once an image is the newest one, a disk is ready for the next. Where a commit has left the one

@@ -1,17 +1,18 @@
-// The newest complete head of a disk, and the image that it names.
+//! The newest complete head of a disk, and the image that it names.
 ghost use Rattle.std.specs.Prelude.{◌≡◌, ◌+◌, ◌*◌, ◌<◌, ◌≤◌, ◌↔◌, ◌⊎◌, ◌^◌, ℕ, IfOk, IfErr, IsTrue};
 ghost use Rattle.std.specs.Prelude.{length, take};
 ghost use Rattle.sha2.specs.Sha256.{sha256};
 ghost use Rattle.sector_disk.specs.declared.sector.TheConstants.{SECTOR_SIZE};
-ghost use Rattle.sector_disk.specs.rules.Image.{Image, sector_at};
+ghost use Rattle.sector_disk.specs.rules.DiskImage.{DiskImage, sector_at};
 ghost use Rattle.sector_disk.specs.rules.Medium.{CallsUpTo};
 ghost use Rattle.disk_layout.specs.rules.Places.{journal_place};
 ghost use Rattle.disk_layout.specs.rules.Sectors.{bytes_from};
 ghost use Rattle.disk_layout.specs.rules.Stored.{OnlyReads};
 ghost use Rattle.snapshot.specs.rules.Heads.{HeadIn, FindsHead};
-ghost use Rattle.snapshot.specs.rules.Newest.{ReadsImage};
+ghost use Rattle.snapshot.specs.rules.Newest.{ReadsProcessImage};
 
 use crate::fault::SnapshotFault;
+use crate::hashed_image::HashedImage;
 use disk_layout::{DIGEST_BYTES, Geometry, Head};
 use sector_disk::{Disk, DiskFault, SECTOR_SIZE};
 use sha2::{Digest, Sha256};
@@ -22,14 +23,14 @@ use std::alloc::Global;
 pub struct Snapshot {
     pub version: u32,
     pub generation: u64,
-    pub image: Vec<u8>,
+    pub process_image: HashedImage,
 }
 
 /// The newest complete head, if there is one.
 pub(crate) fn newest_head<D: Disk>(disk: &mut D) -> Result<Option<Head>, DiskFault>
     requires { 3 ≤ (D.medium disk.old).sectors }
     ensures reads { OnlyReads (D.medium disk.old) (D.medium disk.new) }
-    ensures finds { IfOk result (λ head. (image : Image) → (D.medium disk.new).shows image
+    ensures finds { IfOk result (λ head. (image : DiskImage) → (D.medium disk.new).shows image
         → FindsHead image head) }
     ensures cause { (fault : DiskFault) → result ≡ Err fault
         → (D.medium disk.old).faults < (D.medium disk.new).faults }
@@ -54,7 +55,7 @@ fn head_in(area: u64, sector: &[u8; SECTOR_SIZE]) -> Option<Head>
 }
 
 fn newer_head(first: Option<Head>, second: Option<Head>) -> Option<Head>
-    ensures { (image : Image) → HeadIn 0 (sector_at image 1) first
+    ensures { (image : DiskImage) → HeadIn 0 (sector_at image 1) first
         → HeadIn 1 (sector_at image 2) second → FindsHead image result }
 {
     let Some(head) = first else {
@@ -68,16 +69,16 @@ fn newer_head(first: Option<Head>, second: Option<Head>) -> Option<Head>
 
 /// The image that a head names. Where the head's length is more than an area holds, no sector is
 /// read.
-pub(crate) fn read_image<D: Disk>(
+pub(crate) fn read_process_image<D: Disk>(
     alloc: Global,
     disk: &mut D,
     geometry: &Geometry,
     head: &Head,
-) -> Result<Vec<u8>, SnapshotFault>
+) -> Result<HashedImage, SnapshotFault>
     requires { journal_place geometry.now ≤ (D.medium disk.old).sectors }
     ensures reads { OnlyReads (D.medium disk.old) (D.medium disk.new) }
-    ensures image { (image : Image) → (D.medium disk.new).shows image
-        → ReadsImage geometry.now image head.now result }
+    ensures process_image { (image : DiskImage) → (D.medium disk.new).shows image
+        → ReadsProcessImage geometry.now image head.now result }
     ensures own { result ≡ Err SnapshotFault.Failed → ⊥ }
     ensures cause { (fault : DiskFault) → result ≡ Err (SnapshotFault.Disk fault)
         → (D.medium disk.old).faults < (D.medium disk.new).faults }
@@ -92,7 +93,7 @@ pub(crate) fn read_image<D: Disk>(
     if !is_digest_of(&head.digest, bytes.as_slice()) {
         return Err(SnapshotFault::Damaged);
     }
-    Ok(bytes)
+    Ok(HashedImage::new(bytes, head.digest))
 }
 
 fn is_digest_of(digest: &[u8; DIGEST_BYTES], bytes: &[u8]) -> bool
@@ -111,12 +112,12 @@ fn read_bytes<D: Disk>(
     requires small { len ≤ 2 ^ 60 }
     requires room { SECTOR_SIZE * at + len ≤ SECTOR_SIZE * (D.medium disk.old).sectors }
     ensures reads { OnlyReads (D.medium disk.old) (D.medium disk.new) }
-    ensures bytes { IfOk result (λ v. (count : ℕ) → len ≤ SECTOR_SIZE * count → (image : Image)
+    ensures bytes { IfOk result (λ v. (count : ℕ) → len ≤ SECTOR_SIZE * count → (image : DiskImage)
         → (D.medium disk.new).shows image → v.items ≡ take len (bytes_from image at count)) }
     ensures len { IfOk result (λ v. length v.items ≡ len) }
     ensures cause { (fault : DiskFault) → result ≡ Err (SnapshotFault.Disk fault)
         → (D.medium disk.old).faults < (D.medium disk.new).faults }
-    ensures kind { IfErr result (λ e. e ≡ SnapshotFault.Memory
+    ensures which_fault { IfErr result (λ e. e ≡ SnapshotFault.Memory
         ⊎ ((fault : DiskFault) × (e ≡ SnapshotFault.Disk fault))) }
     ensures asks { (count : ℕ) → len ≤ SECTOR_SIZE * count
         → CallsUpTo count (D.medium disk.old) (D.medium disk.new) }

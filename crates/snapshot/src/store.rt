@@ -1,8 +1,8 @@
-// Sectors that are stored where they differ, and one that is written behind a sync.
+//! Sectors that are stored where they differ, and one that is written behind a sync.
 ghost use Rattle.std.specs.Prelude.{◌<◌, [], ◌∷◌};
 ghost use Rattle.sector_disk.specs.declared.disk_call.DiskCall.TheVariants.{WriteOf, Sync};
 ghost use Rattle.sector_disk.specs.rules.Medium.{IsAllSynced, SyncsMedium};
-ghost use Rattle.snapshot.specs.Store.{StoresSector, SettlesSector};
+ghost use Rattle.snapshot.specs.Store.{StoresSector, WritesDurably};
 
 use crate::writing::Writing;
 use block_lanes::same;
@@ -53,37 +53,37 @@ fn store_changed<D: Disk>(
 }
 
 /// Syncs, writes a sector, and syncs.
-pub(crate) fn settle_sector<D: Disk>(
+pub(crate) fn write_durably<D: Disk>(
     disk: &mut D,
     at: u64,
     sector: &[u8; SECTOR_SIZE],
 ) -> Result<(), DiskFault>
     requires { at < (D.medium disk.old).sectors }
-    ensures { SettlesSector at sector.now (Sync ∷ WriteOf at ∷ Sync ∷ []) result
+    ensures { WritesDurably at sector.now (Sync ∷ WriteOf at ∷ Sync ∷ []) result
         (D.medium disk.old) (D.medium disk.new) }
 {
-    settle(disk)?;
-    write_settled(disk, at, sector)
+    make_durable(disk)?;
+    write_and_sync(disk, at, sector)
 }
 
-/// Settles what was written.
-fn settle<D: Disk>(disk: &mut D) -> Result<(), DiskFault>
+/// Makes what was written durable.
+fn make_durable<D: Disk>(disk: &mut D) -> Result<(), DiskFault>
     ensures { SyncsMedium result (D.medium disk.old) (D.medium disk.new) }
 {
     disk.sync()
 }
 
-/// Writes a sector of a disk where all is settled, and syncs.
-fn write_settled<D: Disk>(
+/// Writes a sector of a disk where all is synced, and syncs.
+fn write_and_sync<D: Disk>(
     disk: &mut D,
     at: u64,
     sector: &[u8; SECTOR_SIZE],
 ) -> Result<(), DiskFault>
     requires inside { at < (D.medium disk.old).sectors }
-    requires settled { IsAllSynced (D.medium disk.old) }
-    ensures { SettlesSector at sector.now (Sync ∷ WriteOf at ∷ []) result
+    requires all_synced { IsAllSynced (D.medium disk.old) }
+    ensures { WritesDurably at sector.now (Sync ∷ WriteOf at ∷ []) result
         (D.medium disk.old) (D.medium disk.new) }
 {
     disk.write(at, sector)?;
-    settle(disk)
+    make_durable(disk)
 }

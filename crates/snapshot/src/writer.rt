@@ -1,16 +1,17 @@
-// An image that is being written into its area, sector by sector.
+//! An image that is being written into its area, sector by sector.
 ghost use Rattle.std.specs.Prelude.{◌≤◌, ◌<◌, ◌^◌};
 ghost use Rattle.sector_disk.specs.declared.sector.TheConstants.{SECTOR_SIZE};
 
 use crate::bytes::{pad, put};
 use crate::fault::SnapshotFault;
-use crate::store::{settle_sector, store_sector};
+use crate::hashed_image::HashedImage;
+use crate::hashing::ImageHasher;
+use crate::store::{store_sector, write_durably};
 use crate::writing::Writing;
 use disk_layout::{Geometry, Head};
 use sector_disk::{Disk, DiskFault, SECTOR_SIZE};
-use sha2::{Digest, Sha256};
 
-/// The image's bytes so far lie in the first sectors of its area, and behind them at the front of
+/// The image's bytes so far lie in the first sectors of its area, and after them at the front of
 /// `sector`.
 #[derive(Drop)]
 pub(crate) struct AreaWriter {
@@ -23,7 +24,7 @@ pub(crate) struct AreaWriter {
     pub(crate) filled: usize,
     pub(crate) sector: [u8; SECTOR_SIZE],
     /// Of all bytes so far.
-    pub(crate) hasher: Sha256,
+    pub(crate) hasher: ImageHasher,
     ghost few: { sectors ≤ 2 ^ 32 },
     ghost open: { filled < SECTOR_SIZE },
 }
@@ -31,20 +32,27 @@ pub(crate) struct AreaWriter {
 impl AreaWriter {
     ghost use Rattle.std.specs.Prelude.{◌≡◌, ◌⊎◌, ◌↔◌, ◌+◌, ◌-◌, ◌*◌, ◌/◌, ◌++◌, ℕ, List, length};
     ghost use Rattle.std.specs.Prelude.{take, drop, replicate, IfOk, OnOk, IsErr};
-    ghost use Rattle.sha2.specs.Hashers.{Holds256};
     ghost use Rattle.sha2.specs.Sha256.{sha256};
     ghost use Rattle.guest_memory.specs.rules.Bytes.{with_part};
-    ghost use Rattle.sector_disk.specs.rules.Image.{Image, front_over};
+    ghost use Rattle.sector_disk.specs.rules.DiskImage.{DiskImage, front_over};
     ghost use Rattle.sector_disk.specs.rules.Medium.{LeavesOnly, After, Follows, CountsUpTo};
     ghost use Rattle.sector_disk.specs.rules.Medium.{CallsUpTo, IsAllSynced, spare};
     ghost use Rattle.sector_disk.specs.declared.fault.DiskFault.{DiskFault};
     ghost use Rattle.disk_layout.specs.rules.Places.{journal_place, area_place, rounded_up};
-    ghost use Rattle.snapshot.specs.rules.Calls.{AsksForSectors, MakesStores, MakesStoresAndHead};
+    ghost use Rattle.snapshot.specs.rules.Calls.{AsksForSectors, PerformsStores};
+    ghost use Rattle.snapshot.specs.rules.Calls.{PerformsStoresAndHead};
     ghost use Rattle.snapshot.specs.rules.Steps.{HoldsWithZeros, Fills, Commits, Replaces};
     ghost use Rattle.snapshot.specs.Writing.{written_length, Starts, SparesSectors};
     ghost use Rattle.snapshot.specs.Writing.{SparesAllButHead, IsGiven};
+    ghost use Rattle.snapshot.specs.Hashing.{Hashes};
 
-    pub(crate) fn new(generation: u64, version: u32, writing: Writing) -> AreaWriter
+    /// Begins an image, which may be the known one again.
+    pub(crate) fn new(
+        generation: u64,
+        version: u32,
+        writing: Writing,
+        known: Option<HashedImage>,
+    ) -> AreaWriter
         ensures { Starts generation version writing result }
     {
         AreaWriter {
@@ -54,7 +62,7 @@ impl AreaWriter {
             sectors: 0,
             filled: 0,
             sector: [0; SECTOR_SIZE],
-            hasher: Sha256::new(),
+            hasher: ImageHasher::new(known),
         }
     }
 
@@ -96,11 +104,11 @@ impl AreaWriter {
         ensures unsynced { OnOk result ((D.medium disk.new).unsynced + self.old.sectors
             ≤ (D.medium disk.old).unsynced + self.new.sectors) }
         ensures any_moment { LeavesOnly (D.medium disk.old) (D.medium disk.new)
-            (After (Fills geometry.now self.old.generation) (D.medium disk.old).may_leave) }
+            (After (Fills geometry.now self.old.generation) (D.medium disk.old).crash_images) }
         ensures counts { CountsUpTo ((D.medium disk.old).unsynced +
             (self.old.filled + length bytes.now) / SECTOR_SIZE) (D.medium disk.old)
             (D.medium disk.new) }
-        ensures calls { MakesStores (record {
+        ensures calls { PerformsStores (record {
           writing = self.old.writing;
           first = area_place geometry.now self.old.generation + self.old.sectors;
           count = (self.old.filled + length bytes.now) / SECTOR_SIZE;
@@ -154,13 +162,13 @@ impl AreaWriter {
         ensures unsynced { OnOk result ((D.medium disk.new).unsynced + self.old.sectors
             ≤ (D.medium disk.old).unsynced + self.new.sectors) }
         ensures any_moment { LeavesOnly (D.medium disk.old) (D.medium disk.new)
-            (After (Fills geometry.now self.old.generation) (D.medium disk.old).may_leave) }
+            (After (Fills geometry.now self.old.generation) (D.medium disk.old).crash_images) }
         ensures counts { CountsUpTo ((D.medium disk.old).unsynced +
             (self.old.filled + length bytes.now) / SECTOR_SIZE) (D.medium disk.old)
             (D.medium disk.new) }
         ensures calls { (n : ℕ) × (n ≤ (self.old.filled + length bytes.now) / SECTOR_SIZE)
             × OnOk result (self.new.sectors ≡ self.old.sectors + n)
-            × MakesStores (record {
+            × PerformsStores (record {
               writing = self.old.writing;
               first = area_place geometry.now self.old.generation + self.old.sectors;
               count = n;
@@ -193,15 +201,15 @@ impl AreaWriter {
         Ok(count)
     }
 
-    /// Stores the sector that isn't full, with zeros behind the image's last byte.
+    /// Stores the sector that isn't full, with zeros after the image's last byte.
     fn store_last<D: Disk>(&self, disk: &mut D, geometry: &Geometry) -> Result<(), DiskFault>
         requires within { written_length self.now ≤ SECTOR_SIZE * geometry.now.area_sectors }
         requires places { journal_place geometry.now ≤ (D.medium disk.old).sectors }
         ensures holds { OnOk result ((bytes : List ℕ) → IsGiven geometry.now (D.medium disk.old)
-            self.now bytes → (image : Image) → (D.medium disk.new).shows image → HoldsWithZeros
+            self.now bytes → (image : DiskImage) → (D.medium disk.new).shows image → HoldsWithZeros
             geometry.now self.now.generation bytes image) }
         ensures any_moment { LeavesOnly (D.medium disk.old) (D.medium disk.new)
-            (After (Fills geometry.now self.now.generation) (D.medium disk.old).may_leave) }
+            (After (Fills geometry.now self.now.generation) (D.medium disk.old).crash_images) }
         ensures counts { CountsUpTo ((D.medium disk.old).unsynced + 1) (D.medium disk.old)
             (D.medium disk.new) }
         ensures spared { self.now.writing ≡ Writing.Changes → OnOk result
@@ -209,7 +217,7 @@ impl AreaWriter {
             (rounded_up (written_length self.now)) (D.medium disk.old) (D.medium disk.new)) }
         ensures whole { self.now.writing ≡ Writing.Whole → 0 < self.now.filled → OnOk result
             ((D.medium disk.new).unsynced ≡ (D.medium disk.old).unsynced + 1) }
-        ensures calls { MakesStores (record {
+        ensures calls { PerformsStores (record {
           writing = self.now.writing;
           first = area_place geometry.now self.now.generation + self.now.sectors;
           count = rounded_up (written_length self.now) - self.now.sectors;
@@ -235,7 +243,7 @@ impl AreaWriter {
     fn head(self) -> Head
         ensures generation { result.generation ≡ self.generation }
         ensures version { result.version ≡ self.version }
-        ensures digest { (bytes : List ℕ) → Holds256 self.hasher bytes
+        ensures digest { (bytes : List ℕ) → Hashes self.hasher bytes
             → result.digest ≡ sha256 bytes }
         ensures length { result.length_in_bytes ≡ written_length self }
         ensures small { (result.version < 2 ^ 32) × (result.length_in_bytes < 2 ^ 64)
@@ -264,12 +272,12 @@ impl AreaWriter {
             →
             LeavesOnly (D.medium disk.old) (D.medium disk.new)
             (After (Commits geometry.now self.generation self.version bytes)
-            (D.medium disk.old).may_leave) }
+            (D.medium disk.old).crash_images) }
         ensures done { OnOk result ((bytes : List ℕ)
             → IsGiven geometry.now (D.medium disk.old) self bytes →
             Follows (Replaces geometry.now self.generation self.version bytes)
-            (D.medium disk.old).may_leave (D.medium disk.new).may_leave) }
-        ensures settled { OnOk result (IsAllSynced (D.medium disk.new)) }
+            (D.medium disk.old).crash_images (D.medium disk.new).crash_images) }
+        ensures all_synced { OnOk result (IsAllSynced (D.medium disk.new)) }
         ensures counts { CountsUpTo ((D.medium disk.old).unsynced + 1) (D.medium disk.old)
             (D.medium disk.new) }
         ensures spared { self.writing ≡ Writing.Changes → OnOk result
@@ -278,7 +286,7 @@ impl AreaWriter {
         ensures whole { self.writing ≡ Writing.Whole → 0 < self.filled → OnOk result
             ((D.medium disk.new).unsynced_since (D.medium disk.old).moment
             ((D.medium disk.old).unsynced + 1)) }
-        ensures calls { MakesStoresAndHead (record {
+        ensures calls { PerformsStoresAndHead (record {
           writing = self.writing;
           first = area_place geometry.now self.generation + self.sectors;
           count = rounded_up (written_length self) - self.sectors;
@@ -291,6 +299,6 @@ impl AreaWriter {
     {
         self.store_last(disk, geometry)?;
         let head = self.head();
-        settle_sector(disk, Geometry::head_place(head.generation), &head.sector())
+        write_durably(disk, Geometry::head_place(head.generation), &head.sector())
     }
 }

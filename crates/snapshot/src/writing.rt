@@ -1,3 +1,5 @@
+//! How an image is written.
+
 /// Which sectors of an image are written into its area.
 #[derive(Clone, Copy, Debug, PartialEq, Eq)]
 pub enum Writing {

@@ -25,7 +25,7 @@ use Rattle.machine.specs.rules.Loading.{ShowsSome}
 use Rattle.machine.specs.rules.Values.{MachineValue}
 use Rattle.process_rules.specs.Processes.{Ending}
 use Rattle.process_rules.proofs.OneStart.{item_number, entry_once}
-use Rattle.state_image.specs.rules.Image.{Saved, ending_code}
+use Rattle.state_image.specs.rules.ProcessImage.{Saved, ending_code}
 use Rattle.state_image.specs.rules.WellTyped.{EntryPoints, IsCalled, IsOutermost, IsAlive}
 use Rattle.state_image.specs.rules.WellTyped.{IsPlaceWithin, slots_in, IsWithinBounds}
 use Rattle.state_image.specs.restoring.Processes.{MayCome}

@@ -87,7 +87,7 @@ pub next_entries : (p : Path) (n : FileNode) (ns : List FileNode) (o : Option En
 next_entries p n ns None e = rw e refl
 next_entries p n ns (Some x) e = rw e refl
 
--- a node behind a path has an entry
+-- a node after a path has an entry
 pub has_entry : (p : Path) (name : Name) (ns : List FileNode) (n : FileNode) → IsAmong n ns
     → n.path ≡ Some (p ++ name ∷ []) → IsAmong (entry_with name n.number) (entries_in p ns)
 has_entry p name [] n h is = absurd h

@@ -1,12 +1,14 @@
--- An image in front of other bytes tells its process, and that nothing stands behind it.
+-- An image in front of other bytes tells its process, and that nothing is after it.
 use Rattle.std.proofs.Common.{◌≡◌, ℕ, List, [], ◌++◌, sym, ap, ◌∙◌, append-nil}
 use Rattle.std.proofs.Common.{append_assoc}
 use Rattle.std.specs.Prelude.{Option}
 use Rattle.file_tree.specs.rules.Files.{Files}
-use Rattle.wasi_calls_rules.specs.Hosts.{Descriptor}
-use Rattle.state_image.specs.rules.Image.{Saved, Numbered, items_bytes, descriptor_bytes, open_from}
-use Rattle.state_image.specs.rules.Image.{image_mark, counts_bytes, phase_bytes, streams_bytes}
-use Rattle.state_image.specs.rules.Image.{machine_bytes, files_bytes, image}
+use Rattle.wasi_calls_rules.specs.WasiStates.{Descriptor}
+use Rattle.state_image.specs.rules.ProcessImage.{Saved, Numbered, items_bytes, descriptor_bytes}
+use Rattle.state_image.specs.rules.ProcessImage.{open_from}
+use Rattle.state_image.specs.rules.ProcessImage.{process_image_mark, counts_bytes, phase_bytes}
+use Rattle.state_image.specs.rules.ProcessImage.{streams_bytes}
+use Rattle.state_image.specs.rules.ProcessImage.{machine_bytes, files_bytes, process_image}
 use Rattle.state_image.specs.restoring.Processes.{progress_before}
 use Rattle.state_image.proofs.Marks.{same_version}
 use Rattle.state_image.proofs.Fields.{items_field}
@@ -33,10 +35,10 @@ abbrev pub machine_before : Saved → List ℕ → List ℕ
 machine_before s rest =
     machine_bytes s.machine ++ (files_bytes s.files ++ (from_descriptors s ++ rest))
 
-pub image_before : (s : Saved) (rest : List ℕ)
-    → image s ++ rest ≡ progress_before s (machine_before s rest)
-image_before s rest =
-    seven_before (image_mark s.version) (counts_bytes s) (phase_bytes s) (streams_bytes s)
+pub process_image_before : (s : Saved) (rest : List ℕ)
+    → process_image s ++ rest ≡ progress_before s (machine_before s rest)
+process_image_before s rest =
+    seven_before (process_image_mark s.version) (counts_bytes s) (phase_bytes s) (streams_bytes s)
     (machine_bytes s.machine) (files_bytes s.files) (from_descriptors s) rest
 
 -- ---- descriptors
@@ -65,12 +67,12 @@ descriptors_told s t rest a b files e =
 -- ---- the whole
 
 pub told_behind : (s t : Saved) (rest : List ℕ) → IsWithin s → IsWithin t
-    → image s ≡ image t ++ rest → SameParts s t × ([] ≡ rest)
+    → process_image s ≡ process_image t ++ rest → SameParts s t × ([] ≡ rest)
 told_behind s t rest a b e =
-    let whole : image_mark s.version ++ from_counts s
-    ≡ image_mark t.version ++ (counts_bytes t ++ (phase_bytes t ++ (streams_bytes t
+    let whole : process_image_mark s.version ++ from_counts s
+    ≡ process_image_mark t.version ++ (counts_bytes t ++ (phase_bytes t ++ (streams_bytes t
     ++ machine_before t rest))) =
-    e ∙ image_before t rest in
+    e ∙ process_image_before t rest in
     let mark = same_version s.version t.version _ _ whole in
     let counts = same_counts s t (from_phase s)
     (phase_bytes t ++ (streams_bytes t ++ machine_before t rest)) a.counts b.counts

@@ -6,8 +6,9 @@ use Rattle.wasm_syntax.specs.declared.value.Trap.{Trap}
 use Rattle.wasm_syntax.specs.declared.value.Trap.TheVariants as trap
 use Rattle.wasi_abi.specs.rules.Layouts.{u32_bytes, u64_bytes}
 use Rattle.process_rules.specs.Processes.{Ending, Exited, Trapped}
-use Rattle.state_image.specs.rules.Image.{Saved, trap_number, phase_of, ending_code, flag_of}
-use Rattle.state_image.specs.rules.Image.{text_bytes, counts_bytes, phase_bytes, streams_bytes}
+use Rattle.state_image.specs.rules.ProcessImage.{Saved, trap_number, phase_of, ending_code, flag_of}
+use Rattle.state_image.specs.rules.ProcessImage.{text_bytes, counts_bytes, phase_bytes}
+use Rattle.state_image.specs.rules.ProcessImage.{streams_bytes}
 use Rattle.state_image.specs.rules.Ranges.{IsIn, IsShort, FitsCounts, FitsStreams}
 use Rattle.state_image.proofs.Fields.{cut, number_field, text_field}
 use Rattle.file_tree.proofs.SameNames.{heads}

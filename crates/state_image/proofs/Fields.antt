@@ -5,7 +5,7 @@ use Rattle.std.specs.List.{AllByRecursion, flat_map}
 use Rattle.guest_memory.specs.rules.Bytes.{number_of, bytes_of}
 use Rattle.guest_memory.proofs.ByteLemmas.{length-bytes_of, number_of-bytes_of}
 use Rattle.wasi_abi.specs.rules.Layouts.{u32_bytes}
-use Rattle.state_image.specs.rules.Image.{text_bytes, items_bytes}
+use Rattle.state_image.specs.rules.ProcessImage.{text_bytes, items_bytes}
 use Rattle.state_image.specs.rules.Ranges.{IsIn, IsShort, AreFew}
 
 -- ---- what is in front
@@ -55,7 +55,7 @@ byte_field = record { front = told } where
       → (x ≡ y) × (rest ≡ other)
   told x y rest other p q e = (cc, cc)
 
--- a text behind its length in so many bytes
+-- a text after its length in so many bytes
 pub counted_field : (n : ℕ) → Tells (List ℕ) (λ text. IsIn n (length text))
     (λ text. bytes_of n (length text) ++ text)
 counted_field n = record { front = told } where

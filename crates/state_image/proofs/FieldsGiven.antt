@@ -1,7 +1,7 @@
--- Bytes that begin with those of a field lead its reader to this field, and to what is behind it.
--- `gives` of `ReadLemmas` says so of each field that tells its value; they stand here, and in
--- `Fields`, `Marks`, `Machines` and `Named`. Parts of a process, nodes and descriptors have lemmas of their
--- own.
+-- Bytes that begin with those of a field lead its reader to this field, and to what is after it.
+-- `gives` of `ReadLemmas` says so of each field that tells its value; they are here, and in
+-- `Fields`, `Marks`, `Machines` and `Named`. Parts of a process, nodes and descriptors have lemmas
+-- of their own.
 use Rattle.std.proofs.Common.{◌≡◌, ℕ, Bool, List, [], ◌∷◌, ◌++◌, length, refl, sym, ap, ◌∙◌}
 use Rattle.std.proofs.Common.{append_assoc, arith}
 use Rattle.std.specs.Prelude.{Option, Some, None}
@@ -15,9 +15,10 @@ use Rattle.state_image.specs.declared.reading.progress.ReadPhase.{ReadPhase}
 use Rattle.state_image.specs.declared.reading.progress.ReadPhase.TheVariants as read
 use Rattle.state_image.specs.declared.reading.progress.ReadEnd.{ReadEnd}
 use Rattle.state_image.specs.declared.reading.descriptors.ReadDescriptor.{ReadDescriptor}
-use Rattle.state_image.specs.rules.Image.{Saved, phase_of, memory_bytes}
-use Rattle.state_image.specs.rules.Image.{counts_bytes, phase_bytes, streams_bytes, entry_bytes}
-use Rattle.state_image.specs.rules.Image.{node_bytes, Numbered, descriptor_bytes}
+use Rattle.state_image.specs.rules.ProcessImage.{Saved, phase_of, memory_bytes}
+use Rattle.state_image.specs.rules.ProcessImage.{counts_bytes, phase_bytes, streams_bytes}
+use Rattle.state_image.specs.rules.ProcessImage.{entry_bytes}
+use Rattle.state_image.specs.rules.ProcessImage.{node_bytes, Numbered, descriptor_bytes}
 use Rattle.state_image.specs.rules.Ranges.{IsIn, IsWhole, FitsCounts, FitsCode, FitsStreams}
 use Rattle.state_image.specs.rules.Parts.{counts_of, read_phase, read_end_of, StreamTexts}
 use Rattle.state_image.specs.rules.Parts.{streams_of}
@@ -32,7 +33,8 @@ use Rattle.state_image.proofs.Counts.{SameStreams, same_streams}
 use Rattle.state_image.proofs.Machines.{same_memory}
 use Rattle.state_image.proofs.StepsRead.{node_read_in_steps, descriptor_read_in_steps}
 use Rattle.state_image.proofs.ReadLemmas.{in_two, gives}
-use Rattle.state_image.proofs.FrontReads.{from_kind, from_node, from_offset, from_flags, from_base}
+use Rattle.state_image.proofs.FrontReads.{from_target_type, from_node, from_offset, from_flags}
+use Rattle.state_image.proofs.FrontReads.{from_base}
 use Rattle.state_image.proofs.FrontReads.{from_inheriting, content_in}
 
 -- ---- fields that tell their values
@@ -81,9 +83,9 @@ front_field = record { front = told } where
       (same_node_front a b numbers.0 contents.0, contents.1)
 
 unfoldable pub raw : ℕ → ℕ → ℕ → ℕ → ℕ → ℕ → ℕ → ReadDescriptor
-raw number kind node offset flags base inheriting = record {
+raw number target_type node offset flags base inheriting = record {
   number = number;
-  kind = kind;
+  target_type = target_type;
   node = node;
   offset = offset;
   flags = flags;
@@ -97,12 +99,12 @@ raw_field = record { front = told } where
   told : (d e : ReadDescriptor) (rest other : List ℕ) → IsRawIn d → IsRawIn e
       → raw_bytes d ++ rest ≡ raw_bytes e ++ other → (d ≡ e) × (rest ≡ other)
   told d e rest other p q is =
-      let numbers = cut ℕ (IsIn 4) u32_bytes (number_field 4) d.number e.number (from_kind d)
-      (from_kind e) rest other p.number q.number is in
-      let kinds = byte_field.front d.kind e.kind (from_node d ++ rest) (from_node e ++ other) p.kind
-      q.kind numbers.1 in
+      let numbers = cut ℕ (IsIn 4) u32_bytes (number_field 4) d.number e.number (from_target_type d)
+      (from_target_type e) rest other p.number q.number is in
+      let target_types = byte_field.front d.target_type e.target_type (from_node d
+      ++ rest) (from_node e ++ other) p.target_type q.target_type numbers.1 in
       let nodes = cut ℕ (IsIn 8) u64_bytes (number_field 8) d.node e.node (from_offset d)
-      (from_offset e) rest other p.node q.node kinds.1 in
+      (from_offset e) rest other p.node q.node target_types.1 in
       let offsets = cut ℕ (IsIn 8) u64_bytes (number_field 8) d.offset e.offset (from_flags d)
       (from_flags e) rest other p.offset q.offset nodes.1 in
       let flags = cut ℕ (IsIn 2) u16_bytes (number_field 2) d.flags e.flags (from_base d)
@@ -111,12 +113,12 @@ raw_field = record { front = told } where
       (from_inheriting e) rest other p.base q.base flags.1 in
       let lasts = (number_field 8).front d.inheriting e.inheriting rest other p.inheriting
       q.inheriting bases.1 in
-      let number_e = numbers.0 in let kind_e = kinds.0 in let node_e = nodes.0 in
+      let number_e = numbers.0 in let target_type_e = target_types.0 in let node_e = nodes.0 in
       let offset_e = offsets.0 in let flags_e = flags.0 in let base_e = bases.0 in
       let last_e = lasts.0 in
-      let whole : raw d.number d.kind d.node d.offset d.flags d.base d.inheriting
-      ≡ raw e.number e.kind e.node e.offset e.flags e.base e.inheriting =
-      rw (number_e, kind_e, node_e, offset_e, flags_e, base_e, last_e) refl in
+      let whole : raw d.number d.target_type d.node d.offset d.flags d.base d.inheriting
+      ≡ raw e.number e.target_type e.node e.offset e.flags e.base e.inheriting =
+      rw (number_e, target_type_e, node_e, offset_e, flags_e, base_e, last_e) refl in
       (whole, lasts.1)
 
 -- ---- parts of a process
@@ -272,7 +274,7 @@ parts_of_processes s = (
 
 -- ---- what is read in steps
 
--- a node's bytes lead to its front, and to the entries behind it
+-- a node's bytes lead to its front, and to the entries after it
 pub node_given : (result : Option NodeFront) (old new : List ℕ)
     → ReadsField front_bytes IsFrontIn result old new
     → (fs : Files) (n : FileNode) (rest : List ℕ) → IsFrontIn (node_front_of fs n)
@@ -285,7 +287,7 @@ node_given result old new reads fs n rest within e =
     (e ∙ ap (λ (bytes : List ℕ). bytes ++ rest) (node_read_in_steps fs n)
     ∙ append_assoc (front_bytes (node_front_of fs n)) entries rest)
 
--- a front and the entries behind it are the bytes of the node
+-- a front and the entries after it are the bytes of the node
 pub node_read : (fs : Files) (n : FileNode) (old mid new : List ℕ)
     → HasField front_bytes IsFrontIn (node_front_of fs n) old mid
     → mid ≡ flat_map entry_bytes (entries_after_front fs n.number n.content) ++ new

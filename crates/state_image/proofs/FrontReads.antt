@@ -6,7 +6,7 @@ use Rattle.wasi_abi.specs.rules.Numbers.{directory_type, regular_file}
 use Rattle.file_tree.specs.rules.Files.{Entry}
 use Rattle.machine_slots.specs.rules.Places.{ShownFrame}
 use Rattle.state_image.specs.declared.reading.descriptors.ReadDescriptor.{ReadDescriptor}
-use Rattle.state_image.specs.rules.Image.{items_bytes, place_bytes, entry_bytes}
+use Rattle.state_image.specs.rules.ProcessImage.{items_bytes, place_bytes, entry_bytes}
 use Rattle.state_image.specs.rules.Ranges.{IsIn, AreWords, IsPlaceIn, IsEntryIn}
 use Rattle.state_image.specs.rules.Reading.{HasField, LacksField}
 use Rattle.state_image.specs.rules.Fronts.{ContentFront, EntryCount, FileBytes, NodeFront}
@@ -77,14 +77,14 @@ no_content has lacks =
     (none_of (λ n. n.content) (λ n h. h.content) lacks)
 
 -- a directory, and then no number of entries
-pub no_count : (kind : ℕ) (old mid new : List ℕ)
-    → HasField (λ (b : ℕ). b ∷ []) (IsIn 1) kind old mid → kind ≡ directory_type
+pub no_count : (file_type : ℕ) (old mid new : List ℕ)
+    → HasField (λ (b : ℕ). b ∷ []) (IsIn 1) file_type old mid → file_type ≡ directory_type
     → LacksField u32_bytes (IsIn 4) mid new
     → LacksField content_front_bytes IsContentFrontIn old new
-no_count kind old mid new has is lacks = record {
+no_count file_type old mid new has is lacks = record {
   none = told;
-  passed = (kind ∷ []) ++ lacks.passed;
-  is = in_two (kind ∷ []) lacks.passed old mid new has.is lacks.is;
+  passed = (file_type ∷ []) ++ lacks.passed;
+  is = in_two (file_type ∷ []) lacks.passed old mid new has.is lacks.is;
 } where
   told : (front : ContentFront) (rest : List ℕ) → IsContentFrontIn front
       → old ≡ content_front_bytes front ++ rest → ⊥
@@ -97,14 +97,14 @@ no_count kind old mid new has is lacks = record {
       absurd (omega (arith, is, same.0))
 
 -- a file, and then no bytes of one
-pub no_file : (kind : ℕ) (old mid new : List ℕ)
-    → HasField (λ (b : ℕ). b ∷ []) (IsIn 1) kind old mid → kind ≡ regular_file
+pub no_file : (file_type : ℕ) (old mid new : List ℕ)
+    → HasField (λ (b : ℕ). b ∷ []) (IsIn 1) file_type old mid → file_type ≡ regular_file
     → LacksField (λ text. u64_bytes (length text) ++ text) (λ text. IsIn 8 (length text)) mid new
     → LacksField content_front_bytes IsContentFrontIn old new
-no_file kind old mid new has is lacks = record {
+no_file file_type old mid new has is lacks = record {
   none = told;
-  passed = (kind ∷ []) ++ lacks.passed;
-  is = in_two (kind ∷ []) lacks.passed old mid new has.is lacks.is;
+  passed = (file_type ∷ []) ++ lacks.passed;
+  is = in_two (file_type ∷ []) lacks.passed old mid new has.is lacks.is;
 } where
   told : (front : ContentFront) (rest : List ℕ) → IsContentFrontIn front
       → old ≡ content_front_bytes front ++ rest → ⊥
@@ -117,12 +117,12 @@ no_file kind old mid new has is lacks = record {
       lacks.none bytes rest h same.1
 
 -- neither a directory nor a file
-pub no_kind : (kind : ℕ) (old mid : List ℕ) → HasField (λ (b : ℕ). b ∷ []) (IsIn 1) kind old mid
-    → (kind ≡ directory_type → ⊥) → (kind ≡ regular_file → ⊥)
-    → LacksField content_front_bytes IsContentFrontIn old mid
-no_kind kind old mid has not_directory not_file = record {
+pub no_file_type : (file_type : ℕ) (old mid : List ℕ) → HasField (λ (b : ℕ). b
+    ∷ []) (IsIn 1) file_type old mid → (file_type ≡ directory_type → ⊥)
+    → (file_type ≡ regular_file → ⊥) → LacksField content_front_bytes IsContentFrontIn old mid
+no_file_type file_type old mid has not_directory not_file = record {
   none = told;
-  passed = kind ∷ [];
+  passed = file_type ∷ [];
   is = has.is;
 } where
   told : (front : ContentFront) (rest : List ℕ) → IsContentFrontIn front
@@ -151,16 +151,16 @@ from_offset d = u64_bytes d.offset ++ from_flags d
 abbrev pub from_node : ReadDescriptor → List ℕ
 from_node d = u64_bytes d.node ++ from_offset d
 
-abbrev pub from_kind : ReadDescriptor → List ℕ
-from_kind d = (d.kind ∷ []) ++ from_node d
+abbrev pub from_target_type : ReadDescriptor → List ℕ
+from_target_type d = (d.target_type ∷ []) ++ from_node d
 
 pub no_raw_number : {old new : List ℕ} → LacksField u32_bytes (IsIn 4) old new
     → LacksField raw_bytes IsRawIn old new
-no_raw_number lacks = none_first (λ d. d.number) from_kind (λ d h. h.number) lacks
+no_raw_number lacks = none_first (λ d. d.number) from_target_type (λ d h. h.number) lacks
 
-pub no_raw_kind : {old new : List ℕ} → LacksField (λ (b : ℕ). b ∷ []) (IsIn 1) old new
-    → LacksField from_kind IsRawIn old new
-no_raw_kind lacks = none_first (λ d. d.kind) from_node (λ d h. h.kind) lacks
+pub no_raw_target_type : {old new : List ℕ} → LacksField (λ (b : ℕ). b ∷ []) (IsIn 1) old new
+    → LacksField from_target_type IsRawIn old new
+no_raw_target_type lacks = none_first (λ d. d.target_type) from_node (λ d h. h.target_type) lacks
 
 pub no_raw_node : {old new : List ℕ} → LacksField u64_bytes (IsIn 8) old new
     → LacksField from_node IsRawIn old new
@@ -183,15 +183,15 @@ pub no_raw_inheriting : {old new : List ℕ} → LacksField u64_bytes (IsIn 8) o
 no_raw_inheriting lacks = none_of (λ d. d.inheriting) (λ d h. h.inheriting) lacks
 
 pub after_raw_number : {x : ℕ} {old mid new : List ℕ} → HasField u32_bytes (IsIn 4) x old mid
-    → LacksField from_kind IsRawIn mid new → LacksField raw_bytes IsRawIn old new
+    → LacksField from_target_type IsRawIn mid new → LacksField raw_bytes IsRawIn old new
 after_raw_number has lacks =
-    none_after (number_field 4) (λ d. d.number) from_kind (λ d h. h.number) has lacks
+    none_after (number_field 4) (λ d. d.number) from_target_type (λ d h. h.number) has lacks
 
-pub after_raw_kind : {x : ℕ} {old mid new : List ℕ}
+pub after_raw_target_type : {x : ℕ} {old mid new : List ℕ}
     → HasField (λ (b : ℕ). b ∷ []) (IsIn 1) x old mid
-    → LacksField from_node IsRawIn mid new → LacksField from_kind IsRawIn old new
-after_raw_kind has lacks =
-    none_after byte_field (λ d. d.kind) from_node (λ d h. h.kind) has lacks
+    → LacksField from_node IsRawIn mid new → LacksField from_target_type IsRawIn old new
+after_raw_target_type has lacks =
+    none_after byte_field (λ d. d.target_type) from_node (λ d h. h.target_type) has lacks
 
 pub after_raw_node : {x : ℕ} {old mid new : List ℕ} → HasField u64_bytes (IsIn 8) x old mid
     → LacksField from_offset IsRawIn mid new → LacksField from_node IsRawIn old new

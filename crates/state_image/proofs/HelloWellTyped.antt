@@ -16,17 +16,17 @@ use Rattle.wasm_semantics.proofs.Soundness.Beginning.{programs_typed}
 use Rattle.wasi_abi.specs.declared.call.Call.TheVariants as call
 use Rattle.wasi_abi.specs.declared.version.Version.TheVariants.{Two}
 use Rattle.wasi_abi.specs.rules.Configs.{Settings}
-use Rattle.wasi_calls_rules.specs.Hosts.{Host, IsHost}
+use Rattle.wasi_calls_rules.specs.WasiStates.{WasiState, IsWasiState}
 use Rattle.process_rules.specs.Processes.{ProcessState, Guest, IsStart, host_of}
 use Rattle.process_rules.proofs.ExamplesValid.{hello_spells, hello_is_valid, functions}
 use Rattle.process_rules.proofs.ExamplesHold.{filled, first_memory}
 use Rattle.machine_slots.specs.rules.Places.{Shows}
-use Rattle.state_image.specs.rules.Image.{SavedShowsProcess}
+use Rattle.state_image.specs.rules.ProcessImage.{SavedShowsProcess}
 use Rattle.state_image.specs.rules.WellTyped.{IsWellTyped}
 use Rattle.state_image.specs.laws.Examples.{fresh_process}
 use Rattle.state_image.specs.laws.WellTypedExamples.{hello_first_memory, HelloBeginsWellTyped}
 use Rattle.state_image.specs.laws.WellTypedExamples.{widened_process, HelloIsWellTypedInTwo}
-use Rattle.wasi_calls_rules.proofs.FirstHosts.{first_is_host}
+use Rattle.wasi_calls_rules.proofs.FirstWasiStates.{first_is_host}
 
 -- ---- memory
 
@@ -116,7 +116,7 @@ begins config = record {
     is_program = is_program config;
     store = record { memory = first_memory; globals = []; table = [] };
     is_store = record { globals = tt; table = refl; memory = filled };
-    settles = on refl (here refl);
+    reduces = on refl (here refl);
   };
   is = refl;
 }
@@ -170,14 +170,14 @@ shows : (config : Settings) → 1 ≤ config.pages → config.pages ≤ 2 ^ 16
     → Shows context (program_under config) [] (fresh_process first_memory).machine first
 shows config some few = record {
   typed = typed config some few;
-  settled = refl;
+  reduced = refl;
   memory = refl;
   globals = refl;
   same_table = refl;
   later = refl;
   frames = (
     record {
-      kind = no_type;
+      signature = no_type;
       declared = [];
       body = hello_sequence;
       is = refl;
@@ -260,7 +260,7 @@ hello_begins_well_typed config some few =
 -- ---- and so it is in version 2
 
 -- the host with these unread bytes, widened
-widened_host : Settings → List ℕ → Host
+widened_host : Settings → List ℕ → WasiState
 widened_host config unread = record (host_of config) { version = Two; unread = unread }
 
 widened_of : Settings → List ℕ → ProcessState
@@ -268,10 +268,10 @@ widened_of config unread = record (first_of config)
     { host = widened_host config unread; answers = 1 }
 
 widened_is_host : (config : Settings) (unread : List ℕ) → AllByRecursion IsByte unread
-    → IsHost (widened_host config unread)
+    → IsWasiState (widened_host config unread)
 unfolding widened_host
 widened_is_host config unread are =
-    let is : IsHost (host_of config) = first_is_host _ _ _ _ in
+    let is : IsWasiState (host_of config) = first_is_host _ _ _ _ in
     record {
       files = is.files;
       within = is.within;

@@ -4,7 +4,7 @@ use Rattle.std.specs.Prelude.{Ok, Err}
 use Rattle.std.proofs.lemmas.List.{append-nil}
 use Rattle.state_image.specs.rules.Sinks.{TakingPieces, joined, TakesPieces, Pushes, KeepsBytes}
 
--- a piece that is taken behind these bytes keeps what holds of them and the sink
+-- a piece that is taken after these bytes keeps what holds of them and the sink
 abbrev pub IsKept : {S F : Type 0} → TakingPieces S F → (List ℕ → S → Type 0) → Type 0
 IsKept {S} takes P =
     (bytes : List ℕ) (s : S) (piece : List ℕ) (t : S) → P bytes s → takes s piece (Ok tt) t
@@ -31,7 +31,7 @@ module _ {S F : Type 0} (takes : TakingPieces S F) (P : List ℕ → S → Type 
       ∙ (ap (λ x. joined pushed.taken ++ x) pushed.stops.0 ∙ append-nil (joined pushed.taken)) in
       subst (λ b. P b z) (sym is) (kept_on [] a z pushed.taken holds all)
 
-  -- it held of a front of the bytes, behind which a piece was refused
+  -- it held of a prefix of the bytes, after which a piece was refused
   pub pushes_keep_until : (a z : S) (bytes : List ℕ) (fault : F) → P [] a
       → Pushes takes a bytes (Err fault) z
       → (front : List ℕ) × (piece : List ℕ) × (behind : List ℕ) × (between : S)

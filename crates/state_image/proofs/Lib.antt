@@ -13,7 +13,7 @@ mod Among
 mod PathsTold
 mod Places
 mod FilesWithin
-mod HostWithin
+mod WasiStateWithin
 mod MachineWithin
 mod Whole
 mod ExamplesHold
@@ -34,7 +34,7 @@ mod PartReads
 mod FrontReads
 mod StepsRead
 mod FieldsGiven
-mod ImageGiven
+mod ProcessImageGiven
 mod WholeRead
 mod Behind
 mod ProgressRead

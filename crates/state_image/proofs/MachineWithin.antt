@@ -16,7 +16,7 @@ use Rattle.wasm_semantics.specs.Typed.{IsTypedMemory}
 use Rattle.wasm_semantics.specs.Shapes.{LabelShape, ShapeOf}
 use Rattle.machine_slots.specs.rules.Places.{ShownFrame, HaveShape, all_below}
 use Rattle.machine_slots.specs.rules.Places.{slots_of, ShowsCallers, ShowsThread, Shows}
-use Rattle.state_image.specs.rules.Image.{Saved}
+use Rattle.state_image.specs.rules.ProcessImage.{Saved}
 use Rattle.state_image.specs.rules.WellTyped.{IsPlaceWithin, slots_in, IsWithinBounds}
 use Rattle.state_image.specs.rules.Ranges.{IsIn, IsPlaceIn, IsWhole, HasMachine}
 use Rattle.state_image.proofs.Machines.{all_behind, all_reversed}
@@ -81,7 +81,7 @@ callers_words c program above (place ∷ places) (FrameOf f ls labels vs rest �
   subst (AllByRecursion (IsIn 8)) (sym h.1.slots)
       (slot_words _ h.1.types h.1.shape.labels ls labels vs h.1.locals h.1.operands
       h.1.labels_are),
-  callers_words c program h.0.kind places frames h.2,
+  callers_words c program h.0.signature places frames h.2,
 )
 
 thread_words : (c : Context) (program : Program) (places : List ShownFrame) (frames : Thread)
@@ -93,7 +93,7 @@ thread_words c program (place ∷ places) (FrameOf f ls labels vs rest ∷ frame
   subst (AllByRecursion (IsIn 8)) (sym h.1.slots)
       (slot_words _ h.1.shape.operands h.1.shape.labels ls labels vs h.1.locals h.1.operands
       h.1.labels_are),
-  callers_words c program h.0.kind places frames h.2,
+  callers_words c program h.0.signature places frames h.2,
 )
 
 -- each has few slots where all have

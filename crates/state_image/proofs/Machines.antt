@@ -7,7 +7,8 @@ use Rattle.std.proofs.lemmas.List.{reverse-reverse, length-reverse}
 use Rattle.guest_memory.specs.rules.Bytes.{page_size}
 use Rattle.wasi_abi.specs.rules.Layouts.{u32_bytes, u64_bytes}
 use Rattle.machine_slots.specs.rules.Places.{ShownFrame, MachineState}
-use Rattle.state_image.specs.rules.Image.{items_bytes, place_bytes, memory_bytes, machine_bytes}
+use Rattle.state_image.specs.rules.ProcessImage.{items_bytes, place_bytes, memory_bytes}
+use Rattle.state_image.specs.rules.ProcessImage.{machine_bytes}
 use Rattle.state_image.specs.rules.Ranges.{IsIn, AreFew, AreWords, IsPlaceIn, IsWhole}
 use Rattle.state_image.specs.rules.Ranges.{HasMachine}
 use Rattle.state_image.proofs.Fields.{Tells, same_front, cut, number_field}

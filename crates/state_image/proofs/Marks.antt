@@ -5,7 +5,8 @@ use Rattle.std.proofs.lemmas.List.{append_cancel_left}
 use Rattle.wasi_abi.specs.declared.version.Version.{Version}
 use Rattle.wasi_abi.specs.declared.version.Version.TheVariants.{One, Two}
 use Rattle.wasi_abi.specs.rules.Versions.{version_number, text_limit, widenings}
-use Rattle.state_image.specs.rules.Image.{Saved, image, image_mark, IsMarkedOtherwise}
+use Rattle.state_image.specs.rules.ProcessImage.{Saved, process_image, process_image_mark}
+use Rattle.state_image.specs.rules.ProcessImage.{IsMarkedOtherwise}
 use Rattle.state_image.specs.rules.Reading.{HasField, LacksField, ReadsField}
 use Rattle.state_image.specs.laws.Marks.{IsVersionOf}
 use Rattle.state_image.proofs.Fields.{Tells, same_front}
@@ -24,7 +25,7 @@ short_texts Two = lit≤ tt
 
 -- ---- marks
 
-pub mark_length : (v : Version) → length (image_mark v) ≡ 8
+pub mark_length : (v : Version) → length (process_image_mark v) ≡ 8
 mark_length One = refl
 mark_length Two = refl
 
@@ -33,35 +34,36 @@ abbrev pub digit_of : List ℕ → ℕ
 digit_of (a ∷ b ∷ c ∷ d ∷ e ∷ f ∷ g ∷ digit ∷ rest) = digit
 digit_of other = 0
 
--- a mark in front tells the version, and what is behind it
+-- a mark in front tells the version, and what is after it
 pub same_version : (v w : Version) (rest other : List ℕ)
-    → image_mark v ++ rest ≡ image_mark w ++ other → (v ≡ w) × (rest ≡ other)
-same_version One One rest other e = (refl, append_cancel_left (image_mark One) rest other e)
-same_version Two Two rest other e = (refl, append_cancel_left (image_mark Two) rest other e)
+    → process_image_mark v ++ rest ≡ process_image_mark w ++ other → (v ≡ w) × (rest ≡ other)
+same_version One One rest other e = (refl, append_cancel_left (process_image_mark One) rest other e)
+same_version Two Two rest other e = (refl, append_cancel_left (process_image_mark Two) rest other e)
 same_version One Two rest other e =
     let digits : ◌≡◌ {A = ℕ} 49 50 = ap digit_of e in absurd (omega (arith, digits))
 same_version Two One rest other e =
     let digits : ◌≡◌ {A = ℕ} 50 49 = ap digit_of e in absurd (omega (arith, digits))
 
 -- so equal images are of one version
-pub version_of_image : (s t : Saved) → image s ≡ image t → s.version ≡ t.version
-version_of_image s t e = (same_version s.version t.version _ _ e).0
+pub version_of_process_image : (s t : Saved) → process_image s ≡ process_image t
+    → s.version ≡ t.version
+version_of_process_image s t e = (same_version s.version t.version _ _ e).0
 
-pub mark_field : Tells Version (λ version. Unit {0}) image_mark
+pub mark_field : Tells Version (λ version. Unit {0}) process_image_mark
 mark_field = record { front = told } where
   told : (x y : Version) (rest other : List ℕ) → Unit {0} → Unit {0}
-      → image_mark x ++ rest ≡ image_mark y ++ other → (x ≡ y) × (rest ≡ other)
+      → process_image_mark x ++ rest ≡ process_image_mark y ++ other → (x ≡ y) × (rest ≡ other)
   told x y rest other p q e = same_version x y rest other e
 
 -- so many bytes are a mark where they have a version
 pub marked : (o : Option Version) (mark : List ℕ) {old new : List ℕ}
     → HasField (λ (b : List ℕ). b) (λ b. length b ≡ 8) mark old new → IsVersionOf mark o
-    → ReadsField image_mark (λ version. Unit {0}) o old new
+    → ReadsField process_image_mark (λ version. Unit {0}) o old new
 marked (Some version) mark {old} {new} has is =
     record { in_range = tt; is = has.is ∙ ap (λ (b : List ℕ). b ++ new) is }
 marked None mark {old} {new} has other = record {
   none = λ version rest u e.
-      other version (same_front ℕ mark (image_mark version) new rest
+      other version (same_front ℕ mark (process_image_mark version) new rest
       (has.in_range ∙ sym (mark_length version)) (sym has.is ∙ e)).0;
   passed = mark;
   is = has.is;
@@ -70,24 +72,26 @@ marked None mark {old} {new} has other = record {
 -- ---- the mark of another version
 
 -- bytes that begin with the mark of a version begin with that of another one where it is another
-pub other_mark : (v m : Version) {bytes left : List ℕ}
-    → HasField image_mark (λ version. Unit {0}) m bytes left
+pub other_mark : (v m : Version) {bytes bytes_left : List ℕ}
+    → HasField process_image_mark (λ version. Unit {0}) m bytes bytes_left
     → (IsMarkedOtherwise v bytes → m ≡ v → ⊥) × ((m ≡ v → ⊥) → IsMarkedOtherwise v bytes)
-other_mark v m {bytes} {left} has = (
+other_mark v m {bytes} {bytes_left} has = (
   λ otherwise same. otherwise.other (
-      (same_version otherwise.marked m otherwise.rest left (sym otherwise.begins ∙ has.is)).0 ∙ same
+      (same_version otherwise.marked m otherwise.rest bytes_left (sym otherwise.begins
+      ∙ has.is)).0 ∙ same
       ),
-  λ other. record { marked = m; other = other; rest = left; begins = has.is },
+  λ other. record { marked = m; other = other; rest = bytes_left; begins = has.is },
 )
 
 -- where no mark is in front there is none of another version
-pub no_mark : (v : Version) {bytes left : List ℕ}
-    → LacksField image_mark (λ version. Unit {0}) bytes left → IsMarkedOtherwise v bytes → ⊥
+pub no_mark : (v : Version) {bytes bytes_left : List ℕ}
+    → LacksField process_image_mark (λ version. Unit {0}) bytes bytes_left
+    → IsMarkedOtherwise v bytes → ⊥
 no_mark v lacks otherwise =
     lacks.none otherwise.marked otherwise.rest tt otherwise.begins
 
 -- the image of a process has the mark of its version
-pub own_mark : (s : Saved) → IsMarkedOtherwise s.version (image s) → ⊥
+pub own_mark : (s : Saved) → IsMarkedOtherwise s.version (process_image s) → ⊥
 own_mark s otherwise =
     let same = same_version s.version otherwise.marked _ otherwise.rest otherwise.begins in
     otherwise.other (sym same.0)
@@ -102,7 +106,8 @@ no_other Two One same =
     absurd (same (λ e. let n : ◌≡◌ {A = ℕ} 2 1 = ap version_number e in omega (arith, n)))
 
 -- and so that of the version of which it isn't marked otherwise
-pub marked_as : (v : Version) (s : Saved) → (IsMarkedOtherwise v (image s) → ⊥) → s.version ≡ v
+pub marked_as : (v : Version) (s : Saved) → (IsMarkedOtherwise v (process_image s) → ⊥)
+    → s.version ≡ v
 marked_as v s same =
     no_other s.version v
     (λ other. same (record { marked = s.version; other = other; rest = _; begins = refl }))

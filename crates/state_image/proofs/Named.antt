@@ -6,8 +6,9 @@ use Rattle.std.proofs.lemmas.List.{length-map}
 use Rattle.wasi_abi.specs.rules.Layouts.{u16_bytes, u32_bytes, u64_bytes}
 use Rattle.file_tree.specs.rules.Files.{Files, FileNode, Content, Directory, File, Entry}
 use Rattle.file_tree.proofs.SameNames.{heads}
-use Rattle.state_image.specs.rules.Image.{items_bytes, entry_bytes, content_bytes, node_bytes}
-use Rattle.state_image.specs.rules.Image.{files_bytes}
+use Rattle.state_image.specs.rules.ProcessImage.{items_bytes, entry_bytes, content_bytes}
+use Rattle.state_image.specs.rules.ProcessImage.{node_bytes}
+use Rattle.state_image.specs.rules.ProcessImage.{files_bytes}
 use Rattle.state_image.specs.restoring.Named.{Held, Entries, Bytes, NamedNode, held_of, named}
 use Rattle.state_image.specs.restoring.Named.{held_bytes, named_bytes}
 use Rattle.state_image.specs.rules.Ranges.{IsIn, AreFew, IsEntryIn}

@@ -10,7 +10,7 @@ use Rattle.file_tree.specs.rules.Files.{is_directory_content, bytes_of_node, byt
 use Rattle.file_tree.specs.rules.Files.{entries_of}
 use Rattle.file_tree.specs.rules.Listings.{number_at, number_at_place, HasNameAtPlace}
 use Rattle.file_tree.proofs.Sizes.{file_is}
-use Rattle.state_image.specs.rules.Image.{entry_bytes}
+use Rattle.state_image.specs.rules.ProcessImage.{entry_bytes}
 use Rattle.state_image.specs.rules.Sinks.{TakingPieces, Pushes}
 use Rattle.state_image.proofs.Among.{IsAmong, found_own}
 use Rattle.state_image.proofs.PushedItems.{item_at}

@@ -7,13 +7,13 @@ use Rattle.std.specs.Result.{IsErrAnd}
 use Rattle.std.proofs.lemmas.List.{take-append-drop, take_all, length-take-le}
 use Rattle.std.proofs.lemmas.Option.{slice_get_within}
 use Rattle.std.proofs.lemmas.Grind.{flat_map-append}
-use Rattle.wasi_calls_rules.specs.Hosts.{Descriptor}
-use Rattle.state_image.specs.rules.Image.{Numbered, open_from}
+use Rattle.wasi_calls_rules.specs.WasiStates.{Descriptor}
+use Rattle.state_image.specs.rules.ProcessImage.{Numbered, open_from}
 use Rattle.state_image.specs.rules.Sinks.{TakingPieces, Pushes}
 use Rattle.state_image.proofs.Pushing.{pushes_on, pushes_exit}
 use Rattle.state_image.proofs.PushedItems.{front_more}
 
--- those of a list, and of another behind it
+-- those of a list, and of another after it
 pub open_from-append : (n : ℕ) (ds es : List (Option Descriptor))
     → open_from n (ds ++ es) ≡ open_from n ds ++ open_from (n + length ds) es
 open_from-append n [] es = ap (λ k. open_from k es) (omega arith)

@@ -13,29 +13,31 @@ use Rattle.wasm_syntax.specs.declared.module.Module.{Module}
 use Rattle.wasm_syntax.specs.rules.Sequence.{Sequence, Stop, Plain, InBlock, InLoop, InIf, InIfElse}
 use Rattle.wasm_semantics.specs.Types.{number_in, takes_of, gives_of, is_same_function_type}
 use Rattle.wasm_semantics.specs.Typing.{Context}
-use Rattle.wasm_semantics.specs.Configuration.{Callee, Host as Imported, Own, Program, Store}
+use Rattle.wasm_semantics.specs.Configuration.{Callee, Imported, Own, Program, Store}
 use Rattle.wasm_semantics.specs.Configuration.{Label, LabelOf, FrameOf, Thread}
 use Rattle.wasm_semantics.specs.Configuration.{Configuration, Outcome, Goes, Traps, Asks, Stuck}
 use Rattle.wasm_semantics.specs.Effects.{Effect, Gives, Fails, Wrong, effect}
 use Rattle.wasm_semantics.specs.Instantiation.{calls_of}
 use Rattle.wasm_semantics.specs.Steps.{where_some, topmost, branch, is_exhausted, entered}
-use Rattle.wasm_semantics.specs.Steps.{called, calls, kind_of, calls_entry, after_effect}
-use Rattle.wasm_semantics.specs.Steps.{execute, goes_on, rule_of, rule, returned, left, begun}
-use Rattle.wasm_semantics.specs.Steps.{left_by, Settles, here, on}
+use Rattle.wasm_semantics.specs.Steps.{called, calls, signature_of, calls_entry, after_effect}
+use Rattle.wasm_semantics.specs.Steps.{execute, goes_on, counted_step_of, counted_step, returned}
+use Rattle.wasm_semantics.specs.Steps.{exited, begun}
+use Rattle.wasm_semantics.specs.Steps.{exited_by, ReducesTo, here, on}
 use Rattle.machine_slots.specs.rules.Places.{ShownFrame, ShowsCallers, ShowsThread}
-use Rattle.machine_frame.proofs.Standing.Effects.{table_stays}
+use Rattle.machine_frame.proofs.FramePosition.Effects.{table_stays}
 use Rattle.wasi_abi.specs.declared.answer.Answer.{Answer}
 use Rattle.wasi_abi.specs.declared.call.Call.{Call}
 use Rattle.wasi_abi.specs.rules.Configs.{Settings}
-use Rattle.wasi_calls_rules.specs.Hosts.{Host}
-use Rattle.wasi_calls_rules.specs.Checks.{Refuses, Ends, Asks as Wishes, Ruling}
-use Rattle.wasi_calls_rules.specs.Rows.{row}
+use Rattle.wasi_calls_rules.specs.WasiStates.{WasiState}
+use Rattle.wasi_calls_rules.specs.Checks.{Refuses, Ends, Asks as Inquires, Ruling}
+use Rattle.wasi_calls_rules.specs.CallRules.{call_rule}
 use Rattle.process_rules.specs.Processes.{ProcessState, Guest, IsStart, closed_at}
-use Rattle.process_rules.specs.Runs.{Next, On, Over, Wants, Nowhere, after_row, after_call}
-use Rattle.process_rules.specs.Runs.{after_rule, next_of, stepped, LeadsTo, Moves, Kept, Runs, none}
+use Rattle.process_rules.specs.Runs.{Next, On, Over, Wants, Nowhere, after_call_rule, after_call}
+use Rattle.process_rules.specs.Runs.{after_counted_step, next_of, stepped, LeadsTo, Moves, Kept}
+use Rattle.process_rules.specs.Runs.{Runs, none}
 use Rattle.process_rules.specs.Runs.{step, take, widen, widened, Reaches}
-use Rattle.process_rules.proofs.Hosted.{beginning}
-use Rattle.process_rules.proofs.MemoryKept.{settled_store}
+use Rattle.process_rules.proofs.ReachedStates.{beginning}
+use Rattle.process_rules.proofs.MemoryKept.{reduced_store}
 use Rattle.state_image.specs.rules.WellTyped.{EntryPoints, IsCalled, IsOutermost}
 
 -- ---- where the host has called
@@ -70,7 +72,7 @@ module _ (b : EntryPoints) where
   answered_thread later results [] h = h
   answered_thread later results (FrameOf f ls labels vs rest ∷ frames) h = h
 
-  -- ---- counted rules
+  -- ---- counted steps
 
   -- a configuration whose table is this
   record IsCalledWith (table : List (Option ℕ)) (c : Configuration) : Type 0 where
@@ -107,16 +109,16 @@ module _ (b : EntryPoints) where
       (labels : List Label) (rest : Sequence) (vs : List Value) (frames : Thread)
       → IsOver c.later g frames
       → GoesWell c (called f callee c (λ below. FrameOf g ls labels below rest) vs frames)
-  called_well f (Imported kind) c g ls labels rest vs frames h =
-      where_well c (topmost (length (takes_of kind)) vs) _ (λ arguments. h)
-  called_well f (Own kind declared body) c g ls labels rest vs frames h =
-      where_well c (topmost (length (takes_of kind)) vs) _ (λ arguments.
+  called_well f (Imported signature) c g ls labels rest vs frames h =
+      where_well c (topmost (length (takes_of signature)) vs) _ (λ arguments. h)
+  called_well f (Own signature declared body) c g ls labels rest vs frames h =
+      where_well c (topmost (length (takes_of signature)) vs) _ (λ arguments.
       by_test arguments (is_exhausted (inner arguments)))
     where
       inner : List Value → Thread
       inner arguments =
-          entered f kind declared body arguments
-          ∷ FrameOf g ls labels (drop (length (takes_of kind)) vs) rest ∷ frames
+          entered f signature declared body arguments
+          ∷ FrameOf g ls labels (drop (length (takes_of signature)) vs) rest ∷ frames
 
       by_test : (arguments : List Value) (full : Bool) → GoesWell c (if full
           then Traps trap.StackExhausted else Goes (record c { thread = inner arguments }))
@@ -131,16 +133,16 @@ module _ (b : EntryPoints) where
       where_well c (slice_get program.functions f) _ (λ callee.
       called_well f callee c g ls labels rest vs frames h)
 
-  entry_well : (program : Program) (o : Option (Option ℕ)) (kind : FunctionType)
+  entry_well : (program : Program) (o : Option (Option ℕ)) (signature : FunctionType)
       (c : Configuration) (g : ℕ) (ls : List Value) (labels : List Label) (rest : Sequence)
       (vs : List Value) (frames : Thread) → IsOver c.later g frames
       → GoesWell c
-      (calls_entry program o kind c (λ below. FrameOf g ls labels below rest) vs frames)
-  entry_well program None kind c g ls labels rest vs frames h = tt
-  entry_well program (Some None) kind c g ls labels rest vs frames h = tt
-  entry_well program (Some (Some f)) kind c g ls labels rest vs frames h =
+      (calls_entry program o signature c (λ below. FrameOf g ls labels below rest) vs frames)
+  entry_well program None signature c g ls labels rest vs frames h = tt
+  entry_well program (Some None) signature c g ls labels rest vs frames h = tt
+  entry_well program (Some (Some f)) signature c g ls labels rest vs frames h =
       where_well c (slice_get program.functions f) _ (λ callee.
-      by_test callee (is_same_function_type kind (kind_of callee)))
+      by_test callee (is_same_function_type signature (signature_of callee)))
     where
       by_test : (callee : Callee) (same : Bool) → GoesWell c (if same
           then called f callee c (λ below. FrameOf g ls labels below rest) vs frames
@@ -172,21 +174,21 @@ module _ (b : EntryPoints) where
       branch_well c (unwrap_or (slice_get table n) last) f ls labels vs frames h
   execute_well program c f ls labels instr.Return vs rest frames h =
       where_well c (slice_get program.functions f) _ (λ callee.
-      where_well c (topmost (length (gives_of (kind_of callee))) vs) _ (λ results.
+      where_well c (topmost (length (gives_of (signature_of callee))) vs) _ (λ results.
       record { thread = returned_over c.later results f frames h; table_is = refl }))
   execute_well program c f ls labels (instr.Call g) vs rest frames h =
       calls_well program g c f ls labels rest vs frames h
   execute_well program c f ls labels (instr.CallIndirect t) (value.I32 i ∷ vs) rest frames h =
-      where_well c (slice_get program.types t) _ (λ kind.
-      entry_well program (slice_get c.store.table i) kind c f ls labels rest vs frames h)
+      where_well c (slice_get program.types t) _ (λ signature.
+      entry_well program (slice_get c.store.table i) signature c f ls labels rest vs frames h)
   execute_well program c f ls labels i vs rest frames h =
       after_well program i c f ls labels vs rest frames (effect program i c.store ls vs) refl h
 
-  rule_well : (program : Program) (c : Configuration) → IsCalledThread c.later c.thread
-      → GoesWell c (rule program c)
-  rule_well program c h = by_thread c.thread h where
+  step_well : (program : Program) (c : Configuration) → IsCalledThread c.later c.thread
+      → GoesWell c (counted_step program c)
+  step_well program c h = by_thread c.thread h where
     by_thread : (thread : Thread) → IsCalledThread c.later thread
-        → GoesWell c (rule_of program c thread)
+        → GoesWell c (counted_step_of program c thread)
     by_thread (FrameOf f ls labels vs (Plain i rest) ∷ frames) h =
         execute_well program c f ls labels i vs rest frames h
     by_thread (FrameOf f ls labels vs (InBlock t body rest) ∷ frames) h =
@@ -203,30 +205,30 @@ module _ (b : EntryPoints) where
         ∷ frames) h = record { thread = h; table_is = refl }
     by_thread _ h = tt
 
-  -- ---- rules that aren't counted
+  -- ---- administrative steps
 
   begun_well : (later : List ℕ) (f : ℕ) (o : Option Callee) (t : Thread) → begun o f ≡ Some t
       → IsCalled b later f → IsCalledThread later t
   begun_well later f None t e h = absurd (cc)
-  begun_well later f (Some (Imported kind)) t e h = absurd (cc)
-  begun_well later f (Some (Own kind declared body)) t e h =
-      let same : entered f kind declared body [] ∷ [] ≡ t = cc in
+  begun_well later f (Some (Imported signature)) t e h = absurd (cc)
+  begun_well later f (Some (Own signature declared body)) t e h =
+      let same : entered f signature declared body [] ∷ [] ≡ t = cc in
       subst (IsCalledThread later) same h
 
-  left_well : (later : List ℕ) (f : ℕ) (ls : List Value) (labels : List Label) (vs : List Value)
-      (rest : Sequence) (frames t : Thread) → left rest f ls labels vs frames ≡ Some t
+  exited_well : (later : List ℕ) (f : ℕ) (ls : List Value) (labels : List Label) (vs : List Value)
+      (rest : Sequence) (frames t : Thread) → exited rest f ls labels vs frames ≡ Some t
       → IsOver later f frames → IsCalledThread later t
-  left_well later f ls (LabelOf keeps target below after which ∷ labels) vs Stop frames t e h =
+  exited_well later f ls (LabelOf keeps target below after which ∷ labels) vs Stop frames t e h =
       let same : FrameOf f ls labels (vs ++ below) after ∷ frames ≡ t = cc in
       subst (IsCalledThread later) same h
-  left_well later f ls [] vs Stop frames t e h =
+  exited_well later f ls [] vs Stop frames t e h =
       let same : returned vs frames ≡ t = cc in
       subst (IsCalledThread later) same (returned_over later vs f frames h)
-  left_well later f ls labels vs (Plain i rest) frames t e h = absurd (cc)
-  left_well later f ls labels vs (InBlock b first rest) frames t e h = absurd (cc)
-  left_well later f ls labels vs (InLoop b first rest) frames t e h = absurd (cc)
-  left_well later f ls labels vs (InIf b first rest) frames t e h = absurd (cc)
-  left_well later f ls labels vs (InIfElse b first second rest) frames t e h = absurd (cc)
+  exited_well later f ls labels vs (Plain i rest) frames t e h = absurd (cc)
+  exited_well later f ls labels vs (InBlock b first rest) frames t e h = absurd (cc)
+  exited_well later f ls labels vs (InLoop b first rest) frames t e h = absurd (cc)
+  exited_well later f ls labels vs (InIf b first rest) frames t e h = absurd (cc)
+  exited_well later f ls labels vs (InIfElse b first second rest) frames t e h = absurd (cc)
 
   with_thread : (store : Store) (later : List ℕ) (o : Option Thread) (d : Configuration)
       → option_map (λ (thread : Thread).
@@ -238,23 +240,23 @@ module _ (b : EntryPoints) where
       let same : next ≡ d = cc in
       subst (λ (z : Configuration). IsCalledThread z.later z.thread) same (h t refl)
 
-  leaves_well : (program : Program) (thread : Thread) (later : List ℕ) (store : Store)
-      (d : Configuration) → left_by program thread later store ≡ Some d
+  administrative_well : (program : Program) (thread : Thread) (later : List ℕ) (store : Store)
+      (d : Configuration) → exited_by program thread later store ≡ Some d
       → IsCalledThread later thread → IsCalledThread d.later d.thread
-  leaves_well program [] [] store d e h = absurd (cc)
-  leaves_well program [] (f ∷ later) store d e h =
+  administrative_well program [] [] store d e h = absurd (cc)
+  administrative_well program [] (f ∷ later) store d e h =
       with_thread store later (begun (slice_get program.functions f) f) d e (λ t k.
       begun_well later f (slice_get program.functions f) t k h)
-  leaves_well program (FrameOf f ls labels vs rest ∷ frames) later store d e h =
-      with_thread store later (left rest f ls labels vs frames) d e (λ t k.
-      left_well later f ls labels vs rest frames t k h)
+  administrative_well program (FrameOf f ls labels vs rest ∷ frames) later store d e h =
+      with_thread store later (exited rest f ls labels vs frames) d e (λ t k.
+      exited_well later f ls labels vs rest frames t k h)
 
-  settles_well : (program : Program) (c d : Configuration) → Settles program c d
+  reduces_well : (program : Program) (c d : Configuration) → ReducesTo program c d
       → IsCalledThread c.later c.thread → IsCalledThread d.later d.thread
-  settles_well program c d (here s) h = h
-  settles_well program c d (on {c = c'} {d = between} e rest) h =
-      settles_well program between d rest
-      (leaves_well program c'.thread c'.later c'.store between e h)
+  reduces_well program c d (here s) h = h
+  reduces_well program c d (on {c = c'} {d = between} e rest) h =
+      reduces_well program between d rest
+      (administrative_well program c'.thread c'.later c'.store between e h)
 
   -- ---- one counted step
 
@@ -262,31 +264,32 @@ module _ (b : EntryPoints) where
     abbrev IsCalledNext : Next → Type 0
     IsCalledNext (On c h) = IsCalledWith table c
     IsCalledNext (Over why c h) = IsCalledWith table c
-    IsCalledNext (Wants kind) = Unit {0}
+    IsCalledNext (Wants question) = Unit {0}
     IsCalledNext Nowhere = Unit {0}
 
-    row_well : (c : Call) (r : Ruling) (before : Configuration) (h : Host) (waits : Thread)
-        → before.store.table ≡ table → IsCalledThread before.later waits
-        → IsCalledNext (after_row c r before h waits)
-    row_well c (Ok done) before h waits same k =
+    call_rule_well : (c : Call) (r : Ruling) (before : Configuration) (h : WasiState)
+        (waits : Thread) → before.store.table ≡ table → IsCalledThread before.later waits
+        → IsCalledNext (after_call_rule c r before h waits)
+    call_rule_well c (Ok done) before h waits same k =
         record { thread = answered_thread before.later _ waits k; table_is = same }
-    row_well c (Err (Refuses e)) before h waits same k =
+    call_rule_well c (Err (Refuses e)) before h waits same k =
         record { thread = answered_thread before.later _ waits k; table_is = same }
-    row_well c (Err (Ends code)) before h waits same k = record { thread = tt; table_is = same }
-    row_well c (Err (Wishes kind)) before h waits same k = tt
+    call_rule_well c (Err (Ends code)) before h waits same k = record
+        { thread = tt; table_is = same }
+    call_rule_well c (Err (Inquires question)) before h waits same k = tt
 
     call_well : (o : Option Call) (arguments : List Value) (given : Option Answer)
-        (before : Configuration) (h : Host) (waits : Thread) → before.store.table ≡ table
+        (before : Configuration) (h : WasiState) (waits : Thread) → before.store.table ≡ table
         → IsCalledThread before.later waits
         → IsCalledNext (after_call o arguments given before h waits)
     call_well None arguments given before h waits same k = tt
     call_well (Some c) arguments given before h waits same k =
-        row_well c (row c (reverse (map number_in arguments)) given before.store.memory h) before h
-        waits same k
+        call_rule_well c (call_rule c (reverse (map number_in arguments)) given
+        before.store.memory h) before h waits same k
 
     outcome_well : (guest : Guest) (o : Outcome) (given : Option Answer) (before : Configuration)
-        (h : Host) → before.store.table ≡ table → GoesWell before o
-        → IsCalledNext (after_rule guest o given before h)
+        (h : WasiState) → before.store.table ≡ table → GoesWell before o
+        → IsCalledNext (after_counted_step guest o given before h)
     outcome_well guest (Goes next) given before h same k =
         record { thread = k.thread; table_is = k.table_is ∙ same }
     outcome_well guest (Traps why) given before h same k =
@@ -310,20 +313,21 @@ module _ (b : EntryPoints) where
     leads_well guest (On c h) given p q k to =
         subst IsCalledHere (sym to.2)
         (closed_well to.0.thread to.0.later (stepped given to.0 h p) (record {
-          thread = settles_well guest.program c to.0 to.1 k.thread;
+          thread = reduces_well guest.program c to.0 to.1 k.thread;
           table_is =
-              ap (λ (s : Store). s.table) (settled_store guest.program c to.0 to.1) ∙ k.table_is;
+              ap (λ (s : Store). s.table) (reduced_store guest.program c to.0 to.1) ∙ k.table_is;
         }))
     leads_well guest (Over why c h) given p q k to = subst IsCalledHere (sym to) k
-    leads_well guest (Wants kind) given p q k to = absurd to
+    leads_well guest (Wants question) given p q k to = absurd to
     leads_well guest Nowhere given p q k to = absurd to
 
     move_well : (guest : Guest) (p q : ProcessState) (given : Option Answer)
         → Moves guest p given q → IsCalledHere p → IsCalledHere q
     move_well guest p q given moves k =
         leads_well guest (next_of guest p given) given p q
-        (outcome_well guest (rule guest.program p.configuration) given p.configuration p.host
-        k.table_is (rule_well guest.program p.configuration k.thread)) moves.leads
+        (outcome_well guest (counted_step guest.program p.configuration) given
+        p.configuration p.host k.table_is (step_well guest.program p.configuration
+        k.thread)) moves.leads
 
     runs_well : (guest : Guest) (p q : ProcessState) (kept : List Kept) (n : ℕ)
         → Runs guest p kept n q → IsCalledHere p → IsCalledHere q
@@ -349,7 +353,8 @@ module _ (b : EntryPoints) where
   callers_outermost c program above later place g (next ∷ places) [] same shows h = absurd shows
   callers_outermost c program above later place g (next ∷ places)
       (FrameOf f ls labels vs rest ∷ frames) same shows h =
-      callers_outermost c program shows.0.kind later next f places frames shows.0.same shows.2 h
+      callers_outermost c program shows.0.signature later next f places frames
+      shows.0.same shows.2 h
 
   pub outermost_shown : (c : Context) (program : Program) (later : List ℕ)
       (places : List ShownFrame) (thread : Thread) → ShowsThread c program places thread
@@ -358,7 +363,8 @@ module _ (b : EntryPoints) where
   outermost_shown c program later [] (frame ∷ frames) shows h = absurd shows
   outermost_shown c program later (place ∷ places) [] shows h = absurd shows
   outermost_shown c program later (place ∷ places) (FrameOf f ls labels vs rest ∷ frames) shows h =
-      callers_outermost c program shows.0.kind later place f places frames shows.0.same shows.2 h
+      callers_outermost c program shows.0.signature later place f places frames
+      shows.0.same shows.2 h
 
 -- ---- what is reached
 
@@ -393,10 +399,10 @@ reached_is_called m config kept n p r =
     let start : IsCalledHere b table r.start =
     subst (IsCalledHere b table) (sym s.is)
     (closed_well b table s.first.thread s.first.later (beginning s.first config) (record {
-      thread = settles_well b r.guest.program first s.first s.begins.settles
+      thread = reduces_well b r.guest.program first s.first s.begins.reduces
           (first_calls m.start s.entry);
       table_is = ap (λ (z : Store). z.table)
-          (settled_store r.guest.program first s.first s.begins.settles);
+          (reduced_store r.guest.program first s.first s.begins.reduces);
     })) in
     let last = runs_well b table r.guest r.start p kept n r.runs start in
     record { thread = last.thread; same_table = last.table_is }

@@ -4,8 +4,8 @@ use Rattle.std.proofs.Common.{◌∙◌, append_assoc, arith}
 use Rattle.std.specs.Prelude.{Option, Some, None}
 use Rattle.wasi_abi.specs.rules.Layouts.{u32_bytes, u64_bytes}
 use Rattle.process_rules.specs.Processes.{Ending, Exited, Trapped}
-use Rattle.state_image.specs.rules.Image.{Saved, phase_of, ending_code, flag_of, text_bytes}
-use Rattle.state_image.specs.rules.Image.{counts_bytes, phase_bytes, streams_bytes}
+use Rattle.state_image.specs.rules.ProcessImage.{Saved, phase_of, ending_code, flag_of, text_bytes}
+use Rattle.state_image.specs.rules.ProcessImage.{counts_bytes, phase_bytes, streams_bytes}
 use Rattle.state_image.specs.rules.Ranges.{IsIn, IsShort, FitsCounts, FitsCode, FitsStreams}
 use Rattle.state_image.specs.rules.Reading.{HasField, LacksField}
 use Rattle.state_image.specs.laws.Phases.{IsPhaseFrom}
@@ -36,7 +36,7 @@ pub no_time : {old new : List ℕ} → LacksField u64_bytes (IsIn 8) old new
     → LacksField (λ (s : Saved). u64_bytes s.last_monotonic) FitsCounts old new
 no_time lacks = none_of (λ s. s.last_monotonic) (λ s h. h.last_monotonic) lacks
 
--- it is there, and those behind it aren't
+-- it is there, and those after it aren't
 pub after_steps : {x : ℕ} {old mid new : List ℕ} → HasField u64_bytes (IsIn 8) x old mid
     → LacksField from_answers FitsCounts mid new → LacksField counts_bytes FitsCounts old new
 after_steps has lacks =

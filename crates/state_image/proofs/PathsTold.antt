@@ -106,7 +106,7 @@ pub placed_at : (fs : Files) → IsFiles fs → (n : FileNode) (p : Path) → Is
 placed_at fs is n p among e = rw e at
     (all_among FileNode (λ (x : FileNode). IfSome x.path (IsPlaced fs)) fs.nodes n is.placed among)
 
--- a name behind a path that both have is the same node's in both
+-- a name after a path that both have is the same node's in both
 step : (fs gs : Files) → IsFiles gs → SameNamed fs gs
     → (n : FileNode) (d : ℕ) (parent : Path) (name : Name) → IsAmong n fs.nodes
     → n.path ≡ Some (parent ++ name ∷ [])

@@ -7,21 +7,22 @@ use Rattle.wasi_abi.specs.rules.Layouts.{u16_bytes, u32_bytes, u64_bytes}
 use Rattle.wasi_abi.specs.rules.Numbers.{directory_type, regular_file}
 use Rattle.file_tree.specs.rules.Files.{Files, is_directory}
 use Rattle.file_tree.proofs.SameNames.{heads}
-use Rattle.wasi_calls_rules.specs.Hosts.{Target, Stream, Node, Descriptor}
-use Rattle.state_image.specs.rules.Image.{target_bytes, Numbered, open_from, descriptor_bytes}
-use Rattle.state_image.specs.rules.Image.{items_bytes}
+use Rattle.wasi_calls_rules.specs.WasiStates.{Target, Stream, Node, Descriptor}
+use Rattle.state_image.specs.rules.ProcessImage.{target_bytes, Numbered, open_from}
+use Rattle.state_image.specs.rules.ProcessImage.{descriptor_bytes}
+use Rattle.state_image.specs.rules.ProcessImage.{items_bytes}
 use Rattle.state_image.specs.rules.Ranges.{IsIn, AreFew}
 use Rattle.state_image.specs.restoring.Descriptors.{IsTargetIn}
 use Rattle.state_image.proofs.Fields.{Tells, cut, number_field, items_field}
 
 -- ---- targets
 
-abbrev kind_of : Bool → ℕ
-kind_of directory = if directory then directory_type else regular_file
+abbrev type_number_of : Bool → ℕ
+type_number_of directory = if directory then directory_type else regular_file
 
-least_kind : (b : Bool) → 3 ≤ kind_of b
-least_kind true = omega arith
-least_kind false = omega arith
+least_type_number : (b : Bool) → 3 ≤ type_number_of b
+least_type_number true = omega arith
+least_type_number false = omega arith
 
 same_target : (fs : Files) (a b : Target) (rest other : List ℕ) → IsTargetIn a → IsTargetIn b
     → target_bytes fs a ++ rest ≡ target_bytes fs b ++ other → (a ≡ b) × (rest ≡ other)
@@ -30,18 +31,18 @@ same_target fs (Stream s) (Stream t) rest other p q e =
     let last = (number_field 8).front 0 0 rest other (omega arith) (omega arith) first.1 in
     (ap (λ n. Stream n) first.0, last.1)
 same_target fs (Node k) (Node j) rest other p q e =
-    let first = heads (kind_of (is_directory fs k)) (kind_of (is_directory fs j))
+    let first = heads (type_number_of (is_directory fs k)) (type_number_of (is_directory fs j))
     (u64_bytes k ++ rest) (u64_bytes j ++ other) e in
     let last = (number_field 8).front k j rest other p q first.1 in
     (ap (λ n. Node n) last.0, last.1)
 same_target fs (Stream s) (Node j) rest other p q e =
-    let first = heads s (kind_of (is_directory fs j)) (u64_bytes 0 ++ rest) (u64_bytes j ++ other)
-    e in
-    absurd (omega (arith, p, first.0, least_kind (is_directory fs j)))
+    let first = heads s (type_number_of (is_directory fs j)) (u64_bytes 0
+    ++ rest) (u64_bytes j ++ other) e in
+    absurd (omega (arith, p, first.0, least_type_number (is_directory fs j)))
 same_target fs (Node k) (Stream t) rest other p q e =
-    let first = heads (kind_of (is_directory fs k)) t (u64_bytes k ++ rest) (u64_bytes 0 ++ other)
-    e in
-    absurd (omega (arith, q, first.0, least_kind (is_directory fs k)))
+    let first = heads (type_number_of (is_directory fs k)) t (u64_bytes k
+    ++ rest) (u64_bytes 0 ++ other) e in
+    absurd (omega (arith, q, first.0, least_type_number (is_directory fs k)))
 
 target_field : (fs : Files) → Tells Target IsTargetIn (target_bytes fs)
 target_field fs = record { front = same_target fs }

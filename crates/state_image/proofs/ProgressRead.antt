@@ -4,8 +4,9 @@ use Rattle.wasi_abi.specs.declared.version.Version.{Version}
 use Rattle.state_image.specs.declared.restoring.progress.Progress.{Progress}
 use Rattle.state_image.specs.declared.reading.progress.ReadCounts.{ReadCounts}
 use Rattle.state_image.specs.declared.reading.progress.ReadEnd.{ReadEnd}
-use Rattle.state_image.specs.rules.Image.{Saved, image_mark, counts_bytes, phase_bytes}
-use Rattle.state_image.specs.rules.Image.{streams_bytes}
+use Rattle.state_image.specs.rules.ProcessImage.{Saved, process_image_mark, counts_bytes}
+use Rattle.state_image.specs.rules.ProcessImage.{phase_bytes}
+use Rattle.state_image.specs.rules.ProcessImage.{streams_bytes}
 use Rattle.state_image.specs.rules.Parts.{counts_of, read_end_of, streams_of, StreamTexts, texts_of}
 use Rattle.state_image.specs.rules.Ranges.{FitsCounts, FitsCode, FitsStreams}
 use Rattle.state_image.specs.rules.Reading.{HasField, LacksField, ReadsPart}
@@ -14,11 +15,11 @@ use Rattle.state_image.specs.restoring.Processes.{ReadsProgress}
 use Rattle.state_image.proofs.Marks.{same_version}
 use Rattle.state_image.proofs.FieldsGiven.{counts_given, end_given, streams_given}
 
--- the mark of this version stands in front
+-- the mark of this version is in front
 abbrev pub HasMark : Version → List ℕ → List ℕ → Type 0
-HasMark version old new = HasField image_mark (λ version. Unit {0}) version old new
+HasMark version old new = HasField process_image_mark (λ version. Unit {0}) version old new
 
--- the fields behind it
+-- the fields after it
 abbrev pub HasCounts : ReadCounts → List ℕ → List ℕ → Type 0
 HasCounts r old new = ReadsPart counts_of counts_bytes FitsCounts (Some r) old new
 
@@ -29,7 +30,7 @@ abbrev pub HasStreams : StreamTexts → List ℕ → List ℕ → Type 0
 HasStreams r old new = ReadsPart streams_of streams_bytes FitsStreams (Some r) old new
 
 pub no_mark : (old new : List ℕ)
-    → LacksField image_mark (λ version. Unit {0}) old new
+    → LacksField process_image_mark (λ version. Unit {0}) old new
     → ReadsProgress None old new
 no_mark old new lacks = λ s rest fits e.
     lacks.none s.version (counts_bytes s ++ (phase_bytes s ++ (streams_bytes s ++ rest))) tt e
@@ -95,8 +96,8 @@ has_progress p old a b c new mark counts ends streams = record {
     streams = (streams s is.streams).in_range;
   };
   is = λ s is.
-      mark.is ∙ ap (λ (version : Version). image_mark version ++ a) (sym is.version)
-      ∙ ap (λ (xs : List ℕ). image_mark s.version ++ xs) ((counts s is.counts).is
+      mark.is ∙ ap (λ (version : Version). process_image_mark version ++ a) (sym is.version)
+      ∙ ap (λ (xs : List ℕ). process_image_mark s.version ++ xs) ((counts s is.counts).is
       ∙ ap (λ (xs : List ℕ). counts_bytes s ++ xs) ((ends s is.end).is
       ∙ ap (λ (xs : List ℕ). phase_bytes s ++ xs) (streams s is.streams).is));
   only = λ s rest fits e.

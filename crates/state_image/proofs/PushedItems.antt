@@ -18,14 +18,14 @@ front_more xs i x is =
     take_more xs i x (slice_get_within xs i x is) in
     more ∙ ap (λ y. take i xs ++ y ∷ []) (get_or_from_slice_get xs i x x is)
 
--- what stands at a place
+-- what is at a place
 pub item_at : {X : Type 0} (xs : List X) (i : ℕ) → i < length xs
     → (x : X) × (slice_get xs i ≡ Some x)
 item_at [] i inside = absurd (omega arith)
 item_at (x ∷ xs) zero inside = (x, refl)
 item_at (x ∷ xs) (suc i) inside = item_at xs i (omega arith)
 
--- a front of a list, and what stands behind it
+-- a prefix of a list, and what is after it
 take_add : (xs : List ℕ) (n m : ℕ) → take (n + m) xs ≡ take n xs ++ take m (drop n xs)
 take_add xs zero m = ap (λ k. take k xs) (omega arith)
 take_add [] (suc n) m = nothing m (suc n + m)

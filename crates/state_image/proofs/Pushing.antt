@@ -23,7 +23,7 @@ module _ {S F : Type 0} {takes : TakingPieces S F} where
       → Pushes takes a piece said z
   pushes_once a z piece (Ok done) is_taken = record {
     taken = piece ∷ [];
-    left = [];
+    bytes_left = [];
     is = sym (append-nil (piece ++ []) ∙ append-nil piece);
     between = z;
     all = (z, is_taken, refl);
@@ -31,7 +31,7 @@ module _ {S F : Type 0} {takes : TakingPieces S F} where
   }
   pushes_once a z piece (Err fault) is_refused = record {
     taken = [];
-    left = piece;
+    bytes_left = piece;
     is = refl;
     between = a;
     all = refl;
@@ -42,20 +42,20 @@ module _ {S F : Type 0} {takes : TakingPieces S F} where
   pub pushes_none : (a : S) → Pushes takes a [] (Ok tt) a
   pushes_none a = record {
     taken = [];
-    left = [];
+    bytes_left = [];
     is = refl;
     between = a;
     all = refl;
     stops = (refl, refl);
   }
 
-  -- pushes that were all taken, and others behind them
+  -- pushes that were all taken, and others after them
   pub pushes_on : {a m z : S} {front back : List ℕ} {said : Result (Unit {0}) F}
       → Pushes takes a front (Ok tt) m → Pushes takes m back said z
       → Pushes takes a (front ++ back) said z
   pushes_on {a} {m} {z} {front} {back} {said} first second = record {
     taken = first.taken ++ second.taken;
-    left = second.left;
+    bytes_left = second.bytes_left;
     is = whole;
     between = second.between;
     all = takes_on takes a m second.between first.taken second.taken first_all second.all;
@@ -69,7 +69,7 @@ module _ {S F : Type 0} {takes : TakingPieces S F} where
       first_is = first.is
           ∙ (ap (λ x. joined first.taken ++ x) first.stops.0 ∙ append-nil (joined first.taken))
 
-      whole : front ++ back ≡ joined (first.taken ++ second.taken) ++ second.left
+      whole : front ++ back ≡ joined (first.taken ++ second.taken) ++ second.bytes_left
       whole = rw (joined_on, append_assoc, ← first_is, ← second.is) refl
 
   -- what is pushed, under another name
@@ -82,8 +82,8 @@ module _ {S F : Type 0} {takes : TakingPieces S F} where
       → Pushes takes a front (Err fault) z → Pushes takes a (front ++ back) (Err fault) z
   pushes_no_more {a} {z} {front} back {fault} first = record {
     taken = first.taken;
-    left = first.left ++ back;
-    is = ap (λ x. x ++ back) first.is ∙ append_assoc (joined first.taken) first.left back;
+    bytes_left = first.bytes_left ++ back;
+    is = ap (λ x. x ++ back) first.is ∙ append_assoc (joined first.taken) first.bytes_left back;
     between = first.between;
     all = first.all;
     stops = (
@@ -94,7 +94,7 @@ module _ {S F : Type 0} {takes : TakingPieces S F} where
     );
   }
 
-  -- the exit of a `?` behind pushes that were refused
+  -- the exit of a `?` after pushes that were refused
   pub pushes_exit : {a z : S} {front : List ℕ} (back : List ℕ) {fault : F}
       (r : Result (Unit {0}) F) → IsErrAnd r (λ y. y ≡ fault) → Pushes takes a front (Err fault) z
       → Pushes takes a (front ++ back) r z

@@ -26,12 +26,13 @@ use Rattle.process_rules.specs.Processes.{Ending, Exited, Trapped, ProcessState,
 use Rattle.process_rules.specs.Processes.{IsStart}
 use Rattle.process_rules.specs.laws.Laws.{IsClosed, IsSmallEnding}
 use Rattle.process_rules.proofs.Counted.{reached_are_counted, reached_are_closed}
-use Rattle.process_rules.proofs.Hosted.{reached_are_configured, nodes_are_few, reached_have_hosts}
-use Rattle.process_rules.proofs.Hosted.{reached_input_is_short}
+use Rattle.process_rules.proofs.ReachedStates.{reached_are_configured, nodes_are_few}
+use Rattle.process_rules.proofs.ReachedStates.{reached_have_wasi_states}
+use Rattle.process_rules.proofs.ReachedStates.{reached_input_is_short}
 use Rattle.process_rules.proofs.ReachedTyped.{reached_are_typed}
 use Rattle.process.proofs.Lines.{all_shown}
 use Rattle.process.proofs.Named.{offers_calls}
-use Rattle.state_image.specs.rules.Image.{Saved, SavedShowsProcess, trap_number, ending_code}
+use Rattle.state_image.specs.rules.ProcessImage.{Saved, SavedShowsProcess, trap_number, ending_code}
 use Rattle.state_image.specs.rules.Saving.{saved_of}
 use Rattle.state_image.specs.rules.WellTyped.{IsOutermost, IsAlive, IsWithinBounds}
 use Rattle.state_image.specs.laws.Laws.{ReachedIsWellTyped, SavedIsWellTyped}
@@ -149,7 +150,7 @@ reached_is_well_typed bytes m config functions kept n p table s accepted few tex
       function_types = types;
       process = p;
       shown = subst (λ (t : List (Option ℕ)). SavedShowsProcess c program t s p) same_table shown;
-      host = (reached_have_hosts m config kept n p accepted.valid texts reached).host;
+      host = (reached_have_wasi_states m config kept n p accepted.valid texts reached).host;
       configured = record {
         room = as_before.room;
         arguments = as_before.arguments;

@@ -26,7 +26,7 @@ pub is_that : {X : Type 0} {P : X → Type 0} {f : X → List ℕ} → Tells X P
 is_that tells {x} {old} {mid} has y more within e =
     tells.front x y mid more has.in_range within (sym has.is ∙ e)
 
--- a reader gives the field that is in front, and leaves what is behind it
+-- a reader gives the field that is in front, and leaves what is after it
 pub gives : {X : Type 0} {P : X → Type 0} {f : X → List ℕ} → Tells X P f
     → (result : Option X) {old new : List ℕ} → ReadsField f P result old new
     → (x : X) (rest : List ℕ) → P x → old ≡ f x ++ rest → (result ≡ Some x) × (new ≡ rest)

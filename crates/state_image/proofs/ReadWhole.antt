@@ -14,26 +14,26 @@ use Rattle.machine.specs.rules.Values.{MachineValue, IsProgramIn}
 use Rattle.machine.proofs.Inside.{has_least}
 use Rattle.wasi_abi.specs.rules.Configs.{Settings}
 use Rattle.file_tree.specs.rules.Files.{Files}
-use Rattle.wasi_calls_rules.specs.Hosts.{Line, Descriptor, Host, IsHost}
-use Rattle.wasi_calls.specs.rules.Held.{HeldHost}
+use Rattle.wasi_calls_rules.specs.WasiStates.{Line, Descriptor, WasiState, IsWasiState}
+use Rattle.wasi_calls.specs.rules.Held.{HeldWasiState}
 use Rattle.process.specs.rules.Values.{IsProcess, ending_of}
 use Rattle.state_image.specs.declared.reading.progress.ReadCounts.{ReadCounts}
 use Rattle.state_image.specs.declared.reading.progress.ReadEnd.{ReadEnd}
 use Rattle.state_image.specs.declared.reading.progress.ReadPhase.{ReadPhase}
 use Rattle.state_image.specs.declared.reading.progress.ReadPhase.TheVariants as read
 use Rattle.state_image.specs.declared.restoring.progress.Progress.{Progress}
-use Rattle.state_image.specs.rules.Image.{Saved, items_bytes, descriptor_bytes, open_from}
-use Rattle.state_image.specs.rules.Image.{machine_bytes, files_bytes, image}
+use Rattle.state_image.specs.rules.ProcessImage.{Saved, items_bytes, descriptor_bytes, open_from}
+use Rattle.state_image.specs.rules.ProcessImage.{machine_bytes, files_bytes, process_image}
 use Rattle.state_image.specs.rules.Parts.{read_phase, StreamTexts}
 use Rattle.state_image.specs.rules.Parts.{texts_of}
 use Rattle.state_image.specs.rules.Saving.{saved_of}
 use Rattle.state_image.specs.rules.WellTyped.{IsWellTyped, slots_in}
 use Rattle.state_image.specs.restoring.Machines.{AreToCome, IsReadMachine}
-use Rattle.state_image.specs.restoring.ToldHosts.{host_bytes, IsToldHost, IsRestoredHost}
+use Rattle.state_image.specs.restoring.SavedHosts.{host_bytes, IsSavedHost, IsRestoredWasiState}
 use Rattle.state_image.specs.restoring.Processes.{IsProgressOf, FitsProgress, progress_before}
 use Rattle.state_image.specs.restoring.Processes.{HasProgress, ReadsProgress, end_in}
 use Rattle.state_image.specs.restoring.Processes.{process_behind, IsReadProcess}
-use Rattle.state_image.proofs.Behind.{image_before}
+use Rattle.state_image.proofs.Behind.{process_image_before}
 use Rattle.state_image.proofs.Machines.{same_machine}
 use Rattle.state_image.proofs.RestoredWhole.{shown_first, table_is, coming, is_one}
 use Rattle.state_image.proofs.Whole.{is_within, from_descriptors, from_files, from_machine}
@@ -95,7 +95,7 @@ fits_progress m config s w =
 
 -- where the fields before the machine aren't there, no accepted one has these bytes
 pub no_progress : (m : Module) (config : Settings) (old new : List ℕ)
-    → ReadsProgress None old new → (s : Saved) → IsWellTyped m config s → old ≢ image s
+    → ReadsProgress None old new → (s : Saved) → IsWellTyped m config s → old ≢ process_image s
 no_progress m config old new lacks s w e =
     lacks s (from_machine s) (fits_progress m config s w) e
 
@@ -105,7 +105,7 @@ module _ (linked : MachineValue) (config : Settings)
   abbrev with_machine : MachineState → MachineValue
   with_machine state = record linked { state = state }
 
-  module _ (s : Saved) (w : IsWellTyped linked.guest config s) (e : old ≡ image s) where
+  module _ (s : Saved) (w : IsWellTyped linked.guest config s) (e : old ≡ process_image s) where
     told : IsProgressOf p s × (mid ≡ from_machine s)
     told = has.only s (from_machine s) (fits_progress linked.guest config s w) e
 
@@ -172,7 +172,7 @@ module _ (linked : MachineValue) (config : Settings)
           ++ items_bytes (descriptor_bytes w.process.host.files) (open_from 0 ds))
           w.shown.descriptors
 
-      told_host : IsToldHost config p w.process.host
+      told_host : IsSavedHost config p w.process.host
       told_host = record {
         version = sym w.shown.version ∙ told.0.version;
         configured = w.configured;
@@ -184,8 +184,8 @@ module _ (linked : MachineValue) (config : Settings)
         second = sym w.shown.second ∙ ap (λ (r : StreamTexts). r.second) told.0.streams;
       }
 
-      pub no_host : ((h : Host) (rest : List ℕ) → IsHost h → h.files.next < 2 ^ 64
-          → IsToldHost config p h
+      pub no_host : ((h : WasiState) (rest : List ℕ) → IsWasiState h → h.files.next < 2 ^ 64
+          → IsSavedHost config p h
           → behind ≢ host_bytes h ++ rest) → ⊥
       no_host refused =
           let small = (is_within linked.guest config s w).next in
@@ -195,9 +195,9 @@ module _ (linked : MachineValue) (config : Settings)
 
   -- ---- what was read is a process
 
-  module _ (v : MachineValue) (behind new : List ℕ) (held : HeldHost)
+  module _ (v : MachineValue) (behind new : List ℕ) (held : HeldWasiState)
       (read : IsReadMachine linked p.end.phase mid behind v) (shows : ShowsSome v)
-      (host : IsRestoredHost config p held behind new) where
+      (host : IsRestoredWasiState config p held behind new) where
     abbrev t : Saved
     t = saved_of (process_behind p v held)
 
@@ -219,12 +219,12 @@ module _ (linked : MachineValue) (config : Settings)
     host_behind : behind ≡ files_bytes t.files ++ (from_descriptors t ++ new)
     host_behind = host.is ∙ append_assoc (files_bytes t.files) (from_descriptors t) new
 
-    image_read : old ≡ image t ++ new
-    image_read =
+    process_image_read : old ≡ process_image t ++ new
+    process_image_read =
         has.is t is_progress
         ∙ ap (λ (xs : List ℕ). progress_before t xs)
         (read.is ∙ ap (λ (xs : List ℕ). machine_bytes v.state ++ xs) host_behind)
-        ∙ sym (image_before t new)
+        ∙ sym (process_image_before t new)
 
     pub read_process : IsReadProcess linked config old new (process_behind p v held)
     read_process = record {
@@ -237,12 +237,12 @@ module _ (linked : MachineValue) (config : Settings)
       next = host.next;
       configured = host.told.configured;
       none_waits = host.waiting;
-      is = image_read;
+      is = process_image_read;
     }
 
     -- where it isn't, no accepted one has these bytes
     pub no_process : (IsProcess (process_behind p v held) → ⊥) → (s : Saved)
-        → IsWellTyped linked.guest config s → old ≢ image s
+        → IsWellTyped linked.guest config s → old ≢ process_image s
     no_process refused s w e =
         refused (is_one linked config begun valid old new (process_behind p v held) read_process s w
         e)

@@ -15,12 +15,13 @@ use Rattle.wasi_abi.specs.rules.Configs.{Settings}
 use Rattle.file_tree.specs.rules.Files.{Name, Path, Directory, File, FileNode, Files}
 use Rattle.file_tree.specs.rules.Files.{bytes_of_content, node_of, used, IsPlaced}
 use Rattle.file_tree.specs.rules.Files.{HaveDistinctPaths, IsFiles}
-use Rattle.wasi_calls_rules.specs.Hosts.{Stream, Node, Descriptor, IsThere}
-use Rattle.wasi_calls_rules.specs.Hosts.{IsDescriptor, IsStreamAt}
+use Rattle.wasi_calls_rules.specs.WasiStates.{Stream, Node, Descriptor, IsThere}
+use Rattle.wasi_calls_rules.specs.WasiStates.{IsDescriptor, IsStreamAt}
 use Rattle.wasi_calls_rules.specs.Lines.{rest_of}
 use Rattle.wasi_calls_rules.specs.laws.Scenes.{root_node}
+use Rattle.wasi_calls_rules.specs.declared.output_stream.OutputStream.TheVariants.{Stdout, Stderr}
 use Rattle.process_rules.specs.Processes.{Ending, Exited}
-use Rattle.state_image.specs.rules.Image.{Saved, ending_code}
+use Rattle.state_image.specs.rules.ProcessImage.{Saved, ending_code}
 use Rattle.state_image.specs.rules.WellTyped.{EntryPoints, IsCalled, IsAlive, IsWellTyped}
 use Rattle.state_image.specs.rules.WellTyped.{slots_in}
 use Rattle.state_image.specs.laws.Refusals.{HasNodes, under_name, below_a, RefusesMachines}
@@ -53,12 +54,12 @@ counts_refused config = record {
   lines : (m : Module) (s : Saved) → IsWellTyped m config s → s.lines + 2 ≡ 2 ^ 63 → ⊥
   lines m s w e =
       let h = w.process.host in
-      let all : length (h.lines ++ (rest_of 1 h.first ++ rest_of 2 h.second)) + 2 < 2 ^ 63 =
-      w.lines in
+      let all : length (h.lines ++ (rest_of Stdout h.first ++ rest_of Stderr h.second)) + 2
+      < 2 ^ 63 = w.lines in
       absurd (omega (
         arith,
         all,
-        length-append h.lines (rest_of 1 h.first ++ rest_of 2 h.second),
+        length-append h.lines (rest_of Stdout h.first ++ rest_of Stderr h.second),
         w.shown.lines,
         e,
       ))
@@ -273,7 +274,7 @@ files_refused config = record {
 
 -- ---- descriptors
 
--- what stands at a number
+-- what is at a number
 at_number : (P : Descriptor → Type 0) (ds : List (Option Descriptor)) (n : ℕ) (d : Descriptor)
     → AllByRecursion (λ (o : Option Descriptor). IfSome o P) ds → slice_get ds n ≡ Some (Some d)
     → P d

@@ -1,5 +1,5 @@
 pub mod Lent
-pub mod Told
+pub mod SavedNodes
 pub mod Hung
 pub mod Refused
 pub mod Made
@@ -10,4 +10,4 @@ pub mod Loops
 pub mod Loaded
 pub mod MachineRead
 pub mod OpenAgain
-pub mod HostAgain
+pub mod WasiStateAgain

@@ -1,8 +1,8 @@
 -- A process that is restored shows the one that was reached and saved.
 use Rattle.std.proofs.Common.{◌≡◌, ℕ, List, Option, sym, subst, ◌∙◌}
 use Rattle.wasm_semantics.specs.Validity.{module_context}
-use Rattle.process_rules.proofs.Hosted.{reached_are_configured}
-use Rattle.state_image.specs.rules.Image.{Saved, SavedShowsProcess}
+use Rattle.process_rules.proofs.ReachedStates.{reached_are_configured}
+use Rattle.state_image.specs.rules.ProcessImage.{Saved, SavedShowsProcess}
 use Rattle.state_image.specs.rules.Restored.{SavedShowsIn}
 use Rattle.state_image.specs.rules.Saving.{saved_of}
 use Rattle.state_image.specs.laws.Laws.{RestoredShowsReached}

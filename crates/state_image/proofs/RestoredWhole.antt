@@ -21,16 +21,17 @@ use Rattle.machine.specs.rules.Values.{MachineValue, ShowsIn, IsProgramIn, Holds
 use Rattle.machine.specs.rules.Values.{IsSameMachine}
 use Rattle.machine.proofs.OneProgram.{one_program}
 use Rattle.wasi_abi.specs.rules.Configs.{Settings}
-use Rattle.wasi_calls_rules.specs.Hosts.{Line, Host, IsHost}
-use Rattle.wasi_calls.specs.rules.Held.{ShowsHost, behind_lines}
+use Rattle.wasi_calls_rules.specs.WasiStates.{Line, WasiState, IsWasiState}
+use Rattle.wasi_calls_rules.specs.declared.output_stream.OutputStream.TheVariants.{Stdout}
+use Rattle.wasi_calls.specs.rules.Held.{ShowsWasiState, behind_lines}
 use Rattle.process_rules.specs.Processes.{Ending, Exited, Trapped, ProcessState, Guest, AreCalls}
 use Rattle.process_rules.specs.Processes.{host_of, closed, IsStart, HasLineNumbers}
-use Rattle.process_rules.proofs.MemoryKept.{settled_store}
+use Rattle.process_rules.proofs.MemoryKept.{reduced_store}
 use Rattle.process_rules.proofs.OneStart.{item_number, entry_once}
 use Rattle.process.specs.rules.Values.{ProcessValue, ShowsProcess, IsProcess, waiting_in}
 use Rattle.process.proofs.Lines.{all_shown, few_shown}
 use Rattle.process.proofs.Named.{some_calls}
-use Rattle.state_image.specs.rules.Image.{Saved, SavedShowsProcess, phase_of, image}
+use Rattle.state_image.specs.rules.ProcessImage.{Saved, SavedShowsProcess, phase_of, process_image}
 use Rattle.state_image.specs.rules.Parts.{read_phase}
 use Rattle.state_image.specs.rules.Restored.{SavedShowsIn, IsRestored}
 use Rattle.state_image.specs.rules.Saving.{saved_of}
@@ -40,16 +41,16 @@ use Rattle.state_image.specs.restoring.Machines.{AreToCome}
 use Rattle.state_image.specs.restoring.Processes.{MayCome, IsReadProcess}
 use Rattle.state_image.specs.restoring.Processes.{MayBeAccepted}
 use Rattle.state_image.proofs.Behind.{told_behind}
-use Rattle.state_image.proofs.HostWithin.{places_within}
+use Rattle.state_image.proofs.WasiStateWithin.{places_within}
 use Rattle.state_image.proofs.ReachedWellTyped.{no_places}
 use Rattle.state_image.proofs.Whole.{IsWithin, is_within, called, whole_machine}
 use Rattle.state_image.proofs.Whole.{whole_process}
-use Rattle.state_image.proofs.RestoreLemmas.HostAgain.{host_with}
+use Rattle.state_image.proofs.RestoreLemmas.WasiStateAgain.{host_with}
 
 -- ---- hosts
 
 -- what an image and a configuration tell of a host
-record SameHosts (g h : Host) : Type 0 where
+record SameWasiStates (g h : WasiState) : Type 0 where
   pub files : g.files ≡ h.files
   pub descriptors : g.descriptors ≡ h.descriptors
   pub unread : g.unread ≡ h.unread
@@ -62,7 +63,7 @@ record SameHosts (g h : Host) : Type 0 where
   pub room : g.room ≡ h.room
   pub version : g.version ≡ h.version
 
-host_behind : (g h : Host) → SameHosts g h → g.lines ++ h.lines ≡ g.lines
+host_behind : (g h : WasiState) → SameWasiStates g h → g.lines ++ h.lines ≡ g.lines
     → g ≡ behind_lines g.lines h
 unfolding host_with
 host_behind g h s lines =
@@ -90,7 +91,7 @@ host_behind g h s lines =
     ) refl in
     whole
 
--- nothing waits behind these lines
+-- nothing waits after these lines
 none_behind : (a b : List Line) → b ≡ [] → a ++ b ≡ a
 none_behind a b e = ap (λ (xs : List Line). a ++ xs) e ∙ append-nil a
 
@@ -139,7 +140,7 @@ module _ (linked : MachineValue) (config : Settings)
   pub table_is : (guest : Guest) (start : ProcessState) → (b : IsStart m config guest start)
       → b.begins.store.table ≡ linked.table
   table_is guest start b =
-      sym (ap (λ (s : Store). s.table) (settled_store guest.program _ b.first b.begins.settles))
+      sym (ap (λ (s : Store). s.table) (reduced_store guest.program _ b.first b.begins.reduces))
       ∙ (shown_first guest start b).shows.same_table
 
   -- ---- what a process shows
@@ -172,7 +173,7 @@ module _ (linked : MachineValue) (config : Settings)
               shown.shown.machine);
         }
 
-    same_hosts : SameHosts p.host v.host.host
+    same_hosts : SameWasiStates p.host v.host.host
     same_hosts = record {
       files = sym shown.shown.files;
       descriptors = sym shown.shown.descriptors;
@@ -187,7 +188,7 @@ module _ (linked : MachineValue) (config : Settings)
       version = sym shown.shown.version;
     }
 
-    shows_host : ShowsHost v.host p.host
+    shows_host : ShowsWasiState v.host p.host
     shows_host =
         let none : length v.host.host.lines ≡ 0 = ap (λ (ls : List Line). length ls) none_waits in
         let lines : v.host.released + length v.host.host.lines ≡ length p.host.lines =
@@ -286,7 +287,7 @@ module _ (linked : MachineValue) (config : Settings)
         v.machine.state.later) from.same.guest from.later
 
     -- it is the one with this image, and nothing is left
-    pub is_that_one : (s : Saved) → IsWellTyped m config s → old ≡ image s
+    pub is_that_one : (s : Saved) → IsWellTyped m config s → old ≡ process_image s
         → (s ≡ saved_of v) × ([] ≡ new)
     is_that_one s w e =
         let told = told_behind s (saved_of v) new (is_within m config s w) is_in
@@ -305,7 +306,7 @@ module _ (linked : MachineValue) (config : Settings)
         )
 
     -- so it is one that is accepted
-    is_accepted : (s : Saved) → IsWellTyped m config s → old ≡ image s → (n : ℕ)
+    is_accepted : (s : Saved) → IsWellTyped m config s → old ≡ process_image s → (n : ℕ)
         → HasEntry v.machine.guest n → MayBeAccepted v.machine.guest n (saved_of v)
     is_accepted s w e n has =
         let same : s ≡ saved_of v = (is_that_one s w e).0 in
@@ -328,11 +329,11 @@ module _ (linked : MachineValue) (config : Settings)
     -- ---- it is well typed where it is accepted
 
     some_lines : List Line
-    some_lines = replicate v.host.released (record { stream = 1; text = [] })
+    some_lines = replicate v.host.released (record { stream = Stdout; text = [] })
 
     few_some : length some_lines ≡ v.host.released
     unfolding some_lines
-    few_some = length-replicate v.host.released (record { stream = 1; text = [] })
+    few_some = length-replicate v.host.released (record { stream = Stdout; text = [] })
 
     a_process : ProcessState
     a_process = record {
@@ -344,7 +345,7 @@ module _ (linked : MachineValue) (config : Settings)
       ended = v.ended;
     }
 
-    shows_a_host : ShowsHost v.host (behind_lines some_lines v.host.host)
+    shows_a_host : ShowsWasiState v.host (behind_lines some_lines v.host.host)
     shows_a_host = record { before = some_lines; count = few_some; is = refl }
 
     count_lines : v.host.released + length v.host.host.lines
@@ -437,7 +438,7 @@ module _ (linked : MachineValue) (config : Settings)
       ended = refl;
     }
 
-    is_host : IsHost a_process.host
+    is_host : IsWasiState a_process.host
     unfolding a_process
     is_host = record {
       files = from.host.files;
@@ -511,8 +512,8 @@ module _ (linked : MachineValue) (config : Settings)
         let accepted = may entry entry_there in
         record {
           guest = from.same.guest;
-          is = from.is ∙ ap (λ (xs : List ℕ). image (saved_of v) ++ xs) none
-              ∙ append-nil (image (saved_of v));
+          is = from.is ∙ ap (λ (xs : List ℕ). process_image (saved_of v) ++ xs) none
+              ∙ append-nil (process_image (saved_of v));
           well_typed = well_typed is accepted;
           none_waits = from.none_waits;
           shows = λ guest p shown. shows_process v from.same from.shows.shows.holds
@@ -530,13 +531,13 @@ module _ (linked : MachineValue) (config : Settings)
         is_restored is ((tells entry entry_there).0 so).0 (λ n has. ((tells n has).0 so).1)
 
     pub refused_so : (told : Bool) → TellsAccepted told → told ≡ false → (s : Saved)
-        → IsWellTyped m config s → old ≢ image s
+        → IsWellTyped m config s → old ≢ process_image s
     refused_so told tells so s w e =
         both_ways told so ((tells entry entry_there).1
         (sym (is_that_one s w e).1, is_accepted s w e entry entry_there))
 
     -- where an accepted one has this image, it is one of the rules
-    pub is_one : (s : Saved) → IsWellTyped m config s → old ≡ image s → IsProcess v
+    pub is_one : (s : Saved) → IsWellTyped m config s → old ≡ process_image s → IsProcess v
     is_one s w e =
         let x : IsWellTyped m config (saved_of v) =
         subst (IsWellTyped m config) (is_that_one s w e).0 w in

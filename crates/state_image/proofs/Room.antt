@@ -22,13 +22,15 @@ use Rattle.file_tree.specs.rules.Files.{bytes_of_content, used, entries_in, sort
 use Rattle.file_tree.specs.rules.Files.{entries_of, IsFiles}
 use Rattle.file_tree.proofs.Order.{all_sorted}
 use Rattle.file_tree.proofs.Seen.{length-sorted}
-use Rattle.wasi_calls_rules.specs.Hosts.{Target, Stream, Node, Descriptor}
+use Rattle.wasi_calls_rules.specs.WasiStates.{Target, Stream, Node, Descriptor}
 use Rattle.machine_slots.specs.rules.Places.{ShownFrame, MachineState}
-use Rattle.state_image.specs.rules.Image.{Saved, text_bytes, items_bytes, place_bytes}
-use Rattle.state_image.specs.rules.Image.{memory_bytes, entry_bytes, content_bytes, node_bytes}
-use Rattle.state_image.specs.rules.Image.{files_bytes, target_bytes, Numbered, open_from}
-use Rattle.state_image.specs.rules.Image.{descriptor_bytes, image_mark, counts_bytes, phase_bytes}
-use Rattle.state_image.specs.rules.Image.{streams_bytes, machine_bytes, image}
+use Rattle.state_image.specs.rules.ProcessImage.{Saved, text_bytes, items_bytes, place_bytes}
+use Rattle.state_image.specs.rules.ProcessImage.{memory_bytes, entry_bytes, content_bytes}
+use Rattle.state_image.specs.rules.ProcessImage.{node_bytes}
+use Rattle.state_image.specs.rules.ProcessImage.{files_bytes, target_bytes, Numbered, open_from}
+use Rattle.state_image.specs.rules.ProcessImage.{descriptor_bytes, process_image_mark, counts_bytes}
+use Rattle.state_image.specs.rules.ProcessImage.{phase_bytes}
+use Rattle.state_image.specs.rules.ProcessImage.{streams_bytes, machine_bytes, process_image}
 use Rattle.state_image.specs.rules.WellTyped.{slots_in, IsWellTyped}
 use Rattle.state_image.proofs.Marks.{mark_length, short_texts}
 use Rattle.state_image.proofs.Among.{IsAmong, among_all}
@@ -322,7 +324,7 @@ parts_long a b c d e f g =
     )
 
 pub has_room : (m : Module) (config : Settings) (s : Saved) → IsWellTyped m config s
-    → length (image s) ≤ 1048576 + 65536 * (config.pages + config.files)
+    → length (process_image s) ≤ 1048576 + 65536 * (config.pages + config.files)
 has_room m config s w =
     let within = is_within m config s w in
     let unread : length s.unread ≤ 65537 = omega (arith, w.unread, short_texts s.version) in
@@ -337,7 +339,7 @@ has_room m config s w =
     let places = items_bytes (descriptor_bytes s.files) (open_from 0 s.descriptors) in
     omega (
       arith,
-      parts_long (image_mark s.version) (counts_bytes s) (phase_bytes s) (streams_bytes s)
+      parts_long (process_image_mark s.version) (counts_bytes s) (phase_bytes s) (streams_bytes s)
           (machine_bytes s.machine) (files_bytes s.files) places,
       mark_length s.version,
       counts_long s,

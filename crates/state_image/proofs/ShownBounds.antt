@@ -66,7 +66,7 @@ imported_are =
 
 -- ---- positions
 
--- a position at which something is left to execute is none behind the last end
+-- a position at which something is left to execute is none after the last end
 before_end : (c : Context) (body : Sequence) (p : ℕ) (shape : Shape)
     → body_shape c body p ≡ Some shape → shape.rest ≢ Stop → p ≤ length (spelled body)
 before_end c body p shape e more = within (nat_le p (length (spelled body))) refl e where
@@ -92,9 +92,9 @@ before_end c body p shape e more = within (nat_le p (length (spelled body))) ref
   within false t e = absurd (at_end (p == length (spelled body) + 1) e)
 
 -- a call is something to execute
-call_more : (c : Context) (call : Sequence) (kind : FunctionType) (takes : List ValueType)
-    (rest : Sequence) → IsCallOf c call kind takes rest → call ≢ Stop
-call_more c call kind takes rest h e = subst (λ s. IsCallOf c s kind takes rest) e h
+call_more : (c : Context) (call : Sequence) (signature : FunctionType) (takes : List ValueType)
+    (rest : Sequence) → IsCallOf c call signature takes rest → call ≢ Stop
+call_more c call signature takes rest h e = subst (λ s. IsCallOf c s signature takes rest) e h
 
 -- ---- frames
 
@@ -113,11 +113,11 @@ module _ (pages : ℕ) (m : Module) (functions : List FunctionType) (program : P
       let few = limits.1.functions in
       omega (arith, below, all, imported, few)
 
-  position_below : (f : ℕ) (kind : FunctionType) (declared : List ValueType) (body : Sequence)
-      (p : ℕ) → slice_get program.functions f ≡ Some (Own kind declared body)
+  position_below : (f : ℕ) (signature : FunctionType) (declared : List ValueType) (body : Sequence)
+      (p : ℕ) → slice_get program.functions f ≡ Some (Own signature declared body)
       → p ≤ length (spelled body) → p < INSTRUCTIONS
-  position_below f kind declared body p at within =
-      let n = functions_numbered pages m program f (Own kind declared body) is at in
+  position_below f signature declared body p at within =
+      let n = functions_numbered pages m program f (Own signature declared body) is at in
       let short : length n.1.code.body ≤ INSTRUCTIONS =
       (all_at IsSmallFunction m.functions n.0 n.1 limits.1.bodies n.3).1 in
       let count : length n.1.code.body ≡ length (spelled body) + 1 =
@@ -129,8 +129,8 @@ module _ (pages : ℕ) (m : Module) (functions : List FunctionType) (program : P
       → shape.rest ≢ Stop → IsPlaceWithin place
   place_within place f own shape inner reached more = record {
     function = subst (λ (k : ℕ). k < FUNCTIONS) (sym own.same)
-        (function_below f (Own own.kind own.declared own.body) own.is);
-    position = position_below f own.kind own.declared own.body place.position own.is
+        (function_below f (Own own.signature own.declared own.body) own.is);
+    position = position_below f own.signature own.declared own.body place.position own.is
         (before_end inner own.body place.position shape reached more);
   }
 
@@ -140,10 +140,10 @@ module _ (pages : ℕ) (m : Module) (functions : List FunctionType) (program : P
   callers_within above [] (frame ∷ frames) h = absurd h
   callers_within above (place ∷ places) [] h = absurd h
   callers_within above (place ∷ places) (FrameOf f ls labels vs rest ∷ frames) h =
-      let inner : Context = body_context c h.0.kind h.0.declared in (
+      let inner : Context = body_context c h.0.signature h.0.declared in (
         place_within place f h.0 h.1.shape inner h.1.reached
             (call_more inner h.1.shape.rest above h.1.takes rest h.1.calls),
-        callers_within h.0.kind places frames h.2,
+        callers_within h.0.signature places frames h.2,
       )
 
   pub places_within : (places : List ShownFrame) (thread : Thread)
@@ -152,9 +152,9 @@ module _ (pages : ℕ) (m : Module) (functions : List FunctionType) (program : P
   places_within [] (frame ∷ frames) h = absurd h
   places_within (place ∷ places) [] h = absurd h
   places_within (place ∷ places) (FrameOf f ls labels vs rest ∷ frames) h = (
-    place_within place f h.0 h.1.shape (body_context c h.0.kind h.0.declared) h.1.reached
+    place_within place f h.0 h.1.shape (body_context c h.0.signature h.0.declared) h.1.reached
         (λ e. h.1.more (h.1.remains ∙ e)),
-    callers_within h.0.kind places frames h.2,
+    callers_within h.0.signature places frames h.2,
   )
 
   -- ---- slots
@@ -192,32 +192,32 @@ module _ (pages : ℕ) (m : Module) (functions : List FunctionType) (program : P
       omega (arith, all, others)
 
   -- a function gives one value at most
-  one_given : (f : ℕ) (kind : FunctionType) (declared : List ValueType) (body : Sequence)
-      → slice_get program.functions f ≡ Some (Own kind declared body)
-      → length (gives_of kind) ≤ 1
-  one_given f kind declared body at =
-      let n = functions_numbered pages m program f (Own kind declared body) is at in
-      let one : length kind.results ≤ 1 =
-      all_at IsFunctionTypeValid m.types n.1.function_type kind valid.types n.4 in
-      let same = length-reverse kind.results in
+  one_given : (f : ℕ) (signature : FunctionType) (declared : List ValueType) (body : Sequence)
+      → slice_get program.functions f ≡ Some (Own signature declared body)
+      → length (gives_of signature) ≤ 1
+  one_given f signature declared body at =
+      let n = functions_numbered pages m program f (Own signature declared body) is at in
+      let one : length signature.results ≤ 1 =
+      all_at IsFunctionTypeValid m.types n.1.function_type signature valid.types n.4 in
+      let same = length-reverse signature.results in
       omega (arith, one, same)
 
   running_few : (place : ShownFrame) (f : ℕ) (own : IsFrameOf c program place f) (ls : List Value)
       (labels : List Label) (vs : List Value) (rest : Sequence)
-      → ShowsRunning (body_context c own.kind own.declared) own.body place ls labels vs rest
+      → ShowsRunning (body_context c own.signature own.declared) own.body place ls labels vs rest
       → length place.slots
-      ≤ length own.kind.parameters + length own.declared + place.position
+      ≤ length own.signature.parameters + length own.declared + place.position
   running_few place f own ls labels vs rest h =
-      let inner : Context = body_context c own.kind own.declared in
+      let inner : Context = body_context c own.signature own.declared in
       let low = heights_small inner own.body place.position h.shape valid.types
       (types_at GivesOneAtMost m.types (imported_functions m.imports
       ++ map function_type_of m.functions) functions valid.types types)
-      (one_given f own.kind own.declared own.body own.is) h.reached in
+      (one_given f own.signature own.declared own.body own.is) h.reached in
       let slots = slots_counted place ls labels vs h.slots in
       let operands = values_count h.shape.operands vs h.operands in
       let below = below_are h.shape.labels labels h.labels_are in
-      let locals = values_count (own.kind.parameters ++ own.declared) ls h.locals in
-      let both = length-append own.kind.parameters own.declared in
+      let locals = values_count (own.signature.parameters ++ own.declared) ls h.locals in
+      let both = length-append own.signature.parameters own.declared in
       omega (arith, low, slots, operands, below, locals, both)
 
   pub slots_few : (places : List ShownFrame) (thread : Thread)
@@ -228,15 +228,15 @@ module _ (pages : ℕ) (m : Module) (functions : List FunctionType) (program : P
   slots_few (place ∷ places) (FrameOf f ls labels vs rest ∷ frames) h few =
       let own : IsFrameOf c program place f = h.0 in
       let at : slice_get program.functions place.function
-      ≡ Some (Own own.kind own.declared own.body) =
+      ≡ Some (Own own.signature own.declared own.body) =
       subst (λ (k : ℕ). slice_get program.functions k
-      ≡ Some (Own own.kind own.declared own.body)) (sym own.same) own.is in
-      let held = few own.kind own.declared own.body at in
+      ≡ Some (Own own.signature own.declared own.body)) (sym own.same) own.is in
+      let held = few own.signature own.declared own.body at in
       let all = sum_by-cons (λ (f : ShownFrame). length f.slots) place places in
       let others = held_are places in
       let running = running_few place f own ls labels vs rest h.1 in
       let position = (place_within place f own h.1.shape
-      (body_context c own.kind own.declared) h.1.reached
+      (body_context c own.signature own.declared) h.1.reached
       (λ e. h.1.more (h.1.remains ∙ e))).position in
       omega (arith, held, all, others, running, position)
 

@@ -14,14 +14,17 @@ use Rattle.file_tree.specs.rules.Files.{Path, Files, FileNode, Content, Director
 use Rattle.file_tree.specs.rules.Files.{is_directory, path_of, entries_in, entries_under}
 use Rattle.file_tree.specs.rules.Files.{entries_of, IsSmallContent, IsFiles}
 use Rattle.file_tree.proofs.Order.{all_sorted}
-use Rattle.wasi_calls_rules.specs.Hosts.{Target, Stream, Node}
+use Rattle.wasi_calls_rules.specs.WasiStates.{Target, Stream, Node}
 use Rattle.machine_slots.specs.rules.Places.{ShownFrame, MachineState}
-use Rattle.state_image.specs.rules.Image.{Saved, ending_code, flag_of, text_bytes}
-use Rattle.state_image.specs.rules.Image.{items_bytes, place_bytes, entry_bytes}
-use Rattle.state_image.specs.rules.Image.{content_bytes, node_bytes, files_bytes, target_bytes}
-use Rattle.state_image.specs.rules.Image.{Numbered, open_from, descriptor_bytes, image_mark}
-use Rattle.state_image.specs.rules.Image.{counts_bytes, phase_bytes, streams_bytes, machine_bytes}
-use Rattle.state_image.specs.rules.Image.{image}
+use Rattle.state_image.specs.rules.ProcessImage.{Saved, ending_code, flag_of, text_bytes}
+use Rattle.state_image.specs.rules.ProcessImage.{items_bytes, place_bytes, entry_bytes}
+use Rattle.state_image.specs.rules.ProcessImage.{content_bytes, node_bytes, files_bytes}
+use Rattle.state_image.specs.rules.ProcessImage.{target_bytes}
+use Rattle.state_image.specs.rules.ProcessImage.{Numbered, open_from, descriptor_bytes}
+use Rattle.state_image.specs.rules.ProcessImage.{process_image_mark}
+use Rattle.state_image.specs.rules.ProcessImage.{counts_bytes, phase_bytes, streams_bytes}
+use Rattle.state_image.specs.rules.ProcessImage.{machine_bytes}
+use Rattle.state_image.specs.rules.ProcessImage.{process_image}
 use Rattle.state_image.specs.rules.WellTyped.{IsWellTyped}
 use Rattle.state_image.specs.restoring.Descriptors.{IsTargetIn}
 use Rattle.state_image.proofs.Among.{among_all}
@@ -146,13 +149,13 @@ files fs is =
 
 -- ---- descriptors
 
-kind_low : (b : Bool) → IsByte (if b then directory_type else regular_file)
-kind_low true = omega arith
-kind_low false = omega arith
+type_number_low : (b : Bool) → IsByte (if b then directory_type else regular_file)
+type_number_low true = omega arith
+type_number_low false = omega arith
 
 target : (fs : Files) (t : Target) → IsTargetIn t → Spelled (target_bytes fs t)
 target fs (Stream s) few = byte (omega (arith, few)) (field 8 0)
-target fs (Node k) few = byte (kind_low (is_directory fs k)) (field 8 k)
+target fs (Node k) few = byte (type_number_low (is_directory fs k)) (field 8 k)
 
 descriptor : (fs : Files) (d : Numbered) → IsNumberedIn d → Spelled (descriptor_bytes fs d)
 descriptor fs d h =
@@ -162,7 +165,7 @@ descriptor fs d h =
 
 -- ---- the whole
 
-mark : (v : Version) → Spelled (image_mark v)
+mark : (v : Version) → Spelled (process_image_mark v)
 mark One = record {
   each = (
     omega arith,
@@ -198,7 +201,7 @@ same_bytes : (a b : List ℕ) → a ≡ b → AllByRecursion IsByte b → Spelle
 same_bytes a b e h = record { each = subst (AllByRecursion IsByte) (sym e) h }
 
 pub is_of_bytes : (m : Module) (config : Settings) (s : Saved) → IsWellTyped m config s
-    → AllByRecursion IsByte (image s)
+    → AllByRecursion IsByte (process_image s)
 is_of_bytes m config s w =
     let within = is_within m config s w in
     let unread = same_bytes s.unread w.process.host.unread w.shown.unread w.host.unread in
@@ -210,7 +213,7 @@ is_of_bytes m config s w =
     w.shown.machine.typed.store.memory.bytes in
     let opened = items Numbered IsNumberedIn (descriptor_bytes s.files) (descriptor s.files)
     (open_from 0 s.descriptors) (open_in s.descriptors within.places).each in
-    let whole : Spelled (image s) =
-    joined (mark s.version) (joined (counts s) (joined (phase s) (joined (streams s unread first second)
-    (joined (machine s.machine memory) (joined (files s.files within.files) opened))))) in
-    whole.each
+    let whole : Spelled (process_image s) =
+    joined (mark s.version) (joined (counts s) (joined (phase s)
+    (joined (streams s unread first second) (joined (machine s.machine memory)
+    (joined (files s.files within.files) opened))))) in whole.each

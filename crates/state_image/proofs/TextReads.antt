@@ -1,4 +1,4 @@
--- Texts, memory and words, read behind their length.
+-- Texts, memory and words, read after their length.
 use Rattle.std.proofs.Common.{◌≡◌, ℕ, zero, suc, ◌*◌, ◌/◌, ◌<◌, Bool, true, false, List, []}
 use Rattle.std.proofs.Common.{◌∷◌, ◌++◌, length, take, drop, refl, sym, ap, subst, ◌∙◌}
 use Rattle.std.proofs.Common.{◌^◌, length-append, arith}
@@ -9,7 +9,7 @@ use Rattle.std.proofs.lemmas.List.{take-append-drop, length-take-le, length-drop
 use Rattle.guest_memory.specs.rules.Bytes.{IsByte, number_of, bytes_of, page_size}
 use Rattle.guest_memory.proofs.ByteLemmas.{bytes_of-number_of}
 use Rattle.wasi_abi.specs.rules.Layouts.{u32_bytes, u64_bytes}
-use Rattle.state_image.specs.rules.Image.{flag_of, memory_bytes, items_bytes}
+use Rattle.state_image.specs.rules.ProcessImage.{flag_of, memory_bytes, items_bytes}
 use Rattle.state_image.specs.rules.Ranges.{IsIn, AreWords, IsWhole}
 use Rattle.state_image.specs.rules.Reading.{HasField, LacksField, ReadsField}
 use Rattle.state_image.specs.laws.WordLists.{numbers_in}

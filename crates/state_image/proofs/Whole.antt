@@ -8,15 +8,17 @@ use Rattle.wasm_semantics.specs.Validity.{module_context}
 use Rattle.wasi_abi.specs.declared.version.Version.{Version}
 use Rattle.wasi_abi.specs.rules.Configs.{Settings}
 use Rattle.file_tree.specs.rules.Files.{Files, IsFiles}
-use Rattle.wasi_calls_rules.specs.Hosts.{Host, Descriptor}
+use Rattle.wasi_calls_rules.specs.WasiStates.{WasiState, Descriptor}
 use Rattle.wasi_calls_rules.specs.Lines.{rest_of}
+use Rattle.wasi_calls_rules.specs.declared.output_stream.OutputStream.TheVariants.{Stdout, Stderr}
 use Rattle.process_rules.specs.Processes.{Ending, HasLineNumbers}
 use Rattle.process_rules.proofs.OneStart.{entry_once, item_number}
 use Rattle.machine_slots.specs.rules.Places.{ShownFrame, MachineState}
-use Rattle.state_image.specs.rules.Image.{Saved, phase_of, ending_code, items_bytes}
-use Rattle.state_image.specs.rules.Image.{descriptor_bytes, open_from, counts_bytes}
-use Rattle.state_image.specs.rules.Image.{phase_bytes, streams_bytes, machine_bytes, files_bytes}
-use Rattle.state_image.specs.rules.Image.{image}
+use Rattle.state_image.specs.rules.ProcessImage.{Saved, phase_of, ending_code, items_bytes}
+use Rattle.state_image.specs.rules.ProcessImage.{descriptor_bytes, open_from, counts_bytes}
+use Rattle.state_image.specs.rules.ProcessImage.{phase_bytes, streams_bytes, machine_bytes}
+use Rattle.state_image.specs.rules.ProcessImage.{files_bytes}
+use Rattle.state_image.specs.rules.ProcessImage.{process_image}
 use Rattle.state_image.specs.rules.WellTyped.{EntryPoints, IsCalled, IsOutermost, IsAlive}
 use Rattle.state_image.specs.rules.WellTyped.{IsWellTyped}
 use Rattle.state_image.specs.rules.Ranges.{IsIn, FitsCounts, FitsStreams, HasMachine}
@@ -28,7 +30,7 @@ use Rattle.state_image.proofs.Named.{same_files_named}
 use Rattle.state_image.proofs.PathsTold.{same_files}
 use Rattle.state_image.proofs.Places.{HasPlaces, same_open}
 use Rattle.state_image.proofs.FilesWithin.{files_within}
-use Rattle.state_image.proofs.HostWithin.{places_within}
+use Rattle.state_image.proofs.WasiStateWithin.{places_within}
 use Rattle.state_image.proofs.MachineWithin.{machine_within}
 
 -- ---- within the fields
@@ -43,10 +45,11 @@ pub record IsWithin (s : Saved) : Type 0 where
   pub next : IsIn 8 s.files.next
   pub places : HasPlaces s.descriptors
 
-lines_within : (h : Host) → HasLineNumbers h → IsIn 8 (length h.lines)
+lines_within : (h : WasiState) → HasLineNumbers h → IsIn 8 (length h.lines)
 lines_within h n =
-    let all : length (h.lines ++ (rest_of 1 h.first ++ rest_of 2 h.second)) + 2 < 2 ^ 63 = n in
-    omega (arith, all, length-append h.lines (rest_of 1 h.first ++ rest_of 2 h.second))
+    let all : length (h.lines ++ (rest_of Stdout h.first ++ rest_of Stderr h.second)) + 2
+    < 2 ^ 63 = n in
+    omega (arith, all, length-append h.lines (rest_of Stdout h.first ++ rest_of Stderr h.second))
 
 counts_within : (m : Module) (config : Settings) (s : Saved) → IsWellTyped m config s → FitsCounts s
 counts_within m config s w =
@@ -246,8 +249,8 @@ whole_process s t h machine =
     let unread = h.streams.unread in let first = h.streams.first in let second =
     h.streams.second in
     let input = h.phase.input_ended in let ended = h.phase.ended in
-    let streams : with_streams s s.version s.unread s.input_ended s.first s.second s.ended ≡ with_streams s
-    t.version t.unread t.input_ended t.first t.second t.ended =
+    let streams : with_streams s s.version s.unread s.input_ended s.first s.second s.ended
+    ≡ with_streams s t.version t.unread t.input_ended t.first t.second t.ended =
     rw (version, unread, input, first, second, ended) refl in
     let counts : with_counts t s.machine s.files s.descriptors s.steps s.answers s.requests s.lines
     s.last_monotonic
@@ -257,7 +260,7 @@ whole_process s t h machine =
     streams ∙ counts
 
 pub told_apart : (m : Module) (config : Settings) (s t : Saved) → IsWellTyped m config s
-    → IsWellTyped m config t → image s ≡ image t → s ≡ t
+    → IsWellTyped m config t → process_image s ≡ process_image t → s ≡ t
 told_apart m config s t w v e =
     let mark = same_version s.version t.version (from_counts s) (from_counts t) e in
     let same = same_parts s t (is_within m config s w) (is_within m config t v) mark.0 mark.1 in

@@ -1,41 +1,44 @@
--- A whole image, field by field in its order: what is left behind each field, up to nothing.
+-- A whole image, field by field in its order: what is left after each field, up to nothing.
 use Rattle.std.proofs.Common.{◌≡◌, List, ℕ, ◌++◌, reverse, refl, sym, ap, ◌∙◌}
 use Rattle.std.proofs.lemmas.List.{append-nil}
 use Rattle.wasi_abi.specs.rules.Layouts.{u64_bytes}
-use Rattle.state_image.specs.rules.Image.{Saved, image_mark, counts_bytes, phase_bytes}
-use Rattle.state_image.specs.rules.Image.{streams_bytes, items_bytes, place_bytes, memory_bytes}
-use Rattle.state_image.specs.rules.Image.{node_bytes, image}
-use Rattle.state_image.specs.laws.ImageOrder.{IsInOrder}
+use Rattle.state_image.specs.rules.ProcessImage.{Saved, process_image_mark, counts_bytes}
+use Rattle.state_image.specs.rules.ProcessImage.{phase_bytes}
+use Rattle.state_image.specs.rules.ProcessImage.{streams_bytes, items_bytes, place_bytes}
+use Rattle.state_image.specs.rules.ProcessImage.{memory_bytes}
+use Rattle.state_image.specs.rules.ProcessImage.{node_bytes, process_image}
+use Rattle.state_image.specs.laws.ProcessImageOrder.{IsInOrder}
 use Rattle.state_image.proofs.Whole.{from_counts, from_phase, from_streams, from_machine}
 use Rattle.state_image.proofs.Whole.{from_files, from_descriptors}
-use Rattle.state_image.proofs.ImageGiven.{machine_in_order, files_in_order}
+use Rattle.state_image.proofs.ProcessImageGiven.{machine_in_order, files_in_order}
 
 -- bytes whose fields are in order are an image
-pub image_read : (s : Saved) (bytes : List ℕ) → IsInOrder s bytes → bytes ≡ image s
-image_read s bytes h =
+pub process_image_read : (s : Saved) (bytes : List ℕ) → IsInOrder s bytes → bytes ≡ process_image s
+process_image_read s bytes h =
     let descriptors : h.after_nodes ≡ from_descriptors s =
     h.descriptors ∙ append-nil (from_descriptors s) in
     let files : h.after_memory ≡ from_files s =
-    h.next ∙ ap (λ (left : List ℕ). u64_bytes s.files.next ++ left)
-    (h.nodes ∙ ap (λ (left : List ℕ). items_bytes (node_bytes s.files) s.files.nodes ++ left)
-    descriptors) ∙ sym (files_in_order s.files (from_descriptors s)) in
+    h.next ∙ ap (λ (bytes_left : List ℕ). u64_bytes s.files.next ++ bytes_left)
+    (h.nodes ∙ ap (λ (bytes_left : List ℕ). items_bytes (node_bytes s.files) s.files.nodes
+    ++ bytes_left) descriptors) ∙ sym (files_in_order s.files (from_descriptors s)) in
     let machine : h.after_streams ≡ from_machine s =
-    h.globals ∙ ap (λ (left : List ℕ). items_bytes u64_bytes s.machine.globals ++ left)
+    h.globals ∙ ap (λ (bytes_left : List ℕ). items_bytes u64_bytes s.machine.globals ++ bytes_left)
     (h.frames
-    ∙ ap (λ (left : List ℕ). items_bytes place_bytes (reverse s.machine.frames) ++ left)
-    (h.memory ∙ ap (λ (left : List ℕ). memory_bytes s.machine.memory ++ left) files))
+    ∙ ap (λ (bytes_left : List ℕ). items_bytes place_bytes (reverse s.machine.frames) ++ bytes_left)
+    (h.memory ∙ ap (λ (bytes_left : List ℕ). memory_bytes s.machine.memory ++ bytes_left) files))
     ∙ sym (machine_in_order s.machine (from_files s)) in
     let streams : h.after_phase ≡ from_streams s =
-    h.streams ∙ ap (λ (left : List ℕ). streams_bytes s ++ left) machine in
+    h.streams ∙ ap (λ (bytes_left : List ℕ). streams_bytes s ++ bytes_left) machine in
     let phase : h.after_counts ≡ from_phase s =
-    h.phase ∙ ap (λ (left : List ℕ). phase_bytes s ++ left) streams in
+    h.phase ∙ ap (λ (bytes_left : List ℕ). phase_bytes s ++ bytes_left) streams in
     let counts : h.after_mark ≡ from_counts s =
-    h.counts ∙ ap (λ (left : List ℕ). counts_bytes s ++ left) phase in
-    h.mark ∙ ap (λ (left : List ℕ). image_mark s.version ++ left) counts
+    h.counts ∙ ap (λ (bytes_left : List ℕ). counts_bytes s ++ bytes_left) phase in
+    h.mark ∙ ap (λ (bytes_left : List ℕ). process_image_mark s.version ++ bytes_left) counts
 
 -- and its image has the fields in this order
-pub image_in_order : (s : Saved) (bytes : List ℕ) → bytes ≡ image s → IsInOrder s bytes
-image_in_order s bytes e = record {
+pub process_image_in_order : (s : Saved) (bytes : List ℕ) → bytes ≡ process_image s
+    → IsInOrder s bytes
+process_image_in_order s bytes e = record {
   after_mark = from_counts s;
   mark = e;
   after_counts = from_phase s;

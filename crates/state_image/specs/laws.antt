@@ -1,6 +1,6 @@
 pub mod Examples
-pub mod ImageExamples
-pub mod ImageOrder
+pub mod ProcessImageExamples
+pub mod ProcessImageOrder
 pub mod Laws
 pub mod Marks
 pub mod Phases

@@ -1,10 +1,10 @@
 pub mod Named
 pub mod ListReaders
-pub mod Told
+pub mod SavedNodes
 pub mod Hanging
 pub mod Parts
 pub mod Opened
 pub mod Machines
 pub mod Descriptors
-pub mod ToldHosts
+pub mod SavedHosts
 pub mod Processes

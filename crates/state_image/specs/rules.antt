@@ -1,5 +1,5 @@
 pub mod Fronts
-pub mod Image
+pub mod ProcessImage
 pub mod LentFrames
 pub mod Parts
 pub mod Ranges

@@ -6,8 +6,8 @@ use crate::sink::Sink;
 use std::alloc::{AllocError, Global};
 use std::marker::Model;
 
-/// The bytes that it has taken. Only want of memory makes it refuse a piece, and then it keeps
-/// what it had.
+/// The bytes that it has taken. It refuses a piece only when out of memory, and then it keeps what
+/// it had.
 #[derive(Debug, Drop)]
 pub struct ByteSink {
     bytes: Vec<u8>,

@@ -1,7 +1,7 @@
 //! Laws of the image. The functions do nothing: what they ensure is the law.
 
-ghost use Rattle.state_image.specs.laws.Examples.{FreshImageSize};
-ghost use Rattle.state_image.specs.laws.ImageExamples.{ImagesOnExamples};
+ghost use Rattle.state_image.specs.laws.Examples.{FreshProcessImageSize};
+ghost use Rattle.state_image.specs.laws.ProcessImageExamples.{ProcessImagesOnExamples};
 ghost use Rattle.wasi_abi.specs.rules.Configs.{Settings};
 ghost use Rattle.state_image.specs.laws.Refusals.{RefusesCounts, RefusesStreams, RefusesMachines};
 ghost use Rattle.state_image.specs.laws.Refusals.{RefusesFiles, RefusesDescriptors};
@@ -9,41 +9,43 @@ ghost use Rattle.state_image.specs.laws.WellTypedExamples.{HelloBeginsWellTyped}
 ghost use Rattle.state_image.specs.laws.WellTypedExamples.{HelloIsWellTypedInTwo};
 ghost use Rattle.state_image.specs.laws.Reading.{NodesAreRead, DescriptorsAreRead};
 ghost use Rattle.state_image.specs.laws.Reading.{PartsAreOfProcesses};
-ghost use Rattle.state_image.specs.laws.ImageOrder.{ImagesAreInOrder, LeadsItsReader};
-ghost use Rattle.state_image.specs.laws.ImageOrder.{LeadsPartReader};
+ghost use Rattle.state_image.specs.laws.ProcessImageOrder.{ProcessImagesAreInOrder, IsReadBack};
+ghost use Rattle.state_image.specs.laws.ProcessImageOrder.{IsPartReadBack};
 ghost use Rattle.wasi_abi.specs.rules.Layouts.{u32_bytes, u64_bytes};
-ghost use Rattle.state_image.specs.rules.Image.{image_mark, counts_bytes, phase_bytes};
-ghost use Rattle.state_image.specs.rules.Image.{streams_bytes, items_bytes, place_bytes};
-ghost use Rattle.state_image.specs.rules.Image.{memory_bytes, entry_bytes};
+ghost use Rattle.state_image.specs.rules.ProcessImage.{process_image_mark, counts_bytes};
+ghost use Rattle.state_image.specs.rules.ProcessImage.{phase_bytes};
+ghost use Rattle.state_image.specs.rules.ProcessImage.{streams_bytes, items_bytes, place_bytes};
+ghost use Rattle.state_image.specs.rules.ProcessImage.{memory_bytes, entry_bytes};
 ghost use Rattle.state_image.specs.rules.Ranges.{IsIn, AreWords, FitsCounts, FitsCode, FitsStreams};
 ghost use Rattle.state_image.specs.rules.Ranges.{IsPlaceIn, IsWhole, IsEntryIn};
 ghost use Rattle.state_image.specs.rules.Parts.{counts_of, read_end_of, streams_of};
 ghost use Rattle.state_image.specs.rules.Fronts.{front_bytes, IsFrontIn};
 ghost use Rattle.state_image.specs.rules.RawDescriptors.{raw_bytes, IsRawIn};
-ghost use Rattle.state_image.specs.laws.Laws.{ImagesTellProcessesApart};
-ghost use Rattle.state_image.specs.laws.Laws.{ImagesHaveRoom, ImagesAreBytes, SavesWhatIsShown};
+ghost use Rattle.state_image.specs.laws.Laws.{ProcessImagesAreDistinct};
+ghost use Rattle.state_image.specs.laws.Laws.{ProcessImagesHaveRoom, ProcessImagesAreBytes};
+ghost use Rattle.state_image.specs.laws.Laws.{SavesWhatIsShown};
 ghost use Rattle.state_image.specs.laws.Laws.{ReachedIsWellTyped, SavedIsWellTyped};
 ghost use Rattle.state_image.specs.laws.Laws.{RestoredShowsReached};
 
 /// The image of a well-typed process is that of no other one.
-pub fn images_tell_processes_apart()
-    ensures { ImagesTellProcessesApart }
+pub fn process_images_are_distinct()
+    ensures { ProcessImagesAreDistinct }
 {}
 
 /// It is of bytes. It has a mebibyte at most, and what memory and files may have.
-pub fn images_have_room()
-    ensures room { ImagesHaveRoom }
-    ensures bytes { ImagesAreBytes }
+pub fn process_images_have_room()
+    ensures room { ProcessImagesHaveRoom }
+    ensures bytes { ProcessImagesAreBytes }
 {}
 
 /// The size of the image of a process that has just begun.
 pub fn a_fresh_image_has_its_size()
-    ensures { FreshImageSize }
+    ensures { FreshProcessImageSize }
 {}
 
 /// The whole image of a small process, and phases and codes of others.
-pub fn images_on_examples()
-    ensures { ImagesOnExamples }
+pub fn process_images_on_examples()
+    ensures { ProcessImagesOnExamples }
 {}
 
 /// The process that `hello` begins as is well typed, in version 2 too. There it may have as many
@@ -88,23 +90,23 @@ pub fn what_is_read_in_steps()
     ensures parts { PartsAreOfProcesses }
 {}
 
-/// Bytes that begin with those of a field lead its reader to this field, and to what is behind it.
-pub fn fields_lead_their_readers()
-    ensures mark { LeadsItsReader image_mark (λ version. Unit {0}) }
-    ensures counts { LeadsPartReader counts_of counts_bytes FitsCounts }
-    ensures phase { LeadsPartReader read_end_of phase_bytes FitsCode }
-    ensures streams { LeadsPartReader streams_of streams_bytes FitsStreams }
-    ensures count { LeadsItsReader u32_bytes (IsIn 4) }
-    ensures number { LeadsItsReader u64_bytes (IsIn 8) }
-    ensures words { LeadsItsReader (items_bytes u64_bytes) AreWords }
-    ensures frame { LeadsItsReader place_bytes IsPlaceIn }
-    ensures memory { LeadsItsReader memory_bytes IsWhole }
-    ensures front { LeadsItsReader front_bytes IsFrontIn }
-    ensures entry { LeadsItsReader entry_bytes IsEntryIn }
-    ensures descriptor { LeadsItsReader raw_bytes IsRawIn }
+/// Bytes that begin with those of a field lead its reader to this field, and to what is after it.
+pub fn image_fields_are_read_back()
+    ensures mark { IsReadBack process_image_mark (λ version. Unit {0}) }
+    ensures counts { IsPartReadBack counts_of counts_bytes FitsCounts }
+    ensures phase { IsPartReadBack read_end_of phase_bytes FitsCode }
+    ensures streams { IsPartReadBack streams_of streams_bytes FitsStreams }
+    ensures count { IsReadBack u32_bytes (IsIn 4) }
+    ensures number { IsReadBack u64_bytes (IsIn 8) }
+    ensures words { IsReadBack (items_bytes u64_bytes) AreWords }
+    ensures frame { IsReadBack place_bytes IsPlaceIn }
+    ensures memory { IsReadBack memory_bytes IsWhole }
+    ensures front { IsReadBack front_bytes IsFrontIn }
+    ensures entry { IsReadBack entry_bytes IsEntryIn }
+    ensures descriptor { IsReadBack raw_bytes IsRawIn }
 {}
 
 /// Bytes are an image where its fields are in their order, and only there.
-pub fn images_are_in_order()
-    ensures { ImagesAreInOrder }
+pub fn process_images_are_in_order()
+    ensures { ProcessImagesAreInOrder }
 {}

@@ -11,7 +11,7 @@ pub trait Sink {
     // The sink before, the bytes, what it said, and the sink after.
     ghost takes: { Self → List ℕ → Result (Unit {0}) Self.Fault → Self → Type 0 };
 
-    /// Takes these bytes, behind those that it has taken before.
+    /// Takes these bytes, after those that it has taken before.
     fn push(&mut self, bytes: &[u8]) -> Result<(), Self::Fault>
         ensures { takes self.old bytes.now result self.new };
 }

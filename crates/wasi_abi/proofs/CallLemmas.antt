@@ -63,7 +63,7 @@ not_true : (a : Bool) → not a ≡ true → a ≡ false
 not_true true h = cc h
 not_true false h = refl
 
--- no text stands there twice, as a test
+-- no text is there twice, as a test
 differs : List (List ℕ) → Bool
 differs [] = true
 differs (x ∷ xs) = list_all (λ y. not (bytes_eq x y)) xs && differs xs

@@ -3,11 +3,11 @@
 ghost use Rattle.std.specs.Prelude.{◌↔◌, IsTrue};
 ghost use Rattle.wasi_abi.specs.rules.Answers.{Fits, IsRequestText, AreSoManyBytes, IsTime};
 
-use wasm_syntax::Row;
+use wasm_syntax::ItemList;
 
 /// What is asked for.
 #[derive(Clone, Copy, Debug, PartialEq, Eq)]
-pub enum Kind {
+pub enum Question {
     /// A line of input, or its end.
     Request,
     /// Nanoseconds since the epoch.
@@ -22,24 +22,24 @@ pub enum Kind {
 #[derive(Debug, Drop)]
 pub enum Answer {
     /// A line without its newline.
-    Request { text: Row<u8> },
+    Request { text: ItemList<u8> },
     /// There are no more lines.
     End,
     Realtime { nanoseconds: u64 },
     Monotonic { nanoseconds: u64 },
-    Random { bytes: Row<u8> },
+    Random { bytes: ItemList<u8> },
 }
 
 /// Whether the answer is one to what was asked for, where a line has at most `limit` bytes.
-pub fn fits(limit: usize, kind: Kind, answer: &Answer) -> bool
-    ensures { IsTrue result ↔ Fits limit kind answer.now }
+pub fn fits(limit: usize, question: Question, answer: &Answer) -> bool
+    ensures { IsTrue result ↔ Fits limit question answer.now }
 {
-    match (kind, answer) {
-        (Kind::Request, Answer::Request { text }) => is_request(limit, text.as_slice()),
-        (Kind::Request, Answer::End) => true,
-        (Kind::Realtime, Answer::Realtime { nanoseconds }) => is_time(*nanoseconds),
-        (Kind::Monotonic, Answer::Monotonic { nanoseconds }) => is_time(*nanoseconds),
-        (Kind::Random { length }, Answer::Random { bytes }) => {
+    match (question, answer) {
+        (Question::Request, Answer::Request { text }) => is_request(limit, text.as_slice()),
+        (Question::Request, Answer::End) => true,
+        (Question::Realtime, Answer::Realtime { nanoseconds }) => is_time(*nanoseconds),
+        (Question::Monotonic, Answer::Monotonic { nanoseconds }) => is_time(*nanoseconds),
+        (Question::Random { length }, Answer::Random { bytes }) => {
             has_length(length as usize, bytes.as_slice())
         }
         _ => false,

@@ -9,7 +9,7 @@ ghost use Rattle.wasi_abi.specs.rules.Configs.{HasEquals, IsNamed, IsEnvironment
 
 use std::marker::Model;
 use thiserror::Error;
-use wasm_syntax::Row;
+use wasm_syntax::ItemList;
 
 /// The most pages of a memory.
 const MOST_PAGES: u64 = 256;
@@ -47,8 +47,8 @@ pub struct Config {
     pages: u32,
     files: u32,
     journal: u32,
-    arguments: Row<Row<u8>>,
-    environment: Row<Row<u8>>,
+    arguments: ItemList<ItemList<u8>>,
+    environment: ItemList<ItemList<u8>>,
 }
 
 impl Model for Config {
@@ -66,8 +66,8 @@ impl Config {
         pages: u64,
         files: u64,
         journal: u64,
-        arguments: Row<Row<u8>>,
-        environment: Row<Row<u8>>,
+        arguments: ItemList<ItemList<u8>>,
+        environment: ItemList<ItemList<u8>>,
     ) -> Result<Config, ConfigFault>
         ensures made { IfOk result (λ c. c ≡ settings pages files journal arguments environment) }
         ensures ok { IsOk result
@@ -122,7 +122,7 @@ impl Config {
     }
 
     /// What the guest is called with, the program's name first.
-    pub fn arguments(&self) -> &Row<Row<u8>>
+    pub fn arguments(&self) -> &ItemList<ItemList<u8>>
         ensures value { result.now ≡ self.now.arguments }
         ensures within { AreSettingsWithinLimits self.now }
     {
@@ -130,7 +130,7 @@ impl Config {
     }
 
     /// Entries of a name, `=` and a value.
-    pub fn environment(&self) -> &Row<Row<u8>>
+    pub fn environment(&self) -> &ItemList<ItemList<u8>>
         ensures value { result.now ≡ self.now.environment }
         ensures within { AreSettingsWithinLimits self.now }
     {
@@ -138,20 +138,20 @@ impl Config {
     }
 }
 
-fn are_few_and_short(texts: &[Row<u8>]) -> bool
+fn are_few_and_short(texts: &[ItemList<u8>]) -> bool
     ensures { IsTrue result
         ↔ ((length texts.now ≤ MOST_TEXTS) × AllByRecursion IsShortText texts.now) }
 {
     texts.len() <= MOST_TEXTS && texts.iter().all(|text| text.len() <= LONGEST_TEXT)
 }
 
-fn are_texts(texts: &[Row<u8>]) -> bool
+fn are_texts(texts: &[ItemList<u8>]) -> bool
     ensures { IsTrue result ↔ AllByRecursion IsText texts.now }
 {
     texts.iter().all(|text| is_text(text.as_slice()))
 }
 
-fn are_entries(texts: &[Row<u8>]) -> bool
+fn are_entries(texts: &[ItemList<u8>]) -> bool
     ensures { IsTrue result ↔ AllByRecursion IsEnvironmentEntry texts.now }
 {
     texts.iter().all(|text| is_text(text.as_slice()) && is_named(text.as_slice()))

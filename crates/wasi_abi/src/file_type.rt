@@ -13,7 +13,7 @@ pub enum FileType {
 impl FileType {
     ghost use Rattle.wasi_abi.specs.rules.Numbers.{file_type_number};
 
-    /// What stands in a layout.
+    /// What is in a layout.
     pub fn number(self) -> u8
         ensures { result ≡ file_type_number self }
     {

@@ -134,7 +134,7 @@ impl DescriptorFlags {
         }
     }
 
-    /// What stands in a layout.
+    /// What is in a layout.
     pub fn number(self) -> u16
         ensures { result ≡ descriptor_flags_number self }
     {

@@ -15,7 +15,7 @@ pub const FDSTAT_BYTES: usize = 24;
 /// Bytes of a `filestat`.
 pub const FILESTAT_BYTES: usize = 64;
 
-/// Bytes of a `dirent`, behind which its name stands.
+/// Bytes of a `dirent`, after which its name is.
 pub const DIRENT_BYTES: usize = 24;
 
 /// Bytes of a `prestat`.
@@ -45,7 +45,7 @@ pub struct Filestat {
 /// An entry of a directory, whose name follows it.
 #[derive(Clone, Copy, Debug, PartialEq, Eq)]
 pub struct Dirent {
-    /// The cookie from which on the entries behind it are read.
+    /// The cookie from which on the entries after it are read.
     pub next: u64,
     pub node: u64,
     pub name_length: u32,

@@ -33,7 +33,7 @@
 //! # Who may touch what
 //!
 //! Only this crate knows at which byte of a layout a field lies, and keeps a configuration's
-//! limits. Nearly every crate of the host's side uses it. It stands on `wasm_syntax`, and on byte
+//! limits. Nearly every crate of the host's side uses it. It uses `wasm_syntax`, and byte
 //! definitions of `guest_memory`. It takes no memory. Its one error is `ConfigFault`.
 #![tactic(auto)]
 
@@ -49,7 +49,7 @@ mod numbers;
 mod rights;
 mod version;
 
-pub use answer::{Answer, Kind, fits};
+pub use answer::{Answer, Question, fits};
 pub use call::{Call, MODULE_NAME};
 pub use config::{Config, ConfigFault, MOST_TEXTS};
 pub use errno::Errno;

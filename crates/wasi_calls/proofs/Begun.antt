@@ -1,15 +1,16 @@
 -- The lines that bytes begin are those that a write adds, unfinished ones counted.
-use Rattle.std.proofs.Common.{◌≡◌, inl, inr, ℕ, suc, ◌+◌, ◌<◌, ◌≤◌, List, [], ◌∷◌, ◌++◌, length}
+use Rattle.std.proofs.Common.{◌≡◌, ℕ, suc, ◌+◌, ◌<◌, ◌≤◌, List, [], ◌∷◌, ◌++◌, length}
 use Rattle.std.proofs.Common.{drop, get_or, refl, sym, ap, ◌∙◌, arith, length-append, add-one}
 use Rattle.std.proofs.Common.{drop-cons}
 use Rattle.std.specs.Prelude.{Bool, true, false, if◌then◌else◌, ◌==◌, nat_lt}
 use Rattle.std.proofs.lemmas.Bool.{eqb-true}
-use Rattle.std.proofs.lemmas.Bool.Decides.{eqb_tells}
 use Rattle.wasi_abi.specs.rules.Answers.{newline}
-use Rattle.wasi_calls_rules.specs.Hosts.{Line, Host}
+use Rattle.wasi_calls_rules.specs.WasiStates.{Line, WasiState}
 use Rattle.wasi_calls_rules.specs.Lines.{Cut, cut_byte, cut_all, rest_of, stream_written}
 use Rattle.wasi_calls_rules.specs.Lines.{lines_ended}
 use Rattle.wasi_calls_rules.specs.declared.limits.TheConstants.{LINE_BYTES}
+use Rattle.wasi_calls_rules.specs.declared.output_stream.OutputStream.{OutputStream}
+use Rattle.wasi_calls_rules.specs.declared.output_stream.OutputStream.TheVariants.{Stdout, Stderr}
 use Rattle.wasi_calls.specs.rules.Outputs.{count_begun}
 use Rattle.wasi_calls.specs.Writes.{unfinished_of}
 use Rattle.wasi_calls.proofs.Cuts.{put_by}
@@ -17,7 +18,7 @@ use Rattle.wasi_calls.proofs.Cuts.{put_by}
 -- ---- one byte
 
 -- the lines of a cut, the unfinished one counted
-abbrev with_rest : ℕ → Cut → ℕ
+abbrev with_rest : OutputStream → Cut → ℕ
 with_rest stream c = length c.lines + length (rest_of stream c.unfinished)
 
 -- what a byte and others begin: by whether it is a newline, nothing is unfinished, and there is
@@ -32,11 +33,11 @@ begun_by p z q len bytes =
 abbrev cut_of : List Line → List ℕ → Cut
 cut_of lines text = record { lines = lines; unfinished = text }
 
-abbrev Counts : ℕ → Cut → Cut → List ℕ → ℕ → Type 0
+abbrev Counts : OutputStream → Cut → Cut → List ℕ → ℕ → Type 0
 Counts stream c d bytes n =
     with_rest stream d + count_begun (length d.unfinished) bytes ≡ with_rest stream c + n
 
-module _ (stream : ℕ) (lines : List Line) (b : ℕ) (bytes : List ℕ) where
+module _ (stream : OutputStream) (lines : List Line) (b : ℕ) (bytes : List ℕ) where
   -- the line that is emitted
   abbrev line_of : List ℕ → Line
   line_of text = record { stream = stream; text = text }
@@ -70,7 +71,7 @@ module _ (stream : ℕ) (lines : List Line) (b : ℕ) (bytes : List ℕ) where
 
 -- ---- a write
 
-all_count : (stream : ℕ) (c : Cut) (bytes : List ℕ)
+all_count : (stream : OutputStream) (c : Cut) (bytes : List ℕ)
     → with_rest stream (cut_all stream c bytes)
     ≡ with_rest stream c + count_begun (length c.unfinished) bytes
 all_count stream c [] = omega arith
@@ -78,39 +79,36 @@ all_count stream c (b ∷ bytes) =
     let d : Cut = cut_byte stream c b in
     all_count stream d bytes ∙ byte_counts stream c.lines b bytes c.unfinished
 
--- lines, and those that an end emits behind them
+-- lines, and those that an end emits after them
 all_three : (lines : List Line) (first second : List ℕ)
-    → length (lines ++ (rest_of 1 first ++ rest_of 2 second))
-    ≡ length lines + length (rest_of 1 first) + length (rest_of 2 second)
+    → length (lines ++ (rest_of Stdout first ++ rest_of Stderr second))
+    ≡ length lines + length (rest_of Stdout first) + length (rest_of Stderr second)
 all_three lines first second =
     omega (
       arith,
-      length-append lines (rest_of 1 first ++ rest_of 2 second),
-      length-append (rest_of 1 first) (rest_of 2 second),
+      length-append lines (rest_of Stdout first ++ rest_of Stderr second),
+      length-append (rest_of Stdout first) (rest_of Stderr second),
     )
 
-pub stream_begins : (stream : ℕ) (bytes : List ℕ) (h : Host)
+pub stream_begins : (stream : OutputStream) (bytes : List ℕ) (h : WasiState)
     → length (lines_ended (stream_written stream bytes h)).lines
     ≡ length (lines_ended h).lines + count_begun (length (unfinished_of stream h)) bytes
-stream_begins stream bytes h =
-    let c = cut_all 1 (cut_of h.lines h.first) bytes in
-    let d = cut_all 2 (cut_of h.lines h.second) bytes in
-    let first = all_count 1 (cut_of h.lines h.first) bytes in
-    let second = all_count 2 (cut_of h.lines h.second) bytes in
-    elim (eqb_tells stream 1) [
-      | inl k ↦ rw k.0 (omega (
-        arith,
-        first,
-        all_three h.lines h.first h.second,
-        all_three c.lines c.unfinished h.second,
-      ))
-      | inr k ↦ rw k.0 (omega (
-        arith,
-        second,
-        all_three h.lines h.first h.second,
-        all_three d.lines h.first d.unfinished,
-      ))
-    ]
+stream_begins Stdout bytes h =
+    let c = cut_all Stdout (cut_of h.lines h.first) bytes in
+    omega (
+      arith,
+      all_count Stdout (cut_of h.lines h.first) bytes,
+      all_three h.lines h.first h.second,
+      all_three c.lines c.unfinished h.second,
+    )
+stream_begins Stderr bytes h =
+    let c = cut_all Stderr (cut_of h.lines h.second) bytes in
+    omega (
+      arith,
+      all_count Stderr (cut_of h.lines h.second) bytes,
+      all_three h.lines h.first h.second,
+      all_three c.lines h.first c.unfinished,
+    )
 
 -- ---- a loop over bytes
 

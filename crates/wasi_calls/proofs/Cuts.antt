@@ -1,5 +1,5 @@
--- Bytes of a stream, cut one after another: what goes on, what stands in front, and what stays true
--- of the unfinished line.
+-- Bytes of a stream, cut one after another: what goes on, what is in front, and what stays true of
+-- the unfinished line.
 use Rattle.std.proofs.Common.{◌≡◌, ℕ, suc, ◌+◌, ◌<◌, ◌≤◌, List, [], ◌∷◌, ◌++◌, length, drop, get_or}
 use Rattle.std.proofs.Common.{refl, sym, ap, ◌∙◌, arith, append_assoc, drop-cons, add-one}
 use Rattle.std.proofs.Common.{length-append}
@@ -8,14 +8,15 @@ use Rattle.wasi_calls_rules.specs.Checks.{has_no_newline}
 use Rattle.std.proofs.lemmas.Bool.{lt-ltb}
 use Rattle.std.proofs.lemmas.List.{append-nil}
 use Rattle.wasi_abi.specs.rules.Answers.{newline}
-use Rattle.wasi_calls_rules.specs.Hosts.{Line}
+use Rattle.wasi_calls_rules.specs.WasiStates.{Line}
 use Rattle.wasi_calls_rules.specs.Lines.{Cut, cut_byte, cut_all}
 use Rattle.wasi_calls_rules.specs.declared.limits.TheConstants.{LINE_BYTES}
+use Rattle.wasi_calls_rules.specs.declared.output_stream.OutputStream.{OutputStream}
 
 -- ---- one more byte of a list
 
-pub cut_more : (stream : ℕ) (c d total : Cut) (bytes : List ℕ) (i x : ℕ) → i < length bytes
-    → x ≡ get_or bytes i 0 → d ≡ cut_byte stream c x
+pub cut_more : (stream : OutputStream) (c d total : Cut) (bytes : List ℕ) (i x : ℕ)
+    → i < length bytes → x ≡ get_or bytes i 0 → d ≡ cut_byte stream c x
     → cut_all stream c (drop i bytes) ≡ total → cut_all stream d (drop (i + 1) bytes) ≡ total
 cut_more stream c d total bytes i x lt at is so_far =
     let split : drop i bytes ≡ x ∷ drop (i + 1) bytes =
@@ -30,7 +31,7 @@ abbrev pub behind_cut : List Line → Cut → Cut
 behind_cut before c = record { lines = before ++ c.lines; unfinished = c.unfinished }
 
 -- a byte that ends the line, or begins the next one
-abbrev pub put_by : ℕ → Cut → ℕ → Bool → Bool → Cut
+abbrev pub put_by : OutputStream → Cut → ℕ → Bool → Bool → Cut
 put_by stream c b is_end is_short =
     if is_end then record {
       lines = c.lines ++ record { stream = stream; text = c.unfinished } ∷ [];
@@ -42,18 +43,18 @@ put_by stream c b is_end is_short =
       unfinished = b ∷ [];
     }
 
-put_behind : (before : List Line) (stream : ℕ) (c : Cut) (b : ℕ) (p q : Bool)
+put_behind : (before : List Line) (stream : OutputStream) (c : Cut) (b : ℕ) (p q : Bool)
     → put_by stream (behind_cut before c) b p q ≡ behind_cut before (put_by stream c b p q)
 put_behind before stream c b true q = rw append_assoc refl
 put_behind before stream c b false true = refl
 put_behind before stream c b false false = rw append_assoc refl
 
-byte_behind : (before : List Line) (stream : ℕ) (c : Cut) (b : ℕ)
+byte_behind : (before : List Line) (stream : OutputStream) (c : Cut) (b : ℕ)
     → cut_byte stream (behind_cut before c) b ≡ behind_cut before (cut_byte stream c b)
 byte_behind before stream c b =
     put_behind before stream c b (b == newline) (nat_lt (length c.unfinished) LINE_BYTES)
 
-pub all_behind : (before : List Line) (stream : ℕ) (c : Cut) (bytes : List ℕ)
+pub all_behind : (before : List Line) (stream : OutputStream) (c : Cut) (bytes : List ℕ)
     → cut_all stream (behind_cut before c) bytes ≡ behind_cut before (cut_all stream c bytes)
 all_behind before stream c [] = refl
 all_behind before stream c (b ∷ bytes) =
@@ -62,7 +63,7 @@ all_behind before stream c (b ∷ bytes) =
 -- ---- what one write makes of lines that wait
 
 -- the lines that were emitted before don't matter
-pub from_nothing : (stream : ℕ) (before : List Line) (text bytes : List ℕ)
+pub from_nothing : (stream : OutputStream) (before : List Line) (text bytes : List ℕ)
     → cut_all stream (record { lines = before; unfinished = text }) bytes
     ≡ behind_cut before (cut_all stream (record { lines = []; unfinished = text }) bytes)
 from_nothing stream before text bytes =
@@ -81,15 +82,16 @@ from_nothing stream before text bytes =
       unfinished = text;
     }) bytes
 
-pub written_cut : (stream : ℕ) (before lines after : List Line) (text rest bytes : List ℕ) (c : Cut)
+pub written_cut : (stream : OutputStream) (before lines after : List Line)
+    (text rest bytes : List ℕ) (c : Cut)
     → c ≡ cut_all stream (record { lines = []; unfinished = text }) bytes → lines ≡ c.lines
     → rest ≡ c.unfinished → after ≡ before ++ lines
     → cut_all stream (record { lines = before; unfinished = text }) bytes ≡ record {
       lines = after;
       unfinished = rest;
     }
-written_cut stream before lines after text rest bytes c is cut left put =
-    from_nothing stream before text bytes ∙ rw (put, cut, left, is) refl
+written_cut stream before lines after text rest bytes c is cut rest_is put =
+    from_nothing stream before text bytes ∙ rw (put, cut, rest_is, is) refl
 
 -- ---- bytes that end no line
 
@@ -97,11 +99,11 @@ halves : (p t : Bool) → (not p && t) ≡ true → (p ≡ false) × (t ≡ true
 halves false t e = (refl, e)
 halves true t e = absurd (cc)
 
-put_onto : (stream : ℕ) (c : Cut) (b : ℕ) (p q : Bool) → p ≡ false → q ≡ true
+put_onto : (stream : OutputStream) (c : Cut) (b : ℕ) (p q : Bool) → p ≡ false → q ≡ true
     → put_by stream c b p q ≡ record { lines = c.lines; unfinished = c.unfinished ++ b ∷ [] }
 put_onto stream c b p q e f = rw (e, f) refl
 
-pub cut_onto : (stream : ℕ) (lines : List Line) (text bytes : List ℕ)
+pub cut_onto : (stream : OutputStream) (lines : List Line) (text bytes : List ℕ)
     → length text + length bytes ≤ LINE_BYTES → has_no_newline bytes ≡ true
     → cut_all stream (record { lines = lines; unfinished = text }) bytes
     ≡ record { lines = lines; unfinished = text ++ bytes }

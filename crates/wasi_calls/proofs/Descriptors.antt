@@ -5,12 +5,13 @@ use Rattle.std.specs.Prelude.{Option, Some, None, Ok, slice_get}
 use Rattle.std.proofs.lemmas.List.{replicate-append-replicate}
 use Rattle.wasi_abi.specs.rules.Numbers.{input_rights, output_rights, directory_rights, all_rights}
 use Rattle.wasi_abi.specs.declared.errno.Errno.TheVariants.{Badf}
-use Rattle.wasi_calls_rules.specs.Hosts.{Node, Descriptor, Host, stream, first_descriptors}
-use Rattle.wasi_calls_rules.specs.Hosts.{IsDescriptor, IsHost}
+use Rattle.wasi_calls_rules.specs.WasiStates.{Node, Descriptor, WasiState, stream}
+use Rattle.wasi_calls_rules.specs.WasiStates.{first_descriptors}
+use Rattle.wasi_calls_rules.specs.WasiStates.{IsDescriptor, IsWasiState}
 use Rattle.wasi_calls_rules.specs.Checks.{some_or, flat, open_descriptor}
 use Rattle.wasi_calls_rules.specs.Small.{with_descriptor}
 use Rattle.wasi_calls_rules.proofs.Tables.{is_descriptor}
-use Rattle.wasi_calls_rules.proofs.KeepsHosts.{stands, like_host}
+use Rattle.wasi_calls_rules.proofs.KeepsWasiStates.{file_state, like_host}
 
 -- one more that is not open
 pub one_more : (X : Type 0) (front items after : List X) (x : X) (n : ℕ) → 4 ≤ n
@@ -47,31 +48,31 @@ opened_at None d e = absurd (cc)
 opened_at (Some None) d e = absurd (cc)
 opened_at (Some (Some x)) d e = let same : x ≡ d = cc in rw same refl
 
-pub is_open : (h : Host) (fd : ℕ) (d : Descriptor) → open_descriptor h fd ≡ Ok d
+pub is_open : (h : WasiState) (fd : ℕ) (d : Descriptor) → open_descriptor h fd ≡ Ok d
     → slice_get h.descriptors fd ≡ Some (Some d)
 is_open h fd d e = opened_at (slice_get h.descriptors fd) d e
 
 -- the descriptor that is open under a number is one
-pub open_is : (h : Host) (fd : ℕ) (d : Descriptor) → IsHost h → open_descriptor h fd ≡ Ok d
-    → IsDescriptor h.files d
+pub open_is : (h : WasiState) (fd : ℕ) (d : Descriptor) → IsWasiState h
+    → open_descriptor h fd ≡ Ok d → IsDescriptor h.files d
 open_is h fd d is e =
-    is_descriptor h.files h.descriptors fd d (stands h is).table (is_open h fd d e)
+    is_descriptor h.files h.descriptors fd d (file_state h is).table (is_open h fd d e)
 
 -- two that are open under one number are one
-pub same_open : (h : Host) (fd : ℕ) (d e : Descriptor) → open_descriptor h fd ≡ Ok d
+pub same_open : (h : WasiState) (fd : ℕ) (d e : Descriptor) → open_descriptor h fd ≡ Ok d
     → slice_get h.descriptors fd ≡ Some (Some e) → e ≡ d
 same_open h fd d e o there =
     let both : Some (Some e) ≡ Some (Some d) = sym there ∙ is_open h fd d o in
     cc
 
-pub descriptor_at : (h : Host) (n : ℕ) (d : Descriptor) → IsHost h
+pub descriptor_at : (h : WasiState) (n : ℕ) (d : Descriptor) → IsWasiState h
     → slice_get h.descriptors n ≡ Some (Some d) → IsDescriptor h.files d
-descriptor_at h n d is there = is_descriptor h.files h.descriptors n d (stands h is).table there
+descriptor_at h n d is there = is_descriptor h.files h.descriptors n d (file_state h is).table there
 
 -- a descriptor is given other flags
-pub flagged_host : (h : Host) (fd flags : ℕ) (d : Descriptor) → IsHost h
+pub flagged_host : (h : WasiState) (fd flags : ℕ) (d : Descriptor) → IsWasiState h
     → slice_get h.descriptors fd ≡ Some (Some d) → flags ≤ 31
-    → IsHost (with_descriptor fd (record d { flags = flags }) h)
+    → IsWasiState (with_descriptor fd (record d { flags = flags }) h)
 flagged_host h fd flags d is there few =
     let own = descriptor_at h fd d is there in
     like_host h fd d (record d { flags = flags }) is there (record {

@@ -7,37 +7,39 @@ use Rattle.guest_memory.specs.rules.Bytes.{with_part}
 use Rattle.file_tree.specs.rules.Files.{Files, bytes_of_node}
 use Rattle.wasi_abi.specs.rules.Layouts.{u32_bytes}
 use Rattle.wasi_abi.specs.rules.Numbers.{fd_write_right}
-use Rattle.wasi_calls_rules.specs.Hosts.{Line, Target, Stream, Node, Descriptor, Host}
+use Rattle.wasi_calls_rules.specs.WasiStates.{Line, Target, Stream, Node, Descriptor, WasiState}
 use Rattle.wasi_calls_rules.specs.Checks.{Bytes, Halt, Done, Ruling, ◌>>=◌, gathered}
-use Rattle.wasi_calls_rules.specs.Lines.{stream_written, rest_of, lines_ended}
+use Rattle.wasi_calls_rules.specs.Lines.{output_stream, stream_written, rest_of, lines_ended}
+use Rattle.wasi_calls_rules.specs.declared.output_stream.OutputStream.TheVariants.{Stdout, Stderr}
 use Rattle.wasi_calls_rules.specs.Small.{call_done, roomy}
 use Rattle.wasi_calls_rules.specs.Moving.{size_after, file_written, write_offset, offset_after}
 use Rattle.wasi_calls_rules.specs.Moving.{target_written, fd_write}
 use Rattle.wasi_calls_rules.proofs.Steps.{HoldsAfter, done_with, step, next}
-use Rattle.wasi_calls.specs.rules.Held.{HeldHost, ShowsHost, behind_lines, behind_lines_of_row}
+use Rattle.wasi_calls.specs.rules.Held.{HeldWasiState, ShowsWasiState, behind_lines}
+use Rattle.wasi_calls.specs.rules.Held.{behind_lines_of_call_rule}
 use Rattle.wasi_calls.specs.rules.Held.{held_released}
 use Rattle.wasi_calls.specs.rules.Outputs.{count_begun}
 use Rattle.wasi_calls.specs.Writes.{unfinished_of}
 use Rattle.wasi_calls.specs.Moves.{total_len, Wanted, wanted}
 use Rattle.wasi_calls.proofs.Begun.{stream_begins}
 use Rattle.wasi_calls.proofs.LinesInFront.{write_behind}
-use Rattle.wasi_calls.proofs.MovedRows.{write_is, write_rest}
+use Rattle.wasi_calls.proofs.MovedCallRules.{write_is, write_rest}
 
 -- lines in front are counted beside the others
-pub in_front : (before : List Line) (h : Host)
+pub in_front : (before : List Line) (h : WasiState)
     → length (lines_ended (behind_lines before h)).lines
     ≡ length before + length (lines_ended h).lines
 in_front before h =
-    let left : List Line = rest_of 1 h.first ++ rest_of 2 h.second in
+    let lines_left : List Line = rest_of Stdout h.first ++ rest_of Stderr h.second in
     omega (
       arith,
-      length-append (before ++ h.lines) left,
+      length-append (before ++ h.lines) lines_left,
       length-append before h.lines,
-      length-append h.lines left,
+      length-append h.lines lines_left,
     )
 
-pub released_shows : (n : ℕ) (old : HeldHost) (h : Host) → n ≤ length old.host.lines
-    → ShowsHost old h → ShowsHost (held_released n old) h
+pub released_shows : (n : ℕ) (old : HeldWasiState) (h : WasiState) → n ≤ length old.host.lines
+    → ShowsWasiState old h → ShowsWasiState (held_released n old) h
 released_shows n old h le s = record {
   before = s.before ++ take n old.host.lines;
   count = (let c : length s.before ≡ old.released = s.count in
@@ -55,35 +57,35 @@ released_shows n old h le s = record {
 -- ---- what a write adds
 
 -- lines that a call leaves as they are
-record Kept (h after : Host) : Type 0 where
+record Kept (h after : WasiState) : Type 0 where
   lines : after.lines ≡ h.lines
   first : after.first ≡ h.first
   second : after.second ≡ h.second
 
-kept_count : (h after : Host) → Kept h after
+kept_count : (h after : WasiState) → Kept h after
     → length (lines_ended after).lines ≡ length (lines_ended h).lines + 0
 kept_count h after k =
     let same : length (lines_ended after).lines ≡ length (lines_ended h).lines =
     rw (k.lines, k.first, k.second) refl in
     omega (arith, same)
 
-kept_all : (h : Host) (fs : Files) → Kept h (record h { files = fs })
+kept_all : (h : WasiState) (fs : Files) → Kept h (record h { files = fs })
 kept_all h fs = record { lines = refl; first = refl; second = refl }
 
-file_keeps : (h : Host) (k from : ℕ) (bytes : Bytes)
+file_keeps : (h : WasiState) (k from : ℕ) (bytes : Bytes)
     → HoldsAfter (Kept h) (file_written k from bytes h)
 file_keeps h k from [] = done_with (Kept h) h (kept_all h h.files)
 file_keeps h k from (b ∷ bytes) =
     next (roomy h k (size_after (bytes_of_node h.files k) from (b ∷ bytes))) _
     (λ _. done_with (Kept h) _ (kept_all h _))
 
-offset_keeps : (h after : Host) (fd offset : ℕ) (d : Descriptor) (bytes : Bytes) → Kept h after
+offset_keeps : (h after : WasiState) (fd offset : ℕ) (d : Descriptor) (bytes : Bytes) → Kept h after
     → Kept h (offset_after fd offset d bytes after)
 offset_keeps h after fd offset d [] k = k
 offset_keeps h after fd offset d (b ∷ bytes) k =
     record { lines = k.lines; first = k.first; second = k.second }
 
-node_keeps : (h : Host) (k fd : ℕ) (d : Descriptor) (bytes : Bytes)
+node_keeps : (h : WasiState) (k fd : ℕ) (d : Descriptor) (bytes : Bytes)
     → HoldsAfter (Kept h) (target_written (Node k) fd d bytes h)
 node_keeps h k fd d bytes =
     step (Kept h) (file_written k (write_offset h k d) bytes h) _
@@ -91,20 +93,21 @@ node_keeps h k fd d bytes =
     (λ after kept. done_with (Kept h) _ (offset_keeps h after fd (write_offset h k d) d bytes kept))
 
 -- how many lines a write to this adds
-abbrev pub begun_on : Target → Bytes → Host → ℕ
-begun_on (Stream s) bytes h = count_begun (length (unfinished_of s h)) bytes
+abbrev pub begun_on : Target → Bytes → WasiState → ℕ
+begun_on (Stream s) bytes h = count_begun (length (unfinished_of (output_stream s) h)) bytes
 begun_on (Node k) bytes h = 0
 
-target_adds : (t : Target) (fd : ℕ) (d : Descriptor) (bytes : Bytes) (h last : Host)
+target_adds : (t : Target) (fd : ℕ) (d : Descriptor) (bytes : Bytes) (h last : WasiState)
     → target_written t fd d bytes h ≡ Ok last
     → length (lines_ended last).lines ≡ length (lines_ended h).lines + begun_on t bytes h
 target_adds (Stream s) fd d bytes h last is =
-    let same : stream_written s bytes h ≡ last = cc in
-    ap (λ (x : Host). length (lines_ended x).lines) (sym same) ∙ stream_begins s bytes h
+    let same : stream_written (output_stream s) bytes h ≡ last = cc in
+    ap (λ (x : WasiState). length (lines_ended x).lines) (sym same)
+    ∙ stream_begins (output_stream s) bytes h
 target_adds (Node k) fd d bytes h last is =
     kept_count h last ((node_keeps h k fd d bytes).holds last is)
 
-bound_host : (r : Result Host Halt) (m : Bytes) (done : Done)
+bound_host : (r : Result WasiState Halt) (m : Bytes) (done : Done)
     → (r >>= λ after. call_done m after) ≡ Ok done → r ≡ Ok done.host
 bound_host (Ok x) m done is =
     let same : record { memory = m; host = x } ≡ done = cc in
@@ -112,21 +115,22 @@ bound_host (Ok x) m done is =
 bound_host (Err halt) m done is = absurd (cc)
 
 told_done : (before : List Line) (r : Ruling) (done : Done)
-    → Ok done ≡ behind_lines_of_row before r
+    → Ok done ≡ behind_lines_of_call_rule before r
     → (own : Done) × (r ≡ Ok own) × (done.host ≡ behind_lines before own.host)
 told_done before (Ok own) done is =
     let same : done ≡ record { memory = own.memory; host = behind_lines before own.host } = cc in
     (own, refl, ap (λ (x : Done). x.host) same)
 told_done before (Err halt) done is = absurd (cc)
 
-module _ (fd iovs count ret : ℕ) (m : Bytes) (old : HeldHost) (h : Host) (s : ShowsHost old h)
-    (w : Wanted) (passes : wanted fd_write_right fd iovs count ret m old.host ≡ Ok w) where
-  row_of : fd_write fd iovs count ret m old.host ≡ write_rest fd ret m old.host w
-  row_of = write_is fd iovs count ret m old.host
+module _ (fd iovs count ret : ℕ) (m : Bytes) (old : HeldWasiState) (h : WasiState)
+    (s : ShowsWasiState old h) (w : Wanted) (passes : wanted fd_write_right fd iovs count ret m
+    old.host ≡ Ok w) where
+  call_rule_of : fd_write fd iovs count ret m old.host ≡ write_rest fd ret m old.host w
+  call_rule_of = write_is fd iovs count ret m old.host
       ∙ ap (λ (r : Result Wanted Halt). r >>= write_rest fd ret m old.host) passes
 
   behind : fd_write fd iovs count ret m h
-      ≡ behind_lines_of_row s.before (fd_write fd iovs count ret m old.host)
+      ≡ behind_lines_of_call_rule s.before (fd_write fd iovs count ret m old.host)
   behind = ap (fd_write fd iovs count ret m) s.is
       ∙ write_behind s.before fd iovs count ret m old.host
 
@@ -138,14 +142,14 @@ module _ (fd iovs count ret : ℕ) (m : Bytes) (old : HeldHost) (h : Host) (s : 
       (sym e ∙ behind) in
       let bytes : Bytes = gathered m w.buffers in
       let last = bound_host (target_written w.descriptor.target fd w.descriptor bytes old.host)
-      (with_part m ret (u32_bytes (total_len w.buffers))) own.0 (sym row_of ∙ own.1) in
+      (with_part m ret (u32_bytes (total_len w.buffers))) own.0 (sym call_rule_of ∙ own.1) in
       let adds = target_adds w.descriptor.target fd w.descriptor bytes old.host own.0.host last in
       let after : length (lines_ended done.host).lines
       ≡ length (lines_ended (behind_lines s.before own.0.host)).lines =
-      ap (λ (x : Host). length (lines_ended x).lines) own.2 in
+      ap (λ (x : WasiState). length (lines_ended x).lines) own.2 in
       let before : length (lines_ended h).lines
       ≡ length (lines_ended (behind_lines s.before old.host)).lines =
-      ap (λ (g : Host). length (lines_ended g).lines) s.is in
+      ap (λ (g : WasiState). length (lines_ended g).lines) s.is in
       omega (
         arith,
         after,
@@ -157,14 +161,15 @@ module _ (fd iovs count ret : ℕ) (m : Bytes) (old : HeldHost) (h : Host) (s : 
       )
 
   -- a write to a stream is done
-  pub write_done : (halt : Halt) (stream : ℕ) → w.descriptor.target ≡ Stream stream
+  pub write_done : (halt : Halt) (number : ℕ) → w.descriptor.target ≡ Stream number
       → fd_write fd iovs count ret m h ≡ Err halt → ⊥
-  write_done halt stream named e =
+  write_done halt number named e =
       let bytes : Bytes = gathered m w.buffers in
       let own : fd_write fd iovs count ret m old.host
       ≡ call_done (with_part m ret (u32_bytes (total_len w.buffers)))
-      (stream_written stream bytes old.host) =
-      row_of ∙ ap (λ (t : Target). target_written t fd w.descriptor bytes old.host >>= λ after.
-      call_done (with_part m ret (u32_bytes (total_len w.buffers))) after) named in
-      let both = sym e ∙ behind ∙ ap (behind_lines_of_row s.before) own in
+      (stream_written (output_stream number) bytes old.host) =
+      call_rule_of ∙ ap (λ (t : Target). target_written t fd w.descriptor bytes
+      old.host >>= λ after. call_done (with_part m ret (u32_bytes (total_len w.buffers)))
+      after) named in
+      let both = sym e ∙ behind ∙ ap (behind_lines_of_call_rule s.before) own in
       absurd (cc)

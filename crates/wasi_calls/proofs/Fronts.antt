@@ -161,18 +161,18 @@ module _ (m : Bytes) (iovs count i : ℕ) (lt : i < count) where
   place : iovs + 8 * (i + 1) ≡ (iovs + 8 * i) + 8
   place = omega arith
 
-  pub named_next : (room left : ℕ) (front : List Buffer) (total : Result (List Buffer) Halt)
+  pub named_next : (room room_left : ℕ) (front : List Buffer) (total : Result (List Buffer) Halt)
       (u : Unit {0})
       → check_or (is_inside m (buffer_at m (iovs + 8 * i))) Fault ≡ Ok u
-      → left ≡ room - (buffer_at m (iovs + 8 * i)).len
+      → room_left ≡ room - (buffer_at m (iovs + 8 * i)).len
       → named_on m (iovs + 8 * i) (count - i) room front ≡ total
-      → named_on m (iovs + 8 * (i + 1)) (count - (i + 1)) left
+      → named_on m (iovs + 8 * (i + 1)) (count - (i + 1)) room_left
       (front ++ record {
         from = (buffer_at m (iovs + 8 * i)).from;
         len = min room (buffer_at m (iovs + 8 * i)).len;
       } ∷ [])
       ≡ total
-  named_next room left front total u fine counts so_far =
+  named_next room room_left front total u fine counts so_far =
       let b : Buffer = buffer_at m (iovs + 8 * i) in
       let bs : List Buffer = buffers_at m ((iovs + 8 * i) + 8) (count - (i + 1)) in
       let before : named_on m (iovs + 8 * i) (suc (count - (i + 1))) room front ≡ total =

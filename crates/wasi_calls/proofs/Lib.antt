@@ -1,12 +1,12 @@
 pub mod Fronts
 pub mod WrittenFiles
-pub mod InputRows
-pub mod MovedRows
-pub mod FileRows
+pub mod InputCallRules
+pub mod MovedCallRules
+pub mod FileCallRules
 pub mod Pieces
 pub mod Cuts
 pub mod Begun
-pub mod Hosts
+pub mod WasiStates
 pub mod Restored
 pub mod Descriptors
 pub mod LinesInFront
@@ -23,8 +23,8 @@ pub mod Parts
 pub mod Entries
 pub mod SmallInFront
 pub mod Told
-pub mod RowsInFront
-pub mod Wishes
+pub mod CallRulesInFront
+pub mod Questions
 pub mod PathsInFront
 pub mod OpeningInFront
 pub mod MovesInFront

@@ -1,92 +1,95 @@
 -- Rules don't look at the lines that were emitted before: with other lines in front a call does the
 -- same.
-use Rattle.std.proofs.Common.{◌≡◌, ℕ, List, [], ◌∷◌, ◌++◌, take, length, refl, sym, ap, ◌∙◌, inl}
-use Rattle.std.proofs.Common.{inr}
-use Rattle.std.specs.Prelude.{Bool, true, false, ◌==◌, if◌then◌else◌, Option, Result, Ok, Err, Some}
-use Rattle.std.specs.Prelude.{None, OnOk, IfErr}
-use Rattle.std.proofs.lemmas.Bool.Decides.{eqb_tells}
+use Rattle.std.proofs.Common.{◌≡◌, ℕ, List, [], ◌∷◌, ◌++◌, take, length, refl, sym, ap, ◌∙◌}
+use Rattle.std.specs.Prelude.{Bool, true, false, ◌==◌, if◌then◌else◌, Option, Result, Ok, Err, OnOk}
+use Rattle.std.specs.Prelude.{IfErr}
 use Rattle.guest_memory.specs.rules.Bytes.{with_part}
 use Rattle.guest_memory.specs.rules.Memories.{LinearMemory}
 use Rattle.file_tree.specs.rules.Files.{bytes_of_node}
 use Rattle.wasi_abi.specs.rules.Layouts.{u32_bytes}
 use Rattle.wasi_abi.specs.rules.Numbers.{fd_read_right, fd_seek_right, fd_write_right}
-use Rattle.wasi_abi.specs.declared.answer.Kind.TheVariants as kind
+use Rattle.wasi_abi.specs.declared.answer.Question.TheVariants as question
 use Rattle.wasi_abi.specs.declared.answer.Answer.{Answer}
 use Rattle.wasi_abi.specs.declared.answer.Answer.TheVariants as answer
-use Rattle.wasi_calls_rules.specs.Hosts.{Line, Target, Stream, Node, Descriptor, Host}
+use Rattle.wasi_calls_rules.specs.WasiStates.{Line, Target, Stream, Node, Descriptor, WasiState}
 use Rattle.wasi_calls_rules.specs.Checks.{Bytes, Halt, Ruling, ◌>>=◌, open_descriptor, no_directory}
 use Rattle.wasi_calls_rules.specs.Checks.{a_file, with_right, in_memory, Buffer, buffers}
 use Rattle.wasi_calls_rules.specs.Checks.{few_buffers, movable, gathered, scattered, node_named}
 use Rattle.wasi_calls_rules.specs.Checks.{answered_by}
-use Rattle.wasi_calls_rules.specs.Lines.{cut_all, stream_written}
+use Rattle.wasi_calls_rules.specs.Lines.{cut_all, output_stream, stream_written}
+use Rattle.wasi_calls_rules.specs.declared.output_stream.OutputStream.{OutputStream}
+use Rattle.wasi_calls_rules.specs.declared.output_stream.OutputStream.TheVariants.{Stdout, Stderr}
 use Rattle.wasi_calls_rules.specs.Small.{call_done, roomy}
 use Rattle.wasi_calls_rules.specs.Moving.{Got, input_taken, has_bytes, input_read, target_read}
 use Rattle.wasi_calls_rules.specs.Moving.{size_after, file_written, write_offset, offset_after}
 use Rattle.wasi_calls_rules.specs.Moving.{target_written, fd_read, fd_pread, fd_write, fd_pwrite}
-use Rattle.wasi_calls_rules.specs.Rows.{IsNoRefusal, Told, IsDone, IsAsk, IsExit, NoMemory}
-use Rattle.wasi_calls_rules.specs.Rows.{TellsRow}
-use Rattle.wasi_calls.specs.rules.Held.{HeldHost, ShowsHost, behind_lines, behind_lines_of_row}
+use Rattle.wasi_calls_rules.specs.CallRules.{IsNoRefusal, CallEnding, IsDone, IsRefused, IsAsk}
+use Rattle.wasi_calls_rules.specs.CallRules.{IsExit}
+use Rattle.wasi_calls_rules.specs.CallRules.{NoMemory, TellsCallRule}
+use Rattle.wasi_calls.specs.rules.Held.{HeldWasiState, ShowsWasiState, behind_lines}
+use Rattle.wasi_calls.specs.rules.Held.{behind_lines_of_call_rule}
 use Rattle.wasi_calls.specs.declared.stop.CallStop.{CallStop}
 use Rattle.wasi_calls.specs.declared.stop.CallStop.TheVariants as stop
-use Rattle.wasi_calls.specs.rules.Calls.{ShowsRow, call_outcome, told_of}
+use Rattle.wasi_calls.specs.rules.Calls.{ShowsCallRule, call_outcome, ending_of_call}
 use Rattle.wasi_calls.specs.Steps.{StopsStep}
 use Rattle.wasi_calls.proofs.Cuts.{behind_cut, all_behind}
 
 -- a step that gives a host, the same
-abbrev behind_host : List Line → Result Host Halt → Result Host Halt
+abbrev behind_host : List Line → Result WasiState Halt → Result WasiState Halt
 behind_host before (Ok h) = Ok (behind_lines before h)
 behind_host before (Err halt) = Err halt
 
 module _ (before : List Line) where
   pub next : {A : Type 0} (r : Result A Halt) (f g : A → Ruling)
-      → ((x : A) → f x ≡ behind_lines_of_row before (g x))
-      → (r >>= f) ≡ behind_lines_of_row before (r >>= g)
+      → ((x : A) → f x ≡ behind_lines_of_call_rule before (g x))
+      → (r >>= f) ≡ behind_lines_of_call_rule before (r >>= g)
   next (Ok x) f g e = e x
   next (Err halt) f g e = refl
 
-  next_host : {A : Type 0} (r : Result A Halt) (f g : A → Result Host Halt)
+  next_host : {A : Type 0} (r : Result A Halt) (f g : A → Result WasiState Halt)
       → ((x : A) → f x ≡ behind_host before (g x)) → (r >>= f) ≡ behind_host before (r >>= g)
   next_host (Ok x) f g e = e x
   next_host (Err halt) f g e = refl
 
-  pub host_next : (s r : Result Host Halt) (m : Bytes) → s ≡ behind_host before r
-      → (s >>= λ after. call_done m after) ≡ behind_lines_of_row before (r
+  pub host_next : (s r : Result WasiState Halt) (m : Bytes) → s ≡ behind_host before r
+      → (s >>= λ after. call_done m after) ≡ behind_lines_of_call_rule before (r
       >>= λ after. call_done m after)
   host_next s (Ok h) m e = rw e refl
   host_next s (Err halt) m e = rw e refl
 
-  then_host : (s r : Result Host Halt) (f g : Host → Result Host Halt) → s ≡ behind_host before r
-      → ((h : Host) → f (behind_lines before h) ≡ behind_host before (g h))
-      → (s >>= f) ≡ behind_host before (r >>= g)
+  then_host : (s r : Result WasiState Halt) (f g : WasiState → Result WasiState Halt) → s
+      ≡ behind_host before r → ((h : WasiState) → f (behind_lines before h)
+      ≡ behind_host before (g h)) → (s >>= f) ≡ behind_host before (r >>= g)
   then_host s (Ok h) f g e k = rw e (k h)
   then_host s (Err halt) f g e k = rw e refl
 
-  stream_behind : (s : ℕ) (bytes : Bytes) (h : Host)
+  stream_behind : (s : OutputStream) (bytes : Bytes) (h : WasiState)
       → stream_written s bytes (behind_lines before h)
       ≡ behind_lines before (stream_written s bytes h)
-  stream_behind s bytes h =
-      let first : cut_all 1 (record { lines = before ++ h.lines; unfinished = h.first }) bytes
-      ≡ behind_cut before (cut_all 1 (record {
+  stream_behind Stdout bytes h =
+      let first : cut_all Stdout (record { lines = before ++ h.lines; unfinished = h.first }) bytes
+      ≡ behind_cut before (cut_all Stdout (record {
         lines = h.lines;
         unfinished = h.first;
-      }) bytes) = all_behind before 1 (record {
+      }) bytes) = all_behind before Stdout (record {
         lines = h.lines;
         unfinished = h.first;
       }) bytes in
-      let second : cut_all 2 (record { lines = before ++ h.lines; unfinished = h.second }) bytes
-      ≡ behind_cut before (cut_all 2 (record {
+      rw first refl
+  stream_behind Stderr bytes h =
+      let second : cut_all Stderr (record {
+        lines = before ++ h.lines;
+        unfinished = h.second;
+      }) bytes ≡ behind_cut before (cut_all Stderr (record {
         lines = h.lines;
         unfinished = h.second;
-      }) bytes) = all_behind before 2 (record {
+      }) bytes) = all_behind before Stderr (record {
         lines = h.lines;
         unfinished = h.second;
       }) bytes in
-      elim (eqb_tells s 1) [
-        | inl k ↦ rw (k.0, first) refl
-        | inr k ↦ rw (k.0, second) refl
-      ]
+      rw second refl
 
-  pub file_behind : (k offset : ℕ) (bytes : Bytes) (h : Host)
+  pub file_behind : (k offset : ℕ) (bytes : Bytes) (h : WasiState)
       → file_written k offset bytes (behind_lines before h)
       ≡ behind_host before (file_written k offset bytes h)
   file_behind k offset [] h = refl
@@ -94,25 +97,26 @@ module _ (before : List Line) where
       next_host (roomy h k (size_after (bytes_of_node h.files k) offset (b ∷ bytes))) _ _ (λ _.
       refl)
 
-  offset_behind : (fd offset : ℕ) (d : Descriptor) (bytes : Bytes) (h : Host)
+  offset_behind : (fd offset : ℕ) (d : Descriptor) (bytes : Bytes) (h : WasiState)
       → offset_after fd offset d bytes (behind_lines before h)
       ≡ behind_lines before (offset_after fd offset d bytes h)
   offset_behind fd offset d [] h = refl
   offset_behind fd offset d (b ∷ bytes) h = refl
 
-  target_behind : (t : Target) (fd : ℕ) (d : Descriptor) (bytes : Bytes) (h : Host)
+  target_behind : (t : Target) (fd : ℕ) (d : Descriptor) (bytes : Bytes) (h : WasiState)
       → target_written t fd d bytes (behind_lines before h)
       ≡ behind_host before (target_written t fd d bytes h)
-  target_behind (Stream s) fd d bytes h = ap (λ (x : Host). Ok x) (stream_behind s bytes h)
+  target_behind (Stream s) fd d bytes h =
+      ap (λ (x : WasiState). Ok x) (stream_behind (output_stream s) bytes h)
   target_behind (Node k) fd d bytes h =
       then_host (file_written k (write_offset h k d) bytes (behind_lines before h))
       (file_written k (write_offset h k d) bytes h) _ _
       (file_behind k (write_offset h k d) bytes h)
-      (λ after. ap (λ (x : Host). Ok x) (offset_behind fd (write_offset h k d) d bytes after))
+      (λ after. ap (λ (x : WasiState). Ok x) (offset_behind fd (write_offset h k d) d bytes after))
 
-  pub write_behind : (fd iovs count ret : ℕ) (m : Bytes) (h : Host)
+  pub write_behind : (fd iovs count ret : ℕ) (m : Bytes) (h : WasiState)
       → fd_write fd iovs count ret m (behind_lines before h)
-      ≡ behind_lines_of_row before (fd_write fd iovs count ret m h)
+      ≡ behind_lines_of_call_rule before (fd_write fd iovs count ret m h)
   write_behind fd iovs count ret m h =
       next (open_descriptor h fd) _ _ (λ d. next (no_directory h d) _ _ (λ _.
       next (with_right fd_write_right d) _ _ (λ _. next (few_buffers count) _ _ (λ _.
@@ -122,9 +126,9 @@ module _ (before : List Line) where
       (target_written d.target fd d bytes h) (with_part m ret (u32_bytes (length bytes)))
       (target_behind d.target fd d bytes h)))))))
 
-  pub pwrite_behind : (fd iovs count offset ret : ℕ) (m : Bytes) (h : Host)
+  pub pwrite_behind : (fd iovs count offset ret : ℕ) (m : Bytes) (h : WasiState)
       → fd_pwrite fd iovs count offset ret m (behind_lines before h)
-      ≡ behind_lines_of_row before (fd_pwrite fd iovs count offset ret m h)
+      ≡ behind_lines_of_call_rule before (fd_pwrite fd iovs count offset ret m h)
   pwrite_behind fd iovs count offset ret m h =
       next (open_descriptor h fd) _ _ (λ d.
       next (a_file h d) _ _ (λ _. next (with_right fd_write_right d) _ _ (λ _.
@@ -144,7 +148,7 @@ module _ (before : List Line) where
   got_next : (s r : Result Got Halt) (m : Bytes) (bs : List Buffer) (ret : ℕ) → s ≡ behind_got r
       → (s >>= λ got.
       call_done (with_part (scattered m bs got.bytes) ret (u32_bytes (length got.bytes))) got.host)
-      ≡ behind_lines_of_row before (r
+      ≡ behind_lines_of_call_rule before (r
       >>= λ got. call_done (with_part (scattered m bs got.bytes) ret
       (u32_bytes (length got.bytes))) got.host)
   got_next s (Ok got) m bs ret e = rw e refl
@@ -160,7 +164,7 @@ module _ (before : List Line) where
   got_either true a b c d e f = e
   got_either false a b c d e f = f
 
-  line_behind : (n : ℕ) (a : Answer) (h : Host)
+  line_behind : (n : ℕ) (a : Answer) (h : WasiState)
       → input_taken n a (behind_lines before h) ≡ behind_got (input_taken n a h)
   line_behind n (answer.Request text) h = refl
   line_behind n answer.End h = refl
@@ -168,22 +172,22 @@ module _ (before : List Line) where
   line_behind n (answer.Monotonic t) h = refl
   line_behind n (answer.Random bytes) h = refl
 
-  input_behind : (n : ℕ) (given : Option Answer) (h : Host)
+  input_behind : (n : ℕ) (given : Option Answer) (h : WasiState)
       → input_read n given (behind_lines before h) ≡ behind_got (input_read n given h)
   input_behind n given h =
       got_either (n == 0) _ _ _ _ refl (got_either (has_bytes h.unread) _ _ _ _ refl
       (got_either h.input_ended _ _ _ _ refl
-      (got_after (answered_by h kind.Request given) _ _ (λ a. line_behind n a h))))
+      (got_after (answered_by h question.Request given) _ _ (λ a. line_behind n a h))))
 
   target_read_behind : (t : Target) (fd : ℕ) (d : Descriptor) (n : ℕ) (given : Option Answer)
-      (h : Host) → target_read t fd d n given (behind_lines before h)
+      (h : WasiState) → target_read t fd d n given (behind_lines before h)
       ≡ behind_got (target_read t fd d n given h)
   target_read_behind (Stream s) fd d n given h = input_behind n given h
   target_read_behind (Node k) fd d n given h = refl
 
-  pub read_behind : (fd iovs count ret : ℕ) (given : Option Answer) (m : Bytes) (h : Host)
+  pub read_behind : (fd iovs count ret : ℕ) (given : Option Answer) (m : Bytes) (h : WasiState)
       → fd_read fd iovs count ret given m (behind_lines before h)
-      ≡ behind_lines_of_row before (fd_read fd iovs count ret given m h)
+      ≡ behind_lines_of_call_rule before (fd_read fd iovs count ret given m h)
   read_behind fd iovs count ret given m h =
       next (open_descriptor h fd) _ _ (λ d. next (no_directory h d) _ _ (λ _.
       next (with_right fd_read_right d) _ _ (λ _. next (few_buffers count) _ _ (λ _.
@@ -192,9 +196,9 @@ module _ (before : List Line) where
       (target_read d.target fd d (movable bs) given h) m bs ret
       (target_read_behind d.target fd d (movable bs) given h)))))))
 
-  pub pread_behind : (fd iovs count offset ret : ℕ) (m : Bytes) (h : Host)
+  pub pread_behind : (fd iovs count offset ret : ℕ) (m : Bytes) (h : WasiState)
       → fd_pread fd iovs count offset ret m (behind_lines before h)
-      ≡ behind_lines_of_row before (fd_pread fd iovs count offset ret m h)
+      ≡ behind_lines_of_call_rule before (fd_pread fd iovs count offset ret m h)
   pread_behind fd iovs count offset ret m h =
       next (open_descriptor h fd) _ _ (λ d.
       next (a_file h d) _ _ (λ _. next (with_right fd_read_right d) _ _ (λ _.
@@ -204,43 +208,43 @@ module _ (before : List Line) where
 -- ---- what is told, of every host that is shown
 
 no_refusal_behind : (before : List Line) (r : Ruling) → IsNoRefusal r
-    → IsNoRefusal (behind_lines_of_row before r)
+    → IsNoRefusal (behind_lines_of_call_rule before r)
 no_refusal_behind before (Ok done) none e is = absurd (cc)
 no_refusal_behind before (Err halt) none e is = none e is
 
-abbrev held_of_both : ℕ → Host → HeldHost
+abbrev held_of_both : ℕ → WasiState → HeldWasiState
 held_of_both released h = record { released = released; host = h }
 
-same_held : (m n : ℕ) (g h : Host) → m ≡ n → g ≡ h → held_of_both m g ≡ held_of_both n h
+same_held : (m n : ℕ) (g h : WasiState) → m ≡ n → g ≡ h → held_of_both m g ≡ held_of_both n h
 same_held m n g h e f = rw (e, f) refl
 
-module _ (r : Host → Ruling) (behind : (before : List Line) (h : Host)
-    → r (behind_lines before h) ≡ behind_lines_of_row before (r h)) (m old_m : Bytes)
-    (held old : HeldHost)
-    (released : held.released ≡ old.released) (h : Host) (s : ShowsHost old h) where
-  at : r h ≡ behind_lines_of_row s.before (r old.host)
+module _ (r : WasiState → Ruling) (behind : (before : List Line) (h : WasiState)
+    → r (behind_lines before h) ≡ behind_lines_of_call_rule before (r h)) (m old_m : Bytes)
+    (held old : HeldWasiState)
+    (released : held.released ≡ old.released) (h : WasiState) (s : ShowsWasiState old h) where
+  at : r h ≡ behind_lines_of_call_rule s.before (r old.host)
   at = ap r s.is ∙ behind s.before old.host
 
-  pub shown_of : (t : Told) → TellsRow t m held.host old_m old.host (r old.host)
-      → ShowsRow t m held old_m old (r h)
-  shown_of (IsDone None) e = (
+  pub shown_of : (t : CallEnding) → TellsCallRule t m held.host old_m old.host (r old.host)
+      → ShowsCallRule t m held old_m old (r h)
+  shown_of IsDone e = (
     record { memory = m; host = behind_lines s.before held.host },
-    at ∙ ap (behind_lines_of_row s.before) e,
+    at ∙ ap (behind_lines_of_call_rule s.before) e,
     refl,
     record { before = s.before; count = s.count ∙ sym released; is = refl },
   )
-  shown_of (IsDone (Some e)) k = (
-    at ∙ ap (behind_lines_of_row s.before) k.0,
+  shown_of (IsRefused e) k = (
+    at ∙ ap (behind_lines_of_call_rule s.before) k.0,
     k.1,
     same_held held.released old.released held.host old.host released k.2,
   )
-  shown_of (IsAsk kind) k = (
-    at ∙ ap (behind_lines_of_row s.before) k.0,
+  shown_of (IsAsk question) k = (
+    at ∙ ap (behind_lines_of_call_rule s.before) k.0,
     k.1,
     same_held held.released old.released held.host old.host released k.2,
   )
   shown_of (IsExit code) k = (
-    at ∙ ap (behind_lines_of_row s.before) k.0,
+    at ∙ ap (behind_lines_of_call_rule s.before) k.0,
     k.1,
     same_held held.released old.released held.host old.host released k.2,
   )
@@ -252,26 +256,27 @@ module _ (r : Host → Ruling) (behind : (before : List Line) (h : Host)
 
 -- what is told of a write
 pub written_told : (w : Result (Unit {0}) CallStop) (memory old_memory : LinearMemory)
-    (held old : HeldHost) (r : Ruling)
+    (held old : HeldWasiState) (r : Ruling)
     → OnOk w (r ≡ Ok (record { memory = memory.bytes; host = held.host }))
     → IfErr w (λ why. StopsStep why r) → IfErr w (λ _. memory ≡ old_memory)
     → IfErr w (λ _. held ≡ old)
-    → TellsRow (told_of (call_outcome w)) memory.bytes held.host old_memory.bytes old.host r
+    → TellsCallRule (ending_of_call (call_outcome w)) memory.bytes held.host
+    old_memory.bytes old.host r
 written_told (Ok x) memory old_memory held old r done stopped same_memory same_host = done
 written_told (Err (stop.Refused e)) memory old_memory held old r done stopped same_memory
     same_host = (
       stopped,
       ap (λ (m : LinearMemory). m.bytes) same_memory,
-      ap (λ (h : HeldHost). h.host) same_host,
+      ap (λ (h : HeldWasiState). h.host) same_host,
     )
-written_told (Err (stop.Asks kind)) memory old_memory held old r done stopped same_memory
+written_told (Err (stop.Asks question)) memory old_memory held old r done stopped same_memory
     same_host = (
       stopped,
       ap (λ (m : LinearMemory). m.bytes) same_memory,
-      ap (λ (h : HeldHost). h.host) same_host,
+      ap (λ (h : HeldWasiState). h.host) same_host,
     )
 written_told (Err stop.Memory) memory old_memory held old r done stopped same_memory same_host = (
   stopped,
   ap (λ (m : LinearMemory). m.bytes) same_memory,
-  ap (λ (h : HeldHost). h.host) same_host,
+  ap (λ (h : HeldWasiState). h.host) same_host,
 )

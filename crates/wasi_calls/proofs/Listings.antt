@@ -33,9 +33,9 @@ front_of (suc n) [] ys =
     let same : suc n ≡ suc n - 0 = omega arith in
     ap (λ (k : ℕ). take k ys) same
 front_of (suc n) (x ∷ xs) ys =
-    let left : n - length xs ≡ suc n - length (x ∷ xs) = omega arith in
+    let count_left : n - length xs ≡ suc n - length (x ∷ xs) = omega arith in
     ap (λ (zs : List ℕ). x ∷ zs) (front_of n xs ys)
-    ∙ ap (λ (k : ℕ). x ∷ (take n xs ++ take k ys)) left
+    ∙ ap (λ (k : ℕ). x ∷ (take n xs ++ take k ys)) count_left
 
 pub part_twice : (m x y : List ℕ) (a : ℕ) → a + length x ≤ length m
     → with_part (with_part m a x) (a + length x) y ≡ with_part m a (x ++ y)
@@ -57,8 +57,8 @@ part_twice m x y a h =
     ∙ ap (λ (z : List ℕ). p ++ (y ++ z)) back ∙ append_assoc (take a m) x (y ++ e)
     ∙ ap (λ (z : List ℕ). take a m ++ z) (sym (append_assoc x y e))
 
--- With the rest put behind the first so many bytes, as far as there is room, these bytes stand
--- there, and so many were put.
+-- With the rest put after the first so many bytes, as far as there is room, these bytes are there,
+-- and so many were put.
 pub record Remains (total : List ℕ) (count : ℕ) (into : List ℕ) (done : ℕ)
     (rest : List ℕ) : Type 0 where
   pub within : done ≤ length into
@@ -78,12 +78,12 @@ put_more total count into done piece rest after now r e f =
     let fits : done + length t ≤ length into = omega (arith, few, cut) in
     let size : length after ≡ length into =
     ap (λ (xs : List ℕ). length xs) e ∙ length-with_part into done t fits in
-    let left : length after - now ≡ room - length piece = omega (arith, size, f, cut, few) in
+    let count_left : length after - now ≡ room - length piece = omega (arith, size, f, cut, few) in
     let both : take room (piece ++ rest) ≡ t ++ take (room - length piece) rest =
     front_of room piece rest in
     record {
       within = omega (arith, size, f, fits);
-      bytes = ap (λ (k : ℕ). with_part after now (take k rest)) left
+      bytes = ap (λ (k : ℕ). with_part after now (take k rest)) count_left
           ∙ ap (λ (xs : List ℕ). with_part xs now (take (room - length piece) rest)) e
           ∙ ap (λ (k : ℕ). with_part (with_part into done t) k (take (room - length piece) rest)) f
           ∙ part_twice into t (take (room - length piece) rest) done fits
@@ -91,7 +91,7 @@ put_more total count into done piece rest after now r e f =
       many =
           let more : length (take (length after - now) rest)
           ≡ length (take (room - length piece) rest) =
-          ap (λ (k : ℕ). length (take k rest)) left in
+          ap (λ (k : ℕ). length (take k rest)) count_left in
           let all : length (take room (piece ++ rest))
           ≡ length t + length (take (room - length piece) rest) =
           ap (λ (xs : List ℕ). length xs) both
@@ -100,7 +100,7 @@ put_more total count into done piece rest after now r e f =
           omega (arith, more, all, was, f);
     }
 
--- one piece behind another
+-- one piece after another
 pub put_both : (into after last : List ℕ) (done now : ℕ) (piece other : List ℕ) → done ≤ length into
     → after ≡ with_part into done (take (length into - done) piece)
     → now ≡ done + length (take (length into - done) piece)
@@ -130,7 +130,7 @@ front_none zero xs e = refl
 front_none (suc n) [] e = refl
 front_none (suc n) (x ∷ xs) e = absurd (cc)
 
--- where nothing of the rest is put, all that is to stand there does
+-- where nothing of the rest is put, all that is to be there does
 pub all_put : (total : List ℕ) (count : ℕ) (into : List ℕ) (done : ℕ) (rest : List ℕ)
     → Remains total count into done rest → (rest ≡ []) ⊎ (done ≡ length into)
     → (into ≡ total) × (done ≡ count)
@@ -183,11 +183,11 @@ lent_front m from len count bytes now after fits is size e f =
     ∙ omega (arith, length-append t (drop count now), long, behind, cut) in
     let room : from + length after ≤ length m.bytes = omega (arith, sum, fits) in
     let ends : from + length after ≡ from + len = omega (arith, sum) in
-    let left = length-drop from m.bytes in
+    let count_left = length-drop from m.bytes in
     let rest : drop count now ++ drop len d ≡ drop count d =
     ap (λ (xs : List ℕ). drop count xs ++ drop len d) is
     ∙ sym (drop-append-le count (take len d) (drop len d)
-    (omega (arith, length-take len d, left, fits, long, cut)))
+    (omega (arith, length-take len d, count_left, fits, long, cut)))
     ∙ ap (drop count) whole in
     let same : with_part m.bytes from after ≡ with_part m.bytes from t =
     ap (λ (k : ℕ). take from m.bytes ++ (after ++ drop k m.bytes)) ends
@@ -215,7 +215,7 @@ drop_none [] (suc i) is = refl
 drop_none (f ∷ es) zero is = absurd (cc)
 drop_none (f ∷ es) (suc i) is = drop_none es i is
 
--- the entry at a place, and those behind it
+-- the entry at a place, and those after it
 pub entry_first : (fs : Files) (d place node : ℕ) (name : Name)
     → number_at_place fs d place ≡ Some node → HasNameAtPlace fs d place name
     → entries_behind fs d place
@@ -383,13 +383,13 @@ module _ (fs : Files) (d cookie : ℕ) (into : List ℕ) where
         omega (arith, within, size),
       )
 
-  -- behind the last entry
+  -- after the last entry
   pub lists_end : (now : List ℕ) (done place : ℕ) (entry : Option ℕ)
       → ListsOn now done entry place → entry ≡ None → HasAll now done
   lists_end now done place entry l e =
       has_all now done place l.rest l.size (inl (no_entries fs d place (sym l.entry_is ∙ e)))
 
-  -- behind all places
+  -- after all places
   pub lists_past : (now : List ℕ) (done place : ℕ) (entry : Option ℕ) → IsFiles fs
       → ListsOn now done entry place → NODES ≤ place → HasAll now done
   lists_past now done place entry are l le =

@@ -4,10 +4,10 @@ use Rattle.std.specs.Prelude.{Bool, true, false, ◌==◌, if◌then◌else◌, 
 use Rattle.guest_memory.specs.rules.Bytes.{with_part}
 use Rattle.wasi_abi.specs.declared.answer.Answer.{Answer}
 use Rattle.wasi_abi.specs.declared.answer.Answer.TheVariants as answer
-use Rattle.wasi_abi.specs.declared.answer.Kind.TheVariants as kind
+use Rattle.wasi_abi.specs.declared.answer.Question.TheVariants as question
 use Rattle.wasi_abi.specs.rules.Layouts.{u32_bytes}
 use Rattle.wasi_abi.specs.rules.Numbers.{fd_read_right, fd_write_right, fd_seek_right}
-use Rattle.wasi_calls_rules.specs.Hosts.{Line, Target, Stream, Node, Descriptor, Host}
+use Rattle.wasi_calls_rules.specs.WasiStates.{Line, Target, Stream, Node, Descriptor, WasiState}
 use Rattle.wasi_calls_rules.specs.Checks.{Bytes, Buffer, Halt, ◌>>=◌, open_descriptor, a_file}
 use Rattle.wasi_calls_rules.specs.Checks.{no_directory, with_right, few_buffers, buffers}
 use Rattle.wasi_calls_rules.specs.Checks.{in_memory, movable, gathered, scattered, node_named}
@@ -15,7 +15,7 @@ use Rattle.wasi_calls_rules.specs.Checks.{answered_by}
 use Rattle.wasi_calls_rules.specs.Small.{call_done}
 use Rattle.wasi_calls_rules.specs.Moving.{Got, input_taken, has_bytes, input_read, target_read}
 use Rattle.wasi_calls_rules.specs.Moving.{fd_read, fd_pread, file_written, fd_pwrite}
-use Rattle.wasi_calls.specs.rules.Held.{behind_lines, behind_lines_of_row}
+use Rattle.wasi_calls.specs.rules.Held.{behind_lines, behind_lines_of_call_rule}
 use Rattle.wasi_calls.proofs.LinesInFront.{next, host_next, file_behind}
 use Rattle.wasi_calls.proofs.SmallInFront.{IsBehind}
 
@@ -24,7 +24,7 @@ abbrev behind_got : List Line → Result Got Halt → Result Got Halt
 behind_got before (Ok got) = Ok (record { bytes = got.bytes; host = behind_lines before got.host })
 behind_got before (Err halt) = Err halt
 
-module _ (before : List Line) (m : Bytes) (h : Host) where
+module _ (before : List Line) (m : Bytes) (h : WasiState) where
   pub pwrite_behind : (fd iovs count offset ret : ℕ)
       → IsBehind before (fd_pwrite fd iovs count offset ret m) h
   pwrite_behind fd iovs count offset ret =
@@ -73,7 +73,7 @@ module _ (before : List Line) (m : Bytes) (h : Host) where
       got_either (n == 0) _ _ _ _ refl
       (got_either (has_bytes h.unread) _ _ _ _ refl
       (got_either h.input_ended _ _ _ _ refl
-      (got_next (answered_by h kind.Request given) _ _ (λ a. taken_behind n a))))
+      (got_next (answered_by h question.Request given) _ _ (λ a. taken_behind n a))))
 
   target_behind : (t : Target) (fd : ℕ) (d : Descriptor) (n : ℕ) (given : Option Answer)
       → target_read t fd d n given (behind_lines before h)
@@ -84,8 +84,8 @@ module _ (before : List Line) (m : Bytes) (h : Host) where
   put_behind : (bs : List Buffer) (ret : ℕ) (s r : Result Got Halt) → s ≡ behind_got before r
       → (s >>= λ got. call_done (with_part (scattered m bs got.bytes) ret
       (u32_bytes (length got.bytes))) got.host)
-      ≡ behind_lines_of_row before (r >>= λ got. call_done (with_part (scattered m bs got.bytes)
-      ret (u32_bytes (length got.bytes))) got.host)
+      ≡ behind_lines_of_call_rule before (r >>= λ got. call_done
+      (with_part (scattered m bs got.bytes) ret (u32_bytes (length got.bytes))) got.host)
   put_behind bs ret s (Ok got) e = rw e refl
   put_behind bs ret s (Err halt) e = rw e refl
 

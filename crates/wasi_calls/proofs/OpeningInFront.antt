@@ -10,7 +10,7 @@ use Rattle.wasi_abi.specs.rules.Numbers.{path_create_file_right, path_filestat_s
 use Rattle.wasi_abi.specs.rules.Numbers.{path_rename_source_right, path_rename_target_right}
 use Rattle.wasi_abi.specs.rules.Numbers.{create_flag, directory_flag, exclusive_flag}
 use Rattle.wasi_abi.specs.rules.Numbers.{truncate_flag, has_flag}
-use Rattle.wasi_calls_rules.specs.Hosts.{Line, Host}
+use Rattle.wasi_calls_rules.specs.WasiStates.{Line, WasiState}
 use Rattle.wasi_calls_rules.specs.Checks.{Bytes, Ruling, ◌>>=◌, check_or, some_or, open_descriptor}
 use Rattle.wasi_calls_rules.specs.Checks.{a_directory, with_right, needs, within_rights}
 use Rattle.wasi_calls_rules.specs.Checks.{in_memory, lent}
@@ -18,13 +18,13 @@ use Rattle.wasi_calls_rules.specs.Paths.{WalkEnd, Self, Leaf, formed, node_at}
 use Rattle.wasi_calls_rules.specs.Small.{call_done}
 use Rattle.wasi_calls_rules.specs.Entries.{fd_readdir, placed, a_leaf, whole_path, a_free_node}
 use Rattle.wasi_calls_rules.specs.Entries.{is_within_node, gives_way, renamed_over, is_same_node}
-use Rattle.wasi_calls_rules.specs.Entries.{renamed_to, path_rename, free_number, Wish}
+use Rattle.wasi_calls_rules.specs.Entries.{renamed_to, path_rename, free_number, OpenMode}
 use Rattle.wasi_calls_rules.specs.Entries.{opened_there, opened_new, opened_at, path_open}
-use Rattle.wasi_calls.specs.rules.Held.{behind_lines, behind_lines_of_row}
+use Rattle.wasi_calls.specs.rules.Held.{behind_lines, behind_lines_of_call_rule}
 use Rattle.wasi_calls.proofs.LinesInFront.{next}
 use Rattle.wasi_calls.proofs.SmallInFront.{IsBehind}
 
-module _ (before : List Line) (m : Bytes) (h : Host) where
+module _ (before : List Line) (m : Bytes) (h : WasiState) where
   pub fd_readdir_behind : (fd buf len cookie ret : ℕ)
       → IsBehind before (fd_readdir fd buf len cookie ret m) h
   fd_readdir_behind fd buf len cookie ret =
@@ -36,8 +36,8 @@ module _ (before : List Line) (m : Bytes) (h : Host) where
 
   -- a name in a directory
   leaf_next : (place : WalkEnd) (f g : ℕ → Name → Ruling)
-      → ((d : ℕ) (name : Name) → f d name ≡ behind_lines_of_row before (g d name))
-      → a_leaf place f ≡ behind_lines_of_row before (a_leaf place g)
+      → ((d : ℕ) (name : Name) → f d name ≡ behind_lines_of_call_rule before (g d name))
+      → a_leaf place f ≡ behind_lines_of_call_rule before (a_leaf place g)
   leaf_next (Self k) f g e = refl
   leaf_next (Leaf d name) f g e = e d name
 
@@ -62,7 +62,7 @@ module _ (before : List Line) (m : Bytes) (h : Host) where
           → (if b then call_done m (behind_lines before h)
           else (gives_way h.files k (node_at h.files target) >>= λ _.
           call_done m (renamed_over k (node_at h.files target) from to (behind_lines before h))))
-          ≡ behind_lines_of_row before (if b then call_done m h
+          ≡ behind_lines_of_call_rule before (if b then call_done m h
           else (gives_way h.files k (node_at h.files target) >>= λ _.
           call_done m (renamed_over k (node_at h.files target) from to h)))
       same_or k from to true = refl
@@ -91,7 +91,8 @@ module _ (before : List Line) (m : Bytes) (h : Host) where
 
   -- ---- opening
 
-  opened_there_behind : (k : ℕ) (w : Wish) (ret : ℕ) → IsBehind before (opened_there k w ret m) h
+  opened_there_behind : (k : ℕ) (w : OpenMode) (ret : ℕ) → IsBehind before
+      (opened_there k w ret m) h
   opened_there_behind k w ret =
       next before (check_or (not (has_flag w.oflags create_flag
       && has_flag w.oflags exclusive_flag)) Exist) _ _ (λ _.
@@ -101,7 +102,7 @@ module _ (before : List Line) (m : Bytes) (h : Host) where
       || not (has_flag w.oflags directory_flag)) Notdir) _ _ (λ _.
       next before (free_number h) _ _ (λ n. refl))))
 
-  opened_new_behind : (place : WalkEnd) (w : Wish) (ret : ℕ)
+  opened_new_behind : (place : WalkEnd) (w : OpenMode) (ret : ℕ)
       → IsBehind before (opened_new place w ret m) h
   opened_new_behind place w ret =
       next before (check_or (has_flag w.oflags create_flag) Noent) _ _ (λ _.
@@ -110,12 +111,12 @@ module _ (before : List Line) (m : Bytes) (h : Host) where
       next before (free_number h) _ _ (λ n.
       next before (a_free_node h.files) _ _ (λ _. refl)))))
 
-  opened_at_behind : (o : Option ℕ) (place : WalkEnd) (w : Wish) (ret : ℕ)
+  opened_at_behind : (o : Option ℕ) (place : WalkEnd) (w : OpenMode) (ret : ℕ)
       → IsBehind before (opened_at o place w ret m) h
   opened_at_behind None place w ret = opened_new_behind place w ret
   opened_at_behind (Some k) place w ret = opened_there_behind k w ret
 
-  pub path_open_behind : (fd dirflags path len : ℕ) (w : Wish) (ret : ℕ)
+  pub path_open_behind : (fd dirflags path len : ℕ) (w : OpenMode) (ret : ℕ)
       → IsBehind before (path_open fd dirflags path len w ret m) h
   path_open_behind fd dirflags path len w ret =
       next before (open_descriptor h fd) _ _ (λ d.

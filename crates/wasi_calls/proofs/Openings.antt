@@ -3,14 +3,15 @@ use Rattle.std.proofs.Common.{◌≡◌, ℕ, zero, suc, ◌<◌, List, [], ◌�
 use Rattle.std.proofs.Common.{arith}
 use Rattle.std.specs.Prelude.{true, Option, Some, None, Ok, IfSome, slice_get, slice_set}
 use Rattle.file_tree.specs.rules.Files.{Path, File, Files, IsFiles, is_directory, created}
-use Rattle.wasi_calls_rules.specs.Hosts.{Node, Descriptor, Host, IsThere, IsDescriptor, IsHost}
+use Rattle.wasi_calls_rules.specs.WasiStates.{Node, Descriptor, WasiState, IsThere, IsDescriptor}
+use Rattle.wasi_calls_rules.specs.WasiStates.{IsWasiState}
 use Rattle.wasi_calls_rules.specs.Checks.{node_named}
 use Rattle.wasi_calls_rules.specs.Entries.{free_number}
 use Rattle.wasi_calls_rules.specs.Paths.{WalkEnd, Self, Leaf, node_at}
-use Rattle.wasi_calls_rules.proofs.KeepsHosts.{stands, standing}
+use Rattle.wasi_calls_rules.proofs.KeepsWasiStates.{file_state, with_file_state}
 use Rattle.wasi_calls_rules.proofs.NodesAfter.{there_node, directory_there, path_node, child_path}
 use Rattle.wasi_calls_rules.proofs.NodesAfter.{child_parent, created_own}
-use Rattle.wasi_calls_rules.proofs.Standing.{new_stands}
+use Rattle.wasi_calls_rules.proofs.FileState.{new_kept}
 use Rattle.wasi_calls_rules.proofs.Tables.{free_place}
 use Rattle.wasi_calls.specs.Places.{IsWellPlaced}
 
@@ -21,7 +22,7 @@ there_below [] n x e = absurd (cc)
 there_below (y ∷ xs) zero x e = omega arith
 there_below (y ∷ xs) (suc n) x e = (let h = there_below xs n x e in omega (arith, h))
 
-pub free_within : (h : Host) (n : ℕ) → free_number h ≡ Ok n → n < length h.descriptors
+pub free_within : (h : WasiState) (n : ℕ) → free_number h ≡ Ok n → n < length h.descriptors
 free_within h n e = there_below h.descriptors n None (free_place h n e)
 
 -- ---- what is opened
@@ -48,10 +49,10 @@ made_there fs after p k e f =
 
 -- ---- hosts
 
-pub opened_host : (h : Host) (n : ℕ) (d : Descriptor) → IsHost h → free_number h ≡ Ok n
+pub opened_host : (h : WasiState) (n : ℕ) (d : Descriptor) → IsWasiState h → free_number h ≡ Ok n
     → d.target ≡ Node (node_named d.target) → IsDescriptor h.files d
-    → IsHost (record h { descriptors = slice_set h.descriptors n (Some d) })
+    → IsWasiState (record h { descriptors = slice_set h.descriptors n (Some d) })
 opened_host h n d is free target own =
-    standing h h.files (slice_set h.descriptors n (Some d)) is
-    (new_stands h.files h.descriptors h.room n (node_named d.target) d (stands h is)
+    with_file_state h h.files (slice_set h.descriptors n (Some d)) is
+    (new_kept h.files h.descriptors h.room n (node_named d.target) d (file_state h is)
     (free_place h n free) target own)

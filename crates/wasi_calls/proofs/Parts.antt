@@ -65,7 +65,7 @@ onto_part : (b : ℕ) (part : Name) (bytes : List ℕ) (parts : List Name) → b
     → parts_of bytes ≡ part ∷ parts → parts_of (b ∷ bytes) ≡ (b ∷ part) ∷ parts
 onto_part b part bytes parts other e = rw (no_slash b other, e) refl
 
--- the part before the first slash, and those behind it
+-- the part before the first slash, and those after it
 cut_parts : (n : ℕ) (bytes : List ℕ) → HasNoSlash n bytes → n < length bytes
     → get_or bytes n 0 ≡ slash → parts_of bytes ≡ take n bytes ∷ parts_of (drop (suc n) bytes)
 cut_parts n [] h within is = absurd (omega (arith, within))

@@ -8,7 +8,7 @@ use Rattle.wasi_abi.specs.declared.errno.Errno.TheVariants.{Notempty}
 use Rattle.wasi_abi.specs.rules.Numbers.{path_create_directory_right, path_filestat_get_right}
 use Rattle.wasi_abi.specs.rules.Numbers.{path_remove_directory_right, path_unlink_file_right}
 use Rattle.file_tree.specs.rules.Files.{Name, is_directory}
-use Rattle.wasi_calls_rules.specs.Hosts.{Line, Node, Host}
+use Rattle.wasi_calls_rules.specs.WasiStates.{Line, Node, WasiState}
 use Rattle.wasi_calls_rules.specs.Checks.{Bytes, Ruling, check_or, some_or, open_descriptor}
 use Rattle.wasi_calls_rules.specs.Checks.{a_directory, with_right, in_memory, lent}
 use Rattle.wasi_calls_rules.specs.Paths.{WalkEnd, Self, Leaf, formed, node_at}
@@ -17,18 +17,18 @@ use Rattle.wasi_calls_rules.specs.Entries.{placed, a_leaf, whole_path, a_free_no
 use Rattle.wasi_calls_rules.specs.Entries.{is_directory_empty, path_create_directory}
 use Rattle.wasi_calls_rules.specs.Entries.{path_filestat_get, path_remove_directory}
 use Rattle.wasi_calls_rules.specs.Entries.{path_unlink_file}
-use Rattle.wasi_calls.specs.rules.Held.{behind_lines, behind_lines_of_row}
+use Rattle.wasi_calls.specs.rules.Held.{behind_lines, behind_lines_of_call_rule}
 use Rattle.wasi_calls.proofs.LinesInFront.{next}
 use Rattle.wasi_calls.proofs.SmallInFront.{IsBehind, stat_behind}
 
 module _ (before : List Line) where
   pub leaf_next : (place : WalkEnd) (f g : ℕ → Name → Ruling)
-      → ((d : ℕ) (name : Name) → f d name ≡ behind_lines_of_row before (g d name))
-      → a_leaf place f ≡ behind_lines_of_row before (a_leaf place g)
+      → ((d : ℕ) (name : Name) → f d name ≡ behind_lines_of_call_rule before (g d name))
+      → a_leaf place f ≡ behind_lines_of_call_rule before (a_leaf place g)
   leaf_next (Self k) f g e = refl
   leaf_next (Leaf d name) f g e = e d name
 
-  module _ (m : Bytes) (h : Host) where
+  module _ (m : Bytes) (h : WasiState) where
     pub path_filestat_behind : (fd flags path len ret : ℕ)
         → IsBehind before (path_filestat_get fd flags path len ret m) h
     path_filestat_behind fd flags path len ret =

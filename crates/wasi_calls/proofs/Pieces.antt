@@ -10,6 +10,7 @@ use Rattle.guest_memory.specs.rules.Bytes.{part, with_part}
 use Rattle.guest_memory.proofs.Ranges.{length-with_part}
 use Rattle.wasi_calls_rules.specs.Checks.{Bytes, Buffer, gathered, scattered, has_no_newline}
 use Rattle.wasi_calls_rules.specs.Lines.{Cut, cut_byte, cut_all}
+use Rattle.wasi_calls_rules.specs.declared.output_stream.OutputStream.{OutputStream}
 use Rattle.wasi_calls.specs.Moves.{total_len, AreInside}
 
 -- ---- one buffer more
@@ -37,7 +38,7 @@ module _ (m : Bytes) (bs : List Buffer) (i : ℕ) (b : Buffer)
 
 -- ---- runs of bytes
 
-pub cut_both : (stream : ℕ) (c : Cut) (xs ys : Bytes)
+pub cut_both : (stream : OutputStream) (c : Cut) (xs ys : Bytes)
     → cut_all stream c (xs ++ ys) ≡ cut_all stream (cut_all stream c xs) ys
 cut_both stream c [] ys = refl
 cut_both stream c (x ∷ xs) ys = cut_both stream (cut_byte stream c x) xs ys
@@ -66,10 +67,10 @@ scattered_total m (b ∷ bs) bytes =
     ∙ scattered_total (with_part m b.from (take b.len bytes)) bs (drop b.len bytes)
 
 -- what is left once a buffer has taken its part
-pub left_behind : (source : Bytes) (moved len : ℕ)
+pub rest_behind : (source : Bytes) (moved len : ℕ)
     → drop (moved + length (take len (drop moved source))) source
     ≡ drop len (drop moved source)
-left_behind source moved len =
+rest_behind source moved len =
     let taken = length-take len (drop moved source) in
     let rest = length-drop moved source in
     elim (cases_lt (length (drop moved source)) len) [
@@ -100,7 +101,7 @@ counts_on source moved len rest total so_far =
       length-drop now source,
     )
 
--- so many bytes of a source stand in the buffers before these
+-- so many bytes of a source are in the buffers before these
 pub record IsMoved (old now : Bytes) (bs rest : List Buffer) (source : Bytes) (moved : ℕ)
     : Type 0 where
   pub size : length now ≡ length old
@@ -142,7 +143,7 @@ module _ (old now : Bytes) (bs items : List Buffer) (source : Bytes) (moved i : 
         inside = (next_inside old items i b split so_far.inside).1;
         puts = rw (put, is, k)
             (ap (scattered (with_part now b.from (take b.len (drop moved source))) rest)
-            (left_behind source moved b.len)
+            (rest_behind source moved b.len)
             ∙ sym (next_scattered now items i b split (drop moved source)) ∙ so_far.puts);
         counts = rw k (counts_on source moved b.len (total_len rest)
             (length (take (total_len bs) source))
@@ -174,16 +175,24 @@ lent_piece m from len piece inside few =
     let k : ℕ = length piece in
     let ys : Bytes = drop from m in
     let back : Bytes = drop k (take len ys) in
-    let left = length-drop from m in
+    let rest_length = length-drop from m in
     let taken = length-take len ys in
     let size : length (piece ++ back) ≡ len =
-    omega (arith, length-append piece back, length-drop k (take len ys), taken, left, inside, few)
-    in
+    omega (
+      arith,
+      length-append piece back,
+      length-drop k (take len ys),
+      taken,
+      rest_length,
+      inside,
+      few,
+    ) in
     let after : back ++ drop (from + length (piece ++ back)) m ≡ drop (from + k) m =
     ap (λ (n : ℕ). back ++ drop (from + n) m) size
     ∙ ap (λ (x : Bytes). back ++ x) (sym (drop-drop len from m))
-    ∙ sym (drop-append-le k (take len ys) (drop len ys) (omega (arith, taken, left, inside, few)))
-    ∙ ap (drop k) (take-append-drop len ys) ∙ drop-drop k from m in
+    ∙ sym (drop-append-le k (take len ys) (drop len ys) (omega
+    (arith, taken, rest_length, inside, few))) ∙ ap (drop k) (take-append-drop len ys)
+    ∙ drop-drop k from m in
     let is : with_part m from (piece ++ back) ≡ with_part m from piece =
     ap (λ (x : Bytes). take from m ++ x)
     (append_assoc piece back (drop (from + length (piece ++ back)) m)

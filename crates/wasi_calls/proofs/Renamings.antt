@@ -8,15 +8,16 @@ use Rattle.file_tree.specs.rules.Changes.{CanMove, is_within, within_path, path_
 use Rattle.file_tree.specs.rules.Files.{Name, Path, FileNode, Files, IsFiles, path_of, child}
 use Rattle.file_tree.specs.rules.Files.{is_directory, holds_directory, renamed, path_behind}
 use Rattle.file_tree.proofs.Seen.{some_path}
-use Rattle.wasi_calls_rules.specs.Hosts.{Host, IsHost}
+use Rattle.wasi_calls_rules.specs.WasiStates.{WasiState, IsWasiState}
 use Rattle.wasi_calls_rules.specs.Entries.{is_directory_empty, is_within_node, is_same_node}
 use Rattle.wasi_calls_rules.specs.Entries.{gives_way, renamed_over, whole_path, without}
 use Rattle.wasi_calls_rules.specs.Checks.{Bytes}
 use Rattle.wasi_calls_rules.specs.Paths.{Leaf}
-use Rattle.wasi_calls_rules.proofs.KeepsHosts.{stands, standing, losing_stands, way_empty}
-use Rattle.wasi_calls_rules.proofs.KeepsHosts.{child_not_root}
+use Rattle.wasi_calls_rules.proofs.KeepsWasiStates.{file_state, with_file_state, losing_kept}
+use Rattle.wasi_calls_rules.proofs.KeepsWasiStates.{way_empty}
+use Rattle.wasi_calls_rules.proofs.KeepsWasiStates.{child_not_root}
 use Rattle.wasi_calls_rules.proofs.NodesAfter.{child_path, child_parent}
-use Rattle.wasi_calls_rules.proofs.Standing.{cleared_other, free_then, moved_stands, path_at_is}
+use Rattle.wasi_calls_rules.proofs.FileState.{cleared_other, free_then, moved_kept, path_at_is}
 use Rattle.wasi_calls.specs.Renamings.{MayTake, place_renamed}
 
 -- the two words for a directory in a node say the same
@@ -37,8 +38,8 @@ has_path fs k is = by (path_of fs k) is where
   by (Some p) e = refl
 
 -- a node that may move leaves a host
-pub moved_host : (h : Host) (k d : ℕ) (name : Name) → IsHost h → CanMove h.files k d name
-    → IsHost (record h {
+pub moved_host : (h : WasiState) (k d : ℕ) (name : Name) → IsWasiState h → CanMove h.files k d name
+    → IsWasiState (record h {
       files =
           renamed (path_at h.files k) (path_at h.files d ++ name ∷ []) h.files;
     })
@@ -49,8 +50,8 @@ moved_host h k d name is can =
     let outside : is_some (path_behind (path_at fs k) (path_at fs d)) ≡ false =
     sym (ap (λ (o : Option Path). within_path o (path_of fs d)) own
     ∙ ap (within_path (Some (path_at fs k))) above) ∙ can.outside in
-    standing h (renamed (path_at fs k) (path_at fs d ++ name ∷ []) fs) h.descriptors is
-    (moved_stands fs h.descriptors h.room k (path_at fs k) d (path_at fs d) name (stands h is)
+    with_file_state h (renamed (path_at fs k) (path_at fs d ++ name ∷ []) fs) h.descriptors is
+    (moved_kept fs h.descriptors h.room k (path_at fs k) d (path_at fs d) name (file_state h is)
     (record {
       not_root = can.not_root;
       path = own;
@@ -61,7 +62,7 @@ moved_host h k d name is can =
       free = can.free.free;
     }))
 
--- where nothing stands at the target
+-- where nothing is at the target
 pub moves_free : (fs : Files) (k d : ℕ) (name : Name) → IsFiles fs → MayTake fs k d name None
     → CanMove fs k d name
 moves_free fs k d name are t =
@@ -90,7 +91,7 @@ child_at fs d k name are is there =
 
 -- ---- the rule, once all has been tested
 
-pub place_moved : (h : Host) (d e k : ℕ) (name other : Name) (o : Option ℕ) (after : Host)
+pub place_moved : (h : WasiState) (d e k : ℕ) (name other : Name) (o : Option ℕ) (after : WasiState)
     (m : Bytes) (u : Unit {0}) → IsFiles h.files → is_some (path_of h.files d) ≡ true
     → child h.files d name ≡ Some k
     → whole_path h.files d name ≡ Ok (path_at h.files d ++ name ∷ [])
@@ -108,7 +109,7 @@ place_moved h d e k name other o after m u are dir there from to outside over di
 
 -- ---- what is replaced
 
-module _ (h : Host) (k d j : ℕ) (name : Name) (is : IsHost h)
+module _ (h : WasiState) (k d j : ℕ) (name : Name) (is : IsWasiState h)
     (t : MayTake h.files k d name (Some j)) where
   pub replaced_empty : is_directory h.files j ≡ true → is_directory_empty h.files j ≡ true
   replaced_empty = (way_empty h.files k j).holds tt t.way
@@ -150,7 +151,7 @@ module _ (h : Host) (k d j : ℕ) (name : Name) (is : IsHost h)
       let own = t.there.1 in
       let from = child_parent h.files e k own t.there.2 in
       let path = child_path h.files e k own from.0 is.files from.1 t.there.2 in
-      let after = losing_stands h d j name is t.over replaced_empty in
+      let after = losing_kept h d j name is t.over replaced_empty in
       record {
         not_root = child_not_root h.files k from.0 own is.files path;
         there = ap is_some (kept k differ ∙ path);
@@ -158,8 +159,8 @@ module _ (h : Host) (k d j : ℕ) (name : Name) (is : IsHost h)
           is_directory =
               ap holds_directory (cleared_other h.files h.descriptors j d other) ∙ t.directory;
           path = ap is_some (kept d other ∙ above);
-          free = free_then h.files h.descriptors j h.room d (path_at h.files d) name (stands h is)
-              after above other replaced_path;
+          free = free_then h.files h.descriptors j h.room d (path_at h.files d) name
+              (file_state h is) after above other replaced_path;
           named = t.named;
         };
         outside = ap (λ (o : Option Path). within_path o (path_of (without j h).files d))

@@ -13,10 +13,10 @@ use Rattle.std.proofs.lemmas.Option.{slice_get_within}
 use Rattle.wasi_abi.specs.rules.Answers.{AreBytes, IsTime}
 use Rattle.file_tree.specs.rules.Files.{Path, FileNode, Files, IsFiles, node_of, path_of, used}
 use Rattle.file_tree.specs.rules.Listings.{number_at}
-use Rattle.wasi_calls_rules.specs.Hosts.{Descriptor, Host, IsDescriptor}
-use Rattle.wasi_calls_rules.specs.Hosts.{IsUnfinished, IsHost}
+use Rattle.wasi_calls_rules.specs.WasiStates.{Descriptor, WasiState, IsDescriptor}
+use Rattle.wasi_calls_rules.specs.WasiStates.{IsUnfinished, IsWasiState}
 use Rattle.wasi_calls_rules.specs.Small.{is_node, names}
-use Rattle.wasi_calls_rules.proofs.KeepsHosts.{stands}
+use Rattle.wasi_calls_rules.proofs.KeepsWasiStates.{file_state}
 use Rattle.wasi_calls_rules.proofs.Tables.{Table, NamesNode, is_descriptor, named_by}
 use Rattle.wasi_calls.specs.Restoring.{MayBeOpen, MayAllBeOpen, is_kept, AreRemovedNamed}
 use Rattle.wasi_calls.specs.Restoring.{IsDescriptorTable}
@@ -131,12 +131,12 @@ all_of P [] f = tt
 all_of P (None ∷ ds) f = (tt, all_of P ds (λ n. f (suc n)))
 all_of P (Some d ∷ ds) f = (f zero d refl, all_of P ds (λ n. f (suc n)))
 
-module _ (h : Host) where
-  pub table_of : IsHost h → IsDescriptorTable h.files h.descriptors
+module _ (h : WasiState) where
+  pub table_of : IsWasiState h → IsDescriptorTable h.files h.descriptors
   table_of is = record {
     places = is.places;
     open_ones = λ n d at. record {
-      descriptor = is_descriptor h.files h.descriptors n d (stands h is).table at;
+      descriptor = is_descriptor h.files h.descriptors n d (file_state h is).table at;
       stream = λ s names. is.streams n s d at names;
     };
     root = is.root;
@@ -145,7 +145,7 @@ module _ (h : Host) where
 
   pub host_of : IsFiles h.files → used h.files ≤ h.room → IsDescriptorTable h.files h.descriptors
       → AreBytes h.unread → IsTime h.last_monotonic → IsUnfinished h.first
-      → IsUnfinished h.second → IsHost h
+      → IsUnfinished h.second → IsWasiState h
   host_of files within table unread time first second = record {
     files = files;
     within = within;

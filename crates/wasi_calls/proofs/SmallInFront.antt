@@ -7,46 +7,48 @@ use Rattle.std.specs.Int.{w64, cast_signed}
 use Rattle.guest_memory.specs.rules.Bytes.{with_part}
 use Rattle.wasi_abi.specs.declared.answer.Answer.{Answer}
 use Rattle.wasi_abi.specs.declared.answer.Answer.TheVariants as answer
-use Rattle.wasi_abi.specs.declared.answer.Kind.TheVariants as kind
+use Rattle.wasi_abi.specs.declared.answer.Question.TheVariants as question
 use Rattle.wasi_abi.specs.declared.errno.Errno.TheVariants.{Badf, Inval, Nametoolong, Notcapable}
 use Rattle.wasi_abi.specs.rules.Layouts.{fdstat_bytes}
 use Rattle.wasi_abi.specs.rules.Numbers.{fd_fdstat_set_flags_right, fd_filestat_get_right}
 use Rattle.wasi_abi.specs.rules.Numbers.{fd_filestat_set_size_right, fd_seek_right, fd_tell_right}
 use Rattle.wasi_abi.specs.rules.Versions.{text_limit}
-use Rattle.wasi_calls_rules.specs.Hosts.{Line, Target, Stream, Node, Host}
+use Rattle.wasi_calls_rules.specs.WasiStates.{Line, Target, Stream, Node, WasiState}
 use Rattle.wasi_calls_rules.specs.Checks.{Bytes, Ruling, check_or, open_descriptor, a_file}
 use Rattle.wasi_calls_rules.specs.Checks.{with_right, in_memory, node_named, answered_by}
 use Rattle.wasi_calls_rules.specs.Small.{with_zeros, texts_get, texts_sizes_get, clock_res_get}
-use Rattle.wasi_calls_rules.specs.Small.{time_put, clock_kind, clock_time_get, fd_close, fd_syncs}
+use Rattle.wasi_calls_rules.specs.Small.{time_put, clock_question, clock_time_get, fd_close}
+use Rattle.wasi_calls_rules.specs.Small.{fd_syncs}
 use Rattle.wasi_calls_rules.specs.Small.{file_type_of, fd_fdstat_get, fd_fdstat_set_flags}
 use Rattle.wasi_calls_rules.specs.Small.{filestat_bytes_of, fd_filestat_get, roomy}
 use Rattle.wasi_calls_rules.specs.Small.{fd_filestat_set_size, fd_prestat_get}
 use Rattle.wasi_calls_rules.specs.Small.{fd_prestat_dir_name, seek_base, file_offset, fd_seek}
 use Rattle.wasi_calls_rules.specs.Small.{fd_tell, call_done, random_put, random_get}
-use Rattle.wasi_calls.specs.rules.Held.{behind_lines, behind_lines_of_row}
+use Rattle.wasi_calls.specs.rules.Held.{behind_lines, behind_lines_of_call_rule}
 use Rattle.wasi_calls.proofs.LinesInFront.{next}
 
 module _ (before : List Line) where
   -- a rule does the same with the lines in front
-  abbrev pub IsBehind : (Host → Ruling) → Host → Type 0
-  IsBehind rule h = rule (behind_lines before h) ≡ behind_lines_of_row before (rule h)
+  abbrev pub IsBehind : (WasiState → Ruling) → WasiState → Type 0
+  IsBehind rule h = rule (behind_lines before h) ≡ behind_lines_of_call_rule before (rule h)
 
-  either : (b : Bool) (w x y z : Ruling) → w ≡ behind_lines_of_row before y
-      → x ≡ behind_lines_of_row before z
-      → (if b then w else x) ≡ behind_lines_of_row before (if b then y else z)
+  either : (b : Bool) (w x y z : Ruling) → w ≡ behind_lines_of_call_rule before y
+      → x ≡ behind_lines_of_call_rule before z
+      → (if b then w else x) ≡ behind_lines_of_call_rule before (if b then y else z)
   either true w x y z e f = e
   either false w x y z e f = f
 
-  type_behind : (t : Target) (h : Host) → file_type_of (behind_lines before h) t ≡ file_type_of h t
+  type_behind : (t : Target) (h : WasiState) → file_type_of (behind_lines before h) t
+      ≡ file_type_of h t
   type_behind (Stream s) h = refl
   type_behind (Node k) h = refl
 
-  pub stat_behind : (t : Target) (h : Host)
+  pub stat_behind : (t : Target) (h : WasiState)
       → filestat_bytes_of (behind_lines before h) t ≡ filestat_bytes_of h t
   stat_behind (Stream s) h = refl
   stat_behind (Node k) h = refl
 
-  module _ (m : Bytes) (h : Host) where
+  module _ (m : Bytes) (h : WasiState) where
     pub texts_get_behind : (texts : List Bytes) (array buf : ℕ)
         → IsBehind (texts_get texts array buf m) h
     texts_get_behind texts array buf =
@@ -74,7 +76,7 @@ module _ (before : List Line) where
     clock_time_get_behind id ret given =
         next before (check_or (nat_le id 1) Inval) _ _ (λ _.
         next before (in_memory m ret 8) _ _ (λ _.
-        next before (answered_by h (clock_kind id) given) _ _ (λ a. time_put_behind a ret)))
+        next before (answered_by h (clock_question id) given) _ _ (λ a. time_put_behind a ret)))
 
     pub close_behind : (fd : ℕ) → IsBehind (fd_close fd m) h
     close_behind fd =
@@ -148,4 +150,5 @@ module _ (before : List Line) where
         next before (check_or (nat_le len (text_limit h.version)) Inval) _ _ (λ _.
         next before (in_memory m buf len) _ _ (λ _.
         either (len == 0) _ _ _ _ refl
-        (next before (answered_by h (kind.Random len) given) _ _ (λ a. random_put_behind a buf))))
+        (next before (answered_by h (question.Random len) given) _ _
+        (λ a. random_put_behind a buf))))

@@ -30,14 +30,14 @@ few_bytes texts are =
     let few = are.few in
     omega (arith, bytes, few)
 
--- the texts from here on, by this one and those behind it
+-- the texts from here on, by this one and those after it
 pub text_next : (texts : List Bytes) (i : ℕ) (t : Bytes) → i < length texts → t ≡ get_or texts i t
     → drop i texts ≡ t ∷ drop (i + 1) texts
 text_next texts i t lt is =
     at_drop_more (λ (ts : List Bytes). ts) texts i t lt
     ∙ ap (λ (x : Bytes). x ∷ drop (i + 1) texts) (sym is)
 
--- with the text in front, those behind it have so many fewer
+-- with the text in front, those after it have so many fewer
 pub size_next : (t : Bytes) (texts : List Bytes)
     → length (with_zeros (t ∷ texts)) ≡ length t + 1 + length (with_zeros texts)
 size_next t texts = let sum = length-append t (0 ∷ with_zeros texts) in omega (arith, sum)
@@ -57,7 +57,7 @@ is_put m n at bytes e f = same_parts n.bytes (with_part m.bytes at bytes) n.limi
 
 -- ---- pointers
 
--- With pointers to the rest put behind those that stand there, all stand there.
+-- With pointers to the rest put after those that are there, all are there.
 pub record PointersRemain (texts : List Bytes) (array buffer : ℕ) (old now : LinearMemory)
     (rest : List Bytes) (offset begin : ℕ) : Type 0 where
   pub limit : now.limit ≡ old.limit
@@ -150,7 +150,7 @@ module _ (texts : List Bytes) (array buffer : ℕ) (old : LinearMemory) where
 
 -- ---- texts
 
--- With the rest put behind the texts that stand there, all stand there.
+-- With the rest put after the texts that are there, all are there.
 pub record TextsRemain (texts : List Bytes) (buffer : ℕ) (old now : LinearMemory)
     (rest : List Bytes) (begin : ℕ) : Type 0 where
   pub limit : now.limit ≡ old.limit

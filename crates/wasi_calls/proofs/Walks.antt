@@ -12,7 +12,7 @@ use Rattle.wasi_calls_rules.specs.Paths.{onward, walk}
 use Rattle.wasi_calls_rules.proofs.NodesAfter.{child_path, child_parent}
 use Rattle.wasi_calls.specs.Places.{AreWalked}
 
--- the directories behind one, the last one first: each is a child of the one before
+-- the directories after one, the last one first: each is a child of the one before
 abbrev pub AreAbove : Files → ℕ → ℕ → List ℕ → Type 0
 AreAbove fs start d [] = d ≡ start
 AreAbove fs start d (above ∷ behind) =
@@ -21,12 +21,12 @@ AreAbove fs start d (above ∷ behind) =
 
 -- the names that are left lead from here to where all of them lead from the start
 pub record Leads (fs : Files) (start : ℕ) (names : List Name) (d : ℕ)
-    (left : List Name) : Type 0 where
+    (names_left : List Name) : Type 0 where
   pub behind : List ℕ
   pub above : AreAbove fs start d behind
   pub directory : is_directory fs d ≡ true
-  pub walked : AreWalked left
-  pub same : walk fs start [] names ≡ walk fs d behind left
+  pub walked : AreWalked names_left
+  pub same : walk fs start [] names ≡ walk fs d behind names_left
 
 -- ---- how far below the start
 
@@ -64,8 +64,9 @@ not_last names h e = absurd (let t : false ≡ true = h e in cc)
 
 -- ---- a step further
 
-module _ (fs : Files) (start : ℕ) (names : List Name) (d : ℕ) (left : List Name) (name : Name)
-    (after : List Name) (l : Leads fs start names d left) (e : left ≡ name ∷ after) where
+module _ (fs : Files) (start : ℕ) (names : List Name) (d : ℕ) (names_left : List Name) (name : Name)
+    (after : List Name) (l : Leads fs start names d names_left) (e : names_left ≡ name
+    ∷ after) where
   walked : AreWalked (name ∷ after)
   walked = subst AreWalked e l.walked
 

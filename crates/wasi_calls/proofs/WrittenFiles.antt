@@ -15,7 +15,7 @@ use Rattle.file_tree.specs.rules.Files.{changed_at, with_file_bytes, AreRising, 
 use Rattle.file_tree.proofs.Sizes.{length-written, length-resized, file_is}
 use Rattle.guest_memory.specs.rules.Bytes.{part}
 use Rattle.guest_memory.proofs.Ranges.{length-part}
-use Rattle.wasi_calls_rules.specs.Hosts.{Node, IsThere}
+use Rattle.wasi_calls_rules.specs.WasiStates.{Node, IsThere}
 use Rattle.wasi_calls_rules.specs.Checks.{Bytes, Buffer, gathered}
 use Rattle.wasi_calls_rules.proofs.NodesAfter.{node_there, mapped_node, changed_number, changed_own}
 use Rattle.wasi_calls_rules.proofs.NodesAfter.{changed_other, rewritten_there}
@@ -42,7 +42,7 @@ written_none old from within =
     ∙ ap (λ (x : List ℕ). x ++ drop (from + 0) old) (append-nil (take from old))
     ∙ ap (λ (n : ℕ). take from old ++ drop n old) at ∙ take-append-drop from old
 
--- a piece, and then the others behind it
+-- a piece, and then the others after it
 pub written_both : (old : List ℕ) (from : ℕ) (piece rest : List ℕ)
     → from + length (piece ++ rest) ≤ length old
     → written (written old from piece) (from + length piece) rest
@@ -211,7 +211,7 @@ own_bytes fs k are file =
 
 -- ---- a file that is written piece by piece
 
--- the buffers before these stand in the file
+-- the buffers before these are in the file
 pub record IsPut (m : Bytes) (bs rest : List Buffer) (k from place : ℕ) (old now : Files)
     : Type 0 where
   pub inside : AreInside m rest

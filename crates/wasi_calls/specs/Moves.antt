@@ -4,13 +4,13 @@ use Rattle.std.specs.Prelude.{◌≡◌, ◌≤◌, ◌==◌, if◌then◌else�
 use Rattle.std.specs.Prelude.{[], ◌∷◌, ◌++◌, length, Option, Result, Ok, Err}
 use Rattle.std.specs.List.{AllByRecursion}
 use Rattle.wasi_abi.specs.declared.errno.Errno.TheVariants.{Inval}
-use Rattle.wasi_abi.specs.declared.answer.Kind.TheVariants as kind
+use Rattle.wasi_abi.specs.declared.answer.Question.TheVariants as question
 use Rattle.wasi_abi.specs.declared.answer.Answer.{Answer}
 use Rattle.wasi_abi.specs.declared.answer.Answer.TheVariants as answer
 use Rattle.wasi_abi.specs.rules.Answers.{newline}
 use Rattle.wasi_abi.specs.rules.Numbers.{fd_seek_right}
 use Rattle.file_tree.specs.rules.Files.{is_directory}
-use Rattle.wasi_calls_rules.specs.Hosts.{Node, Descriptor, Host, IsThere}
+use Rattle.wasi_calls_rules.specs.WasiStates.{Node, Descriptor, WasiState, IsThere}
 use Rattle.wasi_calls_rules.specs.Checks.{Bytes, Halt, Refuses, ◌>>=◌, Buffer, open_descriptor}
 use Rattle.wasi_calls_rules.specs.Checks.{no_directory, a_file, with_right, in_memory, buffers}
 use Rattle.wasi_calls_rules.specs.Checks.{few_buffers, scattered, answered_by}
@@ -44,7 +44,7 @@ pub record Wanted : Type 0 where
   pub buffers : List Buffer
 
 -- what a read or a write is to do, once all of its checks have passed; it needs this right
-abbrev pub wanted : ℕ → ℕ → ℕ → ℕ → ℕ → Bytes → Host → Result Wanted Halt
+abbrev pub wanted : ℕ → ℕ → ℕ → ℕ → ℕ → Bytes → WasiState → Result Wanted Halt
 wanted right fd iovs count ret m h =
     open_descriptor h fd >>= λ d.
     no_directory h d >>= λ _.
@@ -54,7 +54,7 @@ wanted right fd iovs count ret m h =
     Ok (record { descriptor = d; buffers = bs })
 
 -- the same for one at a place in a file
-abbrev pub wanted_at : ℕ → ℕ → ℕ → ℕ → ℕ → Bytes → Host → Result Wanted Halt
+abbrev pub wanted_at : ℕ → ℕ → ℕ → ℕ → ℕ → Bytes → WasiState → Result Wanted Halt
 wanted_at right fd iovs count ret m h =
     open_descriptor h fd >>= λ d.
     a_file h d >>= λ _.
@@ -66,7 +66,7 @@ wanted_at right fd iovs count ret m h =
 
 -- All checks have passed: bytes of these buffers are to be moved, and their number is to be put
 -- where there is room.
-pub record PassesChecks (m : Bytes) (h : Host) (fd ret : ℕ) (r : Result Wanted Halt)
+pub record PassesChecks (m : Bytes) (h : WasiState) (fd ret : ℕ) (r : Result Wanted Halt)
     (buffers : List Buffer) : Type 0 where
   pub descriptor : Descriptor
   pub is_open : open_descriptor h fd ≡ Ok descriptor
@@ -77,9 +77,8 @@ pub record PassesChecks (m : Bytes) (h : Host) (fd ret : ℕ) (r : Result Wanted
 
 -- ---- what was read
 
--- So many bytes were read: the rule gives them and the host after it, and they stand in the
--- buffers.
-pub record ReadsInto (n : ℕ) (old new : Bytes) (bs : List Buffer) (after : Host)
+-- So many bytes were read: the rule gives them and the host after it, and they are in the buffers.
+pub record ReadsInto (n : ℕ) (old new : Bytes) (bs : List Buffer) (after : WasiState)
     (r : Result Got Halt)
     : Type 0 where
   pub bytes : Bytes
@@ -91,26 +90,26 @@ pub record ReadsInto (n : ℕ) (old new : Bytes) (bs : List Buffer) (after : Hos
 
 -- the host once an answer has been taken: its text and a newline wait to be read, or input has
 -- ended
-abbrev pub line_taken : Answer → Host → Result Host Halt
+abbrev pub line_taken : Answer → WasiState → Result WasiState Halt
 line_taken (answer.Request text) h = Ok (record h { unread = text ++ newline ∷ [] })
 line_taken answer.End h = Ok (record h { input_ended = true })
 line_taken _ h = Err (Refuses Inval)
 
 -- a host that has nothing to read, and may get more, takes an answer
-abbrev pub supplied : Option Answer → Host → Result Host Halt
+abbrev pub supplied : Option Answer → WasiState → Result WasiState Halt
 supplied given h =
     if has_bytes h.unread then Ok h
     else if h.input_ended then Ok h
-    else (answered_by h kind.Request given >>= λ a. line_taken a h)
+    else (answered_by h question.Request given >>= λ a. line_taken a h)
 
 -- ---- offsets
 
 -- the host once a write of so many bytes from an offset on is over
-abbrev pub moved_behind : ℕ → ℕ → Descriptor → ℕ → Host → Host
+abbrev pub moved_behind : ℕ → ℕ → Descriptor → ℕ → WasiState → WasiState
 moved_behind fd offset d n h = if n == 0 then h else moved_to fd d (offset + n) h
 
 -- a file is open under a number
-pub record AtNode (h : Host) (fd node : ℕ) : Type 0 where
+pub record AtNode (h : WasiState) (fd node : ℕ) : Type 0 where
   pub named : (d : Descriptor) → open_descriptor h fd ≡ Ok d → d.target ≡ Node node
   pub there : IsThere h.files (Node node)
   pub file : is_directory h.files node ≡ false

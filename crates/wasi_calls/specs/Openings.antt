@@ -5,14 +5,14 @@ use Rattle.wasi_abi.specs.rules.Numbers.{path_create_file_right, path_open_right
 use Rattle.wasi_abi.specs.rules.Numbers.{path_filestat_set_size_right, create_flag, directory_flag}
 use Rattle.wasi_abi.specs.rules.Numbers.{exclusive_flag, truncate_flag, has_flag, open_flags_number}
 use Rattle.wasi_abi.specs.rules.Numbers.{descriptor_flags_number, rights_number}
-use Rattle.wasi_calls_rules.specs.Hosts.{Descriptor}
+use Rattle.wasi_calls_rules.specs.WasiStates.{Descriptor}
 use Rattle.wasi_calls_rules.specs.Checks.{Halt, ◌>>=◌, check_or, with_right, needs, within_rights}
-use Rattle.wasi_calls_rules.specs.Entries.{Wish}
-use Rattle.wasi_calls.specs.declared.opening.CheckedWish.{CheckedWish}
-use Rattle.wasi_calls.specs.declared.opening.OpenWish.{OpenWish}
+use Rattle.wasi_calls_rules.specs.Entries.{OpenMode}
+use Rattle.wasi_calls.specs.declared.opening.CheckedMode.{CheckedMode}
+use Rattle.wasi_calls.specs.declared.opening.AskedMode.{AskedMode}
 
 -- what a guest asks for
-abbrev pub asked_for : OpenWish → Wish
+abbrev pub asked_for : AskedMode → OpenMode
 asked_for w = record {
   oflags = w.oflags;
   base = w.base;
@@ -21,8 +21,8 @@ asked_for w = record {
 }
 
 -- the same, in flags that there are
-abbrev pub checked_wish : CheckedWish → Wish
-checked_wish w = record {
+abbrev pub checked_mode : CheckedMode → OpenMode
+checked_mode w = record {
   oflags = open_flags_number w.flags;
   base = rights_number w.base;
   inheriting = rights_number w.inheriting;
@@ -30,7 +30,7 @@ checked_wish w = record {
 }
 
 -- the rights that an opening needs of the directory's descriptor
-abbrev pub may_open : Descriptor → Wish → Result (Unit {0}) Halt
+abbrev pub may_open : Descriptor → OpenMode → Result (Unit {0}) Halt
 may_open d w =
     with_right path_open_right d >>= λ _.
     needs (has_flag w.oflags create_flag) path_create_file_right d >>= λ _.
@@ -39,13 +39,13 @@ may_open d w =
     within_rights w.inheriting d.inheriting
 
 -- no flags but those that there are, and no directory that is made
-abbrev pub right_flags : ℕ → Wish → Result (Unit {0}) Halt
+abbrev pub right_flags : ℕ → OpenMode → Result (Unit {0}) Halt
 right_flags dirflags w =
     check_or (nat_le dirflags 1 && nat_le w.oflags 15 && nat_le w.fdflags 31
     && not (has_flag w.oflags create_flag && has_flag w.oflags directory_flag)) Inval
 
 -- a node that is there may be opened so
-abbrev pub may_be_opened : Bool → Wish → Result (Unit {0}) Halt
+abbrev pub may_be_opened : Bool → OpenMode → Result (Unit {0}) Halt
 may_be_opened is_dir w =
     check_or (not (has_flag w.oflags create_flag && has_flag w.oflags exclusive_flag)) Exist
     >>= λ _.

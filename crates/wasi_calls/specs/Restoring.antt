@@ -3,12 +3,12 @@ use Rattle.std.specs.Prelude.{◌≡◌, ℕ, ◌||◌, is_some, Bool, true, Lis
 use Rattle.std.specs.Prelude.{slice_get}
 use Rattle.std.specs.List.{list_any}
 use Rattle.file_tree.specs.rules.Files.{Files, path_of}
-use Rattle.wasi_calls_rules.specs.Hosts.{Stream, Node, Descriptor, IsDescriptor, IsStreamAt}
-use Rattle.wasi_calls_rules.specs.Hosts.{IsRemoved}
+use Rattle.wasi_calls_rules.specs.WasiStates.{Stream, Node, Descriptor, IsDescriptor, IsStreamAt}
+use Rattle.wasi_calls_rules.specs.WasiStates.{IsRemoved}
 use Rattle.wasi_calls_rules.specs.Small.{names}
 use Rattle.wasi_calls_rules.specs.declared.limits.TheConstants.{DESCRIPTORS}
 
--- where it names a stream, it may stand under this number
+-- where it names a stream, it may be under this number
 abbrev pub IsOwnStream : ℕ → Descriptor → Type 0
 IsOwnStream n d = (s : ℕ) → d.target ≡ Stream s → IsStreamAt n s d
 

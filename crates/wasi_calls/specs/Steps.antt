@@ -3,7 +3,7 @@
 use Rattle.std.specs.Prelude.{◌≡◌, Result, Ok, Err}
 use Rattle.wasi_abi.specs.declared.errno.Errno.{Errno}
 use Rattle.wasi_calls_rules.specs.Checks.{Halt, Refuses, Asks}
-use Rattle.wasi_calls_rules.specs.Rows.{IsNoRefusal}
+use Rattle.wasi_calls_rules.specs.CallRules.{IsNoRefusal}
 use Rattle.wasi_calls.specs.declared.stop.CallStop.{CallStop}
 use Rattle.wasi_calls.specs.declared.stop.CallStop.TheVariants as stop
 
@@ -15,5 +15,5 @@ GivesValue view (Err e) step = step ≡ Err (Refuses e)
 -- why a step gives nothing
 abbrev pub StopsStep : {Y : Type 0} → CallStop → Result Y Halt → Type 0
 StopsStep (stop.Refused e) step = step ≡ Err (Refuses e)
-StopsStep (stop.Asks kind) step = step ≡ Err (Asks kind)
+StopsStep (stop.Asks question) step = step ≡ Err (Asks question)
 StopsStep stop.Memory step = IsNoRefusal step

@@ -1,5 +1,5 @@
 -- What the code's descriptors stand for.
-use Rattle.wasi_calls_rules.specs.Hosts.{Target, Stream, Node}
+use Rattle.wasi_calls_rules.specs.WasiStates.{Target, Stream, Node}
 use Rattle.wasi_calls.specs.declared.descriptor.Names.{Names}
 use Rattle.wasi_calls.specs.declared.descriptor.Names.TheVariants as names
 

@@ -8,7 +8,7 @@ use crate::clocks::TimeArguments;
 use crate::listing::ListArguments;
 use crate::moves::{MoveArguments, PlacedArguments};
 use crate::offsets::SeekArguments;
-use crate::opening::{OpenArguments, OpenWish};
+use crate::opening::{AskedMode, OpenArguments};
 use crate::paths::entries::PathFilestatArguments;
 use crate::renaming::RenameArguments;
 
@@ -152,15 +152,15 @@ pub fn of_open(arguments: &[u64]) -> OpenArguments
     requires { AreArguments (I32 ∷ I32 ∷ I32 ∷ I32 ∷ I32 ∷ I64 ∷ I64 ∷ I32 ∷ I32 ∷ [])
         arguments.now }
     ensures { arguments.now ≡ result.fd ∷ result.dirflags ∷ result.path ∷ result.len
-        ∷ result.wish.oflags ∷ result.wish.base ∷ result.wish.inheriting
-        ∷ result.wish.fdflags ∷ result.ret ∷ [] }
+        ∷ result.mode.oflags ∷ result.mode.base ∷ result.mode.inheriting
+        ∷ result.mode.fdflags ∷ result.ret ∷ [] }
 {
     OpenArguments {
         fd: arguments[0] as u32,
         dirflags: arguments[1] as u32,
         path: arguments[2] as u32,
         len: arguments[3] as u32,
-        wish: OpenWish {
+        mode: AskedMode {
             oflags: arguments[4] as u32,
             base: arguments[5],
             inheriting: arguments[6],

@@ -1,7 +1,7 @@
 //! The buffers of a guest that bytes are moved from or to.
 
 ghost use Rattle.std.specs.Prelude.{◌≡◌, ◌≤◌, ◌+◌, ◌-◌, ◌*◌, ◌<◌, ◌^◌};
-ghost use Rattle.std.specs.Prelude.{min, [], ◌∷◌, ◌++◌, length, IfOk, Ok};
+ghost use Rattle.std.specs.Prelude.{min, [], ◌∷◌, ◌++◌, length, IfOk, OnOk, Ok};
 ghost use Rattle.guest_memory.specs.rules.Bytes.{part};
 ghost use Rattle.wasi_abi.specs.declared.layout.TheConstants.{IOVEC_BYTES};
 ghost use Rattle.wasi_abi.specs.rules.Layouts.{u32_at};
@@ -106,7 +106,7 @@ impl Model for Buffers {
 
 impl Buffers {
     /// None.
-    fn new() -> Buffers
+    pub fn new() -> Buffers
         ensures { result ≡ [] }
     {
         Buffers {
@@ -132,22 +132,22 @@ impl Buffers {
         });
     }
 
-    /// Those that so many iovecs name. `Inval` where they are too many, and `Fault` where their
-    /// array or
-    /// a buffer reaches beyond memory.
-    pub fn from_iovecs(memory: &Memory, iovecs: u32, count: u32) -> Result<Buffers, Errno>
-        ensures gives { GivesValue (λ b. b) result (moved_buffers memory.now.bytes iovecs count) }
-        ensures inside { IfOk result (λ b. AreInside memory.now.bytes b) }
+    /// Takes those that so many iovecs name. `Inval` where they are too many, and `Fault` where
+    /// their array or a buffer reaches beyond memory.
+    pub fn read_iovecs(&mut self, memory: &Memory, iovecs: u32, count: u32) -> Result<(), Errno>
+        requires none { self.old ≡ [] }
+        ensures gives { GivesValue (λ _. self.new) result
+            (moved_buffers memory.now.bytes iovecs count) }
+        ensures inside { OnOk result (AreInside memory.now.bytes self.new) }
     {
         if count as usize > IOVECS {
             return Err(Errno::Inval);
         }
         in_range(memory, iovecs, IOVEC_BYTES as u32 * count)?;
-        let mut buffers = Buffers::new();
         for place in 0..count {
-            buffers.push(Buffer::from_iovec(memory, iovecs, IOVEC_BYTES as u32 * place)?);
+            self.push(Buffer::from_iovec(memory, iovecs, IOVEC_BYTES as u32 * place)?);
         }
-        Ok(buffers)
+        Ok(())
     }
 
     /// How many bytes they have.

@@ -3,22 +3,23 @@
 ghost use Rattle.std.specs.Prelude.{◌≡◌, ◌≢◌, ◌+◌, ◌≤◌, length, Option, Ok, Err, option_copied};
 ghost use Rattle.wasi_abi.specs.declared.answer.Answer.{Answer};
 ghost use Rattle.wasi_abi.specs.rules.Calls.{parameters_of};
-ghost use Rattle.wasi_calls_rules.specs.Hosts.{Host as TheHost};
+ghost use Rattle.wasi_calls_rules.specs.WasiStates.{WasiState as TheWasiState};
 ghost use Rattle.wasi_calls_rules.specs.Checks.{Done, Halt};
 ghost use Rattle.wasi_calls_rules.specs.Lines.{lines_ended};
-ghost use Rattle.wasi_calls_rules.specs.Rows.{row, TellsRow};
+ghost use Rattle.wasi_calls_rules.specs.CallRules.{call_rule, TellsCallRule};
 ghost use Rattle.wasi_calls_rules.specs.declared.limits.TheConstants.{MOVED_BYTES};
 ghost use Rattle.wasi_abi.specs.declared.call.Call.TheVariants.{ProcExit};
-ghost use Rattle.wasi_calls.specs.rules.Held.{ShowsHost};
+ghost use Rattle.wasi_calls.specs.rules.Held.{ShowsWasiState};
 ghost use Rattle.wasi_calls.specs.rules.Calls.{AreArguments, call_outcome, check_outcome};
-ghost use Rattle.wasi_calls.specs.rules.Calls.{told_of, ShowsRow, EndsNothing, IsAsLarge};
+ghost use Rattle.wasi_calls.specs.rules.Calls.{ending_of_call, ShowsCallRule, EndsNothing};
+ghost use Rattle.wasi_calls.specs.rules.Calls.{IsAsLarge};
 ghost use Rattle.wasi_calls.specs.declared.outcome.CallOutcome.TheVariants.{Memory as WantOfMemory};
 
 use crate::arguments::{
     of_list, of_move, of_open, of_path_filestat, of_placed_move, of_rename, of_seek, of_time, one,
     one_and_long, three, two,
 };
-use crate::host::Host;
+use crate::host::WasiState;
 use crate::outcome::CallOutcome;
 use crate::paths::entries;
 use crate::stop::CallStop;
@@ -29,46 +30,46 @@ use guest_memory::Memory;
 use std::alloc::Global;
 use wasi_abi::{Answer, Call, Errno, Rights};
 
-/// Makes a call, with its arguments in order and, where it asked for one, an answer from outside.
-/// What it tells is what the rules say; all but a call that is done leave memory and host as they
-/// were. It may say that there is no memory for it where an allocation was refused, or where no
-/// number is left for a new node. A call that is refused, asks for an answer or ends the process
-/// takes none.
+/// Performs a call, with its arguments in order and, where it asked for one, an answer from
+/// outside. What it tells is what the rules say; all but a call that is done leave memory and host
+/// as they were. It may say that there is no memory for it where an allocation was refused, or
+/// where no number is left for a new node. A call that is refused, asks for an answer or ends the
+/// process takes none.
 pub fn call(
     alloc: Global,
-    host: &mut Host,
+    host: &mut WasiState,
     memory: &mut Memory,
     call: Call,
     arguments: &[u64],
     answer: Option<&Answer>,
 ) -> CallOutcome
     requires typed { AreArguments (parameters_of call) arguments.now }
-    ensures told { TellsRow (told_of result) memory.new.bytes host.new.host memory.old.bytes
-        host.old.host
-        (row call arguments.now (option_copied answer.entry) memory.old.bytes host.old.host) }
+    ensures told { TellsCallRule (ending_of_call result) memory.new.bytes host.new.host
+        memory.old.bytes host.old.host
+        (call_rule call arguments.now (option_copied answer.entry) memory.old.bytes host.old.host) }
     ensures released { host.new.released ≡ host.old.released }
-    ensures shown { (h : TheHost) → ShowsHost host.old h
-        → ShowsRow (told_of result) memory.new.bytes host.new memory.old.bytes host.old
-        (row call arguments.now (option_copied answer.entry) memory.old.bytes h) }
+    ensures shown { (h : TheWasiState) → ShowsWasiState host.old h
+        → ShowsCallRule (ending_of_call result) memory.new.bytes host.new memory.old.bytes host.old
+        (call_rule call arguments.now (option_copied answer.entry) memory.old.bytes h) }
     ensures wants { result ≡ WantOfMemory → EndsNothing call arguments.now }
     ensures large { IsAsLarge memory.old memory.new }
 {
-    make(alloc, host, memory, call, arguments, answer)
+    perform(alloc, host, memory, call, arguments, answer)
 }
 
-/// Makes it, on the host that has the lines that wait alone.
-fn make(
+/// Performs it, on the host that has the lines that wait alone.
+fn perform(
     alloc: Global,
-    host: &mut Host,
+    host: &mut WasiState,
     memory: &mut Memory,
     call: Call,
     arguments: &[u64],
     answer: Option<&Answer>,
 ) -> CallOutcome
     requires typed { AreArguments (parameters_of call) arguments.now }
-    ensures told { TellsRow (told_of result) memory.new.bytes host.new.host memory.old.bytes
-        host.old.host
-        (row call arguments.now (option_copied answer.entry) memory.old.bytes host.old.host) }
+    ensures told { TellsCallRule (ending_of_call result) memory.new.bytes host.new.host
+        memory.old.bytes host.old.host
+        (call_rule call arguments.now (option_copied answer.entry) memory.old.bytes host.old.host) }
     ensures released { host.new.released ≡ host.old.released }
     ensures wants { result ≡ WantOfMemory → call ≢ ProcExit }
     ensures large { IsAsLarge memory.old memory.new }
@@ -136,7 +137,7 @@ fn make(
             check_outcome(entries::unlink_file(host, memory, fd, path, len))
         }
         Call::ProcExit => CallOutcome::Exit(one(arguments)),
-        Call::SchedYield => CallOutcome::Done(None),
+        Call::SchedYield => CallOutcome::Done,
         Call::FdFdstatGet => {
             let (fd, ret) = two(arguments);
             check_outcome(status::get_fdstat(host, memory, fd, ret))
@@ -170,13 +171,15 @@ fn make(
 
 /// How many lines such a call would add, an unfinished one counted as a line: none, if it is not
 /// done. It changes nothing, and takes no memory.
-pub fn lines_begun(host: &Host, memory: &Memory, call: Call, arguments: &[u64]) -> usize
+pub fn lines_begun(host: &WasiState, memory: &Memory, call: Call, arguments: &[u64]) -> usize
     requires typed { AreArguments (parameters_of call) arguments.now }
-    ensures count { (given : Option Answer) (h : TheHost) (done : Done) → ShowsHost host.now h
-        → row call arguments.now given memory.now.bytes h ≡ Ok done
-        → length (lines_ended done.host).lines ≡ length (lines_ended h).lines + result }
-    ensures none { (given : Option Answer) (h : TheHost) (halt : Halt) → ShowsHost host.now h
-        → row call arguments.now given memory.now.bytes h ≡ Err halt → result ≡ 0 }
+    ensures count { (given : Option Answer) (h : TheWasiState) (done : Done)
+        → ShowsWasiState host.now h → call_rule call arguments.now given
+        memory.now.bytes h ≡ Ok done → length (lines_ended done.host).lines
+        ≡ length (lines_ended h).lines + result }
+    ensures none { (given : Option Answer) (h : TheWasiState) (halt : Halt)
+        → ShowsWasiState host.now h → call_rule call arguments.now given memory.now.bytes h
+        ≡ Err halt → result ≡ 0 }
     ensures few { result ≤ MOVED_BYTES }
 {
     match call {
@@ -190,8 +193,8 @@ fn check_outcome(ended: Result<(), Errno>) -> CallOutcome
     ensures { result ≡ check_outcome ended }
 {
     match ended {
-        Ok(()) => CallOutcome::Done(None),
-        Err(error) => CallOutcome::Done(Some(error)),
+        Ok(()) => CallOutcome::Done,
+        Err(error) => CallOutcome::Refused(error),
     }
 }
 
@@ -200,9 +203,9 @@ fn call_outcome(ended: Result<(), CallStop>) -> CallOutcome
     ensures { result ≡ call_outcome ended }
 {
     match ended {
-        Ok(()) => CallOutcome::Done(None),
-        Err(CallStop::Refused(error)) => CallOutcome::Done(Some(error)),
-        Err(CallStop::Asks(kind)) => CallOutcome::Ask(kind),
+        Ok(()) => CallOutcome::Done,
+        Err(CallStop::Refused(error)) => CallOutcome::Refused(error),
+        Err(CallStop::Asks(question)) => CallOutcome::Ask(question),
         Err(CallStop::Memory) => CallOutcome::Memory,
     }
 }

@@ -9,12 +9,12 @@ ghost use Rattle.wasi_calls_rules.specs.Small.{fd_close, fd_syncs, fd_filestat_s
 ghost use Rattle.wasi_calls.specs.Steps.{StopsStep};
 
 use crate::descriptor::PREOPENED;
-use crate::host::Host;
+use crate::host::WasiState;
 use crate::stop::CallStop;
 use wasi_abi::{Errno, Rights};
 
 /// `fd_close`.
-pub fn close(host: &mut Host, fd: u32) -> Result<(), Errno>
+pub fn close(host: &mut WasiState, fd: u32) -> Result<(), Errno>
     ensures done { (m : Bytes) → OnOk result (fd_close fd m host.old.host
         ≡ Ok (record { memory = m; host = host.new.host })) }
     ensures refused { (m : Bytes) → IfErr result (λ e. fd_close fd m host.old.host
@@ -31,7 +31,7 @@ pub fn close(host: &mut Host, fd: u32) -> Result<(), Errno>
 }
 
 /// `fd_sync` and `fd_datasync`, each with its right.
-pub fn sync(host: &Host, fd: u32, right: Rights) -> Result<(), Errno>
+pub fn sync(host: &WasiState, fd: u32, right: Rights) -> Result<(), Errno>
     requires one { rights_number right ≡ 2 ^ bit_of (rights_number right) }
     ensures done { (m : Bytes) → OnOk result (fd_syncs (bit_of (rights_number right)) fd m
         host.now.host ≡ Ok (record { memory = m; host = host.now.host })) }
@@ -42,7 +42,7 @@ pub fn sync(host: &Host, fd: u32, right: Rights) -> Result<(), Errno>
 }
 
 /// `fd_filestat_set_size`.
-pub fn set_size(host: &mut Host, fd: u32, size: u64) -> Result<(), CallStop>
+pub fn set_size(host: &mut WasiState, fd: u32, size: u64) -> Result<(), CallStop>
     ensures done { (m : Bytes) → OnOk result (fd_filestat_set_size fd size m host.old.host
         ≡ Ok (record { memory = m; host = host.new.host })) }
     ensures stopped { (m : Bytes) → IfErr result (λ why.

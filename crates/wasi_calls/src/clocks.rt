@@ -1,18 +1,18 @@
 //! Clocks: `clock_res_get` and `clock_time_get`.
 
 ghost use Rattle.std.specs.Prelude.{◌≡◌, option_copied, OnOk, IfErr, Ok, Err};
-ghost use Rattle.wasi_calls_rules.specs.Hosts.{Host as TheHost};
+ghost use Rattle.wasi_calls_rules.specs.WasiStates.{WasiState as TheWasiState};
 ghost use Rattle.wasi_calls_rules.specs.Checks.{Refuses};
 ghost use Rattle.wasi_calls_rules.specs.Small.{clock_res_get, clock_time_get};
 ghost use Rattle.wasi_calls.specs.Steps.{GivesValue, StopsStep};
-ghost use Rattle.wasi_calls.specs.Times.{kind_asked};
+ghost use Rattle.wasi_calls.specs.Times.{question_asked};
 ghost use Rattle.wasi_calls.specs.rules.Calls.{IsAsLarge};
 
-use crate::host::Host;
+use crate::host::WasiState;
 use crate::memory::in_range;
 use crate::stop::CallStop;
 use guest_memory::Memory;
-use wasi_abi::{Answer, Errno, Kind};
+use wasi_abi::{Answer, Errno, Question};
 
 /// Nanoseconds from one value of a clock to the next.
 const RESOLUTION: u64 = 1;
@@ -28,26 +28,26 @@ pub struct TimeArguments {
 }
 
 /// What is asked for the time of a clock: 0 is the real time, and 1 is monotonic.
-pub fn kind_of(clock: u32) -> Result<Kind, Errno>
-    ensures { GivesValue (λ k. k) result (kind_asked clock) }
+pub fn clock_question(clock: u32) -> Result<Question, Errno>
+    ensures { GivesValue (λ k. k) result (question_asked clock) }
 {
     match clock {
-        0 => Ok(Kind::Realtime),
-        1 => Ok(Kind::Monotonic),
+        0 => Ok(Question::Realtime),
+        1 => Ok(Question::Monotonic),
         _ => Err(Errno::Inval),
     }
 }
 
 /// `clock_res_get`.
 pub fn get_resolution(memory: &mut Memory, clock: u32, ret: u32) -> Result<(), Errno>
-    ensures done { (h : TheHost) → OnOk result (clock_res_get clock ret memory.old.bytes h
+    ensures done { (h : TheWasiState) → OnOk result (clock_res_get clock ret memory.old.bytes h
         ≡ Ok (record { memory = memory.new.bytes; host = h })) }
-    ensures refused { (h : TheHost) → IfErr result (λ e.
+    ensures refused { (h : TheWasiState) → IfErr result (λ e.
         clock_res_get clock ret memory.old.bytes h ≡ Err (Refuses e)) }
     ensures kept { IfErr result (λ _. memory.new ≡ memory.old) }
     ensures large { IsAsLarge memory.old memory.new }
 {
-    kind_of(clock)?;
+    clock_question(clock)?;
     in_range(memory, ret, 8)?;
     memory.store_u64(ret, 0, RESOLUTION).unwrap();
     Ok(())
@@ -56,7 +56,7 @@ pub fn get_resolution(memory: &mut Memory, clock: u32, ret: u32) -> Result<(), E
 /// `clock_time_get`, with the time that it asked for before, where one is there. Where it is
 /// refused or asks, nothing has changed.
 pub fn get_time(
-    host: &mut Host,
+    host: &mut WasiState,
     memory: &mut Memory,
     arguments: TimeArguments,
     answer: Option<&Answer>,
@@ -71,9 +71,9 @@ pub fn get_time(
     ensures released { host.new.released ≡ host.old.released }
     ensures large { IsAsLarge memory.old memory.new }
 {
-    let kind = kind_of(arguments.clock)?;
+    let question = clock_question(arguments.clock)?;
     in_range(memory, arguments.ret, 8)?;
-    let answer = host.fitting_answer(kind, answer)?;
+    let answer = host.fitting_answer(question, answer)?;
     let time = host.see_time(answer);
     memory.store_u64(arguments.ret, 0, time).unwrap();
     Ok(())

@@ -11,6 +11,7 @@ use guest_memory::Memory;
 use std::alloc::{AllocError, Global};
 use std::marker::Model;
 use std::mem;
+use wasi_calls_rules::OutputStream;
 use wasi_calls_rules::limits::LINE_BYTES;
 
 /// Whole lines, and the bytes of the line that is not finished.
@@ -29,10 +30,10 @@ impl Model for Cut {
 }
 
 impl Cut {
-    /// What the bytes of buffers make of an unfinished line. It fails for want of memory alone.
+    /// What the bytes of buffers make of an unfinished line. It fails only when out of memory.
     pub fn of(
         alloc: Global,
-        stream: u8,
+        stream: OutputStream,
         unfinished: &[u8],
         memory: &Memory,
         buffers: &Buffers,
@@ -61,7 +62,12 @@ impl Cut {
         (lines, unfinished)
     }
 
-    fn put_all(&mut self, alloc: Global, stream: u8, bytes: &[u8]) -> Result<(), AllocError>
+    fn put_all(
+        &mut self,
+        alloc: Global,
+        stream: OutputStream,
+        bytes: &[u8],
+    ) -> Result<(), AllocError>
         ensures { OnOk result (self.new ≡ cut_all stream self.old bytes.now) }
     {
         for byte in bytes {
@@ -70,7 +76,7 @@ impl Cut {
         Ok(())
     }
 
-    fn put(&mut self, alloc: Global, stream: u8, byte: u8) -> Result<(), AllocError>
+    fn put(&mut self, alloc: Global, stream: OutputStream, byte: u8) -> Result<(), AllocError>
         ensures { OnOk result (self.new ≡ cut_byte stream self.old byte) }
     {
         if byte == b'\n' {
@@ -83,7 +89,7 @@ impl Cut {
         Ok(())
     }
 
-    fn end_line(&mut self, alloc: Global, stream: u8) -> Result<(), AllocError>
+    fn end_line(&mut self, alloc: Global, stream: OutputStream) -> Result<(), AllocError>
         ensures { OnOk result (self.new ≡ record {
           lines = self.old.lines
               ++ record { stream = stream; text = self.old.unfinished } ∷ [];

@@ -4,7 +4,7 @@ ghost use Rattle.std.specs.Prelude.{◌≡◌, ◌^◌, ◌↔◌, IsTrue, IsSom
 ghost use Rattle.wasi_abi.specs.rules.Numbers.{rights_number, descriptor_flags_number};
 ghost use Rattle.wasi_calls_rules.specs.Checks.{with_right};
 ghost use Rattle.wasi_abi.specs.Bits.{bit_of};
-ghost use Rattle.wasi_calls_rules.specs.Hosts.{stream_rights, IsStreamAt};
+ghost use Rattle.wasi_calls_rules.specs.WasiStates.{stream_rights, IsStreamAt};
 ghost use Rattle.wasi_calls.specs.Restoring.{IsOwnStream};
 ghost use Rattle.wasi_calls.specs.Steps.{GivesValue};
 ghost use Rattle.wasi_calls.specs.rules.Restored.{IsBoundedDescriptor};
@@ -40,7 +40,7 @@ pub struct Descriptor {
 
 impl Model for Descriptor {
     ghost use Rattle.wasi_abi.specs.rules.Numbers.{rights_number, descriptor_flags_number};
-    ghost use Rattle.wasi_calls_rules.specs.Hosts.{Descriptor as Opened};
+    ghost use Rattle.wasi_calls_rules.specs.WasiStates.{Descriptor as Opened};
 
     ghost Value = { Opened };
 
@@ -56,7 +56,7 @@ impl Model for Descriptor {
 }
 
 impl Descriptor {
-    ghost use Rattle.wasi_calls_rules.specs.Hosts.{Node, stream};
+    ghost use Rattle.wasi_calls_rules.specs.WasiStates.{Node, stream};
     ghost use Rattle.wasi_calls.specs.Views.{target_of};
 
     /// A stream with these rights.
@@ -159,8 +159,8 @@ impl Descriptor {
             && self.inheriting.is_within(Rights::ALL)
     }
 
-    /// Whether it may stand under this number, where it names a stream. It is then the stream of
-    /// that number, with its rights, and hands none on.
+    /// Whether it may be under this number, where it names a stream. It is then the stream of that
+    /// number, with its rights, and hands none on.
     pub(crate) fn is_own_stream(&self, number: usize) -> bool
         ensures { IsTrue result ↔ IsOwnStream number self.now }
     {
@@ -170,7 +170,7 @@ impl Descriptor {
         }
     }
 
-    /// Whether it may stand under this number, where it names this stream.
+    /// Whether it may be under this number, where it names this stream.
     fn is_stream(&self, number: usize, stream: u8) -> bool
         ensures { IsTrue result ↔ IsStreamAt number stream self.now }
     {

@@ -7,41 +7,42 @@
 //!   says (`told`). That holds of every host that is shown (`shown`). But for a call that is done,
 //!   nothing has changed. It releases no line (`released`), and memory is as large as before
 //!   (`large`).
-//! - `call` has no want of memory for a call that ends the process (`wants`), is refused, or asks
+//! - `call` is never out of memory for a call that ends the process (`wants`), is refused, or asks
 //!   for an answer (`told`, `shown`). It asks for arguments of the call's types (`typed`).
 //! - `lines_begun`: how many lines such a call adds if it is done, unfinished ones counted
 //!   (`count`), and else none (`none`). They are at most `MOVED_BYTES` (`few`).
 //! - `wanted_answer`: the answer from outside that a call wants before it can be made. That is the
 //!   one that its rule asks for, of every host that is shown.
-//! - `Host::new` is the first host of the rules. `waiting_lines` and `released_count` are its
+//! - `WasiState::new` is the first host of the rules. `waiting_lines` and `released_count` are its
 //!   lines.
-//! - `Host::from_parts` is the host of an image's parts (`made`). It answers one exactly where the
-//!   rules have a host with these parts (`is`, `refused`), or tells that there is no memory.
+//! - `WasiState::from_parts` is the host of an image's parts (`made`). It answers one exactly where
+//!   the rules have a host with these parts (`is`, `refused`), or tells that there is no memory.
 //! - `Descriptor::from_numbers` is the descriptor of these numbers (`made`), exactly where each is
 //!   within its bounds (`there`).
-//! - `Host::release` takes lines off, `Host::end` emits what is not finished, and `Host::widen`
-//!   sets the version (`changed`). They go on showing the rules' host (`shown`).
+//! - `WasiState::release` takes lines off, `WasiState::end` emits what is not finished, and
+//!   `WasiState::widen` sets the version (`changed`). They go on showing the rules' host (`shown`).
 //! - `tree`, `descriptors`, `unread`, `has_input_ended`, `last_monotonic`, `first` and `second` of
-//!   `Host`, and the getters of `Descriptor`, are what the rules' host has.
-//! - `Host::unfinished_lines`: how many lines an end would emit beside those that wait.
+//!   `WasiState`, and the getters of `Descriptor`, are what the rules' host has.
+//! - `WasiState::unfinished_line_count`: how many lines an end would emit beside those that wait.
 //! - `laws::calls_begin_few_lines`: a call adds no more lines than it may move bytes.
 //!
 //! # Definitions to read
 //!
-//! `specs/rules/Calls.antt`: `AreArguments`, `ShowsRow`, `wish_of`, `EndsNothing`.
-//! `specs/rules/Held.antt`: `HeldHost` and `ShowsHost`, which say which hosts of the rules the
-//! code's host is. `specs/rules/Restored.antt`: `held_host_from`, which says what parts hold, and
-//! `IsBoundedDescriptor`. The rules themselves are `row` and `Host` of `wasi_calls_rules`.
+//! `specs/rules/Calls.antt`: `AreArguments`, `ShowsCallRule`, `question_of`, `EndsNothing`.
+//! `specs/rules/Held.antt`: `HeldWasiState` and `ShowsWasiState`, which say which hosts of the
+//! rules the code's host is. `specs/rules/Restored.antt`: `held_host_from`, which says what parts
+//! hold, and `IsBoundedDescriptor`. The rules themselves are `call_rule` and `WasiState` of
+//! `wasi_calls_rules`.
 //!
 //! # Who may touch what
 //!
 //! Only this crate knows how descriptors, streams and unfinished lines are kept. Its files are a
 //! `Tree` of `file_tree`, which it alone changes. `process` uses it, and `state_image` makes hosts
-//! of their parts. It stands on `wasi_calls_rules`, `file_tree`, `wasi_abi` and `guest_memory`.
+//! of their parts. It uses `wasi_calls_rules`, `file_tree`, `wasi_abi` and `guest_memory`.
 //!
-//! Memory is taken by `Host::new`, and by `Host::from_parts` once all tests have passed. It is
-//! taken for the two lines that an end may emit. A call takes some once all of its checks have
-//! passed. That is for lines, for the bytes of files, for new nodes and their names, and for a
+//! Memory is taken by `WasiState::new`, and by `WasiState::from_parts` once all tests have passed.
+//! It is taken for the two lines that an end may emit. A call takes some once all of its checks
+//! have passed. That is for lines, for the bytes of files, for new nodes and their names, and for a
 //! request's line. Without it nothing changes. Bytes go straight from the guest's buffers into
 //! lines and files, and back: none are joined first.
 //!
@@ -82,6 +83,7 @@ mod offsets;
 mod opening;
 mod outcome;
 mod paths;
+mod question;
 mod random;
 mod read;
 mod renaming;
@@ -89,12 +91,11 @@ mod status;
 mod stop;
 mod streams;
 mod texts;
-mod wish;
 mod write;
 
 pub use calls::{call, lines_begun};
 pub use descriptor::{Descriptor, LAST_STREAM, Names};
-pub use host::{Host, HostParts, PartsFault, ROOT};
+pub use host::{PartsFault, ROOT, WasiState, WasiStateParts};
 pub use line::Line;
 pub use outcome::CallOutcome;
-pub use wish::wanted_answer;
+pub use question::wanted_answer;

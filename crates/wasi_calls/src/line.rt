@@ -3,16 +3,17 @@
 ghost use Rattle.std.specs.Prelude.{◌≡◌};
 
 use std::marker::Model;
+use wasi_calls_rules::OutputStream;
 
 /// A line without its newline, and the stream that it was written to.
 #[derive(Debug, Drop)]
 pub struct Line {
-    stream: u8,
+    stream: OutputStream,
     text: Vec<u8>,
 }
 
 impl Model for Line {
-    ghost use Rattle.wasi_calls_rules.specs.Hosts.{Line as Written};
+    ghost use Rattle.wasi_calls_rules.specs.WasiStates.{Line as Written};
 
     ghost Value = { Written };
 
@@ -20,14 +21,14 @@ impl Model for Line {
 }
 
 impl Line {
-    pub(crate) fn new(stream: u8, text: Vec<u8>) -> Line
+    pub(crate) fn new(stream: OutputStream, text: Vec<u8>) -> Line
         ensures { result ≡ record { stream = stream; text = text.items } }
     {
         Line { stream, text }
     }
 
-    /// 1 or 2.
-    pub fn stream(&self) -> u8
+    /// Where it was written to.
+    pub fn stream(&self) -> OutputStream
         ensures { result ≡ self.now.stream }
     {
         self.stream

@@ -10,7 +10,7 @@ ghost use Rattle.wasi_calls_rules.specs.Entries.{fd_readdir};
 ghost use Rattle.wasi_calls.specs.Listings.{entries_behind};
 ghost use Rattle.wasi_calls.specs.rules.Calls.{IsAsLarge};
 
-use crate::host::Host;
+use crate::host::WasiState;
 use crate::memory::{front, in_range};
 use file_tree::limits::NODES;
 use guest_memory::Memory;
@@ -29,8 +29,8 @@ pub struct ListArguments {
     pub ret: u32,
 }
 
-/// Puts bytes behind those that stand there, as many as there is room for, and gives how many
-/// stand there then.
+/// Puts bytes after those that are there, as many as there is room for, and gives how many are
+/// there then.
 fn put(into: &mut [u8], done: usize, bytes: &[u8]) -> usize
     requires { done ≤ length into.old }
     ensures put { into.new ≡ with_part into.old done (take (length into.old - done) bytes.now) }
@@ -58,9 +58,9 @@ fn put_entry(into: &mut [u8], done: usize, entry: Dirent, name: &[u8]) -> usize
     put(into, named, name)
 }
 
-/// Puts the entries of a directory behind so many there, as far as there is room, and gives how
-/// many bytes they are. It takes no memory.
-fn put_entries(host: &Host, directory: u64, cookie: u64, into: &mut [u8]) -> usize
+/// Puts the entries of a directory after so many there, as far as there is room, and gives how many
+/// bytes they are. It takes no memory.
+fn put_entries(host: &WasiState, directory: u64, cookie: u64, into: &mut [u8]) -> usize
     ensures put { into.new
         ≡ take (length into.old) (entries_behind host.now.host.files directory cookie)
         ++ drop result into.old }
@@ -85,7 +85,7 @@ fn put_entries(host: &Host, directory: u64, cookie: u64, into: &mut [u8]) -> usi
 }
 
 /// `fd_readdir`.
-pub fn list(host: &Host, memory: &mut Memory, arguments: ListArguments) -> Result<(), Errno>
+pub fn list(host: &WasiState, memory: &mut Memory, arguments: ListArguments) -> Result<(), Errno>
     ensures done { OnOk result (fd_readdir arguments.fd arguments.buffer arguments.len
         arguments.cookie arguments.ret memory.old.bytes host.now.host
         ≡ Ok (record { memory = memory.new.bytes; host = host.now.host })) }
@@ -105,7 +105,12 @@ pub fn list(host: &Host, memory: &mut Memory, arguments: ListArguments) -> Resul
 }
 
 /// Puts the entries of a directory into the buffer, and gives how many bytes they are.
-fn list_entries(host: &Host, memory: &mut Memory, directory: u64, arguments: ListArguments) -> u32
+fn list_entries(
+    host: &WasiState,
+    memory: &mut Memory,
+    directory: u64,
+    arguments: ListArguments,
+) -> u32
     requires { arguments.buffer + arguments.len ≤ length memory.old.bytes }
     ensures put { memory.new ≡ with_bytes arguments.buffer (take arguments.len
         (entries_behind host.now.host.files directory arguments.cookie)) memory.old }

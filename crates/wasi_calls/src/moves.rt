@@ -1,16 +1,16 @@
 //! What the calls that move bytes have in common: their arguments and their checks.
 
-ghost use Rattle.std.specs.Prelude.{◌≡◌, ◌^◌, IfOk, IfErr, Err};
+ghost use Rattle.std.specs.Prelude.{◌≡◌, ◌^◌, [], IfOk, OnOk, IfErr, Err};
 ghost use Rattle.wasi_abi.specs.Bits.{bit_of};
 ghost use Rattle.wasi_abi.specs.rules.Numbers.{rights_number};
-ghost use Rattle.wasi_calls_rules.specs.Hosts.{Node, IsThere};
+ghost use Rattle.wasi_calls_rules.specs.WasiStates.{Node, IsThere};
 ghost use Rattle.wasi_calls_rules.specs.Checks.{Refuses};
 ghost use Rattle.file_tree.specs.rules.Files.{is_directory};
 ghost use Rattle.std.specs.Prelude.{false};
 ghost use Rattle.wasi_calls.specs.Moves.{wanted, wanted_at, PassesChecks, AtNode};
 
 use crate::buffers::Buffers;
-use crate::host::Host;
+use crate::host::WasiState;
 use crate::memory::in_range;
 use guest_memory::Memory;
 use wasi_abi::{Errno, Rights};
@@ -39,24 +39,20 @@ pub struct PlacedArguments {
     pub ret: u32,
 }
 
-/// A move that has passed all checks: the file, and the buffers.
-#[derive(Drop)]
-pub struct PlacedMove {
-    pub node: u64,
-    pub buffers: Buffers,
-}
-
-/// Makes all checks of `fd_read` or `fd_write`, which needs this right. It takes no memory.
+/// Makes all checks of `fd_read` or `fd_write`, which needs this right, and gives its buffers. It
+/// takes no memory.
 pub fn check(
-    host: &Host,
+    host: &WasiState,
     memory: &Memory,
     arguments: MoveArguments,
     right: Rights,
-) -> Result<Buffers, Errno>
+    buffers: &mut Buffers,
+) -> Result<(), Errno>
+    requires none { buffers.old ≡ [] }
     requires one { rights_number right ≡ 2 ^ bit_of (rights_number right) }
-    ensures passed { IfOk result (λ bs. PassesChecks memory.now.bytes host.now.host arguments.fd
+    ensures passed { OnOk result (PassesChecks memory.now.bytes host.now.host arguments.fd
         arguments.ret (wanted (bit_of (rights_number right)) arguments.fd arguments.iovecs
-        arguments.count arguments.ret memory.now.bytes host.now.host) bs) }
+        arguments.count arguments.ret memory.now.bytes host.now.host) buffers.new) }
     ensures refused { IfErr result (λ e. wanted (bit_of (rights_number right)) arguments.fd
         arguments.iovecs arguments.count arguments.ret memory.now.bytes host.now.host
         ≡ Err (Refuses e)) }
@@ -64,25 +60,25 @@ pub fn check(
     let descriptor = host.descriptor(arguments.fd)?;
     host.no_directory(descriptor)?;
     descriptor.check_right(right)?;
-    let buffers = Buffers::from_iovecs(memory, arguments.iovecs, arguments.count)?;
-    in_range(memory, arguments.ret, 4)?;
-    Ok(buffers)
+    buffers.read_iovecs(memory, arguments.iovecs, arguments.count)?;
+    in_range(memory, arguments.ret, 4)
 }
 
-/// Makes all checks of `fd_pread` or `fd_pwrite`, which needs this right beside `fd_seek`. It
-/// takes no
-/// memory.
+/// Makes all checks of `fd_pread` or `fd_pwrite`, which needs this right beside `fd_seek`, and
+/// gives its buffers. It returns the file. It takes no memory.
 pub fn check_placed(
-    host: &Host,
+    host: &WasiState,
     memory: &Memory,
     arguments: PlacedArguments,
     right: Rights,
-) -> Result<PlacedMove, Errno>
+    buffers: &mut Buffers,
+) -> Result<u64, Errno>
+    requires none { buffers.old ≡ [] }
     requires one { rights_number right ≡ 2 ^ bit_of (rights_number right) }
-    ensures passed { IfOk result (λ p. PassesChecks memory.now.bytes host.now.host arguments.fd
+    ensures passed { OnOk result (PassesChecks memory.now.bytes host.now.host arguments.fd
         arguments.ret (wanted_at (bit_of (rights_number right)) arguments.fd arguments.iovecs
-        arguments.count arguments.ret memory.now.bytes host.now.host) p.buffers) }
-    ensures file { IfOk result (λ p. AtNode host.now.host arguments.fd p.node) }
+        arguments.count arguments.ret memory.now.bytes host.now.host) buffers.new) }
+    ensures file { IfOk result (λ node. AtNode host.now.host arguments.fd node) }
     ensures refused { IfErr result (λ e. wanted_at (bit_of (rights_number right)) arguments.fd
         arguments.iovecs arguments.count arguments.ret memory.now.bytes host.now.host
         ≡ Err (Refuses e)) }
@@ -91,7 +87,7 @@ pub fn check_placed(
     let node = host.a_file(descriptor)?;
     descriptor.check_right(right)?;
     descriptor.check_right(Rights::FD_SEEK)?;
-    let buffers = Buffers::from_iovecs(memory, arguments.iovecs, arguments.count)?;
+    buffers.read_iovecs(memory, arguments.iovecs, arguments.count)?;
     in_range(memory, arguments.ret, 4)?;
-    Ok(PlacedMove { node, buffers })
+    Ok(node)
 }

@@ -4,13 +4,13 @@ ghost use Rattle.std.specs.Prelude.{◌≡◌, ◌<◌, ◌^◌, pos, ◌+ℤ◌
 ghost use Rattle.std.specs.Int.{w64, cast_signed};
 ghost use Rattle.wasi_calls_rules.specs.Checks.{Refuses};
 ghost use Rattle.wasi_calls_rules.specs.Small.{fd_seek, fd_tell, file_offset, seek_base};
-ghost use Rattle.wasi_calls_rules.specs.Hosts.{Node, IsDescriptor};
+ghost use Rattle.wasi_calls_rules.specs.WasiStates.{Node, IsDescriptor};
 ghost use Rattle.wasi_abi.specs.rules.Numbers.{whence_number};
 ghost use Rattle.wasi_calls.specs.Steps.{GivesValue};
 ghost use Rattle.wasi_calls.specs.rules.Calls.{IsAsLarge};
 
 use crate::descriptor::{Descriptor, OFFSETS_END};
-use crate::host::Host;
+use crate::host::WasiState;
 use crate::memory::in_range;
 use guest_memory::Memory;
 use wasi_abi::{Errno, Rights, Whence};
@@ -47,7 +47,7 @@ fn offset_by(base: u64, delta: u64) -> Result<u64, Errno>
 }
 
 /// The place that an offset counts from, in a file that is open.
-fn base(host: &Host, descriptor: &Descriptor, node: u64, whence: Whence) -> u64
+fn base(host: &WasiState, descriptor: &Descriptor, node: u64, whence: Whence) -> u64
     requires named { descriptor.now.target ≡ Node node }
     requires is { IsDescriptor host.now.host.files descriptor.now }
     ensures base { result ≡ seek_base host.now.host descriptor.now (whence_number whence) }
@@ -61,7 +61,11 @@ fn base(host: &Host, descriptor: &Descriptor, node: u64, whence: Whence) -> u64
 }
 
 /// `fd_seek`.
-pub fn seek(host: &mut Host, memory: &mut Memory, arguments: SeekArguments) -> Result<(), Errno>
+pub fn seek(
+    host: &mut WasiState,
+    memory: &mut Memory,
+    arguments: SeekArguments,
+) -> Result<(), Errno>
     ensures done { OnOk result (fd_seek arguments.fd arguments.delta arguments.whence arguments.ret
         memory.old.bytes host.old.host
         ≡ Ok (record { memory = memory.new.bytes; host = host.new.host })) }
@@ -84,7 +88,7 @@ pub fn seek(host: &mut Host, memory: &mut Memory, arguments: SeekArguments) -> R
 }
 
 /// `fd_tell`.
-pub fn tell(host: &Host, memory: &mut Memory, fd: u32, ret: u32) -> Result<(), Errno>
+pub fn tell(host: &WasiState, memory: &mut Memory, fd: u32, ret: u32) -> Result<(), Errno>
     ensures done { OnOk result (fd_tell fd ret memory.old.bytes host.now.host
         ≡ Ok (record { memory = memory.new.bytes; host = host.now.host })) }
     ensures refused { IfErr result (λ e. fd_tell fd ret memory.old.bytes host.now.host

@@ -2,22 +2,22 @@
 
 ghost use Rattle.std.specs.Prelude.{◌≡◌, ℕ, ◌+◌, ◌≤◌, length, option_copied, OnOk, IfErr, Ok};
 ghost use Rattle.wasi_abi.specs.rules.Answers.{Fits};
-ghost use Rattle.wasi_abi.specs.declared.answer.Kind.TheVariants.{Random};
-ghost use Rattle.wasi_calls_rules.specs.Hosts.{Host as TheHost};
+ghost use Rattle.wasi_abi.specs.declared.answer.Question.TheVariants.{Random};
+ghost use Rattle.wasi_calls_rules.specs.WasiStates.{WasiState as TheWasiState};
 ghost use Rattle.wasi_calls_rules.specs.Small.{random_get, random_put};
 ghost use Rattle.wasi_calls.specs.Steps.{StopsStep};
 ghost use Rattle.wasi_calls.specs.rules.Calls.{IsAsLarge};
 
-use crate::host::Host;
+use crate::host::WasiState;
 use crate::memory::in_range;
 use crate::stop::CallStop;
 use guest_memory::Memory;
-use wasi_abi::{Answer, Errno, Kind};
+use wasi_abi::{Answer, Errno, Question};
 
 /// `random_get`, with the bytes that it asked for before, where they are there. Where it is
 /// refused or asks, nothing has changed.
 pub fn get(
-    host: &Host,
+    host: &WasiState,
     memory: &mut Memory,
     buffer: u32,
     len: u32,
@@ -38,7 +38,7 @@ pub fn get(
     if len == 0 {
         return Ok(());
     }
-    let answer = host.fitting_answer(Kind::Random { length: len }, answer)?;
+    let answer = host.fitting_answer(Question::Random { length: len }, answer)?;
     put(memory, buffer, len, answer);
     Ok(())
 }
@@ -47,7 +47,7 @@ pub fn get(
 fn put(memory: &mut Memory, buffer: u32, len: u32, answer: &Answer)
     requires room { buffer + len ≤ length memory.old.bytes }
     requires fits { (limit : ℕ) × Fits limit (Random len) answer.now }
-    ensures put { (h : TheHost) → random_put answer.now buffer memory.old.bytes h
+    ensures put { (h : TheWasiState) → random_put answer.now buffer memory.old.bytes h
         ≡ Ok (record { memory = memory.new.bytes; host = h }) }
     ensures large { IsAsLarge memory.old memory.new }
 {

@@ -6,17 +6,17 @@ ghost use Rattle.wasi_calls_rules.specs.Moving.{fd_read, fd_pread};
 ghost use Rattle.wasi_calls.specs.rules.Calls.{IsAsLarge};
 ghost use Rattle.wasi_calls.specs.Steps.{StopsStep};
 
-use crate::host::Host;
+use crate::buffers::Buffers;
+use crate::host::WasiState;
 use crate::moves::{MoveArguments, PlacedArguments, check, check_placed};
 use crate::stop::CallStop;
 use guest_memory::Memory;
 use wasi_abi::{Answer, Errno, Rights};
 
-/// `fd_read`, with the line that it asked for before, where one is there. Where it is refused,
-/// asks or
-/// lacks memory, nothing has changed.
+/// `fd_read`, with the line that it asked for before, where one is there. Where it is refused, asks
+/// or lacks memory, nothing has changed.
 pub fn read(
-    host: &mut Host,
+    host: &mut WasiState,
     memory: &mut Memory,
     arguments: MoveArguments,
     answer: Option<&Answer>,
@@ -32,14 +32,19 @@ pub fn read(
     ensures released { host.new.released ≡ host.old.released }
     ensures large { IsAsLarge memory.old memory.new }
 {
-    let buffers = check(host, memory, arguments, Rights::FD_READ)?;
+    let mut buffers = Buffers::new();
+    check(host, memory, arguments, Rights::FD_READ, &mut buffers)?;
     let moved = host.take(arguments.fd, memory, &buffers, answer)?;
     memory.store_u32(arguments.ret, 0, moved as u32).unwrap();
     Ok(())
 }
 
 /// `fd_pread`. Where it is refused, nothing has changed.
-pub fn read_at(host: &Host, memory: &mut Memory, arguments: PlacedArguments) -> Result<(), Errno>
+pub fn read_at(
+    host: &WasiState,
+    memory: &mut Memory,
+    arguments: PlacedArguments,
+) -> Result<(), Errno>
     ensures done { OnOk result (fd_pread arguments.fd arguments.iovecs arguments.count
         arguments.offset arguments.ret memory.old.bytes host.now.host
         ≡ Ok (record { memory = memory.new.bytes; host = host.now.host })) }
@@ -48,8 +53,9 @@ pub fn read_at(host: &Host, memory: &mut Memory, arguments: PlacedArguments) -> 
     ensures kept { IfErr result (λ _. memory.new ≡ memory.old) }
     ensures large { IsAsLarge memory.old memory.new }
 {
-    let checked = check_placed(host, memory, arguments, Rights::FD_READ)?;
-    let moved = host.read_file(checked.node, arguments.offset, memory, &checked.buffers);
+    let mut buffers = Buffers::new();
+    let node = check_placed(host, memory, arguments, Rights::FD_READ, &mut buffers)?;
+    let moved = host.read_file(node, arguments.offset, memory, &buffers);
     memory.store_u32(arguments.ret, 0, moved as u32).unwrap();
     Ok(())
 }

@@ -2,7 +2,7 @@
 
 ghost use Rattle.std.specs.Prelude.{◌≡◌, ◌++◌, ◌∷◌, [], OnOk, IfErr, Ok};
 ghost use Rattle.file_tree.specs.rules.Changes.{path_at};
-ghost use Rattle.wasi_calls_rules.specs.Hosts.{IsHost};
+ghost use Rattle.wasi_calls_rules.specs.WasiStates.{IsWasiState};
 ghost use Rattle.wasi_calls_rules.specs.Checks.{Bytes};
 ghost use Rattle.wasi_calls_rules.specs.Entries.{gives_way, is_same_node, renamed_over};
 ghost use Rattle.wasi_calls_rules.specs.Entries.{path_rename};
@@ -11,7 +11,7 @@ ghost use Rattle.wasi_calls.specs.Renamings.{MayTake, place_renamed};
 ghost use Rattle.wasi_calls.specs.Steps.{GivesValue, StopsStep};
 
 use crate::descriptor::Names;
-use crate::host::Host;
+use crate::host::WasiState;
 use crate::paths::{PathNames, Place, find_place, path_bytes};
 use crate::stop::CallStop;
 use file_tree::ByteList;
@@ -30,7 +30,7 @@ pub struct RenameArguments {
     pub new_len: u32,
 }
 
-/// Whether a node is the one that stands at its target.
+/// Whether a node is the one that is at its target.
 fn is_same(node: u64, replaced: Option<u64>) -> bool
     ensures { result ≡ is_same_node node replaced }
 {
@@ -40,10 +40,10 @@ fn is_same(node: u64, replaced: Option<u64>) -> bool
     }
 }
 
-/// Nothing where what stands at a target gives way to a node. `Isdir` where a file comes to a
+/// Nothing where what is at a target gives way to a node. `Isdir` where a file comes to a
 /// directory, `Notdir` where a directory comes to a file, and `Notempty` where that directory has
 /// entries.
-fn check_way(host: &Host, node: u64, replaced: Option<u64>) -> Result<(), Errno>
+fn check_way(host: &WasiState, node: u64, replaced: Option<u64>) -> Result<(), Errno>
     ensures { GivesValue (λ x. x) result (gives_way host.now.host.files node replaced) }
 {
     let Some(other) = replaced else {
@@ -66,8 +66,14 @@ fn check_way(host: &Host, node: u64, replaced: Option<u64>) -> Result<(), Errno>
 }
 
 /// Gives a node a name in a directory. What stood there loses its path.
-fn rename_over(host: &mut Host, node: u64, replaced: Option<u64>, directory: u64, name: ByteList)
-    requires shape { IsHost host.old.host }
+fn rename_over(
+    host: &mut WasiState,
+    node: u64,
+    replaced: Option<u64>,
+    directory: u64,
+    name: ByteList,
+)
+    requires shape { IsWasiState host.old.host }
     requires may { MayTake host.old.host.files node directory name replaced }
     ensures { host.new ≡ record host.old {
       host = renamed_over node replaced
@@ -87,7 +93,7 @@ fn rename_over(host: &mut Host, node: u64, replaced: Option<u64>, directory: u64
 /// Renames what is at a place to another place.
 fn rename_place(
     alloc: Global,
-    host: &mut Host,
+    host: &mut WasiState,
     source: Place<'_>,
     target: Place<'_>,
 ) -> Result<(), CallStop>
@@ -128,7 +134,7 @@ fn rename_place(
 /// `path_rename`.
 pub fn rename(
     alloc: Global,
-    host: &mut Host,
+    host: &mut WasiState,
     memory: &Memory,
     arguments: RenameArguments,
 ) -> Result<(), CallStop>

@@ -12,7 +12,7 @@ ghost use Rattle.wasi_calls.specs.Views.{target_of};
 ghost use Rattle.wasi_calls.specs.rules.Calls.{IsAsLarge};
 
 use crate::descriptor::{Names, PREOPENED};
-use crate::host::Host;
+use crate::host::WasiState;
 use crate::memory::in_range;
 use guest_memory::Memory;
 use wasi_abi::{
@@ -20,7 +20,7 @@ use wasi_abi::{
 };
 
 /// `fd_fdstat_get`.
-pub fn get_fdstat(host: &Host, memory: &mut Memory, fd: u32, ret: u32) -> Result<(), Errno>
+pub fn get_fdstat(host: &WasiState, memory: &mut Memory, fd: u32, ret: u32) -> Result<(), Errno>
     ensures done { OnOk result (fd_fdstat_get fd ret memory.old.bytes host.now.host
         ≡ Ok (record { memory = memory.new.bytes; host = host.now.host })) }
     ensures refused { IfErr result (λ e. fd_fdstat_get fd ret memory.old.bytes host.now.host
@@ -43,7 +43,7 @@ pub fn get_fdstat(host: &Host, memory: &mut Memory, fd: u32, ret: u32) -> Result
 }
 
 /// `fd_fdstat_set_flags`.
-pub fn set_flags(host: &mut Host, fd: u32, flags: u32) -> Result<(), Errno>
+pub fn set_flags(host: &mut WasiState, fd: u32, flags: u32) -> Result<(), Errno>
     ensures done { (m : Bytes) → OnOk result (fd_fdstat_set_flags fd flags m host.old.host
         ≡ Ok (record { memory = m; host = host.new.host })) }
     ensures refused { (m : Bytes) → IfErr result (λ e. fd_fdstat_set_flags fd flags m host.old.host
@@ -59,7 +59,7 @@ pub fn set_flags(host: &mut Host, fd: u32, flags: u32) -> Result<(), Errno>
 }
 
 /// `fd_filestat_get`.
-pub fn get_filestat(host: &Host, memory: &mut Memory, fd: u32, ret: u32) -> Result<(), Errno>
+pub fn get_filestat(host: &WasiState, memory: &mut Memory, fd: u32, ret: u32) -> Result<(), Errno>
     ensures done { OnOk result (fd_filestat_get fd ret memory.old.bytes host.now.host
         ≡ Ok (record { memory = memory.new.bytes; host = host.now.host })) }
     ensures refused { IfErr result (λ e. fd_filestat_get fd ret memory.old.bytes host.now.host
@@ -75,7 +75,7 @@ pub fn get_filestat(host: &Host, memory: &mut Memory, fd: u32, ret: u32) -> Resu
 }
 
 /// Puts what is told of what is named where there is room.
-pub fn put_filestat(host: &Host, memory: &mut Memory, names: Names, ret: u32)
+pub fn put_filestat(host: &WasiState, memory: &mut Memory, names: Names, ret: u32)
     requires { ret + FILESTAT_BYTES ≤ length memory.old.bytes }
     ensures put { memory.new
         ≡ with_bytes ret (filestat_bytes_of host.now.host (target_of names)) memory.old }
@@ -87,7 +87,7 @@ pub fn put_filestat(host: &Host, memory: &mut Memory, names: Names, ret: u32)
 }
 
 /// `fd_prestat_get`.
-pub fn get_prestat(host: &Host, memory: &mut Memory, fd: u32, ret: u32) -> Result<(), Errno>
+pub fn get_prestat(host: &WasiState, memory: &mut Memory, fd: u32, ret: u32) -> Result<(), Errno>
     ensures done { OnOk result (fd_prestat_get fd ret memory.old.bytes host.now.host
         ≡ Ok (record { memory = memory.new.bytes; host = host.now.host })) }
     ensures refused { IfErr result (λ e. fd_prestat_get fd ret memory.old.bytes host.now.host
@@ -108,7 +108,7 @@ pub fn get_prestat(host: &Host, memory: &mut Memory, fd: u32, ret: u32) -> Resul
 
 /// `fd_prestat_dir_name`.
 pub fn get_prestat_name(
-    host: &Host,
+    host: &WasiState,
     memory: &mut Memory,
     fd: u32,
     path: u32,

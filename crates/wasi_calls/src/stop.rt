@@ -5,13 +5,13 @@ ghost use Rattle.wasi_calls.specs.declared.stop.CallStop.TheVariants.{Refused};
 ghost use Rattle.wasi_calls.specs.declared.stop.CallStop.TheVariants.{Memory as WantOfMemory};
 
 use std::alloc::AllocError;
-use wasi_abi::{Errno, Kind};
+use wasi_abi::{Errno, Question};
 
 /// Why a step of a call didn't give what it is to give.
 #[derive(Clone, Copy, Debug, PartialEq, Eq)]
 pub enum CallStop {
     Refused(Errno),
-    Asks(Kind),
+    Asks(Question),
     Memory,
 }
 

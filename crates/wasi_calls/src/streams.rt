@@ -1,11 +1,13 @@
 //! The output streams, and the lines that wait to be released.
 
-ghost use Rattle.std.specs.Prelude.{◌≡◌, ◌+◌, ◌<◌, ◌≤◌, ◌^◌, ◌++◌, ◌==◌, ◌&&◌};
-ghost use Rattle.std.specs.Prelude.{nat_le, if◌then◌else◌, [], length, drop, IfOk, OnOk, OnErr};
+ghost use Rattle.std.specs.Prelude.{◌≡◌, ◌+◌, ◌<◌, ◌≤◌, ◌^◌, ◌++◌, ◌&&◌};
+ghost use Rattle.std.specs.Prelude.{nat_le, [], length, drop, IfOk, OnOk, OnErr};
 ghost use Rattle.std.specs.Prelude.{vec_len, vec_capacity};
 ghost use Rattle.wasi_calls_rules.specs.Checks.{gathered, has_no_newline};
-ghost use Rattle.wasi_calls_rules.specs.Lines.{cut_all, rest_of};
+ghost use Rattle.wasi_calls_rules.specs.Lines.{cut_all, output_stream, rest_of};
 ghost use Rattle.wasi_calls_rules.specs.declared.limits.TheConstants.{LINE_BYTES};
+ghost use Rattle.wasi_calls_rules.specs.declared.output_stream.OutputStream.TheVariants.{Stdout};
+ghost use Rattle.wasi_calls_rules.specs.declared.output_stream.OutputStream.TheVariants.{Stderr};
 ghost use Rattle.wasi_calls.specs.Moves.{total_len, AreInside};
 
 use crate::buffers::Buffers;
@@ -15,12 +17,13 @@ use guest_memory::Memory;
 use std::alloc::{AllocError, Global};
 use std::marker::Model;
 use std::mem;
+use wasi_calls_rules::OutputStream;
 use wasi_calls_rules::limits::LINE_BYTES;
 
 /// How many streams are written: each may have an unfinished line.
 const STREAMS_WRITTEN: usize = 2;
 
-/// What was written to streams 1 and 2 and not released yet. There is always room for the lines
+/// What was written to stdout and stderr and not released yet. There is always room for the lines
 /// that an end would emit.
 #[derive(Drop)]
 pub struct Streams {
@@ -53,7 +56,7 @@ impl Model for Streams {
 
 impl Streams {
     ghost use Rattle.wasi_calls.specs.rules.Outputs.{no_output, output_written, output_ended};
-    ghost use Rattle.wasi_calls.specs.rules.Outputs.{left_lines};
+    ghost use Rattle.wasi_calls.specs.rules.Outputs.{unfinished_in, lines_at_end};
 
     /// Nothing was written.
     pub fn new(alloc: Global) -> Streams
@@ -67,8 +70,8 @@ impl Streams {
         }
     }
 
-    /// Lines that are not finished, behind so many that were released. It fails for want of memory
-    /// alone.
+    /// Lines that are not finished, after so many that were released. It fails only when out of
+    /// memory.
     pub fn of_unfinished(
         alloc: Global,
         first: Vec<u8>,
@@ -90,13 +93,12 @@ impl Streams {
         })
     }
 
-    /// Writes the bytes of buffers to stream 1, or else to 2. It fails for want of memory alone,
-    /// and
-    /// changes nothing then.
+    /// Writes the bytes of buffers to a stream. It fails only when out of memory, and changes
+    /// nothing then.
     pub fn write(
         &mut self,
         alloc: Global,
-        stream: u8,
+        stream: OutputStream,
         memory: &Memory,
         buffers: &Buffers,
     ) -> Result<(), AllocError>
@@ -105,10 +107,9 @@ impl Streams {
             ≡ output_written stream (gathered memory.now.bytes buffers.now) self.old) }
         ensures unchanged { OnErr result (self.new ≡ self.old) }
     {
-        if stream == 1 {
-            self.write_first(alloc, memory, buffers)
-        } else {
-            self.write_second(alloc, memory, buffers)
+        match stream {
+            OutputStream::Stdout => self.write_first(alloc, memory, buffers),
+            OutputStream::Stderr => self.write_second(alloc, memory, buffers),
         }
     }
 
@@ -120,12 +121,12 @@ impl Streams {
     ) -> Result<(), AllocError>
         requires { AreInside memory.now.bytes buffers.now }
         ensures written { OnOk result (self.new
-            ≡ output_written 1 (gathered memory.now.bytes buffers.now) self.old) }
+            ≡ output_written Stdout (gathered memory.now.bytes buffers.now) self.old) }
         ensures unchanged { OnErr result (self.new ≡ self.old) }
     {
         put(
             alloc,
-            1,
+            OutputStream::Stdout,
             &mut self.first,
             &mut self.waiting,
             memory,
@@ -141,12 +142,12 @@ impl Streams {
     ) -> Result<(), AllocError>
         requires { AreInside memory.now.bytes buffers.now }
         ensures written { OnOk result (self.new
-            ≡ output_written 2 (gathered memory.now.bytes buffers.now) self.old) }
+            ≡ output_written Stderr (gathered memory.now.bytes buffers.now) self.old) }
         ensures unchanged { OnErr result (self.new ≡ self.old) }
     {
         put(
             alloc,
-            2,
+            OutputStream::Stderr,
             &mut self.second,
             &mut self.waiting,
             memory,
@@ -154,20 +155,19 @@ impl Streams {
         )
     }
 
-    /// The unfinished line of stream 1, or else of 2.
-    pub fn unfinished_line(&self, stream: u8) -> &[u8]
-        ensures { result.now ≡ (if stream == 1 then self.now.first else self.now.second) }
+    /// The unfinished line of a stream.
+    pub fn unfinished_line(&self, stream: OutputStream) -> &[u8]
+        ensures { result.now ≡ unfinished_in stream self.now }
     {
-        if stream == 1 {
-            self.first.as_slice()
-        } else {
-            self.second.as_slice()
+        match stream {
+            OutputStream::Stdout => self.first.as_slice(),
+            OutputStream::Stderr => self.second.as_slice(),
         }
     }
 
     /// How many lines are unfinished.
     pub fn unfinished_line_count(&self) -> usize
-        ensures value { result ≡ length (left_lines self.now) }
+        ensures value { result ≡ length (lines_at_end self.now) }
         ensures few { result ≤ 2 }
     {
         usize::from(!self.first.is_empty()) + usize::from(!self.second.is_empty())
@@ -206,17 +206,28 @@ impl Streams {
     {
         let first = mem::replace(&mut self.first, Vec::new(alloc));
         let second = mem::replace(&mut self.second, Vec::new(alloc));
-        emit_rest(&mut self.waiting, 1, first);
-        emit_rest(&mut self.waiting, 2, second);
+        emit_rest(&mut self.waiting, OutputStream::Stdout, first);
+        emit_rest(&mut self.waiting, OutputStream::Stderr, second);
     }
 }
 
-/// Puts the bytes of buffers behind a stream's unfinished line, and the lines that they end behind
+/// The stream that a descriptor of this number writes to.
+pub fn output_stream(number: u8) -> OutputStream
+    ensures { result ≡ output_stream number }
+{
+    if number == 1 {
+        OutputStream::Stdout
+    } else {
+        OutputStream::Stderr
+    }
+}
+
+/// Puts the bytes of buffers after a stream's unfinished line, and the lines that they end after
 /// those that wait. Bytes that end none are put in place: a line that is written byte by byte isn't
 /// copied.
 fn put(
     alloc: Global,
-    stream: u8,
+    stream: OutputStream,
     unfinished: &mut Vec<u8>,
     waiting: &mut Vec<Line>,
     memory: &Memory,
@@ -243,7 +254,7 @@ fn put(
     Ok(())
 }
 
-/// Whether the bytes of buffers end no line behind an unfinished one.
+/// Whether the bytes of buffers end no line after an unfinished one.
 fn ends_no_line(unfinished: &[u8], memory: &Memory, buffers: &Buffers) -> bool
     requires { AreInside memory.now.bytes buffers.now }
     ensures { result ≡ (nat_le (length unfinished.now + total_len buffers.now) LINE_BYTES
@@ -277,7 +288,7 @@ pub fn is_without_newline(bytes: &[u8]) -> bool
     true
 }
 
-/// Puts the bytes of buffers behind others. After a failure they are as they were.
+/// Puts the bytes of buffers after others. After a failure they are as they were.
 fn append(bytes: &mut Vec<u8>, memory: &Memory, buffers: &Buffers) -> Result<(), AllocError>
     requires { AreInside memory.now.bytes buffers.now }
     ensures appended { OnOk result (bytes.new.items
@@ -291,8 +302,7 @@ fn append(bytes: &mut Vec<u8>, memory: &Memory, buffers: &Buffers) -> Result<(),
     Ok(())
 }
 
-/// Puts lines behind the others, with room for two more. After a failure the lines are as they
-/// were.
+/// Puts lines after the others, with room for two more. After a failure the lines are as they were.
 fn emit(waiting: &mut Vec<Line>, mut lines: Vec<Line>) -> Result<(), AllocError>
     ensures emitted { OnOk result (waiting.new.items ≡ waiting.old.items ++ lines.items) }
     ensures room { OnOk result (vec_len waiting.new + 2 ≤ vec_capacity waiting.new) }
@@ -304,8 +314,8 @@ fn emit(waiting: &mut Vec<Line>, mut lines: Vec<Line>) -> Result<(), AllocError>
     Ok(())
 }
 
-/// Puts a line that is not finished behind the others, where it has any byte.
-fn emit_rest(waiting: &mut Vec<Line>, stream: u8, text: Vec<u8>)
+/// Puts a line that is not finished after the others, where it has any byte.
+fn emit_rest(waiting: &mut Vec<Line>, stream: OutputStream, text: Vec<u8>)
     requires { vec_len waiting.old + length (rest_of stream text.items) ≤ vec_capacity waiting.old }
     ensures emitted { waiting.new.items ≡ waiting.old.items ++ rest_of stream text.items }
     ensures capacity { vec_capacity waiting.old ≤ vec_capacity waiting.new }

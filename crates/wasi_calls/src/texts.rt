@@ -3,7 +3,7 @@
 ghost use Rattle.std.specs.Prelude.{◌≡◌, ◌+◌, ◌*◌, ◌≤◌, ◌^◌, length, OnOk, IfErr, Ok, Err};
 ghost use Rattle.guest_memory.specs.rules.Memories.{with_bytes};
 ghost use Rattle.wasi_abi.specs.declared.config.TheConstants.{MOST_TEXTS};
-ghost use Rattle.wasi_calls_rules.specs.Hosts.{Host as TheHost};
+ghost use Rattle.wasi_calls_rules.specs.WasiStates.{WasiState as TheWasiState};
 ghost use Rattle.wasi_calls_rules.specs.Checks.{Refuses};
 ghost use Rattle.wasi_calls_rules.specs.Small.{with_zeros, pointers_to};
 ghost use Rattle.wasi_calls_rules.specs.Small.{texts_get, texts_sizes_get};
@@ -13,17 +13,22 @@ ghost use Rattle.wasi_calls.specs.rules.Calls.{IsAsLarge};
 use crate::memory::in_range;
 use guest_memory::Memory;
 use wasi_abi::Errno;
-use wasm_syntax::Row;
+use wasm_syntax::ItemList;
 
 /// Bytes of a pointer.
 const POINTER_BYTES: u32 = 4;
 
 /// `args_get` and `environ_get`: where each text begins, and the texts.
-pub fn get(texts: &[Row<u8>], memory: &mut Memory, array: u32, buffer: u32) -> Result<(), Errno>
+pub fn get(
+    texts: &[ItemList<u8>],
+    memory: &mut Memory,
+    array: u32,
+    buffer: u32,
+) -> Result<(), Errno>
     requires few { AreFewTexts texts.now }
-    ensures done { (h : TheHost) → OnOk result (texts_get texts.now array buffer memory.old.bytes h
-        ≡ Ok (record { memory = memory.new.bytes; host = h })) }
-    ensures refused { (h : TheHost) → IfErr result (λ e.
+    ensures done { (h : TheWasiState) → OnOk result (texts_get texts.now array buffer
+        memory.old.bytes h ≡ Ok (record { memory = memory.new.bytes; host = h })) }
+    ensures refused { (h : TheWasiState) → IfErr result (λ e.
         texts_get texts.now array buffer memory.old.bytes h ≡ Err (Refuses e)) }
     ensures kept { IfErr result (λ _. memory.new ≡ memory.old) }
     ensures large { IsAsLarge memory.old memory.new }
@@ -36,11 +41,16 @@ pub fn get(texts: &[Row<u8>], memory: &mut Memory, array: u32, buffer: u32) -> R
 }
 
 /// `args_sizes_get` and `environ_sizes_get`: how many texts there are, and of how many bytes.
-pub fn get_sizes(texts: &[Row<u8>], memory: &mut Memory, count: u32, size: u32) -> Result<(), Errno>
+pub fn get_sizes(
+    texts: &[ItemList<u8>],
+    memory: &mut Memory,
+    count: u32,
+    size: u32,
+) -> Result<(), Errno>
     requires few { AreFewTexts texts.now }
-    ensures done { (h : TheHost) → OnOk result (texts_sizes_get texts.now count size
+    ensures done { (h : TheWasiState) → OnOk result (texts_sizes_get texts.now count size
         memory.old.bytes h ≡ Ok (record { memory = memory.new.bytes; host = h })) }
-    ensures refused { (h : TheHost) → IfErr result (λ e.
+    ensures refused { (h : TheWasiState) → IfErr result (λ e.
         texts_sizes_get texts.now count size memory.old.bytes h ≡ Err (Refuses e)) }
     ensures kept { IfErr result (λ _. memory.new ≡ memory.old) }
     ensures large { IsAsLarge memory.old memory.new }
@@ -52,8 +62,8 @@ pub fn get_sizes(texts: &[Row<u8>], memory: &mut Memory, count: u32, size: u32) 
     Ok(())
 }
 
-/// How many bytes texts have, each with a zero byte behind it.
-fn size_of(texts: &[Row<u8>]) -> u32
+/// How many bytes texts have, each with a zero byte after it.
+fn size_of(texts: &[ItemList<u8>]) -> u32
     requires { AreFewTexts texts.now }
     ensures { result ≡ length (with_zeros texts.now) }
 {
@@ -65,7 +75,7 @@ fn size_of(texts: &[Row<u8>]) -> u32
 }
 
 /// Puts into an array where each text begins, the first one at `buffer`.
-fn put_pointers(texts: &[Row<u8>], memory: &mut Memory, array: u32, buffer: u32)
+fn put_pointers(texts: &[ItemList<u8>], memory: &mut Memory, array: u32, buffer: u32)
     requires few { length texts.now ≤ MOST_TEXTS }
     requires room { array + 4 * length texts.now ≤ length memory.old.bytes }
     requires inside { buffer + length (with_zeros texts.now) ≤ 2 ^ 32 }
@@ -81,8 +91,8 @@ fn put_pointers(texts: &[Row<u8>], memory: &mut Memory, array: u32, buffer: u32)
     }
 }
 
-/// Puts the texts one behind another, each with a zero byte behind it.
-fn put_texts(texts: &[Row<u8>], memory: &mut Memory, buffer: u32)
+/// Puts the texts one after another, each with a zero byte after it.
+fn put_texts(texts: &[ItemList<u8>], memory: &mut Memory, buffer: u32)
     requires room { buffer + length (with_zeros texts.now) ≤ length memory.old.bytes }
     requires inside { length memory.old.bytes ≤ 2 ^ 32 }
     ensures put { memory.new ≡ with_bytes buffer (with_zeros texts.now) memory.old }

@@ -1,40 +1,46 @@
 //! `fd_write` and `fd_pwrite`.
 
 ghost use Rattle.std.specs.Prelude.{◌≡◌, ◌+◌, ◌≤◌, length, IfErr, OnOk, Ok, Err};
-ghost use Rattle.wasi_calls_rules.specs.Hosts.{Host as TheHost};
+ghost use Rattle.wasi_calls_rules.specs.WasiStates.{WasiState as TheWasiState};
 ghost use Rattle.wasi_calls_rules.specs.Checks.{Done, Halt};
 ghost use Rattle.wasi_calls_rules.specs.Lines.{lines_ended};
 ghost use Rattle.wasi_calls_rules.specs.Moving.{fd_write, fd_pwrite};
 ghost use Rattle.wasi_calls_rules.specs.declared.limits.TheConstants.{MOVED_BYTES};
-ghost use Rattle.wasi_calls.specs.rules.Held.{ShowsHost};
+ghost use Rattle.wasi_calls.specs.rules.Held.{ShowsWasiState};
 ghost use Rattle.wasi_calls.specs.rules.Calls.{IsAsLarge};
 ghost use Rattle.wasi_calls.specs.Steps.{StopsStep};
 
+use crate::buffers::Buffers;
 use crate::count::count_begun;
 use crate::descriptor::Names;
-use crate::host::Host;
+use crate::host::WasiState;
 use crate::moves::{MoveArguments, PlacedArguments, check, check_placed};
 use crate::stop::CallStop;
+use crate::streams::output_stream;
 use guest_memory::Memory;
 use std::alloc::Global;
 use wasi_abi::Rights;
 
 /// How many lines such a write would begin: none, where it is refused or goes to a file.
-pub fn lines_begun(host: &Host, memory: &Memory, arguments: MoveArguments) -> usize
-    ensures count { (h : TheHost) (done : Done) → ShowsHost host.now h
+pub fn lines_begun(host: &WasiState, memory: &Memory, arguments: MoveArguments) -> usize
+    ensures count { (h : TheWasiState) (done : Done) → ShowsWasiState host.now h
         → fd_write arguments.fd arguments.iovecs arguments.count arguments.ret memory.now.bytes h
         ≡ Ok done
         → length (lines_ended done.host).lines ≡ length (lines_ended h).lines + result }
-    ensures none { (h : TheHost) (halt : Halt) → ShowsHost host.now h
+    ensures none { (h : TheWasiState) (halt : Halt) → ShowsWasiState host.now h
         → fd_write arguments.fd arguments.iovecs arguments.count arguments.ret memory.now.bytes h
         ≡ Err halt → result ≡ 0 }
     ensures few { result ≤ MOVED_BYTES }
 {
-    let Ok(buffers) = check(host, memory, arguments, Rights::FD_WRITE) else {
+    let mut buffers = Buffers::new();
+    let Ok(()) = check(host, memory, arguments, Rights::FD_WRITE, &mut buffers) else {
         return 0;
     };
     match host.descriptor(arguments.fd).unwrap().names() {
-        Names::Stream(stream) => count_begun(memory, &buffers, host.unfinished_line(stream).len()),
+        Names::Stream(number) => {
+            let stream = output_stream(number);
+            count_begun(memory, &buffers, host.unfinished_line(stream).len())
+        }
         Names::Node(_) => 0,
     }
 }
@@ -42,7 +48,7 @@ pub fn lines_begun(host: &Host, memory: &Memory, arguments: MoveArguments) -> us
 /// `fd_write`. Where it is refused or lacks memory, nothing has changed.
 pub fn write(
     alloc: Global,
-    host: &mut Host,
+    host: &mut WasiState,
     memory: &mut Memory,
     arguments: MoveArguments,
 ) -> Result<(), CallStop>
@@ -56,7 +62,8 @@ pub fn write(
     ensures released { host.new.released ≡ host.old.released }
     ensures large { IsAsLarge memory.old memory.new }
 {
-    let buffers = check(host, memory, arguments, Rights::FD_WRITE)?;
+    let mut buffers = Buffers::new();
+    check(host, memory, arguments, Rights::FD_WRITE, &mut buffers)?;
     host.put(alloc, arguments.fd, memory, &buffers)?;
     memory
         .store_u32(arguments.ret, 0, buffers.len() as u32)
@@ -66,7 +73,7 @@ pub fn write(
 
 /// `fd_pwrite`. Where it is refused or lacks memory, nothing has changed.
 pub fn write_at(
-    host: &mut Host,
+    host: &mut WasiState,
     memory: &mut Memory,
     arguments: PlacedArguments,
 ) -> Result<(), CallStop>
@@ -80,10 +87,11 @@ pub fn write_at(
     ensures released { host.new.released ≡ host.old.released }
     ensures large { IsAsLarge memory.old memory.new }
 {
-    let checked = check_placed(host, memory, arguments, Rights::FD_WRITE)?;
-    host.write_file(checked.node, arguments.offset, memory, &checked.buffers)?;
+    let mut buffers = Buffers::new();
+    let node = check_placed(host, memory, arguments, Rights::FD_WRITE, &mut buffers)?;
+    host.write_file(node, arguments.offset, memory, &buffers)?;
     memory
-        .store_u32(arguments.ret, 0, checked.buffers.len() as u32)
+        .store_u32(arguments.ret, 0, buffers.len() as u32)
         .unwrap();
     Ok(())
 }

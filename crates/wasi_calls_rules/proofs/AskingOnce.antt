@@ -2,20 +2,20 @@
 use Rattle.std.proofs.Common.{◌≡◌, ◌≢◌, ℕ, List, [], ◌∷◌, sym, ap, subst}
 use Rattle.std.specs.Prelude.{Bool, true, false, if◌then◌else◌, Option, Some, None, Result, Ok, Err}
 use Rattle.wasi_abi.specs.declared.errno.Errno.{Errno}
-use Rattle.wasi_abi.specs.declared.answer.Kind.{Kind}
+use Rattle.wasi_abi.specs.declared.answer.Question.{Question}
 use Rattle.wasi_abi.specs.declared.answer.Answer.{Answer}
 use Rattle.wasi_abi.specs.declared.call.Call.TheVariants as call
 use Rattle.wasi_abi.specs.rules.Answers.{Fits}
 use Rattle.wasi_abi.specs.rules.Versions.{text_limit}
-use Rattle.wasi_calls_rules.specs.Hosts.{Target, Stream, Node, Descriptor, Host}
+use Rattle.wasi_calls_rules.specs.WasiStates.{Target, Stream, Node, Descriptor, WasiState}
 use Rattle.wasi_calls_rules.specs.Checks.{Bytes, Buffer, Halt, Refuses, Asks, Ends, ◌>>=◌, check_or}
 use Rattle.wasi_calls_rules.specs.Checks.{some_or, buffers, asked, does_fit, answered_by}
 use Rattle.wasi_calls_rules.specs.Small.{time_put, clock_time_get, random_put, random_get}
 use Rattle.wasi_calls_rules.specs.Moving.{input_taken, input_read, target_read, fd_read}
-use Rattle.wasi_calls_rules.specs.laws.Laws.{RowsAskOnce}
+use Rattle.wasi_calls_rules.specs.laws.Laws.{CallRulesAskOnce}
 use Rattle.wasi_calls_rules.proofs.Fitting.{tests_tell}
 use Rattle.wasi_calls_rules.proofs.Halting.{HaltsBy, done, buffers_halt, time_put_halts}
-use Rattle.wasi_calls_rules.proofs.Halting.{random_put_halts, input_taken_halts, few_rows_ask}
+use Rattle.wasi_calls_rules.proofs.Halting.{random_put_halts, input_taken_halts, few_call_rules_ask}
 
 abbrev IsRefusal : Halt → Type 0
 IsRefusal (Refuses e) = Unit {0}
@@ -28,12 +28,12 @@ refusals e = tt
 only_done : {A : Type 0} (x : A) → HaltsBy IsRefusal (Ok x)
 only_done x = done IsRefusal refusals x
 
-module _ (h : Host) (a : Answer) where
+module _ (h : WasiState) (a : Answer) where
   -- Without an answer, and with this one: where the first asks for one that this fits, the second
   -- asks for none.
   record AsksOnce {A : Type 0} (without with_it : Result A Halt) : Type 0 where
-    pub once : (k other : Kind) → without ≡ Err (Asks k) → Fits (text_limit h.version) k a → with_it ≢ Err
-        (Asks other)
+    pub once : (k other : Question) → without ≡ Err (Asks k) → Fits (text_limit h.version) k a
+        → with_it ≢ Err (Asks other)
 
   -- one that only refuses asks for nothing
   refuses_alone : {A : Type 0} (r s : Result A Halt) → HaltsBy IsRefusal r → AsksOnce r s
@@ -76,18 +76,19 @@ module _ (h : Host) (a : Answer) where
         once.once k other (ap (λ z. Err z) is) fits (ap (λ z. Err z) was);
   }
 
-  tested : (k : Kind) (b : Bool) → (Fits (text_limit h.version) k a → b ≡ true) → (other : Kind) → Fits (text_limit h.version) k a
-      → asked k (if b then Some a else None) ≢ Err (Asks other)
+  tested : (k : Question) (b : Bool) → (Fits (text_limit h.version) k a → b ≡ true)
+      → (other : Question) → Fits (text_limit h.version) k a → asked k (if b then Some a else None)
+      ≢ Err (Asks other)
   tested k true fit other fits e = absurd (cc)
   tested k false fit other fits e = let t = fit fits in absurd (cc)
 
-  answered_once : (k : Kind) → AsksOnce (answered_by h k None) (answered_by h k (Some a))
+  answered_once : (k : Question) → AsksOnce (answered_by h k None) (answered_by h k (Some a))
   answered_once k = record {
-    once = λ wish other e fits.
-        let is : k ≡ wish = cc in
-        let P : Kind → Type 0 = λ z. Fits (text_limit h.version) z a in
-        tested k (does_fit (text_limit h.version) k a) (λ f. (tests_tell (text_limit h.version) k a).1 f) other
-        (subst P (sym is) fits);
+    once = λ question other e fits.
+        let is : k ≡ question = cc in
+        let P : Question → Type 0 = λ z. Fits (text_limit h.version) z a in
+        tested k (does_fit (text_limit h.version) k a) (λ f.
+        (tests_tell (text_limit h.version) k a).1 f) other (subst P (sym is) fits);
   }
 
   module _ (m : Bytes) where
@@ -140,23 +141,24 @@ module _ (h : Host) (a : Answer) where
 
 -- ---- all calls
 
-pub rows_ask_once : RowsAskOnce
-rows_ask_once call.ClockTimeGet (id ∷ precision ∷ ret ∷ []) m h k other a e fits =
+pub call_rules_ask_once : CallRulesAskOnce
+call_rules_ask_once call.ClockTimeGet (id ∷ precision ∷ ret ∷ []) m h k other a e fits =
     (clock_once h a m id ret).once k other e fits
-rows_ask_once call.ClockTimeGet [] m h k other a e fits = absurd (cc)
-rows_ask_once call.ClockTimeGet (x ∷ []) m h k other a e fits = absurd (cc)
-rows_ask_once call.ClockTimeGet (x ∷ y ∷ []) m h k other a e fits = absurd (cc)
-rows_ask_once call.ClockTimeGet (x ∷ y ∷ z ∷ w ∷ more) m h k other a e fits = absurd (cc)
-rows_ask_once call.FdRead (fd ∷ iovs ∷ count ∷ ret ∷ []) m h k other a e fits =
+call_rules_ask_once call.ClockTimeGet [] m h k other a e fits = absurd (cc)
+call_rules_ask_once call.ClockTimeGet (x ∷ []) m h k other a e fits = absurd (cc)
+call_rules_ask_once call.ClockTimeGet (x ∷ y ∷ []) m h k other a e fits = absurd (cc)
+call_rules_ask_once call.ClockTimeGet (x ∷ y ∷ z ∷ w ∷ more) m h k other a e fits = absurd (cc)
+call_rules_ask_once call.FdRead (fd ∷ iovs ∷ count ∷ ret ∷ []) m h k other a e fits =
     (read_once h a m fd iovs count ret).once k other e fits
-rows_ask_once call.FdRead [] m h k other a e fits = absurd (cc)
-rows_ask_once call.FdRead (x ∷ []) m h k other a e fits = absurd (cc)
-rows_ask_once call.FdRead (x ∷ y ∷ []) m h k other a e fits = absurd (cc)
-rows_ask_once call.FdRead (x ∷ y ∷ z ∷ []) m h k other a e fits = absurd (cc)
-rows_ask_once call.FdRead (x ∷ y ∷ z ∷ w ∷ v ∷ more) m h k other a e fits = absurd (cc)
-rows_ask_once call.RandomGet (buf ∷ len ∷ []) m h k other a e fits =
+call_rules_ask_once call.FdRead [] m h k other a e fits = absurd (cc)
+call_rules_ask_once call.FdRead (x ∷ []) m h k other a e fits = absurd (cc)
+call_rules_ask_once call.FdRead (x ∷ y ∷ []) m h k other a e fits = absurd (cc)
+call_rules_ask_once call.FdRead (x ∷ y ∷ z ∷ []) m h k other a e fits = absurd (cc)
+call_rules_ask_once call.FdRead (x ∷ y ∷ z ∷ w ∷ v ∷ more) m h k other a e fits = absurd (cc)
+call_rules_ask_once call.RandomGet (buf ∷ len ∷ []) m h k other a e fits =
     (random_once h a m buf len).once k other e fits
-rows_ask_once call.RandomGet [] m h k other a e fits = absurd (cc)
-rows_ask_once call.RandomGet (x ∷ []) m h k other a e fits = absurd (cc)
-rows_ask_once call.RandomGet (x ∷ y ∷ z ∷ more) m h k other a e fits = absurd (cc)
-rows_ask_once c arguments m h k other a e fits = absurd (few_rows_ask c arguments None m h k e)
+call_rules_ask_once call.RandomGet [] m h k other a e fits = absurd (cc)
+call_rules_ask_once call.RandomGet (x ∷ []) m h k other a e fits = absurd (cc)
+call_rules_ask_once call.RandomGet (x ∷ y ∷ z ∷ more) m h k other a e fits = absurd (cc)
+call_rules_ask_once c arguments m h k other a e fits = absurd
+    (few_call_rules_ask c arguments None m h k e)

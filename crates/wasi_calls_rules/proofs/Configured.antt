@@ -3,39 +3,43 @@ use Rattle.std.proofs.Common.{◌≡◌, ℕ, ◌+◌, List, refl, arith}
 use Rattle.std.specs.Prelude.{Bool, true, false, if◌then◌else◌, Option, Some, None}
 use Rattle.std.specs.List.{list_any}
 use Rattle.file_tree.specs.rules.Files.{Files, Path, forgotten}
-use Rattle.wasi_calls_rules.specs.Hosts.{Target, Stream, Node, Descriptor, Host}
+use Rattle.wasi_calls_rules.specs.WasiStates.{Target, Stream, Node, Descriptor, WasiState}
 use Rattle.wasi_calls_rules.specs.Checks.{Bytes}
 use Rattle.wasi_calls_rules.specs.Lines.{stream_written}
+use Rattle.wasi_calls_rules.specs.declared.output_stream.OutputStream.{OutputStream}
 use Rattle.wasi_calls_rules.specs.Small.{names, has_path, swept}
 use Rattle.wasi_calls_rules.specs.Entries.{cut_if, without, renamed_over}
-use Rattle.wasi_calls_rules.specs.laws.Laws.{IsConfiguredAs, RowsKeepConfigurations}
-use Rattle.wasi_calls_rules.specs.laws.Laws.{RowsKeepVersions}
-use Rattle.wasi_calls_rules.specs.laws.Laws.{MakesOneNodeAtMost, RowsMakeOneNodeAtMost}
-use Rattle.wasi_calls_rules.proofs.HostChanges.{Becomes, stays, sees_time, leaves_unread}
-use Rattle.wasi_calls_rules.proofs.HostChanges.{takes_text, ends_input, closes, sets_flags, seeks}
-use Rattle.wasi_calls_rules.proofs.HostChanges.{reads_file, writes_stream, rewrites, writes_file}
-use Rattle.wasi_calls_rules.proofs.HostChanges.{makes, opens_new, opens, loses, renames}
-use Rattle.wasi_calls_rules.proofs.RowChanges.{changes}
+use Rattle.wasi_calls_rules.specs.laws.Laws.{IsConfiguredAs, CallRulesKeepConfigurations}
+use Rattle.wasi_calls_rules.specs.laws.Laws.{CallRulesKeepVersions}
+use Rattle.wasi_calls_rules.specs.laws.Laws.{MakesOneNodeAtMost, CallRulesMakeOneNodeAtMost}
+use Rattle.wasi_calls_rules.proofs.WasiStateChanges.{Becomes, stays, sees_time, leaves_unread}
+use Rattle.wasi_calls_rules.proofs.WasiStateChanges.{takes_text, ends_input, closes, sets_flags}
+use Rattle.wasi_calls_rules.proofs.WasiStateChanges.{seeks}
+use Rattle.wasi_calls_rules.proofs.WasiStateChanges.{reads_file, writes_stream, rewrites}
+use Rattle.wasi_calls_rules.proofs.WasiStateChanges.{writes_file}
+use Rattle.wasi_calls_rules.proofs.WasiStateChanges.{makes, opens_new, opens, loses, renames}
+use Rattle.wasi_calls_rules.proofs.CallRuleChanges.{changes}
 use Rattle.wasi_calls_rules.proofs.KeptLines.{stream_either}
 
 -- ---- what was configured
 
-alike : (h after : Host) → after.room ≡ h.room → after.arguments ≡ h.arguments
+alike : (h after : WasiState) → after.room ≡ h.room → after.arguments ≡ h.arguments
     → after.environment ≡ h.environment → IsConfiguredAs h after
 alike h after room arguments environment =
     record { room = room; arguments = arguments; environment = environment }
 
-stream_alike : (h : Host) (s : ℕ) (bytes : Bytes) → IsConfiguredAs h (stream_written s bytes h)
+stream_alike : (h : WasiState) (s : OutputStream) (bytes : Bytes)
+    → IsConfiguredAs h (stream_written s bytes h)
 stream_alike h s bytes =
     stream_either (IsConfiguredAs h) h s bytes (alike h _ refl refl refl)
     (alike h _ refl refl refl)
 
-renamed_alike : (h : Host) (k : ℕ) (j : Option ℕ) (from to : Path)
+renamed_alike : (h : WasiState) (k : ℕ) (j : Option ℕ) (from to : Path)
     → IsConfiguredAs h (renamed_over k j from to h)
 renamed_alike h k None from to = alike h _ refl refl refl
 renamed_alike h k (Some j) from to = alike h _ refl refl refl
 
-configured : (m : Bytes) (h after : Host) → Becomes m h after → IsConfiguredAs h after
+configured : (m : Bytes) (h after : WasiState) → Becomes m h after → IsConfiguredAs h after
 configured m h _ stays = alike h h refl refl refl
 configured m h _ (sees_time n small) = alike h _ refl refl refl
 configured m h _ (leaves_unread n) = alike h _ refl refl refl
@@ -54,22 +58,23 @@ configured m h _ (opens k n flags base inheriting cut x few) = alike h _ refl re
 configured m h _ (loses k x) = alike h _ refl refl refl
 configured m h _ (renames k j from to x) = renamed_alike h k j from to
 
-pub rows_keep_configurations : RowsKeepConfigurations
-rows_keep_configurations c arguments given m h done e =
+pub call_rules_keep_configurations : CallRulesKeepConfigurations
+call_rules_keep_configurations c arguments given m h done e =
     configured m h done.host (changes c arguments given m h done e)
 
 -- ---- the version
 
-stream_version : (h : Host) (s : ℕ) (bytes : Bytes) → (stream_written s bytes h).version ≡ h.version
+stream_version : (h : WasiState) (s : OutputStream) (bytes : Bytes)
+    → (stream_written s bytes h).version ≡ h.version
 stream_version h s bytes =
-    stream_either (λ (after : Host). after.version ≡ h.version) h s bytes refl refl
+    stream_either (λ (after : WasiState). after.version ≡ h.version) h s bytes refl refl
 
-renamed_version : (h : Host) (k : ℕ) (j : Option ℕ) (from to : Path)
+renamed_version : (h : WasiState) (k : ℕ) (j : Option ℕ) (from to : Path)
     → (renamed_over k j from to h).version ≡ h.version
 renamed_version h k None from to = refl
 renamed_version h k (Some j) from to = refl
 
-same_version : (m : Bytes) (h after : Host) → Becomes m h after → after.version ≡ h.version
+same_version : (m : Bytes) (h after : WasiState) → Becomes m h after → after.version ≡ h.version
 same_version m h _ stays = refl
 same_version m h _ (sees_time n small) = refl
 same_version m h _ (leaves_unread n) = refl
@@ -88,16 +93,16 @@ same_version m h _ (opens k n flags base inheriting cut x few) = refl
 same_version m h _ (loses k x) = refl
 same_version m h _ (renames k j from to x) = renamed_version h k j from to
 
-pub rows_keep_versions : RowsKeepVersions
-rows_keep_versions c arguments given m h done e =
+pub call_rules_keep_versions : CallRulesKeepVersions
+call_rules_keep_versions c arguments given m h done e =
     same_version m h done.host (changes c arguments given m h done e)
 
 -- ---- numbers of nodes
 
-no_node : (h after : Host) → after.files.next ≡ h.files.next → MakesOneNodeAtMost h after
+no_node : (h after : WasiState) → after.files.next ≡ h.files.next → MakesOneNodeAtMost h after
 no_node h after e = record { least = omega (arith, e); most = omega (arith, e) }
 
-one_node : (h after : Host) → after.files.next ≡ h.files.next + 1 → MakesOneNodeAtMost h after
+one_node : (h after : WasiState) → after.files.next ≡ h.files.next + 1 → MakesOneNodeAtMost h after
 one_node h after e = record { least = omega (arith, e); most = omega (arith, e) }
 
 pub swept_next : (t : Target) (ds : List (Option Descriptor)) (fs : Files)
@@ -109,24 +114,24 @@ swept_next (Node k) ds fs = either (has_path fs k) (list_any (names k) ds) where
   either false true = refl
   either false false = refl
 
-stream_next : (h : Host) (s : ℕ) (bytes : Bytes)
+stream_next : (h : WasiState) (s : OutputStream) (bytes : Bytes)
     → (stream_written s bytes h).files.next ≡ h.files.next
 stream_next h s bytes =
-    stream_either (λ (after : Host). after.files.next ≡ h.files.next) h s bytes refl refl
+    stream_either (λ (after : WasiState). after.files.next ≡ h.files.next) h s bytes refl refl
 
 cut_next : (is_cut : Bool) (k : ℕ) (fs : Files) → (cut_if is_cut k fs).next ≡ fs.next
 cut_next true k fs = refl
 cut_next false k fs = refl
 
-without_next : (k : ℕ) (h : Host) → (without k h).files.next ≡ h.files.next
+without_next : (k : ℕ) (h : WasiState) → (without k h).files.next ≡ h.files.next
 without_next k h = swept_next (Node k) h.descriptors _
 
-renamed_next : (h : Host) (k : ℕ) (j : Option ℕ) (from to : Path)
+renamed_next : (h : WasiState) (k : ℕ) (j : Option ℕ) (from to : Path)
     → (renamed_over k j from to h).files.next ≡ h.files.next
 renamed_next h k None from to = refl
 renamed_next h k (Some j) from to = without_next j h
 
-nodes_made : (m : Bytes) (h after : Host) → Becomes m h after → MakesOneNodeAtMost h after
+nodes_made : (m : Bytes) (h after : WasiState) → Becomes m h after → MakesOneNodeAtMost h after
 nodes_made m h _ stays = no_node h h refl
 nodes_made m h _ (sees_time n small) = no_node h _ refl
 nodes_made m h _ (leaves_unread n) = no_node h _ refl
@@ -146,6 +151,6 @@ nodes_made m h _ (opens k n flags base inheriting cut x few) =
 nodes_made m h _ (loses k x) = no_node h _ (without_next k h)
 nodes_made m h _ (renames k j from to x) = no_node h _ (renamed_next h k j from to)
 
-pub rows_make_one_node_at_most : RowsMakeOneNodeAtMost
-rows_make_one_node_at_most c arguments given m h done e =
+pub call_rules_make_one_node_at_most : CallRulesMakeOneNodeAtMost
+call_rules_make_one_node_at_most c arguments given m h done e =
     nodes_made m h done.host (changes c arguments given m h done e)

@@ -1,4 +1,4 @@
--- Each call that is done emits lines behind those that were there. Only a write to a stream emits
+-- Each call that is done emits lines after those that were there. Only a write to a stream emits
 -- any.
 use Rattle.std.proofs.Common.{◌≡◌, ℕ, ◌*◌, List, [], ◌∷◌, ◌++◌, ◌≤◌, length, take, refl, sym, ◌∙◌}
 use Rattle.std.proofs.Common.{append_assoc, arith, length-take}
@@ -9,7 +9,7 @@ use Rattle.std.proofs.lemmas.List.{append-nil}
 use Rattle.file_tree.specs.rules.Files.{Name, is_directory, bytes_of_node}
 use Rattle.wasi_abi.specs.declared.errno.Errno.TheVariants.{Badf, Exist, Inval, Isdir, Nametoolong}
 use Rattle.wasi_abi.specs.declared.errno.Errno.TheVariants.{Noent, Notcapable, Notdir, Notempty}
-use Rattle.wasi_abi.specs.declared.answer.Kind.TheVariants as kind
+use Rattle.wasi_abi.specs.declared.answer.Question.TheVariants as question
 use Rattle.wasi_abi.specs.declared.answer.Answer.{Answer}
 use Rattle.wasi_abi.specs.declared.answer.Answer.TheVariants as answer
 use Rattle.wasi_abi.specs.declared.call.Call.{Call}
@@ -26,16 +26,18 @@ use Rattle.wasi_abi.specs.rules.Numbers.{path_remove_directory_right, path_unlin
 use Rattle.wasi_abi.specs.rules.Numbers.{create_flag, directory_flag, exclusive_flag, truncate_flag}
 use Rattle.wasi_abi.specs.rules.Numbers.{has_flag}
 use Rattle.wasi_abi.specs.rules.Versions.{text_limit}
-use Rattle.wasi_calls_rules.specs.Hosts.{Line, Target, Stream, Node, Descriptor, Host}
+use Rattle.wasi_calls_rules.specs.WasiStates.{Line, Target, Stream, Node, Descriptor, WasiState}
 use Rattle.wasi_calls_rules.specs.Checks.{Bytes, Refuses, Ends, Done, check_or, some_or}
 use Rattle.wasi_calls_rules.specs.Checks.{open_descriptor, a_file, a_directory, no_directory}
 use Rattle.wasi_calls_rules.specs.Checks.{with_right, needs, within_rights, in_memory, lent}
 use Rattle.wasi_calls_rules.specs.Checks.{node_named, buffers, few_buffers, movable, gathered}
 use Rattle.wasi_calls_rules.specs.Checks.{answered_by}
-use Rattle.wasi_calls_rules.specs.Lines.{Cut, cut_byte, cut_all, stream_written}
+use Rattle.wasi_calls_rules.specs.Lines.{Cut, cut_byte, cut_all, output_stream, stream_written}
+use Rattle.wasi_calls_rules.specs.declared.output_stream.OutputStream.{OutputStream}
+use Rattle.wasi_calls_rules.specs.declared.output_stream.OutputStream.TheVariants.{Stdout, Stderr}
 use Rattle.wasi_calls_rules.specs.Paths.{WalkEnd, formed, node_at}
 use Rattle.wasi_calls_rules.specs.Small.{call_done, with_zeros, texts_get, texts_sizes_get}
-use Rattle.wasi_calls_rules.specs.Small.{clock_res_get, time_put, clock_kind, clock_time_get}
+use Rattle.wasi_calls_rules.specs.Small.{clock_res_get, time_put, clock_question, clock_time_get}
 use Rattle.wasi_calls_rules.specs.Small.{fd_close, fd_syncs, fd_fdstat_get, fd_fdstat_set_flags}
 use Rattle.wasi_calls_rules.specs.Small.{fd_filestat_get, roomy, fd_filestat_set_size}
 use Rattle.wasi_calls_rules.specs.Small.{fd_prestat_get, fd_prestat_dir_name, seek_base}
@@ -49,20 +51,21 @@ use Rattle.wasi_calls_rules.specs.Entries.{path_create_directory, path_filestat_
 use Rattle.wasi_calls_rules.specs.Entries.{is_directory_empty, path_remove_directory}
 use Rattle.wasi_calls_rules.specs.Entries.{path_unlink_file, is_within_node, gives_way}
 use Rattle.wasi_calls_rules.specs.Entries.{without_target, is_same_node, renamed_to, path_rename}
-use Rattle.wasi_calls_rules.specs.Entries.{free_number, Wish, opened_there, opened_new, opened_at}
+use Rattle.wasi_calls_rules.specs.Entries.{free_number, OpenMode, opened_there, opened_new}
+use Rattle.wasi_calls_rules.specs.Entries.{opened_at}
 use Rattle.wasi_calls_rules.specs.Entries.{path_open}
-use Rattle.wasi_calls_rules.specs.Rows.{row}
+use Rattle.wasi_calls_rules.specs.CallRules.{call_rule}
 use Rattle.wasi_calls_rules.specs.declared.limits.TheConstants.{LINE_BYTES, MOVED_BYTES}
-use Rattle.wasi_calls_rules.specs.laws.Laws.{Emits, RowsEmit}
+use Rattle.wasi_calls_rules.specs.laws.Laws.{Emits, CallRulesEmit}
 use Rattle.wasi_calls_rules.proofs.Steps.{HoldsAfter, refused, done_with, step, next, either_way}
 use Rattle.wasi_calls_rules.proofs.Steps.{leaf}
 
 -- ---- lines
 
-pub emits_none : (before after : Host) → after.lines ≡ before.lines → Emits before after
+pub emits_none : (before after : WasiState) → after.lines ≡ before.lines → Emits before after
 emits_none before after same = record { lines = []; are = same ∙ sym (append-nil before.lines) }
 
--- the lines of a cut, and others behind them
+-- the lines of a cut, and others after them
 record Longer (before after : Cut) : Type 0 where
   pub lines : List Line
   pub are : after.lines ≡ before.lines ++ lines
@@ -76,7 +79,7 @@ longer_on c d e a b = record {
   are = rw b.are (rw a.are (append_assoc c.lines a.lines b.lines));
 }
 
-byte_longer : (stream : ℕ) (c : Cut) (b : ℕ) → Longer c (cut_byte stream c b)
+byte_longer : (stream : OutputStream) (c : Cut) (b : ℕ) → Longer c (cut_byte stream c b)
 byte_longer stream c b = either (b == newline) (nat_lt (length c.unfinished) LINE_BYTES) where
   either : (p q : Bool)
       → Longer c (if p then record {
@@ -102,56 +105,51 @@ byte_longer stream c b = either (b == newline) (nat_lt (length c.unfinished) LIN
     are = refl;
   }
 
-all_longer : (stream : ℕ) (c : Cut) (bytes : List ℕ) → Longer c (cut_all stream c bytes)
+all_longer : (stream : OutputStream) (c : Cut) (bytes : List ℕ) → Longer c (cut_all stream c bytes)
 all_longer stream c [] = longer_none c c refl
 all_longer stream c (b ∷ bytes) =
     longer_on c (cut_byte stream c b) (cut_all stream (cut_byte stream c b) bytes)
     (byte_longer stream c b) (all_longer stream (cut_byte stream c b) bytes)
 
-stream_emits : (s : ℕ) (bytes : Bytes) (h : Host) → Emits h (stream_written s bytes h)
-stream_emits s bytes h = either (s == 1) where
-  either : (p : Bool) → Emits h (if p
-      then (let c = cut_all 1 (record { lines = h.lines; unfinished = h.first }) bytes in
-      record h { lines = c.lines; first = c.unfinished })
-      else (let c = cut_all 2 (record { lines = h.lines; unfinished = h.second }) bytes in
-      record h { lines = c.lines; second = c.unfinished }))
-  either true =
-      let longer = all_longer 1 (record { lines = h.lines; unfinished = h.first }) bytes in
-      record { lines = longer.lines; are = longer.are }
-  either false =
-      let longer = all_longer 2 (record { lines = h.lines; unfinished = h.second }) bytes in
-      record { lines = longer.lines; are = longer.are }
+stream_emits : (s : OutputStream) (bytes : Bytes) (h : WasiState)
+    → Emits h (stream_written s bytes h)
+stream_emits Stdout bytes h =
+    let longer = all_longer Stdout (record { lines = h.lines; unfinished = h.first }) bytes in
+    record { lines = longer.lines; are = longer.are }
+stream_emits Stderr bytes h =
+    let longer = all_longer Stderr (record { lines = h.lines; unfinished = h.second }) bytes in
+    record { lines = longer.lines; are = longer.are }
 
 -- ---- what a call leaves of the lines
 
 -- the lines, and what is unfinished, are as they were
-pub record KeepsLines (before after : Host) : Type 0 where
+pub record KeepsLines (before after : WasiState) : Type 0 where
   pub lines : after.lines ≡ before.lines
   pub first : after.first ≡ before.first
   pub second : after.second ≡ before.second
 
-same_lines : (before after : Host) → after.lines ≡ before.lines → after.first ≡ before.first
+same_lines : (before after : WasiState) → after.lines ≡ before.lines → after.first ≡ before.first
     → after.second ≡ before.second → KeepsLines before after
 same_lines before after lines first second =
     record { lines = lines; first = first; second = second }
 
 -- or bytes were written to a stream, no more than a call moves
-pub data WritesFew (before after : Host) : Type 0 where
+pub data WritesFew (before after : WasiState) : Type 0 where
   keeps : KeepsLines before after → WritesFew before after
-  writes : (s : ℕ) (bytes : Bytes) → length bytes ≤ MOVED_BYTES
+  writes : (s : OutputStream) (bytes : Bytes) → length bytes ≤ MOVED_BYTES
       → after ≡ stream_written s bytes before → WritesFew before after
 
-abbrev KeepsBy : Host → Done → Type 0
+abbrev KeepsBy : WasiState → Done → Type 0
 KeepsBy h d = KeepsLines h d.host
 
-abbrev KeepsByRead : Host → Got → Type 0
+abbrev KeepsByRead : WasiState → Got → Type 0
 KeepsByRead h got = KeepsLines h got.host
 
-abbrev pub WritesFewBy : Host → Done → Type 0
+abbrev pub WritesFewBy : WasiState → Done → Type 0
 WritesFewBy h d = WritesFew h d.host
 
-module _ (m : Bytes) (h : Host) where
-  kept : (now : Bytes) (after : Host) → after.lines ≡ h.lines → after.first ≡ h.first
+module _ (m : Bytes) (h : WasiState) where
+  kept : (now : Bytes) (after : WasiState) → after.lines ≡ h.lines → after.first ≡ h.first
       → after.second ≡ h.second → HoldsAfter (KeepsBy h) (call_done now after)
   kept now after lines first second =
       done_with (KeepsBy h) (record { memory = now; host = after })
@@ -182,7 +180,7 @@ module _ (m : Bytes) (h : Host) where
       → HoldsAfter (KeepsBy h) (clock_time_get id ret given m h)
   clock_time_get_keeps id ret given =
       next (check_or (nat_le id 1) Inval) _ (λ _. next (in_memory m ret 8) _ (λ _.
-      next (answered_by h (clock_kind id) given) _ (λ a. time_put_keeps a ret)))
+      next (answered_by h (clock_question id) given) _ (λ a. time_put_keeps a ret)))
 
   -- ---- descriptors
 
@@ -255,9 +253,9 @@ module _ (m : Bytes) (h : Host) where
   random_get_keeps : (buf len : ℕ) (given : Option Answer)
       → HoldsAfter (KeepsBy h) (random_get buf len given m h)
   random_get_keeps buf len given =
-      next (check_or (nat_le len (text_limit h.version)) Inval) _ (λ _. next (in_memory m buf len) _ (λ _.
-      either_way (len == 0) _ _ (kept m h refl refl refl)
-      (next (answered_by h (kind.Random len) given) _ (λ a. random_put_keeps a buf))))
+      next (check_or (nat_le len (text_limit h.version)) Inval) _
+      (λ _. next (in_memory m buf len) _ (λ _. either_way (len == 0) _ _ (kept m h refl refl refl)
+      (next (answered_by h (question.Random len) given) _ (λ a. random_put_keeps a buf))))
 
   -- ---- reads and writes
 
@@ -281,7 +279,7 @@ module _ (m : Bytes) (h : Host) where
         bytes = [];
         host = h;
       }) (same_lines h h refl refl refl))
-      (next (answered_by h kind.Request given) _ (λ a. input_taken_keeps n a))))
+      (next (answered_by h question.Request given) _ (λ a. input_taken_keeps n a))))
 
   target_read_keeps : (t : Target) (fd : ℕ) (d : Descriptor) (n : ℕ) (given : Option Answer)
       → HoldsAfter (KeepsByRead h) (target_read t fd d n given h)
@@ -315,7 +313,7 @@ module _ (m : Bytes) (h : Host) where
       next (roomy h k (size_after (bytes_of_node h.files k) offset (b ∷ bytes))) _ (λ _.
       done_with (KeepsLines h) _ (same_lines h _ refl refl refl))
 
-  offset_keeps : (fd offset : ℕ) (d : Descriptor) (bytes : Bytes) (after : Host)
+  offset_keeps : (fd offset : ℕ) (d : Descriptor) (bytes : Bytes) (after : WasiState)
       → KeepsLines h after → KeepsLines h (offset_after fd offset d bytes after)
   offset_keeps fd offset d [] after emits = emits
   offset_keeps fd offset d (b ∷ bytes) after emits =
@@ -324,7 +322,8 @@ module _ (m : Bytes) (h : Host) where
   target_written_writes : (t : Target) (fd : ℕ) (d : Descriptor) (bytes : Bytes)
       → length bytes ≤ MOVED_BYTES → HoldsAfter (WritesFew h) (target_written t fd d bytes h)
   target_written_writes (Stream s) fd d bytes few =
-      done_with (WritesFew h) (stream_written s bytes h) (writes s bytes few refl)
+      done_with (WritesFew h) (stream_written (output_stream s) bytes h)
+      (writes (output_stream s) bytes few refl)
   target_written_writes (Node k) fd d bytes few =
       step (KeepsLines h) (file_written k (write_offset h k d) bytes h) _
       (file_written_keeps k (write_offset h k d) bytes)
@@ -438,7 +437,7 @@ module _ (m : Bytes) (h : Host) where
       leaf source _ (λ from name.
       leaf target _ (λ to other. renamed_to_keeps from name source to other target))))))))))))))
 
-  opened_there_keeps : (k : ℕ) (w : Wish) (ret : ℕ)
+  opened_there_keeps : (k : ℕ) (w : OpenMode) (ret : ℕ)
       → HoldsAfter (KeepsBy h) (opened_there k w ret m h)
   opened_there_keeps k w ret =
       next (check_or (not (has_flag w.oflags create_flag
@@ -449,7 +448,7 @@ module _ (m : Bytes) (h : Host) where
       (λ _.
       next (free_number h) _ (λ n. kept _ _ refl refl refl))))
 
-  opened_new_keeps : (place : WalkEnd) (w : Wish) (ret : ℕ)
+  opened_new_keeps : (place : WalkEnd) (w : OpenMode) (ret : ℕ)
       → HoldsAfter (KeepsBy h) (opened_new place w ret m h)
   opened_new_keeps place w ret =
       next (check_or (has_flag w.oflags create_flag) Noent) _ (λ _.
@@ -457,12 +456,12 @@ module _ (m : Bytes) (h : Host) where
       next (free_number h) _ (λ n. next (a_free_node h.files) _ (λ _.
       kept _ _ refl refl refl)))))
 
-  opened_at_keeps : (o : Option ℕ) (place : WalkEnd) (w : Wish) (ret : ℕ)
+  opened_at_keeps : (o : Option ℕ) (place : WalkEnd) (w : OpenMode) (ret : ℕ)
       → HoldsAfter (KeepsBy h) (opened_at o place w ret m h)
   opened_at_keeps None place w ret = opened_new_keeps place w ret
   opened_at_keeps (Some k) place w ret = opened_there_keeps k w ret
 
-  path_open_keeps : (fd dirflags path len : ℕ) (w : Wish) (ret : ℕ)
+  path_open_keeps : (fd dirflags path len : ℕ) (w : OpenMode) (ret : ℕ)
       → HoldsAfter (KeepsBy h) (path_open fd dirflags path len w ret m h)
   path_open_keeps fd dirflags path len w ret =
       next (open_descriptor h fd) _ (λ d.
@@ -479,86 +478,91 @@ module _ (m : Bytes) (h : Host) where
 
 -- ---- all calls
 
-row_keeps : (c : Call) (arguments : List ℕ) (given : Option Answer) (m : Bytes) (h : Host)
-    → (c ≡ call.FdWrite → ⊥) → HoldsAfter (KeepsBy h) (row c arguments given m h)
-row_keeps call.ArgsGet (argv ∷ buf ∷ []) given m h other = texts_get_keeps m h h.arguments argv buf
-row_keeps call.ArgsSizesGet (count ∷ size ∷ []) given m h other =
+call_rule_keeps : (c : Call) (arguments : List ℕ) (given : Option Answer) (m : Bytes)
+    (h : WasiState) → (c ≡ call.FdWrite → ⊥) → HoldsAfter (KeepsBy h)
+    (call_rule c arguments given m h)
+call_rule_keeps call.ArgsGet (argv ∷ buf ∷ []) given m h other = texts_get_keeps m h
+    h.arguments argv buf
+call_rule_keeps call.ArgsSizesGet (count ∷ size ∷ []) given m h other =
     texts_sizes_get_keeps m h h.arguments count size
-row_keeps call.EnvironGet (environ ∷ buf ∷ []) given m h other =
+call_rule_keeps call.EnvironGet (environ ∷ buf ∷ []) given m h other =
     texts_get_keeps m h h.environment environ buf
-row_keeps call.EnvironSizesGet (count ∷ size ∷ []) given m h other =
+call_rule_keeps call.EnvironSizesGet (count ∷ size ∷ []) given m h other =
     texts_sizes_get_keeps m h h.environment count size
-row_keeps call.ClockResGet (id ∷ ret ∷ []) given m h other = clock_res_get_keeps m h id ret
-row_keeps call.ClockTimeGet (id ∷ precision ∷ ret ∷ []) given m h other =
+call_rule_keeps call.ClockResGet (id ∷ ret ∷ []) given m h other = clock_res_get_keeps m h id ret
+call_rule_keeps call.ClockTimeGet (id ∷ precision ∷ ret ∷ []) given m h other =
     clock_time_get_keeps m h id ret given
-row_keeps call.FdClose (fd ∷ []) given m h other = fd_close_keeps m h fd
-row_keeps call.FdDatasync (fd ∷ []) given m h other = fd_syncs_keeps m h fd_datasync_right fd
-row_keeps call.FdFdstatGet (fd ∷ ret ∷ []) given m h other = fd_fdstat_get_keeps m h fd ret
-row_keeps call.FdFdstatSetFlags (fd ∷ flags ∷ []) given m h other =
+call_rule_keeps call.FdClose (fd ∷ []) given m h other = fd_close_keeps m h fd
+call_rule_keeps call.FdDatasync (fd ∷ []) given m h other = fd_syncs_keeps m h fd_datasync_right fd
+call_rule_keeps call.FdFdstatGet (fd ∷ ret ∷ []) given m h other = fd_fdstat_get_keeps m h fd ret
+call_rule_keeps call.FdFdstatSetFlags (fd ∷ flags ∷ []) given m h other =
     fd_fdstat_set_flags_keeps m h fd flags
-row_keeps call.FdFilestatGet (fd ∷ ret ∷ []) given m h other = fd_filestat_get_keeps m h fd ret
-row_keeps call.FdFilestatSetSize (fd ∷ size ∷ []) given m h other =
+call_rule_keeps call.FdFilestatGet (fd ∷ ret ∷ []) given m h other =
+    fd_filestat_get_keeps m h fd ret
+call_rule_keeps call.FdFilestatSetSize (fd ∷ size ∷ []) given m h other =
     fd_filestat_set_size_keeps m h fd size
-row_keeps call.FdPread (fd ∷ iovs ∷ count ∷ offset ∷ ret ∷ []) given m h other =
+call_rule_keeps call.FdPread (fd ∷ iovs ∷ count ∷ offset ∷ ret ∷ []) given m h other =
     fd_pread_keeps m h fd iovs count offset ret
-row_keeps call.FdPrestatGet (fd ∷ ret ∷ []) given m h other = fd_prestat_get_keeps m h fd ret
-row_keeps call.FdPrestatDirName (fd ∷ path ∷ len ∷ []) given m h other =
+call_rule_keeps call.FdPrestatGet (fd ∷ ret ∷ []) given m h other = fd_prestat_get_keeps m h fd ret
+call_rule_keeps call.FdPrestatDirName (fd ∷ path ∷ len ∷ []) given m h other =
     fd_prestat_dir_name_keeps m h fd path len
-row_keeps call.FdPwrite (fd ∷ iovs ∷ count ∷ offset ∷ ret ∷ []) given m h other =
+call_rule_keeps call.FdPwrite (fd ∷ iovs ∷ count ∷ offset ∷ ret ∷ []) given m h other =
     fd_pwrite_keeps m h fd iovs count offset ret
-row_keeps call.FdRead (fd ∷ iovs ∷ count ∷ ret ∷ []) given m h other =
+call_rule_keeps call.FdRead (fd ∷ iovs ∷ count ∷ ret ∷ []) given m h other =
     fd_read_keeps m h fd iovs count ret given
-row_keeps call.FdReaddir (fd ∷ buf ∷ len ∷ cookie ∷ ret ∷ []) given m h other =
+call_rule_keeps call.FdReaddir (fd ∷ buf ∷ len ∷ cookie ∷ ret ∷ []) given m h other =
     fd_readdir_keeps m h fd buf len cookie ret
-row_keeps call.FdSeek (fd ∷ delta ∷ whence ∷ ret ∷ []) given m h other =
+call_rule_keeps call.FdSeek (fd ∷ delta ∷ whence ∷ ret ∷ []) given m h other =
     fd_seek_keeps m h fd delta whence ret
-row_keeps call.FdSync (fd ∷ []) given m h other = fd_syncs_keeps m h fd_sync_right fd
-row_keeps call.FdTell (fd ∷ ret ∷ []) given m h other = fd_tell_keeps m h fd ret
-row_keeps call.PathCreateDirectory (fd ∷ path ∷ len ∷ []) given m h other =
+call_rule_keeps call.FdSync (fd ∷ []) given m h other = fd_syncs_keeps m h fd_sync_right fd
+call_rule_keeps call.FdTell (fd ∷ ret ∷ []) given m h other = fd_tell_keeps m h fd ret
+call_rule_keeps call.PathCreateDirectory (fd ∷ path ∷ len ∷ []) given m h other =
     path_create_directory_keeps m h fd path len
-row_keeps call.PathFilestatGet (fd ∷ flags ∷ path ∷ len ∷ ret ∷ []) given m h other =
+call_rule_keeps call.PathFilestatGet (fd ∷ flags ∷ path ∷ len ∷ ret ∷ []) given m h other =
     path_filestat_get_keeps m h fd flags path len ret
-row_keeps call.PathOpen (fd ∷ dirflags ∷ path ∷ len ∷ oflags ∷ base ∷ inheriting ∷ fdflags ∷ ret
-    ∷ []) given m h other =
+call_rule_keeps call.PathOpen (fd ∷ dirflags ∷ path ∷ len ∷ oflags ∷ base ∷ inheriting
+    ∷ fdflags ∷ ret ∷ []) given m h other =
     path_open_keeps m h fd dirflags path len (record {
       oflags = oflags;
       base = base;
       inheriting = inheriting;
       fdflags = fdflags;
     }) ret
-row_keeps call.PathRemoveDirectory (fd ∷ path ∷ len ∷ []) given m h other =
+call_rule_keeps call.PathRemoveDirectory (fd ∷ path ∷ len ∷ []) given m h other =
     path_remove_directory_keeps m h fd path len
-row_keeps call.PathRename (old_fd ∷ old_path ∷ old_len ∷ new_fd ∷ new_path ∷ new_len
+call_rule_keeps call.PathRename (old_fd ∷ old_path ∷ old_len ∷ new_fd ∷ new_path ∷ new_len
     ∷ []) given m h other = path_rename_keeps m h old_fd old_path old_len new_fd new_path new_len
-row_keeps call.PathUnlinkFile (fd ∷ path ∷ len ∷ []) given m h other =
+call_rule_keeps call.PathUnlinkFile (fd ∷ path ∷ len ∷ []) given m h other =
     path_unlink_file_keeps m h fd path len
-row_keeps call.ProcExit (code ∷ []) given m h other = refused _ (Ends code)
-row_keeps call.SchedYield [] given m h other = kept m h m h refl refl refl
-row_keeps call.RandomGet (buf ∷ len ∷ []) given m h other = random_get_keeps m h buf len given
-row_keeps call.FdWrite arguments given m h other = absurd (other refl)
-row_keeps _ _ given m h other = refused _ (Refuses Inval)
+call_rule_keeps call.ProcExit (code ∷ []) given m h other = refused _ (Ends code)
+call_rule_keeps call.SchedYield [] given m h other = kept m h m h refl refl refl
+call_rule_keeps call.RandomGet (buf ∷ len ∷ []) given m h other = random_get_keeps m h buf len given
+call_rule_keeps call.FdWrite arguments given m h other = absurd (other refl)
+call_rule_keeps _ _ given m h other = refused _ (Refuses Inval)
 
 -- a call but `fd_write` leaves the lines as they are
-pub rows_keep_lines : (c : Call) (arguments : List ℕ) (given : Option Answer) (m : Bytes) (h : Host)
-    (done : Done) → (c ≡ call.FdWrite → ⊥) → row c arguments given m h ≡ Ok done
-    → KeepsLines h done.host
-rows_keep_lines c arguments given m h done other e =
-    (row_keeps c arguments given m h other).holds done e
+pub call_rules_keep_lines : (c : Call) (arguments : List ℕ) (given : Option Answer) (m : Bytes)
+    (h : WasiState) (done : Done) → (c ≡ call.FdWrite → ⊥) → call_rule c arguments
+    given m h ≡ Ok done → KeepsLines h done.host
+call_rules_keep_lines c arguments given m h done other e =
+    (call_rule_keeps c arguments given m h other).holds done e
 
-write_writes : (arguments : List ℕ) (given : Option Answer) (m : Bytes) (h : Host)
-    → HoldsAfter (WritesFewBy h) (row call.FdWrite arguments given m h)
+write_writes : (arguments : List ℕ) (given : Option Answer) (m : Bytes) (h : WasiState)
+    → HoldsAfter (WritesFewBy h) (call_rule call.FdWrite arguments given m h)
 write_writes (fd ∷ iovs ∷ count ∷ ret ∷ []) given m h = fd_write_writes m h fd iovs count ret
 write_writes _ given m h = refused _ (Refuses Inval)
 
-pub rows_write_few : (c : Call) (arguments : List ℕ) (given : Option Answer) (m : Bytes) (h : Host)
-    (done : Done) → row c arguments given m h ≡ Ok done → WritesFew h done.host
-rows_write_few call.FdWrite arguments given m h done e =
+pub call_rules_write_few : (c : Call) (arguments : List ℕ) (given : Option Answer) (m : Bytes)
+    (h : WasiState) (done : Done) → call_rule c arguments given m h ≡ Ok done
+    → WritesFew h done.host
+call_rules_write_few call.FdWrite arguments given m h done e =
     (write_writes arguments given m h).holds done e
-rows_write_few c arguments given m h done e =
-    keeps (rows_keep_lines c arguments given m h done (λ same. absurd (cc)) e)
+call_rules_write_few c arguments given m h done e =
+    keeps (call_rules_keep_lines c arguments given m h done (λ same. absurd (cc)) e)
 
-pub rows_emit : RowsEmit
-rows_emit c arguments given m h done e = by_case (rows_write_few c arguments given m h done e) where
-  by_case : WritesFew h done.host → Emits h done.host
-  by_case (keeps k) = emits_none h done.host k.lines
-  by_case (writes s bytes few is) = rw is (stream_emits s bytes h)
+pub call_rules_emit : CallRulesEmit
+call_rules_emit c arguments given m h done e = by_case (call_rules_write_few c arguments given m
+    h done e) where
+      by_case : WritesFew h done.host → Emits h done.host
+      by_case (keeps k) = emits_none h done.host k.lines
+      by_case (writes s bytes few is) = rw is (stream_emits s bytes h)

@@ -1,12 +1,13 @@
 -- The examples that test whether a path is UTF-8, and those of writes.
-use Rattle.std.proofs.Common.{◌≡◌, Some, None, refl}
+use Rattle.std.proofs.Common.{◌≡◌, refl}
 use Rattle.std.specs.Str.{is_utf8, chars}
 use lib.Utf8.{encode}
 use Rattle.wasi_calls_rules.specs.Checks.{Bytes}
-use Rattle.wasi_calls_rules.specs.Hosts.{Host}
-use Rattle.wasi_calls_rules.specs.Rows.{Told, IsDone, IsAsk, IsExit, NoMemory, TellsRow}
+use Rattle.wasi_calls_rules.specs.WasiStates.{WasiState}
+use Rattle.wasi_calls_rules.specs.CallRules.{CallEnding, IsDone, IsRefused, IsAsk, IsExit, NoMemory}
+use Rattle.wasi_calls_rules.specs.CallRules.{TellsCallRule}
 use Rattle.wasi_calls_rules.specs.laws.Examples.{OpeningExamples, WritingExamples}
-use Rattle.wasi_calls_rules.specs.laws.Examples.{DirectoryExamples, bare_host, write_row}
+use Rattle.wasi_calls_rules.specs.laws.Examples.{DirectoryExamples, bare_host, write_call_rule}
 use Rattle.wasi_calls_rules.specs.laws.Examples.{one_beyond}
 
 pub opening_examples : OpeningExamples
@@ -32,11 +33,11 @@ directory_examples = record {
 }
 
 -- a call that is refused changes nothing, whatever is told
-writing_unchanged : (told : Told) (m : Bytes) (h : Host)
-    → TellsRow told m h one_beyond bare_host (write_row 16 one_beyond) → (m ≡ one_beyond)
+writing_unchanged : (told : CallEnding) (m : Bytes) (h : WasiState)
+    → TellsCallRule told m h one_beyond bare_host (write_call_rule 16 one_beyond) → (m ≡ one_beyond)
     × (h ≡ bare_host)
-writing_unchanged (IsDone None) m h shown = absurd (cc)
-writing_unchanged (IsDone (Some e)) m h shown = (shown.1, shown.2)
+writing_unchanged IsDone m h shown = absurd (cc)
+writing_unchanged (IsRefused e) m h shown = (shown.1, shown.2)
 writing_unchanged (IsAsk k) m h shown = (shown.1, shown.2)
 writing_unchanged (IsExit code) m h shown = (shown.1, shown.2)
 writing_unchanged NoMemory m h shown = (shown.1, shown.2)

@@ -6,7 +6,7 @@ use Rattle.std.specs.List.{AllByRecursion}
 use Rattle.std.proofs.lemmas.Bool.{leb-true, le-leb}
 use Rattle.std.proofs.lemmas.Bool.Decides.{Decides-and, Decides-eqb, Decides-ltb, Decides-like}
 use Rattle.std.proofs.lemmas.Bool.Decides.{Decides-not}
-use Rattle.wasi_abi.specs.declared.answer.Kind.TheVariants as kind
+use Rattle.wasi_abi.specs.declared.answer.Question.TheVariants as question
 use Rattle.wasi_abi.specs.declared.answer.Answer.TheVariants as answer
 use Rattle.wasi_abi.specs.rules.Answers.{newline, IsNoNewline, AreBytes, IsRequestText}
 use Rattle.wasi_abi.specs.rules.Answers.{AreSoManyBytes}
@@ -43,9 +43,9 @@ so_many n bytes =
     (bytes_alone bytes))
 
 pub tests_tell : TestsTellWhatFits
-tests_tell limit kind.Request (answer.Request text) = request_text limit text
-tests_tell limit kind.Request answer.End = (λ _. tt, λ _. refl)
-tests_tell limit kind.Realtime (answer.Realtime n) = Decides-ltb n (2 ^ 64)
-tests_tell limit kind.Monotonic (answer.Monotonic n) = Decides-ltb n (2 ^ 64)
-tests_tell limit (kind.Random n) (answer.Random bytes) = so_many n bytes
+tests_tell limit question.Request (answer.Request text) = request_text limit text
+tests_tell limit question.Request answer.End = (λ _. tt, λ _. refl)
+tests_tell limit question.Realtime (answer.Realtime n) = Decides-ltb n (2 ^ 64)
+tests_tell limit question.Monotonic (answer.Monotonic n) = Decides-ltb n (2 ^ 64)
+tests_tell limit (question.Random n) (answer.Random bytes) = so_many n bytes
 tests_tell limit k a = (λ e. absurd (cc), λ none. absurd none)

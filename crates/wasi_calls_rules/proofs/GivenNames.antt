@@ -18,7 +18,7 @@ use Rattle.file_tree.specs.rules.Files.{Name, Files, slash, dot, child, is_direc
 use Rattle.file_tree.specs.rules.Files.{IsNodeName}
 use Rattle.file_tree.specs.declared.limits.TheConstants.{PATH_BYTES, NAME_BYTES}
 use Rattle.file_tree.proofs.SameNames.{name_or_not}
-use Rattle.wasi_calls_rules.specs.Hosts.{Target, Stream, Node, Host}
+use Rattle.wasi_calls_rules.specs.WasiStates.{Target, Stream, Node, WasiState}
 use Rattle.wasi_calls_rules.specs.Checks.{Bytes, Halt, Refuses, check_or, names_directory}
 use Rattle.wasi_calls_rules.specs.Checks.{node_named, in_memory, lent}
 use Rattle.wasi_calls_rules.specs.Paths.{onto_first, parts_of, is_dropped, is_back, begins_with}
@@ -26,7 +26,7 @@ use Rattle.wasi_calls_rules.specs.Paths.{names_of, formed, WalkEnd, Self, Leaf, 
 use Rattle.wasi_calls_rules.specs.Paths.{backed, onward, walk}
 use Rattle.wasi_calls_rules.proofs.Steps.{HoldsAfter, refused, done_with, step, next, next_is}
 use Rattle.wasi_calls_rules.proofs.Steps.{passed, by_test}
-use Rattle.wasi_calls_rules.proofs.HostChanges.{Reached}
+use Rattle.wasi_calls_rules.proofs.WasiStateChanges.{Reached}
 
 -- ---- parts between slashes
 
@@ -72,7 +72,7 @@ drop_front : (front : Bytes) (b : ℕ) (bytes : Bytes)
 drop_front [] b bytes = refl
 drop_front (x ∷ front) b bytes = drop_front front b bytes
 
--- a text before a slash, and behind it
+-- a text before a slash, and after it
 halves : (front : Bytes) (bytes : Bytes) → IsUtf8 (front ++ slash ∷ bytes)
     → IsUtf8 front × IsUtf8 bytes
 halves front bytes text =
@@ -296,7 +296,7 @@ lent_bytes m from len =
     done_with (λ (bytes : Bytes). AreBytes m → AreBytes bytes) (part m from len)
     (λ k. all_take IsByte len (drop from m) (all_drop IsByte from m k)))
 
-base_directory : (h : Host) (t : Target) → names_directory h t ≡ true
+base_directory : (h : WasiState) (t : Target) → names_directory h t ≡ true
     → is_directory h.files (node_named t) ≡ true
 base_directory h (Stream s) e = absurd (cc)
 base_directory h (Node k) e = e
@@ -306,7 +306,7 @@ more_bytes : (fs : Files) (m bytes : Bytes) (place : WalkEnd) → (AreBytes m �
 more_bytes fs m bytes (Self k) f e = e
 more_bytes fs m bytes (Leaf d name) f e = (e.0, e.1, λ k. e.2 (f k))
 
-pub ends_well : (m : Bytes) (h : Host) (place : WalkEnd) → Reached m h place
+pub ends_well : (m : Bytes) (h : WasiState) (place : WalkEnd) → Reached m h place
     → EndsWell h.files m place
 ends_well m h place r =
     let given = (names_are_given r.bytes).holds r.names r.form in

@@ -1,10 +1,11 @@
--- Why a call is not done: a walk over all rows, for any predicate on why that holds of refusals.
+-- Why a call is not done: a walk over all calls' rules, for any predicate on why that holds of
+-- refusals.
 use Rattle.std.proofs.Common.{◌≡◌, ℕ, List, [], ◌∷◌, refl}
 use Rattle.std.specs.Prelude.{Bool, true, false, if◌then◌else◌, Option, Some, None, Result, Ok, Err}
 use Rattle.std.specs.Prelude.{ℤ, pos, negsuc, nat_lt, ◌^◌}
 use Rattle.wasi_abi.specs.declared.errno.Errno.{Errno}
 use Rattle.wasi_abi.specs.declared.errno.Errno.TheVariants.{Inval, Noent, Notcapable, Notdir}
-use Rattle.wasi_abi.specs.declared.answer.Kind.{Kind}
+use Rattle.wasi_abi.specs.declared.answer.Question.{Question}
 use Rattle.wasi_abi.specs.declared.answer.Answer.{Answer}
 use Rattle.wasi_abi.specs.declared.answer.Answer.TheVariants as answer
 use Rattle.wasi_abi.specs.declared.call.Call.{Call}
@@ -12,7 +13,7 @@ use Rattle.wasi_abi.specs.declared.call.Call.TheVariants as call
 use Rattle.file_tree.specs.rules.Files.{Name, Files, is_directory, child}
 use Rattle.wasi_abi.specs.rules.Numbers.{fd_datasync_right, fd_sync_right}
 use Rattle.wasi_abi.specs.rules.Versions.{text_limit}
-use Rattle.wasi_calls_rules.specs.Hosts.{Target, Stream, Node, Descriptor, Host}
+use Rattle.wasi_calls_rules.specs.WasiStates.{Target, Stream, Node, Descriptor, WasiState}
 use Rattle.wasi_calls_rules.specs.Checks.{Bytes, Buffer, Halt, Refuses, Asks, Ends, ◌>>=◌, check_or}
 use Rattle.wasi_calls_rules.specs.Checks.{some_or, a_file, lent, buffers, asked, fitting}
 use Rattle.wasi_calls_rules.specs.Checks.{answered_by}
@@ -29,9 +30,9 @@ use Rattle.wasi_calls_rules.specs.Moving.{fd_write, fd_pwrite}
 use Rattle.wasi_calls_rules.specs.Entries.{fd_readdir, a_leaf, placed, path_create_directory}
 use Rattle.wasi_calls_rules.specs.Entries.{path_filestat_get, path_remove_directory}
 use Rattle.wasi_calls_rules.specs.Entries.{path_unlink_file, gives_way, renamed_to, path_rename}
-use Rattle.wasi_calls_rules.specs.Entries.{Wish, opened_there, opened_new, opened_at, path_open}
-use Rattle.wasi_calls_rules.specs.Rows.{row}
-use Rattle.wasi_calls_rules.specs.laws.Laws.{MayAsk, FewRowsAsk, ExitAloneEnds}
+use Rattle.wasi_calls_rules.specs.Entries.{OpenMode, opened_there, opened_new, opened_at, path_open}
+use Rattle.wasi_calls_rules.specs.CallRules.{call_rule}
+use Rattle.wasi_calls_rules.specs.laws.Laws.{MayAsk, FewCallRulesAsk, ExitAloneEnds}
 
 -- where it is not done, this holds of why
 pub record HaltsBy {A : Type 0} (Q : Halt → Type 0) (r : Result A Halt) : Type 0 where
@@ -89,11 +90,11 @@ module _ (Q : Halt → Type 0) (refusals : (e : Errno) → Q (Refuses e)) where
       → ((bytes : Bytes) → HaltsBy Q (go bytes)) → HaltsBy Q (lent m from len >>= go)
   lent_then m from len go f = next (lent m from len) go (search (check, done) depth 8) f
 
-  file_then : {A : Type 0} (h : Host) (d : Descriptor) (go : Unit {0} → Result A Halt)
+  file_then : {A : Type 0} (h : WasiState) (d : Descriptor) (go : Unit {0} → Result A Halt)
       → HaltsBy Q (go tt) → HaltsBy Q (a_file h d >>= go)
   file_then h d go k = next (a_file h d) go (search (check, checked) depth 8) (λ _. k)
 
-  roomy_then : {A : Type 0} (h : Host) (k size : ℕ) (go : Unit {0} → Result A Halt)
+  roomy_then : {A : Type 0} (h : WasiState) (k size : ℕ) (go : Unit {0} → Result A Halt)
       → HaltsBy Q (go tt) → HaltsBy Q (roomy h k size >>= go)
   roomy_then h k size go f = next (roomy h k size) go (search (check, checked) depth 8) (λ _. f)
 
@@ -136,14 +137,14 @@ module _ (Q : Halt → Type 0) (refusals : (e : Errno) → Q (Refuses e)) where
       (onward_halts fs d name names (λ k. walk fs k (d ∷ behind) names)
       (λ k. walk_halts fs k (d ∷ behind) names))
 
-  placed_then : {A : Type 0} (h : Host) (d : Descriptor) (names : List Name)
+  placed_then : {A : Type 0} (h : WasiState) (d : Descriptor) (names : List Name)
       (go : WalkEnd → Result A Halt) → ((place : WalkEnd) → HaltsBy Q (go place))
       → HaltsBy Q (placed h d names >>= go)
   placed_then h d names go f = next (placed h d names) go (walk_halts h.files _ [] names) f
 
   -- ---- the rules that want no answer
 
-  module _ (m : Bytes) (h : Host) where
+  module _ (m : Bytes) (h : WasiState) where
     texts_get_halts : (texts : List Bytes) (array buf : ℕ)
         → HaltsBy Q (texts_get texts array buf m h)
     texts_get_halts texts array buf = search (check, done) depth 14
@@ -201,13 +202,14 @@ module _ (Q : Halt → Type 0) (refusals : (e : Errno) → Q (Refuses e)) where
         next _ _ (file_written_halts k (write_offset h k d) bytes) (λ after. done _)
 
     target_written_then : {A : Type 0} (t : Target) (fd : ℕ) (d : Descriptor) (bytes : Bytes)
-        (go : Host → Result A Halt) → ((after : Host) → HaltsBy Q (go after))
+        (go : WasiState → Result A Halt) → ((after : WasiState) → HaltsBy Q (go after))
         → HaltsBy Q (target_written t fd d bytes h >>= go)
     target_written_then t fd d bytes go f =
         next (target_written t fd d bytes h) go (target_written_halts t fd d bytes) f
 
-    file_written_then : {A : Type 0} (k offset : ℕ) (bytes : Bytes) (go : Host → Result A Halt)
-        → ((after : Host) → HaltsBy Q (go after)) → HaltsBy Q (file_written k offset bytes h >>= go)
+    file_written_then : {A : Type 0} (k offset : ℕ) (bytes : Bytes) (go : WasiState → Result A Halt)
+        → ((after : WasiState) → HaltsBy Q (go after)) → HaltsBy Q
+        (file_written k offset bytes h >>= go)
     file_written_then k offset bytes go f =
         next (file_written k offset bytes h) go (file_written_halts k offset bytes) f
 
@@ -259,19 +261,19 @@ module _ (Q : Halt → Type 0) (refusals : (e : Errno) → Q (Refuses e)) where
     path_rename_halts old_fd old_path old_len new_fd new_path new_len =
         search (found, lent_then, formed_then, placed_then, leaf, check, renamed_to_halts) depth 18
 
-    opened_there_halts : (k : ℕ) (w : Wish) (ret : ℕ) → HaltsBy Q (opened_there k w ret m h)
+    opened_there_halts : (k : ℕ) (w : OpenMode) (ret : ℕ) → HaltsBy Q (opened_there k w ret m h)
     opened_there_halts k w ret = search (found, check, done) depth 14
 
-    opened_new_halts : (place : WalkEnd) (w : Wish) (ret : ℕ)
+    opened_new_halts : (place : WalkEnd) (w : OpenMode) (ret : ℕ)
         → HaltsBy Q (opened_new place w ret m h)
     opened_new_halts place w ret = search (found, leaf, check, done) depth 14
 
-    opened_at_halts : (o : Option ℕ) (place : WalkEnd) (w : Wish) (ret : ℕ)
+    opened_at_halts : (o : Option ℕ) (place : WalkEnd) (w : OpenMode) (ret : ℕ)
         → HaltsBy Q (opened_at o place w ret m h)
     opened_at_halts None place w ret = opened_new_halts place w ret
     opened_at_halts (Some k) place w ret = opened_there_halts k w ret
 
-    path_open_halts : (fd dirflags path len : ℕ) (w : Wish) (ret : ℕ)
+    path_open_halts : (fd dirflags path len : ℕ) (w : OpenMode) (ret : ℕ)
         → HaltsBy Q (path_open fd dirflags path len w ret m h)
     path_open_halts fd dirflags path len w ret =
         search (found, lent_then, formed_then, placed_then, check, opened_at_halts) depth 18
@@ -294,13 +296,14 @@ module _ (Q : Halt → Type 0) (refusals : (e : Errno) → Q (Refuses e)) where
 
     -- ---- the rules that may want one
 
-    module _ (wishes : (k : Kind) → Q (Asks k)) where
-      asked_halts : (k : Kind) (o : Option Answer) → HaltsBy Q (asked k o)
-      asked_halts k None = halted (Asks k) (wishes k)
+    module _ (questions : (k : Question) → Q (Asks k)) where
+      asked_halts : (k : Question) (o : Option Answer) → HaltsBy Q (asked k o)
+      asked_halts k None = halted (Asks k) (questions k)
       asked_halts k (Some a) = done a
 
-      answered_then : {A : Type 0} (k : Kind) (given : Option Answer) (go : Answer → Result A Halt)
-          → ((a : Answer) → HaltsBy Q (go a)) → HaltsBy Q (answered_by h k given >>= go)
+      answered_then : {A : Type 0} (k : Question) (given : Option Answer) (go : Answer
+          → Result A Halt) → ((a : Answer) → HaltsBy Q (go a))
+          → HaltsBy Q (answered_by h k given >>= go)
       answered_then k given go f =
           next (answered_by h k given) go (asked_halts k (fitting (text_limit h.version) k given)) f
 
@@ -343,87 +346,90 @@ MayHalt c (Ends code) = c ≡ call.ProcExit
 refuses : (c : Call) (e : Errno) → MayHalt c (Refuses e)
 refuses c e = tt
 
-row_halts : (c : Call) (arguments : List ℕ) (given : Option Answer) (m : Bytes) (h : Host)
-    → HaltsBy (MayHalt c) (row c arguments given m h)
-row_halts call.ArgsGet (argv ∷ buf ∷ []) given m h =
+call_rule_halts : (c : Call) (arguments : List ℕ) (given : Option Answer) (m : Bytes)
+    (h : WasiState) → HaltsBy (MayHalt c) (call_rule c arguments given m h)
+call_rule_halts call.ArgsGet (argv ∷ buf ∷ []) given m h =
     texts_get_halts (MayHalt call.ArgsGet) (refuses call.ArgsGet) m h h.arguments argv buf
-row_halts call.ArgsSizesGet (count ∷ size ∷ []) given m h =
+call_rule_halts call.ArgsSizesGet (count ∷ size ∷ []) given m h =
     texts_sizes_get_halts (MayHalt call.ArgsSizesGet) (refuses call.ArgsSizesGet) m h h.arguments
     count size
-row_halts call.EnvironGet (environ ∷ buf ∷ []) given m h =
+call_rule_halts call.EnvironGet (environ ∷ buf ∷ []) given m h =
     texts_get_halts (MayHalt call.EnvironGet) (refuses call.EnvironGet) m h h.environment environ
     buf
-row_halts call.EnvironSizesGet (count ∷ size ∷ []) given m h =
+call_rule_halts call.EnvironSizesGet (count ∷ size ∷ []) given m h =
     texts_sizes_get_halts (MayHalt call.EnvironSizesGet) (refuses call.EnvironSizesGet) m h
     h.environment count size
-row_halts call.ClockResGet (id ∷ ret ∷ []) given m h =
+call_rule_halts call.ClockResGet (id ∷ ret ∷ []) given m h =
     clock_res_get_halts (MayHalt call.ClockResGet) (refuses call.ClockResGet) m h id ret
-row_halts call.ClockTimeGet (id ∷ precision ∷ ret ∷ []) given m h =
+call_rule_halts call.ClockTimeGet (id ∷ precision ∷ ret ∷ []) given m h =
     clock_time_get_halts (MayHalt call.ClockTimeGet) (refuses call.ClockTimeGet) m h (λ k. tt) id
     ret given
-row_halts call.FdClose (fd ∷ []) given m h =
+call_rule_halts call.FdClose (fd ∷ []) given m h =
     fd_close_halts (MayHalt call.FdClose) (refuses call.FdClose) m h fd
-row_halts call.FdDatasync (fd ∷ []) given m h =
+call_rule_halts call.FdDatasync (fd ∷ []) given m h =
     fd_syncs_halts (MayHalt call.FdDatasync) (refuses call.FdDatasync) m h fd_datasync_right fd
-row_halts call.FdFdstatGet (fd ∷ ret ∷ []) given m h =
+call_rule_halts call.FdFdstatGet (fd ∷ ret ∷ []) given m h =
     fd_fdstat_get_halts (MayHalt call.FdFdstatGet) (refuses call.FdFdstatGet) m h fd ret
-row_halts call.FdFdstatSetFlags (fd ∷ flags ∷ []) given m h =
+call_rule_halts call.FdFdstatSetFlags (fd ∷ flags ∷ []) given m h =
     fd_fdstat_set_flags_halts (MayHalt call.FdFdstatSetFlags) (refuses call.FdFdstatSetFlags) m h fd
     flags
-row_halts call.FdFilestatGet (fd ∷ ret ∷ []) given m h =
+call_rule_halts call.FdFilestatGet (fd ∷ ret ∷ []) given m h =
     fd_filestat_get_halts (MayHalt call.FdFilestatGet) (refuses call.FdFilestatGet) m h fd ret
-row_halts call.FdFilestatSetSize (fd ∷ size ∷ []) given m h =
+call_rule_halts call.FdFilestatSetSize (fd ∷ size ∷ []) given m h =
     fd_filestat_set_size_halts (MayHalt call.FdFilestatSetSize) (refuses call.FdFilestatSetSize) m h
     fd size
-row_halts call.FdPread (fd ∷ iovs ∷ count ∷ offset ∷ ret ∷ []) given m h =
+call_rule_halts call.FdPread (fd ∷ iovs ∷ count ∷ offset ∷ ret ∷ []) given m h =
     fd_pread_halts (MayHalt call.FdPread) (refuses call.FdPread) m h fd iovs count offset ret
-row_halts call.FdPrestatGet (fd ∷ ret ∷ []) given m h =
+call_rule_halts call.FdPrestatGet (fd ∷ ret ∷ []) given m h =
     fd_prestat_get_halts (MayHalt call.FdPrestatGet) (refuses call.FdPrestatGet) m h fd ret
-row_halts call.FdPrestatDirName (fd ∷ path ∷ len ∷ []) given m h =
+call_rule_halts call.FdPrestatDirName (fd ∷ path ∷ len ∷ []) given m h =
     fd_prestat_dir_name_halts (MayHalt call.FdPrestatDirName) (refuses call.FdPrestatDirName) m h fd
     path len
-row_halts call.FdPwrite (fd ∷ iovs ∷ count ∷ offset ∷ ret ∷ []) given m h =
+call_rule_halts call.FdPwrite (fd ∷ iovs ∷ count ∷ offset ∷ ret ∷ []) given m h =
     fd_pwrite_halts (MayHalt call.FdPwrite) (refuses call.FdPwrite) m h fd iovs count offset ret
-row_halts call.FdRead (fd ∷ iovs ∷ count ∷ ret ∷ []) given m h =
+call_rule_halts call.FdRead (fd ∷ iovs ∷ count ∷ ret ∷ []) given m h =
     fd_read_halts (MayHalt call.FdRead) (refuses call.FdRead) m h (λ k. tt) fd iovs count ret given
-row_halts call.FdReaddir (fd ∷ buf ∷ len ∷ cookie ∷ ret ∷ []) given m h =
+call_rule_halts call.FdReaddir (fd ∷ buf ∷ len ∷ cookie ∷ ret ∷ []) given m h =
     fd_readdir_halts (MayHalt call.FdReaddir) (refuses call.FdReaddir) m h fd buf len cookie ret
-row_halts call.FdSeek (fd ∷ delta ∷ whence ∷ ret ∷ []) given m h =
+call_rule_halts call.FdSeek (fd ∷ delta ∷ whence ∷ ret ∷ []) given m h =
     fd_seek_halts (MayHalt call.FdSeek) (refuses call.FdSeek) m h fd delta whence ret
-row_halts call.FdSync (fd ∷ []) given m h =
+call_rule_halts call.FdSync (fd ∷ []) given m h =
     fd_syncs_halts (MayHalt call.FdSync) (refuses call.FdSync) m h fd_sync_right fd
-row_halts call.FdTell (fd ∷ ret ∷ []) given m h =
+call_rule_halts call.FdTell (fd ∷ ret ∷ []) given m h =
     fd_tell_halts (MayHalt call.FdTell) (refuses call.FdTell) m h fd ret
-row_halts call.FdWrite (fd ∷ iovs ∷ count ∷ ret ∷ []) given m h =
+call_rule_halts call.FdWrite (fd ∷ iovs ∷ count ∷ ret ∷ []) given m h =
     fd_write_halts (MayHalt call.FdWrite) (refuses call.FdWrite) m h fd iovs count ret
-row_halts call.PathCreateDirectory (fd ∷ path ∷ len ∷ []) given m h =
+call_rule_halts call.PathCreateDirectory (fd ∷ path ∷ len ∷ []) given m h =
     path_create_directory_halts (MayHalt call.PathCreateDirectory)
     (refuses call.PathCreateDirectory) m h fd path len
-row_halts call.PathFilestatGet (fd ∷ flags ∷ path ∷ len ∷ ret ∷ []) given m h =
+call_rule_halts call.PathFilestatGet (fd ∷ flags ∷ path ∷ len ∷ ret ∷ []) given m h =
     path_filestat_get_halts (MayHalt call.PathFilestatGet) (refuses call.PathFilestatGet) m h fd
     flags path len ret
-row_halts call.PathOpen (fd ∷ dirflags ∷ path ∷ len ∷ oflags ∷ base ∷ inheriting ∷ fdflags ∷ ret ∷
-    []) given m h =
+call_rule_halts call.PathOpen (fd ∷ dirflags ∷ path ∷ len ∷ oflags ∷ base ∷ inheriting
+    ∷ fdflags ∷ ret ∷ []) given m h =
     path_open_halts (MayHalt call.PathOpen) (refuses call.PathOpen) m h fd dirflags path len
     (record { oflags = oflags; base = base; inheriting = inheriting; fdflags = fdflags }) ret
-row_halts call.PathRemoveDirectory (fd ∷ path ∷ len ∷ []) given m h =
+call_rule_halts call.PathRemoveDirectory (fd ∷ path ∷ len ∷ []) given m h =
     path_remove_directory_halts (MayHalt call.PathRemoveDirectory)
     (refuses call.PathRemoveDirectory) m h fd path len
-row_halts call.PathRename (fd ∷ path ∷ len ∷ to_fd ∷ to_path ∷ to_len ∷ []) given m h =
+call_rule_halts call.PathRename (fd ∷ path ∷ len ∷ to_fd ∷ to_path ∷ to_len ∷ []) given m h =
     path_rename_halts (MayHalt call.PathRename) (refuses call.PathRename) m h fd path len to_fd
     to_path to_len
-row_halts call.PathUnlinkFile (fd ∷ path ∷ len ∷ []) given m h =
+call_rule_halts call.PathUnlinkFile (fd ∷ path ∷ len ∷ []) given m h =
     path_unlink_file_halts (MayHalt call.PathUnlinkFile) (refuses call.PathUnlinkFile) m h fd path
     len
-row_halts call.ProcExit (code ∷ []) given m h =
+call_rule_halts call.ProcExit (code ∷ []) given m h =
     halted (MayHalt call.ProcExit) (refuses call.ProcExit) (Ends code) refl
-row_halts call.SchedYield [] given m h = done (MayHalt call.SchedYield) (refuses call.SchedYield) _
-row_halts call.RandomGet (buf ∷ len ∷ []) given m h =
+call_rule_halts call.SchedYield [] given m h = done (MayHalt call.SchedYield)
+    (refuses call.SchedYield) _
+call_rule_halts call.RandomGet (buf ∷ len ∷ []) given m h =
     random_get_halts (MayHalt call.RandomGet) (refuses call.RandomGet) m h (λ k. tt) buf len given
-row_halts c _ given m h = refused (MayHalt c) (refuses c) Inval
+call_rule_halts c _ given m h = refused (MayHalt c) (refuses c) Inval
 
-pub few_rows_ask : FewRowsAsk
-few_rows_ask c arguments given m h k e = (row_halts c arguments given m h).halts (Asks k) e
+pub few_call_rules_ask : FewCallRulesAsk
+few_call_rules_ask c arguments given m h k e = (call_rule_halts c arguments given m
+    h).halts (Asks k) e
 
 pub exit_alone_ends : ExitAloneEnds
-exit_alone_ends c arguments given m h code e = (row_halts c arguments given m h).halts (Ends code) e
+exit_alone_ends c arguments given m h code e = (call_rule_halts c arguments given m
+    h).halts (Ends code) e

@@ -12,7 +12,7 @@ use Rattle.file_tree.specs.rules.Files.{is_directory, holds_directory, changed_a
 use Rattle.file_tree.specs.rules.Files.{removed, forgotten, renamed, path_moved, with_file_bytes}
 use Rattle.file_tree.proofs.SameNames.{same_or_not}
 use Rattle.file_tree.proofs.Rebuilt.{found_number, path_there, own_nodes}
-use Rattle.wasi_calls_rules.specs.Hosts.{Node, IsThere, IsRemoved}
+use Rattle.wasi_calls_rules.specs.WasiStates.{Node, IsThere, IsRemoved}
 use Rattle.wasi_calls_rules.specs.Small.{has_path}
 
 abbrev pub NodeAt : Files → ℕ → Type 0

@@ -4,20 +4,23 @@ use Rattle.std.proofs.Common.{arith, length-append, length-drop}
 use Rattle.wasi_abi.specs.rules.Answers.{newline}
 use Rattle.wasi_abi.specs.rules.Versions.{text_limit}
 use Rattle.file_tree.specs.rules.Files.{Path}
-use Rattle.wasi_calls_rules.specs.Hosts.{Host}
+use Rattle.wasi_calls_rules.specs.WasiStates.{WasiState}
 use Rattle.wasi_calls_rules.specs.Checks.{Bytes}
 use Rattle.wasi_calls_rules.specs.Entries.{renamed_over}
-use Rattle.wasi_calls_rules.specs.laws.Laws.{HasShortInput, RowsKeepInputShort}
-use Rattle.wasi_calls_rules.proofs.HostChanges.{Becomes, stays, sees_time, leaves_unread}
-use Rattle.wasi_calls_rules.proofs.HostChanges.{takes_text, ends_input, closes, sets_flags, seeks}
-use Rattle.wasi_calls_rules.proofs.HostChanges.{reads_file, writes_stream, rewrites, writes_file}
-use Rattle.wasi_calls_rules.proofs.HostChanges.{makes, opens_new, opens, loses, renames}
-use Rattle.wasi_calls_rules.proofs.RowChanges.{changes}
+use Rattle.wasi_calls_rules.specs.laws.Laws.{HasShortInput, CallRulesKeepInputShort}
+use Rattle.wasi_calls_rules.proofs.WasiStateChanges.{Becomes, stays, sees_time, leaves_unread}
+use Rattle.wasi_calls_rules.proofs.WasiStateChanges.{takes_text, ends_input, closes, sets_flags}
+use Rattle.wasi_calls_rules.proofs.WasiStateChanges.{seeks}
+use Rattle.wasi_calls_rules.proofs.WasiStateChanges.{reads_file, writes_stream, rewrites}
+use Rattle.wasi_calls_rules.proofs.WasiStateChanges.{writes_file}
+use Rattle.wasi_calls_rules.proofs.WasiStateChanges.{makes, opens_new, opens, loses, renames}
+use Rattle.wasi_calls_rules.proofs.CallRuleChanges.{changes}
 use Rattle.wasi_calls_rules.proofs.KeptLines.{stream_either}
 
 -- a part of what was there
 rest_short : (n k : ℕ) (bytes : Bytes) → length bytes ≤ k → length (drop n bytes) ≤ k
-rest_short n k bytes short = let left = length-drop n bytes in omega (arith, left, short)
+rest_short n k bytes short = let rest_length = length-drop n bytes in omega
+    (arith, rest_length, short)
 
 text_short : (n k : ℕ) (text : Bytes) → length text ≤ k
     → length (drop n (text ++ newline ∷ [])) ≤ k + 1
@@ -26,12 +29,12 @@ text_short n k text short =
     in
     rest_short n (k + 1) (text ++ newline ∷ []) (omega (arith, whole, short))
 
-renamed_short : (h : Host) (k : ℕ) (j : Option ℕ) (from to : Path) → HasShortInput h
+renamed_short : (h : WasiState) (k : ℕ) (j : Option ℕ) (from to : Path) → HasShortInput h
     → HasShortInput (renamed_over k j from to h)
 renamed_short h k None from to short = short
 renamed_short h k (Some j) from to short = short
 
-input_short : (m : Bytes) (h after : Host) → HasShortInput h → Becomes m h after
+input_short : (m : Bytes) (h after : WasiState) → HasShortInput h → Becomes m h after
     → HasShortInput after
 input_short m h _ is stays = is
 input_short m h _ is (sees_time n small) = is
@@ -51,6 +54,6 @@ input_short m h _ is (opens k n flags base inheriting cut x few) = is
 input_short m h _ is (loses k x) = is
 input_short m h _ is (renames k j from to x) = renamed_short h k j from to is
 
-pub rows_keep_input_short : RowsKeepInputShort
-rows_keep_input_short c arguments given m h done is e =
+pub call_rules_keep_input_short : CallRulesKeepInputShort
+call_rules_keep_input_short c arguments given m h done is e =
     input_short m h done.host is (changes c arguments given m h done e)

@@ -5,11 +5,11 @@ use Rattle.std.specs.Prelude.{Some, None}
 use Rattle.std.proofs.lemmas.Bool.{leb-true}
 use Rattle.wasi_abi.specs.declared.errno.Errno.{Errno}
 use Rattle.wasi_abi.specs.declared.errno.Errno.TheVariants.{Fault, Inval}
-use Rattle.wasi_abi.specs.declared.answer.Kind.{Kind}
+use Rattle.wasi_abi.specs.declared.answer.Question.{Question}
 use Rattle.wasi_abi.specs.declared.answer.Answer.{Answer}
 use Rattle.wasi_abi.specs.rules.Versions.{text_limit}
 use Rattle.file_tree.specs.rules.Files.{Name}
-use Rattle.wasi_calls_rules.specs.Hosts.{Host}
+use Rattle.wasi_calls_rules.specs.WasiStates.{WasiState}
 use Rattle.wasi_calls_rules.specs.Checks.{Bytes, Halt, Refuses, Asks, ◌>>=◌, check_or, some_or}
 use Rattle.wasi_calls_rules.specs.Checks.{in_memory, asked, does_fit, answered_by}
 use Rattle.wasi_calls_rules.specs.Paths.{WalkEnd, Self, Leaf}
@@ -78,12 +78,12 @@ by_test false x y f g = g refl
 
 -- ---- where an answer from outside is wanted
 
-asked_where : (P : Answer → Type 0) (k : Kind) (a : Answer) (b : Bool) → (b ≡ true → P a)
+asked_where : (P : Answer → Type 0) (k : Question) (a : Answer) (b : Bool) → (b ≡ true → P a)
     → HoldsAfter P (asked k (if b then Some a else None))
 asked_where P k a true f = done_with P a (f refl)
 asked_where P k a false f = refused P (Asks k)
 
-pub answered : (P : Answer → Type 0) (h : Host) (k : Kind) (given : Option Answer)
+pub answered : (P : Answer → Type 0) (h : WasiState) (k : Question) (given : Option Answer)
     → ((a : Answer) → given ≡ Some a → does_fit (text_limit h.version) k a ≡ true → P a)
     → HoldsAfter P (answered_by h k given)
 answered P h k None f = refused P (Asks k)

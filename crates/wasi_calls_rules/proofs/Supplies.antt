@@ -15,7 +15,7 @@ use Rattle.file_tree.specs.rules.Files.{Entry, is_directory, is_same_name, path_
 use Rattle.file_tree.specs.rules.Files.{bytes_of_content, bytes_held, bytes_of_node, name_behind}
 use Rattle.file_tree.specs.rules.Files.{is_before, inserted, sorted, entry_of, entries_in}
 use Rattle.file_tree.specs.rules.Files.{entries_under, entries_of}
-use Rattle.wasi_calls_rules.specs.Hosts.{Target, Stream, Node, Host}
+use Rattle.wasi_calls_rules.specs.WasiStates.{Target, Stream, Node, WasiState}
 use Rattle.wasi_calls_rules.specs.Checks.{Bytes}
 use Rattle.wasi_calls_rules.specs.Small.{file_type_of, filestat_bytes_of, links_of}
 use Rattle.wasi_calls_rules.specs.Entries.{node_type, listed}
@@ -35,7 +35,7 @@ pub record NodeHolds (Q : ℕ → Type 0) (n : FileNode) : Type 0 where
   pub content : ContentHolds Q n.content
 
 -- of each byte that the host can supply
-pub record Supplies (Q : ℕ → Type 0) (h : Host) : Type 0 where
+pub record Supplies (Q : ℕ → Type 0) (h : WasiState) : Type 0 where
   pub files : AllByRecursion (NodeHolds Q) h.files.nodes
   pub unread : AllByRecursion Q h.unread
   pub arguments : AllByRecursion (AllByRecursion Q) h.arguments
@@ -91,11 +91,11 @@ module _ (Q : ℕ → Type 0) (low : (x : ℕ) → Q (x % 256)) where
   head_holds next node n file_type t =
       both (number 8 next) (both (number 8 node) (both (number 4 n) (front t (zeros 3))))
 
-  pub file_type_holds : (h : Host) (t : Target) → Q (file_type_of h t)
+  pub file_type_holds : (h : WasiState) (t : Target) → Q (file_type_of h t)
   file_type_holds h (Stream s) = low 2
   file_type_holds h (Node k) = chosen (is_directory h.files k) 3 4 (low 3) (low 4)
 
-  pub filestat_of_holds : (h : Host) (t : Target) → AllByRecursion Q (filestat_bytes_of h t)
+  pub filestat_of_holds : (h : WasiState) (t : Target) → AllByRecursion Q (filestat_bytes_of h t)
   filestat_of_holds h (Stream s) = filestat_holds 0 character_device 1 0 (low 2)
   filestat_of_holds h (Node k) =
       filestat_holds k (file_type_of h (Node k)) (links_of h.files k)
@@ -117,7 +117,8 @@ module _ (Q : ℕ → Type 0) (low : (x : ℕ) → Q (x % 256)) where
       either true rest = here n.content h.0.content
       either false rest = rest
 
-  pub file_holds : (h : Host) (k : ℕ) → Supplies Q h → AllByRecursion Q (bytes_of_node h.files k)
+  pub file_holds : (h : WasiState) (k : ℕ) → Supplies Q h → AllByRecursion Q
+      (bytes_of_node h.files k)
   file_holds h k s = found (λ (n : FileNode). n.number == k) h.files.nodes s.files
 
   -- ---- entries
@@ -164,7 +165,7 @@ module _ (Q : ℕ → Type 0) (low : (x : ℕ) → Q (x % 256)) where
   entry_holds p number (Some path) h =
       named number (name_behind p path) (name_behind_holds p path h)
 
-  -- the entry of a node stands before the others, where it has one
+  -- the entry of a node is before the others, where it has one
   one_more : (p : Path) (n : FileNode) (nodes : List FileNode) (o : Option Entry)
       → entry_of p n ≡ o → EntryHolds o → EntriesHold (entries_in p nodes)
       → EntriesHold (entries_in p (n ∷ nodes))
@@ -216,8 +217,8 @@ module _ (Q : ℕ → Type 0) (low : (x : ℕ) → Q (x % 256)) where
       record { each = listed_holds fs (place + 1) entries h.1 } in
       (both (both head name) rest).each
 
-  -- what a directory's entries spell behind a place
-  pub entries_hold : (h : Host) (k cookie : ℕ) → Supplies Q h
+  -- what a directory's entries spell after a place
+  pub entries_hold : (h : WasiState) (k cookie : ℕ) → Supplies Q h
       → AllByRecursion Q (listed h.files cookie (drop cookie (entries_of h.files k)))
   unfolding EntriesHold
   entries_hold h k cookie s =

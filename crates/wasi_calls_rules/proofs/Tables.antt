@@ -9,8 +9,8 @@ use Rattle.std.proofs.lemmas.Option.{same_Some}
 use Rattle.wasi_abi.specs.rules.Numbers.{are_within, all_rights}
 use Rattle.wasi_abi.specs.declared.errno.Errno.TheVariants.{Mfile}
 use Rattle.file_tree.specs.rules.Files.{Files}
-use Rattle.wasi_calls_rules.specs.Hosts.{Target, Stream, Node, Descriptor, Host, IsThere}
-use Rattle.wasi_calls_rules.specs.Hosts.{IsDescriptor, IsStreamAt}
+use Rattle.wasi_calls_rules.specs.WasiStates.{Target, Stream, Node, Descriptor, WasiState, IsThere}
+use Rattle.wasi_calls_rules.specs.WasiStates.{IsDescriptor, IsStreamAt}
 use Rattle.wasi_calls_rules.specs.declared.limits.TheConstants.{DESCRIPTORS}
 use Rattle.wasi_calls_rules.specs.Small.{is_node, names}
 use Rattle.wasi_calls_rules.specs.Entries.{free_from, free_number}
@@ -63,7 +63,7 @@ NamesNode ds k =
 abbrev pub AreDescriptors : Files → Table → Type 0
 AreDescriptors fs ds = AllByRecursion (λ (o : Option Descriptor). IfSome o (IsDescriptor fs)) ds
 
--- what `IsHost` says of descriptors
+-- what `IsWasiState` says of descriptors
 pub record AreOpen (fs : Files) (ds : Table) : Type 0 where
   pub places : length ds ≡ DESCRIPTORS
   pub descriptors : AreDescriptors fs ds
@@ -330,7 +330,8 @@ free_is from (Some d ∷ ds) n e =
     let sum = r.1 in
     (suc r.0, omega (arith, sum), r.2)
 
-pub free_place : (h : Host) (n : ℕ) → free_number h ≡ Ok n → slice_get h.descriptors n ≡ Some None
+pub free_place : (h : WasiState) (n : ℕ) → free_number h ≡ Ok n
+    → slice_get h.descriptors n ≡ Some None
 free_place h n e =
     let r = free_is 0 h.descriptors n (some_there Mfile (free_from 0 h.descriptors) n e) in
     let sum = r.1 in

@@ -4,23 +4,26 @@ use Rattle.std.specs.Prelude.{max, nat_le, true, Option, Some, None}
 use Rattle.guest_memory.specs.rules.Bytes.{with_part}
 use Rattle.wasi_abi.specs.declared.answer.Answer.{Answer}
 use Rattle.wasi_abi.specs.declared.answer.Answer.TheVariants as answer
-use Rattle.wasi_abi.specs.declared.answer.Kind.TheVariants as kind
+use Rattle.wasi_abi.specs.declared.answer.Question.TheVariants as question
 use Rattle.wasi_abi.specs.declared.errno.Errno.TheVariants.{Inval}
 use Rattle.wasi_abi.specs.rules.Layouts.{u64_bytes}
 use Rattle.wasi_abi.specs.rules.Versions.{text_limit}
 use Rattle.file_tree.specs.rules.Files.{Path}
-use Rattle.wasi_calls_rules.specs.Hosts.{Host}
+use Rattle.wasi_calls_rules.specs.WasiStates.{WasiState}
 use Rattle.wasi_calls_rules.specs.Checks.{Bytes, Done, check_or, in_memory, answered_by, does_fit}
 use Rattle.wasi_calls_rules.specs.Lines.{stream_written}
+use Rattle.wasi_calls_rules.specs.declared.output_stream.OutputStream.{OutputStream}
 use Rattle.wasi_calls_rules.specs.Small.{time_put, clock_time_get}
 use Rattle.wasi_calls_rules.specs.Entries.{renamed_over}
-use Rattle.wasi_calls_rules.specs.laws.Laws.{RowsKeepTimes, LastTimesAreTold}
-use Rattle.wasi_calls_rules.proofs.HostChanges.{Becomes, stays, sees_time, leaves_unread}
-use Rattle.wasi_calls_rules.proofs.HostChanges.{takes_text, ends_input, closes, sets_flags, seeks}
-use Rattle.wasi_calls_rules.proofs.HostChanges.{reads_file, writes_stream, rewrites, writes_file}
-use Rattle.wasi_calls_rules.proofs.HostChanges.{makes, opens_new, opens, loses, renames}
+use Rattle.wasi_calls_rules.specs.laws.Laws.{CallRulesKeepTimes, LastTimesAreTold}
+use Rattle.wasi_calls_rules.proofs.WasiStateChanges.{Becomes, stays, sees_time, leaves_unread}
+use Rattle.wasi_calls_rules.proofs.WasiStateChanges.{takes_text, ends_input, closes, sets_flags}
+use Rattle.wasi_calls_rules.proofs.WasiStateChanges.{seeks}
+use Rattle.wasi_calls_rules.proofs.WasiStateChanges.{reads_file, writes_stream, rewrites}
+use Rattle.wasi_calls_rules.proofs.WasiStateChanges.{writes_file}
+use Rattle.wasi_calls_rules.proofs.WasiStateChanges.{makes, opens_new, opens, loses, renames}
 use Rattle.wasi_calls_rules.proofs.KeptLines.{stream_either}
-use Rattle.wasi_calls_rules.proofs.RowChanges.{changes}
+use Rattle.wasi_calls_rules.proofs.CallRuleChanges.{changes}
 use Rattle.wasi_calls_rules.proofs.Steps.{HoldsAfter, next, step, answered, done_with}
 
 -- ---- the last time
@@ -31,17 +34,18 @@ same_time last after e = omega (arith, e)
 later_time : (n last : ℕ) → last ≤ max n last
 later_time n last = omega (arith)
 
-stream_time : (h : Host) (s : ℕ) (bytes : Bytes)
+stream_time : (h : WasiState) (s : OutputStream) (bytes : Bytes)
     → (stream_written s bytes h).last_monotonic ≡ h.last_monotonic
 stream_time h s bytes =
-    stream_either (λ (after : Host). after.last_monotonic ≡ h.last_monotonic) h s bytes refl refl
+    stream_either (λ (after : WasiState). after.last_monotonic
+    ≡ h.last_monotonic) h s bytes refl refl
 
-renamed_time : (h : Host) (k : ℕ) (j : Option ℕ) (from to : Path)
+renamed_time : (h : WasiState) (k : ℕ) (j : Option ℕ) (from to : Path)
     → (renamed_over k j from to h).last_monotonic ≡ h.last_monotonic
 renamed_time h k None from to = refl
 renamed_time h k (Some j) from to = refl
 
-times_kept : (m : Bytes) (h after : Host) → Becomes m h after
+times_kept : (m : Bytes) (h after : WasiState) → Becomes m h after
     → h.last_monotonic ≤ after.last_monotonic
 times_kept m h _ stays = same_time h.last_monotonic h.last_monotonic refl
 times_kept m h _ (sees_time n small) = later_time n h.last_monotonic
@@ -64,8 +68,8 @@ times_kept m h _ (loses k x) = same_time h.last_monotonic _ refl
 times_kept m h _ (renames k j from to x) =
     same_time h.last_monotonic _ (renamed_time h k j from to)
 
-pub rows_keep_times : RowsKeepTimes
-rows_keep_times c arguments given m h done e =
+pub call_rules_keep_times : CallRulesKeepTimes
+call_rules_keep_times c arguments given m h done e =
     times_kept m h done.host (changes c arguments given m h done e)
 
 -- ---- what is told
@@ -73,10 +77,10 @@ rows_keep_times c arguments given m h done e =
 abbrev TellsLast : ℕ → Bytes → Done → Type 0
 TellsLast ret m done = done.memory ≡ with_part m ret (u64_bytes done.host.last_monotonic)
 
-abbrev IsMonotonic : Host → Answer → Type 0
-IsMonotonic h a = does_fit (text_limit h.version) kind.Monotonic a ≡ true
+abbrev IsMonotonic : WasiState → Answer → Type 0
+IsMonotonic h a = does_fit (text_limit h.version) question.Monotonic a ≡ true
 
-time_told : (m : Bytes) (h : Host) (ret : ℕ) (a : Answer) → IsMonotonic h a
+time_told : (m : Bytes) (h : WasiState) (ret : ℕ) (a : Answer) → IsMonotonic h a
     → HoldsAfter (TellsLast ret m) (time_put a ret m h)
 time_told m h ret (answer.Monotonic n) fits = done_with (TellsLast ret m) _ refl
 time_told m h ret (answer.Realtime n) fits = absurd (cc)
@@ -84,12 +88,12 @@ time_told m h ret (answer.Request text) fits = absurd (cc)
 time_told m h ret answer.End fits = absurd (cc)
 time_told m h ret (answer.Random bytes) fits = absurd (cc)
 
-clock_told : (m : Bytes) (h : Host) (ret : ℕ) (given : Option Answer)
+clock_told : (m : Bytes) (h : WasiState) (ret : ℕ) (given : Option Answer)
     → HoldsAfter (TellsLast ret m) (clock_time_get 1 ret given m h)
 clock_told m h ret given =
     next (check_or (nat_le 1 1) Inval) _ (λ _. next (in_memory m ret 8) _ (λ _.
-    step (IsMonotonic h) (answered_by h kind.Monotonic given) _
-    (answered (IsMonotonic h) h kind.Monotonic given (λ a is fits. fits))
+    step (IsMonotonic h) (answered_by h question.Monotonic given) _
+    (answered (IsMonotonic h) h question.Monotonic given (λ a is fits. fits))
     (λ a fits. time_told m h ret a fits)))
 
 pub last_times_are_told : LastTimesAreTold

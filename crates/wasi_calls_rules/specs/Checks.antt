@@ -1,7 +1,6 @@
 -- The checks that all calls share, in their order (this project's profile). They are of the
--- descriptor, its kind, rights, numbers and flags, guest ranges, the form of paths, and the rest. A
--- call ends at the
--- first that fails, and changes nothing then.
+-- descriptor, its type, rights, numbers and flags, guest ranges, the form of paths, and the rest. A
+-- call ends at the first that fails, and changes nothing then.
 use Rattle.std.specs.Prelude.{ℕ, zero, suc, ◌+◌, ◌*◌, ◌==◌, not, ◌&&◌, ◌||◌, nat_le, nat_lt, ◌^◌}
 use Rattle.std.specs.Prelude.{min, Bool, true, false, if◌then◌else◌, List, [], ◌∷◌, ◌++◌, length}
 use Rattle.std.specs.Prelude.{take, drop, sum_by, slice_get, Option, Some, None, Result, Ok, Err}
@@ -9,8 +8,8 @@ use Rattle.std.specs.List.{list_all}
 use Rattle.wasi_abi.specs.declared.errno.Errno.{Errno}
 use Rattle.wasi_abi.specs.declared.errno.Errno.TheVariants.{Badf, Fault, Inval, Isdir, Notdir}
 use Rattle.wasi_abi.specs.declared.errno.Errno.TheVariants.{Notcapable, Spipe}
-use Rattle.wasi_abi.specs.declared.answer.Kind.{Kind}
-use Rattle.wasi_abi.specs.declared.answer.Kind.TheVariants as kind
+use Rattle.wasi_abi.specs.declared.answer.Question.{Question}
+use Rattle.wasi_abi.specs.declared.answer.Question.TheVariants as question
 use Rattle.wasi_abi.specs.declared.answer.Answer.{Answer}
 use Rattle.wasi_abi.specs.declared.answer.Answer.TheVariants as answer
 use Rattle.wasi_abi.specs.rules.Numbers.{has_right, are_within}
@@ -19,7 +18,7 @@ use Rattle.wasi_abi.specs.rules.Layouts.{u32_at}
 use Rattle.wasi_abi.specs.rules.Versions.{text_limit}
 use Rattle.guest_memory.specs.rules.Bytes.{part, with_part}
 use Rattle.file_tree.specs.rules.Files.{is_directory}
-use Rattle.wasi_calls_rules.specs.Hosts.{Target, Stream, Node, Descriptor, Host}
+use Rattle.wasi_calls_rules.specs.WasiStates.{Target, Stream, Node, Descriptor, WasiState}
 use Rattle.wasi_calls_rules.specs.declared.limits.TheConstants.{IOVECS, MOVED_BYTES}
 
 -- the bytes of a memory or of a text
@@ -29,13 +28,13 @@ Bytes = List ℕ
 -- why a call isn't done: it is refused, it wants an answer from outside, or it ends the process
 pub data Halt : Type 0 where
   Refuses : Errno → Halt
-  Asks : Kind → Halt
+  Asks : Question → Halt
   Ends : ℕ → Halt
 
 -- the memory and the host after a call that is done
 pub record Done : Type 0 where
   pub memory : Bytes
-  pub host : Host
+  pub host : WasiState
 
 -- what a call's rule gives: memory and host after it, or why it halts
 abbrev pub Ruling : Type 0
@@ -57,7 +56,7 @@ abbrev pub some_or : {A : Type 0} → Errno → Option A → Result A Halt
 some_or e None = Err (Refuses e)
 some_or e (Some x) = Ok x
 
--- ---- descriptors and their kinds
+-- ---- descriptors and their types
 
 -- an option of an option, as one
 abbrev pub flat : {A : Type 0} → Option (Option A) → Option A
@@ -65,7 +64,7 @@ flat None = None
 flat (Some o) = o
 
 -- the descriptor is open
-abbrev pub open_descriptor : Host → ℕ → Result Descriptor Halt
+abbrev pub open_descriptor : WasiState → ℕ → Result Descriptor Halt
 open_descriptor h fd = some_or Badf (flat (slice_get h.descriptors fd))
 
 -- a stream
@@ -74,20 +73,20 @@ is_stream (Stream s) = true
 is_stream (Node k) = false
 
 -- a node that is a directory
-abbrev pub names_directory : Host → Target → Bool
+abbrev pub names_directory : WasiState → Target → Bool
 names_directory h (Stream s) = false
 names_directory h (Node k) = is_directory h.files k
 
 -- refuses a directory by `isdir`
-abbrev pub no_directory : Host → Descriptor → Result (Unit {0}) Halt
+abbrev pub no_directory : WasiState → Descriptor → Result (Unit {0}) Halt
 no_directory h d = check_or (not (names_directory h d.target)) Isdir
 
 -- a file: no stream and no directory
-abbrev pub a_file : Host → Descriptor → Result (Unit {0}) Halt
+abbrev pub a_file : WasiState → Descriptor → Result (Unit {0}) Halt
 a_file h d = check_or (not (is_stream d.target)) Spipe >>= λ _. no_directory h d
 
 -- refuses all but a directory by `notdir`
-abbrev pub a_directory : Host → Descriptor → Result (Unit {0}) Halt
+abbrev pub a_directory : WasiState → Descriptor → Result (Unit {0}) Halt
 a_directory h d = check_or (names_directory h d.target) Notdir
 
 -- the number of the node that a descriptor names; a stream names none
@@ -163,7 +162,7 @@ scattered m (b ∷ bs) bytes = scattered (with_part m b.from (take b.len bytes))
 -- ---- outside answers
 
 -- the answer, which is asked for until one is there that fits
-abbrev pub asked : Kind → Option Answer → Result Answer Halt
+abbrev pub asked : Question → Option Answer → Result Answer Halt
 asked k None = Err (Asks k)
 asked k (Some a) = Ok a
 
@@ -180,21 +179,21 @@ abbrev pub has_64_bits : ℕ → Bool
 has_64_bits n = nat_lt n (2 ^ 64)
 
 -- what `Fits` says, as a test
-abbrev pub does_fit : ℕ → Kind → Answer → Bool
-does_fit limit kind.Request (answer.Request text) =
+abbrev pub does_fit : ℕ → Question → Answer → Bool
+does_fit limit question.Request (answer.Request text) =
     nat_le (length text) limit && (has_bytes_alone text && has_no_newline text)
-does_fit limit kind.Request answer.End = true
-does_fit limit kind.Realtime (answer.Realtime n) = has_64_bits n
-does_fit limit kind.Monotonic (answer.Monotonic n) = has_64_bits n
-does_fit limit (kind.Random n) (answer.Random bytes) =
+does_fit limit question.Request answer.End = true
+does_fit limit question.Realtime (answer.Realtime n) = has_64_bits n
+does_fit limit question.Monotonic (answer.Monotonic n) = has_64_bits n
+does_fit limit (question.Random n) (answer.Random bytes) =
     (length bytes == n) && has_bytes_alone bytes
 does_fit limit _ _ = false
 
 -- an answer that doesn't fit is as none
-abbrev pub fitting : ℕ → Kind → Option Answer → Option Answer
+abbrev pub fitting : ℕ → Question → Option Answer → Option Answer
 fitting limit k None = None
 fitting limit k (Some a) = if does_fit limit k a then Some a else None
 
--- the answer that was given where it fits, else a wish for one
-abbrev pub answered_by : Host → Kind → Option Answer → Result Answer Halt
+-- the answer that was given where it fits, else a question for one
+abbrev pub answered_by : WasiState → Question → Option Answer → Result Answer Halt
 answered_by h k given = asked k (fitting (text_limit h.version) k given)

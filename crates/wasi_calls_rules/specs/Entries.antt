@@ -19,7 +19,7 @@ use Rattle.file_tree.specs.rules.Files.{Name, Path, Files, Entry, Directory, Fil
 use Rattle.file_tree.specs.rules.Files.{is_directory, entries_of, created, removed, renamed}
 use Rattle.file_tree.specs.rules.Files.{with_file_bytes, path_behind}
 use Rattle.file_tree.specs.declared.limits.TheConstants.{NODES}
-use Rattle.wasi_calls_rules.specs.Hosts.{Node, Descriptor, Host}
+use Rattle.wasi_calls_rules.specs.WasiStates.{Node, Descriptor, WasiState}
 use Rattle.wasi_calls_rules.specs.Checks.{Bytes, Halt, Refuses, Ruling, ◌>>=◌, check_or, some_or}
 use Rattle.wasi_calls_rules.specs.Checks.{open_descriptor, a_directory, with_right, needs}
 use Rattle.wasi_calls_rules.specs.Checks.{within_rights, in_memory, lent, node_named}
@@ -32,14 +32,14 @@ use Rattle.wasi_calls_rules.specs.Small.{call_done, with_descriptor, filestat_by
 abbrev pub node_type : Files → ℕ → ℕ
 node_type fs k = if is_directory fs k then directory_type else regular_file
 
--- the entries from this place on, each with the place behind it
+-- the entries from this place on, each with the place after it
 abbrev pub listed : Files → ℕ → List Entry → Bytes
 listed fs place [] = []
 listed fs place (e ∷ entries) = dirent_bytes (place + 1) e.number (node_type fs e.number) e.name
     ++ listed fs (place + 1) entries
 
--- as much of the entries behind the first `cookie` ones as there is room for
-abbrev pub fd_readdir : ℕ → ℕ → ℕ → ℕ → ℕ → Bytes → Host → Ruling
+-- as much of the entries after the first `cookie` ones as there is room for
+abbrev pub fd_readdir : ℕ → ℕ → ℕ → ℕ → ℕ → Bytes → WasiState → Ruling
 fd_readdir fd buf len cookie ret m h =
     open_descriptor h fd >>= λ d.
     a_directory h d >>= λ _.
@@ -53,7 +53,7 @@ fd_readdir fd buf len cookie ret m h =
 -- ---- places
 
 -- where the names lead from the descriptor's directory
-abbrev pub placed : Host → Descriptor → List Name → Result WalkEnd Halt
+abbrev pub placed : WasiState → Descriptor → List Name → Result WalkEnd Halt
 placed h d names = walk h.files (node_named d.target) [] names
 
 -- a place that is a name in a directory, and no self path
@@ -70,7 +70,7 @@ abbrev pub a_free_node : Files → Result (Unit {0}) Halt
 a_free_node fs = check_or (nat_lt (length fs.nodes) NODES) Nospc
 
 -- `path_create_directory`
-abbrev pub path_create_directory : ℕ → ℕ → ℕ → Bytes → Host → Ruling
+abbrev pub path_create_directory : ℕ → ℕ → ℕ → Bytes → WasiState → Ruling
 path_create_directory fd path len m h =
     open_descriptor h fd >>= λ d.
     a_directory h d >>= λ _.
@@ -85,7 +85,7 @@ path_create_directory fd path len m h =
     call_done m (record h { files = created p Directory h.files }))
 
 -- `path_filestat_get`
-abbrev pub path_filestat_get : ℕ → ℕ → ℕ → ℕ → ℕ → Bytes → Host → Ruling
+abbrev pub path_filestat_get : ℕ → ℕ → ℕ → ℕ → ℕ → Bytes → WasiState → Ruling
 path_filestat_get fd flags path len ret m h =
     open_descriptor h fd >>= λ d.
     a_directory h d >>= λ _.
@@ -103,11 +103,11 @@ abbrev pub is_directory_empty : Files → ℕ → Bool
 is_directory_empty fs k = length (entries_of fs k) == 0
 
 -- the host after a node has lost its path
-abbrev pub without : ℕ → Host → Host
+abbrev pub without : ℕ → WasiState → WasiState
 without k h = record h { files = swept (Node k) h.descriptors (removed k h.files) }
 
 -- `path_remove_directory`
-abbrev pub path_remove_directory : ℕ → ℕ → ℕ → Bytes → Host → Ruling
+abbrev pub path_remove_directory : ℕ → ℕ → ℕ → Bytes → WasiState → Ruling
 path_remove_directory fd path len m h =
     open_descriptor h fd >>= λ d.
     a_directory h d >>= λ _.
@@ -122,7 +122,7 @@ path_remove_directory fd path len m h =
     call_done m (without k h))
 
 -- `path_unlink_file`
-abbrev pub path_unlink_file : ℕ → ℕ → ℕ → Bytes → Host → Ruling
+abbrev pub path_unlink_file : ℕ → ℕ → ℕ → Bytes → WasiState → Ruling
 path_unlink_file fd path len m h =
     open_descriptor h fd >>= λ d.
     a_directory h d >>= λ _.
@@ -149,7 +149,7 @@ is_within_node fs k d = within_path (path_of fs k) (path_of fs d)
     within_path (Some above) (Some p) = is_below above p
     within_path _ _ = false
 
--- what stands at the target gives way to what comes
+-- what is at the target gives way to what comes
 abbrev pub gives_way : Files → ℕ → Option ℕ → Result (Unit {0}) Halt
 gives_way fs k None = Ok tt
 gives_way fs k (Some j) =
@@ -158,13 +158,13 @@ gives_way fs k (Some j) =
     check_or (not (is_directory fs j) || is_directory_empty fs j) Notempty
 
 -- the host without the node that a rename replaces, if there is one
-abbrev pub without_target : Option ℕ → Host → Host
+abbrev pub without_target : Option ℕ → WasiState → WasiState
 without_target None h = h
 without_target (Some j) h = without j h
 
--- the node k, whose path is `from`, takes the path `to`, at which j may stand
-abbrev pub renamed_over : ℕ → Option ℕ → Path → Path → Host → Host
-renamed_over k j from to h = let cleared : Host = without_target j h in
+-- the node k, whose path is `from`, takes the path `to`, at which j may be
+abbrev pub renamed_over : ℕ → Option ℕ → Path → Path → WasiState → WasiState
+renamed_over k j from to h = let cleared : WasiState = without_target j h in
     record cleared { files = renamed from to cleared.files }
 
 -- there is a node, and it is this one
@@ -173,7 +173,7 @@ is_same_node k None = false
 is_same_node k (Some j) = j == k
 
 -- from a name in one directory to a name in another. Both are one node: nothing changes
-abbrev pub renamed_to : ℕ → Name → WalkEnd → ℕ → Name → WalkEnd → Bytes → Host → Ruling
+abbrev pub renamed_to : ℕ → Name → WalkEnd → ℕ → Name → WalkEnd → Bytes → WasiState → Ruling
 renamed_to d name source e other target m h =
     some_or Noent (node_at h.files source) >>= λ k.
     whole_path h.files d name >>= λ from.
@@ -184,7 +184,7 @@ renamed_to d name source e other target m h =
     >>= λ _. call_done m (renamed_over k (node_at h.files target) from to h))
 
 -- `path_rename`
-abbrev pub path_rename : ℕ → ℕ → ℕ → ℕ → ℕ → ℕ → Bytes → Host → Ruling
+abbrev pub path_rename : ℕ → ℕ → ℕ → ℕ → ℕ → ℕ → Bytes → WasiState → Ruling
 path_rename old_fd old_path old_len new_fd new_path new_len m h =
     open_descriptor h old_fd >>= λ d.
     open_descriptor h new_fd >>= λ e.
@@ -211,10 +211,10 @@ free_from n (None ∷ ds) = if nat_lt n 3 then free_from (n + 1) ds else Some n
 free_from n (Some d ∷ ds) = free_from (n + 1) ds
 
 -- the lowest number that no descriptor has, or `mfile`
-abbrev pub free_number : Host → Result ℕ Halt
+abbrev pub free_number : WasiState → Result ℕ Halt
 free_number h = some_or Mfile (free_from 0 h.descriptors)
 
--- The descriptor of a node that was opened. Its rights are cut to what a node of its kind may have.
+-- The descriptor of a node that was opened. Its rights are cut to what a node of its type may have.
 abbrev pub new_descriptor : Bool → ℕ → ℕ → ℕ → ℕ → Descriptor
 new_descriptor is_dir k flags base inheriting = record {
   target = Node k;
@@ -225,7 +225,7 @@ new_descriptor is_dir k flags base inheriting = record {
 }
 
 -- what was asked for: open flags, rights and descriptor flags
-pub record Wish : Type 0 where
+pub record OpenMode : Type 0 where
   pub oflags : ℕ
   pub base : ℕ
   pub inheriting : ℕ
@@ -236,11 +236,11 @@ abbrev pub cut_if : Bool → ℕ → Files → Files
 cut_if is_cut k fs = if is_cut then with_file_bytes k [] fs else fs
 
 -- the new descriptor's number is put into memory
-abbrev pub opened_as : ℕ → ℕ → Descriptor → Bytes → Host → Ruling
+abbrev pub opened_as : ℕ → ℕ → Descriptor → Bytes → WasiState → Ruling
 opened_as ret n d m h = call_done (with_part m ret (u32_bytes n)) (with_descriptor n d h)
 
 -- a node that is there is opened
-abbrev pub opened_there : ℕ → Wish → ℕ → Bytes → Host → Ruling
+abbrev pub opened_there : ℕ → OpenMode → ℕ → Bytes → WasiState → Ruling
 opened_there k w ret m h =
     check_or (not (has_flag w.oflags create_flag && has_flag w.oflags exclusive_flag)) Exist
     >>= λ _.
@@ -252,7 +252,7 @@ opened_there k w ret m h =
     (record h { files = cut_if (has_flag w.oflags truncate_flag) k h.files })
 
 -- a file is made and opened where nothing is
-abbrev pub opened_new : WalkEnd → Wish → ℕ → Bytes → Host → Ruling
+abbrev pub opened_new : WalkEnd → OpenMode → ℕ → Bytes → WasiState → Ruling
 opened_new place w ret m h =
     check_or (has_flag w.oflags create_flag) Noent >>= λ _.
     a_leaf place (λ d name.
@@ -263,12 +263,12 @@ opened_new place w ret m h =
     (record h { files = created p (File []) h.files }))
 
 -- what is opened: a node that is there, or a new one
-abbrev pub opened_at : Option ℕ → WalkEnd → Wish → ℕ → Bytes → Host → Ruling
+abbrev pub opened_at : Option ℕ → WalkEnd → OpenMode → ℕ → Bytes → WasiState → Ruling
 opened_at None place w ret m h = opened_new place w ret m h
 opened_at (Some k) place w ret m h = opened_there k w ret m h
 
 -- `path_open`
-abbrev pub path_open : ℕ → ℕ → ℕ → ℕ → Wish → ℕ → Bytes → Host → Ruling
+abbrev pub path_open : ℕ → ℕ → ℕ → ℕ → OpenMode → ℕ → Bytes → WasiState → Ruling
 path_open fd dirflags path len w ret m h =
     open_descriptor h fd >>= λ d.
     a_directory h d >>= λ _.

@@ -1,9 +1,9 @@
-pub mod Hosts
+pub mod WasiStates
 pub mod Checks
 pub mod Lines
 pub mod Paths
 pub mod Small
 pub mod Moving
 pub mod Entries
-pub mod Rows
+pub mod CallRules
 pub mod laws

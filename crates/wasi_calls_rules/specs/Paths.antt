@@ -72,7 +72,7 @@ abbrev pub onward : Files → ℕ → Name → List Name → (ℕ → Result Wal
 onward fs d name [] walk_on = Ok (Leaf d name)
 onward fs d name (next ∷ names) walk_on = directory_entered fs (child fs d name) >>= walk_on
 
--- from directory d, reached through those behind it, the last one first, along the names
+-- from directory d, reached through those after it, the last one first, along the names
 abbrev pub walk : Files → ℕ → List ℕ → List Name → Result WalkEnd Halt
 walk fs d behind [] = Ok (Self d)
 walk fs d behind (name ∷ names) =

@@ -8,8 +8,8 @@ use Rattle.std.specs.List.{list_any}
 use Rattle.std.specs.Int.{w64, cast_signed}
 use Rattle.wasi_abi.specs.declared.errno.Errno.TheVariants.{Badf, Fbig, Inval, Nametoolong, Nospc}
 use Rattle.wasi_abi.specs.declared.errno.Errno.TheVariants.{Notcapable}
-use Rattle.wasi_abi.specs.declared.answer.Kind.{Kind}
-use Rattle.wasi_abi.specs.declared.answer.Kind.TheVariants as kind
+use Rattle.wasi_abi.specs.declared.answer.Question.{Question}
+use Rattle.wasi_abi.specs.declared.answer.Question.TheVariants as question
 use Rattle.wasi_abi.specs.declared.answer.Answer.{Answer}
 use Rattle.wasi_abi.specs.declared.answer.Answer.TheVariants as answer
 use Rattle.wasi_abi.specs.rules.Numbers.{fd_fdstat_set_flags_right, fd_filestat_get_right}
@@ -23,18 +23,18 @@ use Rattle.file_tree.specs.rules.Bytes.{resized}
 use Rattle.file_tree.specs.rules.Files.{Files, slash, path_of, is_directory, bytes_of_node, used}
 use Rattle.file_tree.specs.rules.Files.{with_file_bytes, forgotten}
 use Rattle.file_tree.specs.declared.limits.TheConstants.{FILE_BYTES}
-use Rattle.wasi_calls_rules.specs.Hosts.{Target, Stream, Node, Descriptor, Host}
+use Rattle.wasi_calls_rules.specs.WasiStates.{Target, Stream, Node, Descriptor, WasiState}
 use Rattle.wasi_calls_rules.specs.Checks.{Bytes, Halt, Refuses, Ends, Ruling, ◌>>=◌, check_or}
 use Rattle.wasi_calls_rules.specs.Checks.{open_descriptor, a_file, with_right, in_memory}
 use Rattle.wasi_calls_rules.specs.Checks.{node_named, answered_by}
 
 -- a call that is done
-abbrev pub call_done : Bytes → Host → Ruling
+abbrev pub call_done : Bytes → WasiState → Ruling
 call_done m h = Ok (record { memory = m; host = h })
 
 -- ---- arguments and environment
 
--- the texts, each with a zero byte behind it
+-- the texts, each with a zero byte after it
 abbrev pub with_zeros : List Bytes → Bytes
 with_zeros [] = []
 with_zeros (text ∷ texts) = text ++ (0 ∷ with_zeros texts)
@@ -45,14 +45,14 @@ pointers_to from [] = []
 pointers_to from (text ∷ texts) = u32_bytes from ++ pointers_to (from + length text + 1) texts
 
 -- `args_get` and `environ_get`: the texts, and where each begins
-abbrev pub texts_get : List Bytes → ℕ → ℕ → Bytes → Host → Ruling
+abbrev pub texts_get : List Bytes → ℕ → ℕ → Bytes → WasiState → Ruling
 texts_get texts array buf m h =
     in_memory m array (4 * length texts) >>= λ _.
     in_memory m buf (length (with_zeros texts)) >>= λ _.
     call_done (with_part (with_part m array (pointers_to buf texts)) buf (with_zeros texts)) h
 
 -- `args_sizes_get` and `environ_sizes_get`: how many texts, of how many bytes
-abbrev pub texts_sizes_get : List Bytes → ℕ → ℕ → Bytes → Host → Ruling
+abbrev pub texts_sizes_get : List Bytes → ℕ → ℕ → Bytes → WasiState → Ruling
 texts_sizes_get texts count size m h =
     in_memory m count 4 >>= λ _.
     in_memory m size 4 >>= λ _.
@@ -62,14 +62,14 @@ texts_sizes_get texts count size m h =
 -- ---- clocks
 
 -- `clock_res_get`
-abbrev pub clock_res_get : ℕ → ℕ → Bytes → Host → Ruling
+abbrev pub clock_res_get : ℕ → ℕ → Bytes → WasiState → Ruling
 clock_res_get id ret m h =
     check_or (nat_le id 1) Inval >>= λ _.
     in_memory m ret 8 >>= λ _.
     call_done (with_part m ret (u64_bytes 1)) h
 
 -- what the guest sees of a monotonic answer: the larger of it and the last one seen
-abbrev pub time_put : Answer → ℕ → Bytes → Host → Ruling
+abbrev pub time_put : Answer → ℕ → Bytes → WasiState → Ruling
 time_put (answer.Monotonic n) ret m h =
     call_done (with_part m ret (u64_bytes (max n h.last_monotonic)))
     (record h { last_monotonic = max n h.last_monotonic })
@@ -77,15 +77,15 @@ time_put (answer.Realtime n) ret m h = call_done (with_part m ret (u64_bytes n))
 time_put _ ret m h = Err (Refuses Inval)
 
 -- which time a clock asks for
-abbrev pub clock_kind : ℕ → Kind
-clock_kind id = if id == 0 then kind.Realtime else kind.Monotonic
+abbrev pub clock_question : ℕ → Question
+clock_question id = if id == 0 then question.Realtime else question.Monotonic
 
 -- `clock_time_get`
-abbrev pub clock_time_get : ℕ → ℕ → Option Answer → Bytes → Host → Ruling
+abbrev pub clock_time_get : ℕ → ℕ → Option Answer → Bytes → WasiState → Ruling
 clock_time_get id ret given m h =
     check_or (nat_le id 1) Inval >>= λ _.
     in_memory m ret 8 >>= λ _.
-    answered_by h (clock_kind id) given >>= λ a.
+    answered_by h (clock_question id) given >>= λ a.
     time_put a ret m h
 
 -- ---- descriptors
@@ -115,7 +115,7 @@ swept (Node k) ds fs = if has_path fs k then fs else if list_any (names k) ds th
     else forgotten k fs
 
 -- `fd_close`
-abbrev pub fd_close : ℕ → Bytes → Host → Ruling
+abbrev pub fd_close : ℕ → Bytes → WasiState → Ruling
 fd_close fd m h =
     open_descriptor h fd >>= λ d.
     check_or (not (fd == 3)) Notcapable >>= λ _.
@@ -125,19 +125,19 @@ fd_close fd m h =
     })
 
 -- a guest sync
-abbrev pub fd_syncs : ℕ → ℕ → Bytes → Host → Ruling
+abbrev pub fd_syncs : ℕ → ℕ → Bytes → WasiState → Ruling
 fd_syncs right fd m h =
     open_descriptor h fd >>= λ d.
     with_right right d >>= λ _.
     call_done m h
 
 -- the file type of a target
-abbrev pub file_type_of : Host → Target → ℕ
+abbrev pub file_type_of : WasiState → Target → ℕ
 file_type_of h (Stream s) = character_device
 file_type_of h (Node k) = if is_directory h.files k then directory_type else regular_file
 
 -- `fd_fdstat_get`
-abbrev pub fd_fdstat_get : ℕ → ℕ → Bytes → Host → Ruling
+abbrev pub fd_fdstat_get : ℕ → ℕ → Bytes → WasiState → Ruling
 fd_fdstat_get fd ret m h =
     open_descriptor h fd >>= λ d.
     in_memory m ret 24 >>= λ _.
@@ -145,11 +145,11 @@ fd_fdstat_get fd ret m h =
     h
 
 -- the host with another descriptor at this number
-abbrev pub with_descriptor : ℕ → Descriptor → Host → Host
+abbrev pub with_descriptor : ℕ → Descriptor → WasiState → WasiState
 with_descriptor fd d h = record h { descriptors = slice_set h.descriptors fd (Some d) }
 
 -- `fd_fdstat_set_flags`
-abbrev pub fd_fdstat_set_flags : ℕ → ℕ → Bytes → Host → Ruling
+abbrev pub fd_fdstat_set_flags : ℕ → ℕ → Bytes → WasiState → Ruling
 fd_fdstat_set_flags fd flags m h =
     open_descriptor h fd >>= λ d.
     with_right fd_fdstat_set_flags_right d >>= λ _.
@@ -161,14 +161,14 @@ abbrev pub links_of : Files → ℕ → ℕ
 links_of fs k = if has_path fs k then 1 else 0
 
 -- the `filestat` of a target as bytes
-abbrev pub filestat_bytes_of : Host → Target → Bytes
+abbrev pub filestat_bytes_of : WasiState → Target → Bytes
 filestat_bytes_of h (Stream s) = filestat_bytes 0 character_device 1 0
 filestat_bytes_of h (Node k) =
     filestat_bytes k (file_type_of h (Node k)) (links_of h.files k)
     (length (bytes_of_node h.files k))
 
 -- `fd_filestat_get`
-abbrev pub fd_filestat_get : ℕ → ℕ → Bytes → Host → Ruling
+abbrev pub fd_filestat_get : ℕ → ℕ → Bytes → WasiState → Ruling
 fd_filestat_get fd ret m h =
     open_descriptor h fd >>= λ d.
     with_right fd_filestat_get_right d >>= λ _.
@@ -176,13 +176,13 @@ fd_filestat_get fd ret m h =
     call_done (with_part m ret (filestat_bytes_of h d.target)) h
 
 -- a file may have so many bytes, for itself and among all files
-abbrev pub roomy : Host → ℕ → ℕ → Result (Unit {0}) Halt
+abbrev pub roomy : WasiState → ℕ → ℕ → Result (Unit {0}) Halt
 roomy h k size =
     check_or (nat_le size FILE_BYTES) Fbig >>= λ _.
     check_or (nat_le (used h.files + size) (h.room + length (bytes_of_node h.files k))) Nospc
 
 -- `fd_filestat_set_size`
-abbrev pub fd_filestat_set_size : ℕ → ℕ → Bytes → Host → Ruling
+abbrev pub fd_filestat_set_size : ℕ → ℕ → Bytes → WasiState → Ruling
 fd_filestat_set_size fd size m h =
     open_descriptor h fd >>= λ d.
     a_file h d >>= λ _.
@@ -194,7 +194,7 @@ fd_filestat_set_size fd size m h =
     })
 
 -- descriptor 3 alone was opened for the guest before it began, as `/`
-abbrev pub fd_prestat_get : ℕ → ℕ → Bytes → Host → Ruling
+abbrev pub fd_prestat_get : ℕ → ℕ → Bytes → WasiState → Ruling
 fd_prestat_get fd ret m h =
     open_descriptor h fd >>= λ d.
     in_memory m ret 8 >>= λ _.
@@ -202,7 +202,7 @@ fd_prestat_get fd ret m h =
     call_done (with_part m ret (prestat_bytes 1)) h
 
 -- `fd_prestat_dir_name`
-abbrev pub fd_prestat_dir_name : ℕ → ℕ → ℕ → Bytes → Host → Ruling
+abbrev pub fd_prestat_dir_name : ℕ → ℕ → ℕ → Bytes → WasiState → Ruling
 fd_prestat_dir_name fd path len m h =
     open_descriptor h fd >>= λ d.
     in_memory m path 1 >>= λ _.
@@ -211,7 +211,7 @@ fd_prestat_dir_name fd path len m h =
     call_done (with_part m path (slash ∷ [])) h
 
 -- where a seek counts from: the start, the offset, or the end
-abbrev pub seek_base : Host → Descriptor → ℕ → ℕ
+abbrev pub seek_base : WasiState → Descriptor → ℕ → ℕ
 seek_base h d whence = if whence == 0 then 0 else if whence == 1 then d.offset
     else length (bytes_of_node h.files (node_named d.target))
 
@@ -221,7 +221,7 @@ file_offset (pos n) = if nat_lt n (2 ^ 63) then Ok n else Err (Refuses Inval)
 file_offset (negsuc n) = Err (Refuses Inval)
 
 -- `fd_seek`
-abbrev pub fd_seek : ℕ → ℕ → ℕ → ℕ → Bytes → Host → Ruling
+abbrev pub fd_seek : ℕ → ℕ → ℕ → ℕ → Bytes → WasiState → Ruling
 fd_seek fd delta whence ret m h =
     open_descriptor h fd >>= λ d.
     a_file h d >>= λ _.
@@ -233,7 +233,7 @@ fd_seek fd delta whence ret m h =
     (with_descriptor fd (record d { offset = offset }) h)
 
 -- `fd_tell`
-abbrev pub fd_tell : ℕ → ℕ → Bytes → Host → Ruling
+abbrev pub fd_tell : ℕ → ℕ → Bytes → WasiState → Ruling
 fd_tell fd ret m h =
     open_descriptor h fd >>= λ d.
     a_file h d >>= λ _.
@@ -248,18 +248,18 @@ abbrev pub proc_exit : ℕ → Ruling
 proc_exit code = Err (Ends code)
 
 -- `sched_yield`
-abbrev pub sched_yield : Bytes → Host → Ruling
+abbrev pub sched_yield : Bytes → WasiState → Ruling
 sched_yield m h = call_done m h
 
 -- random bytes are written, and no other answer
-abbrev pub random_put : Answer → ℕ → Bytes → Host → Ruling
+abbrev pub random_put : Answer → ℕ → Bytes → WasiState → Ruling
 random_put (answer.Random bytes) buf m h = call_done (with_part m buf bytes) h
 random_put _ buf m h = Err (Refuses Inval)
 
 -- no bytes are asked for where none are wanted
-abbrev pub random_get : ℕ → ℕ → Option Answer → Bytes → Host → Ruling
+abbrev pub random_get : ℕ → ℕ → Option Answer → Bytes → WasiState → Ruling
 random_get buf len given m h =
     check_or (nat_le len (text_limit h.version)) Inval >>= λ _.
     in_memory m buf len >>= λ _.
-    if len == 0 then call_done m h else (answered_by h (kind.Random len) given
+    if len == 0 then call_done m h else (answered_by h (question.Random len) given
     >>= λ a. random_put a buf m h)

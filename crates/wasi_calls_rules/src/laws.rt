@@ -25,14 +25,18 @@ ghost use Rattle.wasi_calls_rules.specs.laws.OpenExamples.{OpenRightExamples, Op
 ghost use Rattle.wasi_calls_rules.specs.laws.StoryExamples.{RenameStory, UnlinkStory, SizeStory};
 ghost use Rattle.wasi_calls_rules.specs.laws.StoryExamples.{AnswerStory, PageStory};
 ghost use Rattle.wasi_calls_rules.specs.laws.CallLimits.{CallLimitNumbers};
-ghost use Rattle.wasi_calls_rules.specs.laws.Laws.{RowsKeepMemory, RowsKeepBytes, RowsEmit};
-ghost use Rattle.wasi_calls_rules.specs.laws.Laws.{RowsKeepConfigurations, RowsKeepHostsOfBytes};
-ghost use Rattle.wasi_calls_rules.specs.laws.Laws.{RowsKeepVersions};
-ghost use Rattle.wasi_calls_rules.specs.laws.Laws.{FirstHostsAreHosts, RowsKeepHosts};
-ghost use Rattle.wasi_calls_rules.specs.laws.Laws.{RowsMakeOneNodeAtMost, RowsKeepInputShort};
-ghost use Rattle.wasi_calls_rules.specs.laws.Laws.{RowsKeepTimes, LastTimesAreTold};
+ghost use Rattle.wasi_calls_rules.specs.laws.Laws.{CallRulesKeepMemory, CallRulesKeepBytes};
+ghost use Rattle.wasi_calls_rules.specs.laws.Laws.{CallRulesEmit};
+ghost use Rattle.wasi_calls_rules.specs.laws.Laws.{CallRulesKeepConfigurations};
+ghost use Rattle.wasi_calls_rules.specs.laws.Laws.{CallRulesKeepStatesOfBytes};
+ghost use Rattle.wasi_calls_rules.specs.laws.Laws.{CallRulesKeepVersions};
+ghost use Rattle.wasi_calls_rules.specs.laws.Laws.{FirstsAreWasiStates, CallRulesKeepWasiStates};
+ghost use Rattle.wasi_calls_rules.specs.laws.Laws.{CallRulesMakeOneNodeAtMost};
+ghost use Rattle.wasi_calls_rules.specs.laws.Laws.{CallRulesKeepInputShort};
+ghost use Rattle.wasi_calls_rules.specs.laws.Laws.{CallRulesKeepTimes, LastTimesAreTold};
 ghost use Rattle.wasi_calls_rules.specs.laws.Laws.{TestsTellWhatFits};
-ghost use Rattle.wasi_calls_rules.specs.laws.Laws.{FewRowsAsk, RowsAskOnce, ExitAloneEnds};
+ghost use Rattle.wasi_calls_rules.specs.laws.Laws.{FewCallRulesAsk, CallRulesAskOnce};
+ghost use Rattle.wasi_calls_rules.specs.laws.Laws.{ExitAloneEnds};
 
 /// The rules give on examples what the profile gives.
 pub fn worked_examples()
@@ -123,48 +127,48 @@ pub fn calls_in_turn_on_examples()
 
 /// No call that is done makes memory longer or shorter, or puts anything but bytes into it.
 pub fn calls_keep_memory()
-    ensures length { RowsKeepMemory }
-    ensures bytes { RowsKeepBytes }
+    ensures length { CallRulesKeepMemory }
+    ensures bytes { CallRulesKeepBytes }
 {}
 
 /// No call that is done takes back a line.
 pub fn calls_emit_lines()
-    ensures { RowsEmit }
+    ensures { CallRulesEmit }
 {}
 
 /// A call that is done makes one node at most, and gives no number twice.
 pub fn calls_make_one_node_at_most()
-    ensures { RowsMakeOneNodeAtMost }
+    ensures { CallRulesMakeOneNodeAtMost }
 {}
 
 /// At most one request's text and its newline wait to be read. A call that is done leaves no more.
 pub fn calls_keep_input_short()
-    ensures { RowsKeepInputShort }
+    ensures { CallRulesKeepInputShort }
 {}
 
 /// A guest never sees a monotonic clock fall: it is told the last time that was seen, and no call
 /// lowers that.
 pub fn monotonic_clocks_never_fall()
-    ensures kept { RowsKeepTimes }
+    ensures kept { CallRulesKeepTimes }
     ensures told { LastTimesAreTold }
 {}
 
 /// A process begins with a host. What a call that is done leaves of a host is one, where memory
 /// holds bytes.
 pub fn calls_keep_hosts()
-    ensures first { FirstHostsAreHosts }
-    ensures kept { RowsKeepHosts }
+    ensures first { FirstsAreWasiStates }
+    ensures kept { CallRulesKeepWasiStates }
 {}
 
 /// Where memory and the host hold bytes, the host holds bytes after a call that is done.
 pub fn calls_keep_hosts_of_bytes()
-    ensures { RowsKeepHostsOfBytes }
+    ensures { CallRulesKeepStatesOfBytes }
 {}
 
 /// No call that is done changes what the host was configured with.
 pub fn calls_keep_configurations()
-    ensures configured { RowsKeepConfigurations }
-    ensures version { RowsKeepVersions }
+    ensures configured { CallRulesKeepConfigurations }
+    ensures version { CallRulesKeepVersions }
 {}
 
 /// The rules take an answer exactly where it fits what is asked for.
@@ -174,8 +178,8 @@ pub fn answers_are_taken_that_fit()
 
 /// Three calls may want an answer from outside. A call wants none once it has one that fits.
 pub fn few_calls_ask_and_once()
-    ensures few { FewRowsAsk }
-    ensures once { RowsAskOnce }
+    ensures few { FewCallRulesAsk }
+    ensures once { CallRulesAskOnce }
 {}
 
 /// No call but `proc_exit` ends the process.

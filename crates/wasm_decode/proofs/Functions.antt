@@ -93,15 +93,15 @@ functions_are (t ∷ ts) functions bytes =
           } ∷ []) code.1) ≡ ((o >>= behind (length ts)) >>= joined (t ∷ ts) functions)
       step below None = refl
       step below (Some code) =
-          let left = items_at (sized_at code_within_at) (length ts) code.1 in
+          let items_left = items_at (sized_at code_within_at) (length ts) code.1 in
           let more : List Function = functions ++ record { function_type = t; code = code.0 } ∷ []
           in
           below more code.1
-          ∙ bind_same left (joined ts more) (λ codes. joined (t ∷ ts) functions (
+          ∙ bind_same items_left (joined ts more) (λ codes. joined (t ∷ ts) functions (
             code.0 ∷ codes.0,
             codes.1,
           )) (λ codes. join_one t ts functions code.0 codes)
-          ∙ sym (bind_bind left (λ others. Some (
+          ∙ sym (bind_bind items_left (λ others. Some (
             code.0 ∷ others.0,
             others.1,
           )) (joined (t ∷ ts) functions))
@@ -197,7 +197,7 @@ whole_codes ts b = by_count (leb_u32_at b) where
   by_count None = refl
   by_count (Some count) = by_test count (eqb count.0 (length ts)) refl
 
--- functions are joined behind the data, and judged there
+-- functions are joined after the data, and judged there
 pub codes_step : {C D : Type 0} (ts : List ℕ) (body : Option (List ℕ)) (data_read : Option D)
     (go : D → List Function → Option C)
     → (field_at (vector_at (sized_at code_within_at)) [] body >>= λ codes. data_read

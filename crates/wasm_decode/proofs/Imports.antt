@@ -79,10 +79,10 @@ import_alone functions bytes i after e =
 
 -- what is read in all
 abbrev pub few : List Import × List ℕ → Option (Imports × List ℕ)
-few imports = functions_left imports.0 >>= λ left. Some (
+few imports = functions_left imports.0 >>= λ count_left. Some (
   record {
     items = imports.0;
-    functions_left = left;
+    functions_left = count_left;
   },
   imports.1,
 )
@@ -133,13 +133,13 @@ module _ (front : List Import) (count i functions : ℕ) (bytes : List ℕ) (tot
             let past : FUNCTIONS < count_by is_function front + functions_of_item x.0.item =
             omega (arith, too_many functions x.0.item test, counted) in
             let all = items_go_on import_within_at front count i bytes total x.0 x.1 lt is so_far in
-            let left = items_at import_within_at (count - (i + 1)) x.1 in
+            let items_left = items_at import_within_at (count - (i + 1)) x.1 in
             ap (λ (t : Option (List Import × List ℕ)). t >>= few) (sym all)
-            ∙ bind_bind left (λ (y : List Import × List ℕ). Some (
+            ∙ bind_bind items_left (λ (y : List Import × List ℕ). Some (
               (front ++ x.0 ∷ []) ++ y.0,
               y.1,
             )) few
-            ∙ bind_none left (λ (y : List Import × List ℕ). few (
+            ∙ bind_none items_left (λ (y : List Import × List ℕ). few (
               (front ++ x.0 ∷ []) ++ y.0,
               y.1,
             )) (λ y. past_few ((front ++ x.0 ∷ []) ++ y.0, y.1) (more_count front x.0 y.0 past))
@@ -152,7 +152,7 @@ module _ (front : List Import) (count i functions : ℕ) (bytes : List ℕ) (tot
       by_alone (import_within_at bytes) refl (sym (import_is_bounded functions bytes)
       ∙ e) lt counted so_far
 
--- the same behind the count
+-- the same after the count
 pub imports_behind_count : (bytes : List ℕ) (count : ℕ) (after : List ℕ)
     → leb_u32_at bytes ≡ Some (count, after)
     → imports_at bytes ≡ (items_at import_within_at count after >>= few)
@@ -167,13 +167,13 @@ imports_without_count bytes e = rw e refl
 
 pub imports_step : {C : Type 0} (body : Option (List ℕ)) (go : List Import → ℕ → Option C)
     → (field_at (vector_at import_within_at) [] body >>= λ imports. functions_left imports
-    >>= λ left. go imports left) ≡ (field_at imports_at no_imports body
+    >>= λ count_left. go imports count_left) ≡ (field_at imports_at no_imports body
     >>= λ imports. go imports.items imports.functions_left)
 unfolding imports_at
 imports_step None go = refl
 imports_step (Some b) go = by_vector (vector_at import_within_at b) where
-  by_both : (all : Bool) (left : Option ℕ) (imports : List Import × List ℕ)
-      → eqb (length imports.1) 0 ≡ all → functions_left imports.0 ≡ left
+  by_both : (all : Bool) (count_left : Option ℕ) (imports : List Import × List ℕ)
+      → eqb (length imports.1) 0 ≡ all → functions_left imports.0 ≡ count_left
       → ((check (eqb (length imports.1) 0) >>= λ _. Some imports.0) >>= λ is. functions_left is
       >>= λ n. go is n) ≡ ((few imports >>= λ x. check (eqb (length x.1) 0) >>= λ _. Some x.0)
       >>= λ is. go is.items is.functions_left)

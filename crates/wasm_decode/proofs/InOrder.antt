@@ -17,10 +17,10 @@ use Rattle.wasm_decode.specs.Contents.{functions_at, contents_read}
 use Rattle.wasm_decode.proofs.Imports.{imports_step}
 use Rattle.wasm_decode.proofs.Functions.{codes_step}
 
--- what stands behind the imports, by types and code apart
+-- what is after the imports, by types and code apart
 abbrev rest_within : (ℕ → Option (List ℕ)) → List FunctionType → List Import → ℕ → Option Module
-rest_within body types imports left =
-    field_at (vector_up_to_at leb_u32_at left) [] (body 3) >>= λ function_types.
+rest_within body types imports count_left =
+    field_at (vector_up_to_at leb_u32_at count_left) [] (body 3) >>= λ function_types.
     field_at (vector_at table_type_within_at) [] (body 4) >>= λ tables.
     field_at (vector_at memory_type_at) [] (body 5) >>= λ memories.
     field_at (vector_up_to_at global_within_at GLOBALS) [] (body 6) >>= λ globals.
@@ -45,8 +45,8 @@ rest_within body types imports left =
 
 -- the same, by functions
 abbrev rest_read : (ℕ → Option (List ℕ)) → List FunctionType → List Import → ℕ → Option Module
-rest_read body types imports left =
-    field_at (vector_up_to_at leb_u32_at left) [] (body 3) >>= λ function_types.
+rest_read body types imports count_left =
+    field_at (vector_up_to_at leb_u32_at count_left) [] (body 3) >>= λ function_types.
     field_at (vector_at table_type_within_at) [] (body 4) >>= λ tables.
     field_at (vector_at memory_type_at) [] (body 5) >>= λ memories.
     field_at (vector_up_to_at global_within_at GLOBALS) [] (body 6) >>= λ globals.
@@ -70,10 +70,10 @@ rest_read body types imports left =
     })
 
 rest_are : (body : ℕ
-    → Option (List ℕ)) (types : List FunctionType) (imports : List Import) (left : ℕ)
-    → rest_within body types imports left ≡ rest_read body types imports left
-rest_are body types imports left =
-    bind_same (field_at (vector_up_to_at leb_u32_at left) [] (body 3)) _ _ (λ function_types.
+    → Option (List ℕ)) (types : List FunctionType) (imports : List Import) (count_left : ℕ)
+    → rest_within body types imports count_left ≡ rest_read body types imports count_left
+rest_are body types imports count_left =
+    bind_same (field_at (vector_up_to_at leb_u32_at count_left) [] (body 3)) _ _ (λ function_types.
     bind_same (field_at (vector_at table_type_within_at) [] (body 4)) _ _ (λ tables.
     bind_same (field_at (vector_at memory_type_at) [] (body 5)) _ _ (λ memories.
     bind_same (field_at (vector_up_to_at global_within_at GLOBALS) [] (body 6)) _ _ (λ globals.
@@ -99,12 +99,13 @@ unfolding contents_within_at contents_read
 contents_are body =
     bind_same (field_at (vector_at function_type_within_at) [] (body 1)) _ _ (λ types.
     bind_same (field_at (vector_at import_within_at) [] (body 2)) (λ imports. functions_left imports
-    >>= λ left. rest_within body types imports left) (λ imports. functions_left imports
-    >>= λ left. rest_read body types imports left)
-    (λ imports. bind_same (functions_left imports) _ _ (λ left. rest_are body types imports left))
-    ∙ imports_step (body 2) (λ imports left. rest_read body types imports left))
+    >>= λ count_left. rest_within body types imports count_left) (λ imports. functions_left imports
+    >>= λ count_left. rest_read body types imports count_left)
+    (λ imports. bind_same (functions_left imports) _ _ (λ count_left. rest_are body types
+    imports count_left)) ∙ imports_step (body 2) (λ imports count_left. rest_read body types
+    imports count_left))
 
--- it stands on the bytes under the ids of sections alone
+-- it is on the bytes under the ids of sections alone
 pub contents_same : (b c : ℕ → Option (List ℕ)) → ((id : ℕ) → 0 < id → id < 12 → b id ≡ c id)
     → contents_within_at b ≡ contents_within_at c
 unfolding contents_within_at

@@ -13,8 +13,8 @@ use Rattle.wasm_syntax.specs.laws.ReadingWithin.{contents_within_at, module_with
 use Rattle.wasm_syntax.proofs.Grammar.Rising.{sections_sound, sections_complete}
 use Rattle.wasm_syntax.proofs.Grammar.WholeWithin.{no_module_within}
 use Rattle.wasm_decode.specs.declared.items.span.Span.{Span}
-use Rattle.wasm_decode.specs.declared.items.fault.ReadError.{ReadError}
-use Rattle.wasm_decode.specs.declared.items.fault.ReadError.TheVariants as read
+use Rattle.wasm_decode.specs.declared.items.fault.ItemFault.{ItemFault}
+use Rattle.wasm_decode.specs.declared.items.fault.ItemFault.TheVariants as read
 use Rattle.wasm_decode.specs.Items.Answers.{FailsToRead}
 use Rattle.wasm_decode.proofs.ItemLemmas.Binds.{bind_none}
 use Rattle.wasm_decode.specs.declared.fault.DecodeFault.TheVariants.{Memory}
@@ -81,7 +81,7 @@ module _ {R : Type 0} (bytes after : List ℕ) (x : Unit {0}) (bodies : List (Op
 
 -- ---- the fault that callers see
 
-pub refused : (bytes : List ℕ) (e : ReadError) → FailsToRead e (module_within_at bytes)
+pub refused : (bytes : List ℕ) (e : ItemFault) → FailsToRead e (module_within_at bytes)
     → decode_fault e ≢ Memory → HasNoModule bytes
 refused bytes read.Memory fails other = absurd (other refl)
 refused bytes (read.Refused r) fails other = no_module_within bytes fails

@@ -12,13 +12,15 @@ use Rattle.wasm_syntax.specs.laws.ReadingModules.{section_at, may_follow, next_s
 use Rattle.wasm_syntax.proofs.Grammar.Exact.{Reads, chosen, found, parts}
 use Rattle.wasm_syntax.proofs.Grammar.Rising.{IsNextSection, Reads-next_section_at, section_shorter}
 use Rattle.wasm_decode.specs.declared.items.span.Span.{Span}
-use Rattle.wasm_decode.specs.Sections.{may_stand, is_body, next_at, span_bytes, held, NoSections}
+use Rattle.wasm_decode.specs.Sections.{may_come_behind, is_body, next_at, span_bytes, held}
+use Rattle.wasm_decode.specs.Sections.{NoSections}
 use Rattle.wasm_decode.specs.Sections.{Splits}
 
 -- ---- one section: judged in another order, it is the same
 
 judged : (last id : ℕ) (body : List ℕ)
-    → (may_stand last id && is_body id body) ≡ may_follow last (record { id = id; body = body })
+    → (may_come_behind last id && is_body id body) ≡ may_follow last
+    (record { id = id; body = body })
 judged last id body = by_custom (eqb id 0) refl where
   by_tests : (low above : Bool) → ((low && above) && true) ≡ (above && low)
   by_tests true true = refl
@@ -27,7 +29,8 @@ judged last id body = by_custom (eqb id 0) refl where
   by_tests false false = refl
 
   by_custom : (custom : Bool) → eqb id 0 ≡ custom
-      → (may_stand last id && is_body id body) ≡ may_follow last (record { id = id; body = body })
+      → (may_come_behind last id && is_body id body) ≡ may_follow last
+      (record { id = id; body = body })
   by_custom true is = (let low : ltb id 12 ≡ true = lt-ltb _ _ (omega (arith, eqb-true _ _ is)) in
       rw (is, low) refl)
   by_custom false is = rw is (by_tests (ltb id 12) (ltb last id))
@@ -45,19 +48,19 @@ next_is last bytes = by_id (byte_at bytes) where
   by_tests false is id body = refl
 
   by_body : (o : Option (List ℕ × List ℕ)) (id : ℕ)
-      → (check (may_stand last id) >>= λ _. o >>= λ body. check (is_body id body.0)
+      → (check (may_come_behind last id) >>= λ _. o >>= λ body. check (is_body id body.0)
       >>= λ _. made id body) ≡ ((o >>= made id) >>= λ s. cond (may_follow last s.0) (Some s) None)
-  by_body None id = by_may (may_stand last id) where
+  by_body None id = by_may (may_come_behind last id) where
     by_may : (may : Bool)
         → (check may >>= λ _. (None >>= λ body. check (is_body id body.0) >>= λ _. made id body))
         ≡ None
     by_may true = refl
     by_may false = refl
-  by_body (Some body) id = by_tests (may_stand last id) (is_body id body.0) id body
+  by_body (Some body) id = by_tests (may_come_behind last id) (is_body id body.0) id body
       ∙ ap (λ (b : Bool). cond b (made id body) None) (judged last id body.0)
 
   by_id : (o : Option (ℕ × List ℕ))
-      → (o >>= λ id. check (may_stand last id.0) >>= λ _. bytes_at id.1
+      → (o >>= λ id. check (may_come_behind last id.0) >>= λ _. bytes_at id.1
       >>= λ body. check (is_body id.0 body.0) >>= λ _. made id.0 body) ≡ ((o >>= λ id. bytes_at id.1
       >>= made id.0) >>= λ s. cond (may_follow last s.0) (Some s) None)
   by_id None = refl
@@ -117,20 +120,21 @@ same_or_apart m n = by_test (eqb m n) refl where
   by_test false e = inr (λ same. absurd (let t : true ≡ false = sym (eq-eqb m n same) ∙ e in cc))
 
 -- the section at the front is the one that was read
-only_one : (last : ℕ) (rest : List ℕ) (s t : Section) (left r : List ℕ)
-    → next_at last rest ≡ Some (s, left) → IsNextSection last rest t r → (s ≡ t) × (left ≡ r)
-only_one last rest s t left r e is =
-    parts s t left r (sym e ∙ (Reads-next_at last).complete rest t r is)
+only_one : (last : ℕ) (rest : List ℕ) (s t : Section) (bytes_left r : List ℕ)
+    → next_at last rest ≡ Some (s, bytes_left) → IsNextSection last rest t r → (s ≡ t)
+    × (bytes_left ≡ r)
+only_one last rest s t bytes_left r e is =
+    parts s t bytes_left r (sym e ∙ (Reads-next_at last).complete rest t r is)
 
 only_step : (all : List ℕ) (last : ℕ) (rest : List ℕ) (front : List Section) (s : Section)
-    (left : List ℕ) → next_at last rest ≡ Some (s, left) → rest ≢ []
+    (bytes_left : List ℕ) → next_at last rest ≡ Some (s, bytes_left) → rest ≢ []
     → (ss : List Section) → (tail : List Section) × (ss ≡ front ++ tail)
     × AreSections last rest tail
     → (tail : List Section) × (ss ≡ (front ++ s ∷ []) ++ tail)
-    × AreSections (max last s.id) left tail
-only_step all last rest front s left e some ss ([], is, h) = absurd (some h)
-only_step all last rest front s left e some ss (t ∷ tail, is, h) =
-    let p = only_one last rest s t left h.0 e (h.1, h.2) in (
+    × AreSections (max last s.id) bytes_left tail
+only_step all last rest front s bytes_left e some ss ([], is, h) = absurd (some h)
+only_step all last rest front s bytes_left e some ss (t ∷ tail, is, h) =
+    let p = only_one last rest s t bytes_left h.0 e (h.1, h.2) in (
       tail,
       is ∙ ap (λ (x : Section). front ++ x ∷ tail) (sym p.0)
           ∙ sym (append_assoc front (s ∷ []) tail),
@@ -172,19 +176,20 @@ filed_other last front bodies after s b above below len body_is after_is none so
           ∙ sym (body_of-push_other id front s apart)
     ]
 
--- reading goes on behind the section that was read
+-- reading goes on after the section that was read
 pub goes_on : (all : List ℕ) (last : ℕ) (rest : List ℕ) (bodies after : List (Option Span))
-    (s : Section) (left : List ℕ) (b : Span)
-    → SoFar all last rest bodies → next_at last rest ≡ Some (s, left) → rest ≢ []
+    (s : Section) (bytes_left : List ℕ) (b : Span)
+    → SoFar all last rest bodies → next_at last rest ≡ Some (s, bytes_left) → rest ≢ []
     → length bodies ≡ 12 → b.bytes.now ≡ s.body
     → after ≡ cond (eqb s.id 0) bodies (set bodies s.id (Some b))
-    → SoFar all (max last s.id) left after
-goes_on all last rest bodies after s left b so_far e some len body_is after_is =
-    let is : IsNextSection last rest s left = (Reads-next_at last).sound rest s left e in
+    → SoFar all (max last s.id) bytes_left after
+goes_on all last rest bodies after s bytes_left b so_far e some len body_is after_is =
+    let is : IsNextSection last rest s bytes_left = (Reads-next_at last).sound rest s
+    bytes_left e in
     record {
       front = so_far.front ++ s ∷ [];
-      ahead = λ ss h. rw append_assoc (so_far.ahead (s ∷ ss) (left, is.0, is.1, h));
-      only = λ ss h. only_step all last rest so_far.front s left e some ss (so_far.only ss h);
+      ahead = λ ss h. rw append_assoc (so_far.ahead (s ∷ ss) (bytes_left, is.0, is.1, h));
+      only = λ ss h. only_step all last rest so_far.front s bytes_left e some ss (so_far.only ss h);
       filed = elim is.1 [
         | inl custom ↦ filed_custom so_far.front bodies after s b custom.0 after_is so_far.filed
         | inr other ↦ filed_other last so_far.front bodies after s b other.0 other.1 len body_is

@@ -1,11 +1,11 @@
 -- What readers of a whole section answer.
 use Rattle.std.specs.Prelude.{◌≡◌, List, ℕ, Option, Some, None, Result, Ok, Err}
 use Rattle.wasm_decode.specs.declared.items.fault.ReadRefusal.{ReadRefusal}
-use Rattle.wasm_decode.specs.declared.items.fault.ReadError.{ReadError}
+use Rattle.wasm_decode.specs.declared.items.fault.ItemFault.{ItemFault}
 use Rattle.wasm_decode.specs.Items.Answers.{FailsToRead}
 
 -- what all of the bytes are; a refusal where they are nothing
-abbrev pub GivesAll : {X : Type 0} → Result X ReadError → Option X → Type 0
+abbrev pub GivesAll : {X : Type 0} → Result X ItemFault → Option X → Type 0
 GivesAll (Ok x) read = read ≡ Some x
 GivesAll (Err e) read = FailsToRead e read
 
@@ -14,7 +14,7 @@ abbrev pub TakesAll : {X : Type 0} → Result X ReadRefusal → Option X → Typ
 TakesAll (Ok x) read = read ≡ Some x
 TakesAll (Err e) read = read ≡ None
 
--- an item, seen through f, and then these bytes are left; a refusal where nothing stands there
+-- an item, seen through f, and then these bytes are left; a refusal where nothing is there
 abbrev pub TakesAs : {X Y : Type 0} → (X → Y) → Result X ReadRefusal → List ℕ → Option (Y × List ℕ)
     → Type 0
 TakesAs f (Ok x) rest read = read ≡ Some (f x, rest)

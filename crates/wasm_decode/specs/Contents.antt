@@ -23,13 +23,13 @@ functions_of_item _ = 0
 -- imports, and how many functions the module may have of its own
 unfoldable pub imports_at : List ℕ → Option (Imports × List ℕ)
 imports_at bytes =
-    vector_at import_within_at bytes >>= λ imports. functions_left imports.0 >>= λ left.
-    Some (record { items = imports.0; functions_left = left }, imports.1)
+    vector_at import_within_at bytes >>= λ imports. functions_left imports.0 >>= λ count_left.
+    Some (record { items = imports.0; functions_left = count_left }, imports.1)
 
 abbrev pub no_imports : Imports
 no_imports = record { items = []; functions_left = FUNCTIONS }
 
--- code entries for functions of these types, behind functions that were read before
+-- code entries for functions of these types, after functions that were read before
 unfoldable pub functions_onto_at : List ℕ → List Function → List ℕ → Option (List Function × List ℕ)
 functions_onto_at [] functions bytes = Some (functions, bytes)
 functions_onto_at (t ∷ ts) functions bytes =

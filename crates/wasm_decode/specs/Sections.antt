@@ -7,9 +7,9 @@ use Rattle.wasm_syntax.specs.laws.ReadingItems.{◌>>=◌, check, byte_at, bytes
 
 -- ---- one section, in the order in which it is judged
 
--- whether a section with this id may come behind one of id `last`
-abbrev pub may_stand : ℕ → ℕ → Bool
-may_stand last id = nat_lt id 12 && (id == 0 || nat_lt last id)
+-- whether a section with this id may come after one of id `last`
+abbrev pub may_come_behind : ℕ → ℕ → Bool
+may_come_behind last id = nat_lt id 12 && (id == 0 || nat_lt last id)
 
 -- whether these are the bytes of a section with this id, as far as the order of sections is
 -- concerned
@@ -18,7 +18,7 @@ is_body id body = if id == 0 then is_some (name_at body) else true
 
 unfoldable pub next_at : ℕ → List ℕ → Option (Section × List ℕ)
 next_at last bytes =
-    byte_at bytes >>= λ id. check (may_stand last id.0) >>= λ _. bytes_at id.1
+    byte_at bytes >>= λ id. check (may_come_behind last id.0) >>= λ _. bytes_at id.1
     >>= λ body. check (is_body id.0 body.0) >>= λ _.
     Some (record { id = id.0; body = body.0 }, body.1)
 

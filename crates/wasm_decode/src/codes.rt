@@ -4,15 +4,19 @@ ghost use Rattle.std.specs.Prelude.{◌≡◌, []};
 ghost use Rattle.wasm_decode.specs.Items.Answers.{GivesItem};
 ghost use Rattle.wasm_decode.specs.Contents.{functions_onto_at, functions_at};
 
-use crate::items::{Decoder, ReadError, ReadRefusal, code};
+use crate::items::{Decoder, ItemFault, ReadRefusal, code};
 use std::alloc::Global;
-use wasm_syntax::{Function, Row};
+use wasm_syntax::{Function, ItemList};
 
 /// A code entry for each of these types.
-fn entries(alloc: Global, decoder: &mut Decoder, types: &[u32]) -> Result<Row<Function>, ReadError>
+fn entries(
+    alloc: Global,
+    decoder: &mut Decoder,
+    types: &[u32],
+) -> Result<ItemList<Function>, ItemFault>
     ensures { GivesItem result decoder.new (functions_onto_at types.now [] decoder.old) }
 {
-    let mut functions = Row::new(alloc);
+    let mut functions = ItemList::new(alloc);
     for function_type in types {
         let code = code(alloc, decoder)?;
         functions.push(Function {
@@ -28,14 +32,14 @@ fn entries(alloc: Global, decoder: &mut Decoder, types: &[u32]) -> Result<Row<Fu
 pub fn functions(
     alloc: Global,
     decoder: &mut Decoder,
-    types: &Row<u32>,
-) -> Result<Row<Function>, ReadError>
+    types: &ItemList<u32>,
+) -> Result<ItemList<Function>, ItemFault>
     ensures { GivesItem result decoder.new (functions_at types.now decoder.old) }
 {
     let start = decoder.at();
     let count = decoder.u32()?;
     if count as usize != types.len() {
-        return Err(ReadError::Refused(ReadRefusal::Malformed(start)));
+        return Err(ItemFault::Refused(ReadRefusal::Malformed(start)));
     }
     entries(alloc, decoder, types.as_slice())
 }

@@ -6,7 +6,7 @@ ghost use Rattle.wasm_decode.specs.Contents.{contents_read};
 ghost use Rattle.wasm_decode.specs.Sections.{held};
 
 use crate::fields::{functions_of, imports_of, row_of, short_row_of, start_of};
-use crate::items::{ModuleLimit, ReadError, ReadRefusal, Span};
+use crate::items::{ItemFault, ModuleLimit, ReadRefusal, Span};
 use std::alloc::Global;
 use wasm_syntax::Module;
 use wasm_syntax::limits::GLOBALS;
@@ -37,14 +37,14 @@ mod id {
 }
 
 /// The module that the sections hold, by their bytes under their ids. They are read in the order of
-/// their ids, in which they stand. Functions without a code section are told last, as
+/// their ids, in which they are. Functions without a code section are told last, as
 /// `missing_code`.
 #[tactic(auto, unfolding(crate::specs::Contents::contents_read))]
 pub fn contents(
     alloc: Global,
     bodies: &[Option<Span>],
     missing_code: ReadRefusal,
-) -> Result<Module, ReadError>
+) -> Result<Module, ItemFault>
     requires { length bodies.now ≡ 12 }
     ensures { GivesAll result (contents_read (held bodies.now)) }
 {
@@ -72,7 +72,7 @@ pub fn contents(
     let functions = functions_of(alloc, bodies, id::CODES, &function_types)?;
     let data_segments = row_of(alloc, bodies, id::DATA_SEGMENTS)?;
     if functions.len() != function_types.len() {
-        return Err(ReadError::Refused(missing_code));
+        return Err(ItemFault::Refused(missing_code));
     }
     Ok(Module {
         types,

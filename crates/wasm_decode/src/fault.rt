@@ -3,17 +3,17 @@
 ghost use Rattle.std.specs.Prelude.{◌≡◌, Some, None};
 ghost use Rattle.wasm_decode.specs.rules.Faults.{decode_fault, passed_of, place_of};
 
-use crate::items::{PassedLimit, ReadError, ReadRefusal};
+use crate::items::{ItemFault, PassedLimit, ReadRefusal};
 use thiserror::Error;
 
-/// Why bytes are no module, or want of memory. Bytes are counted from 0, and read from the front:
+/// Why bytes are no module, or out of memory. Bytes are counted from 0, and read from the front:
 /// the number is that of the byte at which something begins that can't be there, be it a fixed
 /// byte, a number, or a name or vector together with its length.
 #[derive(Clone, Copy, Debug, PartialEq, Eq, Error)]
 pub enum DecodeFault {
     #[error("B1 Malformed")]
     Malformed(usize),
-    /// A type or an instruction of floats stands there.
+    /// A type or an instruction of floats is there.
     #[error("B2 Float")]
     Float(usize),
     /// A limit of modules is passed.
@@ -45,15 +45,15 @@ impl DecodeFault {
     }
 }
 
-impl From<ReadError> for DecodeFault {
+impl From<ItemFault> for DecodeFault {
     ghost from_gives = { λ error fault. fault ≡ decode_fault error };
 
-    fn from(error: ReadError) -> DecodeFault {
+    fn from(error: ItemFault) -> DecodeFault {
         match error {
-            ReadError::Refused(ReadRefusal::Malformed(at)) => DecodeFault::Malformed(at),
-            ReadError::Refused(ReadRefusal::Float(at)) => DecodeFault::Float(at),
-            ReadError::Refused(ReadRefusal::Limit(passed)) => DecodeFault::Limit(passed),
-            ReadError::Memory => DecodeFault::Memory,
+            ItemFault::Refused(ReadRefusal::Malformed(at)) => DecodeFault::Malformed(at),
+            ItemFault::Refused(ReadRefusal::Float(at)) => DecodeFault::Float(at),
+            ItemFault::Refused(ReadRefusal::Limit(passed)) => DecodeFault::Limit(passed),
+            ItemFault::Memory => DecodeFault::Memory,
         }
     }
 }

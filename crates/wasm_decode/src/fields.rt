@@ -11,11 +11,11 @@ ghost use Rattle.wasm_decode.specs.Sections.{held};
 use crate::codes::functions;
 use crate::imported::{Imports, read_imports};
 use crate::items::{
-    Decoder, Item, ModuleLimit, ReadError, ReadRefusal, Span, vector, vector_up_to,
+    Decoder, Item, ItemFault, ModuleLimit, ReadRefusal, Span, vector, vector_up_to,
 };
 use std::alloc::Global;
 use wasm_syntax::limits::FUNCTIONS;
-use wasm_syntax::{Function, Row};
+use wasm_syntax::{Function, ItemList};
 
 /// The bytes of the section with this id, to be read.
 fn open_section<'a>(bodies: &[Option<Span<'a>>], id: usize) -> Option<Decoder<'a>>
@@ -33,12 +33,12 @@ pub fn row_of<T: Item>(
     alloc: Global,
     bodies: &[Option<Span>],
     id: usize,
-) -> Result<Row<T>, ReadError>
+) -> Result<ItemList<T>, ItemFault>
     requires { id < length bodies.now }
     ensures { GivesAll result (field_at (vector_at T.at) [] (held bodies.now id)) }
 {
     let Some(mut decoder) = open_section(bodies, id) else {
-        return Ok(Row::new(alloc));
+        return Ok(ItemList::new(alloc));
     };
     let items = vector(alloc, &mut decoder)?;
     decoder.expect_end()?;
@@ -52,12 +52,12 @@ pub fn short_row_of<T: Item>(
     id: usize,
     most: usize,
     limit: ModuleLimit,
-) -> Result<Row<T>, ReadError>
+) -> Result<ItemList<T>, ItemFault>
     requires { id < length bodies.now }
     ensures { GivesAll result (field_at (vector_up_to_at T.at most) [] (held bodies.now id)) }
 {
     let Some(mut decoder) = open_section(bodies, id) else {
-        return Ok(Row::new(alloc));
+        return Ok(ItemList::new(alloc));
     };
     let items = vector_up_to(alloc, &mut decoder, most, limit)?;
     decoder.expect_end()?;
@@ -65,13 +65,13 @@ pub fn short_row_of<T: Item>(
 }
 
 /// Imports, and how many functions they leave.
-pub fn imports_of(alloc: Global, bodies: &[Option<Span>], id: usize) -> Result<Imports, ReadError>
+pub fn imports_of(alloc: Global, bodies: &[Option<Span>], id: usize) -> Result<Imports, ItemFault>
     requires { id < length bodies.now }
     ensures { GivesAll result (field_at imports_at no_imports (held bodies.now id)) }
 {
     let Some(mut decoder) = open_section(bodies, id) else {
         return Ok(Imports {
-            items: Row::new(alloc),
+            items: ItemList::new(alloc),
             functions_left: FUNCTIONS,
         });
     };
@@ -99,13 +99,13 @@ pub fn functions_of(
     alloc: Global,
     bodies: &[Option<Span>],
     id: usize,
-    types: &Row<u32>,
-) -> Result<Row<Function>, ReadError>
+    types: &ItemList<u32>,
+) -> Result<ItemList<Function>, ItemFault>
     requires { id < length bodies.now }
     ensures { GivesAll result (field_at (functions_at types.now) [] (held bodies.now id)) }
 {
     let Some(mut decoder) = open_section(bodies, id) else {
-        return Ok(Row::new(alloc));
+        return Ok(ItemList::new(alloc));
     };
     let functions = functions(alloc, &mut decoder, types)?;
     decoder.expect_end()?;

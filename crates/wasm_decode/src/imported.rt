@@ -4,15 +4,15 @@ ghost use Rattle.std.specs.Prelude.{◌≡◌, ◌+◌, ◌≤◌};
 ghost use Rattle.wasm_decode.specs.Items.Answers.{GivesItem};
 ghost use Rattle.wasm_decode.specs.Contents.{functions_of_item, imports_at};
 
-use crate::items::{Decoder, ReadError, import};
+use crate::items::{Decoder, ItemFault, import};
 use std::alloc::Global;
 use wasm_syntax::limits::FUNCTIONS;
-use wasm_syntax::{Import, ImportItem, Row};
+use wasm_syntax::{Import, ImportItem, ItemList};
 
 /// What a module imports.
 #[derive(Drop)]
 pub struct Imports {
-    pub items: Row<Import>,
+    pub items: ItemList<Import>,
     /// How many functions the module may have of its own.
     pub functions_left: usize,
 }
@@ -28,12 +28,12 @@ fn with_import(functions: usize, import: &Import) -> usize
     }
 }
 
-/// A vector of imports. One function too many is told where it stands.
-pub fn read_imports(alloc: Global, decoder: &mut Decoder) -> Result<Imports, ReadError>
+/// A vector of imports. One function too many is told where it is.
+pub fn read_imports(alloc: Global, decoder: &mut Decoder) -> Result<Imports, ItemFault>
     ensures { GivesItem result decoder.new (imports_at decoder.old) }
 {
     let count = decoder.u32()?;
-    let mut items = Row::new(alloc);
+    let mut items = ItemList::new(alloc);
     let mut functions = 0;
     for _ in 0..count {
         let item = import(alloc, decoder, functions)?;

@@ -4,7 +4,7 @@
 //! # Promises
 //!
 //! - `decode`: the module is spelled by all of the bytes, and is within the limits (`found`). A
-//!   fault other than want of memory comes only where the bytes spell no such module (`only`).
+//!   fault other than out of memory comes only where the bytes spell no such module (`only`).
 //! - `DecodeFault::place` is the offset that a fault names, where it names one (`place_of`).
 //!   `DecodeFault::passed_limit` is the limit that `B3 Limit` is about, with its offset
 //!   (`passed_of`).
@@ -22,10 +22,10 @@
 //! # Who may touch what
 //!
 //! Only this crate reads the binary format. Its readers, their places in the bytes, and the order
-//! in which they judge are hidden behind `decode`. `machine_loader` uses it. It stands on
-//! `wasm_syntax`. It takes memory in proportion to the bytes, whatever counts they declare. Want
-//! of it is `B4 Memory`; the other faults are `B1 Malformed`, `B2 Float` and `B3 Limit`. After a
-//! fault nothing is kept.
+//! in which they judge are hidden behind `decode`. `machine_loader` uses it. It uses `wasm_syntax`.
+//! It takes memory in proportion to the bytes, whatever counts they declare. Out of memory is `B4
+//! Memory`; the other faults are `B1 Malformed`, `B2 Float` and `B3 Limit`. After a fault nothing
+//! is kept.
 //!
 //! # Choices
 //!

@@ -4,12 +4,13 @@ ghost use Rattle.std.specs.Prelude.{◌≡◌, ◌==◌, if◌then◌else◌, sl
 ghost use Rattle.std.specs.Prelude.{MatchOption};
 ghost use Rattle.wasm_syntax.specs.rules.Modules.{Section};
 ghost use Rattle.wasm_decode.specs.Answers.{TakesAs};
-ghost use Rattle.wasm_decode.specs.Sections.{may_stand, next_at, section_of, NoSections, Splits};
+ghost use Rattle.wasm_decode.specs.Sections.{may_come_behind, next_at, section_of, NoSections};
+ghost use Rattle.wasm_decode.specs.Sections.{Splits};
 
 use crate::items::{Decoder, ReadRefusal, Span, skip_name, take_sized};
 
 /// How many kinds of sections there are.
-pub const KINDS: usize = 12;
+pub const SECTION_IDS: usize = 12;
 
 /// The id of custom sections.
 const CUSTOM: u8 = 0;
@@ -20,13 +21,13 @@ const LAST: u8 = 11;
 /// The bytes of each section by its id, and the first fault between sections.
 #[derive(Drop)]
 pub struct Sections<'a> {
-    pub bodies: [Option<Span<'a>>; KINDS],
+    pub bodies: [Option<Span<'a>>; SECTION_IDS],
     pub fault: Option<ReadRefusal>,
 }
 
-/// Whether a section with this id may come behind one of id `last`.
-fn may_stand(last: u8, id: u8) -> bool
-    ensures { result ≡ may_stand last id }
+/// Whether a section with this id may come after one of id `last`.
+fn may_come_behind(last: u8, id: u8) -> bool
+    ensures { result ≡ may_come_behind last id }
 {
     id <= LAST && (id == CUSTOM || id > last)
 }
@@ -40,7 +41,7 @@ fn next_section<'a>(decoder: &mut Decoder<'a>, last: u8) -> Result<(u8, Span<'a>
     let Some(id) = decoder.byte() else {
         return Err(ReadRefusal::Malformed(start));
     };
-    if !may_stand(last, id) {
+    if !may_come_behind(last, id) {
         return Err(ReadRefusal::Malformed(start));
     }
     let body = take_sized(decoder)?.into_span();
@@ -51,7 +52,7 @@ fn next_section<'a>(decoder: &mut Decoder<'a>, last: u8) -> Result<(u8, Span<'a>
 }
 
 /// Puts a section under its id, unless it is custom.
-fn file<'a>(bodies: &mut [Option<Span<'a>>; KINDS], id: u8, body: Span<'a>)
+fn file<'a>(bodies: &mut [Option<Span<'a>>; SECTION_IDS], id: u8, body: Span<'a>)
     requires { id < 12 }
     ensures { bodies.new ≡ (if id == 0 then bodies.old
         else slice_set bodies.old id (Some body.entry)) }
@@ -69,7 +70,7 @@ pub fn split<'a>(bytes: Decoder<'a>) -> Sections<'a>
 {
     let mut rest = bytes;
     let mut last = 0;
-    let mut bodies = [None; KINDS];
+    let mut bodies = [None; SECTION_IDS];
     while !rest.is_empty() {
         match next_section(&mut rest, last) {
             Ok((id, body)) => {

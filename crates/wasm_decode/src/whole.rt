@@ -11,7 +11,7 @@ ghost use Rattle.wasm_decode.specs.declared.fault.DecodeFault.TheVariants.{Memor
 
 use crate::contents::contents;
 use crate::fault::DecodeFault;
-use crate::items::{Decoder, ModuleLimit, ReadError, ReadRefusal};
+use crate::items::{Decoder, ItemFault, ModuleLimit, ReadRefusal};
 use crate::sections::split;
 use std::alloc::Global;
 use wasm_syntax::limits::MODULE_BYTES;
@@ -34,12 +34,12 @@ fn header(decoder: &mut Decoder) -> Result<(), ReadRefusal>
 
 /// The module that is all of the bytes. A fault inside a section is told before one between
 /// sections, and a missing code section after all others.
-fn module(alloc: Global, bytes: &[u8]) -> Result<Module, ReadError>
+fn module(alloc: Global, bytes: &[u8]) -> Result<Module, ItemFault>
     ensures { GivesAll result (module_within_at bytes.now) }
 {
     if bytes.len() > MODULE_BYTES {
         let refusal = ReadRefusal::past(ModuleLimit::Bytes, MODULE_BYTES);
-        return Err(ReadError::Refused(refusal));
+        return Err(ItemFault::Refused(refusal));
     }
     let mut decoder = Decoder::new(bytes);
     header(&mut decoder)?;
@@ -50,7 +50,7 @@ fn module(alloc: Global, bytes: &[u8]) -> Result<Module, ReadError>
     let module = contents(alloc, &sections.bodies, missing_code)?;
     match sections.fault {
         None => Ok(module),
-        Some(refusal) => Err(ReadError::Refused(refusal)),
+        Some(refusal) => Err(ItemFault::Refused(refusal)),
     }
 }
 

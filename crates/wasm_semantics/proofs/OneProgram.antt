@@ -5,7 +5,7 @@ use Rattle.wasm_syntax.specs.declared.module.Module.{Module}
 use Rattle.wasm_syntax.specs.declared.module.Function.{Function}
 use Rattle.wasm_semantics.specs.Types.{imported_functions}
 use Rattle.wasm_semantics.specs.Validity.{AreTypesAt}
-use Rattle.wasm_semantics.specs.Configuration.{Callee, Host, Own, Program}
+use Rattle.wasm_semantics.specs.Configuration.{Callee, Imported, Own, Program}
 use Rattle.wasm_semantics.specs.Instantiation.{AreCallees, IsProgram}
 use Rattle.wasm_semantics.proofs.OneSequence.{one_sequence}
 
@@ -24,24 +24,27 @@ one_list types (x ∷ indices) (f ∷ fs) (g ∷ gs) h k =
 callees_once : (m : Module) (imported : List ℕ) (own : List Function) (a b : List Callee)
     → AreCallees m imported own a → AreCallees m imported own b → a ≡ b
 callees_once m (x ∷ imported) own [] b h k = absurd h
-callees_once m (x ∷ imported) own (Own kind declared body ∷ a) b h k = absurd h
-callees_once m (x ∷ imported) own (Host kind ∷ a) [] h k = absurd k
-callees_once m (x ∷ imported) own (Host kind ∷ a) (Own kind' declared body ∷ b) h k = absurd k
-callees_once m (x ∷ imported) own (Host kind ∷ a) (Host kind' ∷ b) h k =
-    let p = h.0 in let q = k.0 in let same : kind ≡ kind' = cc in
+callees_once m (x ∷ imported) own (Own signature declared body ∷ a) b h k = absurd h
+callees_once m (x ∷ imported) own (Imported signature ∷ a) [] h k = absurd k
+callees_once m (x ∷ imported) own (Imported signature ∷ a) (Own signature' declared body
+    ∷ b) h k = absurd k
+callees_once m (x ∷ imported) own (Imported signature ∷ a) (Imported signature' ∷ b) h k =
+    let p = h.0 in let q = k.0 in let same : signature ≡ signature' = cc in
     let others = callees_once m imported own a b h.1 k.1 in cc
 callees_once m [] [] [] [] h k = refl
-callees_once m [] [] [] (Host kind ∷ b) h k = absurd k
-callees_once m [] [] [] (Own kind declared body ∷ b) h k = absurd k
-callees_once m [] [] (Host kind ∷ a) b h k = absurd h
-callees_once m [] [] (Own kind declared body ∷ a) b h k = absurd h
+callees_once m [] [] [] (Imported signature ∷ b) h k = absurd k
+callees_once m [] [] [] (Own signature declared body ∷ b) h k = absurd k
+callees_once m [] [] (Imported signature ∷ a) b h k = absurd h
+callees_once m [] [] (Own signature declared body ∷ a) b h k = absurd h
 callees_once m [] (f ∷ own) [] b h k = absurd h
-callees_once m [] (f ∷ own) (Host kind ∷ a) b h k = absurd h
-callees_once m [] (f ∷ own) (Own kind declared body ∷ a) [] h k = absurd k
-callees_once m [] (f ∷ own) (Own kind declared body ∷ a) (Host kind' ∷ b) h k = absurd k
-callees_once m [] (f ∷ own) (Own kind declared body ∷ a) (Own kind' declared' body' ∷ b) h k =
+callees_once m [] (f ∷ own) (Imported signature ∷ a) b h k = absurd h
+callees_once m [] (f ∷ own) (Own signature declared body ∷ a) [] h k = absurd k
+callees_once m [] (f ∷ own) (Own signature declared body ∷ a) (Imported signature'
+    ∷ b) h k = absurd k
+callees_once m [] (f ∷ own) (Own signature declared body ∷ a)
+    (Own signature' declared' body' ∷ b) h k =
     let p = h.0 in let q = k.0 in let d = h.1 in let e = k.1 in
-    let same_kind : kind ≡ kind' = cc in
+    let same_signature : signature ≡ signature' = cc in
     let same_declared : declared ≡ declared' = cc in
     let same_body : body ≡ body' = one_sequence f.code.body body body' h.2 k.2 in
     let others = callees_once m [] own a b h.3 k.3 in

@@ -1,35 +1,35 @@
--- Counted steps, and the rules that settle them, lead to one configuration at most.
+-- Counted steps, and the steps that reduce them, lead to one configuration at most.
 use Rattle.std.proofs.Common.{◌≡◌, refl, subst}
 use Rattle.wasm_semantics.specs.Configuration.{Program, Configuration}
-use Rattle.wasm_semantics.specs.Steps.{Settles, here, on, Advances, Steps, none, more, IsSettled}
-use Rattle.wasm_semantics.specs.Steps.{IsUncounted}
+use Rattle.wasm_semantics.specs.Steps.{ReducesTo, here, on, Advances, Steps, none, more, IsReduced}
+use Rattle.wasm_semantics.specs.Steps.{IsAdministrative}
 use Rattle.wasm_semantics.specs.laws.Laws.{OneRun}
 
--- a settled configuration settles to itself, and another one by its own next rule
-settled_now : (program : Program) (c d : Configuration) → Settles program c d → IsSettled program c
-    → c ≡ d
-settled_now program c d (here s') s = refl
-settled_now program c d (on {c = c'} {d = between} e rest) s = absurd (cc)
+-- a reduced configuration reduces to itself, and another one by its own next counted step
+reduced_now : (program : Program) (c d : Configuration) → ReducesTo program c d
+    → IsReduced program c → c ≡ d
+reduced_now program c d (here s') s = refl
+reduced_now program c d (on {c = c'} {d = between} e rest) s = absurd (cc)
 
-next_now : (program : Program) (c e d : Configuration) → Settles program c e
-    → IsUncounted program c d → Settles program d e
+next_now : (program : Program) (c e d : Configuration) → ReducesTo program c e
+    → IsAdministrative program c d → ReducesTo program d e
 next_now program c e d (here s) step = absurd (cc)
 next_now program c e d (on {c = c'} {d = other} step' rest') step =
     let same : other ≡ d = cc in
-    subst (λ z. Settles program z e) same rest'
+    subst (λ z. ReducesTo program z e) same rest'
 
-pub settles_once : (program : Program) (c d e : Configuration) → Settles program c d
-    → Settles program c e → d ≡ e
-settles_once program c d e (here s) b = settled_now program c e b s
-settles_once program c d e (on {c = c'} {d = between} step rest) b =
-    settles_once program between d e rest (next_now program c' e between b step)
+pub reduces_once : (program : Program) (c d e : Configuration) → ReducesTo program c d
+    → ReducesTo program c e → d ≡ e
+reduces_once program c d e (here s) b = reduced_now program c e b s
+reduces_once program c d e (on {c = c'} {d = between} step rest) b =
+    reduces_once program between d e rest (next_now program c' e between b step)
 
 advances_once : (program : Program) (c d e : Configuration) → Advances program c d
     → Advances program c e → d ≡ e
 advances_once program c d e a b =
     let p = a.counted in let q = b.counted in
     let same : b.between ≡ a.between = cc in
-    settles_once program a.between d e a.settles (subst (λ z. Settles program z e) same b.settles)
+    reduces_once program a.between d e a.reduces (subst (λ z. ReducesTo program z e) same b.reduces)
 
 pub one_run : OneRun
 one_run program n c d e none none = refl

@@ -57,7 +57,7 @@ follows_else first second rest e x =
     append_assoc (spelled first) (instr.Else ∷ (spelled second ++ (instr.End ∷ spelled rest))) (e
     ∷ x) ∙ ap (λ z. spelled first ++ (instr.Else ∷ z)) (follows second instr.End rest e x)
 
--- Two sequences with an opcode behind each that parts or closes are equal where the whole is.
+-- Two sequences with an opcode after each that parts or closes are equal where the whole is.
 pub unique : (s t : Sequence) (e f : Instruction) (x y : List Instruction) → IsNested s → IsNested t
     → IsClosing e → IsClosing f → spelled s ++ (e ∷ x) ≡ spelled t ++ (f ∷ y) → (s ≡ t) × (e ≡ f)
     × (x ≡ y)

@@ -2,6 +2,6 @@ pub mod Values
 pub mod MemoryBytes
 pub mod EffectSound
 pub mod ControlSound
-pub mod RuleSound
-pub mod LeaveSound
+pub mod CountedSound
+pub mod AdministrativeSound
 pub mod Beginning

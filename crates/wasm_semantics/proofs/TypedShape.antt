@@ -16,7 +16,7 @@ use Rattle.wasm_syntax.specs.rules.Sequence.{Sequence, Stop, Plain, InBlock, InL
 use Rattle.wasm_syntax.specs.rules.Sequence.{spelled}
 use Rattle.wasm_semantics.specs.Configuration.{Main, Second}
 use Rattle.wasm_semantics.specs.Types.{IsOf, takes_of, gives_of, results_of}
-use Rattle.wasm_semantics.specs.Typing.{Context, HasRule, HasType}
+use Rattle.wasm_semantics.specs.Typing.{Context, HasInstructionType, HasType}
 use Rattle.wasm_semantics.specs.Shapes.{Shape, LabelShape, ShapeOf, type_of, in_place_of}
 use Rattle.wasm_semantics.specs.Shapes.{types_behind, shape_at, body_shape, AreTypedShapes}
 use Rattle.wasm_semantics.specs.Shapes.{IsTypedShape, ReachedShapesAreTyped}
@@ -50,48 +50,48 @@ value_type I32 (value.I64 n) h = absurd h
 value_type I64 (value.I32 n) h = absurd h
 value_type I64 (value.I64 n) h = refl
 
--- the types behind an instruction are those of its rule
-pub rule_behind : (c : Context) (labels : List (List ValueType)) (i : Instruction)
-    (p q below : List ValueType) → HasRule c labels i p q
+-- the types after an instruction are those of its rule
+pub typed_behind : (c : Context) (labels : List (List ValueType)) (i : Instruction)
+    (p q below : List ValueType) → HasInstructionType c labels i p q
     → IsBehind (types_behind c i (p ++ below)) (q ++ below)
-rule_behind c labels instr.Unreachable p q below h = tt
-rule_behind c labels instr.Nop p q below h = rw (h.0, h.1) refl
-rule_behind c labels (instr.Br l) p q below h = tt
-rule_behind c labels (instr.BrIf l) p q below h = rw (h.2, h.3) refl
-rule_behind c labels (instr.BrTable table last) p q below h = tt
-rule_behind c labels instr.Return p q below h = tt
-rule_behind c labels (instr.Call x) p q below h =
+typed_behind c labels instr.Unreachable p q below h = tt
+typed_behind c labels instr.Nop p q below h = rw (h.0, h.1) refl
+typed_behind c labels (instr.Br l) p q below h = tt
+typed_behind c labels (instr.BrIf l) p q below h = rw (h.2, h.3) refl
+typed_behind c labels (instr.BrTable table last) p q below h = tt
+typed_behind c labels instr.Return p q below h = tt
+typed_behind c labels (instr.Call x) p q below h =
     rw (h.2, h.3) (some_behind (slice_get c.functions x) h.0 (λ f.
     in_place_of (takes_of f) (gives_of f) (takes_of h.0 ++ below)) (gives_of h.0
     ++ below) h.1 (ap (λ z. gives_of h.0 ++ z) (drop_front (takes_of h.0) below)))
-rule_behind c labels (instr.CallIndirect x) p q below h =
+typed_behind c labels (instr.CallIndirect x) p q below h =
     rw (h.3, h.4) (some_behind (slice_get c.types x) h.0 (λ f. in_place_of (takes_of f) (gives_of f)
     (takes_of h.0 ++ below)) (gives_of h.0 ++ below) h.1 (ap (λ z. gives_of h.0
     ++ z) (drop_front (takes_of h.0) below)))
-rule_behind c labels instr.Drop p q below h = rw (h.1, h.2) refl
-rule_behind c labels instr.Select p q below h = rw (h.1, h.2) refl
-rule_behind c labels (instr.LocalGet x) p q below h =
+typed_behind c labels instr.Drop p q below h = rw (h.1, h.2) refl
+typed_behind c labels instr.Select p q below h = rw (h.1, h.2) refl
+typed_behind c labels (instr.LocalGet x) p q below h =
     rw (h.2, h.3) (some_behind (slice_get c.locals x) h.0 (λ t. t ∷ below) (h.0 ∷ below) h.1 refl)
-rule_behind c labels (instr.LocalSet x) p q below h = rw (h.2, h.3) refl
-rule_behind c labels (instr.LocalTee x) p q below h = rw (h.2, h.3) refl
-rule_behind c labels (instr.GlobalGet x) p q below h =
+typed_behind c labels (instr.LocalSet x) p q below h = rw (h.2, h.3) refl
+typed_behind c labels (instr.LocalTee x) p q below h = rw (h.2, h.3) refl
+typed_behind c labels (instr.GlobalGet x) p q below h =
     rw (h.2, h.3) (some_behind (slice_get c.globals x) h.0 (λ (g : GlobalType). g.value_type
     ∷ below) (h.0.value_type ∷ below) h.1 refl)
-rule_behind c labels (instr.GlobalSet x) p q below h = rw (h.3, h.4) refl
-rule_behind c labels (instr.Load o m) p q below h = rw (h.2, h.3) refl
-rule_behind c labels (instr.Store o m) p q below h = rw (h.2, h.3) refl
-rule_behind c labels instr.MemorySize p q below h = rw (h.1, h.2) refl
-rule_behind c labels instr.MemoryGrow p q below h = rw (h.1, h.2) refl
-rule_behind c labels instr.MemoryCopy p q below h = rw (h.1, h.2) refl
-rule_behind c labels instr.MemoryFill p q below h = rw (h.1, h.2) refl
-rule_behind c labels (instr.Const v) p q below h =
+typed_behind c labels (instr.GlobalSet x) p q below h = rw (h.3, h.4) refl
+typed_behind c labels (instr.Load o m) p q below h = rw (h.2, h.3) refl
+typed_behind c labels (instr.Store o m) p q below h = rw (h.2, h.3) refl
+typed_behind c labels instr.MemorySize p q below h = rw (h.1, h.2) refl
+typed_behind c labels instr.MemoryGrow p q below h = rw (h.1, h.2) refl
+typed_behind c labels instr.MemoryCopy p q below h = rw (h.1, h.2) refl
+typed_behind c labels instr.MemoryFill p q below h = rw (h.1, h.2) refl
+typed_behind c labels (instr.Const v) p q below h =
     rw (h.2, h.3) (ap (λ t. t ∷ below) (value_type h.0 v h.1))
-rule_behind c labels (instr.Eqz t) p q below h = rw (h.0, h.1) refl
-rule_behind c labels (instr.Compare t o) p q below h = rw (h.0, h.1) refl
-rule_behind c labels (instr.Unary t o) p q below h = rw (h.0, h.1) refl
-rule_behind c labels (instr.Binary t o) p q below h = rw (h.0, h.1) refl
-rule_behind c labels (instr.Convert o) p q below h = rw (h.0, h.1) refl
-rule_behind c labels _ p q below h = absurd h
+typed_behind c labels (instr.Eqz t) p q below h = rw (h.0, h.1) refl
+typed_behind c labels (instr.Compare t o) p q below h = rw (h.0, h.1) refl
+typed_behind c labels (instr.Unary t o) p q below h = rw (h.0, h.1) refl
+typed_behind c labels (instr.Binary t o) p q below h = rw (h.0, h.1) refl
+typed_behind c labels (instr.Convert o) p q below h = rw (h.0, h.1) refl
+typed_behind c labels _ p q below h = absurd h
 
 either_typed : (c : Context) (b : Bool) (x y : Option Shape) → IsTypedIf c x → IsTypedIf c y
     → IsTypedIf c (if b then x else y)
@@ -116,7 +116,7 @@ shape_typed c branches labels s ts out zero h t = record {
 shape_typed c branches labels Stop ts out (suc n) h t = tt
 shape_typed c branches labels (Plain i rest) ts out (suc n) h t =
     rw h.3 (behind_typed c (λ us. shape_at c labels rest us n) (types_behind c i (h.0 ++ h.2)) (h.1
-    ++ h.2) (rule_behind c branches i h.0 h.1 h.2 h.4) (shape_typed c branches labels rest (h.1
+    ++ h.2) (typed_behind c branches i h.0 h.1 h.2 h.4) (shape_typed c branches labels rest (h.1
     ++ h.2) out n h.5 t))
 shape_typed c branches labels (InBlock b body rest) ts out (suc n) h t =
     either_typed c (nat_le n (length (spelled body))) _ _ (shape_typed c (results_of b
@@ -167,7 +167,7 @@ shape_typed c branches labels (InIfElse b first second rest) ts out (suc n) h t 
     ++ drop 1 ts) out (n - (length (spelled first) + 1)
     - (length (spelled second) + 1)) after t))
 
--- behind the last end are the results
+-- after the last end are the results
 returns_typed : (c : Context) (b : Bool)
     → IsTypedIf c (if b then Some (record { labels = []; operands = c.returns; rest = Stop })
     else None)

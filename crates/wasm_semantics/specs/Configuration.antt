@@ -10,8 +10,8 @@ use Rattle.wasm_syntax.specs.rules.Sequence.{Sequence}
 -- a function: one of the host's, or one of the module's own with the types of its declared locals
 -- and its body (4.2.6)
 pub data Callee : Type 0 where
-  Host : (kind : FunctionType) → Callee
-  Own : (kind : FunctionType) (declared : List ValueType) (body : Sequence) → Callee
+  Imported : (signature : FunctionType) → Callee
+  Own : (signature : FunctionType) (declared : List ValueType) (body : Sequence) → Callee
 
 -- What a module's instance looks up (4.2.5): the types, the functions, imported ones first, how
 -- many pages memory has at least, and how many it may have. The first is its minimum, and the
@@ -57,14 +57,15 @@ abbrev pub Thread : Type 0
 Thread = List Frame
 
 -- a configuration (4.2.13), and the functions that the host calls when the thread has returned:
--- `_start` behind the start function
+-- `_start` after the start function
 pub record Configuration : Type 0 where
   pub store : Store
   pub thread : Thread
   pub later : List ℕ
 
--- What the next rule leads to: a configuration, a trap, or a call of the host's function. That has
--- these arguments, the last one first, and a thread that waits for its results. Or no rule applies.
+-- What the next counted step leads to: a configuration, a trap, or a call of the host's function.
+-- That has these arguments, the last one first, and a thread that waits for its results. Or no
+-- counted step applies.
 pub data Outcome : Type 0 where
   Goes : (next : Configuration) → Outcome
   Traps : (why : Trap) → Outcome

@@ -1,5 +1,5 @@
 -- How a module begins (Core Specification 1.0, section 4.5.4): its program, and the configuration
--- before the first rule.
+-- before the first counted step.
 use Rattle.std.specs.Prelude.{◌≡◌, ℕ, ◌+◌, ◌*◌, min, nat_le, List, [], ◌∷◌, ◌++◌, length, replicate}
 use Rattle.std.specs.Prelude.{map, take, drop, Option, Some, None, slice_get, if◌then◌else◌}
 use Rattle.std.specs.Option.{option_and_then, option_map_or}
@@ -18,18 +18,18 @@ use Rattle.wasm_syntax.specs.rules.Sequence.{Spells}
 use Rattle.guest_memory.specs.rules.Bytes.{page_size, with_part}
 use Rattle.wasm_semantics.specs.Types.{imported_functions}
 use Rattle.wasm_semantics.specs.Validity.{tables_of, memories_of}
-use Rattle.wasm_semantics.specs.Configuration.{Callee, Host, Own, Program, Store, Configuration}
-use Rattle.wasm_semantics.specs.Steps.{Settles}
+use Rattle.wasm_semantics.specs.Configuration.{Callee, Imported, Own, Program, Store, Configuration}
+use Rattle.wasm_semantics.specs.Steps.{ReducesTo}
 
 -- ---- the program
 
 -- imported functions are the host's, and the module's own have the sequences that their bodies
 -- spell
 abbrev pub AreCallees : Module → List ℕ → List Function → List Callee → Type 0
-AreCallees m (x ∷ imported) own (Host kind ∷ callees) = (slice_get m.types x ≡ Some kind)
-    × AreCallees m imported own callees
-AreCallees m [] (f ∷ own) (Own kind declared body ∷ callees) =
-    (slice_get m.types f.function_type ≡ Some kind) × (declared ≡ f.code.locals)
+AreCallees m (x ∷ imported) own (Imported signature ∷ callees) = (slice_get m.types x
+    ≡ Some signature) × AreCallees m imported own callees
+AreCallees m [] (f ∷ own) (Own signature declared body ∷ callees) =
+    (slice_get m.types f.function_type ≡ Some signature) × (declared ≡ f.code.locals)
     × Spells f.code.body body × AreCallees m [] own callees
 AreCallees m [] [] [] = Unit {0}
 AreCallees m _ _ _ = ⊥
@@ -127,13 +127,13 @@ abbrev pub calls_of : Option ℕ → ℕ → List ℕ
 calls_of None entry = entry ∷ []
 calls_of (Some start) entry = start ∷ entry ∷ []
 
--- the module, under so many pages and with this function as `_start`, begins here, settled
+-- the module, under so many pages and with this function as `_start`, begins here, reduced
 pub record Begins (m : Module) (pages entry : ℕ) (program : Program) (c : Configuration) :
     Type 0 where
   pub is_program : IsProgram m pages program
   pub store : Store
   pub is_store : IsInitialStore m store
-  pub settles : Settles program (record {
+  pub reduces : ReducesTo program (record {
     store = store;
     thread = [];
     later = calls_of m.start entry;

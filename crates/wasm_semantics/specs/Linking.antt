@@ -22,8 +22,8 @@ Offer = List ℕ → List ℕ → Option FunctionType
 -- the import is of a function that the host offers with this type
 abbrev pub IsItemOffered : Option FunctionType → List FunctionType → ImportItem → Type 0
 IsItemOffered None types item = ⊥
-IsItemOffered (Some kind) types (import.Function x) = slice_get types x ≡ Some kind
-IsItemOffered (Some kind) types _ = ⊥
+IsItemOffered (Some signature) types (import.Function x) = slice_get types x ≡ Some signature
+IsItemOffered (Some signature) types _ = ⊥
 
 -- the host offers what this import is of
 abbrev pub IsOffered : Offer → List FunctionType → Import → Type 0
@@ -37,12 +37,12 @@ Exports (e ∷ exports) name item = ((e.name ≡ name) × (e.item ≡ item)) ⊎
 -- a function without parameters and results is exported as `_start`
 pub record HasEntry (m : Module) (entry : ℕ) : Type 0 where
   pub functions : List FunctionType
-  pub kind : FunctionType
+  pub signature : FunctionType
   pub exported : Exports m.exports (codes "_start") (export.Function entry)
   pub function_types : AreFunctionTypes m functions
-  pub is : slice_get functions entry ≡ Some kind
-  pub no_parameters : kind.parameters ≡ []
-  pub no_results : kind.results ≡ []
+  pub is : slice_get functions entry ≡ Some signature
+  pub no_parameters : signature.parameters ≡ []
+  pub no_results : signature.results ≡ []
 
 -- the memory is exported as `memory`
 pub record HasExportedMemory (m : Module) : Type 0 where

@@ -1,5 +1,5 @@
 -- The shape that typing gives to each position of a body that it reaches. It has the labels around
--- it, the types of the operands, and what remains of the innermost sequence. Code behind
+-- it, the types of the operands, and what remains of the innermost sequence. Code after
 -- `unreachable`, `br`, `br_table` and `return`, up to the end of its block, is not reached.
 use Rattle.std.specs.Prelude.{◌≡◌, ℕ, zero, suc, ◌+◌, ◌-◌, nat_le, ◌==◌, List, [], ◌∷◌, ◌++◌}
 use Rattle.std.specs.Prelude.{length, drop, Option, Some, None, option_map, slice_get}
@@ -42,7 +42,7 @@ type_of (value.I64 n) = I64
 abbrev pub in_place_of : List ValueType → List ValueType → List ValueType → List ValueType
 in_place_of takes gives ts = gives ++ drop (length takes) ts
 
--- the operand types behind an instruction, if typing reaches what follows it
+-- the operand types after an instruction, if typing reaches what follows it
 abbrev pub types_behind : Context → Instruction → List ValueType → Option (List ValueType)
 types_behind c instr.Nop ts = Some ts
 types_behind c (instr.BrIf l) ts = Some (drop 1 ts)

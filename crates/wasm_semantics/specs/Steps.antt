@@ -1,4 +1,4 @@
--- The rules of execution (Core Specification 1.0, section 4.4). A counted rule executes one
+-- The rules of execution (Core Specification 1.0, section 4.4). A counted step executes one
 -- instruction. The others, the end of a label or a frame and the next call of the host, count
 -- nothing.
 use Rattle.std.specs.Prelude.{◌≡◌, ◌⊎◌, ℕ, zero, suc, ◌+◌, nat_lt, Bool, ◌||◌, List, [], ◌∷◌, ◌++◌}
@@ -15,7 +15,7 @@ use Rattle.wasm_syntax.specs.declared.instruction.Instruction.TheVariants as ins
 use Rattle.wasm_syntax.specs.rules.Sequence.{Sequence, Stop, Plain, InBlock, InLoop, InIf, InIfElse}
 use Rattle.wasm_semantics.specs.Types.{value_of, takes_of, gives_of, results_of}
 use Rattle.wasm_semantics.specs.Types.{is_same_function_type}
-use Rattle.wasm_semantics.specs.Configuration.{Callee, Host, Own, Program, Store, Part, Main}
+use Rattle.wasm_semantics.specs.Configuration.{Callee, Imported, Own, Program, Store, Part, Main}
 use Rattle.wasm_semantics.specs.Configuration.{Second, Label, LabelOf, Frame, FrameOf, Thread}
 use Rattle.wasm_semantics.specs.Configuration.{Configuration, Outcome, Goes, Traps, Asks, Stuck}
 use Rattle.wasm_semantics.specs.Effects.{Effect, Gives, Fails, Wrong, effect}
@@ -71,22 +71,22 @@ zero_of t = value_of t 0
 -- A function begins with its arguments and zeros as locals, inside of a label that stands for its
 -- end.
 abbrev pub entered : ℕ → FunctionType → List ValueType → Sequence → List Value → Frame
-entered f kind declared body arguments =
+entered f signature declared body arguments =
     FrameOf f (reverse arguments
-    ++ map zero_of declared) (LabelOf (length (gives_of kind)) Stop [] Stop Main ∷ []) [] body
+    ++ map zero_of declared) (LabelOf (length (gives_of signature)) Stop [] Stop Main ∷ []) [] body
 
 -- a call of this function from a frame whose values below the arguments are `below`, which goes on
 -- with rest
 abbrev pub called : ℕ → Callee → Configuration → (List Value → Frame) → List Value → Thread
     → Outcome
-called f (Host kind) c caller vs frames =
-    where_some (topmost (length (takes_of kind)) vs) (λ arguments.
-    Asks f arguments (caller (drop (length (takes_of kind)) vs) ∷ frames))
-called f (Own kind declared body) c caller vs frames =
-    where_some (topmost (length (takes_of kind)) vs) (λ arguments.
+called f (Imported signature) c caller vs frames =
+    where_some (topmost (length (takes_of signature)) vs) (λ arguments.
+    Asks f arguments (caller (drop (length (takes_of signature)) vs) ∷ frames))
+called f (Own signature declared body) c caller vs frames =
+    where_some (topmost (length (takes_of signature)) vs) (λ arguments.
     let thread : Thread =
-    entered f kind declared body arguments ∷ caller (drop (length (takes_of kind)) vs) ∷ frames
-    in
+    entered f signature declared body arguments ∷ caller (drop
+    (length (takes_of signature)) vs) ∷ frames in
     if is_exhausted thread then Traps trap.StackExhausted else Goes (record c { thread = thread }))
 
 -- a call by index
@@ -96,18 +96,18 @@ calls program f c caller vs frames =
     where_some (slice_get program.functions f) (λ callee. called f callee c caller vs frames)
 
 -- the type of a function
-abbrev pub kind_of : Callee → FunctionType
-kind_of (Host kind) = kind
-kind_of (Own kind declared body) = kind
+abbrev pub signature_of : Callee → FunctionType
+signature_of (Imported signature) = signature
+signature_of (Own signature declared body) = signature
 
 -- a call through the table: of the entry at i, which has to be inside, not empty, and of this type
 abbrev pub calls_entry : Program → Option (Option ℕ) → FunctionType → Configuration
     → (List Value → Frame) → List Value → Thread → Outcome
-calls_entry program None kind c caller vs frames = Traps trap.UndefinedElement
-calls_entry program (Some None) kind c caller vs frames = Traps trap.UninitializedElement
-calls_entry program (Some (Some f)) kind c caller vs frames =
+calls_entry program None signature c caller vs frames = Traps trap.UndefinedElement
+calls_entry program (Some None) signature c caller vs frames = Traps trap.UninitializedElement
+calls_entry program (Some (Some f)) signature c caller vs frames =
     where_some (slice_get program.functions f) (λ callee.
-    if is_same_function_type kind (kind_of callee) then called f callee c caller vs frames
+    if is_same_function_type signature (signature_of callee) then called f callee c caller vs frames
     else Traps trap.IndirectCallTypeMismatch)
 
 -- ---- one instruction of the running function
@@ -122,7 +122,7 @@ after_effect Wrong c go = Stuck
 abbrev pub goes_on : Configuration → Option Frame → Thread → Outcome
 goes_on c frame frames = where_some frame (λ frame. Goes (record c { thread = frame ∷ frames }))
 
--- the rule of an instruction: jumps, calls, and all others by their effect
+-- the counted step of an instruction: jumps, calls, and all others by their effect
 abbrev pub execute : Program → Configuration → ℕ → List Value → List Label → Instruction
     → List Value → Sequence → Thread → Outcome
 execute program c f ls labels (instr.Br l) vs rest frames =
@@ -135,13 +135,13 @@ execute program c f ls labels (instr.BrTable table last) (value.I32 n ∷ vs) re
     goes_on c (branch (unwrap_or (slice_get table n) last) f ls labels vs) frames
 execute program c f ls labels instr.Return vs rest frames =
     where_some (slice_get program.functions f) (λ callee.
-    where_some (topmost (length (gives_of (kind_of callee))) vs) (λ results.
+    where_some (topmost (length (gives_of (signature_of callee))) vs) (λ results.
     Goes (record c { thread = returned results frames })))
 execute program c f ls labels (instr.Call g) vs rest frames =
     calls program g c (λ below. FrameOf f ls labels below rest) vs frames
 execute program c f ls labels (instr.CallIndirect t) (value.I32 i ∷ vs) rest frames =
-    where_some (slice_get program.types t) (λ kind.
-    calls_entry program (slice_get c.store.table i) kind c (λ below.
+    where_some (slice_get program.types t) (λ signature.
+    calls_entry program (slice_get c.store.table i) signature c (λ below.
     FrameOf f ls labels below rest) vs frames)
 execute program c f ls labels i vs rest frames =
     after_effect (effect program i c.store ls vs) c (λ ls' vs'. FrameOf f ls' labels vs' rest
@@ -162,95 +162,98 @@ block_label which t below rest = LabelOf (length (results_of t)) rest below rest
 abbrev pub loop_label : Option ValueType → Sequence → List Value → Sequence → Label
 loop_label t body below rest = LabelOf 0 (InLoop t body rest) below rest Main
 
--- the counted rules
-abbrev pub rule_of : Program → Configuration → Thread → Outcome
-rule_of program c (FrameOf f ls labels vs (Plain i rest) ∷ frames) =
+-- the counted steps
+abbrev pub counted_step_of : Program → Configuration → Thread → Outcome
+counted_step_of program c (FrameOf f ls labels vs (Plain i rest) ∷ frames) =
     execute program c f ls labels i vs rest frames
-rule_of program c (FrameOf f ls labels vs (InBlock t body rest) ∷ frames) =
+counted_step_of program c (FrameOf f ls labels vs (InBlock t body rest) ∷ frames) =
     inside c f ls (block_label Main t vs rest) labels body frames
-rule_of program c (FrameOf f ls labels vs (InLoop t body rest) ∷ frames) =
+counted_step_of program c (FrameOf f ls labels vs (InLoop t body rest) ∷ frames) =
     inside c f ls (loop_label t body vs rest) labels body frames
-rule_of program c (FrameOf f ls labels (value.I32 zero ∷ vs) (InIf t first rest) ∷ frames) =
+counted_step_of program c (FrameOf f ls labels (value.I32 zero ∷ vs) (InIf t first rest) ∷ frames) =
     Goes (record c { thread = FrameOf f ls labels vs rest ∷ frames })
-rule_of program c (FrameOf f ls labels (value.I32 (suc n) ∷ vs) (InIf t first rest) ∷ frames) =
-    inside c f ls (block_label Main t vs rest) labels first frames
-rule_of program c (FrameOf f ls labels (value.I32 zero ∷ vs) (InIfElse t first second rest)
+counted_step_of program c (FrameOf f ls labels (value.I32 (suc n)
+    ∷ vs) (InIf t first rest) ∷ frames) = inside c f ls (block_label Main t vs rest)
+    labels first frames
+counted_step_of program c (FrameOf f ls labels (value.I32 zero ∷ vs) (InIfElse t first second rest)
     ∷ frames) = inside c f ls (block_label Second t vs rest) labels second frames
-rule_of program c (FrameOf f ls labels (value.I32 (suc n) ∷ vs) (InIfElse t first second rest)
-    ∷ frames) = inside c f ls (block_label Main t vs rest) labels first frames
-rule_of program c thread = Stuck
+counted_step_of program c (FrameOf f ls labels (value.I32 (suc n)
+    ∷ vs) (InIfElse t first second rest) ∷ frames) = inside c f ls (block_label Main t vs rest)
+    labels first frames
+counted_step_of program c thread = Stuck
 
--- the counted rule that applies to a configuration
-abbrev pub rule : Program → Configuration → Outcome
-rule program c = rule_of program c c.thread
+-- the counted step that applies to a configuration
+abbrev pub counted_step : Program → Configuration → Outcome
+counted_step program c = counted_step_of program c c.thread
 
--- ---- the rules that aren't counted
+-- ---- the administrative steps
 
 -- the end of a label, whose values join those below it, and the end of a function
-abbrev pub left : Sequence → ℕ → List Value → List Label → List Value → Thread → Option Thread
-left Stop f ls (LabelOf keeps target below after which ∷ labels) vs frames =
+abbrev pub exited : Sequence → ℕ → List Value → List Label → List Value → Thread → Option Thread
+exited Stop f ls (LabelOf keeps target below after which ∷ labels) vs frames =
     Some (FrameOf f ls labels (vs ++ below) after ∷ frames)
-left Stop f ls [] vs frames = Some (returned vs frames)
-left rest f ls labels vs frames = None
+exited Stop f ls [] vs frames = Some (returned vs frames)
+exited rest f ls labels vs frames = None
 
 -- the host's next call, of a function without parameters
 abbrev pub begun : Option Callee → ℕ → Option Thread
-begun (Some (Own kind declared body)) f = Some (entered f kind declared body [] ∷ [])
+begun (Some (Own signature declared body)) f = Some (entered f signature declared body [] ∷ [])
 begun _ f = None
 
--- what leads on without a counted rule: the host's next call begins, or an end is left
-abbrev pub left_by : Program → Thread → List ℕ → Store → Option Configuration
-left_by program [] [] store = None
-left_by program [] (f ∷ later) store =
+-- what leads on without a counted step: the host's next call begins, or an end is left
+abbrev pub exited_by : Program → Thread → List ℕ → Store → Option Configuration
+exited_by program [] [] store = None
+exited_by program [] (f ∷ later) store =
     option_map (λ (thread : Thread). record {
       store = store;
       thread = thread;
       later = later;
     }) (begun (slice_get program.functions f) f)
-left_by program (FrameOf f ls labels vs rest ∷ frames) later store =
+exited_by program (FrameOf f ls labels vs rest ∷ frames) later store =
     option_map (λ (thread : Thread). record {
       store = store;
       thread = thread;
       later = later;
-    }) (left rest f ls labels vs frames)
+    }) (exited rest f ls labels vs frames)
 
--- the rule that counts nothing, where one applies
-abbrev pub leave : Program → Configuration → Option Configuration
-leave program c = left_by program c.thread c.later c.store
+-- the administrative step, where one applies
+abbrev pub administrative_step : Program → Configuration → Option Configuration
+administrative_step program c = exited_by program c.thread c.later c.store
 
 -- ---- steps
 
--- only a counted rule applies, or none
-abbrev pub IsSettled : Program → Configuration → Type 0
-IsSettled program c = leave program c ≡ None
+-- in normal form: only a counted step applies, or none
+abbrev pub IsReduced : Program → Configuration → Type 0
+IsReduced program c = administrative_step program c ≡ None
 
 -- the program has come to its end
 pub record IsEnded (c : Configuration) : Type 0 where
   pub returned : c.thread ≡ []
   pub nothing_later : c.later ≡ []
 
--- a counted rule, and one that isn't
+-- a counted step, and one that isn't
 abbrev pub IsCounted : Program → Configuration → Configuration → Type 0
-IsCounted program c d = rule program c ≡ Goes d
+IsCounted program c d = counted_step program c ≡ Goes d
 
--- a rule that counts nothing leads from one configuration to the other
-abbrev pub IsUncounted : Program → Configuration → Configuration → Type 0
-IsUncounted program c d = leave program c ≡ Some d
+-- an administrative step leads from one configuration to the other
+abbrev pub IsAdministrative : Program → Configuration → Configuration → Type 0
+IsAdministrative program c d = administrative_step program c ≡ Some d
 
 -- one small step
 abbrev pub Step : Program → Configuration → Configuration → Type 0
-Step program c d = IsCounted program c d ⊎ IsUncounted program c d
+Step program c d = IsCounted program c d ⊎ IsAdministrative program c d
 
--- rules that aren't counted lead from one configuration to the settled other
-pub data Settles (program : Program) : Configuration → Configuration → Type 0 where
-  here : {c : Configuration} → IsSettled program c → Settles program c c
-  on : {c d e : Configuration} → IsUncounted program c d → Settles program d e → Settles program c e
+-- administrative steps lead from one configuration to the reduced other
+pub data ReducesTo (program : Program) : Configuration → Configuration → Type 0 where
+  here : {c : Configuration} → IsReduced program c → ReducesTo program c c
+  on : {c d e : Configuration} → IsAdministrative program c d → ReducesTo program d e
+      → ReducesTo program c e
 
--- one counted rule, and then those that settle what it gives
+-- one counted step, and then those that reduce what it gives
 pub record Advances (program : Program) (c d : Configuration) : Type 0 where
   pub between : Configuration
   pub counted : IsCounted program c between
-  pub settles : Settles program between d
+  pub reduces : ReducesTo program between d
 
 -- the same for a call of the host, which is one counted step with its answer: the bytes that memory
 -- has then, and what the call gives

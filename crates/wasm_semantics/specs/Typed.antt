@@ -13,23 +13,26 @@ use Rattle.wasm_semantics.specs.Validity.{IsIndex, AreFunctionTypes, module_cont
 use Rattle.wasm_semantics.specs.Instantiation.{IsProgram, Begins}
 use Rattle.wasm_semantics.specs.Linking.{Offer, IsLinkable}
 use Rattle.wasm_syntax.specs.declared.module.Module.{Module}
-use Rattle.wasm_semantics.specs.Configuration.{Callee, Host, Own, Program, Store, Label, LabelOf}
+use Rattle.wasm_semantics.specs.Configuration.{Callee, Imported, Own, Program, Store, Label}
+use Rattle.wasm_semantics.specs.Configuration.{LabelOf}
 use Rattle.wasm_semantics.specs.Configuration.{FrameOf, Thread, Configuration, Outcome, Goes}
 use Rattle.wasm_semantics.specs.Configuration.{Traps, Asks, Stuck}
-use Rattle.wasm_semantics.specs.Steps.{kind_of, IsSettled, IsEnded, Steps, rule, leave, answered}
+use Rattle.wasm_semantics.specs.Steps.{signature_of, IsReduced, IsEnded, Steps, counted_step}
+use Rattle.wasm_semantics.specs.Steps.{administrative_step, answered}
 
 -- ---- the program
 
 -- a function's body has its type
 abbrev pub IsTypedCallee : Context → Callee → Type 0
-IsTypedCallee c (Host kind) = Unit {0}
-IsTypedCallee c (Own kind declared body) =
-    HasType (body_context c kind declared) (gives_of kind ∷ []) body [] (gives_of kind)
+IsTypedCallee c (Imported signature) = Unit {0}
+IsTypedCallee c (Own signature declared body) =
+    HasType (body_context c signature declared) (gives_of signature
+    ∷ []) body [] (gives_of signature)
 
 -- every body has its type, and memory has at most 65,536 pages
 pub record IsTypedProgram (c : Context) (program : Program) : Type 0 where
   pub types : c.types ≡ program.types
-  pub functions : c.functions ≡ map kind_of program.functions
+  pub functions : c.functions ≡ map signature_of program.functions
   pub bodies : (f : ℕ) (callee : Callee) → slice_get program.functions f ≡ Some callee
       → IsTypedCallee c callee
   pub pages : program.most_pages ≤ 2 ^ 16
@@ -83,18 +86,19 @@ pub record IsTypedFrame (c : Context) (given : List ValueType) (ls : List Value)
 abbrev pub IsTypedThread : Context → Program → List ValueType → Thread → Type 0
 IsTypedThread c program given [] = Unit {0}
 IsTypedThread c program given (FrameOf f ls labels vs rest ∷ frames) =
-    (kind : FunctionType) × (declared : List ValueType) × (body : Sequence)
-    × (slice_get program.functions f ≡ Some (Own kind declared body))
-    × IsTypedFrame (body_context c kind declared) given ls labels vs rest
-    × IsTypedThread c program (gives_of kind) frames
+    (signature : FunctionType) × (declared : List ValueType) × (body : Sequence)
+    × (slice_get program.functions f ≡ Some (Own signature declared body))
+    × IsTypedFrame (body_context c signature declared) given ls labels vs rest
+    × IsTypedThread c program (gives_of signature) frames
 
 -- ---- configurations
 
 -- a function of the module's own that the host may call
 abbrev pub IsEntry : Program → ℕ → Type 0
 IsEntry program f =
-    (kind : FunctionType) × (declared : List ValueType) × (body : Sequence)
-    × (slice_get program.functions f ≡ Some (Own kind declared body)) × (kind.parameters ≡ [])
+    (signature : FunctionType) × (declared : List ValueType) × (body : Sequence)
+    × (slice_get program.functions f ≡ Some (Own signature declared body))
+    × (signature.parameters ≡ [])
 
 -- a configuration is well typed
 pub record IsTyped (c : Context) (program : Program) (configuration : Configuration) : Type 0 where
@@ -102,31 +106,31 @@ pub record IsTyped (c : Context) (program : Program) (configuration : Configurat
   pub thread : IsTypedThread c program [] configuration.thread
   pub later : AllByRecursion (IsEntry program) configuration.later
 
--- What a rule leads to is typed. It is a configuration, or a call of the host's function with
--- arguments of its parameters' types, for which a typed thread waits.
+-- What a counted step leads to is typed. It is a configuration, or a call of the host's function
+-- with arguments of its parameters' types, for which a typed thread waits.
 abbrev pub IsSound : Context → Program → Outcome → Type 0
 IsSound c program (Goes next) = IsTyped c program next
 IsSound c program (Traps why) = Unit {0}
 IsSound c program (Asks f arguments waits) =
-    (kind : FunctionType) × (slice_get program.functions f ≡ Some (Host kind))
-    × AreOf (takes_of kind) arguments × IsTypedThread c program (gives_of kind) waits
+    (signature : FunctionType) × (slice_get program.functions f ≡ Some (Imported signature))
+    × AreOf (takes_of signature) arguments × IsTypedThread c program (gives_of signature) waits
 IsSound c program Stuck = ⊥
 
 -- ---- type soundness (A.5)
 
--- A settled configuration that is typed has ended, or a rule applies, and what it leads to is
--- typed.
+-- A reduced configuration that is typed has ended, or a counted step applies, and what it leads to
+-- is typed.
 abbrev pub NeverStuck : Type 0
 NeverStuck =
     (c : Context) (program : Program) (d : Configuration) → IsTypedProgram c program
-    → IsTyped c program d → IsSettled program d
-    → IsEnded d ⊎ IsSound c program (rule program d)
+    → IsTyped c program d → IsReduced program d
+    → IsEnded d ⊎ IsSound c program (counted_step program d)
 
--- A rule that isn't counted leads from a typed configuration to a typed one.
-abbrev pub LeavesTyped : Type 0
-LeavesTyped =
+-- An administrative step leads from a typed configuration to a typed one.
+abbrev pub AdministrativeTyped : Type 0
+AdministrativeTyped =
     (c : Context) (program : Program) (d e : Configuration) → IsTypedProgram c program
-    → IsTyped c program d → leave program d ≡ Some e
+    → IsTyped c program d → administrative_step program d ≡ Some e
     → IsTyped c program e
 
 -- Nor does the host's answer change that, which gives what the call's type says and leaves whole
@@ -134,27 +138,27 @@ LeavesTyped =
 abbrev pub AnswersTyped : Type 0
 AnswersTyped =
     (c : Context) (program : Program) (d : Configuration) (f : ℕ) (arguments : List Value)
-    (waits : Thread) (memory : List ℕ) (results : List Value) (kind : FunctionType)
-    → IsTypedProgram c program → IsTyped c program d → rule program d ≡ Asks f arguments waits
-    → IsSettled program d
-    → slice_get program.functions f ≡ Some (Host kind) → AreOf (gives_of kind) results
+    (waits : Thread) (memory : List ℕ) (results : List Value) (signature : FunctionType)
+    → IsTypedProgram c program → IsTyped c program d → counted_step program d
+    ≡ Asks f arguments waits → IsReduced program d
+    → slice_get program.functions f ≡ Some (Imported signature) → AreOf (gives_of signature) results
     → IsTypedMemory program memory
     → IsTyped c program (answered d memory results waits)
 
--- So all that counted steps lead to is typed, and settled where the beginning was.
+-- So all that counted steps lead to is typed, and reduced where the beginning was.
 abbrev pub StepsTyped : Type 0
 StepsTyped =
     (c : Context) (program : Program) (n : ℕ) (d e : Configuration) → IsTypedProgram c program
-    → IsTyped c program d → IsSettled program d → Steps program n d e
-    → IsTyped c program e × IsSettled program e
+    → IsTyped c program d → IsReduced program d → Steps program n d e
+    → IsTyped c program e × IsReduced program e
 
 -- ---- the beginning
 
 -- the host offers no function without parameters and results, so that none can be the start
 -- function or `_start`
 abbrev pub OffersNoEntry : Offer → Type 0
-OffersNoEntry offer = (from name : List ℕ) (kind : FunctionType) → offer from name ≡ Some kind
-    → kind.parameters ≡ [] → kind.results ≡ [] → ⊥
+OffersNoEntry offer = (from name : List ℕ) (signature : FunctionType) → offer from name
+    ≡ Some signature → signature.parameters ≡ [] → signature.results ≡ [] → ⊥
 
 -- The program of a valid module under at most 65,536 pages is typed in the module's context.
 abbrev pub ProgramsTyped : Type 0
@@ -163,7 +167,7 @@ ProgramsTyped =
     → IsValid m → AreFunctionTypes m functions → IsProgram m pages program
     → IsTypedProgram (module_context m functions) program
 
--- A valid module that is linked under at most 65,536 pages begins settled and typed, in the
+-- A valid module that is linked under at most 65,536 pages begins reduced and typed, in the
 -- module's context.
 abbrev pub BeginsTyped : Type 0
 BeginsTyped =
@@ -172,4 +176,4 @@ BeginsTyped =
     → IsValid m → AreFunctionTypes m functions → (link : IsLinkable offer pages m)
     → Begins m pages link.entry program d
     → IsTypedProgram (module_context m functions) program
-    × IsTyped (module_context m functions) program d × IsSettled program d
+    × IsTyped (module_context m functions) program d × IsReduced program d

@@ -30,9 +30,9 @@ pub record Context : Type 0 where
 
 -- what the body of a function of this type with these declared locals looks up
 abbrev pub body_context : Context → FunctionType → List ValueType → Context
-body_context c kind declared = record c {
-  locals = kind.parameters ++ declared;
-  returns = gives_of kind;
+body_context c signature declared = record c {
+  locals = signature.parameters ++ declared;
+  returns = gives_of signature;
 }
 
 -- there is a table, a memory
@@ -48,54 +48,60 @@ abbrev pub IsLabel : List (List ValueType) → List ValueType → ℕ → Type 0
 IsLabel labels ts l = slice_get labels l ≡ Some ts
 
 -- the instruction takes the operands p and leaves q
-abbrev pub HasRule : Context → List (List ValueType) → Instruction → List ValueType → List ValueType
-    → Type 0
-HasRule c labels instr.Unreachable p q = Unit {0}
-HasRule c labels instr.Nop p q = (p ≡ []) × (q ≡ [])
-HasRule c labels (instr.Br l) p q = (ts : List ValueType) × (rest : List ValueType)
+abbrev pub HasInstructionType : Context → List (List ValueType) → Instruction → List ValueType
+    → List ValueType → Type 0
+HasInstructionType c labels instr.Unreachable p q = Unit {0}
+HasInstructionType c labels instr.Nop p q = (p ≡ []) × (q ≡ [])
+HasInstructionType c labels (instr.Br l) p q = (ts : List ValueType) × (rest : List ValueType)
     × IsLabel labels ts l × (p ≡ ts ++ rest)
-HasRule c labels (instr.BrIf l) p q = (ts : List ValueType) × IsLabel labels ts l × (p ≡ I32 ∷ ts)
-    × (q ≡ ts)
-HasRule c labels (instr.BrTable ls l) p q = (ts : List ValueType) × (rest : List ValueType)
-    × AllByRecursion (IsLabel labels ts) ls × IsLabel labels ts l × (p ≡ I32 ∷ (ts ++ rest))
-HasRule c labels instr.Return p q = (rest : List ValueType) × (p ≡ c.returns ++ rest)
-HasRule c labels (instr.Call x) p q = (f : FunctionType) × (slice_get c.functions x ≡ Some f)
-    × (p ≡ takes_of f) × (q ≡ gives_of f)
-HasRule c labels (instr.CallIndirect x) p q = (f : FunctionType) × (slice_get c.types x ≡ Some f)
-    × HasTable c × (p ≡ I32 ∷ takes_of f) × (q ≡ gives_of f)
-HasRule c labels instr.Drop p q = (t : ValueType) × (p ≡ t ∷ []) × (q ≡ [])
-HasRule c labels instr.Select p q = (t : ValueType) × (p ≡ I32 ∷ t ∷ t ∷ []) × (q ≡ t ∷ [])
-HasRule c labels (instr.LocalGet x) p q = (t : ValueType) × (slice_get c.locals x ≡ Some t)
-    × (p ≡ []) × (q ≡ t ∷ [])
-HasRule c labels (instr.LocalSet x) p q = (t : ValueType) × (slice_get c.locals x ≡ Some t)
-    × (p ≡ t ∷ []) × (q ≡ [])
-HasRule c labels (instr.LocalTee x) p q = (t : ValueType) × (slice_get c.locals x ≡ Some t)
-    × (p ≡ t ∷ []) × (q ≡ t ∷ [])
-HasRule c labels (instr.GlobalGet x) p q = (g : GlobalType) × (slice_get c.globals x ≡ Some g)
-    × (p ≡ []) × (q ≡ g.value_type ∷ [])
-HasRule c labels (instr.GlobalSet x) p q = (g : GlobalType) × (slice_get c.globals x ≡ Some g)
-    × (g.mutability ≡ Variable) × (p ≡ g.value_type ∷ []) × (q ≡ [])
-HasRule c labels (instr.Load o m) p q = HasMemory c × (2 ^ m.align ≤ bytes_in (loaded_width o))
-    × (p ≡ I32 ∷ []) × (q ≡ loaded_type o ∷ [])
-HasRule c labels (instr.Store o m) p q = HasMemory c × (2 ^ m.align ≤ bytes_in (stored_width o))
-    × (p ≡ stored_type o ∷ I32 ∷ []) × (q ≡ [])
-HasRule c labels instr.MemorySize p q = HasMemory c × (p ≡ []) × (q ≡ I32 ∷ [])
-HasRule c labels instr.MemoryGrow p q = HasMemory c × (p ≡ I32 ∷ []) × (q ≡ I32 ∷ [])
-HasRule c labels instr.MemoryCopy p q = HasMemory c × (p ≡ I32 ∷ I32 ∷ I32 ∷ []) × (q ≡ [])
-HasRule c labels instr.MemoryFill p q = HasMemory c × (p ≡ I32 ∷ I32 ∷ I32 ∷ []) × (q ≡ [])
-HasRule c labels (instr.Const v) p q = (t : ValueType) × IsOf t v × (p ≡ []) × (q ≡ t ∷ [])
-HasRule c labels (instr.Eqz t) p q = (p ≡ t ∷ []) × (q ≡ I32 ∷ [])
-HasRule c labels (instr.Compare t o) p q = (p ≡ t ∷ t ∷ []) × (q ≡ I32 ∷ [])
-HasRule c labels (instr.Unary t o) p q = (p ≡ t ∷ []) × (q ≡ t ∷ [])
-HasRule c labels (instr.Binary t o) p q = (p ≡ t ∷ t ∷ []) × (q ≡ t ∷ [])
-HasRule c labels (instr.Convert o) p q = (p ≡ conversion_takes o ∷ [])
+HasInstructionType c labels (instr.BrIf l) p q = (ts : List ValueType) × IsLabel labels ts l
+    × (p ≡ I32 ∷ ts) × (q ≡ ts)
+HasInstructionType c labels (instr.BrTable ls l) p q = (ts : List ValueType)
+    × (rest : List ValueType) × AllByRecursion (IsLabel labels ts) ls × IsLabel labels ts l
+    × (p ≡ I32 ∷ (ts ++ rest))
+HasInstructionType c labels instr.Return p q = (rest : List ValueType) × (p ≡ c.returns ++ rest)
+HasInstructionType c labels (instr.Call x) p q = (f : FunctionType)
+    × (slice_get c.functions x ≡ Some f) × (p ≡ takes_of f) × (q ≡ gives_of f)
+HasInstructionType c labels (instr.CallIndirect x) p q = (f : FunctionType)
+    × (slice_get c.types x ≡ Some f) × HasTable c × (p ≡ I32 ∷ takes_of f) × (q ≡ gives_of f)
+HasInstructionType c labels instr.Drop p q = (t : ValueType) × (p ≡ t ∷ []) × (q ≡ [])
+HasInstructionType c labels instr.Select p q = (t : ValueType) × (p ≡ I32 ∷ t ∷ t ∷ [])
+    × (q ≡ t ∷ [])
+HasInstructionType c labels (instr.LocalGet x) p q = (t : ValueType)
+    × (slice_get c.locals x ≡ Some t) × (p ≡ []) × (q ≡ t ∷ [])
+HasInstructionType c labels (instr.LocalSet x) p q = (t : ValueType)
+    × (slice_get c.locals x ≡ Some t) × (p ≡ t ∷ []) × (q ≡ [])
+HasInstructionType c labels (instr.LocalTee x) p q = (t : ValueType)
+    × (slice_get c.locals x ≡ Some t) × (p ≡ t ∷ []) × (q ≡ t ∷ [])
+HasInstructionType c labels (instr.GlobalGet x) p q = (g : GlobalType)
+    × (slice_get c.globals x ≡ Some g) × (p ≡ []) × (q ≡ g.value_type ∷ [])
+HasInstructionType c labels (instr.GlobalSet x) p q = (g : GlobalType)
+    × (slice_get c.globals x ≡ Some g) × (g.mutability ≡ Variable)
+    × (p ≡ g.value_type ∷ []) × (q ≡ [])
+HasInstructionType c labels (instr.Load o m) p q = HasMemory c
+    × (2 ^ m.align ≤ bytes_in (loaded_width o)) × (p ≡ I32 ∷ []) × (q ≡ loaded_type o ∷ [])
+HasInstructionType c labels (instr.Store o m) p q = HasMemory c
+    × (2 ^ m.align ≤ bytes_in (stored_width o)) × (p ≡ stored_type o ∷ I32 ∷ []) × (q ≡ [])
+HasInstructionType c labels instr.MemorySize p q = HasMemory c × (p ≡ []) × (q ≡ I32 ∷ [])
+HasInstructionType c labels instr.MemoryGrow p q = HasMemory c × (p ≡ I32 ∷ []) × (q ≡ I32 ∷ [])
+HasInstructionType c labels instr.MemoryCopy p q = HasMemory c
+    × (p ≡ I32 ∷ I32 ∷ I32 ∷ []) × (q ≡ [])
+HasInstructionType c labels instr.MemoryFill p q = HasMemory c
+    × (p ≡ I32 ∷ I32 ∷ I32 ∷ []) × (q ≡ [])
+HasInstructionType c labels (instr.Const v) p q = (t : ValueType) × IsOf t v × (p ≡ [])
+    × (q ≡ t ∷ [])
+HasInstructionType c labels (instr.Eqz t) p q = (p ≡ t ∷ []) × (q ≡ I32 ∷ [])
+HasInstructionType c labels (instr.Compare t o) p q = (p ≡ t ∷ t ∷ []) × (q ≡ I32 ∷ [])
+HasInstructionType c labels (instr.Unary t o) p q = (p ≡ t ∷ []) × (q ≡ t ∷ [])
+HasInstructionType c labels (instr.Binary t o) p q = (p ≡ t ∷ t ∷ []) × (q ≡ t ∷ [])
+HasInstructionType c labels (instr.Convert o) p q = (p ≡ conversion_takes o ∷ [])
     × (q ≡ conversion_gives o ∷ [])
 -- those that open, part or close a sequence are no instruction by themselves
-HasRule c labels (instr.Block t) p q = ⊥
-HasRule c labels (instr.Loop t) p q = ⊥
-HasRule c labels (instr.If t) p q = ⊥
-HasRule c labels instr.Else p q = ⊥
-HasRule c labels instr.End p q = ⊥
+HasInstructionType c labels (instr.Block t) p q = ⊥
+HasInstructionType c labels (instr.Loop t) p q = ⊥
+HasInstructionType c labels (instr.If t) p q = ⊥
+HasInstructionType c labels instr.Else p q = ⊥
+HasInstructionType c labels instr.End p q = ⊥
 
 -- The sequence has type [a] to [b]. Each instruction leaves the operands below those that it takes
 -- as they are. Behind `unreachable`, `br`, `br_table` and `return` they may be any: there q is
@@ -105,7 +111,7 @@ abbrev pub HasType : Context → List (List ValueType) → Sequence → List Val
 HasType c labels Stop a b = a ≡ b
 HasType c labels (Plain i rest) a b =
     (p : List ValueType) × (q : List ValueType) × (below : List ValueType) × (a ≡ p ++ below)
-    × HasRule c labels i p q × HasType c labels rest (q ++ below) b
+    × HasInstructionType c labels i p q × HasType c labels rest (q ++ below) b
 HasType c labels (InBlock t body rest) a b =
     HasType c (results_of t ∷ labels) body [] (results_of t)
     × HasType c labels rest (results_of t ++ a) b

@@ -8,7 +8,8 @@ ghost use Rattle.wasm_semantics.specs.laws.Examples.{TypingExamples, HelloRuns, 
 ghost use Rattle.wasm_semantics.specs.laws.LimitExamples.{StackExamples, BranchExamples};
 ghost use Rattle.wasm_semantics.specs.laws.LimitExamples.{TableExamples, MemoryGrows};
 ghost use Rattle.wasm_semantics.specs.laws.LimitExamples.{MoveExamples};
-ghost use Rattle.wasm_semantics.specs.Typed.{NeverStuck, LeavesTyped, AnswersTyped, StepsTyped};
+ghost use Rattle.wasm_semantics.specs.Typed.{NeverStuck, AdministrativeTyped, AnswersTyped};
+ghost use Rattle.wasm_semantics.specs.Typed.{StepsTyped};
 ghost use Rattle.wasm_semantics.specs.Typed.{ProgramsTyped, BeginsTyped};
 
 /// In a typed body each position that typing reaches has a typed shape.
@@ -34,7 +35,7 @@ pub fn worked_examples()
     ensures steps { StepExamples }
 {}
 
-/// The limits of the stack from both sides, branches that leave values behind, calls through the
+/// The limits of the stack from both sides, branches that leave values after, calls through the
 /// table, memory that grows up to its limit, and copies and fills up to its end.
 pub fn limits_on_examples()
     ensures stack { StackExamples }
@@ -49,12 +50,12 @@ pub fn limits_on_examples()
 /// Type soundness: a typed configuration is never stuck, and what follows from it is typed again.
 pub fn typed_configurations_go_on()
     ensures never_stuck { NeverStuck }
-    ensures leaves_typed { LeavesTyped }
+    ensures administrative_typed { AdministrativeTyped }
     ensures answers_typed { AnswersTyped }
     ensures steps_typed { StepsTyped }
 {}
 
-/// The program of a valid module is typed, and linked to a host it begins settled and typed.
+/// The program of a valid module is typed, and linked to a host it begins reduced and typed.
 pub fn valid_modules_begin_typed()
     ensures programs { ProgramsTyped }
     ensures begins { BeginsTyped }

@@ -6,11 +6,11 @@
 //!
 //! The calls of `laws` do nothing; what they ensure is proved of the definitions.
 //!
-//! - `typed_configurations_go_on`: type soundness. A settled, typed configuration has ended or a
-//!   rule applies (`never_stuck`), and what follows is typed (`leaves_typed`, `answers_typed`,
-//!   `steps_typed`).
+//! - `typed_configurations_go_on`: type soundness. A reduced, typed configuration has ended or a
+//!   counted step applies (`never_stuck`), and what follows is typed (`administrative_typed`,
+//!   `answers_typed`, `steps_typed`).
 //! - `valid_modules_begin_typed`: the program of a valid module is typed (`programs`), and once it
-//!   is linked it begins settled and typed (`begins`).
+//!   is linked it begins reduced and typed (`begins`).
 //! - `nothing_is_left_open`: opcodes spell one sequence at most (`one_sequence`), and counted
 //!   steps lead to one configuration at most (`one_run`).
 //! - `reached_shapes_are_typed`, `heights_are_small`: each position that typing reaches has a
@@ -20,17 +20,17 @@
 //!
 //! # Definitions to read
 //!
-//! In `specs/`: types of operators (`Types.antt`); `HasRule`, `HasType` (`Typing.antt`); `IsValid`
-//! (`Validity.antt`); `Configuration` (`Configuration.antt`); `effect` (`Effects.antt`); `rule`,
-//! `leave`, `Steps` (`Steps.antt`); `Begins` (`Instantiation.antt`); `IsLinkable`
-//! (`Linking.antt`); `IsAccepted` (`Acceptance.antt`); `body_shape` (`Shapes.antt`); `IsTyped`
-//! (`Typed.antt`). Where the standard leaves a choice, `grown` and `is_exhausted` say which one is
-//! taken.
+//! In `specs/`: types of operators (`Types.antt`); `HasInstructionType`, `HasType` (`Typing.antt`);
+//! `IsValid` (`Validity.antt`); `Configuration` (`Configuration.antt`); `effect` (`Effects.antt`);
+//! `counted_step`, `administrative_step`, `Steps` (`Steps.antt`); `Begins` (`Instantiation.antt`);
+//! `IsLinkable` (`Linking.antt`); `IsAccepted` (`Acceptance.antt`); `body_shape` (`Shapes.antt`);
+//! `IsTyped` (`Typed.antt`). Where the standard leaves a choice, `grown` and `is_exhausted` say
+//! which one is taken.
 //!
 //! # Who may touch what
 //!
 //! There is no code here but the empty functions of `laws`. The rules know no positions, fuel,
-//! slots or sectors. Validation, the machine, processes and workers cite them. They stand on
+//! slots or sectors. Validation, the machine, processes and workers cite them. They are on
 //! `wasm_syntax`, and on definitions of `int_ops` and `guest_memory`. The crate takes no memory,
 //! and has no errors.
 //!
@@ -44,7 +44,7 @@
 //! - **The thread is read from inside**: frames, each with its labels, values and remaining
 //!   instructions. The standard's evaluation contexts are what is around. No rule needs one.
 //! - **The host's calls to come are part of a configuration** (`later`): the start function, then
-//!   `_start`. Going on from one to the next is a rule that isn't counted, so a start function that
+//!   `_start`. Going on from one to the next is an administrative step, so a start function that
 //!   returns needs no case of its own.
 //! - **A host call names the thread that waits for it.** Its answer puts the results there, the
 //!   same for `call` and `call_indirect`, and counts as the one step of the call.

@@ -1,9 +1,9 @@
 //! Instructions (section 2.4).
 
+use crate::item_list::ItemList;
 use crate::operator::{
     BinaryOperator, Comparison, Conversion, LoadOperator, StoreOperator, UnaryOperator,
 };
-use crate::row::Row;
 use crate::types::ValueType;
 use crate::value::Value;
 
@@ -41,7 +41,7 @@ pub enum Instruction {
         label: u32,
     },
     BrTable {
-        labels: Row<u32>,
+        labels: ItemList<u32>,
         default: u32,
     },
     Return,

@@ -5,8 +5,8 @@
 //!
 //! - `Module` and its parts, `Instruction`, the operators and the types are plain data. `Value`
 //!   and `Trap` are those of execution.
-//! - `Row` is the list of its items, as `as_slice`, `len`, `is_empty` and `get` say. `new` is
-//!   empty. `from_vec` and `into_vec` take and give a vector as it is. `push` puts an item behind
+//! - `ItemList` is the list of its items, as `as_slice`, `len`, `is_empty` and `get` say. `new` is
+//!   empty. `from_vec` and `into_vec` take and give a vector as it is. `push` puts an item after
 //!   the others (`pushed`), or leaves all as it was (`unchanged`).
 //! - `LimitedModule` is a module whose types and bodies are within the limits, by its type. `of` is
 //!   the test (`exact`, `same`), and `module` and `into_module` give the module back.
@@ -27,10 +27,10 @@
 //!
 //! # Who may touch what
 //!
-//! `Row` hides where items lie and how much room is reserved: neither is part of its value. Only
-//! `LimitedModule::of` makes a `LimitedModule`. `wasm_decode` answers one, and `wasm_validate`
-//! takes one. Most crates of this repository stand on this one, and it stands on none. `Row::push`
-//! alone takes memory. Where that is refused the item is handed back.
+//! `ItemList` hides where items lie and how much room is reserved: neither is part of its value.
+//! Only `LimitedModule::of` makes a `LimitedModule`. `wasm_decode` answers one, and `wasm_validate`
+//! takes one. Most crates of this repository use this one, and it uses none. `ItemList::push` alone
+//! takes memory. Where that is refused the item is handed back.
 #![tactic(auto)]
 
 pub mod laws;
@@ -40,14 +40,15 @@ mod opener;
 pub use opener::Opener;
 
 mod instruction;
+mod item_list;
 mod limited;
 mod module;
 mod operator;
-mod row;
 mod types;
 mod value;
 
 pub use instruction::{Instruction, MemoryArgument};
+pub use item_list::ItemList;
 pub use limited::LimitedModule;
 pub use module::{
     Code, Data, Element, Export, ExportItem, Function, Global, Import, ImportItem, Module,
@@ -55,6 +56,5 @@ pub use module::{
 pub use operator::{
     BinaryOperator, Comparison, Conversion, LoadOperator, StoreOperator, UnaryOperator,
 };
-pub use row::Row;
 pub use types::{FunctionType, GlobalType, Limits, MemoryType, Mutability, TableType, ValueType};
 pub use value::{Trap, Value};

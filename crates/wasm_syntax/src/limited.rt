@@ -30,8 +30,8 @@ impl Model for LimitedModule {
 fn have_few_parameters(types: &[FunctionType]) -> bool
     ensures { IsTrue result ↔ AllByRecursion HasFewParameters types.now }
 {
-    for kind in types {
-        if kind.parameters.len() > PARAMETERS {
+    for signature in types {
+        if signature.parameters.len() > PARAMETERS {
             return false;
         }
     }

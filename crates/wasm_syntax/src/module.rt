@@ -2,29 +2,29 @@
 //! `End` that closes them.
 
 use crate::instruction::Instruction;
-use crate::row::Row;
+use crate::item_list::ItemList;
 use crate::types::{FunctionType, GlobalType, MemoryType, TableType, ValueType};
 
 /// What a module holds. Custom sections are not kept.
 #[derive(Debug, Drop)]
 pub struct Module {
-    pub types: Row<FunctionType>,
-    pub imports: Row<Import>,
-    pub functions: Row<Function>,
-    pub tables: Row<TableType>,
-    pub memories: Row<MemoryType>,
-    pub globals: Row<Global>,
-    pub exports: Row<Export>,
+    pub types: ItemList<FunctionType>,
+    pub imports: ItemList<Import>,
+    pub functions: ItemList<Function>,
+    pub tables: ItemList<TableType>,
+    pub memories: ItemList<MemoryType>,
+    pub globals: ItemList<Global>,
+    pub exports: ItemList<Export>,
     /// The index of the start function.
     pub start: Option<u32>,
-    pub elements: Row<Element>,
-    pub data_segments: Row<Data>,
+    pub elements: ItemList<Element>,
+    pub data_segments: ItemList<Data>,
 }
 
 #[derive(Debug, Drop)]
 pub struct Import {
-    pub module_name: Row<u8>,
-    pub name: Row<u8>,
+    pub module_name: ItemList<u8>,
+    pub name: ItemList<u8>,
     pub item: ImportItem,
 }
 
@@ -45,22 +45,22 @@ pub struct Function {
     pub code: Code,
 }
 
-/// A code entry: the types of the declared locals, behind the parameters, and the body.
+/// A code entry: the types of the declared locals, after the parameters, and the body.
 #[derive(Debug, Drop)]
 pub struct Code {
-    pub locals: Row<ValueType>,
-    pub body: Row<Instruction>,
+    pub locals: ItemList<ValueType>,
+    pub body: ItemList<Instruction>,
 }
 
 #[derive(Debug, Drop)]
 pub struct Global {
     pub global_type: GlobalType,
-    pub initial: Row<Instruction>,
+    pub initial: ItemList<Instruction>,
 }
 
 #[derive(Debug, Drop)]
 pub struct Export {
-    pub name: Row<u8>,
+    pub name: ItemList<u8>,
     pub item: ExportItem,
 }
 
@@ -77,14 +77,14 @@ pub enum ExportItem {
 #[derive(Debug, Drop)]
 pub struct Element {
     pub table: u32,
-    pub offset: Row<Instruction>,
-    pub functions: Row<u32>,
+    pub offset: ItemList<Instruction>,
+    pub functions: ItemList<u32>,
 }
 
 /// Bytes that a memory holds from an offset on.
 #[derive(Debug, Drop)]
 pub struct Data {
     pub memory: u32,
-    pub offset: Row<Instruction>,
-    pub bytes: Row<u8>,
+    pub offset: ItemList<Instruction>,
+    pub bytes: ItemList<u8>,
 }

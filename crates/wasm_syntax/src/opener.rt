@@ -4,7 +4,7 @@
 #[derive(Clone, Copy, Debug, PartialEq, Eq)]
 pub enum Opener {
     /// A block, a loop, or what follows an `else`.
-    Straight,
-    /// An `if`, in which an `else` may stand.
+    Unconditional,
+    /// An `if`, in which an `else` may be.
     Conditional,
 }

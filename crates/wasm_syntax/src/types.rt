@@ -1,6 +1,6 @@
 //! Types (section 2.3).
 
-use crate::row::Row;
+use crate::item_list::ItemList;
 
 #[derive(Clone, Copy, Debug, PartialEq, Eq)]
 pub enum ValueType {
@@ -11,8 +11,8 @@ pub enum ValueType {
 /// What a function takes and gives, the first one first.
 #[derive(Debug, Drop)]
 pub struct FunctionType {
-    pub parameters: Row<ValueType>,
-    pub results: Row<ValueType>,
+    pub parameters: ItemList<ValueType>,
+    pub results: ItemList<ValueType>,
 }
 
 /// The size of a table, in entries, or of a memory, in pages of 65,536 bytes: at first and at most.

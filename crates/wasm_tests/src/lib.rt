@@ -7,26 +7,26 @@
 #![tactic(auto)]
 
 #[cfg(test)]
+mod branches;
+#[cfg(test)]
+mod containers;
+#[cfg(test)]
+mod decoding;
+#[cfg(test)]
 mod faults;
 #[cfg(test)]
-mod guest_memory_tests;
+mod machines;
 #[cfg(test)]
-mod int_ops_tests;
+mod memories;
 #[cfg(test)]
-mod machine_frame_tests;
+mod opcodes;
 #[cfg(test)]
-mod machine_jumps_tests;
-#[cfg(test)]
-mod machine_tests;
-#[cfg(test)]
-mod opcode_tests;
-#[cfg(test)]
-mod row_tests;
+mod operators;
 #[cfg(test)]
 mod runs;
 #[cfg(test)]
 mod spelled;
 #[cfg(test)]
-mod wasm_decode_tests;
+mod translations;
 #[cfg(test)]
-mod wasm_validate_tests;
+mod validation;

@@ -2,7 +2,7 @@
 
 use crate::spelled::{Refused, with_code};
 use machine::{HostCall, Machine, Pause};
-use machine_loader::{FrontFault, accept};
+use machine_loader::{ModuleFault, accept};
 use std::alloc::Global;
 use wasi_abi::Call;
 use wasm_syntax::Trap;
@@ -74,7 +74,7 @@ fn has_come_to(
     }
 }
 
-pub fn comes_to(alloc: Global, bytes: &[u8], outcome: &Outcome) -> Result<bool, FrontFault> {
+pub fn comes_to(alloc: Global, bytes: &[u8], outcome: &Outcome) -> Result<bool, ModuleFault> {
     let mut machine = accept(alloc, bytes, 2)?;
     let why = machine.run(FUEL).why;
     let waits = machine.waits();
@@ -86,8 +86,8 @@ pub fn comes_to(alloc: Global, bytes: &[u8], outcome: &Outcome) -> Result<bool, 
 /// A name, locals and body of a function, and what comes of its module.
 pub type Run = (&'static str, &'static str, Outcome);
 
-/// Functions of one module: what stands before the code section, the number of entries and the
-/// first of them, and what stands behind it. Then the last entries, each of which makes a module.
+/// Functions of one module: what is before the code section, the number of entries and the first of
+/// them, and what is after it. Then the last entries, each of which makes a module.
 pub type Runs = (&'static str, &'static str, &'static str, &'static [Run]);
 
 pub fn runs_so(alloc: Global, runs: &Runs, run: &Run) -> Result<bool, Refused> {

@@ -1,6 +1,6 @@
 //! Modules that rows of text spell.
 
-use machine_loader::FrontFault;
+use machine_loader::ModuleFault;
 use std::alloc::{AllocError, AllocFailed, Global};
 use wasm_decode::DecodeFault;
 use wasm_validate::ValidFault;
@@ -11,7 +11,7 @@ pub enum Refused {
     Memory,
     /// A row's text spells no bytes, or too many.
     Misspelled,
-    Front(FrontFault),
+    Module(ModuleFault),
 }
 
 impl From<AllocError> for Refused {
@@ -26,25 +26,25 @@ impl<T: Drop> From<AllocFailed<T>> for Refused {
     }
 }
 
-impl From<FrontFault> for Refused {
-    fn from(fault: FrontFault) -> Refused {
+impl From<ModuleFault> for Refused {
+    fn from(fault: ModuleFault) -> Refused {
         if fault.is_want_of_memory() {
             Refused::Memory
         } else {
-            Refused::Front(fault)
+            Refused::Module(fault)
         }
     }
 }
 
 impl From<DecodeFault> for Refused {
     fn from(fault: DecodeFault) -> Refused {
-        Refused::from(FrontFault::Decode(fault))
+        Refused::from(ModuleFault::Decode(fault))
     }
 }
 
 impl From<ValidFault> for Refused {
     fn from(fault: ValidFault) -> Refused {
-        Refused::from(FrontFault::Valid(fault))
+        Refused::from(ModuleFault::Valid(fault))
     }
 }
 
@@ -134,8 +134,8 @@ fn append_spelled_code(
     append_code(bytes, others.as_slice(), last.as_slice())
 }
 
-/// What stands before a module's code section, that section without sizes, as its number of entries
-/// with some of them and a last entry, and what stands behind it.
+/// What is before a module's code section, that section without sizes, as its number of entries
+/// with some of them and a last entry, and what is after it.
 pub fn with_code(
     alloc: Global,
     front: &str,

@@ -1,6 +1,6 @@
 pub mod Bodies
 pub mod Fails
-pub mod FaultKinds
+pub mod FaultMeanings
 pub mod KnownTypes
 pub mod LevelViews
 pub mod NoFault

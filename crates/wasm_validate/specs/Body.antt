@@ -1,6 +1,6 @@
 pub mod Answers
 pub mod Bodies
-pub mod Kinds
+pub mod Transfers
 pub mod Known
 pub mod Scopes
 pub mod Tops

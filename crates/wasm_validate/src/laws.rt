@@ -5,7 +5,7 @@ ghost use Rattle.wasm_validate.specs.laws.FaultLaws.{ValidHasNoFault};
 ghost use Rattle.wasm_validate.specs.laws.Algorithm.{PassesOnlyTyped, PassesAllTyped};
 ghost use Rattle.wasm_validate.specs.laws.Reached.{CheckingFindsShapes};
 
-/// What is checked before and behind the code section, and the bodies, are all of validity.
+/// What is checked before and after the code section, and the bodies, are all of validity.
 pub fn parts_are_validity()
     ensures enough { PartsGiveValid }
     ensures needed { ValidGivesParts }

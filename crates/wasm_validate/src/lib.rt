@@ -4,7 +4,7 @@
 //! # Promises
 //!
 //! - `validate`: the module that it answers is the one that it was given (`same`), and is valid
-//!   (`valid`). A fault other than want of memory comes only where it is not valid (`only`), and is
+//!   (`valid`). A fault other than out of memory comes only where it is not valid (`only`), and is
 //!   of a kind that is there (`fault`). So where one kind alone applies, it is told.
 //! - `ValidModule` is a valid module by its type, whose types and bodies are within the limits.
 //!   `module` lends it (`same`, `valid`, `limited`).
@@ -37,9 +37,9 @@
 //!
 //! Only this crate makes a `ValidModule`. `machine_loader` calls `validate`. `machine`, `process`
 //! and `state_image` use the type. `machine`, `machine_jumps` and `machine_frame` use the context,
-//! and `machine_jumps` the `Stack` of `body`. It stands on `wasm_syntax` and `wasm_semantics`.
-//! Memory is taken in proportion to functions, globals, exports and the longest body. Want of it is
-//! `V5 Memory`. After any fault the module is gone.
+//! and `machine_jumps` the `Stack` of `body`. It uses `wasm_syntax` and `wasm_semantics`. Memory is
+//! taken in proportion to functions, globals, exports and the longest body. Out of memory is `V5
+//! Memory`. After any fault the module is gone.
 //!
 //! # Choices
 //!

@@ -154,7 +154,7 @@ fn seed_of(order: &RunOrder<'_>) -> Option<[u8; 32]> {
     }
 }
 
-/// The file that says where the worker stands, if the words name one.
+/// The file that says where the worker is, if the words name one.
 fn watcher_of<'a, R: Files, E: Write + Drop>(
     rt: &'a R,
     alloc: Global,

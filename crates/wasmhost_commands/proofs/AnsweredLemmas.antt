@@ -4,8 +4,8 @@ use Rattle.std.proofs.Common.{sym, ap, subst, ◌∙◌, arith, length-append}
 use Rattle.std.specs.Prelude.{Option, Result, ⊤}
 use Rattle.std.specs.Option.{IsSomeAnd}
 use Rattle.wasi_abi.specs.declared.answer.Answer.{Answer}
-use Rattle.wasi_abi.specs.declared.answer.Kind.{Kind}
-use Rattle.wasi_abi.specs.declared.answer.Kind.TheVariants as kinds
+use Rattle.wasi_abi.specs.declared.answer.Question.{Question}
+use Rattle.wasi_abi.specs.declared.answer.Question.TheVariants as questions
 use Rattle.process_rules.specs.Runs.{Kept, Given}
 use Rattle.record_replay.specs.declared.fault.SourceFault.{SourceFault}
 use Rattle.record_replay.specs.rules.Calls.{Ask, AnswersInOrder}
@@ -16,7 +16,7 @@ use Rattle.wasmhost_commands.specs.rules.Outside.{words_in}
 use Rattle.wasmhost_commands.specs.rules.Requests.{GiveUpTo}
 use Rattle.wasmhost_commands.specs.rules.Answered.{AreOfLines, AnswersComeFromTheLines}
 use Rattle.wasmhost_commands.specs.rules.ServedOnDisk.{handing}
-use Rattle.wasmhost_commands.specs.Lines.Answers.{Standing, HandsNext, HandsAnswer, Finds}
+use Rattle.wasmhost_commands.specs.Lines.Answers.{SourceState, HandsNext, HandsAnswer, Finds}
 use Rattle.wasmhost_commands.specs.Lines.Answers.{LeavesFault}
 use Rattle.wasmhost_commands.specs.Lines.Answers.{IsRefusedAt}
 use Rattle.wasmhost_commands.proofs.LineLemmas.Asking.{HandsOver, finds_hands}
@@ -29,8 +29,8 @@ some_rest lines limit n =
     up_to_map limit n lines [] (λ rest. lines ≡ Some rest) (λ _. ⊤) (λ rest e. tt)
     (passed_nothing limit n lines)
 
--- where it stands when it has given nothing
-nothing : (s t : Standing) → t.taken ≡ s.taken → t.place ≡ s.place → AreOfLines s [] t
+-- where it is when it has given nothing
+nothing : (s t : SourceState) → t.taken ≡ s.taken → t.place ≡ s.place → AreOfLines s [] t
 nothing s t taken place = record {
   requests = some_rest s.unread s.limit s.taken;
   others = tt;
@@ -40,31 +40,31 @@ nothing s t taken place = record {
 
 -- a source with a fault answers nothing more
 module _ (why : LineFault) where
-  nothing_more : (asks : List Ask) (s t : Standing) → s.fault ≡ Some why
+  nothing_more : (asks : List Ask) (s t : SourceState) → s.fault ≡ Some why
       → AnswersInOrder handing s asks t
       → (handed asks ≡ []) × (t.taken ≡ s.taken) × (t.place ≡ s.place)
   nothing_more [] s t is leads =
-      (refl, ap (λ (z : Standing). z.taken) leads, ap (λ (z : Standing). z.place) leads)
+      (refl, ap (λ (z : SourceState). z.taken) leads, ap (λ (z : SourceState). z.place) leads)
   nothing_more (ask ∷ asks) s t is leads =
       by_said (λ now. nothing_more asks leads.0 t now leads.2) ask.said refl leads.1
     where
-      u : Standing
+      u : SourceState
       u = leads.0
 
       by_said : (u.fault ≡ Some why
           → (handed asks ≡ []) × (t.taken ≡ u.taken) × (t.place ≡ u.place))
           → (said : Result (Option Answer) SourceFault) → ask.said ≡ said
-          → HandsNext ask.kind s ask.said u
+          → HandsNext ask.question s ask.said u
           → (handed (ask ∷ asks) ≡ []) × (t.taken ≡ s.taken) × (t.place ≡ s.place)
       by_said more (Ok answered) e hands =
-          let h : HandsAnswer ask.kind s answered u =
-          subst (λ r. HandsNext ask.kind s r u) e hands in
+          let h : HandsAnswer ask.question s answered u =
+          subst (λ r. HandsNext ask.question s r u) e hands in
           let none = h.unfailed in absurd (cc)
       by_said more (Err fault) e hands =
-          let h : HandsNext ask.kind s (Err fault) u =
-          subst (λ r. HandsNext ask.kind s r u) e hands in
-          let stays : LeavesFault ask.kind s u (Some why) =
-          subst (LeavesFault ask.kind s u) is h.5 in
+          let h : HandsNext ask.question s (Err fault) u =
+          subst (λ r. HandsNext ask.question s r u) e hands in
+          let stays : LeavesFault ask.question s u (Some why) =
+          subst (LeavesFault ask.question s u) is h.5 in
           let others = more stays.0 in (
             subst (λ r. handed_by r ++ handed asks ≡ []) (sym e) others.0,
             others.1 ∙ h.2,
@@ -72,7 +72,7 @@ module _ (why : LineFault) where
           )
 
 -- a question that is answered
-answered_first : (s u t : Standing) (a : Answer) (kept : List Kept) → HandsOver s u a
+answered_first : (s u t : SourceState) (a : Answer) (kept : List Kept) → HandsOver s u a
     → u.outside ≡ s.outside → u.limit ≡ s.limit → u.stream ≡ s.stream → AreOfLines u kept t
     → AreOfLines s (Given a ∷ kept) t
 answered_first s u t a kept one same limit stream others =
@@ -98,7 +98,7 @@ answered_first s u t a kept one same limit stream others =
     }
 
 -- the lines have come to their end
-ended_first : (s u t : Standing) (kept : List Kept) → u.outside ≡ s.outside
+ended_first : (s u t : SourceState) (kept : List Kept) → u.outside ≡ s.outside
     → u.limit ≡ s.limit → u.stream ≡ s.stream → u.place ≡ s.place → u.taken ≡ s.taken
     → GiveUpTo s.limit s.taken s.unread [] (λ rest. u.unread ≡ Some rest) → AreOfLines u kept t
     → AreOfLines s kept t
@@ -118,24 +118,24 @@ ended_first s u t kept same limit stream place taken passed others =
     }
 
 -- what is left where no request comes
-abbrev pub IsAtEnd : Standing → Standing → Type 0
+abbrev pub IsAtEnd : SourceState → SourceState → Type 0
 IsAtEnd s u = (u.place ≡ s.place) × (u.taken ≡ s.taken)
     × GiveUpTo s.limit s.taken s.unread [] (λ rest. u.unread ≡ Some rest)
 
-pub at_end : (kind : Kind) (s u : Standing) → Finds kind s None u → IsAtEnd s u
-at_end kinds.Request s u found = (
+pub at_end : (question : Question) (s u : SourceState) → Finds question s None u → IsAtEnd s u
+at_end questions.Request s u found = (
   found.0,
   found.1.0,
   up_to_map s.limit s.taken s.unread [] (λ rest. (rest ≡ []) × (u.unread ≡ Some rest))
       (λ rest. u.unread ≡ Some rest) (λ rest h. h.1) found.1.1,
 )
-at_end kinds.Realtime s u found = absurd found
-at_end kinds.Monotonic s u found = absurd found
-at_end (kinds.Random n) s u found = absurd found
+at_end questions.Realtime s u found = absurd found
+at_end questions.Monotonic s u found = absurd found
+at_end (questions.Random n) s u found = absurd found
 
 -- a source that has refused
-refused_first : (s u t : Standing) (asks : List Ask) (left : Option LineFault)
-    → u.fault ≡ left → IsSomeAnd left (λ _. ⊤) → u.taken ≡ s.taken → u.place ≡ s.place
+refused_first : (s u t : SourceState) (asks : List Ask) (kept_fault : Option LineFault)
+    → u.fault ≡ kept_fault → IsSomeAnd kept_fault (λ _. ⊤) → u.taken ≡ s.taken → u.place ≡ s.place
     → AnswersInOrder handing u asks t → AreOfLines s (handed asks) t
 refused_first s u t asks None is some taken place leads = absurd some
 refused_first s u t asks (Some why) is some taken place leads =
@@ -144,44 +144,45 @@ refused_first s u t asks (Some why) is some taken place leads =
     (nothing s t (none.1 ∙ taken) (none.2 ∙ place))
 
 -- a refusal leaves a fault
-pub leaves_some : (kind : Kind) (s u : Standing) (found : Option LineFault)
-    → LeavesFault kind s u found → IsSomeAnd u.fault (λ _. ⊤)
-leaves_some kind s u (Some first) h =
+pub leaves_some : (question : Question) (s u : SourceState) (found : Option LineFault)
+    → LeavesFault question s u found → IsSomeAnd u.fault (λ _. ⊤)
+leaves_some question s u (Some first) h =
     subst (λ f. IsSomeAnd f (λ _. ⊤)) (sym h.0) tt
-leaves_some kind s u None h = some u.fault h
+leaves_some question s u None h = some u.fault h
   where
-    some : (left : Option LineFault) → IsSomeAnd left (IsRefusedAt kind s u.failed)
-        → IsSomeAnd left (λ _. ⊤)
+    some : (kept_fault : Option LineFault) → IsSomeAnd kept_fault (IsRefusedAt question s u.failed)
+        → IsSomeAnd kept_fault (λ _. ⊤)
     some None h = absurd h
     some (Some why) h = tt
 
 pub answers_are_of_lines : AnswersComeFromTheLines
 answers_are_of_lines [] s t leads =
-    nothing s t (ap (λ (z : Standing). z.taken) leads) (ap (λ (z : Standing). z.place) leads)
+    nothing s t (ap (λ (z : SourceState). z.taken) leads) (ap (λ (z : SourceState). z.place) leads)
 answers_are_of_lines (ask ∷ asks) s t leads =
     by_said (answers_are_of_lines asks leads.0 t leads.2) ask.said refl leads.1
   where
-    u : Standing
+    u : SourceState
     u = leads.0
 
     by_said : AreOfLines u (handed asks) t → (said : Result (Option Answer) SourceFault)
-        → ask.said ≡ said → HandsNext ask.kind s ask.said u → AreOfLines s (handed (ask ∷ asks)) t
+        → ask.said ≡ said → HandsNext ask.question s ask.said u
+        → AreOfLines s (handed (ask ∷ asks)) t
     by_said more (Ok (Some a)) e hands =
-        let h : HandsAnswer ask.kind s (Some a) u =
-        subst (λ r. HandsNext ask.kind s r u) e hands in
+        let h : HandsAnswer ask.question s (Some a) u =
+        subst (λ r. HandsNext ask.question s r u) e hands in
         subst (λ r. AreOfLines s (handed_by r ++ handed asks) t) (sym e)
-        (answered_first s u t a (handed asks) (finds_hands ask.kind s u a h.finds) h.same
+        (answered_first s u t a (handed asks) (finds_hands ask.question s u a h.finds) h.same
         h.same_limit h.same_stream more)
     by_said more (Ok None) e hands =
-        let h : HandsAnswer ask.kind s None u =
-        subst (λ r. HandsNext ask.kind s r u) e hands in
-        let here = at_end ask.kind s u h.finds in
+        let h : HandsAnswer ask.question s None u =
+        subst (λ r. HandsNext ask.question s r u) e hands in
+        let here = at_end ask.question s u h.finds in
         subst (λ r. AreOfLines s (handed_by r ++ handed asks) t) (sym e)
         (ended_first s u t (handed asks) h.same h.same_limit h.same_stream here.0 here.1 here.2
         more)
     by_said more (Err fault) e hands =
-        let h : HandsNext ask.kind s (Err fault) u =
-        subst (λ r. HandsNext ask.kind s r u) e hands in
+        let h : HandsNext ask.question s (Err fault) u =
+        subst (λ r. HandsNext ask.question s r u) e hands in
         subst (λ r. AreOfLines s (handed_by r ++ handed asks) t) (sym e)
-        (refused_first s u t asks u.fault refl (leaves_some ask.kind s u s.fault h.5) h.2 h.3
+        (refused_first s u t asks u.fault refl (leaves_some ask.question s u s.fault h.5) h.2 h.3
         leads.2)

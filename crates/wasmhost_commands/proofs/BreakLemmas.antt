@@ -1,10 +1,10 @@
--- Where slices lead, and where one or the checkpoint behind it has failed.
+-- Where slices lead, and where one or the checkpoint after it has failed.
 use Rattle.std.proofs.Common.{◌≡◌, inl, inr, ℕ, ◌+◌, Bool, true, false, List, [], ◌∷◌, ◌++◌}
 use Rattle.std.proofs.Common.{None, Err, refl, sym, ap, subst, arith, append_assoc}
 use Rattle.std.proofs.Common.{append-nil}
 use Rattle.std.specs.Prelude.{Result, replicate}
 use Rattle.std.proofs.lemmas.List.{replicate_more}
-use Rattle.wasi_abi.specs.declared.answer.Kind.TheVariants as kinds
+use Rattle.wasi_abi.specs.declared.answer.Question.TheVariants as questions
 use Rattle.process_rules.specs.Processes.{ProcessState, Guest}
 use Rattle.process_rules.specs.Runs.{none}
 use Rattle.process.specs.rules.Values.{ProcessValue, ShowsProcess}
@@ -20,10 +20,11 @@ use Rattle.ephemeral_worker.proofs.Joining.{wanted_join}
 use Rattle.worker.specs.declared.fault.WorkFault.{WorkFault}
 use Rattle.worker.specs.declared.fault.WorkFault.TheVariants as work
 use Rattle.worker.specs.rules.DurableValues.{DurableValue, without_disk}
-use Rattle.worker.specs.rules.DurableFailures.{SlicesOnDiskInVain}
+use Rattle.worker.specs.rules.DurableFailures.{SlicesOnDiskInVain, IsDiskCause}
 use Rattle.worker.specs.rules.LifeWords.{Act, Slice, Checkpoint, Upgrade}
 use Rattle.wasmhost_commands.specs.rules.BrokenLives.{steps_among, in_slice, in_checkpoint}
 use Rattle.wasmhost_commands.specs.rules.BrokenLives.{SlicesLead, BreaksOff, BreaksOffFrom}
+use Rattle.wasmhost_commands.specs.rules.BrokenLives.{BreaksInSlice, BreaksInSliceFrom}
 use Rattle.wasmhost_commands.specs.rules.Paces.{round_of}
 
 -- ---- the steps of acts
@@ -49,7 +50,7 @@ slice_more fuel n =
     ap (λ z. steps_among z) (sym (replicate_more n (Slice fuel))) in
     omega (arith, both, same)
 
--- a checkpoint behind them takes none
+-- a checkpoint after them takes none
 pub round_steps : (fuel n : ℕ)
     → steps_among (round_of fuel n) ≡ steps_among (replicate n (Slice fuel))
 round_steps fuel n =
@@ -70,11 +71,15 @@ leads_nowhere guest p = record {
 up_to_nowhere : (guest : Guest) (p : ProcessState) → LeadsUpTo guest p [] 0 p None
 up_to_nowhere guest p = record {
   front = [];
-  kind = kinds.Request;
+  question = questions.Request;
   is = refl;
   leads = leads_nowhere guest p;
   answered = none_answered;
 }
+
+fails_nowhere : (fuel : ℕ) (guest : Guest) (p : ProcessState)
+    → IsDiskCause guest p fuel [] 0 p (work.Work slice.Failed)
+fails_nowhere fuel guest p = (omega arith, inl (inr (up_to_nowhere guest p)))
 
 module _ {S O : Type 0} (gives : Giving S) (takes : Taking O) where
   pub lead_nowhere : (v : ProcessValue) (s : S) (o : O) (guest : Guest) (p : ProcessState)
@@ -113,27 +118,34 @@ module _ {S O : Type 0} (gives : Giving S) (takes : Taking O) where
     abbrev pub BreaksBy : ProcessValue → WorkFault → Type 0
     BreaksBy old why = BreaksOffFrom gives takes old fuel fuel why s t o p
 
+    -- where it is the slice that has failed
+    abbrev pub BreaksInBy : ProcessValue → WorkFault → Type 0
+    BreaksInBy old why = BreaksInSliceFrom gives takes old fuel fuel why s t o p
+
     -- one that fails
     breaks_in_slice : (old new : ProcessValue) (why : WorkFault)
-        → SlicesOnDiskInVain gives takes old fuel why new s t o p → BreaksBy old why
+        → SlicesOnDiskInVain gives takes old fuel why new s t o p → BreaksInBy old why
     breaks_in_slice old new why vain guest start is =
         let fails = vain guest start is in
         record {
-          front = [];
-          answered = none_answered;
-          steps = 0;
-          begun = start;
-          leads = leads_nowhere guest start;
-          back = fails.0.exchanges;
-          exchanged = fails.0.exchanged;
-          wanted = fails.0.wanted;
-          more = fails.0.steps;
-          process = fails.0.process;
-          broken = in_slice fails.1;
-          counted = omega arith;
+          broken = record {
+            front = [];
+            answered = none_answered;
+            steps = 0;
+            begun = start;
+            leads = leads_nowhere guest start;
+            back = fails.0.exchanges;
+            exchanged = fails.0.exchanged;
+            wanted = fails.0.wanted;
+            more = fails.0.steps;
+            process = fails.0.process;
+            broken = in_slice fails.1;
+            counted = omega arith;
+          };
+          cause = fails.1;
         }
 
-    -- a checkpoint that fails behind one that doesn't
+    -- a checkpoint that fails after one that doesn't
     pub breaks_in_checkpoint : (w w' : DurableValue) (said : Now) (why : WorkFault)
         → Slices gives takes (without_disk w) fuel said (without_disk w') s t o p
         → BreaksBy w.process why
@@ -156,41 +168,54 @@ module _ {S O : Type 0} (gives : Giving S) (takes : Taking O) where
 
   -- a worker that had failed does nothing
   breaks_failed : (fuel : ℕ) (s : S) (o : O) (old : ProcessValue)
-      → BreaksBy fuel s s o o old (work.Work slice.Failed)
+      → BreaksInBy fuel s s o o old (work.Work slice.Failed)
   breaks_failed fuel s o old guest start is = record {
-    front = [];
-    answered = none_answered;
-    steps = 0;
-    begun = start;
-    leads = leads_nowhere guest start;
-    back = [];
-    exchanged = record { asked = refl; released = refl };
-    wanted = none_wanted guest start;
-    more = 0;
-    process = start;
-    broken = in_slice (omega arith, inl (inr (up_to_nowhere guest start)));
-    counted = omega arith;
+    broken = record {
+      front = [];
+      answered = none_answered;
+      steps = 0;
+      begun = start;
+      leads = leads_nowhere guest start;
+      back = [];
+      exchanged = record { asked = refl; released = refl };
+      wanted = none_wanted guest start;
+      more = 0;
+      process = start;
+      broken = in_slice (fails_nowhere fuel guest start);
+      counted = omega arith;
+    };
+    cause = fails_nowhere fuel guest start;
   }
 
   pub same_fault : (a b : WorkFault) → ◌≡◌ {A = Result Now WorkFault} (Err a) (Err b) → a ≡ b
   same_fault a b e = cc
 
-  -- a slice that fails, of a worker that had failed or not
-  pub slice_breaks_off : (fuel : ℕ) (s t : S) (o p : O) (old new : ProcessValue)
-      (why : WorkFault) (has_failed : Bool)
-      → (has_failed ≡ false → SlicesOnDiskInVain gives takes old fuel why new s t o p)
-      → (has_failed ≡ true
-      → ◌≡◌ {A = Result Now WorkFault} (Err why) (Err (work.Work slice.Failed)))
-      → (has_failed ≡ true → t ≡ s) → (has_failed ≡ true → p ≡ o)
-      → BreaksBy fuel s t o p old why
-  slice_breaks_off fuel s t o p old new why false vain failed steady silent =
-      breaks_in_slice fuel s t o p old new why (vain refl)
-  slice_breaks_off fuel s t o p old new why true vain failed steady silent =
-      subst (λ z. BreaksBy fuel s t o p old z)
-      (sym (same_fault why (work.Work slice.Failed) (failed refl)))
-      (subst (λ z. BreaksBy fuel s z o p old (work.Work slice.Failed)) (sym (steady refl))
-      (subst (λ z. BreaksBy fuel s s o z old (work.Work slice.Failed)) (sym (silent refl))
-      (breaks_failed fuel s o old)))
+  module _ (fuel : ℕ) (s t : S) (o p : O) (old new : ProcessValue) (why : WorkFault) where
+    -- a slice that fails, of a worker that had failed or not
+    pub slice_breaks_in : (has_failed : Bool)
+        → (has_failed ≡ false → SlicesOnDiskInVain gives takes old fuel why new s t o p)
+        → (has_failed ≡ true
+        → ◌≡◌ {A = Result Now WorkFault} (Err why) (Err (work.Work slice.Failed)))
+        → (has_failed ≡ true → t ≡ s) → (has_failed ≡ true → p ≡ o)
+        → BreaksInBy fuel s t o p old why
+    slice_breaks_in false vain failed steady silent =
+        breaks_in_slice fuel s t o p old new why (vain refl)
+    slice_breaks_in true vain failed steady silent =
+        subst (λ z. BreaksInBy fuel s t o p old z)
+        (sym (same_fault why (work.Work slice.Failed) (failed refl)))
+        (subst (λ z. BreaksInBy fuel s z o p old (work.Work slice.Failed)) (sym (steady refl))
+        (subst (λ z. BreaksInBy fuel s s o z old (work.Work slice.Failed)) (sym (silent refl))
+        (breaks_failed fuel s o old)))
+
+    pub slice_breaks_off : (has_failed : Bool)
+        → (has_failed ≡ false → SlicesOnDiskInVain gives takes old fuel why new s t o p)
+        → (has_failed ≡ true
+        → ◌≡◌ {A = Result Now WorkFault} (Err why) (Err (work.Work slice.Failed)))
+        → (has_failed ≡ true → t ≡ s) → (has_failed ≡ true → p ≡ o)
+        → BreaksBy fuel s t o p old why
+    slice_breaks_off has_failed vain failed steady silent guest start is =
+        let breaks = slice_breaks_in has_failed vain failed steady silent guest start is in
+        breaks.broken
 
   -- ---- slices, and what comes behind them
 
@@ -238,3 +263,13 @@ module _ {S O : Type 0} (gives : Giving S) (takes : Taking O) where
           broken = second.broken;
           counted = omega (arith, counted);
         }
+
+    -- so it is where the slice itself has failed
+    pub breaks_in_join : (fuel all : ℕ) (why : WorkFault)
+        → BreaksInSlice gives takes guest first.process u t q p fuel all why
+        → BreaksInSlice gives takes guest start s t o p fuel (n + all) why
+    unfolding breaks_join
+    breaks_in_join fuel all why second = record {
+      broken = breaks_join fuel all why second.broken;
+      cause = second.cause;
+    }

@@ -13,7 +13,7 @@ use Rattle.worker.specs.rules.DurableCreations.{IsNotCreatedOn}
 use Rattle.wasmhost_commands.specs.declared.on_disk.fault.OnDiskFault.{OnDiskFault}
 use Rattle.wasmhost_commands.specs.rules.Creations.{IsUnaccepted, IsUnprepared, prepared_with}
 use Rattle.wasmhost_commands.specs.rules.Creations.{created_line}
-use Rattle.wasmhost_commands.specs.rules.DiskStatuses.{status_of_call, status_on_disk, told_of_call}
+use Rattle.wasmhost_commands.specs.rules.DiskStatuses.{status_of_call, status_on_disk, call_fault}
 use Rattle.wasmhost_commands.specs.rules.Printers.{PrinterState, IsSaid, SaysText, HeedsBoth}
 use Rattle.wasmhost_commands.proofs.PrinterLemmas.{heeds_out, heeds_err}
 
@@ -54,7 +54,7 @@ module _ (bytes : List ℕ) (config : Settings) (old new : Medium) where
   not_seven (work.Upgrade fault) refused = λ is. omega (arith, is)
 
   pub refused_heeded : (why : WorkFault) → IsNotCreatedOn bytes config old new why
-      → (told : OnDiskFault) → told ≡ told_of_call why → (out err : PrinterState) (status : ℕ)
+      → (told : OnDiskFault) → told ≡ call_fault why → (out err : PrinterState) (status : ℕ)
       (err' : PrinterState) → IsSaid (status_on_disk told) err status err'
       → HeedsBoth out out err err' status
   refused_heeded why refused told tells out err status err' says =

@@ -13,12 +13,12 @@ use Rattle.wasmhost_commands.specs.rules.Openings.{IsUntouched, IsWrittenBack, I
 use Rattle.wasmhost_commands.specs.rules.Openings.{ShowsFile}
 use Rattle.wasmhost_commands.specs.rules.Openings.{SaysUnopened}
 use Rattle.wasmhost_commands.specs.rules.Printers.{PrinterState}
-use Rattle.wasmhost_commands.specs.rules.Reports.{SaysLine, words_told}
+use Rattle.wasmhost_commands.specs.rules.Reports.{SaysLine, obstacle_words}
 use Rattle.wasmhost_commands.specs.rules.Showings.{ShowsDisk}
 
 -- a disk that couldn't be written back
 pub unrewritten : {D : Type 0} (path : List ℕ) (old new : PrinterState) (result : Result D ℕ)
-    → IfErr result (λ status. SaysLine (words_told Unread) 4 old status new)
+    → IfErr result (λ status. SaysLine (obstacle_words Unread) 4 old status new)
     → IfErr result (λ status. SaysUnopened path old status new)
 unrewritten path old new (Ok disk) said = tt
 unrewritten path old new (Err status) said = inr said
@@ -31,12 +31,12 @@ module _ {F : Type 0} (opened disk : FileDisk F) where
       → (file_medium disk).calls
       ≡ synced_writes 0 (file_medium opened).sectors ++ (file_medium opened).calls
       → IsWrittenBack opened disk
-  is_written_back untouched adds_nothing settled sectors calls =
+  is_written_back untouched adds_nothing all_synced sectors calls =
       let first = synced_writes 0 (file_medium opened).sectors in
       record {
         untouched = untouched;
         adds_nothing = adds_nothing;
-        settled = settled;
+        all_synced = all_synced;
         calls = calls ∙ ap (λ rest. first ++ file_calls rest) untouched ∙ append-nil first
             ∙ ap (λ n. synced_writes 0 n) (sym sectors);
       }

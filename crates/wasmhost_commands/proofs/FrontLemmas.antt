@@ -83,7 +83,7 @@ stops_first old new front rest stopped = (
 )
 
 module _ (old mid new : PrinterState) (front text : List ℕ) (first : IsPrinted old mid front) where
-  -- or behind that
+  -- or after that
   pub stops_then : StopsPrinting mid new text → StopsPrinting old new (front ++ text)
   stops_then stopped = (
     appends_front old.contents mid.contents new.contents front text first.0 stopped.0,

@@ -4,8 +4,8 @@ use Rattle.std.proofs.Common.{◌∷◌, ◌++◌, length, Option, Some, None, O
 use Rattle.std.specs.Prelude.{map}
 use Rattle.std.specs.List.{AllByRecursion}
 use Rattle.wasi_abi.specs.declared.answer.Answer.{Answer}
-use Rattle.wasi_abi.specs.declared.answer.Kind.{Kind}
-use Rattle.wasi_calls_rules.specs.Hosts.{Line}
+use Rattle.wasi_abi.specs.declared.answer.Question.{Question}
+use Rattle.wasi_calls_rules.specs.WasiStates.{Line}
 use Rattle.process_rules.specs.Processes.{ProcessState, Guest}
 use Rattle.record_replay.specs.rules.Calls.{Giving, Taking, Ask, Asked, Begun, Exchange, Asks}
 use Rattle.record_replay.specs.rules.Calls.{Tells, asks_of, last_refused}
@@ -66,12 +66,12 @@ answered_heard [] all = tt
 answered_heard (ask ∷ asks) all = ((Some all.0.0, all.0.1), answered_heard asks all.1)
 
 -- the questions of these exchanges, and one more
-one_more : (front : List Exchange) (kind : Kind) (found : Option Answer)
+one_more : (front : List Exchange) (question : Question) (found : Option Answer)
     → AllByRecursion HasAnswer (asks_of front)
     → AllByRecursion WasHeard
-    (asks_of (front ++ (Asks (record { kind = kind; said = Ok found }) ∷ [])))
-one_more front kind found all =
-    let last = Asks (record { kind = kind; said = Ok found }) ∷ [] in
+    (asks_of (front ++ (Asks (record { question = question; said = Ok found }) ∷ [])))
+one_more front question found all =
+    let last = Asks (record { question = question; said = Ok found }) ∷ [] in
     subst (AllByRecursion WasHeard) (sym (asks_of-append front last))
     (heard_both (asks_of front) (asks_of last) (answered_heard (asks_of front) all)
     ((found, refl), tt))
@@ -84,7 +84,7 @@ module _ (guest : Guest) (p : ProcessState) (exchanges : List Exchange) (steps :
   now_heard q fuel (now.Ended how) wanted h = answered_heard (asks_of exchanges) h.2.all
   now_heard q fuel now.Waiting wanted h =
       let front = h.4.0 in
-      let last : Ask = record { kind = h.2; said = Ok None } in
+      let last : Ask = record { question = h.2; said = Ok None } in
       let before = wanted front [] last h.4.1 in
       subst (λ z. AllByRecursion WasHeard (asks_of z)) (sym h.4.1)
       (one_more front h.2 None before.answered.all)
@@ -95,15 +95,15 @@ module _ (guest : Guest) (p : ProcessState) (exchanges : List Exchange) (steps :
       → AllByRecursion WasHeard (asks_of exchanges)
   up_to_heard q given h =
       subst (λ z. AllByRecursion WasHeard (asks_of z)) (sym h.is)
-      (with_last h.front h.kind given h.answered.all)
+      (with_last h.front h.question given h.answered.all)
     where
-      with_last : (front : List Exchange) (kind : Kind) (given : Option Answer)
+      with_last : (front : List Exchange) (question : Question) (given : Option Answer)
           → AllByRecursion HasAnswer (asks_of front)
-          → AllByRecursion WasHeard (asks_of (front ++ last_answer kind given))
-      with_last front kind None all =
+          → AllByRecursion WasHeard (asks_of (front ++ last_answer question given))
+      with_last front question None all =
           subst (AllByRecursion WasHeard) (sym (asks_of-append front []))
           (heard_both (asks_of front) [] (answered_heard (asks_of front) all) tt)
-      with_last front kind (Some a) all = one_more front kind (Some a) all
+      with_last front question (Some a) all = one_more front question (Some a) all
 
 -- lines that are told ask nothing
 told_ask_nothing : (told : List Begun) → asks_of (map Tells told) ≡ []
@@ -145,7 +145,7 @@ module _ (guest : Guest) (p : ProcessState) (exchanges : List Exchange) (steps :
   cause_heard fuel (work.Work slice.Failed) h = inl (store_heard h.1)
   cause_heard fuel (work.Work (slice.Refused refusal.StepsSpent)) h =
       inl (up_to_heard guest p exchanges steps q h.2 h.3)
-  cause_heard fuel (work.Work (slice.Refused (refusal.Front why))) h = absurd h
+  cause_heard fuel (work.Work (slice.Refused (refusal.Module why))) h = absurd h
   cause_heard fuel (work.Disk why) h = inl (disk_heard h.1)
   cause_heard fuel (work.Store why) h =
       inl (store_heard (stops_at_store guest p fuel exchanges steps q why h))

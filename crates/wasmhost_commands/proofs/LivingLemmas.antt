@@ -29,7 +29,7 @@ use Rattle.worker.specs.laws.Outcomes.{outcome_after}
 use Rattle.wasmhost_commands.specs.rules.BrokenLives.{BreaksOff, SlicesLead, steps_among}
 use Rattle.wasmhost_commands.specs.rules.Hearings.{AsksUnless, IsOfSource}
 use Rattle.wasmhost_commands.specs.rules.Paces.{round_of, IsPaced, last, more}
-use Rattle.wasmhost_commands.specs.Livings.{Scene, scene, left_after, steps_left, AreCalled}
+use Rattle.wasmhost_commands.specs.Livings.{Scene, scene, undone_after, steps_left, AreCalled}
 use Rattle.wasmhost_commands.specs.Livings.{ActsLead}
 use Rattle.wasmhost_commands.specs.Livings.{IsRested, IsRound, IsBrokenRound, LivesAtPace}
 use Rattle.wasmhost_commands.specs.Livings.{SlicesLeadOn, BreaksOffAt}
@@ -74,26 +74,26 @@ carried_over P made a b same value =
 module _ {D S O : Type 0} (medium : D → Medium) (gives : Giving S) (takes : Taking O) where
   -- ---- calls one after another
 
-  pub stands_still : (here : Scene D S O) → ActsLead medium gives takes [] here now.Spent here
-  stands_still here = record {
-    behind = λ rest left disk source outlet done. done;
-    says = λ rest left disk source outlet done. refl;
+  pub no_acts_lead : (here : Scene D S O) → ActsLead medium gives takes [] here now.Spent here
+  no_acts_lead here = record {
+    behind = λ rest undone disk source outlet done. done;
+    says = λ rest undone disk source outlet done. refl;
   }
 
-  module _ (from : Scene D S O) (left : Result (List Act) RecoverFault) (disk : D) (source : S)
+  module _ (from : Scene D S O) (undone : Result (List Act) RecoverFault) (disk : D) (source : S)
       (outlet : O) (acts acts' : List Act) (same : acts ≡ acts') where
     -- the calls of equal acts
-    pub called_as : AreCalled medium gives takes acts from left disk source outlet
-        → AreCalled medium gives takes acts' from left disk source outlet
-    called_as done = subst (λ z. AreCalled medium gives takes z from left disk source outlet) same
+    pub called_as : AreCalled medium gives takes acts from undone disk source outlet
+        → AreCalled medium gives takes acts' from undone disk source outlet
+    called_as done = subst (λ z. AreCalled medium gives takes z from undone disk source outlet) same
         done
 
     -- they say the same
-    pub says_as : (before : Now) (done : AreCalled medium gives takes acts from left disk source
+    pub says_as : (before : Now) (done : AreCalled medium gives takes acts from undone disk source
         outlet) → outcome_after before (called_as done) ≡ outcome_after before done
     unfolding called_as
     says_as before done =
-        carried_over (λ z. AreCalled medium gives takes z from left disk source outlet)
+        carried_over (λ z. AreCalled medium gives takes z from undone disk source outlet)
         (λ z calls. outcome_after before calls) acts acts' same done
 
   module _ (acts : List Act) (from : Scene D S O) (said : Now) (to : Scene D S O)
@@ -121,15 +121,15 @@ module _ {D S O : Type 0} (medium : D → Medium) (gives : Giving S) (takes : Ta
         → ActsLead medium gives takes (replicate (n + 1) (Slice fuel)) from said
         (scene w' disk' source' outlet')
     slices_lead said carries = record {
-      behind = λ rest left end s o done.
-          called_as from left end s o (replicate n (Slice fuel) ++ (Slice fuel ∷ rest))
+      behind = λ rest undone end s o done.
+          called_as from undone end s o (replicate n (Slice fuel) ++ (Slice fuel ∷ rest))
           (replicate (n + 1) (Slice fuel) ++ rest) (turned n (Slice fuel) rest)
-          (leads.behind (Slice fuel ∷ rest) left end s o (sliced said carries done));
-      says = λ rest left end s o done.
-          says_as from left end s o (replicate n (Slice fuel) ++ (Slice fuel ∷ rest))
+          (leads.behind (Slice fuel ∷ rest) undone end s o (sliced said carries done));
+      says = λ rest undone end s o done.
+          says_as from undone end s o (replicate n (Slice fuel) ++ (Slice fuel ∷ rest))
           (replicate (n + 1) (Slice fuel) ++ rest) (turned n (Slice fuel) rest) now.Spent
-          (leads.behind (Slice fuel ∷ rest) left end s o (sliced said carries done))
-          ∙ leads.says (Slice fuel ∷ rest) left end s o (sliced said carries done);
+          (leads.behind (Slice fuel ∷ rest) undone end s o (sliced said carries done))
+          ∙ leads.says (Slice fuel ∷ rest) undone end s o (sliced said carries done);
     }
 
     -- one that fails, in a round
@@ -148,21 +148,21 @@ module _ {D S O : Type 0} (medium : D → Medium) (gives : Giving S) (takes : Ta
       (source : S) (outlet : O) (said : Now)
       (leads : ActsLead medium gives takes (replicate n (Slice fuel)) from said
       (scene w disk source outlet)) where
-    -- a checkpoint behind so many slices
+    -- a checkpoint after so many slices
     round_leads : CheckpointCarries w (Ok tt) w' (medium disk) (medium disk')
         → ActsLead medium gives takes (round_of fuel n) from said (scene w' disk' source outlet)
     round_leads carries = record {
-      behind = λ rest left end s o done.
-          called_as from left end s o (replicate n (Slice fuel) ++ (Checkpoint ∷ rest))
+      behind = λ rest undone end s o done.
+          called_as from undone end s o (replicate n (Slice fuel) ++ (Checkpoint ∷ rest))
           (round_of fuel n ++ rest)
           (sym (append_assoc (replicate n (Slice fuel)) (Checkpoint ∷ []) rest))
-          (leads.behind (Checkpoint ∷ rest) left end s o (saved carries done));
-      says = λ rest left end s o done.
-          says_as from left end s o (replicate n (Slice fuel) ++ (Checkpoint ∷ rest))
+          (leads.behind (Checkpoint ∷ rest) undone end s o (saved carries done));
+      says = λ rest undone end s o done.
+          says_as from undone end s o (replicate n (Slice fuel) ++ (Checkpoint ∷ rest))
           (round_of fuel n ++ rest)
           (sym (append_assoc (replicate n (Slice fuel)) (Checkpoint ∷ []) rest)) now.Spent
-          (leads.behind (Checkpoint ∷ rest) left end s o (saved carries done))
-          ∙ leads.says (Checkpoint ∷ rest) left end s o (saved carries done);
+          (leads.behind (Checkpoint ∷ rest) undone end s o (saved carries done))
+          ∙ leads.says (Checkpoint ∷ rest) undone end s o (saved carries done);
     }
 
     rested : (some : 1 ≤ n) (within : n ≤ every) (heard : AsksUnless gives ⊥ from.source source)
@@ -228,7 +228,7 @@ module _ {D S O : Type 0} (medium : D → Medium) (gives : Giving S) (takes : Ta
     fewer = some;
     heard = nothing_asked gives here.source;
     taken = none_told takes here.outlet;
-    leads = stands_still here;
+    leads = no_acts_lead here;
     lead = λ guest p is. lead_nowhere gives takes here.worker.process here.source here.outlet guest
         p is;
     steps = omega arith;
@@ -284,7 +284,7 @@ module _ {D S O : Type 0} (medium : D → Medium) (gives : Giving S) (takes : Ta
         (subst (λ z. Sliced fuel z) spent (sliced_so said slices)) guest first.process
         first.shows))
 
-    -- this one has failed, or a checkpoint behind it
+    -- this one has failed, or a checkpoint after it
     breaks_more : (why : WorkFault)
         → BreaksBy gives takes fuel here.source source' here.outlet outlet' here.worker.process why
         → BreaksOffAt gives takes fuel (steps_among (round_of fuel (n + 1))) from why source'
@@ -297,17 +297,17 @@ module _ {D S O : Type 0} (medium : D → Medium) (gives : Giving S) (takes : Ta
         outlet' (steps_among (replicate n (Slice fuel))) here.worker.process first fuel fuel why
         (breaks guest first.process first.shows))
 
-    -- whatever is asked behind the slices so far
+    -- whatever is asked after the slices so far
     heard_on : (Refused : Type 0) → AsksUnless gives Refused here.source source'
         → AsksUnless gives Refused from.source source'
     heard_on Refused heard =
         asked_on gives Refused from.source here.source source' so_far.heard heard
 
-    -- whatever is told behind them
+    -- whatever is told after them
     taken_on : TakesEach takes here.outlet outlet' → TakesEach takes from.outlet outlet'
     taken_on taken = takes_both takes from.outlet here.outlet outlet' so_far.taken taken
 
-    -- one more, behind which others come
+    -- one more, after which others come
     pub within_more : (said : Now) → Slicing (Ok said) → AsksUnless gives ⊥ here.source source'
         → TakesEach takes here.outlet outlet' → Sliced given said → said ≡ now.Spent → n + 1 < every
         → steps_left w' < steps_left here.worker
@@ -403,9 +403,9 @@ module _ {D S O : Type 0} (medium : D → Medium) (gives : Giving S) (takes : Ta
     pub taken : TakesEach takes from.outlet here.outlet
     pub on : (rest : List Act) (result : Result Now WorkFault) (disk : D) (source : S)
         (outlet : O) → IsPaced fuel every rest
-        → AsksUnless gives (IsOfSource (left_after result)) from.source source
-        → HeedsOutlet takes (SaysOutletFault (left_after result)) from.outlet outlet
-        → (done : AreCalled medium gives takes rest here (left_after result) disk source outlet)
+        → AsksUnless gives (IsOfSource (undone_after result)) from.source source
+        → HeedsOutlet takes (SaysOutletFault (undone_after result)) from.outlet outlet
+        → (done : AreCalled medium gives takes rest here (undone_after result) disk source outlet)
         → IfOk result (λ told. outcome_after now.Spent done ≡ told)
         → IfErr result (λ why. BreaksOffAt gives takes fuel (steps_among rest) here why source
         outlet)
@@ -430,29 +430,29 @@ module _ {D S O : Type 0} (medium : D → Medium) (gives : Giving S) (takes : Ta
   }
 
   module _ (fuel every : ℕ) (from here : Scene D S O) (so_far : SoFar fuel every from here) where
-    -- what is done behind a round whose fuel is spent
+    -- what is done after a round whose fuel is spent
     module _ (there : Scene D S O) (r : IsRound medium gives takes fuel every here now.Spent there)
         (rest : List Act) (result : Result Now WorkFault) (disk : D) (source : S) (outlet : O)
-        (done : AreCalled medium gives takes rest there (left_after result) disk source outlet)
+        (done : AreCalled medium gives takes rest there (undone_after result) disk source outlet)
       where
         is_whole : round_of fuel r.count ++ rest ≡ round_of fuel every ++ rest
         is_whole = ap (λ n. round_of fuel n ++ rest) (r.whole refl)
 
         then_done : AreCalled medium gives takes (round_of fuel every ++ rest) here
-            (left_after result) disk source outlet
-        then_done = called_as here (left_after result) disk source outlet
+            (undone_after result) disk source outlet
+        then_done = called_as here (undone_after result) disk source outlet
             (round_of fuel r.count ++ rest) (round_of fuel every ++ rest) is_whole
-            (r.leads.behind rest (left_after result) disk source outlet done)
+            (r.leads.behind rest (undone_after result) disk source outlet done)
 
         then_says : IfOk result (λ told. outcome_after now.Spent done ≡ told)
             → IfOk result (λ told. outcome_after now.Spent then_done ≡ told)
         unfolding then_done
         then_says says =
             subst (λ z. IfOk result (λ told. z ≡ told))
-            (sym (says_as here (left_after result) disk source outlet
+            (sym (says_as here (undone_after result) disk source outlet
             (round_of fuel r.count ++ rest) (round_of fuel every ++ rest) is_whole now.Spent
-            (r.leads.behind rest (left_after result) disk source outlet done)
-            ∙ r.leads.says rest (left_after result) disk source outlet done)) says
+            (r.leads.behind rest (undone_after result) disk source outlet done)
+            ∙ r.leads.says rest (undone_after result) disk source outlet done)) says
 
         abbrev Breaks : List Act → Scene D S O → WorkFault → Type 0
         Breaks acts at why = BreaksOffAt gives takes fuel (steps_among acts) at why source outlet

@@ -12,7 +12,7 @@ use Rattle.wasmhost_commands.specs.rules.Openings.{SaysUnread, open_words}
 use Rattle.wasmhost_commands.specs.rules.Printers.{PrinterState, SaysText}
 use Rattle.wasmhost_commands.specs.rules.Reports.{SaysLine}
 
--- an error of a file that is no want of memory
+-- an error of a file other than out of memory
 pub cause_told : (path : List ℕ) (kind : ErrorKind) (told : OpenFault) (old : PrinterState)
     (status : ℕ) (new : PrinterState) → kind ≢ OutOfMemory → told ≡ Io (open_cause kind)
     → SaysLine (open_words path told) 4 old status new → SaysUnread path kind old status new

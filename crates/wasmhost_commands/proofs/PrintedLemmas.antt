@@ -3,7 +3,7 @@ use Rattle.std.proofs.Common.{◌≡◌, ℕ, ◌+◌, List, [], ◌∷◌, ◌+
 use Rattle.std.proofs.Common.{subst, append_assoc, append-nil}
 use Rattle.std.specs.Prelude.{Option, suc, length}
 use Rattle.wasi_abi.specs.declared.answer.Answer.{Answer}
-use Rattle.wasi_abi.specs.declared.answer.Kind.{Kind}
+use Rattle.wasi_abi.specs.declared.answer.Question.{Question}
 use Rattle.process_rules.specs.Processes.{ProcessState, Guest}
 use Rattle.record_replay.specs.rules.Calls.{Taking, Exchange, Asks, Releases, releases_of}
 use Rattle.record_replay.specs.rules.Calls.{all_taken}
@@ -15,7 +15,7 @@ use Rattle.ephemeral_worker.specs.rules.Faults.{LeadsUpTo, last_answer}
 use Rattle.ephemeral_worker.proofs.Joining.{leads_join}
 use Rattle.worker.specs.declared.fault.WorkFault.{WorkFault}
 use Rattle.worker.specs.declared.fault.WorkFault.TheVariants as work
-use Rattle.wasmhost_commands.specs.Lines.Answers.{Standing}
+use Rattle.wasmhost_commands.specs.Lines.Answers.{SourceState}
 use Rattle.wasmhost_commands.specs.rules.BrokenLives.{IsBrokenAt, in_slice, in_checkpoint}
 use Rattle.wasmhost_commands.specs.rules.BrokenLives.{BreaksOff}
 use Rattle.wasmhost_commands.specs.rules.BrokenLives.{LeavesNoLine, TellsItsLines}
@@ -31,9 +31,10 @@ record AllTold (guest : Guest) (p : ProcessState) (exchanges : List Exchange) (q
   steps : ℕ
   leads : SliceLeadsTo guest p front steps q
 
-pub asks_only : (kind : Kind) (given : Option Answer) → releases_of (last_answer kind given) ≡ []
-asks_only kind None = refl
-asks_only kind (Some a) = refl
+pub asks_only : (question : Question) (given : Option Answer)
+    → releases_of (last_answer question given) ≡ []
+asks_only question None = refl
+asks_only question (Some a) = refl
 
 module _ (guest : Guest) (p : ProcessState) (exchanges : List Exchange) (steps : ℕ)
     (q : ProcessState) where
@@ -41,9 +42,9 @@ module _ (guest : Guest) (p : ProcessState) (exchanges : List Exchange) (steps :
       → AllTold guest p exchanges q
   told_up_to given h = record {
     front = h.front;
-    last = last_answer h.kind given;
+    last = last_answer h.question given;
     is = h.is;
-    untold = asks_only h.kind given;
+    untold = asks_only h.question given;
     steps = steps;
     leads = h.leads;
   }
@@ -69,7 +70,7 @@ module _ (guest : Guest) (p : ProcessState) (exchanges : List Exchange) (steps :
   told_before fuel (work.Work slice.Memory) none (in_slice h) = told_up_to h.3 h.4
   told_before fuel (work.Work (slice.Refused refusal.StepsSpent)) none (in_slice h) =
       told_up_to h.2 h.3
-  told_before fuel (work.Work (slice.Refused (refusal.Front why))) none (in_slice h) = absurd h
+  told_before fuel (work.Work (slice.Refused (refusal.Module why))) none (in_slice h) = absurd h
   told_before fuel (work.Work slice.Outlet) none (in_slice h) = absurd none
   told_before fuel (work.Work slice.Failed) none (in_slice h) = absurd none
   told_before fuel (work.Disk why) none (in_slice h) = absurd none
@@ -107,7 +108,7 @@ module _ (guest : Guest) (p : ProcessState) where
         }
 
     -- each line was told that was written until a call failed
-    pub lines_told : (source source' : Standing) (outlet outlet' : O) (fuel all : ℕ)
+    pub lines_told : (source source' : SourceState) (outlet outlet' : O) (fuel all : ℕ)
         (why : WorkFault) → LeavesNoLine why
         → (b : BreaksOff handing takes guest p source source' outlet outlet' fuel all why)
         → TellsItsLines takes p b.process outlet outlet'

@@ -18,7 +18,7 @@ next_place : (key : List ℕ) (stream place : ℕ) → place + 1 < 2 ^ 68
 next_place key stream place small =
     ap (λ p. (word_at 10 key stream place, at_place key stream p)) (omega arith)
 
--- the bytes of so many words, and the place behind them
+-- the bytes of so many words, and the place after them
 words_from : (key : List ℕ) (stream place count : ℕ) → place + count < 2 ^ 68
     → word_bytes (to_le_bytes w32) (next_word 10) count (at_place key stream place)
     ≡ (bytes_of_words key stream place count, at_place key stream (place + count))

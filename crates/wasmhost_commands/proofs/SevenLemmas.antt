@@ -1,11 +1,10 @@
--- When the status of a run is 7.
+-- When the status of a run or of an upgrade is 7.
 use Rattle.std.proofs.Common.{◌≡◌, ◌≢◌, ◌⊎◌, inl, inr, ℕ, Bool, true, false, List, [], ◌∷◌, Some}
 use Rattle.std.proofs.Common.{Ok, Err, refl, sym, ap, ◌∙◌, subst, arith}
 use Rattle.std.specs.Prelude.{Option, Result, if◌then◌else◌}
 use Rattle.std.specs.List.{AllByRecursion}
 use Rattle.sector_disk.specs.declared.fault.DiskFault.TheVariants as disk
 use Rattle.sector_disk.specs.rules.Medium.{Medium}
-use Rattle.record_replay.specs.declared.fault.OutletFault.{OutletFault}
 use Rattle.record_replay.specs.declared.fault.ReplayFault.TheVariants as replay
 use Rattle.record_replay.specs.rules.Calls.{Taking, Begun, Releases}
 use Rattle.ephemeral_worker.specs.declared.fault.SliceFault.TheVariants as slice
@@ -15,21 +14,26 @@ use Rattle.worker.specs.declared.recover_fault.RecoverFault.{RecoverFault}
 use Rattle.worker.specs.declared.recover_fault.RecoverFault.TheVariants as recover
 use Rattle.worker.specs.rules.Outlets.{WasTaken, TakesEach, HeedsOutlet, IsOutletFault}
 use Rattle.worker.specs.rules.RecoverFaults.{wants_memory}
+use Rattle.worker.proofs.OutletLemmas.{each_taken}
 use Rattle.wasmhost_commands.specs.declared.lines.fault.LineFault.{LineFault}
 use Rattle.wasmhost_commands.specs.declared.lines.fault.LineFault.TheVariants as line
 use Rattle.wasmhost_commands.specs.declared.on_disk.fault.OnDiskFault.{OnDiskFault}
-use Rattle.wasmhost_commands.specs.rules.DiskStatuses.{IsToldOnDisk, told_of_opening}
+use Rattle.wasmhost_commands.specs.declared.on_disk.upgrading.Upgraded.{Upgraded}
+use Rattle.wasmhost_commands.specs.declared.on_disk.upgrading.Upgraded.TheVariants as upgraded
+use Rattle.wasmhost_commands.specs.rules.DiskStatuses.{IsReportedOnDisk, opening_fault}
 use Rattle.wasmhost_commands.specs.rules.DiskStatuses.{status_on_disk}
 use Rattle.wasmhost_commands.specs.rules.DiskStatuses.{status_of_call}
 use Rattle.wasmhost_commands.specs.rules.LastWords.{ended_by, last_words}
 use Rattle.wasmhost_commands.specs.rules.Printed.{SevenIsAFailedWrite}
 use Rattle.wasmhost_commands.specs.rules.Printers.{PrinterState, IsPrinted, StopsPrinting, IsSaid}
-use Rattle.wasmhost_commands.specs.rules.Prints.{printing, PrintsOneLine}
+use Rattle.wasmhost_commands.specs.rules.Prints.{printing}
 use Rattle.wasmhost_commands.specs.rules.Refusals.{HeedsRefusal}
-use Rattle.wasmhost_commands.specs.rules.ServedOnDisk.{DiskJob, ServesOnDisk, over, broken}
+use Rattle.wasmhost_commands.specs.rules.ServedOnDisk.{RunStart, RunEnd, ServesOnDisk}
+use Rattle.wasmhost_commands.specs.rules.ServedOnDisk.{over, broken}
 use Rattle.wasmhost_commands.specs.rules.ServedOnDisk.{unopened as is_unopened}
 use Rattle.wasmhost_commands.specs.rules.Statuses.{status_of_line}
 use Rattle.wasmhost_commands.specs.rules.Texts.{printed}
+use Rattle.wasmhost_commands.specs.rules.Upgradings.{UpgradesOnDisk, status_so_far}
 use Rattle.wasmhost_commands.proofs.PrinterLemmas.{text_is_said}
 
 -- This is so, and the status is 7; or it isn't, and the status is another.
@@ -48,25 +52,25 @@ seven_of_call (work.Disk why) = inr ((λ told. told), λ e. omega (arith, e))
 seven_of_call (work.Store why) = inr ((λ told. told), λ e. omega (arith, e))
 seven_of_call (work.Upgrade why) = inr ((λ told. told), λ e. omega (arith, e))
 
--- want of memory and a refusal aren't
+-- out of memory and a refusal aren't
 not_by_want : (want : Bool) → ◌≢◌ {A = ℕ} (if want then 5 else 3) 7
 not_by_want true = λ e. omega (arith, e)
 not_by_want false = λ e. omega (arith, e)
 
 -- so is a recovery's
 seven_of_opening : (why : RecoverFault)
-    → IsSeven (IsOutletFault why) (status_on_disk (told_of_opening why))
+    → IsSeven (IsOutletFault why) (status_on_disk (opening_fault why))
 seven_of_opening (recover.Replay replay.Diverged) = inr ((λ told. told), λ e. omega (arith, e))
 seven_of_opening (recover.Replay replay.Memory) = inr ((λ told. told), λ e. omega (arith, e))
 seven_of_opening (recover.Replay replay.Outlet) = inl (tt, refl)
 seven_of_opening (recover.Layout why) =
     inr ((λ told. told), not_by_want (wants_memory (recover.Layout why)))
-seven_of_opening (recover.Front why) =
-    inr ((λ told. told), not_by_want (wants_memory (recover.Front why)))
+seven_of_opening (recover.Module why) =
+    inr ((λ told. told), not_by_want (wants_memory (recover.Module why)))
 seven_of_opening (recover.Snapshot why) =
     inr ((λ told. told), not_by_want (wants_memory (recover.Snapshot why)))
-seven_of_opening (recover.Image why) =
-    inr ((λ told. told), not_by_want (wants_memory (recover.Image why)))
+seven_of_opening (recover.ProcessImage why) =
+    inr ((λ told. told), not_by_want (wants_memory (recover.ProcessImage why)))
 seven_of_opening (recover.Journal why) =
     inr ((λ told. told), not_by_want (wants_memory (recover.Journal why)))
 seven_of_opening (recover.Worker (work.Disk disk.Memory)) =
@@ -99,7 +103,7 @@ line_is_other (line.Number given wanted) = λ e. omega (arith, e)
 line_is_other line.Form = λ e. omega (arith, e)
 
 seven_as_told : (why : WorkFault) (found : Option LineFault) (told : OnDiskFault)
-    → IsToldOnDisk why found told
+    → IsReportedOnDisk why found told
     → IsSeven (IsOutletFault (recover.Worker why)) (status_on_disk told)
 seven_as_told why found told (inl e) =
     subst (λ t. IsSeven (IsOutletFault (recover.Worker why)) (status_on_disk t)) (sym e.0)
@@ -121,20 +125,38 @@ module _ {O : Type 0} (takes : Taking O) (o o' : O) (Failed : Type 0) (told : �
   refusal_told (inl seven) (inr refused) (inr unsaid) = inr (refused.0, unsaid.0)
   refusal_told (inr other) (inr refused) said = absurd (other.0 refused.1)
 
-module _ {D O : Type 0} (medium : D → Medium) (takes : Taking O) (given : DiskJob) (found last : D)
-    (o o' : O) (err err' : PrinterState) (failed' : Bool) (status : ℕ) where
-  pub heeds_refusal : ServesOnDisk medium takes given found last o o' err err' failed' status
-      → HeedsRefusal takes o o' err' status
+module _ {D O : Type 0} (medium : D → Medium) (takes : Taking O) (before : RunStart D O)
+    (after : RunEnd D O) (status : ℕ) where
+  pub heeds_refusal : ServesOnDisk medium takes before after status
+      → HeedsRefusal takes before.outlet after.outlet after.err status
   heeds_refusal (is_unopened why run steady said) =
-      refusal_told takes o o' (IsOutletFault why) (status_on_disk (told_of_opening why)) err status
-      err' (seven_of_opening why) run.heeded said
+      refusal_told takes before.outlet after.outlet (IsOutletFault why)
+      (status_on_disk (opening_fault why)) before.err status after.err (seven_of_opening why)
+      run.heeded said
   heeds_refusal (over now source' between done lives outcome steady tells said) =
-      refusal_told takes o o' ⊥ 0 between status err'
+      refusal_told takes before.outlet after.outlet ⊥ 0 between status after.err
       (inr ((λ none. none), λ e. omega (arith, e))) lives.heeded
-      (text_is_said 0 between status err' (last_words (ended_by now)) said)
+      (text_is_said 0 between status after.err (last_words (ended_by now)) said)
   heeds_refusal (broken why told source' between lives breaks steady is tells said) =
-      refusal_told takes o o' (IsOutletFault (recover.Worker why)) (status_on_disk told) between
-      status err' (seven_as_told why source'.fault told is) lives.heeded said
+      refusal_told takes before.outlet after.outlet (IsOutletFault (recover.Worker why))
+      (status_on_disk told) between status after.err (seven_as_told why source'.fault told is)
+      lives.heeded said
+
+-- so is an upgrade
+pub heeds_in_upgrade : {D O : Type 0} (medium : D → Medium) (takes : Taking O) (found last : D)
+    (o o' : O) (err err' : PrinterState) (result : Result Upgraded ℕ)
+    → UpgradesOnDisk medium takes result found last o o' err err'
+    → HeedsRefusal takes o o' err' (status_so_far result)
+heeds_in_upgrade medium takes found last o o' err err' (Ok upgraded.Now) does =
+    inl (each_taken takes ⊥ o o' (λ told. told) does.0.heeded, λ e. absurd (omega (arith, e)))
+heeds_in_upgrade medium takes found last o o' err err' (Ok upgraded.Before) does =
+    inl (does.0.taken, λ e. absurd (omega (arith, e)))
+heeds_in_upgrade medium takes found last o o' err err' (Err status) (inl does) =
+    refusal_told takes o o' (IsOutletFault does.0) (status_on_disk (opening_fault does.0)) err
+    status err' (seven_of_opening does.0) does.1.heeded does.2
+heeds_in_upgrade medium takes found last o o' err err' (Err status) (inr does) =
+    refusal_told takes o o' (IsOutletFault (recover.Worker does.0)) (status_of_call does.0) does.1
+    status err' (seven_of_call does.0) does.2.heeded does.5
 
 -- ---- of an outlet that prints
 

@@ -5,7 +5,7 @@ use Rattle.std.proofs.Common.{subst, arith}
 use Rattle.std.specs.Prelude.{Result, Ok, Err, if◌then◌else◌}
 use Rattle.sector_disk.specs.declared.fault.DiskFault.{DiskFault}
 use Rattle.sector_disk.specs.declared.fault.DiskFault.TheVariants as disk
-use Rattle.sector_disk.specs.rules.Image.{Image}
+use Rattle.sector_disk.specs.rules.DiskImage.{DiskImage}
 use Rattle.sector_disk.specs.rules.Medium.{Medium}
 use Rattle.worker.specs.declared.fault.WorkFault.TheVariants as work
 use Rattle.worker.specs.declared.recover_fault.RecoverFault.{RecoverFault}
@@ -16,7 +16,7 @@ use Rattle.worker.specs.rules.Recoveries.{SaysNothing}
 use Rattle.worker.proofs.WantLemmas.{wanted_early}
 use Rattle.worker.specs.rules.Surveys.{Surveys, EachSurvey, TellsSurvey, survey_of}
 use Rattle.wasmhost_commands.specs.declared.on_disk.fault.OnDiskFault.{OnDiskFault}
-use Rattle.wasmhost_commands.specs.rules.DiskStatuses.{told_of_opening, status_on_disk}
+use Rattle.wasmhost_commands.specs.rules.DiskStatuses.{opening_fault, status_on_disk}
 use Rattle.wasmhost_commands.specs.rules.Printers.{PrinterState, IsSaid}
 use Rattle.wasmhost_commands.specs.rules.Showings.{SaysSurvey, SaysResult, ShowsSurvey, ShowsDisk}
 use Rattle.wasmhost_commands.specs.rules.Showings.{survey_line}
@@ -33,8 +33,8 @@ status_of_want why wants = rw (wanted_early why wants) refl
 -- what says nothing of the disk is told by 4, where the disk has failed, or by 5
 status_of_nothing : (old new : Medium) (why : RecoverFault) → SaysNothing why
     → ((fault : DiskFault) → why ≡ recover.Worker (work.Disk fault) → old.faults < new.faults)
-    → ((status_on_disk (told_of_opening why) ≡ 4) × (old.faults < new.faults))
-    ⊎ (status_on_disk (told_of_opening why) ≡ 5)
+    → ((status_on_disk (opening_fault why) ≡ 4) × (old.faults < new.faults))
+    ⊎ (status_on_disk (opening_fault why) ≡ 5)
 status_of_nothing old new (recover.Worker (work.Disk disk.Memory)) says failed = inr refl
 status_of_nothing old new (recover.Worker (work.Disk disk.Range)) says failed =
     inl (refl, failed disk.Range refl)
@@ -48,12 +48,12 @@ status_of_nothing old new (recover.Worker (work.Upgrade why)) says failed = absu
 status_of_nothing old new (recover.Replay why) says failed = absurd says
 status_of_nothing old new (recover.Layout why) says failed =
     inr (status_of_want (recover.Layout why) says)
-status_of_nothing old new (recover.Front why) says failed =
-    inr (status_of_want (recover.Front why) says)
+status_of_nothing old new (recover.Module why) says failed =
+    inr (status_of_want (recover.Module why) says)
 status_of_nothing old new (recover.Snapshot why) says failed =
     inr (status_of_want (recover.Snapshot why) says)
-status_of_nothing old new (recover.Image why) says failed =
-    inr (status_of_want (recover.Image why) says)
+status_of_nothing old new (recover.ProcessImage why) says failed =
+    inr (status_of_want (recover.ProcessImage why) says)
 status_of_nothing old new (recover.Journal why) says failed =
     inr (status_of_want (recover.Journal why) says)
 
@@ -63,26 +63,26 @@ says_known (Ok survey) out out' err err' status says =
     few_said 0 out status out' (omega arith)
     (text_is_said 0 out status out' (survey_line survey) says.0)
 says_known (Err why) out out' err err' status says =
-    few_said (status_on_disk (told_of_opening why)) err status err'
-    (few_on_disk (told_of_opening why)) says.0
+    few_said (status_on_disk (opening_fault why)) err status err'
+    (few_on_disk (opening_fault why)) says.0
 
 -- ---- what is shown of a worker
 
 -- Whatever the disk shows, the survey tells it. A fault of the disk comes of one that has failed.
 module _ (old new : Medium) where
-  tells_each : (result : Result Survey RecoverFault) → Surveys result old new → (image : Image)
+  tells_each : (result : Result Survey RecoverFault) → Surveys result old new → (image : DiskImage)
       → new.shows image → EachSurvey old.sectors image (TellsSurvey result)
-  tells_each result (inl unsettled) image shows m config kept n stands room =
+  tells_each result (inl failed_sync) image shows m config kept n stands room =
       subst (λ (r : Result Survey RecoverFault). TellsSurvey r (survey_of stands))
-      (sym unsettled.is) tt
-  tells_each result (inr settled) image shows m config kept n stands room =
-      let from = settled.2 image shows in from.tells m config kept n stands room
+      (sym failed_sync.is) tt
+  tells_each result (inr just_synced) image shows m config kept n stands room =
+      let from = just_synced.2 image shows in from.tells m config kept n stands room
 
   fails_so : (result : Result Survey RecoverFault) → Surveys result old new
       → (fault : DiskFault) → result ≡ Err (recover.Worker (work.Disk fault))
       → old.faults < new.faults
-  fails_so result (inl unsettled) fault is = unsettled.faulted
-  fails_so result (inr settled) fault is = settled.1 fault is
+  fails_so result (inl failed_sync) fault is = failed_sync.faulted
+  fails_so result (inr just_synced) fault is = just_synced.1 fault is
 
 module _ (old new : Medium) (out out' err err' : PrinterState) (status : ℕ) where
   pub shows_survey : (survey : Survey) → Surveys (Ok survey) old new
@@ -92,7 +92,7 @@ module _ (old new : Medium) (out out' err err' : PrinterState) (status : ℕ) wh
 
   -- of a fault the output knows nothing
   pub shows_fault : (why : RecoverFault) (told : OnDiskFault) → Surveys (Err why) old new
-      → told ≡ told_of_opening why → IsSaid (status_on_disk told) err status err' → out' ≡ out
+      → told ≡ opening_fault why → IsSaid (status_on_disk told) err status err' → out' ≡ out
       → ShowsDisk old new out out' err err' status
   shows_fault why told surveys is said stays = record {
     result = Err why;
@@ -123,12 +123,12 @@ module _ (old new : Medium) (out out' err err' : PrinterState) (status : ℕ) wh
   says_as survey (Ok told) is failed says =
       inl (subst (λ (s : Survey). SaysSurvey s out status out') is says.0)
   says_as survey (Err why) nothing failed says =
-      says_nothing survey (status_on_disk (told_of_opening why))
+      says_nothing survey (status_on_disk (opening_fault why))
       (status_of_nothing old new why nothing
       (λ fault is. failed fault (ap (λ e. Err e) is))) says.0
 
-  pub shows_each : ShowsDisk old new out out' err err' status → (image : Image) → new.shows image
-      → EachSurvey old.sectors image (ShowsSurvey old new out out' err' status)
+  pub shows_each : ShowsDisk old new out out' err err' status → (image : DiskImage)
+      → new.shows image → EachSurvey old.sectors image (ShowsSurvey old new out out' err' status)
   shows_each shown image shows m config kept n stands room =
       says_as (survey_of stands) shown.result
       (tells_each old new shown.result shown.surveys image shows m config kept n stands room)

@@ -8,7 +8,7 @@ use Rattle.std.proofs.lemmas.List.{append-nil, take_more, length-take-le}
 use Rattle.std.proofs.lemmas.Grind.{flat_map-append}
 use Rattle.std.proofs.lemmas.Option.{slice_get_within, get_or_from_slice_get}
 use Rattle.file_tree.specs.rules.Files.{Files}
-use Rattle.wasi_calls_rules.specs.Hosts.{Descriptor}
+use Rattle.wasi_calls_rules.specs.WasiStates.{Descriptor}
 use Rattle.wasmhost_commands.specs.rules.InspectionTexts.{descriptor_fact, descriptor_facts}
 use Rattle.wasmhost_commands.proofs.LineLemmas.Printed.{appends_both}
 
@@ -25,7 +25,7 @@ module _ {X : Type 0} (spelled : X → List ℕ) (all : List X) (i : ℕ) (a b c
       ∙ ap (λ t. flat_map spelled (take i all) ++ t) (append-nil (spelled one))))
       (appends_both a b c (flat_map spelled (take i all)) (spelled one) so_far told)
 
-  -- which stands there
+  -- which is there
   pub one_got_spelled : (one : X) → slice_get all i ≡ Some one
       → Appends a b (flat_map spelled (take i all)) → Appends b c (spelled one)
       → Appends a c (flat_map spelled (take (i + 1) all))

@@ -3,7 +3,7 @@ use Rattle.std.proofs.Common.{◌≡◌, inl, inr, ℕ, suc, Bool, true, false, 
 use Rattle.std.proofs.Common.{length, None, Some, Err, refl, sym, ap, ◌∙◌, subst, append-nil}
 use Rattle.std.specs.Prelude.{map, Option, Result}
 use Rattle.wasi_abi.specs.declared.answer.Answer.{Answer}
-use Rattle.wasi_calls_rules.specs.Hosts.{Line}
+use Rattle.wasi_calls_rules.specs.WasiStates.{Line}
 use Rattle.process_rules.specs.Processes.{ProcessState, Guest}
 use Rattle.process.specs.rules.Values.{ProcessValue, IsProcess}
 use Rattle.sector_disk.specs.rules.Medium.{Medium}
@@ -57,7 +57,7 @@ releases_told : (told : List Begun) → releases_of (map Tells told) ≡ told
 releases_told [] = refl
 releases_told (begun ∷ told) = ap (λ z. begun ∷ z) (releases_told told)
 
--- questions behind them release nothing
+-- questions after them release nothing
 taken_then : (exchanges front last : List Exchange) → exchanges ≡ front ++ last
     → releases_of last ≡ [] → AllTaken front → AllTaken exchanges
 taken_then exchanges front last is none all = record {
@@ -79,7 +79,7 @@ up_to : (guest : Guest) (p : ProcessState) (exchanges : List Exchange) (steps : 
     (q : ProcessState) (given : Option Answer) → LeadsUpTo guest p exchanges steps q given
     → AllTaken exchanges
 up_to guest p exchanges steps q given h =
-    taken_then exchanges h.front (last_answer h.kind given) h.is (asks_only h.kind given)
+    taken_then exchanges h.front (last_answer h.question given) h.is (asks_only h.question given)
     (by_leads guest p h.front steps q h.leads)
 
 module _ (guest : Guest) (p : ProcessState) (exchanges : List Exchange) (steps : ℕ)
@@ -140,7 +140,7 @@ module _ {O : Type 0} (takes : Taking O) where
     heeds_cause fuel (work.Work (slice.Refused refusal.StepsSpent)) h =
         heeds (work.Work (slice.Refused refusal.StepsSpent)) (λ told. told)
         (up_to guest p exchanges steps q h.2 h.3)
-    heeds_cause fuel (work.Work (slice.Refused (refusal.Front why))) h = absurd h
+    heeds_cause fuel (work.Work (slice.Refused (refusal.Module why))) h = absurd h
     heeds_cause fuel (work.Disk why) h =
         heeds (work.Disk why) (λ told. told) (at_disk guest p exchanges steps q h.1)
     heeds_cause fuel (work.Store why) h =

@@ -10,7 +10,7 @@ use Rattle.wasmhost_commands.specs.declared.preparing.Unprepared.{Unprepared}
 use Rattle.wasmhost_commands.specs.declared.preparing.Unprepared.TheVariants as unprepared
 use Rattle.wasmhost_commands.specs.declared.telling.Obstacle.TheVariants as obstacle
 use Rattle.wasmhost_commands.specs.rules.Creations.{IsPreparedAs, IsUnprepared, status_unprepared}
-use Rattle.wasmhost_commands.specs.rules.Reports.{SaysLine, status_told, words_told}
+use Rattle.wasmhost_commands.specs.rules.Reports.{SaysLine, obstacle_status, obstacle_words}
 use Rattle.wasmhost_commands.specs.rules.Pieces.{lines_of}
 use Rattle.wasmhost_commands.specs.rules.Printers.{PrinterState, IsPrinted, IsSaid, SaysText}
 use Rattle.wasmhost_commands.specs.rules.Printers.{HasOneFailed}
@@ -79,7 +79,7 @@ module _ (script wasm : List ℕ) (sizes : Sizes) (out out' err err' : PrinterSt
   starved_told status (inr unsaid) stays = subst Says (sym unsaid.0) (says_seven (inr unsaid.1))
 
   pub memory_told : (status : ℕ)
-      → SaysLine (words_told obstacle.Memory) (status_told obstacle.Memory) err status err'
+      → SaysLine (obstacle_words obstacle.Memory) (obstacle_status obstacle.Memory) err status err'
       → out' ≡ out → Says status
   memory_told status (inl said) stays = subst Says (sym said.0) (says_five stays said.1.1)
   memory_told status (inr unsaid) stays = subst Says (sym unsaid.0) (says_seven (inr unsaid.1))

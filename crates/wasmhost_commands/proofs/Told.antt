@@ -1,12 +1,12 @@
 -- What the status of a refused module says of its bytes.
 use Rattle.std.proofs.Common.{◌≡◌, ℕ, List, Bool, true, false, refl, arith}
 use Rattle.std.specs.Prelude.{Result, Ok, Err, ⊤, if◌then◌else◌}
-use Rattle.machine_loader.specs.declared.fault.FrontFault.{FrontFault}
+use Rattle.machine_loader.specs.declared.fault.ModuleFault.{ModuleFault}
 use Rattle.machine_loader.specs.rules.Acceptance.{HasNoAcceptedModule, is_want}
 use Rattle.machine_loader.proofs.Wants.{no_want}
 use Rattle.wasmhost_commands.specs.rules.Statuses.{IsRight, status_by}
 
-pub refused_by : (pages : ℕ) (bytes : List ℕ) (verdict : Result ⊤ FrontFault)
+pub refused_by : (pages : ℕ) (bytes : List ℕ) (verdict : Result ⊤ ModuleFault)
     → IsRight pages bytes verdict → status_by verdict ≡ 3 → HasNoAcceptedModule pages bytes
 refused_by pages bytes (Ok done) right e = absurd (omega arith)
 refused_by pages bytes (Err fault) right e = by_want (is_want fault) refl e

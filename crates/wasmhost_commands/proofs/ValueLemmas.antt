@@ -17,7 +17,7 @@ use Rattle.serde_json.specs.Written.{has_float, items_have_float, members_have_f
 use Rattle.serde_json.specs.View.{items_of, members_view, view}
 use Rattle.serde_json.specs.declared.value.Value.{Value}
 use Rattle.file_tree.specs.rules.Files.{Files}
-use Rattle.wasi_calls_rules.specs.Hosts.{Descriptor}
+use Rattle.wasi_calls_rules.specs.WasiStates.{Descriptor}
 use Rattle.wasmhost_commands.specs.rules.InspectionValues.{Member, Puts, descriptors_data}
 use Rattle.wasmhost_commands.specs.rules.InspectionValues.{list_data, number_data, opened_data}
 use Rattle.wasmhost_commands.specs.rules.InspectionValues.{put_all, text_data}
@@ -29,7 +29,7 @@ put_all_both : (first second : List Member) (ms : Members)
 put_all_both [] second ms = refl
 put_all_both (m ∷ first) second ms = put_all_both first second (put m.0 m.1 ms)
 
--- members that were put in behind others
+-- members that were put in after others
 pub puts_both : (a b c : List (String Global × Value)) (first second : List Member)
     → Puts a b first → Puts b c second → Puts a c (first ++ second)
 puts_both a b c first second one two =
@@ -51,7 +51,7 @@ module _ {X : Type 0} (value : X → Data) (all : List X) (i : ℕ) (old new : L
       ∙ ap (λ d. map value (take i all) ++ d ∷ []) seen
       ∙ sym (map-append value (take i all) (one ∷ [])) ∙ ap (map value) (sym front)
 
-  -- which stands there
+  -- which is there
   pub one_got_value : (one : X) → slice_get all i ≡ Some one
       → map view old ≡ map value (take i all) → new ≡ old ++ v ∷ [] → view v ≡ value one
       → map view new ≡ map value (take (i + 1) all)

@@ -58,9 +58,9 @@ some_of_recovery (recover.Replay replay.Diverged) = lit≤ tt
 some_of_recovery (recover.Replay replay.Memory) = lit≤ tt
 some_of_recovery (recover.Replay replay.Outlet) = lit≤ tt
 some_of_recovery (recover.Layout why) = some_by_want (wants_memory (recover.Layout why))
-some_of_recovery (recover.Front why) = some_by_want (wants_memory (recover.Front why))
+some_of_recovery (recover.Module why) = some_by_want (wants_memory (recover.Module why))
 some_of_recovery (recover.Snapshot why) = some_by_want (wants_memory (recover.Snapshot why))
-some_of_recovery (recover.Image why) = some_by_want (wants_memory (recover.Image why))
+some_of_recovery (recover.ProcessImage why) = some_by_want (wants_memory (recover.ProcessImage why))
 some_of_recovery (recover.Journal why) = some_by_want (wants_memory (recover.Journal why))
 
 some_on_disk : (told : OnDiskFault) → 1 ≤ status_on_disk told

@@ -18,13 +18,13 @@ use Rattle.worker.specs.rules.Outlets.{TakesEach, HeedsOutlet, IsOutletFault}
 use Rattle.worker.specs.rules.Outlets.{SaysOutletFault}
 use Rattle.worker.specs.laws.OneLife.{CallsInOrder}
 use Rattle.wasmhost_commands.specs.declared.on_disk.fault.OnDiskFault.{OnDiskFault}
-use Rattle.wasmhost_commands.specs.Lines.Answers.{Standing}
-use Rattle.wasmhost_commands.specs.rules.DiskStatuses.{IsToldOnDisk}
+use Rattle.wasmhost_commands.specs.Lines.Answers.{SourceState}
+use Rattle.wasmhost_commands.specs.rules.DiskStatuses.{IsReportedOnDisk}
 use Rattle.worker.specs.laws.Outcomes.{outcome_after}
 use Rattle.wasmhost_commands.specs.rules.BrokenLives.{BreaksOffFrom, SlicesLead, steps_among}
 use Rattle.wasmhost_commands.specs.rules.Hearings.{AsksUnless, IsOfSource}
 use Rattle.wasmhost_commands.specs.rules.Paces.{round_of, IsPaced}
-use Rattle.wasmhost_commands.specs.rules.ServedOnDisk.{DiskJob, stands_behind, handing}
+use Rattle.wasmhost_commands.specs.rules.ServedOnDisk.{DiskJob, source_behind, handing}
 
 -- a worker between two calls, with its disk, its source and its outlet
 pub record Scene (D S O : Type 0) : Type 0 where
@@ -57,9 +57,9 @@ BreaksOffAt gives takes fuel all from why source outlet =
     outlet
 
 -- nothing is left to be done, or there was this error
-abbrev pub left_after : Result Now WorkFault → Result (List Act) RecoverFault
-left_after (Ok now) = Ok []
-left_after (Err why) = Err (recover.Worker why)
+abbrev pub undone_after : Result Now WorkFault → Result (List Act) RecoverFault
+undone_after (Ok now) = Ok []
+undone_after (Err why) = Err (recover.Worker why)
 
 -- the steps that can still be counted
 abbrev pub steps_left : DurableValue → ℕ
@@ -69,23 +69,23 @@ module _ {D S O : Type 0} (medium : D → Medium) (gives : Giving S) (takes : Ta
   -- These acts are done in order, from there to there, or up to the first error.
   abbrev pub AreCalled : List Act → Scene D S O → Result (List Act) RecoverFault → D → S → O
       → Type 0
-  AreCalled acts from left disk source outlet =
-      CallsInOrder medium gives takes acts from.worker from.disk from.source from.outlet left disk
+  AreCalled acts from undone disk source outlet =
+      CallsInOrder medium gives takes acts from.worker from.disk from.source from.outlet undone disk
       source outlet
 
-  -- These acts lead from there to there: whatever is done then is done behind them. Their last
-  -- slice has answered this; where there is none, it is that the worker goes on.
+  -- These acts lead from there to there: whatever is done then is done after them. Their last slice
+  -- has answered this; where there is none, it is that the worker goes on.
   pub record ActsLead (acts : List Act) (from : Scene D S O) (said : Now) (to : Scene D S O)
       : Type 0 where
-    pub behind : (rest : List Act) (left : Result (List Act) RecoverFault) (disk : D) (source : S)
-        (outlet : O) → AreCalled rest to left disk source outlet
-        → AreCalled (acts ++ rest) from left disk source outlet
-    pub says : (rest : List Act) (left : Result (List Act) RecoverFault) (disk : D) (source : S)
-        (outlet : O) (done : AreCalled rest to left disk source outlet)
-        → outcome_after now.Spent (behind rest left disk source outlet done)
+    pub behind : (rest : List Act) (undone : Result (List Act) RecoverFault) (disk : D) (source : S)
+        (outlet : O) → AreCalled rest to undone disk source outlet
+        → AreCalled (acts ++ rest) from undone disk source outlet
+    pub says : (rest : List Act) (undone : Result (List Act) RecoverFault) (disk : D) (source : S)
+        (outlet : O) (done : AreCalled rest to undone disk source outlet)
+        → outcome_after now.Spent (behind rest undone disk source outlet done)
         ≡ outcome_after said done
 
-  -- At most so many slices of this fuel, with a checkpoint behind them. The last one has answered
+  -- At most so many slices of this fuel, with a checkpoint after them. The last one has answered
   -- this. They are just as many where its fuel is spent, and have taken all of their steps. No
   -- question was refused, and no line.
   pub record IsRound (fuel every : ℕ) (from : Scene D S O) (why : Now) (to : Scene D S O)
@@ -120,9 +120,9 @@ module _ {D S O : Type 0} (medium : D → Medium) (gives : Giving S) (takes : Ta
       (disk : D) (source : S) (outlet : O) : Type 0 where
     pub acts : List Act
     pub paced : IsPaced fuel every acts
-    pub heard : AsksUnless gives (IsOfSource (left_after result)) from.source source
-    pub heeded : HeedsOutlet takes (SaysOutletFault (left_after result)) from.outlet outlet
-    pub done : AreCalled acts from (left_after result) disk source outlet
+    pub heard : AsksUnless gives (IsOfSource (undone_after result)) from.source source
+    pub heeded : HeedsOutlet takes (SaysOutletFault (undone_after result)) from.outlet outlet
+    pub done : AreCalled acts from (undone_after result) disk source outlet
     pub says : IfOk result (λ told. outcome_after now.Spent done ≡ told)
     pub broken : IfErr result (λ why. BreaksOffAt gives takes fuel (steps_among acts) from why
         source outlet)
@@ -135,15 +135,15 @@ IsRested why (Ok told) old new disk disk' = (told ≡ why)
 IsRested why (Err fault) old new disk disk' = CheckpointCarries old (Err fault) new disk disk'
     × CheckpointFails old disk disk' fault × HasCheckpointCause old disk disk' fault
 
--- An open worker has lived at its pace, on answers of a source that begins behind the requests that
+-- An open worker has lived at its pace, on answers of a source that begins after the requests that
 -- it has taken. It is over, as its last slice has answered, or an error is told.
 abbrev pub HasGoneOn : {D O : Type 0} → (D → Medium) → Taking O → DiskJob → DurableValue → D → D
     → O → O → Bool → Result Now OnDiskFault → Type 0
-HasGoneOn medium takes given w disk disk' outlet outlet' failed' (Ok why) = (source' : Standing)
+HasGoneOn medium takes given w disk disk' outlet outlet' failed' (Ok why) = (source' : SourceState)
     × (why ≢ now.Spent) × (source'.failed ≡ failed')
     × LivesAtPace medium handing takes given.fuel given.every
-    (scene w disk (stands_behind given w) outlet) (Ok why) disk' source' outlet'
-HasGoneOn medium takes given w disk disk' outlet outlet' failed' (Err told) = (source' : Standing)
-    × (why : WorkFault) × IsToldOnDisk why source'.fault told × (source'.failed ≡ failed')
-    × LivesAtPace medium handing takes given.fuel given.every
-    (scene w disk (stands_behind given w) outlet) (Err why) disk' source' outlet'
+    (scene w disk (source_behind given w) outlet) (Ok why) disk' source' outlet'
+HasGoneOn medium takes given w disk disk' outlet outlet' failed' (Err told) =
+    (source' : SourceState) × (why : WorkFault) × IsReportedOnDisk why source'.fault told
+    × (source'.failed ≡ failed') × LivesAtPace medium handing takes given.fuel given.every
+    (scene w disk (source_behind given w) outlet) (Err why) disk' source' outlet'

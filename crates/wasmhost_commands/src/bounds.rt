@@ -7,7 +7,7 @@ ghost use Rattle.wasmhost_commands.specs.rules.Bounds.{AreNumbersInRange, IsOutO
 ghost use Rattle.wasmhost_commands.specs.rules.Bounds.{range_words};
 
 use crate::configuring::Sizes;
-use wasm_syntax::Row;
+use wasm_syntax::ItemList;
 
 /// The most pages of a memory.
 const PAGES_BOUND: u64 = 256;
@@ -47,7 +47,7 @@ pub enum Bound {
 }
 
 /// Whether each text is short enough.
-fn are_short(texts: &[Row<u8>]) -> bool
+fn are_short(texts: &[ItemList<u8>]) -> bool
     ensures { IsTrue result ↔ AllByRecursion IsShortText texts.now }
 {
     texts.iter().all(|text| text.len() <= TEXT_BOUND)
@@ -74,8 +74,8 @@ fn number_beyond(sizes: Sizes) -> Option<Bound>
 /// The first thing that is out of its bounds, if anything is.
 pub(crate) fn bound_of(
     sizes: Sizes,
-    arguments: &[Row<u8>],
-    environment: &[Row<u8>],
+    arguments: &[ItemList<u8>],
+    environment: &[ItemList<u8>],
 ) -> Option<Bound>
     ensures found { IfSome result (IsOutOfBounds (settings sizes.pages sizes.files sizes.journal
         arguments.now environment.now)) }

@@ -2,7 +2,7 @@
 
 ghost use Rattle.std.specs.Prelude.{◌≡◌, ◌⊎◌, true, IsOk, Err, OnErr, OnOk, Some, codes};
 ghost use Rattle.std.specs.Io.KnownBytes.{Appends};
-ghost use Rattle.machine_loader.specs.declared.fault.FrontFault.{FrontFault};
+ghost use Rattle.machine_loader.specs.declared.fault.ModuleFault.{ModuleFault};
 ghost use Rattle.machine_loader.specs.rules.Acceptance.{HasAcceptedModule, HasNoAcceptedModule};
 ghost use Rattle.machine_loader.specs.rules.Acceptance.{passed_in};
 ghost use Rattle.wasm_decode.specs.declared.items.limit.PassedLimit.{PassedLimit};
@@ -13,7 +13,7 @@ ghost use Rattle.wasmhost_commands.specs.rules.Statuses.{IsRight, status_by};
 use crate::module_limits::print_limit;
 use crate::printer::Printer;
 use crate::status::{NO_MEMORY, REFUSED, UNWRITTEN};
-use machine_loader::{FrontFault, accept};
+use machine_loader::{ModuleFault, accept};
 use std::alloc::Global;
 use std::io::{self, Write};
 
@@ -21,7 +21,7 @@ use std::io::{self, Write};
 pub const PAGES: u32 = 256;
 
 /// Whether the bytes spell an accepted module, and why not.
-fn verdict_on(alloc: Global, wasm: &[u8]) -> Result<(), FrontFault>
+fn verdict_on(alloc: Global, wasm: &[u8]) -> Result<(), ModuleFault>
     ensures { IsRight PAGES wasm.now result }
 {
     match accept(alloc, wasm, PAGES) {
@@ -31,8 +31,8 @@ fn verdict_on(alloc: Global, wasm: &[u8]) -> Result<(), FrontFault>
 }
 
 /// Prints that a module is refused: the fault's code and name, and its place if it has one. A limit
-/// that is passed stands on a line of its own.
-fn print_refusal<W: Write + Drop>(fault: FrontFault, out: &mut Printer<W>) -> io::Result<()>
+/// that is passed is on a line of its own.
+fn print_refusal<W: Write + Drop>(fault: ModuleFault, out: &mut Printer<W>) -> io::Result<()>
     ensures limit { (passed : PassedLimit) → passed_in fault ≡ Some passed
         → OnOk result (IsPrinted out.old out.new (limit_text (codes "refused") passed)) }
     ensures steady { OnOk result (out.new.failed ≡ out.old.failed) }
@@ -49,12 +49,12 @@ fn print_refusal<W: Write + Drop>(fault: FrontFault, out: &mut Printer<W>) -> io
 
 /// Prints a verdict: `accepted`, or why not.
 fn print_verdict<W: Write + Drop>(
-    verdict: Result<(), FrontFault>,
+    verdict: Result<(), ModuleFault>,
     out: &mut Printer<W>,
 ) -> io::Result<()>
     ensures accepted { IsOk verdict
         → OnOk result (Appends out.old.contents out.new.contents (codes "accepted\n")) }
-    ensures limit { (fault : FrontFault) (passed : PassedLimit) → verdict ≡ Err fault
+    ensures limit { (fault : ModuleFault) (passed : PassedLimit) → verdict ≡ Err fault
         → passed_in fault ≡ Some passed
         → OnOk result (IsPrinted out.old out.new (limit_text (codes "refused") passed)) }
     ensures steady { OnOk result (out.new.failed ≡ out.old.failed) }
@@ -67,7 +67,7 @@ fn print_verdict<W: Write + Drop>(
 }
 
 /// The exit status of a verdict that is printed.
-fn status_of(verdict: Result<(), FrontFault>) -> u8
+fn status_of(verdict: Result<(), ModuleFault>) -> u8
     ensures { result ≡ status_by verdict }
 {
     match verdict {
@@ -78,7 +78,7 @@ fn status_of(verdict: Result<(), FrontFault>) -> u8
 }
 
 /// Says whether a module is accepted: prints a line, and answers the exit status, 0, 3 where it is
-/// refused, 5 for want of memory, 7 where a write has failed.
+/// refused, 5 for out of memory, 7 where a write has failed.
 pub fn check_bytes<W: Write + Drop>(alloc: Global, wasm: &[u8], out: &mut Printer<W>) -> u8
     ensures accepted { result ≡ 0 → HasAcceptedModule PAGES wasm.now }
     ensures printed { result ≡ 0

@@ -7,7 +7,7 @@ ghost use Rattle.wasmhost_commands.specs.rules.Texts.{texts_in};
 use crate::bounds::{Bound, bound_of};
 use std::alloc::{AllocError, Global};
 use wasi_abi::Config;
-use wasm_syntax::Row;
+use wasm_syntax::ItemList;
 
 /// Pages of 65,536 bytes that the guest's memory may have, where no number is given.
 pub(crate) const PAGES: u64 = 16;
@@ -49,22 +49,26 @@ impl From<AllocError> for Unconfigured {
     }
 }
 
-/// Copies texts behind those of a list.
-fn push_texts(alloc: Global, list: &mut Row<Row<u8>>, texts: &[&str]) -> Result<(), AllocError>
+/// Copies texts after those of a list.
+fn push_texts(
+    alloc: Global,
+    list: &mut ItemList<ItemList<u8>>,
+    texts: &[&str],
+) -> Result<(), AllocError>
     ensures { OnOk result (list.new ≡ list.old ++ texts_in texts.now) }
 {
     for text in texts {
-        let copy = Row::from_vec(Vec::from_slice(alloc, text.as_bytes())?);
+        let copy = ItemList::from_vec(Vec::from_slice(alloc, text.as_bytes())?);
         list.push(copy)?;
     }
     Ok(())
 }
 
-/// The guest's arguments behind the worker's name.
-fn arguments_of(alloc: Global, arguments: &[&str]) -> Result<Row<Row<u8>>, AllocError>
+/// The guest's arguments after the worker's name.
+fn arguments_of(alloc: Global, arguments: &[&str]) -> Result<ItemList<ItemList<u8>>, AllocError>
     ensures { IfOk result (λ list. list ≡ codes "worker" ∷ texts_in arguments.now) }
 {
-    let mut list = Row::new(alloc);
+    let mut list = ItemList::new(alloc);
     push_texts(alloc, &mut list, &["worker"])?;
     push_texts(alloc, &mut list, arguments)?;
     Ok(list)
@@ -83,7 +87,7 @@ pub(crate) fn configure(
         (config_as sizes (texts_in arguments.now) (texts_in environment.now))) }
 {
     let arguments = arguments_of(alloc, arguments)?;
-    let mut entries = Row::new(alloc);
+    let mut entries = ItemList::new(alloc);
     push_texts(alloc, &mut entries, environment)?;
     if let Some(bound) = bound_of(sizes, arguments.as_slice(), entries.as_slice()) {
         return Err(Unconfigured::Range(bound));

@@ -31,16 +31,16 @@ pub fn seven_is_a_failed_write()
 
 /// All that `serve` does of a worker that it has opened is one life. Where the power isn't cut
 /// in it, it goes on from all that was promised. Where there is no error, its last slice has
-/// answered how the process stands that all kept answers lead to.
+/// answered how the process is that all kept answers lead to.
 pub fn lives_on_disk_go_on<D: Disk, O: Outlet>()
     ensures goes_on { LivesGoOnUncut D.medium handing O.takes }
     ensures ended { LivesEndAsSaid D.medium handing O.takes }
 {}
 
 /// Of all that is asked in a life on a disk, the answered requests are those of the reader's lines
-/// behind the ones that the worker has taken, in order and none left out. Times are the clock's,
-/// and random bytes the next ones of the stream of the worker's generation. There is no answer yet
-/// only to a request for which no line is left.
+/// after the ones that the worker has taken, in order and none left out. Times are the clock's, and
+/// random bytes the next ones of the stream of the worker's generation. There is no answer yet only
+/// to a request for which no line is left.
 pub fn answers_come_from_the_lines()
     ensures answers { AnswersComeFromTheLines }
     ensures none_left { NoneIsLeftAtTheEnd }

@@ -24,28 +24,33 @@
 //! - `serve`: what each status of a run of the worker on a disk says (`serves`), with whatever
 //!   outlet it is lent. Where the worker was recovered, all that was done of the disk, the source
 //!   and the outlet are the calls of one life, in order: slices of its fuel, and checkpoints at its
-//!   pace (`IsPaced`). The source begins behind the requests that the worker has taken, and at the
+//!   pace (`IsPaced`). The source begins after the requests that the worker has taken, and at the
 //!   first word of the seed's stream of its generation, and takes texts as long as the worker's
-//!   version has them (`stands_behind`). It refuses no question, unless the error is its own
+//!   version has them (`source_behind`). It refuses no question, unless the error is its own
 //!   (`AsksUnless`), and the outlet no line, unless the error is the outlet's (`HeedsOutlet` of
-//!   `worker`). Where `err` is a terminal, its first line says
-//!   how the worker was recovered (`recovered_line`). `laws::lives_on_disk_go_on`: such calls are a
-//!   life that goes on from all that was promised. The last words are those of what its last slice
-//!   has answered (`HasOutcome`). Where a call fails, lines wait only as its own clause says
-//!   (`HasBrokenOff`). Where the disk shows no worker nothing is written or released. No status is
-//!   above 7 (`known`). It is 7 where the outlet has refused a line, and else only where a write of
-//!   `err` has failed (`refusal`). `laws::seven_is_a_failed_write`: what that comes to where the
-//!   lines are printed.
-//! - `Watcher`: who is told where the worker of a run stands. `serve` tells it once the worker is
+//!   `worker`). Where `err` is a terminal, its first line says how the worker was recovered
+//!   (`recovered_line`). `laws::lives_on_disk_go_on`: such calls are a life that goes on from all
+//!   that was promised. The last words are those of what its last slice has answered
+//!   (`HasOutcome`). Where a call fails, lines wait only as its own clause says (`HasBrokenOff`).
+//!   Where the disk shows no worker nothing is written or released. No status is above 7 (`known`).
+//!   It is 7 where the outlet has refused a line, and else only where a write of `err` has failed
+//!   (`refusal`). `laws::seven_is_a_failed_write`: what that comes to where the lines are printed.
+//! - `Watcher`: who is told where the worker of a run is. `serve` tells it once the worker is
 //!   recovered, and after each checkpoint of its pace (`told` of `rest_on`). Where the status is 0,
 //!   it was told of that end (`watched`). `StatusFile` is one, which replaces a small file. Its
-//!   line is `standing_line`. No clause says that the file gets it:
+//!   line is `watch_line`. No clause says that the file gets it:
 //!   `scripts/runs/program-rows` shows that.
 //! - `laws::statuses_have_causes`: what each of these statuses comes from, and that a reader which
 //!   fails is told (`SaysOnDisk`). Where a number, memory or an answer was wanting, each line of
 //!   the worker was told (`HasToldItsLines`). `laws::refusals_have_reasons`: why the source of a
 //!   run refuses a question. `laws::answers_come_from_the_lines`: what it answers, and when it has
 //!   none yet.
+//! - `upgrade_worker`: all that is done of a worker of version 1 is one life, without an answer:
+//!   slices, and an upgrade after one that has said that the worker waits or has ended
+//!   (`HasRunOn`). Where a call of it fails, its process is where that slice's own clause says, or
+//!   the error is one that an upgrade may answer (`HasFailedAt`). Of a worker of version 2 all that
+//!   is done is a recovery (`upgrades`). The status is 7 where the outlet has refused a line, and
+//!   else only where a write of `err` has failed (`refusal`).
 //! - `survey`: the survey of a worker's disk is printed, or what keeps it from that is told
 //!   (`shows`). Of a disk that stands for a worker the line is that worker's (`stands`). Nothing is
 //!   changed on the disk, but that it is synced.
@@ -59,17 +64,17 @@
 //!   `survey` of a disk that was opened so, and nothing else is done with it (`ShowsFile`).
 //! - `RequestSource` answers requests as the lines of its reader say, in their order (`HandsNext`).
 //!   It answers clocks with the fixed time, or with that of its `RealTime` clock, to the nanosecond
-//!   (`IsRealTime`). It answers wishes for random bytes with the next words of its stream. It says
-//!   why it refuses. A failed read it tells only of a reader that has failed.
+//!   (`IsRealTime`). It answers questions for random bytes with the next words of its stream. It
+//!   says why it refuses. A failed read it tells only of a reader that has failed.
 //! - `read_request`: what one line says, where it is a request line with a text of at most so many
 //!   bytes (`spelled`, `found`).
 //!   `trap_name`: how last words call a trap.
 //! - `read_seed`, `seeded`: which texts are seeds, and which bytes a seed gives (`seeded_bytes`).
-//! - `report_input`: behind a run, at which line of its input a refused one stands, and how many
+//! - `report_input`: after a run, at which line of its input a refused one is, and how many
 //!   requests were read ahead that nobody took (`SaysOfInput`).
 //! - `LineReader` is what request lines are read from. `BufferedLines` is one over any `BufRead`.
 //! - `LineOutlet` prints each line that it takes, with its number and the letter of its stream. It
-//!   refuses one only where a write of it has failed, and has then printed at most a front of it
+//!   refuses one only where a write of it has failed, and has then printed at most a prefix of it
 //!   (`PrintsOneLine`). `laws::taken_lines_are_printed`: the lines that it took are printed, and
 //!   nothing else.
 //! - `read_module`: the bytes of a reader, where they are known, up to one more than the longest
@@ -77,16 +82,16 @@
 //!   write has failed and it is 7 (`SaysLine`). `report_open` does so of a disk's file, and
 //!   `report_unread` of a file that is read: by the path, and the cause that the error's kind is
 //!   (`open_words`, `SaysUnread`). `report_words`: help leaves the error output as it was, and a
-//!   mistake the output. A tip of `clap` to write a number below 0 behind `--` is left out.
+//!   mistake the output. A tip of `clap` to write a number below 0 after `--` is left out.
 //! - `read_words`: an order is exactly what the words mean. A fault is one that the rules of the
-//!   command line list for them, or want of memory (`IsReading`).
+//!   command line list for them, or out of memory (`IsReading`).
 //! - `read_script`: the lives that a script of a story spells (`IsScript`). A fault names the first
-//!   line behind which the lines are no script (`IsFaultAt`), or it is want of memory.
+//!   line after which the lines are no script (`IsFaultAt`), or memory has run out.
 //! - `tell`: status 0 says that a whole story was printed. It is of lives that go on as one that
 //!   was never stopped, with what the script put into each. What the other statuses say is said too
 //!   (`TellsStory`). `report_script` tells a fault of a script.
 //! - `tell_sweep`: status 0 says that the lives of a script, which nothing befalls, were run
-//!   without a cut, and then with the power cut at each call of one of them, for each front
+//!   without a cut, and then with the power cut at each call of one of them, for each prefix
 //!   (`cuts_to`). Each cut's lives are told as those of a story are (`TellsLives`). Its last life
 //!   was opened, and handed out all answers that were not kept (`cut_at`). Over all its lives each
 //!   number has one text, none is missing, and the first are those without a cut (`IsCutRun`). The
@@ -110,16 +115,17 @@
 //! `IsOutOfBounds`, `range_words` (`Bounds.antt`); `limit_text` (`ModuleLimits.antt`);
 //! `SaysOfInput` (`Leavings.antt`);
 //! `ShowsDisk`, `ShowsSurvey`, `survey_line` (`Showings.antt`); `open_words`, `IsOpenedFor`,
-//! `ShowsFile` (`Openings.antt`); `standing_line`, `WatchesEnd` (`Watchings.antt`);
+//! `ShowsFile` (`Openings.antt`); `watch_line`, `WatchesEnd` (`Watchings.antt`);
 //! `inspection_text`, `inspection_data`, `listing_text`, `TellsDisk`, `TellsFiles`
 //! (`Inspectings.antt`), with their lines in `InspectionTexts.antt` and `ProcessTexts.antt`, and
 //! the members of the JSON value in `InspectionValues.antt` and `ProcessValues.antt`;
 //! `TellsFile`, `TellsFilesOf` (`LookedFiles.antt`);
-//! `ServesOnDisk`, `LivesOnDisk`, `HasOutcome`, `HasBrokenOff`, `stands_behind`
-//! (`ServedOnDisk.antt`); `BreaksOff`, `LeavesNoLine`, `TellsItsLines` (`BrokenLives.antt`);
-//! `SaysOnDisk`, `HasToldItsLines` (`DiskCauses.antt`); `HeedsRefusal` (`Refusals.antt`);
-//! `IsPaced` (`Paces.antt`);
-//! `status_on_disk`, `told_of_opening`, `IsToldOnDisk` (`DiskStatuses.antt`);
+//! `RunStart`, `RunEnd`, `ServesOnDisk`, `LivesOnDisk`, `HasOutcome`, `HasBrokenOff`,
+//! `source_behind` (`ServedOnDisk.antt`); `BreaksOff`, `LeavesNoLine`, `TellsItsLines`
+//! (`BrokenLives.antt`); `SaysOnDisk`, `HasToldItsLines` (`DiskCauses.antt`); `HeedsRefusal`
+//! (`Refusals.antt`); `UpgradesOnDisk`, `LivesToUpgrade`, `HasRunOn`, `HasFailedAt`
+//! (`Upgradings.antt`); `IsPaced` (`Paces.antt`);
+//! `status_on_disk`, `opening_fault`, `IsReportedOnDisk` (`DiskStatuses.antt`);
 //! `PrinterState`, `IsSaid`, `SaysText`, `HeedsBoth`, `TellsPerson` (`Printers.antt`);
 //! `said_by`, `AreLivesOf`, `IsScript` (`Scripts.antt`); `lines_of` (`Pieces.antt`); `story_text`,
 //! `TellsStory` (`Stories.antt`); `cut_at`, `cuts_to`, `AreTextsOf`, `IsSwept` (`Sweeps.antt`),
@@ -130,8 +136,8 @@
 //! # Who may touch what
 //!
 //! Only this crate knows how lines, requests and last words are spelled, and the exit statuses
-//! (`status`). `wasmhost` calls it. It stands on `ephemeral_worker`, `worker` and `machine_loader`.
-//! Want of memory is status 5. A disk is lent to each call of a worker on it. Beside these only
+//! (`status`). `wasmhost` calls it. It uses `ephemeral_worker`, `worker` and `machine_loader`. Want
+//! of memory is status 5. A disk is lent to each call of a worker on it. Beside these only
 //! `open_disk`, `create_file` and `create_device` touch one. They and `StatusFile` are the places
 //! here that open a file.
 //!
@@ -168,7 +174,7 @@
 //!   from the outside (`ComeFrom`), with the place in the seed's stream counted along the list. So
 //!   the second holds where the bytes of the lines aren't known, as of the standard input.
 //! - **A place in the stream is a number of 64 bits.** Words beyond the first 2^64 are refused, by
-//!   a fault of their own, since no count of steps keeps a wish from reaching them.
+//!   a fault of their own, since no count of steps keeps a question from reaching them.
 //! - **The words of a run are cut at its first `--` before `clap` reads them.** By `clap` alone it
 //!   would be a positional that only `--` reaches, and for such a command `clap`'s contract doesn't
 //!   say what the words mean. A plain positional of several values would also take words without
@@ -225,7 +231,7 @@
 //! - **A refused line's number is counted by the reader of lines**, and printed after the run. That
 //!   it is the number of that line no clause says: `scripts/runs/disk-rows` has rows of it. What is
 //!   printed of requests that nobody took is a function of the bytes that were read ahead
-//!   (`SaysLeft`). Reading on could wait for ever, so nothing more is read.
+//!   (`SaysUntaken`). Reading on could wait for ever, so nothing more is read.
 //! - **The tip of `clap` to write `-- -1` for `--pages -1` isn't printed**, since it is of no use
 //!   here. It is cut out of the text (`around_tip`): to turn it off in the kit's `clap` would lose
 //!   what is proved of its words.

@@ -22,7 +22,7 @@ use crate::printer::Printer;
 use crate::status::{NO_MEMORY, REFUSED, UNWRITTEN};
 use crate::telling::say_line;
 use disk_layout::Geometry;
-use machine_loader::{FrontFault, accept};
+use machine_loader::{ModuleFault, accept};
 use std::alloc::Global;
 use std::io::Write;
 use thiserror::Error;
@@ -49,7 +49,7 @@ pub enum Unprepared {
     Text,
     /// The module isn't accepted.
     #[error("failed {0}")]
-    Module(FrontFault),
+    Module(ModuleFault),
     #[error("failed N4 Memory")]
     Memory,
 }
@@ -159,7 +159,7 @@ fn say_limit<E: Write + Drop>(err: &mut Printer<E>, passed: PassedLimit) -> u8
 
 /// Prints why a module isn't accepted. A limit that it passes is told on a second line. Answers the
 /// exit status, or 7 where a write has failed.
-fn say_refusal<E: Write + Drop>(err: &mut Printer<E>, why: FrontFault) -> u8
+fn say_refusal<E: Write + Drop>(err: &mut Printer<E>, why: ModuleFault) -> u8
     ensures limit { (passed : PassedLimit) → passed_in why ≡ Some passed
         → SaysText (limit_text (codes "failed") passed) 3 err.old result err.new }
     ensures status { IsSaid 3 err.old result err.new }

@@ -76,7 +76,7 @@ impl<W: Write + Drop> Printer<W> {
         self.heed(written)
     }
 
-    /// Writes bytes, all of them. Where a write fails, at most a front of them is written.
+    /// Writes bytes, all of them. Where a write fails, at most a prefix of them is written.
     pub fn write_all(&mut self, bytes: &[u8]) -> io::Result<()>
         ensures bytes { OnOk result (Appends self.old.contents self.new.contents bytes.now) }
         ensures front { OnErr result

@@ -41,7 +41,7 @@ fn fill(
 }
 
 /// So many bytes of the ChaCha20 words of a stream, from the word at `place` on. Each word begins
-/// with its low byte, and what the last one has over is dropped. Fails for want of memory alone.
+/// with its low byte, and what the last one has over is dropped. Fails only when out of memory.
 pub fn seeded(
     alloc: Global,
     seed: [u8; 32],

@@ -3,8 +3,8 @@
 ghost use Rattle.std.specs.Prelude.{◌≡◌, ◌≤◌, ◌⊎◌, IfSome};
 ghost use Rattle.wasmhost_commands.specs.rules.Commands.{IsStatusOf};
 ghost use Rattle.wasmhost_commands.specs.rules.Printers.{IsSaid, HeedsBoth};
-ghost use Rattle.wasmhost_commands.specs.rules.Reports.{SaysLine, StandsAroundTip, status_told};
-ghost use Rattle.wasmhost_commands.specs.rules.Reports.{words_told};
+ghost use Rattle.wasmhost_commands.specs.rules.Reports.{SaysLine, IsAroundTip, obstacle_status};
+ghost use Rattle.wasmhost_commands.specs.rules.Reports.{obstacle_words};
 
 use crate::printer::Printer;
 use crate::status::{NO_MEMORY, UNREAD, UNWRITTEN, USAGE};
@@ -14,10 +14,10 @@ use std::alloc::Global;
 use std::fmt::Display;
 use std::io::Write;
 
-/// How a tip of `clap` begins: to write behind `--` what begins with a hyphen.
+/// How a tip of `clap` begins: to write after `--` what begins with a hyphen.
 const TIP: &str = "\n\n  tip: to pass '-";
 
-/// What stands behind a tip.
+/// What is after a tip.
 const GAP: &str = "\n\n";
 
 /// Why a command isn't begun.
@@ -48,7 +48,8 @@ pub fn say_line<W: Write + Drop>(out: &mut Printer<W>, status: u8, line: &str) -
 
 /// Prints why a command isn't begun, and answers the exit status.
 pub fn report<E: Write + Drop>(err: &mut Printer<E>, obstacle: Obstacle) -> u8
-    ensures said { SaysLine (words_told obstacle) (status_told obstacle) err.old result err.new }
+    ensures said { SaysLine (obstacle_words obstacle) (obstacle_status obstacle) err.old
+        result err.new }
     ensures known { result ≤ 7 }
 {
     match obstacle {
@@ -76,9 +77,9 @@ fn begins_with_digit(text: &str) -> bool {
     matches!(text.as_bytes(), [b'0'..=b'9', ..])
 }
 
-/// What stands before and behind a tip to write a number below 0 behind `--`, if the text has one.
+/// What is before and after a tip to write a number below 0 after `--`, if the text has one.
 fn around_tip(text: &str) -> Option<(&str, &str)>
-    ensures { IfSome result (λ parts. StandsAroundTip text.now parts.0.now parts.1.now) }
+    ensures { IfSome result (λ parts. IsAroundTip text.now parts.0.now parts.1.now) }
 {
     let (before, rest) = text.split_once(TIP)?;
     let (tip, behind) = rest.split_once(GAP)?;
@@ -89,7 +90,7 @@ fn around_tip(text: &str) -> Option<(&str, &str)>
     }
 }
 
-/// Prints what is wrong with the words, without such a tip: no number is below 0, behind `--` or
+/// Prints what is wrong with the words, without such a tip: no number is below 0, after `--` or
 /// before it. Where there is no memory to look for one, the text is printed as it is. Answers the
 /// status, or 7 where a write has failed.
 fn say_mistake<E: Write + Drop>(

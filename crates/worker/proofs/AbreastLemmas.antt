@@ -7,7 +7,7 @@ use Rattle.std.proofs.Math.Nat.{le_trans}
 use Rattle.std.proofs.Math.Seq.{take-length}
 use Rattle.wasm_syntax.specs.declared.module.Module.{Module}
 use Rattle.wasm_semantics.specs.Validity.{IsValid}
-use Rattle.wasi_abi.specs.declared.answer.Kind.{Kind}
+use Rattle.wasi_abi.specs.declared.answer.Question.{Question}
 use Rattle.wasi_abi.specs.rules.Configs.{Settings}
 use Rattle.process_rules.specs.Processes.{Ending, ProcessState, Guest}
 use Rattle.process_rules.specs.Behind.{IsNarrowTo, AnswersBehindLine}
@@ -33,12 +33,12 @@ abbrev pub IsStill : Guest → ProcessState → Type 0
 IsStill guest p = (q : ProcessState) → Moves guest p None q → ⊥
 
 -- one that asks
-pub asking_is_still : (guest : Guest) (p : ProcessState) (kind : Kind)
-    → next_of guest p None ≡ Wants kind → IsStill guest p
-asking_is_still guest p kind wants q moves =
+pub asking_is_still : (guest : Guest) (p : ProcessState) (question : Question)
+    → next_of guest p None ≡ Wants question → IsStill guest p
+asking_is_still guest p question wants q moves =
     leads_nowhere (next_of guest p None) wants moves.leads
   where
-    leads_nowhere : (next : Next) → next ≡ Wants kind → LeadsTo guest next None p q → ⊥
+    leads_nowhere : (next : Next) → next ≡ Wants question → LeadsTo guest next None p q → ⊥
     leads_nowhere next is leads = rw is at leads
 
 -- one that has ended
@@ -70,7 +70,7 @@ none_more xs ys zs a e same = by ys (length-append xs ys) (ap length e) (ap leng
     by [] sum is same = refl
     by (y ∷ ys) sum is same = absurd (omega (arith, sum, is, same, length-take a zs))
 
--- All kept answers lead to a process that is still. A line that a front of them leads to is one of
+-- All kept answers lead to a process that is still. A line that a prefix of them leads to is one of
 -- its lines.
 line_there : (m : Module) (config : Settings) (kept : List Kept) (p : ProcessState) (i a : ℕ)
     → IsValid m → (reached : Reaches m config kept p.steps p) → IsStill reached.guest p

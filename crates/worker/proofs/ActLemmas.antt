@@ -30,7 +30,7 @@ module _ {D S O : Type 0} (medium : D → Medium) (gives : Giving S) (takes : Ta
       → DoesAct medium gives takes (Slice fuel) w disk source outlet (Ok tt) w' disk' source'
       outlet'
   slice_is_done fuel said source source' outlet outlet' carries =
-      λ acts left last source_last outlet_last rest. sliced said carries rest
+      λ acts undone last source_last outlet_last rest. sliced said carries rest
 
   pub slice_fails : (fuel : ℕ) (why : WorkFault) (source source' : S) (outlet outlet' : O)
       → SliceCarries gives takes w fuel (Err why) w' (medium disk) (medium disk') source source'
@@ -43,7 +43,7 @@ module _ {D S O : Type 0} (medium : D → Medium) (gives : Giving S) (takes : Ta
       → CheckpointCarries w (Ok tt) w' (medium disk) (medium disk')
       → DoesAct medium gives takes Checkpoint w disk source outlet (Ok tt) w' disk' source outlet
   saving_is_done source outlet carries =
-      λ acts left last source_last outlet_last rest. saved carries rest
+      λ acts undone last source_last outlet_last rest. saved carries rest
 
   pub saving_fails : (why : WorkFault) (source : S) (outlet : O)
       → CheckpointCarries w (Err why) w' (medium disk) (medium disk')
@@ -55,7 +55,7 @@ module _ {D S O : Type 0} (medium : D → Medium) (gives : Giving S) (takes : Ta
       → UpgradeCarries w (Ok tt) w' (medium disk) (medium disk')
       → DoesAct medium gives takes Upgrade w disk source outlet (Ok tt) w' disk' source outlet
   upgrade_is_done source outlet carries =
-      λ acts left last source_last outlet_last rest. was_upgraded carries rest
+      λ acts undone last source_last outlet_last rest. was_upgraded carries rest
 
   pub upgrade_fails : (why : WorkFault) (source : S) (outlet : O)
       → UpgradeCarries w (Err why) w' (medium disk) (medium disk')
@@ -65,16 +65,16 @@ module _ {D S O : Type 0} (medium : D → Medium) (gives : Giving S) (takes : Ta
 
 -- ---- a list of them
 
--- some acts are done; behind what comes of the rest all are done
+-- some acts are done; after what comes of the rest all are done
 pub record HasDone {D S O : Type 0} (medium : D → Medium) (gives : Giving S) (takes : Taking O)
     (all rest : List PlannedAct) (w w' : DurableValue) (disk disk' : D) (source source' : S)
     (outlet outlet' : O) : Type 0 where
-  pub behind : (left : Result (List Act) RecoverFault) (last : D) (source_last : S)
+  pub behind : (undone : Result (List Act) RecoverFault) (last : D) (source_last : S)
       (outlet_last : O)
-      → CallsInOrder medium gives takes (map act_of rest) w' disk' source' outlet' left last
+      → CallsInOrder medium gives takes (map act_of rest) w' disk' source' outlet' undone last
       source_last outlet_last
-      → CallsInOrder medium gives takes (map act_of all) w disk source outlet left last source_last
-      outlet_last
+      → CallsInOrder medium gives takes (map act_of all) w disk source outlet undone
+      last source_last outlet_last
 
 -- an act that is read at a place is the first of those from there on
 acts_from : (acts : List PlannedAct) (i : ℕ) (other : PlannedAct) → i < length acts
@@ -87,7 +87,7 @@ module _ {D S O : Type 0} (medium : D → Medium) (gives : Giving S) (takes : Ta
     (acts : List PlannedAct) (w : DurableValue) (disk : D) (source : S) (outlet : O) where
   pub none_is_done : HasDone medium gives takes acts (drop 0 acts) w w disk disk source source
       outlet outlet
-  none_is_done = record { behind = λ left last source_last outlet_last calls. calls }
+  none_is_done = record { behind = λ undone last source_last outlet_last calls. calls }
 
   module _ (i : ℕ) (other : PlannedAct) (within : i < length acts) (now : DurableValue)
       (disk_now : D) (source_now : S) (outlet_now : O)
@@ -104,9 +104,9 @@ module _ {D S O : Type 0} (medium : D → Medium) (gives : Giving S) (takes : Ta
         → HasDone medium gives takes acts (drop (i + 1) acts) w w' disk disk' source source' outlet
         outlet'
     one_more_is_done does = record {
-      behind = λ left last source_last outlet_last calls.
-          first_so_far.behind left last source_last outlet_last
-          (does (map act_of (drop (i + 1) acts)) left last source_last outlet_last calls);
+      behind = λ undone last source_last outlet_last calls.
+          first_so_far.behind undone last source_last outlet_last
+          (does (map act_of (drop (i + 1) acts)) undone last source_last outlet_last calls);
     }
 
     pub one_fails : (why : WorkFault) → DoesAct medium gives takes (act_of (get_or acts i other))

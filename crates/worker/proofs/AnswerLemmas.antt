@@ -1,19 +1,19 @@
--- What a recovery and a look at a disk answer, whatever stands there.
+-- What a recovery and a look at a disk answer, whatever is there.
 use Rattle.std.proofs.Common.{◌≡◌, inl, inr, ℕ, ◌+◌, List, refl, sym, ap, ◌∙◌, subst}
 use Rattle.std.proofs.Common.{◌*◌, ◌<◌, length, false}
 use Rattle.std.specs.Prelude.{Result, Ok, Err, IfErr}
 use Rattle.wasi_abi.specs.declared.version.Version.{Version}
-use Rattle.wasi_calls_rules.specs.Hosts.{Host}
+use Rattle.wasi_calls_rules.specs.WasiStates.{WasiState}
 use Rattle.process_rules.specs.Processes.{ProcessState, Guest}
 use Rattle.process.specs.rules.Values.{ProcessValue, ShowsProcess}
-use Rattle.state_image.specs.rules.Image.{image}
+use Rattle.state_image.specs.rules.ProcessImage.{process_image}
 use Rattle.state_image.specs.rules.Saving.{saved_of}
 use Rattle.sector_disk.specs.declared.fault.DiskFault.{DiskFault}
-use Rattle.sector_disk.specs.rules.Image.{Image}
+use Rattle.sector_disk.specs.rules.DiskImage.{DiskImage}
 use Rattle.sector_disk.specs.rules.Medium.{CallsUpTo, Medium, SyncsMedium}
 use Rattle.sector_disk.specs.declared.sector.TheConstants.{SECTOR_SIZE}
 use Rattle.disk_layout.specs.declared.geometry.Geometry.{Geometry}
-use Rattle.worker_store.specs.rules.AnyDisk.{NamesImage}
+use Rattle.worker_store.specs.rules.AnyDisk.{NamesProcessImage}
 use Rattle.disk_layout.specs.rules.Stored.{OnlyReads}
 use Rattle.record_replay.specs.declared.fault.ReplayFault.{ReplayFault}
 use Rattle.record_replay.specs.rules.Calls.{Taking}
@@ -27,7 +27,7 @@ use Rattle.worker.specs.declared.recover_fault.RecoverFault.{RecoverFault}
 use Rattle.worker.specs.declared.recover_fault.RecoverFault.TheVariants as recover
 use Rattle.worker.specs.rules.WorkFaults.{fault_of_store}
 use Rattle.worker.specs.rules.DurableValues.{DurableValue}
-use Rattle.worker.specs.rules.Recoveries.{IsSettledBy}
+use Rattle.worker.specs.rules.Recoveries.{IsJustSynced}
 use Rattle.worker.specs.rules.ShownDisks.{HoldsWorker, RevivesHeld, EndsHeld}
 use Rattle.worker.specs.rules.ShownDisks.{FailsHeld, AnswersDisk, RecoversAsShown}
 use Rattle.worker.specs.rules.ShownDisks.{LeavesRefused, SurveysDisk, IsOfSaving}
@@ -37,7 +37,7 @@ use Rattle.worker.specs.FoundDisks.{IsFoundIn, FindsIn}
 use Rattle.worker.specs.Revivals.{RevivesFound, IsReplayed, StopsInVain}
 use Rattle.worker.specs.Revivals.{OpensStore, ReplaysForNothing}
 use Rattle.worker.proofs.RecoveryLemmas.There.{released_is}
-use Rattle.worker.proofs.RecoveryLemmas.Results.{settled_by, reads_none, sync_faulted}
+use Rattle.worker.proofs.RecoveryLemmas.Results.{is_just_synced, reads_none, sync_faulted}
 
 -- ---- the worker that the disk holds
 
@@ -45,17 +45,18 @@ use Rattle.worker.proofs.RecoveryLemmas.Results.{settled_by, reads_none, sync_fa
 pub shown_version : (v : ProcessValue) (guest : Guest) (p : ProcessState) → ShowsProcess v guest p
     → v.host.host.version ≡ p.host.version
 shown_version v guest p shows =
-    let host = shows.host in sym (ap (λ (h : Host). h.version) host.is)
+    let host = shows.host in sym (ap (λ (h : WasiState). h.version) host.is)
 
-module _ (sectors : ℕ) (disk : Image) (found : Found) (at : IsFoundIn sectors disk found) where
+module _ (sectors : ℕ) (disk : DiskImage) (found : Found) (at : IsFoundIn sectors disk found) where
   abbrev pub held_in : HoldsWorker sectors disk
   held_in = record {
     holds = at.holds;
     generation = found.generation;
     saved = saved_of found.process;
     well_typed = at.process.restored.well_typed;
-    newest = subst (λ (b : List ℕ). NamesImage at.holds.contents.geometry disk found.generation
-        (saved_of found.process).version b) at.process.restored.is at.process.newest;
+    newest = subst (λ (b : List ℕ). NamesProcessImage at.holds.contents.geometry disk
+        found.generation (saved_of found.process).version b) at.process.restored.is
+        at.process.newest;
     records = found.records.items;
     scanned = at.scanned;
   }
@@ -143,7 +144,8 @@ module _ (sectors : ℕ) (disk : Image) (found : Found) (at : IsFoundIn sectors 
     unsaved v mid new ends store.TooBig (inr long) = (
       v,
       ends,
-      inr (subst (λ (p : Geometry). SECTOR_SIZE * p.area_sectors < length (image (saved_of v)))
+      inr (subst (λ (p : Geometry). SECTOR_SIZE * p.area_sectors < length
+          (process_image (saved_of v)))
           at.process.placed long),
     )
     unsaved v mid new ends (store.Disk fault) fails = (v, ends)
@@ -165,7 +167,7 @@ module _ (sectors : ℕ) (disk : Image) (found : Found) (at : IsFoundIn sectors 
 
 -- ---- what is left as it is
 
--- a replay that stops has written nothing, and is no refusal of what stands on the disk
+-- a replay that stops has written nothing, and is no refusal of what is on the disk
 no_refusal : (fault : ReplayFault) → IsRefusal (recover.Replay fault) → ⊥
 no_refusal fault is = is
 
@@ -189,9 +191,9 @@ of_saving geometry g v mid new store.Failed fails = absurd fails
 
 module _ {D O : Type 0} (medium : D → Medium) (takes : Taking O) (found : Found) (mid new : D)
     (outlet outlet' : O) where
-  left_on_way : (why : RecoverFault) → StopsInVain takes found why mid new outlet outlet'
+  faults_on_way : (why : RecoverFault) → StopsInVain takes found why mid new outlet outlet'
       → LeavesRefused why (medium mid) (medium new) outlet outlet'
-  left_on_way why stops = record {
+  faults_on_way why stops = record {
     untold = λ refusal.
         absurd (no_refusal stops.fault
         (subst (λ (e : RecoverFault). IsRefusal e) stops.is refusal));
@@ -200,10 +202,10 @@ module _ {D O : Type 0} (medium : D → Medium) (takes : Taking O) (found : Foun
         (reads_none (medium mid));
   }
 
-  left_at_end : (why : RecoverFault)
+  faults_at_end : (why : RecoverFault)
       → ReplaysForNothing takes found why (medium mid) (medium new) outlet outlet'
       → LeavesRefused why (medium mid) (medium new) outlet outlet'
-  left_at_end why for =
+  faults_at_end why for =
       let none = for.none in
       record {
         untold = λ refusal.
@@ -217,14 +219,14 @@ module _ {D O : Type 0} (medium : D → Medium) (takes : Taking O) (found : Foun
       }
 
   -- whatever comes of what was found
-  pub left_so : (result : Result DurableValue RecoverFault)
+  pub faults_so : (result : Result DurableValue RecoverFault)
       → RevivesFound medium takes found result mid new outlet outlet'
       → IfErr result (λ why. LeavesRefused why (medium mid) (medium new) outlet outlet')
-  left_so (Ok w) revives = tt
-  left_so (Err why) (inl stops) = left_on_way why stops
-  left_so (Err why) (inr for) = left_at_end why for
+  faults_so (Ok w) revives = tt
+  faults_so (Err why) (inl stops) = faults_on_way why stops
+  faults_so (Err why) (inr for) = faults_at_end why for
 
-  pub answers_so : (sectors : ℕ) (disk : Image) (at : IsFoundIn sectors disk found)
+  pub answers_so : (sectors : ℕ) (disk : DiskImage) (at : IsFoundIn sectors disk found)
       (result : Result DurableValue RecoverFault)
       → RevivesFound medium takes found result mid new outlet outlet'
       → AnswersDisk takes sectors disk result outlet outlet'
@@ -248,8 +250,8 @@ module _ {D O : Type 0} (medium : D → Medium) (takes : Taking O) (old new : D)
     {T : Type 0} (fault : DiskFault)
     (syncs : SyncsMedium {T = T} (Err fault) (medium old) (medium new)) (why : RecoverFault)
     (is : why ≡ recover.Worker (Disk fault)) where
-  pub unsettled_shown : RecoversAsShown medium takes (Err why) old new outlet outlet
-  unsettled_shown =
+  pub failed_sync_shown : RecoversAsShown medium takes (Err why) old new outlet outlet
+  failed_sync_shown =
       let calls = syncs.calls in
       inl (record {
         fault = fault;
@@ -265,28 +267,28 @@ module _ {D O : Type 0} (medium : D → Medium) (takes : Taking O) (old new : D)
 module _ {T : Type 0} (old sync mid : Medium) (done : T)
     (syncs : SyncsMedium {T = T} (Ok done) old sync) where
   pub found_there : (result : Result Found RecoverFault)
-      → ((image : Image) → mid.shows image → FindsIn sync.sectors image result)
-      → (image : Image) → mid.shows image → FindsIn old.sectors image result
+      → ((image : DiskImage) → mid.shows image → FindsIn sync.sectors image result)
+      → (image : DiskImage) → mid.shows image → FindsIn old.sectors image result
   found_there result finds =
       let passes = syncs.passes in
-      subst (λ n. (image : Image) → mid.shows image → FindsIn n image result) passes.sectors
+      subst (λ n. (image : DiskImage) → mid.shows image → FindsIn n image result) passes.sectors
       finds
 
 module _ {D O T : Type 0} (medium : D → Medium) (takes : Taking O) (old sync mid : D) (done : T)
     (syncs : SyncsMedium {T = T} (Ok done) (medium old) (medium sync))
     (reads : OnlyReads (medium sync) (medium mid))
     (few : CallsUpTo (2 * (medium sync).sectors) (medium sync) (medium mid)) (outlet : O) where
-  settled : IsSettledBy (medium old) (medium mid)
-  settled = settled_by (medium old) (medium sync) (medium mid) done syncs reads few
+  just_synced : IsJustSynced (medium old) (medium mid)
+  just_synced = is_just_synced (medium old) (medium sync) (medium mid) done syncs reads few
 
   -- no worker was found
   pub unfound_shown : (why : RecoverFault)
-      → ((image : Image) → (medium mid).shows image
+      → ((image : DiskImage) → (medium mid).shows image
       → FindsIn (medium sync).sectors image (Err why))
       → RecoversAsShown medium takes (Err why) old mid outlet outlet
   unfound_shown why finds = inr (
     mid,
-    settled,
+    just_synced,
     λ image shown.
         inl (
           found_there (medium old) (medium sync) (medium mid) done syncs (Err why) finds image
@@ -298,17 +300,17 @@ module _ {D O T : Type 0} (medium : D → Medium) (takes : Taking O) (old sync m
 
   -- one was
   pub found_shown : (new : D) (outlet' : O) (found : Found)
-      → ((image : Image) → (medium mid).shows image
+      → ((image : DiskImage) → (medium mid).shows image
       → FindsIn (medium sync).sectors image (Ok found))
       → (result : Result DurableValue RecoverFault)
       → RevivesFound medium takes found result mid new outlet outlet'
       → RecoversAsShown medium takes result old new outlet outlet'
   found_shown new outlet' found finds result revives = inr (
     mid,
-    settled,
+    just_synced,
     λ image shown.
         answers_so medium takes found mid new outlet outlet' (medium old).sectors image
         (found_there (medium old) (medium sync) (medium mid) done syncs (Ok found) finds image
         shown) result revives,
-    left_so medium takes found mid new outlet outlet' result revives,
+    faults_so medium takes found mid new outlet outlet' result revives,
   )

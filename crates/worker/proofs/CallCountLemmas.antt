@@ -70,14 +70,14 @@ calls_longer a b old new le calls =
 -- ---- the turns of a slice
 
 -- Those so far, and one more. What a barrier still takes is counted with them.
-pub turns_then : (a b times n x y z first owed left : ℕ) → y + owed ≤ x + first + a * n
-    → z + left ≤ y + owed + b * n → times ≡ a + b → z + left ≤ x + first + times * n
-turns_then a b times n x y z first owed left one two is =
+pub turns_then : (a b times n x y z first owed owed_left : ℕ) → y + owed ≤ x + first + a * n
+    → z + owed_left ≤ y + owed + b * n → times ≡ a + b → z + owed_left ≤ x + first + times * n
+turns_then a b times n x y z first owed owed_left one two is =
     let all : times * n ≡ a * n + b * n = ap (λ k. k * n) is ∙ add-mul a b n in
     joined x y z (a * n) (b * n) (times * n) one two all
   where
-    joined : (x y z p q r : ℕ) → y + owed ≤ x + first + p → z + left ≤ y + owed + q → r ≡ p + q
-        → z + left ≤ x + first + r
+    joined : (x y z p q r : ℕ) → y + owed ≤ x + first + p → z + owed_left ≤ y + owed + q → r ≡ p + q
+        → z + owed_left ≤ x + first + r
     joined x y z p q r one two all = omega (arith, one, two, all)
 
 -- the last one
@@ -94,20 +94,21 @@ turns_end a b times n x y z first owed last one two is within =
     joined p q r s one two all more = omega (arith, one, two, all, more, within)
 
 -- a turn that counts as one exchange at least
-pub turn_once : (times n y z owed left few : ℕ) → z ≤ y + few → few + left ≤ n → 1 ≤ times
-    → z + left ≤ y + owed + times * n
-turn_once times n y z owed left few calls within some =
+pub turn_once : (times n y z owed owed_left few : ℕ) → z ≤ y + few → few + owed_left ≤ n → 1 ≤ times
+    → z + owed_left ≤ y + owed + times * n
+turn_once times n y z owed owed_left few calls within some =
     let all = once_more times n some in
     below (times * n) all
   where
-    below : (c : ℕ) → n ≤ c → z + left ≤ y + owed + c
+    below : (c : ℕ) → n ≤ c → z + owed_left ≤ y + owed + c
     below c le = omega (arith, calls, within, le)
 
 -- one that takes no more than is owed
-pub turn_free : (times n y z owed left : ℕ) → z + left ≤ y + owed → z + left ≤ y + owed + times * n
-turn_free times n y z owed left calls = below (times * n)
+pub turn_free : (times n y z owed owed_left : ℕ) → z + owed_left ≤ y + owed → z + owed_left ≤ y
+    + owed + times * n
+turn_free times n y z owed owed_left calls = below (times * n)
   where
-    below : (c : ℕ) → z + left ≤ y + owed + c
+    below : (c : ℕ) → z + owed_left ≤ y + owed + c
     below c = omega (arith, calls)
 
 -- the last turn takes few calls
@@ -130,9 +131,9 @@ pub barrier_takes : (sectors : ℕ) (kept : List ℕ) (y z : ℕ) → (length ke
 barrier_takes sectors [] y z quiet calls = let same = quiet refl in omega (arith, same)
 barrier_takes sectors (byte ∷ kept) y z quiet calls = calls
 
--- none is owed behind it
-pub barrier_settles : (sectors : ℕ) (kept left : List ℕ) (y z : ℕ) → left ≡ []
-    → z ≤ y + owed sectors kept → z + owed sectors left ≤ y + owed sectors kept
-barrier_settles sectors kept left y z none calls =
-    let free : owed sectors left ≡ 0 = ap (λ l. owed sectors l) none in
+-- none is owed after it
+pub barrier_owes_none : (sectors : ℕ) (kept kept_left : List ℕ) (y z : ℕ) → kept_left ≡ []
+    → z ≤ y + owed sectors kept → z + owed sectors kept_left ≤ y + owed sectors kept
+barrier_owes_none sectors kept kept_left y z none calls =
+    let free : owed sectors kept_left ≡ 0 = ap (λ l. owed sectors l) none in
     omega (arith, free, calls)

@@ -4,7 +4,7 @@ use Rattle.std.proofs.Common.{subst, arith}
 use Rattle.std.specs.Prelude.{Ok, Err}
 use Rattle.process_rules.specs.Runs.{none}
 use Rattle.process.specs.rules.Values.{IsProcess}
-use Rattle.state_image.specs.rules.Image.{image}
+use Rattle.state_image.specs.rules.ProcessImage.{process_image}
 use Rattle.state_image.specs.rules.Saving.{saved_of}
 use Rattle.sector_disk.specs.rules.Medium.{Medium, Passes}
 use Rattle.sector_disk.specs.rules.Medium.{CallsUpTo}
@@ -18,9 +18,9 @@ use Rattle.restart_theorem.specs.Lives.{Checkpoint}
 use Rattle.worker_store.proofs.LawLemmas.Acts.{checkpoints_save}
 use Rattle.worker_store.specs.declared.fault.StoreFault.{StoreFault}
 use Rattle.worker_store.specs.declared.store.WorkerStore.{WorkerStore}
-use Rattle.worker_store.specs.laws.Laws.{ImagesFitAreas}
+use Rattle.worker_store.specs.laws.Laws.{ProcessImagesFitAreas}
 use Rattle.worker_store.specs.rules.Calls.{StoresNext}
-use Rattle.worker.specs.declared.running.Running.{Running}
+use Rattle.worker.specs.declared.running_worker.RunningWorker.{RunningWorker}
 use Rattle.worker.specs.declared.fault.WorkFault.{WorkFault}
 use Rattle.worker.specs.rules.WorkFaults.{fault_of_store}
 use Rattle.worker.specs.rules.DurableValues.{DurableValue, durable_of}
@@ -34,7 +34,7 @@ use Rattle.worker.proofs.DurableLemmas.OnDisk.{room_now}
 -- ---- an open worker
 
 -- A checkpoint saves the process as it is, and keeps nothing besides.
-checkpoint_saves_shown : (running : Running) (replayed : ℕ) (flag flag' : Bool)
+checkpoint_saves_shown : (running : RunningWorker) (replayed : ℕ) (flag flag' : Bool)
     (after_store : WorkerStore) (disk : Medium) → IsProcess running.process
     → SavesShown Checkpoint (durable_of running replayed flag)
     (durable_of (record running { store = after_store }) replayed flag') disk
@@ -56,8 +56,8 @@ checkpoint_saves_shown running replayed flag flag' after_store disk is m config 
     )
 
 -- how its disk is left
-module _ {D : Type 0} (medium : D → Medium) (running : Running) (replayed : ℕ) (flag : Bool)
-    (disk disk' : D) (fit : ImagesFitAreas) (is : IsProcess running.process)
+module _ {D : Type 0} (medium : D → Medium) (running : RunningWorker) (replayed : ℕ) (flag : Bool)
+    (disk disk' : D) (fit : ProcessImagesFitAreas) (is : IsProcess running.process)
     (after_store : WorkerStore)
     (leaves : LeavesFrontOrNext running.store running.process (medium disk) (medium disk'))
     (few : CallsUpTo (most_saving (medium disk).sectors) (medium disk) (medium disk')) where
@@ -110,7 +110,7 @@ pub failed_calls : (old : DurableValue) (why : WorkFault) (disk : Medium)
 failed_calls old why disk = (
   [],
   some_none (area_place old.store.geometry (old.store.journal.generation + 1))
-      (rounded_up (length (image (saved_of old.process)))),
+      (rounded_up (length (process_image (saved_of old.process)))),
   record {
     all = tt;
     begun = no_calls (with_head (old.store.journal.generation + 1) []
@@ -120,7 +120,7 @@ failed_calls old why disk = (
 
 -- ---- as contracts see it
 
-module _ {D : Type 0} (medium : D → Medium) (running : Running) (replayed : ℕ) (flag : Bool)
+module _ {D : Type 0} (medium : D → Medium) (running : RunningWorker) (replayed : ℕ) (flag : Bool)
     (old : DurableValue) (is_old : durable_of running replayed flag ≡ old) (disk disk' : D) where
   pub room_for : total_sectors old.store.geometry ≤ (medium disk).sectors
       → total_sectors running.store.geometry ≤ (medium disk).sectors
@@ -161,9 +161,10 @@ module _ {D : Type 0} (medium : D → Medium) (running : Running) (replayed : �
       CheckpointCalls {E = WorkFault} w (Ok done) (medium disk) (medium disk')) is_old
       (let makes = made.2 in (made.0, made.1, record { all = makes.all; begun = makes.begun }))
 
-  module _ (fit : ImagesFitAreas) (is : IsProcess running.process) (after_store : WorkerStore)
-      (leaves : LeavesFrontOrNext running.store running.process (medium disk) (medium disk'))
-      (few : CallsUpTo (most_saving (medium disk).sectors) (medium disk) (medium disk')) where
+  module _ (fit : ProcessImagesFitAreas) (is : IsProcess running.process)
+      (after_store : WorkerStore) (leaves : LeavesFrontOrNext running.store running.process
+      (medium disk) (medium disk')) (few : CallsUpTo (most_saving (medium disk).sectors)
+      (medium disk) (medium disk')) where
     pub done_keeps : flag ≡ false
         → StoresNext running.store after_store running.process (medium disk) (medium disk')
         → CheckpointCarries old (Ok tt)

@@ -16,13 +16,13 @@ use Rattle.process_rules.specs.Processes.{ProcessState, Guest, IsStart, host_of}
 use Rattle.process_rules.specs.Runs.{Kept, Runs, none}
 use Rattle.process_rules.proofs.Growing.{start_counts}
 use Rattle.process.specs.rules.Values.{ProcessValue, ShowsProcess, IsProcess}
-use Rattle.state_image.specs.rules.Image.{Saved, image}
+use Rattle.state_image.specs.rules.ProcessImage.{Saved, process_image}
 use Rattle.state_image.specs.rules.Saving.{saved_of}
 use Rattle.state_image.specs.rules.WellTyped.{IsWellTyped}
 use Rattle.state_image.proofs.ReachedWellTyped.{saved_is_well_typed}
 use Rattle.sector_disk.specs.declared.sector.TheConstants.{SECTOR_SIZE}
-use Rattle.sector_disk.specs.rules.Image.{Image}
-use Rattle.sector_disk.specs.rules.Medium.{Medium, LeavesOnly, MakesCalls}
+use Rattle.sector_disk.specs.rules.DiskImage.{DiskImage}
+use Rattle.sector_disk.specs.rules.Medium.{Medium, LeavesOnly, PerformsCalls}
 use Rattle.sector_disk.specs.rules.Medium.{CallsUpTo}
 use Rattle.sector_disk.proofs.CallLemmas.{no_calls}
 use Rattle.sector_disk.proofs.Moments.{leaves_only, leaves_weaker, started}
@@ -35,7 +35,7 @@ use Rattle.restart_theorem.specs.Between.{FindsNoWorker}
 use Rattle.restart_theorem.specs.Lives.{Inputs, Opened}
 use Rattle.restart_theorem.specs.Courses.{at_first}
 use Rattle.restart_theorem.specs.Promises.{Promise, after}
-use Rattle.restart_theorem.specs.Holds.{IsNothingYet, ImageHolds, IsBounded, StaysWithin}
+use Rattle.restart_theorem.specs.Holds.{IsNothingYet, DiskImageHolds, IsBounded, StaysWithin}
 use Rattle.restart_theorem.proofs.Disks.{blank_is_within, stands_within}
 use Rattle.worker_store.specs.laws.Savepoints.{Savepoint, places}
 use Rattle.worker_store.specs.laws.Commits.{BeginsAtPoint}
@@ -54,7 +54,7 @@ use Rattle.worker_store.proofs.LawLemmas.Reopening.{fresh_lives_begin}
 use Rattle.worker_store.specs.declared.fault.StoreFault.{StoreFault}
 use Rattle.worker_store.specs.declared.fault.StoreFault.TheVariants as store
 use Rattle.worker_store.specs.declared.store.WorkerStore.{WorkerStore}
-use Rattle.worker_store.specs.laws.Laws.{ImagesFitAreas}
+use Rattle.worker_store.specs.laws.Laws.{ProcessImagesFitAreas}
 use Rattle.worker_store.specs.rules.Creations.{IsFirstPoint, LeavesBlankOrFirst, StoresFirst}
 use Rattle.worker_store.specs.rules.Creations.{CreationFails, creation_calls}
 use Rattle.worker_store.specs.rules.Stores.{IsStoreOf}
@@ -84,19 +84,19 @@ left_alone {D} medium m config promise old new same nothing blank =
         in_the_end = holds;
       };
       bounded = leaves_only (medium old) (medium old) Q (started (medium old) Q)
-          (λ image left.
-          blank_is_within image (promise.events + 1) (medium old).sectors (blank image left));
+          (λ image crashed.
+          blank_is_within image (promise.events + 1) (medium old).sectors (blank image crashed));
       counted = omega arith;
     })
   where
-    P : Image → Type 0
-    P = ImageHolds m config promise promise
+    P : DiskImage → Type 0
+    P = DiskImageHolds m config promise promise
 
-    Q : Image → Type 0
+    Q : DiskImage → Type 0
     Q = IsBounded (promise.events + 1) (medium old).sectors
 
-    holds : (image : Image) → (medium old).may_leave image → P image
-    holds image left = inl (nothing, blank image left)
+    holds : (image : DiskImage) → (medium old).crash_images image → P image
+    holds image crashed = inl (nothing, blank image crashed)
 
 pub refused_keeps : {D : Type 0} (medium : D → Medium) (bytes : List ℕ) (config : Settings)
     (why : WorkFault) (disk : D)
@@ -128,7 +128,7 @@ short_enough bytes config v begun =
     omega (arith, size)
 
 module _ {D : Type 0} (medium : D → Medium) (bytes : List ℕ) (config : Settings)
-    (v : ProcessValue) (fit : ImagesFitAreas) (limits : AreSettingsWithinLimits config)
+    (v : ProcessValue) (fit : ProcessImagesFitAreas) (limits : AreSettingsWithinLimits config)
     (texts : IsOfBytes (host_of config)) (is : IsProcess v)
     (begun : IsCreated bytes config (working v)) where
   begins : IsStart begun.spelled config begun.started.first_guest begun.started.first
@@ -150,7 +150,7 @@ module _ {D : Type 0} (medium : D → Medium) (bytes : List ℕ) (config : Setti
     numbers = of_first.numbers;
   }
 
-  fits : length (image (saved_of v)) ≤ SECTOR_SIZE * (places_for config bytes).area_sectors
+  fits : length (process_image (saved_of v)) ≤ SECTOR_SIZE * (places_for config bytes).area_sectors
   fits =
       let pages = limits.in_range.pages in
       let typed : IsWellTyped begun.spelled config (saved_of v) =
@@ -188,24 +188,24 @@ module _ {D : Type 0} (medium : D → Medium) (bytes : List ℕ) (config : Setti
   laid_refused (Ok made) old new fails = tt
   laid_refused (Err why) old new fails = creation_faults (medium old) (medium new) why fails
 
-  left_at_first : (old new : D) (fault : StoreFault)
+  faults_at_first : (old new : D) (fault : StoreFault)
       → CreationFails (places_for config bytes) v (medium old) (medium new) fault
       → ((medium old).sectors < total_sectors (places_for config bytes) → new ≡ old)
       → (fault ≡ store.Memory → new ≡ old) → IsRefusedAtFirst (fault_of_store fault) → new ≡ old
-  left_at_first old new (store.Layout layout.TooSmall) small same stays refused = same small
-  left_at_first old new (store.Layout layout.NotAWorker) h same stays refused = absurd h
-  left_at_first old new (store.Layout layout.Version) h same stays refused = absurd h
-  left_at_first old new (store.Layout layout.Damaged) h same stays refused = absurd h
-  left_at_first old new (store.Layout layout.Memory) h same stays refused = absurd h
-  left_at_first old new (store.Layout (layout.Disk why)) h same stays refused = absurd h
-  left_at_first old new store.TooBig long same stays refused =
+  faults_at_first old new (store.Layout layout.TooSmall) small same stays refused = same small
+  faults_at_first old new (store.Layout layout.NotAWorker) h same stays refused = absurd h
+  faults_at_first old new (store.Layout layout.Version) h same stays refused = absurd h
+  faults_at_first old new (store.Layout layout.Damaged) h same stays refused = absurd h
+  faults_at_first old new (store.Layout layout.Memory) h same stays refused = absurd h
+  faults_at_first old new (store.Layout (layout.Disk why)) h same stays refused = absurd h
+  faults_at_first old new store.TooBig long same stays refused =
       let few = fits in absurd (omega (arith, long, few))
-  left_at_first old new (store.Disk why) h same stays refused = absurd refused
-  left_at_first old new store.Memory h same stays refused = stays refl
-  left_at_first old new store.Full h same stays refused = absurd h
-  left_at_first old new store.TooLong h same stays refused = absurd h
-  left_at_first old new store.Damaged h same stays refused = absurd h
-  left_at_first old new store.Failed h same stays refused = absurd h
+  faults_at_first old new (store.Disk why) h same stays refused = absurd refused
+  faults_at_first old new store.Memory h same stays refused = stays refl
+  faults_at_first old new store.Full h same stays refused = absurd h
+  faults_at_first old new store.TooLong h same stays refused = absurd h
+  faults_at_first old new store.Damaged h same stays refused = absurd h
+  faults_at_first old new store.Failed h same stays refused = absurd h
 
   pub laid_untouched : (laid : Result WorkerStore StoreFault) (old new : D)
       → IfErr laid (CreationFails (places_for config bytes) v (medium old) (medium new))
@@ -213,13 +213,14 @@ module _ {D : Type 0} (medium : D → Medium) (bytes : List ℕ) (config : Setti
       → IfErr laid (λ why. why ≡ store.Memory → new ≡ old)
       → IfErr (worker_laid v laid) (λ why. IsRefusedAtFirst why → new ≡ old)
   laid_untouched (Ok made) old new fails same stays = tt
-  laid_untouched (Err why) old new fails same stays = left_at_first old new why fails same stays
+  laid_untouched (Err why) old new fails same stays = faults_at_first old new why fails same stays
 
   pub laid_calls : (laid : Result WorkerStore StoreFault) (old new : Medium)
-      → MakesCalls (creation_calls (places_for config bytes) (length (image (saved_of v)))) laid
-      old new → CreationCalls bytes config (worker_laid v laid) old new
+      → PerformsCalls (creation_calls (places_for config bytes)
+      (length (process_image (saved_of v)))) laid old new → CreationCalls bytes config
+      (worker_laid v laid) old new
   laid_calls (Ok made) old new makes = makes.all
-  laid_calls (Err why) old new makes = (length (image (saved_of v)), fits, makes.begun)
+  laid_calls (Err why) old new makes = (length (process_image (saved_of v)), fits, makes.begun)
 
   -- ---- the disk at any moment
 
@@ -236,7 +237,7 @@ module _ {D : Type 0} (medium : D → Medium) (bytes : List ℕ) (config : Setti
       subst (λ (wasm : List ℕ). total_sectors (geometry_of config (length wasm)) ≤ sectors)
       (sym of_first.wasm) room
 
-  first_is_within : (latest sectors : ℕ) (image : Image) → 1 ≤ latest
+  first_is_within : (latest sectors : ℕ) (image : DiskImage) → 1 ≤ latest
       → total_sectors (places_for config bytes) ≤ sectors → BeginsAtPoint found.0 image
       → IsBounded latest sectors image
   first_is_within latest sectors image counted room begins_there =
@@ -308,7 +309,7 @@ module _ {D : Type 0} (medium : D → Medium) (bytes : List ℕ) (config : Setti
           abreast = refl;
           geometry = is_stored.geometry
               ∙ ap (λ (wasm : List ℕ). geometry_of config (length wasm)) of_first.wasm;
-          contents = λ image left. let at = is_stored.journaled.stands image left in
+          contents = λ image crashed. let at = is_stored.journaled.at_savepoint image crashed in
               subst (λ (wasm : List ℕ). HasWorker config wasm image) of_first.wasm at.worker;
           room = subst (λ (g : Geometry). total_sectors g ≤ (medium new).sectors)
               (sym is_stored.geometry) is_stored.sectors;
@@ -341,7 +342,8 @@ module _ {D : Type 0} (medium : D → Medium) (bytes : List ℕ) (config : Setti
         let only = leaves begun.spelled found.0 is_first_point blank in
         let opens : OpensAtFirst promise (saved_of v) found.0 (medium old) (medium new) =
         creation_opens medium begun.spelled config promise (saved_of v) found.0 old new nothing
-        created of_first.front of_first.no_lines of_first.saved only is_stored.journaled.stands in
+        created of_first.front of_first.no_lines of_first.saved only
+        is_stored.journaled.at_savepoint in
         let long : (medium new).sectors ≡ (medium old).sectors = only.passes.sectors in
         let places_fit : total_sectors (places_for config bytes) ≤ (medium old).sectors =
         subst (λ (n : ℕ). total_sectors (places_for config bytes) ≤ n) long

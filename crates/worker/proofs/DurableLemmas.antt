@@ -1,7 +1,7 @@
 pub mod OnDisk
 pub mod Bounds
 pub mod Ends
-pub mod Settling
+pub mod Flushing
 pub mod Rooms
 pub mod Hearing
 pub mod Keeping

@@ -8,18 +8,20 @@ use Rattle.std.specs.Prelude.{◌||◌, ◌↔◌, ◌⊎◌}
 use Rattle.sector_disk.specs.declared.fault_disk.FaultDisk.{FaultDisk}
 use Rattle.sector_disk.specs.declared.memory.MemDisk.{MemDisk}
 use Rattle.sector_disk.specs.declared.place.Place.{Place}
-use Rattle.sector_disk.specs.rules.Image.{Image}
+use Rattle.sector_disk.specs.rules.DiskImage.{DiskImage}
 use Rattle.sector_disk.specs.rules.FaultDisk.{call_counts_of}
 use Rattle.sector_disk.specs.rules.Medium.{IsAllSynced}
-use Rattle.sector_disk.specs.rules.Memory.{memory_medium, memory_stays, MemoryState}
+use Rattle.sector_disk.specs.laws.Memory.{memory_stays}
+use Rattle.sector_disk.specs.rules.Memory.{memory_medium, MemoryState}
 use Rattle.sector_disk.specs.rules.Memory.{memory_state_of, after_cut}
 use Rattle.sector_disk.specs.rules.Trouble.{place_numbers, has_begun, call_number}
 use Rattle.restart_theorem.specs.Lives.{Act, Cause, OfDisk, End, Inputs}
-use Rattle.restart_theorem.specs.Lives.End.{Finished as finished, Stopped as stopped, Failed as failed}
+use Rattle.restart_theorem.specs.Lives.End.{Finished as finished, Stopped as stopped}
+use Rattle.restart_theorem.specs.Lives.End.{Failed as failed}
 use Rattle.restart_theorem.specs.Courses.{HasDiskFault, HasStopped, HasNotStopped}
 use Rattle.restart_theorem.specs.Between.{NextFinds, IsFoundAfterCut}
 use Rattle.worker.specs.declared.recover_fault.RecoverFault.{RecoverFault}
-use Rattle.worker.specs.laws.OneLife.{EndsBy, IsCauseOf, IsLater, left_undone}
+use Rattle.worker.specs.laws.OneLife.{EndsBy, IsCauseOf, IsLater, undone_acts}
 use Rattle.worker.specs.declared.story.report.LifeEnd.{LifeEnd}
 use Rattle.worker.specs.declared.story.report.LifeEnd.TheVariants.{Finished, Stopped}
 use Rattle.worker.specs.declared.story.report.LifeEnd.TheVariants.{Failed}
@@ -27,7 +29,7 @@ use Rattle.worker.specs.rules.Planned.{call_at}
 use Rattle.worker.specs.rules.StoryDisks.{story_medium}
 use Rattle.worker.specs.rules.Told.{TellsLifeEnd}
 use Rattle.worker.specs.LifeCalls.{LeavesSome}
-use Rattle.worker.specs.Endings.{end_told, IsFoundBehind, StopSays}
+use Rattle.worker.specs.Endings.{reported_end, IsFoundBehind, StopSays}
 
 pub stopping_leaves_some : LeavesSome story_medium
 stopping_leaves_some f = (f.inner.shown.items, memory_stays f.inner)
@@ -54,8 +56,8 @@ cause_of why other cause e is =
 
 -- how the life ended is told
 pub tells_end : (inputs : Inputs) (calls : ℕ) (ended : Result (Unit {0}) RecoverFault) (b : Bool)
-    (ends : End) → StopSays b inputs.stop calls → EndsBy inputs calls (left_undone ended) ends
-    → TellsLifeEnd ends (end_told b ended)
+    (ends : End) → StopSays b inputs.stop calls → EndsBy inputs calls (undone_acts ended) ends
+    → TellsLifeEnd ends (reported_end b ended)
 tells_end inputs calls ended true finished has by =
     absurd (not_both inputs.stop calls has by.1)
 tells_end inputs calls (Ok done) false finished has by = tt
@@ -69,18 +71,18 @@ tells_end inputs calls (Ok done) false (failed cause) has by = let e = by.1 in a
 tells_end inputs calls (Err why) false (failed cause) has by =
     cause_of why by.0 cause by.1 by.2
 
--- what is behind it is what the next life finds
-pub next_finds : (ends : End) (ended : LifeEnd) (left next : MemDisk) → TellsLifeEnd ends ended
-    → IsFoundBehind ended left next → NextFinds memory_medium ends left next
-next_finds finished Finished left next told behind = inl behind
-next_finds finished Stopped left next told behind = absurd told
-next_finds finished (Failed why) left next told behind = absurd told
-next_finds stopped Finished left next told behind = absurd told
-next_finds stopped Stopped left next told behind = inl behind
-next_finds stopped (Failed why) left next told behind = absurd told
-next_finds (failed cause) Finished left next told behind = absurd told
-next_finds (failed cause) Stopped left next told behind = absurd told
-next_finds (failed cause) (Failed why) left next told behind = behind
+-- what is after it is what the next life finds
+pub next_finds : (ends : End) (ended : LifeEnd) (last next : MemDisk) → TellsLifeEnd ends ended
+    → IsFoundBehind ended last next → NextFinds memory_medium ends last next
+next_finds finished Finished last next told behind = inl behind
+next_finds finished Stopped last next told behind = absurd told
+next_finds finished (Failed why) last next told behind = absurd told
+next_finds stopped Finished last next told behind = absurd told
+next_finds stopped Stopped last next told behind = inl behind
+next_finds stopped (Failed why) last next told behind = absurd told
+next_finds (failed cause) Finished last next told behind = absurd told
+next_finds (failed cause) Stopped last next told behind = absurd told
+next_finds (failed cause) (Failed why) last next told behind = behind
 
 -- ---- faults
 
@@ -144,12 +146,12 @@ pub faults_as_planned : (found last : FaultDisk MemDisk) (stop fail : Option Pla
     → HasDiskFault (call_at fail) OfDisk (call_number (call_counts_of last))
     ⊎ HasStopped (call_at stop) (call_number (call_counts_of last))
 faults_as_planned found last stop fail is fails later fell =
-    let told : place_numbers last.stop ++ place_numbers last.fail ++ []
+    let planned : place_numbers last.stop ++ place_numbers last.fail ++ []
     ≡ place_numbers stop ++ place_numbers fail ++ [] =
-    later.told
+    later.fault_plan
     ∙ ap (λ (s : Option Place). place_numbers s ++ place_numbers found.fail ++ []) is
     ∙ ap (λ (f : Option Place). place_numbers stop ++ place_numbers f ++ []) fails in
-    let same = same_places stop last.stop fail last.fail told in
+    let same = same_places stop last.stop fail last.fail planned in
     let n : ℕ = call_number (call_counts_of last) in
     subst (λ (f : Option ℕ). HasDiskFault f OfDisk n ⊎ HasStopped (call_at stop) n) same.1
     (subst (λ (s : Option ℕ). HasDiskFault (call_at last.fail) OfDisk n ⊎ HasStopped s n) same.0
@@ -158,15 +160,15 @@ faults_as_planned found last stop fail is fails later fell =
 -- ---- cuts
 
 -- what a cut leaves is what the next life finds
-pub is_found : (left next : MemDisk) (tears : List ℕ)
-    → memory_state_of next ≡ after_cut (memory_state_of left) tears
-    → (memory_medium left).may_leave (after_cut (memory_state_of left) tears).settled
-    → (memory_medium next).shows (after_cut (memory_state_of left) tears).settled
-    → IsAllSynced (memory_medium next) → IsFoundAfterCut (memory_medium left) (memory_medium next)
-is_found left next tears cut was shows synced =
-    let image : Image = (after_cut (memory_state_of left) tears).settled in
-    let settled : next.settled.items ≡ image = ap (λ (s : MemoryState). s.settled) cut in
-    let is_image = (memory_medium left).is_image image was in
+pub is_found : (last next : MemDisk) (tears : List ℕ)
+    → memory_state_of next ≡ after_cut (memory_state_of last) tears
+    → (memory_medium last).crash_images (after_cut (memory_state_of last) tears).durable
+    → (memory_medium next).shows (after_cut (memory_state_of last) tears).durable
+    → IsAllSynced (memory_medium next) → IsFoundAfterCut (memory_medium last) (memory_medium next)
+is_found last next tears cut was shows synced =
+    let image : DiskImage = (after_cut (memory_state_of last) tears).durable in
+    let durable : next.durable.items ≡ image = ap (λ (s : MemoryState). s.durable) cut in
+    let is_disk_image = (memory_medium last).is_disk_image image was in
     record {
       image = image;
       was = was;
@@ -175,5 +177,5 @@ is_found left next tears cut was shows synced =
             let same = may.0 ∙ sym shows in (same, synced.same shown kept may ∙ same);
         unsynced = synced.unsynced;
       };
-      sectors = ap length settled ∙ is_image.count;
+      sectors = ap length durable ∙ is_disk_image.count;
     }

@@ -1,21 +1,22 @@
 -- What is found on a disk, step by step.
-use Rattle.std.proofs.Common.{◌≡◌, ℕ, ◌≤◌, List, refl, sym, subst, arith}
+use Rattle.std.proofs.Common.{◌≡◌, ℕ, ◌+◌, ◌≤◌, List, refl, sym, subst, arith}
 use Rattle.std.specs.Prelude.{Result, Ok, Err, IfErr, Vec}
 use Rattle.std.specs.declared.alloc.Global.{Global}
 use Rattle.wasm_syntax.specs.declared.module.Module.{Module}
 use Rattle.wasi_abi.specs.rules.Configs.{Settings}
 use Rattle.process_rules.specs.Processes.{ProcessState}
 use Rattle.process.specs.rules.Values.{ProcessValue, IsProcess}
-use Rattle.sector_disk.specs.rules.Image.{Image}
-use Rattle.sector_disk.specs.rules.Medium.{Medium}
+use Rattle.sector_disk.specs.rules.DiskImage.{DiskImage}
+use Rattle.sector_disk.specs.rules.Medium.{Medium, CallsUpTo}
 use Rattle.disk_layout.specs.declared.fault.LayoutFault.TheVariants as layout
 use Rattle.disk_layout.specs.declared.geometry.Geometry.{Geometry}
 use Rattle.disk_layout.specs.declared.reading.contents.Contents.{Contents}
 use Rattle.disk_layout.specs.rules.Journal.{Record}
 use Rattle.disk_layout.specs.rules.Stored.{OnlyReads}
+use Rattle.disk_layout.proofs.ReadLemmas.{no_reads, reads_then}
 use Rattle.restart_theorem.specs.Stands.{IsNumbered}
 use Rattle.restart_theorem.proofs.NumbersKept.{records_keep_numbers}
-use Rattle.worker_store.specs.laws.Savepoints.{Savepoint, places, StandsAtPoint}
+use Rattle.worker_store.specs.laws.Savepoints.{Savepoint, places, IsAtSavepoint}
 use Rattle.worker_store.specs.declared.read_fault.ReadFault.{ReadFault}
 use Rattle.worker_store.specs.declared.read_fault.ReadFault.TheVariants as read
 use Rattle.worker_store.specs.rules.ReadFaults.{HasReadCause}
@@ -24,14 +25,14 @@ use Rattle.worker.specs.declared.found.Found.{Found}
 use Rattle.worker.specs.declared.recover_fault.RecoverFault.{RecoverFault}
 use Rattle.worker.specs.declared.fault.WorkFault.TheVariants as work
 use Rattle.worker.specs.declared.recover_fault.RecoverFault.TheVariants as recover
-use Rattle.machine_loader.specs.declared.fault.FrontFault.{FrontFault}
+use Rattle.machine_loader.specs.declared.fault.ModuleFault.{ModuleFault}
 use Rattle.state_image.specs.declared.restoring.fault.RestoreFault.{RestoreFault}
 use Rattle.snapshot.specs.declared.fault.SnapshotFault.TheVariants as snapshot
 use Rattle.journal.specs.declared.fault.JournalFault.TheVariants as journal
 use Rattle.worker.specs.rules.RecoverFaults.{fault_of_read}
 use Rattle.worker.specs.rules.Recoveries.{SaysNothing, SaysNoWorker, SaysNoWorkerOr}
 use Rattle.worker.specs.rules.Recoveries.{MarksDecide}
-use Rattle.worker.specs.Findings.{IsFoundAt, IsRestoredAt, HasSearchCause}
+use Rattle.worker.specs.Findings.{IsFoundAt, IsRestoredAt, HasSearchCause, Searches}
 
 -- errors of what is read, and of a recovery
 abbrev pub unread : (T : Type 0) → ReadFault → Result T ReadFault
@@ -57,7 +58,7 @@ module _ (T U : Type 0) where
 
 -- ---- what was read
 
--- what isn't read, where a savepoint stands, says nothing of it
+-- what isn't read, where a savepoint is, says nothing of it
 pub unread_says : (T : Type 0) (P : T → Type 0) (fault : ReadFault) → GivesOr P (unread T fault)
     → SaysNothing (fault_of_read fault)
 unread_says T P (read.Disk fault) gives = tt
@@ -87,13 +88,13 @@ unread_cause old new fault e is cause =
     subst (λ (f : RecoverFault). HasSearchCause old new f) (sym is) (read_cause old new fault cause)
 
 -- the module isn't accepted, or the image is that of no process
-pub unaccepted_cause : (old new : Medium) (fault : FrontFault) (e : RecoverFault)
-    → e ≡ recover.Front fault → HasSearchCause old new e
+pub unaccepted_cause : (old new : Medium) (fault : ModuleFault) (e : RecoverFault)
+    → e ≡ recover.Module fault → HasSearchCause old new e
 unaccepted_cause old new fault e is =
     subst (λ (f : RecoverFault). HasSearchCause old new f) (sym is) tt
 
 pub unmade_cause : (old new : Medium) (fault : RestoreFault) (e : RecoverFault)
-    → e ≡ recover.Image fault → HasSearchCause old new e
+    → e ≡ recover.ProcessImage fault → HasSearchCause old new e
 unmade_cause old new fault e is =
     subst (λ (f : RecoverFault). HasSearchCause old new f) (sym is) tt
 
@@ -112,19 +113,56 @@ later_so old mid new reads (Err why) cause =
     let earlier : old.faults ≤ mid.faults = passes.faults in
     cause_later old mid new earlier why cause
 
+-- ---- what each step does, whatever it finds
+
+-- it has read so much, and the next step goes on
+pub searches_on : (first second most : ℕ) (old mid new : Medium)
+    (result : Result Found RecoverFault) → first + second ≤ most → OnlyReads old mid
+    → CallsUpTo first old mid → Searches second result mid new → Searches most result old new
+searches_on first second most old mid new result few reads asked searches = record {
+  reads = reads_then old mid new reads searches.reads;
+  room = searches.room;
+  cause = later_so old mid new reads result searches.cause;
+  asks = let more = searches.asks in omega (arith, few, asked, more);
+}
+
+-- a reading fails
+pub searches_in_vain : (first most : ℕ) (old new : Medium) (fault : ReadFault) (e : RecoverFault)
+    → first ≤ most → OnlyReads old new → CallsUpTo first old new → e ≡ fault_of_read fault
+    → HasReadCause old new fault → Searches most (Err e) old new
+searches_in_vain first most old new fault e few reads asked is cause = record {
+  reads = reads;
+  room = tt;
+  cause = unread_cause old new fault e is cause;
+  asks = omega (arith, few, asked);
+}
+
+-- it fails without a call of the disk
+pub searches_no_more : (most : ℕ) (m : Medium) (e : RecoverFault) → HasSearchCause m m e
+    → Searches most (Err e) m m
+searches_no_more most m e cause = record {
+  reads = no_reads m;
+  room = tt;
+  cause = cause;
+  asks = omega arith;
+}
+
+-- ---- what is found
+
 -- all that was read
 module _ {m : Module} {settings : Settings} (point : Savepoint m settings) (geometry : Geometry)
     (generation : ℕ) (process : ProcessValue) (placed : geometry ≡ places point)
     (numbered : generation ≡ point.generation) (restored : IsRestoredAt point process) where
-  pub found_at : (records : Vec Record Global) (are : List Record) → records.items ≡ are
-      → IsProcess process
+  pub found_at : (bytes : List ℕ) (records : Vec Record Global) (are : List Record)
+      → records.items ≡ are → IsProcess process
       → IsFoundAt point.wasm point are (record {
         geometry = geometry;
         generation = generation;
+        process_image = bytes;
         process = process;
         records = records;
       })
-  found_at records are is some = record {
+  found_at bytes records are is some = record {
     spelled = refl;
     geometry = placed;
     generation = numbered;
@@ -139,21 +177,21 @@ module _ {m : Module} {settings : Settings} (point : Savepoint m settings) (geom
 
 -- the saved process has its numbers, since the last one has
 pub saved_numbers : {m : Module} {config : Settings} (point : Savepoint m config)
-    (records : List Record) (last : ProcessState) (disk : Image)
-    → StandsAtPoint point records last disk → IsNumbered point.process
+    (records : List Record) (last : ProcessState) (disk : DiskImage)
+    → IsAtSavepoint point records last disk → IsNumbered point.process
 saved_numbers point records last disk at =
     records_keep_numbers point.reached.guest point.process last records at.recorded at.numbers
 
 -- ---- marks
 
--- contents were read, and no step behind them said that there is no worker
-pub marks_there : (disk : Image) (contents : Contents) (r : Result Found RecoverFault)
+-- contents were read, and no step after them said that there is no worker
+pub marks_there : (disk : DiskImage) (contents : Contents) (r : Result Found RecoverFault)
     → TellsMarks disk (Ok contents) → (SaysNoWorker r → ⊥) → MarksDecide disk r
 marks_there disk contents r tells own =
     record { only = λ says. absurd (own says); always = λ blank. absurd (tells.always blank) }
 
 -- they weren't
-pub marks_unread : (disk : Image) (fault : ReadFault) (e : RecoverFault)
+pub marks_unread : (disk : DiskImage) (fault : ReadFault) (e : RecoverFault)
     → e ≡ fault_of_read fault → TellsMarks disk (Err fault)
     → MarksDecide disk (unfound Found e)
 marks_unread disk fault e is tells =

@@ -7,18 +7,18 @@ use Rattle.wasm_semantics.specs.Acceptance.{IsAccepted}
 use Rattle.wasi_abi.specs.rules.Configs.{Settings}
 use Rattle.machine.specs.rules.Offers.{offer}
 use Rattle.machine.specs.rules.Values.{MachineValue}
-use Rattle.machine_loader.specs.declared.fault.FrontFault.{FrontFault}
-use Rattle.machine_loader.specs.rules.Acceptance.{Accepts, FrontDenies, HasNoAcceptedModule}
-use Rattle.machine_loader.specs.rules.Acceptance.{IsTold}
+use Rattle.machine_loader.specs.declared.fault.ModuleFault.{ModuleFault}
+use Rattle.machine_loader.specs.rules.Acceptance.{Accepts, ModuleFaultDenies, HasNoAcceptedModule}
+use Rattle.machine_loader.specs.rules.Acceptance.{IsReported}
 use Rattle.process.specs.rules.Values.{ProcessValue}
 use Rattle.state_image.specs.declared.restoring.fault.RestoreFault.{RestoreFault}
 use Rattle.state_image.specs.declared.restoring.fault.RestoreFault.TheVariants as restore
-use Rattle.state_image.specs.rules.Image.{Saved, IsMarkedOtherwise, image}
+use Rattle.state_image.specs.rules.ProcessImage.{Saved, IsMarkedOtherwise, process_image}
 use Rattle.state_image.proofs.Marks.{marked_as}
 use Rattle.state_image.specs.rules.Restored.{IsRestored}
 use Rattle.state_image.specs.rules.Saving.{saved_of}
 use Rattle.state_image.specs.rules.WellTyped.{IsWellTyped}
-use Rattle.sector_disk.specs.rules.Image.{Image}
+use Rattle.sector_disk.specs.rules.DiskImage.{DiskImage}
 use Rattle.disk_layout.specs.declared.fault.LayoutFault.TheVariants as layout
 use Rattle.disk_layout.specs.declared.geometry.Geometry.{Geometry}
 use Rattle.disk_layout.specs.declared.reading.contents.Contents.{Contents}
@@ -30,17 +30,17 @@ use Rattle.snapshot.specs.declared.fault.SnapshotFault.TheVariants as snapshot
 use Rattle.worker_store.specs.declared.read_fault.ReadFault.{ReadFault}
 use Rattle.worker_store.specs.declared.read_fault.ReadFault.TheVariants as read
 use Rattle.worker_store.specs.rules.AnyDisk.{TellsContents, TellsNewest, TellsRecords}
-use Rattle.worker_store.specs.rules.AnyDisk.{NamesImage}
+use Rattle.worker_store.specs.rules.AnyDisk.{NamesProcessImage}
 use Rattle.worker.specs.declared.recover_fault.RecoverFault.{RecoverFault}
 use Rattle.worker.specs.declared.recover_fault.RecoverFault.TheVariants as recover
 use Rattle.worker.specs.rules.RecoverFaults.{fault_of_read}
-use Rattle.worker.specs.rules.ShownDisks.{HoldsModule, HoldsNamedImage, ShowsFault}
+use Rattle.worker.specs.rules.ShownDisks.{HoldsModule, HoldsNamedProcessImage, ShowsFault}
 use Rattle.worker.specs.FoundDisks.{IsMachineIn, IsRestoredIn, IsFoundIn}
 use Rattle.worker.proofs.RestoringLemmas.{unrestored}
 
 -- ---- configuration and module
 
-module _ (sectors : ℕ) (disk : Image) where
+module _ (sectors : ℕ) (disk : DiskImage) where
   unread : (fault : ReadFault) → TellsContents sectors disk (Err fault)
       → ShowsFault sectors disk (fault_of_read fault)
   unread (read.Layout layout.NotAWorker) tells = tells
@@ -60,22 +60,22 @@ module _ (sectors : ℕ) (disk : Image) where
       subst (λ (f : RecoverFault). ShowsFault sectors disk f) (sym is) (unread fault tells)
 
 -- they were
-module _ (sectors : ℕ) (disk : Image) (contents : Contents)
+module _ (sectors : ℕ) (disk : DiskImage) (contents : Contents)
     (whole : GivesContents sectors disk (Ok contents)) (pages : ℕ) (wasm : List ℕ) where
   -- the module isn't accepted
   pub module_refused : pages ≡ contents.config.pages → wasm ≡ contents.wasm
-      → (fault : FrontFault) (e : RecoverFault) → e ≡ recover.Front fault
-      → IsTold pages wasm fault → FrontDenies fault (HasNoAcceptedModule pages wasm)
+      → (fault : ModuleFault) (e : RecoverFault) → e ≡ recover.Module fault
+      → IsReported pages wasm fault → ModuleFaultDenies fault (HasNoAcceptedModule pages wasm)
       → ShowsFault sectors disk e
   module_refused same_pages same_wasm fault e is told denies =
       subst (λ (f : RecoverFault). ShowsFault sectors disk f) (sym is)
       (record {
         contents = contents;
         whole = whole;
-        told = subst (λ n. IsTold n contents.wasm fault) same_pages
-            (subst (λ (w : List ℕ). IsTold pages w fault) same_wasm told);
-        none = subst (λ n. FrontDenies fault (HasNoAcceptedModule n contents.wasm)) same_pages
-            (subst (λ (w : List ℕ). FrontDenies fault (HasNoAcceptedModule pages w)) same_wasm
+        told = subst (λ n. IsReported n contents.wasm fault) same_pages
+            (subst (λ (w : List ℕ). IsReported pages w fault) same_wasm told);
+        none = subst (λ n. ModuleFaultDenies fault (HasNoAcceptedModule n contents.wasm)) same_pages
+            (subst (λ (w : List ℕ). ModuleFaultDenies fault (HasNoAcceptedModule pages w)) same_wasm
             denies);
       })
 
@@ -101,7 +101,7 @@ module _ (sectors : ℕ) (disk : Image) (contents : Contents)
 
 -- ---- the newest head, and its image
 
-module _ (sectors : ℕ) (disk : Image) (holds : HoldsModule sectors disk) (geometry : Geometry)
+module _ (sectors : ℕ) (disk : DiskImage) (holds : HoldsModule sectors disk) (geometry : Geometry)
     (placed : geometry ≡ holds.contents.geometry) where
   no_newest : (fault : ReadFault)
       → TellsNewest holds.contents.geometry disk (Err fault)
@@ -120,17 +120,17 @@ module _ (sectors : ℕ) (disk : Image) (holds : HoldsModule sectors disk) (geom
       (no_newest fault
       (subst (λ (p : Geometry). TellsNewest p disk (Err fault)) placed tells))
 
-module _ (sectors : ℕ) (disk : Image) (holds : HoldsModule sectors disk) (geometry : Geometry)
+module _ (sectors : ℕ) (disk : DiskImage) (holds : HoldsModule sectors disk) (geometry : Geometry)
     (config : Settings) (machine : MachineValue)
     (is_machine : IsMachineIn holds geometry config machine) (generation : ℕ) (version : Version)
-    (bytes : List ℕ) (newest : NamesImage geometry disk generation version bytes)
+    (bytes : List ℕ) (newest : NamesProcessImage geometry disk generation version bytes)
     (marked : IsMarkedOtherwise version bytes → ⊥) (read : List ℕ) (same : read ≡ bytes) where
-  named : NamesImage holds.contents.geometry disk generation version bytes
-  named = subst (λ (p : Geometry). NamesImage p disk generation version bytes)
+  named : NamesProcessImage holds.contents.geometry disk generation version bytes
+  named = subst (λ (p : Geometry). NamesProcessImage p disk generation version bytes)
       is_machine.placed newest
 
-  abbrev named_image : HoldsNamedImage sectors disk
-  named_image = record {
+  abbrev named_process_image : HoldsNamedProcessImage sectors disk
+  named_process_image = record {
     holds = holds;
     generation = generation;
     version = version;
@@ -140,7 +140,8 @@ module _ (sectors : ℕ) (disk : Image) (holds : HoldsModule sectors disk) (geom
   }
 
   -- the process that was made of it is of its version
-  its_version : (v : ProcessValue) → bytes ≡ image (saved_of v) → (saved_of v).version ≡ version
+  its_version : (v : ProcessValue) → bytes ≡ process_image (saved_of v)
+      → (saved_of v).version ≡ version
   its_version v is =
       marked_as version (saved_of v)
       (λ other. marked (subst (λ (b : List ℕ). IsMarkedOtherwise version b) (sym is) other))
@@ -151,7 +152,7 @@ module _ (sectors : ℕ) (disk : Image) (holds : HoldsModule sectors disk) (geom
   restored_in v restored = record {
     placed = is_machine.placed;
     bytes = bytes;
-    newest = subst (λ w. NamesImage holds.contents.geometry disk generation w bytes)
+    newest = subst (λ w. NamesProcessImage holds.contents.geometry disk generation w bytes)
         (sym (its_version v (sym same ∙ restored.is))) named;
     restored = subst (λ (z : Module). IsRestored z holds.contents.config bytes v)
         is_machine.linked
@@ -161,20 +162,20 @@ module _ (sectors : ℕ) (disk : Image) (holds : HoldsModule sectors disk) (geom
 
   no_process : (fault : RestoreFault)
       → (unrestored fault ≡ Err restore.NotAnImage → (s : Saved)
-      → IsWellTyped holds.module_is holds.contents.config s → bytes ≢ image s)
-      → ShowsFault sectors disk (recover.Image fault)
-  unfolding named_image
-  no_process restore.NotAnImage other = record { named = named_image; other = other refl }
-  no_process restore.Memory other = named_image
+      → IsWellTyped holds.module_is holds.contents.config s → bytes ≢ process_image s)
+      → ShowsFault sectors disk (recover.ProcessImage fault)
+  unfolding named_process_image
+  no_process restore.NotAnImage other = record { named = named_process_image; other = other refl }
+  no_process restore.Memory other = named_process_image
 
-  pub process_unmade : (fault : RestoreFault) (e : RecoverFault) → e ≡ recover.Image fault
+  pub process_unmade : (fault : RestoreFault) (e : RecoverFault) → e ≡ recover.ProcessImage fault
       → (unrestored fault ≡ Err restore.NotAnImage → (s : Saved)
-      → IsWellTyped machine.guest config s → read ≢ image s)
+      → IsWellTyped machine.guest config s → read ≢ process_image s)
       → ShowsFault sectors disk e
   process_unmade fault e is refused =
       subst (λ (f : RecoverFault). ShowsFault sectors disk f) (sym is)
       (no_process fault
-      (λ no s typed. subst (λ (b : List ℕ). b ≢ image s) same
+      (λ no s typed. subst (λ (b : List ℕ). b ≢ process_image s) same
       (refused no s
       (subst (λ (z : Module). IsWellTyped z config s) (sym is_machine.linked)
       (subst (λ (c : Settings). IsWellTyped holds.module_is c s) (sym is_machine.configured)
@@ -182,7 +183,7 @@ module _ (sectors : ℕ) (disk : Image) (holds : HoldsModule sectors disk) (geom
 
 -- ---- the records
 
-module _ (sectors : ℕ) (disk : Image) (holds : HoldsModule sectors disk) (geometry : Geometry)
+module _ (sectors : ℕ) (disk : DiskImage) (holds : HoldsModule sectors disk) (geometry : Geometry)
     (generation : ℕ) (process : ProcessValue)
     (restored : IsRestoredIn holds geometry generation process) where
   abbrev version : Version
@@ -197,7 +198,7 @@ module _ (sectors : ℕ) (disk : Image) (holds : HoldsModule sectors disk) (geom
         generation = generation;
         saved = saved_of process;
         well_typed = again.well_typed;
-        newest = subst (λ (b : List ℕ). NamesImage holds.contents.geometry disk generation
+        newest = subst (λ (b : List ℕ). NamesProcessImage holds.contents.geometry disk generation
             version b) again.is restored.newest;
       }
   no_records (read.Disk fault) tells = tt
@@ -208,15 +209,16 @@ module _ (sectors : ℕ) (disk : Image) (holds : HoldsModule sectors disk) (geom
   records_unread fault e is tells =
       subst (λ (f : RecoverFault). ShowsFault sectors disk f) (sym is) (no_records fault tells)
 
-  pub all_found : (records : Vec Record Global)
+  pub all_found : (bytes : List ℕ) (records : Vec Record Global)
       → TellsRecords geometry version generation disk (Ok records)
       → IsFoundIn sectors disk (record {
         geometry = geometry;
         generation = generation;
+        process_image = bytes;
         process = process;
         records = records;
       })
-  all_found records tells = record {
+  all_found bytes records tells = record {
     holds = holds;
     process = restored;
     scanned = sym (subst (λ (p : Geometry). records.items

@@ -11,11 +11,11 @@ use Rattle.wasm_semantics.specs.Acceptance.{IsAccepted}
 use Rattle.wasi_abi.specs.declared.answer.Answer.{Answer}
 use Rattle.wasi_abi.specs.rules.Configs.{Settings}
 use Rattle.machine.specs.rules.Offers.{offer}
-use Rattle.state_image.specs.rules.Image.{Saved}
+use Rattle.state_image.specs.rules.ProcessImage.{Saved}
 use Rattle.sector_disk.specs.declared.fault_disk.FaultDisk.{FaultDisk}
 use Rattle.sector_disk.specs.declared.memory.MemDisk.{MemDisk}
 use Rattle.sector_disk.specs.declared.sector.TheConstants.{SECTOR_SIZE}
-use Rattle.sector_disk.specs.rules.Image.{Image}
+use Rattle.sector_disk.specs.rules.DiskImage.{DiskImage}
 use Rattle.sector_disk.specs.rules.Pending.{Leaves}
 use Rattle.sector_disk.specs.rules.FaultDisk.{call_counts_of}
 use Rattle.sector_disk.specs.rules.Memory.{memory_medium, MemoryState}
@@ -36,7 +36,7 @@ use Rattle.restart_theorem.proofs.NextLives.{next_life_is_within}
 use Rattle.worker.specs.declared.recover_fault.RecoverFault.{RecoverFault}
 use Rattle.worker.specs.laws.OneLife.{CameTrue, IsLifeOver, IsLifeOf, IsLater, opened_in}
 use Rattle.worker.specs.laws.OneLife.{shown_first, CallsMakeLives, released_in}
-use Rattle.worker.specs.laws.OneLife.{left_undone}
+use Rattle.worker.specs.laws.OneLife.{undone_acts}
 use Rattle.worker.specs.declared.story.LivedOn.{LivedOn}
 use Rattle.worker.specs.declared.story.fault.StoryFault.{StoryFault}
 use Rattle.worker.specs.declared.story.hearing.HeardLines.{HeardLines}
@@ -61,7 +61,7 @@ use Rattle.worker.specs.rules.Told.{BeginFewCalls}
 use Rattle.worker.specs.rules.Told.{told_line}
 use Rattle.worker.specs.LifeCalls.{LivesOnce, LeavesSome}
 use Rattle.worker.specs.Endings.{EndsLife}
-use Rattle.worker.specs.Going.{HasAllRoom, IsKeptOn, IsToldOn, LivesOn}
+use Rattle.worker.specs.Going.{HasAllRoom, IsKeptOn, IsReportedOn, LivesOn}
 use Rattle.worker.specs.Going.{promised_by_all}
 use Rattle.worker.specs.Going.{GoneOn}
 use Rattle.worker.specs.Hearing.{hands_out, hears}
@@ -90,19 +90,19 @@ zeros_are_blank zero marks = none_unmarked marks
 zeros_are_blank (suc n) marks = zeros_unmarked marks
 
 empty_is_blank : (sectors writes : ℕ) (disk : MemDisk) → IsEmptyDisk sectors writes disk
-    → (image : Image) → (memory_medium disk).may_leave image → IsBlank image
+    → (image : DiskImage) → (memory_medium disk).crash_images image → IsBlank image
 empty_is_blank sectors writes disk empty image leaves =
-    let left : Leaves [] (replicate sectors (replicate SECTOR_SIZE 0)) image =
-    subst (λ (s : MemoryState). Leaves s.pending s.settled image) empty leaves in
-    subst (λ (i : Image). IsBlank i) (sym left) (zeros_are_blank sectors)
+    let crashed : Leaves [] (replicate sectors (replicate SECTOR_SIZE 0)) image =
+    subst (λ (s : MemoryState). Leaves s.pending s.durable image) empty leaves in
+    subst (λ (i : DiskImage). IsBlank i) (sym crashed) (zeros_are_blank sectors)
 
 empty_has_room : (bytes : List ℕ) (config : Settings) (disk : MemDisk)
     → IsEmptyDiskFor bytes config disk
     → HasAllRoom bytes config (memory_medium disk)
 empty_has_room bytes config disk empty =
     let total : ℕ = total_sectors (geometry_of config (length bytes)) in
-    let sectors : length disk.settled.items ≡ total =
-    ap (λ (s : MemoryState). length s.settled) empty
+    let sectors : length disk.durable.items ≡ total =
+    ap (λ (s : MemoryState). length s.durable) empty
     ∙ length-replicate total (replicate SECTOR_SIZE 0) in
     let most : ℕ = most_unsynced (geometry_of config (length bytes)) in
     let limit : disk.limit ≡ most = ap (λ (s : MemoryState). s.limit) empty in
@@ -237,7 +237,7 @@ all_are_told bytes config all i reports disk whole so_far m accepted =
 -- ---- one life
 
 -- a life has begun few calls where its disk counts few more than none
-few_of_all : (times : ℕ) (first last : CallCounts) (calls : ℕ) (sectors : Image)
+few_of_all : (times : ℕ) (first last : CallCounts) (calls : ℕ) (sectors : DiskImage)
     → first ≡ record { reads = 0; writes = 0; syncs = 0 } → calls ≡ call_number last
     → call_number last ≤ call_number first + times * most_calls (length sectors)
     → calls ≤ times * most_calls (length sectors)
@@ -249,7 +249,7 @@ few_of_all times first last calls sectors none_begun counted few =
     below a b c n nothing same few = omega (arith, nothing, same, few)
 
 over_by : (inputs : Inputs) (calls : ℕ) (ended : Result (Unit {0}) RecoverFault)
-    → IsLifeOver inputs calls (left_undone ended)
+    → IsLifeOver inputs calls (undone_acts ended)
 over_by inputs calls (Ok done) = tt
 over_by inputs calls (Err why) = tt
 
@@ -264,27 +264,27 @@ opening_told begins begins' shown shown' first second b s o told =
 module _ (bytes : List ℕ) (config : Settings) (planned : PlannedLife) (found next : MemDisk)
     (report : LifeReport) (first last : FaultDisk MemDisk)
     (heard heard' : RefusingOutlet HeardLines)
-    (left : List Answer) (lived : LivedOnce) (below : first.inner ≡ found)
+    (answers_left : List Answer) (lived : LivedOnce) (below : first.inner ≡ found)
     (stop : first.stop ≡ planned.stop) (fail : first.fail ≡ planned.fail)
     (begun : call_counts_of first ≡ record { reads = 0; writes = 0; syncs = 0 })
     (unheard : (inner_outlet heard).lines ≡ [])
     (refuses : until_fault heard ≡ number_refused planned.refuse)
     (once : LivesOnce story_medium hands_out hears bytes config (map act_of planned.acts) lived
-    first planned.answers heard last left heard')
+    first planned.answers heard last answers_left heard')
     (ends : EndsLife lived last (inner_outlet heard') planned report next) (m : Module)
     (so_far : Promise) where
   calls_of : ℕ
   calls_of = call_number (call_counts_of last)
 
   met : (exchanges : List Exchange)
-      → Exchanges hands_out hears planned.answers heard exchanges left heard'
+      → Exchanges hands_out hears planned.answers heard exchanges answers_left heard'
       → HasAllRoom bytes config (story_medium first)
-      → CameTrue bytes config (inputs_of planned) exchanges (left_undone lived.ended) calls_of
+      → CameTrue bytes config (inputs_of planned) exchanges (undone_acts lived.ended) calls_of
       (story_medium first) (story_medium last)
   unfolding calls_of
   met exchanges are room = record {
     foretold = subst (λ (n : ℕ). Foretell (map said_of planned.answers) (takes_but n) exchanges)
-        refuses (said_so exchanges planned.answers left heard heard' are.asked are.released
+        refuses (said_so exchanges planned.answers answers_left heard heard' are.asked are.released
         ends.unrefused);
     sectors = (let all = room.sectors in omega (arith, all));
     room = room.writes;
@@ -295,17 +295,17 @@ module _ (bytes : List ℕ) (config : Settings) (planned : PlannedLife) (found n
 
   -- what the law says of it
   told_so : (exchanges : List Exchange)
-      → Exchanges hands_out hears planned.answers heard exchanges left heard'
+      → Exchanges hands_out hears planned.answers heard exchanges answers_left heard'
       → HasAllRoom bytes config (story_medium first)
       → KeepsPromise m config so_far (story_medium first)
       → KeepsBounds so_far.events (story_medium first) → (life : Life)
-      → IsLifeOf (inputs_of planned) once.begins exchanges once.worker (left_undone lived.ended)
+      → IsLifeOf (inputs_of planned) once.begins exchanges once.worker (undone_acts lived.ended)
       calls_of life
       → IsLivedOn m config so_far (inputs_of planned) life (story_medium first)
       (story_medium last)
       → IsLater (story_medium first) (story_medium last)
       → CallsForEvents (length life.events + 1) (story_medium first) (story_medium last)
-      → IsToldOn m bytes config planned so_far report next
+      → IsReportedOn m bytes config planned so_far report next
   unfolding calls_of
   told_so exchanges are room keeps within life is lives later few =
       let all = lives keeps within in
@@ -332,7 +332,7 @@ module _ (bytes : List ℕ) (config : Settings) (planned : PlannedLife) (found n
         few = subst (λ (n : ℕ). life.calls ≤ (length life.events + 1) * most_calls n)
             (sym room.sectors)
             (few_of_all (length life.events + 1) (call_counts_of first) (call_counts_of last)
-            life.calls (first.inner.settled.items) begun is.counted few);
+            life.calls (first.inner.durable.items) begun is.counted few);
         kept = record {
           keeps = next_life_finds_it memory_medium m config promise life.ends last.inner next all.1
               finds;
@@ -349,55 +349,58 @@ module _ (bytes : List ℕ) (config : Settings) (planned : PlannedLife) (found n
 
   told_on : CallsMakeLives story_medium hands_out hears
       → IsAccepted offer config.pages bytes m → IsKeptOn m bytes config so_far first.inner
-      → IsToldOn m bytes config planned so_far report next
+      → IsReportedOn m bytes config planned so_far report next
   told_on law accepted kept =
       let room : HasAllRoom bytes config (story_medium first) =
       record { sectors = kept.room.sectors; writes = kept.room.writes } in
       let made = law m config bytes so_far
-      (map act_of planned.acts) first last planned.answers left heard heard' once.begins once.worker
-      (left_undone lived.ended) accepted once.calls kept.keeps kept.within in
+      (map act_of planned.acts) first last planned.answers answers_left heard heard'
+      once.begins once.worker (undone_acts lived.ended) accepted once.calls kept.keeps
+      kept.within in
       let life = made.2 (inputs_of planned) calls_of refl (met made.0 made.1 room) in
       told_so made.0 made.1 room kept.keeps kept.within life.0 life.1 life.2 life.3 life.4
 
 -- one life is told, whatever was promised before it
 one_life_is_told : (bytes : List ℕ) (config : Settings) (planned : PlannedLife)
     (found next : MemDisk) (report : LifeReport) (first last : FaultDisk MemDisk)
-    (heard heard' : RefusingOutlet HeardLines) (left : List Answer) (lived : LivedOnce)
+    (heard heard' : RefusingOutlet HeardLines) (answers_left : List Answer) (lived : LivedOnce)
     → first.inner ≡ found → first.stop ≡ planned.stop → first.fail ≡ planned.fail
     → call_counts_of first ≡ record { reads = 0; writes = 0; syncs = 0 }
     → (inner_outlet heard).lines ≡ [] → until_fault heard ≡ number_refused planned.refuse
     → LivesOnce story_medium hands_out hears bytes config (map act_of planned.acts) lived
-    first planned.answers heard last left heard'
+    first planned.answers heard last answers_left heard'
     → EndsLife lived last (inner_outlet heard') planned report next
     → CallsMakeLives story_medium hands_out hears
     → LivesOn bytes config planned found report next
-one_life_is_told bytes config planned found next report first last heard heard' left lived below
-    stop fail begun unheard refuses once ends law m so_far accepted kept =
-    told_on bytes config planned found next report first last heard heard' left lived below stop
-    fail begun unheard refuses once ends m so_far law accepted
+one_life_is_told bytes config planned found next report first last heard heard'
+    answers_left lived below stop fail begun unheard refuses once ends law m so_far accepted kept =
+    told_on bytes config planned found next report first last heard heard' answers_left
+    lived below stop fail begun unheard refuses once ends m so_far law accepted
     (subst (λ (d : MemDisk). IsKeptOn m bytes config so_far d) (sym below) kept)
 
 pub ended_lives_are_told : (bytes : List ℕ) (config : Settings) (planned : PlannedLife)
     (found : MemDisk) (first last : FaultDisk MemDisk)
     (heard heard' : RefusingOutlet HeardLines)
-    (left answers : List Answer) (acts : List PlannedAct) (lived : LivedOnce)
+    (answers_left answers : List Answer) (acts : List PlannedAct) (lived : LivedOnce)
     (result : Result LivedOn StoryFault) → first.inner ≡ found → first.stop ≡ planned.stop
     → first.fail ≡ planned.fail → call_counts_of first ≡ record { reads = 0; writes = 0; syncs = 0 }
     → (inner_outlet heard).lines ≡ [] → until_fault heard ≡ number_refused planned.refuse
     → answers ≡ planned.answers → acts ≡ planned.acts
     → (LeavesSome story_medium → LivesOnce story_medium hands_out hears bytes config
-    (map act_of acts) lived first answers heard last left heard')
+    (map act_of acts) lived first answers heard last answers_left heard')
     → IfOk result (λ on. EndsLife lived last (inner_outlet heard') planned on.report on.disk)
     → CallsMakeLives story_medium hands_out hears
     → IfOk result (λ on. LivesOn bytes config planned found on.report on.disk)
-ended_lives_are_told bytes config planned found first last heard heard' left answers acts lived
-    (Ok on) below stop fail begun unheard refuses answers_are acts_are once ends law =
-    one_life_is_told bytes config planned found on.disk on.report first last heard heard' left
+ended_lives_are_told bytes config planned found first last heard heard' answers_left
+    answers acts lived (Ok on) below stop fail begun unheard refuses answers_are acts_are
+    once ends law = one_life_is_told bytes config planned found on.disk on.report first last heard
+    heard' answers_left
     lived below stop fail begun unheard refuses
     (subst (λ (a : List Answer). LivesOnce story_medium hands_out hears bytes config
-    (map act_of planned.acts) lived first a heard last left heard') answers_are
+    (map act_of planned.acts) lived first a heard last answers_left heard') answers_are
     (subst (λ (a : List PlannedAct). LivesOnce story_medium hands_out hears bytes config
-    (map act_of a) lived first answers heard last left heard') acts_are
+    (map act_of a) lived first answers heard last answers_left heard') acts_are
     (once stopping_leaves_some))) ends law
-ended_lives_are_told bytes config planned found first last heard heard' left answers acts lived
-    (Err why) below stop fail begun unheard refuses answers_are acts_are once ends law = tt
+ended_lives_are_told bytes config planned found first last heard heard' answers_left
+    answers acts lived (Err why) below stop fail begun unheard refuses answers_are acts_are
+    once ends law = tt

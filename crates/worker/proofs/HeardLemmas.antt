@@ -77,13 +77,13 @@ takes_rest (suc (suc n)) k is =
     let e : suc n ≡ k = omega (arith, is) in ap takes_but e
 
 -- the answers were said in their order, and each line was taken but the one
-pub said_so : (exchanges : List Exchange) (answers left : List Answer)
+pub said_so : (exchanges : List Exchange) (answers answers_left : List Answer)
     (old new : RefusingOutlet HeardLines)
-    → AnswersInOrder hands_out answers (asks_of exchanges) left
+    → AnswersInOrder hands_out answers (asks_of exchanges) answers_left
     → Releases hears old (releases_of exchanges) new → (inner_outlet new).has_refused ≡ false
     → Foretell (map said_of answers) (takes_but (until_fault old)) exchanges
-said_so [] answers left old new asked released none = tt
-said_so (Tells begun ∷ exchanges) answers left old new asked released none =
+said_so [] answers answers_left old new asked released none = tt
+said_so (Tells begun ∷ exchanges) answers answers_left old new asked released none =
     let refuses = released.1 in
     let took = refuses.took in
     let inside : was_taken refuses.said_inside ≡ true =
@@ -93,18 +93,18 @@ said_so (Tells begun ∷ exchanges) answers left old new asked released none =
       takes_first (until_fault old) begun.said refuses.said_inside refuses.said_is inside,
       subst (λ (t : List Bool). Foretell (map said_of answers) t exchanges)
           (sym (takes_rest (until_fault old) (until_fault released.0) refuses.counted))
-          (said_so exchanges answers left released.0 new asked released.2 none),
+          (said_so exchanges answers answers_left released.0 new asked released.2 none),
     )
-said_so (Asks ask ∷ exchanges) [] left old new asked released none = (
+said_so (Asks ask ∷ exchanges) [] answers_left old new asked released none = (
   asked.1.0,
-  said_so exchanges [] left old new
-      (subst (λ (a : List Answer). AnswersInOrder hands_out a (asks_of exchanges) left) asked.1.1
-      asked.2) released none,
+  said_so exchanges [] answers_left old new
+      (subst (λ (a : List Answer). AnswersInOrder hands_out a (asks_of exchanges)
+      answers_left) asked.1.1 asked.2) released none,
 )
-said_so (Asks ask ∷ exchanges) (a ∷ answers) left old new asked released none = (
+said_so (Asks ask ∷ exchanges) (a ∷ answers) answers_left old new asked released none = (
   asked.1.0,
-  said_so exchanges answers left old new
-      (subst (λ (as' : List Answer). AnswersInOrder hands_out as' (asks_of exchanges) left)
+  said_so exchanges answers answers_left old new
+      (subst (λ (as' : List Answer). AnswersInOrder hands_out as' (asks_of exchanges) answers_left)
       asked.1.1 asked.2) released none,
 )
 

@@ -1,20 +1,20 @@
 -- What a look into a disk tells, by what was found there.
 use Rattle.std.proofs.Common.{◌≡◌, inl, inr, ℕ, ◌*◌, ◌<◌, ◌≤◌, refl, sym, ap, subst, arith, ◌∙◌}
 use Rattle.std.specs.Prelude.{List, Option, Result, Ok, Err, IfErr}
-use Rattle.wasi_abi.specs.declared.answer.Kind.{Kind}
+use Rattle.wasi_abi.specs.declared.answer.Question.{Question}
 use Rattle.sector_disk.specs.declared.fault.DiskFault.{DiskFault}
-use Rattle.sector_disk.specs.rules.Image.{Image}
+use Rattle.sector_disk.specs.rules.DiskImage.{DiskImage}
 use Rattle.sector_disk.specs.rules.Medium.{CallsUpTo, Medium, SyncsMedium}
 use Rattle.sector_disk.proofs.CountLemmas.{counts_then, unsynced_within}
-use Rattle.sector_disk.proofs.Moments.{leaves_weaker, settled_stays, stays_leaves_only}
-use Rattle.sector_disk.proofs.Moments.{stays_left, stays_on}
+use Rattle.sector_disk.proofs.Moments.{leaves_weaker, synced_stays, stays_leaves_only}
+use Rattle.sector_disk.proofs.Moments.{stays_crashed, stays_on}
 use Rattle.disk_layout.specs.declared.fault.LayoutFault.{LayoutFault}
 use Rattle.disk_layout.specs.declared.geometry.Geometry.{Geometry}
 use Rattle.disk_layout.specs.declared.reading.contents.Contents.{Contents}
 use Rattle.disk_layout.specs.rules.Held.{GivesContents}
 use Rattle.disk_layout.specs.rules.Stored.{OnlyReads}
 use Rattle.disk_layout.proofs.ReadingLemmas.HeldLemmas.{one_answer}
-use Rattle.state_image.specs.rules.Image.{IsMarkedOtherwise, image}
+use Rattle.state_image.specs.rules.ProcessImage.{IsMarkedOtherwise, process_image}
 use Rattle.state_image.proofs.Marks.{own_mark}
 use Rattle.state_image.specs.rules.Saving.{saved_of}
 use Rattle.worker.specs.declared.fault.WorkFault.TheVariants.{Disk, Store, Upgrade, Work}
@@ -26,7 +26,7 @@ use Rattle.worker.specs.declared.recover_fault.RecoverFault.TheVariants as recov
 use Rattle.worker.specs.rules.Inspections.{Inspects, InspectsDisk, IsInspected, IsOnlyRead}
 use Rattle.worker.specs.rules.Inspections.{sectors_left}
 use Rattle.worker.specs.rules.ShownDisks.{ShowsFault}
-use Rattle.worker.specs.rules.Wishes.{TellsWish}
+use Rattle.worker.specs.rules.Questions.{TellsQuestion}
 use Rattle.worker.specs.Findings.{HasSearchCause}
 use Rattle.worker.specs.FoundDisks.{IsFoundIn}
 use Rattle.worker.specs.Inspecting.{AreMeasuresOf, MeasuresFound, TellsFound, inspection_of}
@@ -36,7 +36,7 @@ use Rattle.worker.proofs.RecoveryLemmas.There.{leaves_join}
 
 -- ---- what was found
 
-module _ (sectors : ℕ) (disk : Image) (contents : Contents) (found : Found)
+module _ (sectors : ℕ) (disk : DiskImage) (contents : Contents) (found : Found)
     (gives : GivesContents sectors disk (Ok contents)) (at : IsFoundIn sectors disk found) where
   -- there is one configuration and one module
   same_contents : contents ≡ at.holds.contents
@@ -48,19 +48,19 @@ module _ (sectors : ℕ) (disk : Image) (contents : Contents) (found : Found)
       same_ok : (a b : Contents) → (let x : Result Contents LayoutFault = Ok a in x) ≡ Ok b → a ≡ b
       same_ok a b e = cc
 
-  is_inspected : (wish : Option Kind) (measures : Measures) → TellsWish found.process wish
-      → AreMeasuresOf disk found measures
-      → IsInspected (held_in sectors disk found at) (inspection_of contents found wish measures)
-  is_inspected wish measures tells are =
+  is_inspected : (question : Option Question) (measures : Measures)
+      → TellsQuestion found.process question → AreMeasuresOf disk found measures
+      → IsInspected (held_in sectors disk found at) (inspection_of contents found question measures)
+  is_inspected question measures tells are =
       let restored = at.process.restored in
       record {
         contents = same_contents;
         generation = refl;
-        image_bytes = are.image_bytes;
+        process_image_bytes = are.process_image_bytes;
         module_is = restored.guest;
         saved = refl;
         none_waits = restored.none_waits;
-        wish = tells;
+        question = tells;
         records = refl;
         journal_left = are.journal_left
             ∙ ap (λ (g : Geometry). sectors_left g disk found.generation) at.process.placed;
@@ -90,10 +90,10 @@ module _ (sectors : ℕ) (disk : Image) (contents : Contents) (found : Found)
   pub found_is_told : (measured : Result Measures RecoverFault)
       (result : Result Inspection RecoverFault) → MeasuresFound disk found measured
       → TellsFound contents found measured result → InspectsDisk sectors disk result
-  found_is_told (Ok measures) result are (wish, tells, is) =
+  found_is_told (Ok measures) result are (question, tells, is) =
       subst (λ (r : Result Inspection RecoverFault). InspectsDisk sectors disk r) (sym is)
-      (held_in sectors disk found at, is_inspected wish measures tells are)
-  found_is_told (Err why) result faults (wish, tells, is) =
+      (held_in sectors disk found at, is_inspected question measures tells are)
+  found_is_told (Err why) result faults (question, tells, is) =
       subst (λ (r : Result Inspection RecoverFault). InspectsDisk sectors disk r) (sym is)
       (unmeasured why faults)
 
@@ -101,9 +101,9 @@ module _ (sectors : ℕ) (disk : Image) (contents : Contents) (found : Found)
 pub measuring_cause : (P : RecoverFault → Type 0) (contents : Contents) (found : Found)
     (measured : Result Measures RecoverFault) (result : Result Inspection RecoverFault)
     → IfErr measured P → TellsFound contents found measured result → IfErr result P
-measuring_cause P contents found (Ok measures) result cause (wish, tells, is) =
+measuring_cause P contents found (Ok measures) result cause (question, tells, is) =
     subst (λ (r : Result Inspection RecoverFault). IfErr r P) (sym is) tt
-measuring_cause P contents found (Err why) result cause (wish, tells, is) =
+measuring_cause P contents found (Err why) result cause (question, tells, is) =
     subst (λ (r : Result Inspection RecoverFault). IfErr r P) (sym is) cause
 
 -- a cause since a later moment is one since an earlier one
@@ -115,9 +115,9 @@ cause_since old mid new (recover.Worker (Work fault)) later cause = cause
 cause_since old mid new (recover.Worker (Store fault)) later cause = cause
 cause_since old mid new (recover.Worker (Upgrade fault)) later cause = cause
 cause_since old mid new (recover.Layout fault) later cause = cause
-cause_since old mid new (recover.Front fault) later cause = cause
+cause_since old mid new (recover.Module fault) later cause = cause
 cause_since old mid new (recover.Snapshot fault) later cause = cause
-cause_since old mid new (recover.Image fault) later cause = cause
+cause_since old mid new (recover.ProcessImage fault) later cause = cause
 cause_since old mid new (recover.Journal fault) later cause = cause
 cause_since old mid new (recover.Replay fault) later cause = cause
 
@@ -129,10 +129,10 @@ measured_since old mid new (Err why) later cause = cause_since old mid new why l
 
 -- ---- a sync, and then reads
 
-pub unsettled_inspects : {T : Type 0} (old new : Medium) (fault : DiskFault) (why : RecoverFault)
+pub failed_sync_inspects : {T : Type 0} (old new : Medium) (fault : DiskFault) (why : RecoverFault)
     → SyncsMedium {T = T} (Err fault) old new → why ≡ recover.Worker (Disk fault)
     → Inspects (Err why) old new
-unsettled_inspects old new fault why syncs is =
+failed_sync_inspects old new fault why syncs is =
     let calls = syncs.calls in
     inl (record {
       fault = fault;
@@ -165,12 +165,12 @@ module _ {T : Type 0} (old sync new : Medium) (done : T)
       let passes = syncs.passes in
       let calls = syncs.calls in
       record {
-        settled = settled_stays sync new reads.stays syncs.settles;
+        all_synced = synced_stays sync new reads.stays syncs.all_synced;
         stays = stays_on old sync new passes.later syncs.stays reads.stays;
-        leaves = leaves_join old sync new old.may_leave
+        leaves = leaves_join old sync new old.crash_images
             (stays_leaves_only old sync syncs.stays syncs.passes)
-            (leaves_weaker sync new sync.may_leave old.may_leave reads.leaves
-            (λ image left. stays_left old sync syncs.stays image left));
+            (leaves_weaker sync new sync.crash_images old.crash_images reads.leaves
+            (λ image crashed. stays_crashed old sync syncs.stays image crashed));
         counts = counts_then old.unsynced sync.unsynced old.unsynced old sync new (omega arith)
             (unsynced_within old.unsynced old sync (omega arith) passes.later syncs.counts)
             passes.later syncs.counts reads.counts;
@@ -178,11 +178,11 @@ module _ {T : Type 0} (old sync new : Medium) (done : T)
         counted = omega (arith, syncs.counted, few, passes.sectors);
       }
 
-  pub settled_inspects : (result : Result Inspection RecoverFault)
+  pub synced_inspects : (result : Result Inspection RecoverFault)
       → IfErr result (HasSearchCause sync new)
-      → ((image : Image) → new.shows image → InspectsDisk sync.sectors image result)
+      → ((image : DiskImage) → new.shows image → InspectsDisk sync.sectors image result)
       → Inspects result old new
-  settled_inspects result cause tells =
+  synced_inspects result cause tells =
       let passes = syncs.passes in
       inr (
         only_read,

@@ -36,4 +36,4 @@ mod ReleaseLemmas
 pub mod WantLemmas
 mod AnswerLemmas
 mod InspectionLemmas
-mod WishLemmas
+mod QuestionLemmas

@@ -10,11 +10,11 @@ use Rattle.wasi_abi.specs.rules.Configs.{Settings}
 use Rattle.process_rules.specs.Processes.{ProcessState, Guest}
 use Rattle.process_rules.specs.Runs.{Kept, Given, Wider, widened, Runs, Reaches, version_after}
 use Rattle.process_rules.specs.Runs.{none as no_step, widen}
-use Rattle.process_rules.proofs.Hosted.{reached_versions}
+use Rattle.process_rules.proofs.ReachedStates.{reached_versions}
 use Rattle.process.specs.rules.Values.{ProcessValue, IsProcess}
-use Rattle.state_image.specs.rules.Image.{Saved}
+use Rattle.state_image.specs.rules.ProcessImage.{Saved}
 use Rattle.state_image.specs.rules.Saving.{saved_of}
-use Rattle.sector_disk.specs.rules.Image.{Image}
+use Rattle.sector_disk.specs.rules.DiskImage.{DiskImage}
 use Rattle.sector_disk.specs.rules.Medium.{Medium, LeavesOnly}
 use Rattle.sector_disk.proofs.Moments.{leaves_weaker, leaves_only, started}
 use Rattle.disk_layout.specs.rules.Journal.{Record, TakesRecords}
@@ -23,10 +23,10 @@ use Rattle.record_replay.specs.rules.Records.{given_in}
 use Rattle.restart_theorem.specs.Stands.{StandsFor}
 use Rattle.restart_theorem.specs.Courses.{Stage}
 use Rattle.restart_theorem.specs.Promises.{Promise}
-use Rattle.restart_theorem.specs.Holds.{HoldsPromise, ImageHolds, IsUnopened}
-use Rattle.worker_store.specs.laws.Savepoints.{Savepoint, StandsAtPoint}
+use Rattle.restart_theorem.specs.Holds.{HoldsPromise, DiskImageHolds, IsUnopened}
+use Rattle.worker_store.specs.laws.Savepoints.{Savepoint, IsAtSavepoint}
 use Rattle.worker_store.specs.laws.Commits.{BeginsAtPoint}
-use Rattle.worker_store.specs.laws.Laws.{ImagesFitAreas}
+use Rattle.worker_store.specs.laws.Laws.{ProcessImagesFitAreas}
 use Rattle.worker_store.proofs.LawLemmas.Carrying.{barrier_carries}
 use Rattle.worker_store.proofs.LawLemmas.TurnLemmas.{same_no_more}
 use Rattle.worker_store.specs.declared.store.WorkerStore.{WorkerStore}
@@ -59,7 +59,7 @@ narrow_first (Given a ∷ front) rest narrow = narrow_first front rest narrow
 narrow_first (Wider steps ∷ front) rest narrow = absurd (cc)
 
 -- what stands for such answers is of version 1
-stands_narrow : (m : Module) (config : Settings) (kept : List Kept) (n : ℕ) (image : Image)
+stands_narrow : (m : Module) (config : Settings) (kept : List Kept) (n : ℕ) (image : DiskImage)
     (stands : StandsFor image m config kept n) → version_after kept ≡ One
     → stands.saved.version ≡ One
 stands_narrow m config kept n image stands narrow =
@@ -73,11 +73,11 @@ stands_narrow m config kept n image stands narrow =
 -- ---- what it stands for
 
 -- by a savepoint and its records
-abbrev standing : (m : Module) (config : Settings) (point : Savepoint m config)
-    (records : List Record) (last : ProcessState) (image : Image) (kept : List Kept) (n : ℕ)
-    → StandsAtPoint point records last image → kept ≡ point.front ++ map given_in records
+abbrev stands_by_savepoint : (m : Module) (config : Settings) (point : Savepoint m config)
+    (records : List Record) (last : ProcessState) (image : DiskImage) (kept : List Kept) (n : ℕ)
+    → IsAtSavepoint point records last image → kept ≡ point.front ++ map given_in records
     → n ≡ last.steps → StandsFor image m config kept n
-standing m config point records last image kept n at rest step = record {
+stands_by_savepoint m config point records last image kept n at rest step = record {
   wasm = point.wasm;
   accepted = point.accepted;
   settings = point.settings;
@@ -121,7 +121,7 @@ module _ {D : Type 0} (medium : D → Medium) (m : Module) (config : Settings) (
 
   -- ---- up to the barrier
 
-  in_one : (image : Image) → ImageHolds m config promise promise image
+  in_one : (image : DiskImage) → DiskImageHolds m config promise promise image
       → StandsInOne m config promise image
   in_one image holds = ⊎_elim
       (λ (unopened : IsUnopened promise image).
@@ -144,30 +144,30 @@ module _ {D : Type 0} (medium : D → Medium) (m : Module) (config : Settings) (
       let carries = barrier_carries medium m config promise promise on.point w.store.journal
       on.records on.pending on.last on.now disk mid (same_no_more promise) on.carried
       (fronts m config on.point on.records on.pending on.last on.now on.stores) in
-      leaves_weaker (medium disk) (medium mid) (ImageHolds m config promise promise)
+      leaves_weaker (medium disk) (medium mid) (DiskImageHolds m config promise promise)
       (StandsInOne m config promise) carries.at_any_moment in_one
 
   -- ---- behind it
 
-  leads_in_one : (image : Image)
+  leads_in_one : (image : DiskImage)
       → (let on = opened.on_disk in
-      StandsAtPoint on.point (on.records ++ on.pending) on.now image)
+      IsAtSavepoint on.point (on.records ++ on.pending) on.now image)
       → LeadsInOne m config promise p image
   leads_in_one image at =
       let on = opened.on_disk in
       let stands : StandsFor image m config promise.kept on.now.steps =
-      standing m config on.point (on.records ++ on.pending) on.now image promise.kept on.now.steps
-      at on.on_record refl in
+      stands_by_savepoint m config on.point (on.records ++ on.pending) on.now image
+      promise.kept on.now.steps at on.on_record refl in
       record {
         steps = on.now.steps;
-        stands = standing m config on.point (on.records ++ on.pending) on.now image promise.kept
-            on.now.steps at on.on_record refl;
+        stands = stands_by_savepoint m config on.point (on.records
+            ++ on.pending) on.now image promise.kept on.now.steps at on.on_record refl;
         version = stands_narrow m config promise.kept on.now.steps image stands kept_narrow;
         more = on.n;
         runs = runs_there medium m config guest promise p p.steps promise.events w.store disk on;
       }
 
-  module _ (fit : ImagesFitAreas) (is : IsProcess w.process)
+  module _ (fit : ProcessImagesFitAreas) (is : IsProcess w.process)
       (takes : TakesRecords Two w.store.geometry.journal_sectors) where
     -- it can be saved in version 2
     ready : CanSave m config guest promise p p.steps promise.events w.store (medium disk)
@@ -181,7 +181,7 @@ module _ {D : Type 0} (medium : D → Medium) (m : Module) (config : Settings) (
         (is_upgraded w.process is) (module_upgraded w.process m opened.module_is) opened.texts fit
         (takes_upgraded m config guest promise stage p w (medium disk) opened takes)
 
-    in_two : (image : Image) → StandsAtPoint ready.next [] ready.next.process image
+    in_two : (image : DiskImage) → IsAtSavepoint ready.next [] ready.next.process image
         → StandsInTwo m config promise p image
     in_two image at =
         let can = ready in
@@ -191,7 +191,7 @@ module _ {D : Type 0} (medium : D → Medium) (m : Module) (config : Settings) (
         let step : p.steps ≡ can.next.process.steps =
         ap (λ (z : ProcessState). z.steps) (sym next_is.process) in
         record {
-          stands = standing m config can.next [] can.next.process image
+          stands = stands_by_savepoint m config can.next [] can.next.process image
               (promise.kept ++ Wider p.steps ∷ []) p.steps at kept step;
           version = ap (λ (s : Saved). s.version) next_is.saved ∙ upgraded_version w.process;
           at = next_is.process;
@@ -209,13 +209,13 @@ module _ {D : Type 0} (medium : D → Medium) (m : Module) (config : Settings) (
         let next_is = can.is_next in
         let whole : List Record = on.records ++ on.pending in
         leaves_weaker (medium barred) (medium disk')
-        (λ image. StandsAtPoint on.point whole on.now image ⊎ BeginsAtPoint can.next image)
+        (λ image. IsAtSavepoint on.point whole on.now image ⊎ BeginsAtPoint can.next image)
         (λ image. LeadsInOne m config promise p image ⊎ StandsInTwo m config promise p image)
         (commits m config on.point can.next whole [] on.now on.now
         (stores m config on.point on.records on.pending on.last on.now on.stores) next_is.comes
         next_is.saved)
         (λ image at. ⊎_elim
-        (λ (stands : StandsAtPoint on.point whole on.now image). inl (leads_in_one image stands))
+        (λ (stands : IsAtSavepoint on.point whole on.now image). inl (leads_in_one image stands))
         (λ (begins : BeginsAtPoint can.next image). inr (in_two image begins.at)) at)
 
     migrates_by : (v : ProcessValue) (disk' : D)
@@ -238,20 +238,21 @@ module _ {D : Type 0} (medium : D → Medium) (m : Module) (config : Settings) (
 
     ends_by : (after : WorkerStore) (disk' : D)
         → StoresNext w.store after (upgraded w.process) (medium disk) (medium disk')
-        → (image : Image) → (medium disk').may_leave image → StandsInTwo m config promise p image
-    ends_by after disk' stores image left =
+        → (image : DiskImage) → (medium disk').crash_images image
+        → StandsInTwo m config promise p image
+    ends_by after disk' stores image crashed =
         let on = opened.on_disk in
         let can = ready in
         let next_is = can.is_next in
         let stored = stores m config on.point can.next on.records on.pending on.last on.now
         on.stores next_is.comes next_is.saved in
         let journaled = stored.journaled in
-        in_two image (journaled.stands image left)
+        in_two image (journaled.at_savepoint image crashed)
 
 -- ---- whatever was promised
 
 module _ {D : Type 0} (medium : D → Medium) (w : DurableValue) (disk disk' : D)
-    (fit : ImagesFitAreas) (is : IsProcess w.process)
+    (fit : ProcessImagesFitAreas) (is : IsProcess w.process)
     (takes : TakesRecords Two w.store.geometry.journal_sectors) where
   pub migrates : (v : ProcessValue) → BarsAndCommits medium w.store w.process v disk disk'
       → Migrates medium w disk disk'
@@ -272,6 +273,6 @@ pub nothing_migrates : {D : Type 0} (medium : D → Medium) (w : DurableValue) (
 nothing_migrates medium w disk m config guest promise stage p opened narrow =
     inl (leaves_only (medium disk) (medium disk) (StandsInOne m config promise)
     (started (medium disk) (StandsInOne m config promise))
-    (λ image left. in_one medium m config guest promise stage p w disk opened narrow image
+    (λ image crashed. in_one medium m config guest promise stage p w disk opened narrow image
     (keeps_now medium m config guest promise p p.steps promise.events w.store disk opened.on_disk
-    image left)))
+    image crashed)))

@@ -16,7 +16,7 @@ use Rattle.worker.specs.rules.DurableCreations.{CreationKeeps, IsNotCreatedOn}
 use Rattle.worker.specs.rules.DurableValues.{DurableValue}
 use Rattle.worker.specs.rules.Recoveries.{IsNoWorker, Recovers, RecoveryCarries}
 use Rattle.worker.specs.laws.OneLife.{BeginsLife, CallsInOrder, recovered, created}
-use Rattle.worker.specs.laws.OneLife.{opened, unopened, left_undone}
+use Rattle.worker.specs.laws.OneLife.{opened, unopened, undone_acts}
 use Rattle.worker.specs.declared.story.living.LivedOnce.{LivedOnce}
 use Rattle.worker.specs.declared.story.opening.OpenedWorker.{OpenedWorker}
 use Rattle.worker.specs.declared.story.report.Opening.{Opening}
@@ -41,13 +41,13 @@ module _ {D O : Type 0} (medium : D → Medium) (takes : Taking O) (bytes : List
       → RecoveryCarries takes (Ok w) (medium found) (medium disk) outlet outlet'
       → BeginsLife medium takes bytes config found outlet recovers (Ok w) disk outlet'
   opens_again w disk outlet' carries =
-      let left = some disk in recovered left.0 left.1 (λ says. says) carries
+      let crashed = some disk in recovered crashed.0 crashed.1 (λ says. says) carries
 
   pub opens_not : (why : RecoverFault) (disk : D) (outlet' : O) → (IsNoWorker why → ⊥)
       → RecoveryCarries takes (Err why) (medium found) (medium disk) outlet outlet'
       → BeginsLife medium takes bytes config found outlet recovers (Err why) disk outlet'
   opens_not why disk outlet' other carries =
-      let left = some disk in recovered left.0 left.1 other carries
+      let crashed = some disk in recovered crashed.0 crashed.1 other carries
 
   module _ (none : RecoverFault) (mid disk : D) (outlet' : O) (says : IsNoWorker none)
       (recovery : Recovers medium takes (Err none) found mid outlet outlet')
@@ -56,8 +56,8 @@ module _ {D O : Type 0} (medium : D → Medium) (takes : Taking O) (bytes : List
         → CreationKeeps bytes config (Ok w) (medium mid) (medium disk)
         → BeginsLife medium takes bytes config found outlet Creates (Ok w) disk outlet'
     opens_anew w keeps =
-        let left = some mid in
-        created (Err none) (Ok w) left.0 left.1 says recovery carries keeps tt
+        let crashed = some mid in
+        created (Err none) (Ok w) crashed.0 crashed.1 says recovery carries keeps tt
 
     pub opens_none : (why : WorkFault)
         → CreationKeeps bytes config (Err why) (medium mid) (medium disk)
@@ -65,8 +65,8 @@ module _ {D O : Type 0} (medium : D → Medium) (takes : Taking O) (bytes : List
         → BeginsLife medium takes bytes config found outlet Creates (Err (recover.Worker why)) disk
         outlet'
     opens_none why keeps refused =
-        let left = some mid in
-        created (Err none) (Err why) left.0 left.1 says recovery carries keeps refused
+        let crashed = some mid in
+        created (Err none) (Err why) crashed.0 crashed.1 says recovery carries keeps refused
 
 module _ {D S O : Type 0} (medium : D → Medium) (gives : Giving S) (takes : Taking O)
     (bytes : List ℕ) (config : Settings) (acts : List Act) (found disk last : D)
@@ -84,7 +84,7 @@ module _ {D S O : Type 0} (medium : D → Medium) (gives : Giving S) (takes : Ta
   lives_open : (start : OpenedWorker) (lived : LivedOnce)
       → Opens medium takes bytes config found outlet (Ok start) disk inside
       → CallsInOrder medium gives takes acts start.worker disk source inside
-      (left_undone lived.ended) last source' outlet'
+      (undone_acts lived.ended) last source' outlet'
       → TellsOpening (beginning_of start.is_created) (Some (saved_of start.worker.process))
       lived.opened
       → TellsGeneration start.is_created start.worker.store.journal.generation lived.opened
@@ -101,7 +101,7 @@ module _ {D S O : Type 0} (medium : D → Medium) (gives : Giving S) (takes : Ta
   pub lives_on : (start : OpenedWorker) (result : Result LivedOnce AllocError)
       → (LeavesSome medium → Opens medium takes bytes config found outlet (Ok start) disk inside)
       → IfOk result (λ lived. CallsInOrder medium gives takes acts start.worker disk source inside
-      (left_undone lived.ended) last source' outlet')
+      (undone_acts lived.ended) last source' outlet')
       → IfOk result (λ lived. TellsOpening (beginning_of start.is_created)
       (Some (saved_of start.worker.process)) lived.opened)
       → IfOk result (λ lived.

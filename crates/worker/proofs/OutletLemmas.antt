@@ -3,7 +3,7 @@ use Rattle.std.proofs.Common.{◌≡◌, inl, inr, ℕ, ◌+◌, suc, List, [], 
 use Rattle.std.proofs.Common.{refl, sym, subst}
 use Rattle.std.specs.Prelude.{Result, drop}
 use Rattle.std.specs.List.{AllByRecursion}
-use Rattle.wasi_calls_rules.specs.Hosts.{Line}
+use Rattle.wasi_calls_rules.specs.WasiStates.{Line}
 use Rattle.process.specs.rules.Values.{ProcessValue, IsProcess}
 use Rattle.sector_disk.specs.declared.fault.DiskFault.{DiskFault}
 use Rattle.sector_disk.specs.rules.Medium.{Medium}
@@ -57,16 +57,16 @@ module _ {O : Type 0} (takes : Taking O) where
     said = more.said;
   }
 
-  pub heeds_on : (IsTold : Type 0) (o p q : O) → TakesEach takes o p
-      → HeedsOutlet takes IsTold p q → HeedsOutlet takes IsTold o q
-  heeds_on IsTold o p q first (inl more) = inl (takes_both o p q first more.0, more.1)
-  heeds_on IsTold o p q first (inr more) = inr (refuses_then o p q first more.0, more.1)
+  pub heeds_on : (IsReported : Type 0) (o p q : O) → TakesEach takes o p
+      → HeedsOutlet takes IsReported p q → HeedsOutlet takes IsReported o q
+  heeds_on IsReported o p q first (inl more) = inl (takes_both o p q first more.0, more.1)
+  heeds_on IsReported o p q first (inr more) = inr (refuses_then o p q first more.0, more.1)
 
   -- where it isn't told, each was taken
-  pub each_taken : (IsTold : Type 0) (o p : O) → (IsTold → ⊥) → HeedsOutlet takes IsTold o p
-      → TakesEach takes o p
-  each_taken IsTold o p untold (inl each) = each.0
-  each_taken IsTold o p untold (inr refused) = absurd (untold refused.1)
+  pub each_taken : (IsReported : Type 0) (o p : O) → (IsReported → ⊥)
+      → HeedsOutlet takes IsReported o p → TakesEach takes o p
+  each_taken IsReported o p untold (inl each) = each.0
+  each_taken IsReported o p untold (inr refused) = absurd (untold refused.1)
 
   -- lists of lines
   pub lines_taken : (first : ℕ) (lines : List Line) (o p : O)

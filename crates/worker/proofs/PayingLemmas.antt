@@ -4,7 +4,7 @@ use Rattle.sector_disk.specs.rules.Medium.{Medium, CallsUpTo}
 use Rattle.worker_store.specs.declared.store.WorkerStore.{WorkerStore}
 use Rattle.worker_store.specs.rules.Stores.{with_stored}
 use Rattle.worker.specs.StoreTurns.{owed}
-use Rattle.worker.proofs.CallCountLemmas.{barrier_takes, barrier_settles}
+use Rattle.worker.proofs.CallCountLemmas.{barrier_takes, barrier_owes_none}
 
 module _ {D : Type 0} (medium : D → Medium) (old : WorkerStore) (disk disk' : D)
     (quiet : length old.journal.kept ≡ 0 → disk' ≡ disk)
@@ -22,7 +22,7 @@ pub paid : {D : Type 0} (medium : D → Medium) (old new : WorkerStore) (disk di
     → (medium disk').counted + owed (medium disk).sectors new.journal.kept
     ≤ (medium disk).counted + owed (medium disk).sectors old.journal.kept
 paid medium old new disk disk' quiet calls stored =
-    barrier_settles (medium disk).sectors old.journal.kept new.journal.kept
+    barrier_owes_none (medium disk).sectors old.journal.kept new.journal.kept
     (medium disk).counted (medium disk').counted
     (ap (λ (s : WorkerStore). s.journal.kept) stored)
     (paid_in_vain medium old disk disk' quiet calls)

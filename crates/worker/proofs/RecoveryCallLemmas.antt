@@ -1,4 +1,4 @@
--- How many calls of the disk a recovery begins behind its reads.
+-- How many calls of the disk a recovery begins after its reads.
 use Rattle.std.proofs.Common.{◌+◌, ℕ, subst, sym, arith, inl, inr}
 use Rattle.std.specs.Prelude.{Result, Ok, Err}
 use Rattle.sector_disk.specs.rules.Medium.{Medium, CallsUpTo}

@@ -3,8 +3,8 @@ use Rattle.std.proofs.Common.{◌≡◌, ℕ, ◌+◌, List, [], ◌∷◌, ◌+
 use Rattle.std.proofs.Common.{arith}
 use Rattle.std.proofs.Common.{Bool, false}
 use Rattle.std.specs.Prelude.{Result, Ok, Err, OnOk, OnErr, drop, is_ok}
-use Rattle.wasi_calls_rules.specs.Hosts.{Line}
-use Rattle.wasi_calls.specs.rules.Held.{HeldHost, held_released}
+use Rattle.wasi_calls_rules.specs.WasiStates.{Line}
+use Rattle.wasi_calls.specs.rules.Held.{HeldWasiState, held_released}
 use Rattle.process.specs.rules.Values.{ProcessValue, waiting_in}
 use Rattle.record_replay.specs.declared.fault.OutletFault.{OutletFault}
 use Rattle.record_replay.specs.rules.Calls.{Taking, Releases, all_taken}
@@ -24,16 +24,16 @@ same_count : (lines : List Line) (n : ℕ) → lines ≡ [] → n + length lines
 same_count [] n none = omega arith
 same_count (line ∷ lines) n none = absurd (cc)
 
-same_parts : (h : HeldHost) (n : ℕ) (lines : List Line) → n ≡ h.released → lines ≡ h.host.lines
-    → ◌≡◌ {A = HeldHost} (record { released = n; host = record h.host { lines = lines } }) h
+same_parts : (h : HeldWasiState) (n : ℕ) (lines : List Line) → n ≡ h.released → lines ≡ h.host.lines
+    → ◌≡◌ {A = HeldWasiState} (record { released = n; host = record h.host { lines = lines } }) h
 same_parts h n lines same_n same_lines = rw (same_n, same_lines) refl
 
-same_host : (h : HeldHost) → h.host.lines ≡ [] → held_released (length h.host.lines) h ≡ h
+same_host : (h : HeldWasiState) → h.host.lines ≡ [] → held_released (length h.host.lines) h ≡ h
 same_host h none =
     same_parts h (h.released + length h.host.lines) (drop (length h.host.lines) h.host.lines)
     (same_count h.host.lines h.released none) (nothing_left h.host.lines none)
 
-with_host : (v : ProcessValue) (h : HeldHost) → h ≡ v.host → record v { host = h } ≡ v
+with_host : (v : ProcessValue) (h : HeldWasiState) → h ≡ v.host → record v { host = h } ≡ v
 with_host v h same = rw same refl
 
 module _ {O : Type 0} (takes : Taking O) (old new : ProcessValue) (o p : O)
@@ -63,7 +63,7 @@ module _ {O : Type 0} (takes : Taking O) (old new : ProcessValue) (o p : O)
       all.told
   same_outlet (Err fault) all some = absurd (not_refused some)
 
--- what holds of a worker holds of it behind a release of nothing
+-- what holds of a worker holds of it after a release of nothing
 pub process_back : (P : DurableValue → Type 0) (process process' : ProcessValue)
     (store : WorkerStore) (abreast : Bool) (replayed : ℕ) (failed : Bool) → process' ≡ process
     → P (record {

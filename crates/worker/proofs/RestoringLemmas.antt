@@ -14,8 +14,8 @@ use Rattle.process_rules.specs.Processes.{host_of}
 use Rattle.process_rules.proofs.Growing.{runs_count}
 use Rattle.machine.specs.rules.Values.{MachineValue}
 use Rattle.machine.specs.rules.Runs.{HasBegun}
-use Rattle.machine_loader.specs.declared.fault.FrontFault.{FrontFault}
-use Rattle.machine_loader.specs.rules.Acceptance.{Accepts, FrontDenies, HasNoAcceptedModule}
+use Rattle.machine_loader.specs.declared.fault.ModuleFault.{ModuleFault}
+use Rattle.machine_loader.specs.rules.Acceptance.{Accepts, ModuleFaultDenies, HasNoAcceptedModule}
 use Rattle.machine_loader.specs.rules.Acceptance.{is_want}
 use Rattle.machine_loader.proofs.Wants.{no_want}
 use Rattle.disk_layout.specs.declared.geometry.Geometry.{Geometry}
@@ -23,7 +23,7 @@ use Rattle.process.specs.rules.Values.{ProcessValue}
 use Rattle.state_image.specs.declared.restoring.fault.RestoreFault.{RestoreFault}
 use Rattle.state_image.specs.declared.restoring.fault.RestoreFault.TheVariants as restore
 use Rattle.state_image.specs.laws.Laws.{ReachedIsWellTyped, RestoredShowsReached}
-use Rattle.state_image.specs.rules.Image.{Saved, image}
+use Rattle.state_image.specs.rules.ProcessImage.{Saved, process_image}
 use Rattle.state_image.specs.rules.Restored.{IsRestored}
 use Rattle.state_image.specs.rules.WellTyped.{IsWellTyped}
 use Rattle.restart_theorem.specs.Stands.{IsNumbered}
@@ -66,7 +66,7 @@ module _ {m : Module} {config : Settings} (point : Savepoint m config)
 
   -- what is restored of it is its process
   pub restored_point : RestoredShowsReached → (v : ProcessValue)
-      → IsRestored m config (image point.saved) v → IsRestoredAt point v
+      → IsRestored m config (process_image point.saved) v → IsRestoredAt point v
   restored_point law v restored =
       let shown = law point.wasm m config point.functions point.front point.steps point.process
       point.table point.saved v point.accepted few texts point.reached small numbers.lines
@@ -109,17 +109,17 @@ module _ {m : Module} {settings : Settings} (point : Savepoint m settings) (page
       is_accepted.spelled
 
   -- a refused module is that of no savepoint
-  refused_by : (fault : FrontFault) → FrontDenies fault (HasNoAcceptedModule pages wasm)
+  refused_by : (fault : ModuleFault) → ModuleFaultDenies fault (HasNoAcceptedModule pages wasm)
       → pages ≡ settings.pages → (want : Bool) → is_want fault ≡ want
-      → SaysNothing (recover.Front fault)
+      → SaysNothing (recover.Module fault)
   refused_by fault denies same_pages true is = is
   refused_by fault denies same_pages false is =
       absurd (subst (λ n. HasNoAcceptedModule n point.wasm) same_pages
       (subst (λ (w : List ℕ). HasNoAcceptedModule pages w) same_wasm
       (no_want fault (HasNoAcceptedModule pages wasm) is denies)) m point.accepted)
 
-  pub unaccepted : (fault : FrontFault) (e : RecoverFault) → pages ≡ settings.pages
-      → e ≡ recover.Front fault → FrontDenies fault (HasNoAcceptedModule pages wasm)
+  pub unaccepted : (fault : ModuleFault) (e : RecoverFault) → pages ≡ settings.pages
+      → e ≡ recover.Module fault → ModuleFaultDenies fault (HasNoAcceptedModule pages wasm)
       → SaysNothing e
   unaccepted fault e same_pages is denies =
       subst SaysNothing (sym is) (refused_by fault denies same_pages (is_want fault) refl)
@@ -131,7 +131,7 @@ module _ {m : Module} {settings : Settings} (point : Savepoint m settings)
     (machine : MachineValue) (linked : IsLinkedAt point geometry config machine)
     (arguments : AllByRecursion AreBytes config.arguments)
     (environment : AllByRecursion AreBytes config.environment) (bytes : List ℕ)
-    (same_bytes : bytes ≡ image point.saved) where
+    (same_bytes : bytes ≡ process_image point.saved) where
   texts_at : IsOfBytes (host_of settings)
   texts_at = subst (λ (s : Settings). IsOfBytes (host_of s)) linked.configured
       (texts_of config arguments environment)
@@ -140,14 +140,15 @@ module _ {m : Module} {settings : Settings} (point : Savepoint m settings)
       → IsRestored machine.guest config bytes v → IsRestoredAt point v
   restored_at law v restored =
       let one = subst (λ (b : List ℕ). IsRestored machine.guest config b v) same_bytes restored in
-      let two = subst (λ (s : Settings). IsRestored machine.guest s (image point.saved) v)
+      let two = subst (λ (s : Settings). IsRestored machine.guest s (process_image point.saved) v)
       linked.configured one in
       restored_point point numbers texts_at law v
-      (subst (λ (z : Module). IsRestored z settings (image point.saved) v) linked.linked two)
+      (subst (λ (z : Module). IsRestored z settings (process_image point.saved) v)
+      linked.linked two)
 
   -- no other image is that of a savepoint
   refused_at : ReachedIsWellTyped
-      → ((s : Saved) → IsWellTyped machine.guest config s → bytes ≢ image s) → ⊥
+      → ((s : Saved) → IsWellTyped machine.guest config s → bytes ≢ process_image s) → ⊥
   refused_at law refused =
       let one = subst (λ (z : Module). IsWellTyped z settings point.saved) (sym linked.linked)
       (typed_point point numbers texts_at law) in
@@ -157,14 +158,14 @@ module _ {m : Module} {settings : Settings} (point : Savepoint m settings)
 
   failed_at : ReachedIsWellTyped → (fault : RestoreFault)
       → (unrestored fault ≡ Err restore.NotAnImage → (s : Saved)
-      → IsWellTyped machine.guest config s → bytes ≢ image s)
-      → SaysNothing (recover.Image fault)
+      → IsWellTyped machine.guest config s → bytes ≢ process_image s)
+      → SaysNothing (recover.ProcessImage fault)
   failed_at law restore.NotAnImage refused = absurd (refused_at law (refused refl))
   failed_at law restore.Memory refused = tt
 
   pub unrestored_at : ReachedIsWellTyped → (fault : RestoreFault) (e : RecoverFault)
-      → e ≡ recover.Image fault
+      → e ≡ recover.ProcessImage fault
       → (unrestored fault ≡ Err restore.NotAnImage → (s : Saved)
-      → IsWellTyped machine.guest config s → bytes ≢ image s)
+      → IsWellTyped machine.guest config s → bytes ≢ process_image s)
       → SaysNothing e
   unrestored_at law fault e is refused = subst SaysNothing (sym is) (failed_at law fault refused)

@@ -8,9 +8,10 @@ use Rattle.wasi_abi.specs.rules.Configs.{Settings}
 use Rattle.process_rules.specs.Runs.{Kept}
 use Rattle.sector_disk.specs.declared.fault_disk.FaultDisk.{FaultDisk}
 use Rattle.sector_disk.specs.declared.memory.MemDisk.{MemDisk}
-use Rattle.sector_disk.specs.rules.Image.{Image}
+use Rattle.sector_disk.specs.rules.DiskImage.{DiskImage}
 use Rattle.sector_disk.specs.rules.Medium.{Stays}
-use Rattle.sector_disk.specs.rules.Memory.{memory_medium, memory_stays}
+use Rattle.sector_disk.specs.laws.Memory.{memory_stays}
+use Rattle.sector_disk.specs.rules.Memory.{memory_medium}
 use Rattle.disk_layout.specs.rules.Places.{geometry_of, total_sectors}
 use Rattle.restart_theorem.specs.Stands.{StandsFor}
 use Rattle.record_replay.specs.declared.refusing.RefusingOutlet.{RefusingOutlet}
@@ -38,25 +39,25 @@ use Rattle.worker.specs.LifeCalls.{LivesOnce, LeavesSome, IsOfRecovery}
 use Rattle.worker.proofs.EndLemmas.{stopping_leaves_some}
 
 -- what reads give stays where the disk is only synced and read
-shown_still : (old new : FaultDisk MemDisk) (image : Image)
+shown_still : (old new : FaultDisk MemDisk) (image : DiskImage)
     → Stays (story_medium old) (story_medium new) → (memory_medium old.inner).shows image
     → (story_medium new).shows image
 shown_still old new image stays shows =
-    let may = stays.may new.inner.shown.items new.inner.shown.items
+    let may = stays.crash_pairs new.inner.shown.items new.inner.shown.items
     (refl, memory_stays new.inner) in
     shows ∙ sym may.0
 
 -- the generation of a worker that a recovery opens
 next_after : (w : DurableValue) (found disk : FaultDisk MemDisk)
     (heard heard' : RefusingOutlet HeardLines)
-    (image : Image) (m : Module) (config : Settings) (kept : List Kept) (n : ℕ)
+    (image : DiskImage) (m : Module) (config : Settings) (kept : List Kept) (n : ℕ)
     → Recovers story_medium hears (Ok w) found disk heard heard'
     → (memory_medium found.inner).shows image → (stands : StandsFor image m config kept n)
     → total_sectors (geometry_of config (length stands.wasm))
     ≤ (memory_medium found.inner).sectors
     → w.store.journal.generation ≡ stands.generation + 1
-next_after w found disk heard heard' image m config kept n (inl unsettled) shows stands fits =
-    let e = unsettled.is in absurd (cc)
+next_after w found disk heard heard' image m config kept n (inl failed_sync) shows stands fits =
+    let e = failed_sync.is in absurd (cc)
 next_after w found disk heard heard' image m config kept n (inr by) shows stands fits =
     let synced = by.1 in
     let from = by.2 image (shown_still found by.0 image synced.stays shows) in
@@ -74,14 +75,15 @@ generation_so found heard Unopened by = tt
 
 one_life_is_run : (bytes : List ℕ) (config : Settings) (planned : PlannedLife)
     (found next : MemDisk) (report : LifeReport) (first last : FaultDisk MemDisk)
-    (heard heard' : RefusingOutlet HeardLines) (left : List Answer) (lived : LivedOnce)
+    (heard heard' : RefusingOutlet HeardLines) (answers_left : List Answer) (lived : LivedOnce)
     → IsBegunOn planned found first → (inner_outlet heard).lines ≡ []
     → until_fault heard ≡ number_refused planned.refuse
     → LivesOnce story_medium hands_out hears bytes config (map act_of planned.acts) lived
-    first planned.answers heard last left heard'
+    first planned.answers heard last answers_left heard'
     → EndsLife lived last (inner_outlet heard') planned report next
     → IsRunOn bytes config planned report found next
-one_life_is_run bytes config planned found next report first last heard heard' left lived begun
+one_life_is_run bytes config planned found next report first last heard heard'
+    answers_left lived begun
     unheard refuses once ends = record {
       first = first;
       begun = begun;
@@ -90,7 +92,7 @@ one_life_is_run bytes config planned found next report first last heard heard' l
       begins = once.begins;
       worker = once.worker;
       ended = lived.ended;
-      unasked = left;
+      unasked = answers_left;
       unheard = heard;
       none_heard = unheard;
       refuse = refuses;
@@ -103,27 +105,27 @@ one_life_is_run bytes config planned found next report first last heard heard' l
           (subst (λ (o : Opening). IsNextGeneration (memory_medium first.inner) o) (sym ends.opened)
           (generation_so first heard lived.opened once.generation));
       releases = ends.releases;
-      left = ends.left;
+      next_disk = ends.next_disk;
     }
 
 pub ended_lives_are_run : (bytes : List ℕ) (config : Settings) (planned : PlannedLife)
     (found : MemDisk) (first last : FaultDisk MemDisk) (heard heard' : RefusingOutlet HeardLines)
-    (left answers : List Answer) (acts : List PlannedAct) (lived : LivedOnce)
+    (answers_left answers : List Answer) (acts : List PlannedAct) (lived : LivedOnce)
     (result : Result LivedOn StoryFault) → IsBegunOn planned found first
     → (inner_outlet heard).lines ≡ [] → until_fault heard ≡ number_refused planned.refuse
     → answers ≡ planned.answers → acts ≡ planned.acts
     → (LeavesSome story_medium → LivesOnce story_medium hands_out hears bytes config
-    (map act_of acts) lived first answers heard last left heard')
+    (map act_of acts) lived first answers heard last answers_left heard')
     → IfOk result (λ on. EndsLife lived last (inner_outlet heard') planned on.report on.disk)
     → IfOk result (λ on. IsRunOn bytes config planned on.report found on.disk)
-ended_lives_are_run bytes config planned found first last heard heard' left answers acts lived
-    (Ok on) begun unheard refuses answers_are acts_are once ends =
-    one_life_is_run bytes config planned found on.disk on.report first last heard heard' left
-    lived begun unheard refuses
+ended_lives_are_run bytes config planned found first last heard heard' answers_left
+    answers acts lived (Ok on) begun unheard refuses answers_are acts_are once ends =
+    one_life_is_run bytes config planned found on.disk on.report first last heard
+    heard' answers_left lived begun unheard refuses
     (subst (λ (a : List Answer). LivesOnce story_medium hands_out hears bytes config
-    (map act_of planned.acts) lived first a heard last left heard') answers_are
+    (map act_of planned.acts) lived first a heard last answers_left heard') answers_are
     (subst (λ (a : List PlannedAct). LivesOnce story_medium hands_out hears bytes config
-    (map act_of a) lived first answers heard last left heard') acts_are
+    (map act_of a) lived first answers heard last answers_left heard') acts_are
     (once stopping_leaves_some))) ends
-ended_lives_are_run bytes config planned found first last heard heard' left answers acts lived
-    (Err why) begun unheard refuses answers_are acts_are once ends = tt
+ended_lives_are_run bytes config planned found first last heard heard' answers_left
+    answers acts lived (Err why) begun unheard refuses answers_are acts_are once ends = tt

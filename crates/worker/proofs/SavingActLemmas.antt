@@ -16,7 +16,7 @@ use Rattle.process_rules.specs.Runs.{Kept, Runs, Reaches, none}
 use Rattle.process_rules.proofs.Quiet.{runs_join}
 use Rattle.process_rules.proofs.Growing.{runs_count}
 use Rattle.process.specs.rules.Values.{ProcessValue, ShowsProcess, IsProcess, waiting_in}
-use Rattle.state_image.specs.rules.Image.{image}
+use Rattle.state_image.specs.rules.ProcessImage.{process_image}
 use Rattle.state_image.specs.rules.Saving.{saved_of}
 use Rattle.state_image.specs.rules.WellTyped.{IsWellTyped}
 use Rattle.state_image.proofs.ReachedWellTyped.{saved_is_well_typed}
@@ -50,7 +50,7 @@ use Rattle.worker_store.proofs.LawLemmas.Telling.{max_within}
 use Rattle.worker_store.specs.declared.fault.StoreFault.{StoreFault}
 use Rattle.worker_store.specs.declared.fault.StoreFault.TheVariants as store
 use Rattle.worker_store.specs.declared.store.WorkerStore.{WorkerStore}
-use Rattle.worker_store.specs.laws.Laws.{ImagesFitAreas}
+use Rattle.worker_store.specs.laws.Laws.{ProcessImagesFitAreas}
 use Rattle.worker_store.specs.rules.Calls.{StoresNext}
 use Rattle.worker_store.specs.rules.Stores.{IsStoreOf}
 use Rattle.worker.specs.declared.fault.WorkFault.{WorkFault}
@@ -74,8 +74,8 @@ all_first kept front all = subst (λ l. take (length front) l ≡ front) all (ta
 
 -- ---- a worker on its disk
 
--- The process that is saved of a worker at p: that has come to it by these. No line waits in it, and
--- the journal takes the records of its version.
+-- The process that is saved of a worker at p: that has come to it by these. No line waits in it,
+-- and the journal takes the records of its version.
 pub record SavesProcess (m : Module) (config : Settings) (guest : Guest) (p : ProcessState)
     (more : List Kept) (q : ProcessState) (v : ProcessValue) : Type 0 where
   pub comes : ComesAtOnce guest p more q
@@ -95,7 +95,7 @@ pub record CanSave (m : Module) (config : Settings) (guest : Guest) (promise : P
   pub is_next : IsNextOf on.point (on.records ++ on.pending) more on.now q v next
   pub all : next.front ≡ promise.kept ++ more
   pub same : next.reached.guest ≡ guest
-  pub fits : length (image (saved_of v)) ≤ SECTOR_SIZE * before.geometry.area_sectors
+  pub fits : length (process_image (saved_of v)) ≤ SECTOR_SIZE * before.geometry.area_sectors
 
 module _ {D : Type 0} (medium : D → Medium) where
   pub can_save : (m : Module) (config : Settings) (guest : Guest) (promise : Promise)
@@ -103,7 +103,7 @@ module _ {D : Type 0} (medium : D → Medium) where
       (k : ℕ) (q : ProcessState) (v : ProcessValue)
       → (on : IsOnDisk m config guest promise p step latest before (medium disk))
       → Runs guest p more k q → ShowsProcess v guest q → IsProcess v → v.machine.guest ≡ m
-      → IsOfBytes (host_of config) → ImagesFitAreas
+      → IsOfBytes (host_of config) → ProcessImagesFitAreas
       → TakesRecords (saved_of v).version config.journal
       → CanSave m config guest promise p step latest before (medium disk) on more q v
   can_save m config guest promise p step latest before disk more k q v on comes shows is same texts
@@ -144,8 +144,9 @@ module _ {D : Type 0} (medium : D → Medium) where
         is_next = of_next;
         all = of_next.front ∙ ap (λ (l : List Kept). l ++ more) (sym on.on_record);
         same = of_next.same ∙ on.same;
-        fits = subst (λ (g : Geometry). length (image (saved_of v)) ≤ SECTOR_SIZE * g.area_sectors)
-            (sym on.stores.geometry) (fit m config (saved_of v) (length point.wasm) typed);
+        fits = subst (λ (g : Geometry). length (process_image (saved_of v)) ≤ SECTOR_SIZE
+            * g.area_sectors) (sym on.stores.geometry) (fit m config (saved_of v)
+            (length point.wasm) typed);
       }
     where
       few_pages : (pages : ℕ) → pages ≤ 256 → pages ≤ 2 ^ 16
@@ -156,8 +157,8 @@ module _ {D : Type 0} (medium : D → Medium) where
 -- A worker that is open on its disk, and the process that is saved of it: the one that it shows in
 -- the end.
 module _ {D : Type 0} (medium : D → Medium) (old new : DurableValue) (disk : D)
-    (fit : ImagesFitAreas) (m : Module) (config : Settings) (guest : Guest) (promise : Promise)
-    (stage : Stage) (p : ProcessState)
+    (fit : ProcessImagesFitAreas) (m : Module) (config : Settings) (guest : Guest)
+    (promise : Promise) (stage : Stage) (p : ProcessState)
     (opened : IsOpenOn m config guest promise stage p old (medium disk)) (more : List Kept)
     (q : ProcessState) (is : SavesProcess m config guest p more q new.process) where
   ready : CanSave m config guest promise p p.steps promise.events old.store (medium disk)
@@ -358,7 +359,7 @@ module _ {D : Type 0} (medium : D → Medium) (old new : DurableValue) (disk : D
           done_saves_carry medium m config promise act more (saved_of new.process) on.point can.next
           old.store.journal on.records on.pending on.last on.now disk disk' saving_at
           (leaves m config on.point can.next on.records on.pending on.last on.now on.stores
-          next_is.comes next_is.saved) (let s = stored in s.journaled.stands)
+          next_is.comes next_is.saved) (let s = stored in s.journaled.at_savepoint)
 
       saved_on : (let can = ready in
           IsOnDisk m config guest more_then q q.steps (promise.events + 1) new.store
@@ -484,7 +485,7 @@ SavingCarries act old result new disk disk' =
 
 -- how its disk is left
 module _ {D : Type 0} (medium : D → Medium) (act : Act) (old new : DurableValue) (disk disk' : D)
-    (fit : ImagesFitAreas) (saves : SavesShown act old new (medium disk))
+    (fit : ProcessImagesFitAreas) (saves : SavesShown act old new (medium disk))
     (leaves : LeavesFrontOrNext old.store new.process (medium disk) (medium disk'))
     (few : CallsUpTo (most_saving (medium disk).sectors) (medium disk) (medium disk')) where
   pub saving_done : ShowsItsVersion act (saved_of new.process) → new.has_failed ≡ false

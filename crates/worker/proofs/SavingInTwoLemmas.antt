@@ -4,7 +4,7 @@ use Rattle.std.proofs.Common.{arith}
 use Rattle.std.specs.Prelude.{Result, Ok, Err, IfErr}
 use Rattle.wasi_abi.specs.declared.numbers.TheConstants.{NUMBERS_END}
 use Rattle.process.specs.rules.Values.{ProcessValue}
-use Rattle.state_image.specs.rules.Image.{image}
+use Rattle.state_image.specs.rules.ProcessImage.{process_image}
 use Rattle.state_image.specs.rules.Saving.{saved_of}
 use Rattle.sector_disk.specs.declared.sector.TheConstants.{SECTOR_SIZE}
 use Rattle.sector_disk.specs.rules.Medium.{Medium}
@@ -19,49 +19,49 @@ use Rattle.worker.specs.rules.WorkFaults.{fault_of_store}
 use Rattle.worker.specs.rules.Savings.{SaveFails, HasSaveCause}
 use Rattle.worker.specs.rules.Upgrades.{upgraded}
 use Rattle.worker.specs.StoreTurns.{StoreGoes, StoreStops}
-use Rattle.worker.specs.Upgrading.{LeftBy, BarsAndCommits}
+use Rattle.worker.specs.Upgrading.{AfterFault, BarsAndCommits}
 use Rattle.worker.proofs.StoreTurnLemmas.{goes_stop}
 
 -- ---- what an error leaves
 
-pub left_same : (fault : StoreFault) (before : WorkerStore) (v : ProcessValue)
-    → LeftBy fault before v v
-left_same store.TooBig before v = inl refl
-left_same store.Full before v = refl
-left_same store.TooLong before v = refl
-left_same store.Damaged before v = refl
-left_same (store.Layout why) before v = refl
-left_same (store.Disk why) before v = inl refl
-left_same store.Memory before v = refl
-left_same store.Failed before v = inl refl
+pub fault_same : (fault : StoreFault) (before : WorkerStore) (v : ProcessValue)
+    → AfterFault fault before v v
+fault_same store.TooBig before v = inl refl
+fault_same store.Full before v = refl
+fault_same store.TooLong before v = refl
+fault_same store.Damaged before v = refl
+fault_same (store.Layout why) before v = refl
+fault_same (store.Disk why) before v = inl refl
+fault_same store.Memory before v = refl
+fault_same store.Failed before v = inl refl
 
 -- where the commit failed, though the next generation has a number
 module _ (before between : WorkerStore) (v w : ProcessValue) (mid new : Medium)
     (stays : IsOfStore before between) (same : w ≡ upgraded v)
     (counted : between.journal.generation + 1 < NUMBERS_END) where
-  left_committing : (fault : StoreFault) → CommitFails between w mid new fault
-      → LeftBy fault before v w
-  left_committing store.TooBig (inl late) = absurd (omega (arith, late, counted))
-  left_committing store.TooBig (inr long) =
+  fault_committing : (fault : StoreFault) → CommitFails between w mid new fault
+      → AfterFault fault before v w
+  fault_committing store.TooBig (inl late) = absurd (omega (arith, late, counted))
+  fault_committing store.TooBig (inr long) =
       inr (
         same,
         (let numbered = stays.generation in omega (arith, counted, numbered)),
-        subst (λ (g : Geometry). SECTOR_SIZE * g.area_sectors < length (image (saved_of w)))
+        subst (λ (g : Geometry). SECTOR_SIZE * g.area_sectors < length (process_image (saved_of w)))
             stays.geometry long,
       )
-  left_committing store.Full fails = absurd fails
-  left_committing store.TooLong fails = absurd fails
-  left_committing store.Damaged fails = absurd fails
-  left_committing (store.Layout why) fails = absurd fails
-  left_committing (store.Disk why) fails = inr same
-  left_committing store.Memory fails = absurd fails
-  left_committing store.Failed fails = inr same
+  fault_committing store.Full fails = absurd fails
+  fault_committing store.TooLong fails = absurd fails
+  fault_committing store.Damaged fails = absurd fails
+  fault_committing (store.Layout why) fails = absurd fails
+  fault_committing (store.Disk why) fails = inr same
+  fault_committing store.Memory fails = absurd fails
+  fault_committing store.Failed fails = inr same
 
-  pub left_by_commit : (result : Result (Unit {0}) StoreFault)
+  pub fault_of_commit : (result : Result (Unit {0}) StoreFault)
       → IfErr result (λ e. CommitFails between w mid new e)
-      → IfErr result (λ e. LeftBy e before v w)
-  left_by_commit (Ok done) fails = tt
-  left_by_commit (Err fault) fails = left_committing fault fails
+      → IfErr result (λ e. AfterFault e before v w)
+  fault_of_commit (Ok done) fails = tt
+  fault_of_commit (Err fault) fails = fault_committing fault fails
 
 -- ---- a generation without a number
 

@@ -6,11 +6,11 @@ use Rattle.wasm_syntax.specs.declared.module.Module.{Module}
 use Rattle.wasi_abi.specs.rules.Configs.{Settings}
 use Rattle.process_rules.specs.Processes.{ProcessState}
 use Rattle.process.specs.rules.Values.{ProcessValue}
-use Rattle.state_image.specs.rules.Image.{image}
+use Rattle.state_image.specs.rules.ProcessImage.{process_image}
 use Rattle.state_image.specs.rules.Saving.{saved_of}
 use Rattle.sector_disk.specs.declared.sector.TheConstants.{SECTOR_SIZE}
 use Rattle.sector_disk.specs.rules.Medium.{Medium, BeginsCalls, Passes}
-use Rattle.sector_disk.proofs.CallLemmas.{begun_first, made_then}
+use Rattle.sector_disk.proofs.CallLemmas.{begun_first, performed_then}
 use Rattle.sector_disk.proofs.Moments.{leaves_weaker}
 use Rattle.disk_layout.specs.declared.geometry.Geometry.{Geometry}
 use Rattle.disk_layout.specs.declared.journal_sectors.TheConstants.{PAYLOAD_SIZE}
@@ -20,9 +20,9 @@ use Rattle.journal.specs.rules.Packed.{sectors_for}
 use Rattle.journal.specs.rules.Steps.{barrier_calls}
 use Rattle.snapshot.specs.rules.Calls.{with_head}
 use Rattle.snapshot.proofs.StoreCalls.{some_none}
-use Rattle.worker_store.specs.laws.Barriers.{StandsAtFront}
+use Rattle.worker_store.specs.laws.Barriers.{IsAtFront}
 use Rattle.worker_store.specs.laws.Savepoints.{Savepoint}
-use Rattle.worker_store.specs.laws.Saves.{StandsAtFrontOrNext}
+use Rattle.worker_store.specs.laws.Saves.{IsAtFrontOrNext}
 use Rattle.worker_store.proofs.LawLemmas.Saving.{save_at_any_moment}
 use Rattle.worker_store.specs.declared.fault.StoreFault.{StoreFault}
 use Rattle.worker_store.specs.declared.fault.StoreFault.TheVariants as store
@@ -38,8 +38,8 @@ module _ {D : Type 0} (medium : D → Medium) (before : WorkerStore) (process : 
     (old mid : D) (fronts : LeavesFronts before (medium old) (medium mid)) where
   pub barrier_saves : LeavesFrontOrNext before process (medium old) (medium mid)
   barrier_saves m config point next records pending last now is comes saved =
-      leaves_weaker (medium old) (medium mid) (StandsAtFront point records last pending)
-      (StandsAtFrontOrNext point next records last pending)
+      leaves_weaker (medium old) (medium mid) (IsAtFront point records last pending)
+      (IsAtFrontOrNext point next records last pending)
       (fronts m config point records pending last now is) (λ disk at. inl at)
 
   module _ (between : WorkerStore) (new : D)
@@ -68,7 +68,7 @@ pub barrier_calls_begun : {T : Type 0} (before : WorkerStore) (process : Process
 barrier_calls_begun before process fault old mid begun = (
   [],
   some_none (area_place before.geometry (before.journal.generation + 1))
-      (rounded_up (length (image (saved_of process)))),
+      (rounded_up (length (process_image (saved_of process)))),
   record {
     all = tt;
     begun = begun_first (barrier_calls before.geometry before.journal)
@@ -89,7 +89,7 @@ commit_calls_behind before between process result old mid new stays made calls =
     calls) in (
       here.0,
       here.1,
-      made_then (barrier_calls before.geometry before.journal)
+      performed_then (barrier_calls before.geometry before.journal)
           (with_head (before.journal.generation + 1) here.0) result old mid new made here.2,
     )
 
@@ -121,7 +121,7 @@ module _ (m : Module) (config : Settings) (point : Savepoint m config) (before :
   barrier_fault store.Damaged fails = absurd fails
   barrier_fault (store.Layout fault) fails = absurd fails
   barrier_fault (store.Disk fault) (inl few) =
-      let synced = is.settled.unsynced in inl (omega (arith, few, synced))
+      let synced = is.all_synced.unsynced in inl (omega (arith, few, synced))
   barrier_fault (store.Disk fault) (inr failed) = inr (inr (inr failed))
   barrier_fault store.Memory fails = absurd fails
   barrier_fault store.Failed (inl failed) = let works = is.works in absurd (cc)
@@ -136,13 +136,14 @@ module _ (m : Module) (config : Settings) (point : Savepoint m config) (before :
         let same = stays.generation in inl (omega (arith, late, same))
     commit_fault store.TooBig (inr long) =
         inr (subst (λ (g : Geometry).
-        SECTOR_SIZE * g.area_sectors < length (image (saved_of process))) stays.geometry long)
+        SECTOR_SIZE * g.area_sectors < length (process_image (saved_of process)))
+        stays.geometry long)
     commit_fault store.Full fails = absurd fails
     commit_fault store.TooLong fails = absurd fails
     commit_fault store.Damaged fails = absurd fails
     commit_fault (store.Layout fault) fails = absurd fails
     commit_fault (store.Disk fault) (inl few) =
-        let synced = there.settled.unsynced in
+        let synced = there.all_synced.unsynced in
         let same = ap (λ (g : Geometry). g.area_sectors) stays.geometry in
         let room = passes.room in
         inr (inl (omega (arith, few, synced, same, room)))

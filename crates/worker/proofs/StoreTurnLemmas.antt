@@ -4,11 +4,11 @@ use Rattle.std.proofs.Common.{drop, refl, sym, ap, ◌∙◌, subst, inl, inr, �
 use Rattle.std.proofs.Common.{append_assoc}
 use Rattle.std.proofs.lemmas.Bool.{cases_lt}
 use Rattle.std.proofs.lemmas.List.{append-nil}
-use Rattle.std.specs.Prelude.{◌*◌, Result, Ok, Err, IfErr, OnErr, OnOk}
+use Rattle.std.specs.Prelude.{◌*◌, Result, Ok, Err, IfErr}
 use Rattle.process.specs.rules.Values.{ProcessValue}
 use Rattle.process.specs.declared.fault.ProcessFault.{ProcessFault}
 use Rattle.process.specs.declared.fault.ProcessFault.TheVariants as stop
-use Rattle.state_image.specs.rules.Image.{image}
+use Rattle.state_image.specs.rules.ProcessImage.{process_image}
 use Rattle.state_image.specs.rules.Saving.{saved_of}
 use Rattle.sector_disk.specs.declared.disk_call.DiskCall.{DiskCall}
 use Rattle.sector_disk.specs.declared.sector.TheConstants.{SECTOR_SIZE}
@@ -24,6 +24,7 @@ use Rattle.worker_store.specs.declared.fault.StoreFault.{StoreFault}
 use Rattle.worker_store.specs.declared.fault.StoreFault.TheVariants as store
 use Rattle.worker_store.specs.declared.store.WorkerStore.{WorkerStore}
 use Rattle.worker_store.specs.rules.Calls.{AppendFails, BarrierFails, CommitFails, CommitCalls}
+use Rattle.worker_store.specs.rules.Effects.{StoresPending, CommitsProcess}
 use Rattle.worker_store.specs.rules.Stores.{IsOfStore, begun_store, with_record}
 use Rattle.worker_store.specs.rules.Stores.{with_stored}
 use Rattle.ephemeral_worker.specs.declared.fault.SliceFault.TheVariants as slice
@@ -225,8 +226,8 @@ module _ {D : Type 0} (medium : D → Medium) (old : WorkerStore) (disk disk' : 
       → (medium disk').unsynced ≤ (medium disk).unsynced
   no_more_unsynced quiet (inl nothing) =
       let same = ap (λ (d : D). (medium d).unsynced) (quiet nothing) in omega (arith, same)
-  no_more_unsynced quiet (inr settled) =
-      let synced = settled.unsynced in omega (arith, synced)
+  no_more_unsynced quiet (inr all_synced) =
+      let synced = all_synced.unsynced in omega (arith, synced)
 
 are_barrier : (places : Geometry) (s : JournalState)
     → sectors_for (length s.kept) ≤ places.journal_sectors - s.used
@@ -238,7 +239,7 @@ are_barrier places s within = by (sectors_for (length s.kept)) within
     by zero le = (0, 0, omega arith, refl)
     by (suc n) le = (s.used, suc n, omega (arith, le), refl)
 
--- a list with none behind it
+-- a list with none after it
 with_none : (calls before : List DiskCall) (after : List DiskCall) → after ≡ calls ++ before
     → after ≡ (calls ++ []) ++ before
 with_none calls before after e =
@@ -320,31 +321,26 @@ module _ (old new : WorkerStore) (disk disk' : Medium) (stays : IsOfStore old ne
     cause = barrier_cause fault fails (inr still);
   }
 
--- by its clauses
-module _ {D : Type 0} (medium : D → Medium) (old new : WorkerStore) (disk disk' : D)
-    (stays : IsOfStore old new)
-    (passes : Passes (medium disk) (medium disk') (λ image. Unit {0}))
-    (counts : CountsUpTo ((medium disk).unsynced + sectors_for (length old.journal.kept))
-    (medium disk) (medium disk')) where
-  pub barrier_went : (done : Unit {0}) → RefusesMore medium old disk disk' (Ok done)
-      → new ≡ with_stored old → (length old.journal.kept ≡ 0 → disk' ≡ disk)
-      → (length old.journal.kept ≡ 0) ⊎ IsAllSynced (medium disk')
-      → (medium disk').calls ≡ barrier_calls old.geometry old.journal ++ (medium disk).calls
+-- by its contract
+module _ {D : Type 0} (medium : D → Medium) (old new : WorkerStore) (disk disk' : D) where
+  pub barrier_went : (done : Unit {0})
+      → StoresPending old new (Ok done) (medium disk) (medium disk')
+      → RefusesMore medium old disk disk' (Ok done) → (length old.journal.kept ≡ 0 → disk' ≡ disk)
       → StoreGoes old new (medium disk) (medium disk')
-  barrier_went done full is quiet settled made =
-      barrier_goes old new (medium disk) (medium disk') stays passes
-      (barrier_counts medium old _ disk disk' full counts) is
+  barrier_went done stores full quiet =
+      barrier_goes old new (medium disk) (medium disk') stores.stays stores.passes
+      (barrier_counts medium old _ disk disk' full stores.counts) stores.stored
       (fits_journal medium old disk disk' done full)
-      (no_more_unsynced medium old disk disk' quiet settled) made
+      (no_more_unsynced medium old disk disk' quiet stores.all_synced) stores.calls.all
 
-  pub barrier_failed : (fault : StoreFault) → RefusesMore medium old disk disk' (Err fault)
-      → BarrierFails old (medium disk) (medium disk') fault
-      → BeginsCalls (barrier_calls old.geometry old.journal) (medium disk) (medium disk')
+  pub barrier_failed : (fault : StoreFault)
+      → StoresPending old new (Err fault) (medium disk) (medium disk')
+      → RefusesMore medium old disk disk' (Err fault)
       → StoreStops old new (fault_of_store fault) (medium disk) (medium disk')
-  barrier_failed fault full fails begun =
-      barrier_stops old new (medium disk) (medium disk') stays passes
-      (barrier_counts medium old _ disk disk' full counts) fault fails
-      (has_place medium old disk disk' fault full) begun
+  barrier_failed fault stores full =
+      barrier_stops old new (medium disk) (medium disk') stores.stays stores.passes
+      (barrier_counts medium old _ disk disk' full stores.counts) fault stores.cause
+      (has_place medium old disk disk' fault full) stores.calls.begun
 
 -- ---- a commit
 
@@ -356,7 +352,7 @@ module _ (old new : WorkerStore) (process : ProcessValue) (disk disk' : Medium)
       → IsAllSynced disk'
       → CommitCalls {T = Unit {0}} old.geometry (old.journal.generation + 1) process (Ok tt) disk
       disk' → StoreGoes old new disk disk'
-  commit_goes is settled calls =
+  commit_goes is all_synced calls =
       let g : ℕ = old.journal.generation in
       let made = calls.2 in
       let numbered : new.journal.generation ≡ g + 1 =
@@ -364,7 +360,7 @@ module _ (old new : WorkerStore) (process : ProcessValue) (disk disk' : Medium)
       record {
         geometry = ap (λ (s : WorkerStore). s.geometry) is;
         passes = passes;
-        unsynced = (let synced = settled.unsynced in omega (arith, synced));
+        unsynced = (let synced = all_synced.unsynced in omega (arith, synced));
         counts = commit_counts old.geometry disk disk' counts;
         works = λ unfailed. record {
           works = ap (λ (s : WorkerStore). s.has_failed) is;
@@ -414,23 +410,17 @@ module _ (old new : WorkerStore) (process : ProcessValue) (disk disk' : Medium)
       }
 
 -- whatever it has answered
-module _ (old new : WorkerStore) (process : ProcessValue) (disk disk' : Medium)
-    (passes : Passes disk disk' (λ image. Unit {0}))
-    (counts : CountsUpTo (disk.unsynced + old.geometry.area_sectors + 1) disk disk')
-    (same : new.geometry ≡ old.geometry) where
-  pub commit_runs : (result : Said)
-      → OnOk result (new
-      ≡ begun_store old.geometry (saved_of process).version (old.journal.generation + 1))
-      → OnErr result (new.journal ≡ old.journal) → OnOk result (IsAllSynced disk')
-      → IfErr result (λ e. CommitFails old process disk disk' e)
-      → CommitCalls old.geometry (old.journal.generation + 1) process result disk disk'
-      → StoreSaves result old new disk disk'
-  commit_runs (Ok done) begun unchanged settled fails calls =
-      commit_goes old new process disk disk' passes counts begun settled calls
-  commit_runs (Err fault) begun unchanged settled fails calls =
-      commit_stops old new process disk disk' passes counts fault same unchanged fails calls
+pub commit_runs : (old new : WorkerStore) (process : ProcessValue) (disk disk' : Medium)
+    (result : Said) → CommitsProcess process old new result disk disk'
+    → StoreSaves result old new disk disk'
+commit_runs old new process disk disk' (Ok done) commits =
+    commit_goes old new process disk disk' commits.passes commits.counts commits.begun
+    commits.all_synced commits.calls
+commit_runs old new process disk disk' (Err fault) commits =
+    commit_stops old new process disk disk' commits.passes commits.counts fault commits.stays
+    commits.unchanged commits.cause commits.calls
 
--- behind a barrier
+-- after a barrier
 pub saves_join : (a b c : WorkerStore) (d e f : Medium) (result : Said) → StoreGoes a b d e
     → StoreSaves result b c e f → StoreSaves result a c d f
 saves_join a b c d e f (Ok done) one two = goes_join a b d e one c f two
@@ -464,7 +454,7 @@ module _ (a b : WorkerStore) (process : ProcessValue) (d e f : Medium) (one : St
       let same = stays.generation in inl (omega (arith, late, same))
   commit_fault_cause store.TooBig (inr long) =
       inr (subst (λ (g : Geometry).
-      SECTOR_SIZE * g.area_sectors < length (image (saved_of process))) stays.geometry long)
+      SECTOR_SIZE * g.area_sectors < length (process_image (saved_of process))) stays.geometry long)
   commit_fault_cause store.Full fails = absurd fails
   commit_fault_cause store.TooLong fails = absurd fails
   commit_fault_cause store.Damaged fails = absurd fails

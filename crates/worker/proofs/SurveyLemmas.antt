@@ -7,16 +7,16 @@ use Rattle.wasm_syntax.specs.declared.module.Module.{Module}
 use Rattle.wasi_abi.specs.declared.version.Version.{Version}
 use Rattle.wasi_abi.specs.rules.Configs.{Settings}
 use Rattle.process_rules.specs.Runs.{Kept}
-use Rattle.state_image.specs.rules.Image.{Saved}
+use Rattle.state_image.specs.rules.ProcessImage.{Saved}
 use Rattle.sector_disk.specs.declared.fault.DiskFault.{DiskFault}
-use Rattle.sector_disk.specs.rules.Image.{Image}
+use Rattle.sector_disk.specs.rules.DiskImage.{DiskImage}
 use Rattle.sector_disk.specs.rules.Medium.{Medium, SyncsMedium}
 use Rattle.sector_disk.specs.rules.Medium.{CallsUpTo}
 use Rattle.disk_layout.specs.rules.Journal.{Record}
 use Rattle.disk_layout.specs.rules.Stored.{OnlyReads}
 use Rattle.restart_theorem.specs.Stands.{StandsFor}
 use Rattle.worker_store.specs.laws.Savepoints.{point_of}
-use Rattle.worker_store.proofs.LawLemmas.Points.{stands_at_its_point}
+use Rattle.worker_store.proofs.LawLemmas.Points.{is_at_its_savepoint}
 use Rattle.worker.specs.declared.fault.WorkFault.TheVariants.{Disk}
 use Rattle.worker.specs.declared.found.Found.{Found}
 use Rattle.worker.specs.declared.recover_fault.RecoverFault.{RecoverFault}
@@ -28,14 +28,14 @@ use Rattle.worker.specs.Findings.{FindsWorker, FindsOne, IsFoundAt, numbers_of_f
 use Rattle.worker.specs.Findings.{HasSearchCause}
 use Rattle.worker.specs.FoundDisks.{FindsIn}
 use Rattle.worker.proofs.AnswerLemmas.{found_there, surveyed, shown_version}
-use Rattle.worker.proofs.RecoveryLemmas.Results.{settled_by, sync_faulted}
+use Rattle.worker.proofs.RecoveryLemmas.Results.{is_just_synced, sync_faulted}
 
 -- ---- the disk couldn't be synced
 
-pub unsettled_surveys : {T : Type 0} (old new : Medium) (fault : DiskFault) (why : RecoverFault)
+pub failed_sync_surveys : {T : Type 0} (old new : Medium) (fault : DiskFault) (why : RecoverFault)
     → SyncsMedium {T = T} (Err fault) old new → why ≡ recover.Worker (Disk fault)
     → Surveys (Err why) old new
-unsettled_surveys old new fault why syncs is =
+failed_sync_surveys old new fault why syncs is =
     let calls = syncs.calls in
     inl (record {
       fault = fault;
@@ -48,8 +48,8 @@ unsettled_surveys old new fault why syncs is =
 
 -- ---- it was, and then it was read
 
--- the numbers of what was found are those of what stands there
-numbers_are : {disk : Image} {m : Module} {config : Settings} {kept : List Kept} {n : ℕ}
+-- the numbers of what was found are those of what is there
+numbers_are : {disk : DiskImage} {m : Module} {config : Settings} {kept : List Kept} {n : ℕ}
     (wasm : List ℕ) (stands : StandsFor disk m config kept n) (found : Found)
     → IsFoundAt wasm (point_of stands) stands.records found
     → numbers_of_found found ≡ survey_of stands
@@ -83,20 +83,20 @@ module _ {T : Type 0} (old sync new : Medium) (done : T)
     (syncs : SyncsMedium {T = T} (Ok done) old sync) (reads : OnlyReads sync new)
     (few : CallsUpTo (2 * sync.sectors) sync new) where
   finds_there : (result : Result Found RecoverFault) (one : FindsOne sync.sectors new result)
-      → (image : Image) → new.shows image → FindsWorker old.sectors one.0 image result
+      → (image : DiskImage) → new.shows image → FindsWorker old.sectors one.0 image result
   finds_there result one =
       let passes = syncs.passes in
-      subst (λ n. (image : Image) → new.shows image → FindsWorker n one.0 image result)
+      subst (λ n. (image : DiskImage) → new.shows image → FindsWorker n one.0 image result)
       passes.sectors one.1
 
   -- no worker was found
   pub unfound_surveys : (why : RecoverFault) (one : FindsOne sync.sectors new (Err why))
-      → ((image : Image) → new.shows image → MarksDecide {T = Found} image (Err why))
+      → ((image : DiskImage) → new.shows image → MarksDecide {T = Found} image (Err why))
       → HasSearchCause sync new why
-      → ((image : Image) → new.shows image → FindsIn sync.sectors image (Err why))
+      → ((image : DiskImage) → new.shows image → FindsIn sync.sectors image (Err why))
       → Surveys (Err why) old new
   unfound_surveys why one marks cause shown = inr (
-    settled_by old sync new done syncs reads few,
+    is_just_synced old sync new done syncs reads few,
     λ fault is. (let same : why ≡ recover.Worker (Disk fault) = cc in
         since old.faults sync.faults new.faults earlier
         (subst (λ (e : RecoverFault). HasSearchCause sync new e) same cause)),
@@ -104,7 +104,7 @@ module _ {T : Type 0} (old sync new : Medium) (done : T)
       marks = record { only = decide.only; always = decide.always };
       tells = λ m config kept n stands room.
           finds_there (Err why) one image shows m config (point_of stands) stands.records
-          stands.last (stands_at_its_point image m config kept n stands) room;
+          stands.last (is_at_its_savepoint image m config kept n stands) room;
       shown = found_there old sync new done syncs (Err why) shown image shows;
     }),
   )
@@ -117,11 +117,11 @@ module _ {T : Type 0} (old sync new : Medium) (done : T)
 
   -- one was
   pub found_surveys : (found : Found) (one : FindsOne sync.sectors new (Ok found))
-      → ((image : Image) → new.shows image → MarksDecide {T = Found} image (Ok found))
-      → ((image : Image) → new.shows image → FindsIn sync.sectors image (Ok found))
+      → ((image : DiskImage) → new.shows image → MarksDecide {T = Found} image (Ok found))
+      → ((image : DiskImage) → new.shows image → FindsIn sync.sectors image (Ok found))
       → Surveys (Ok (numbers_of_found found)) old new
   found_surveys found one marks shown = inr (
-    settled_by old sync new done syncs reads few,
+    is_just_synced old sync new done syncs reads few,
     λ fault is. absurd (cc),
     λ image shows. (let decide = marks image shows in record {
       marks = record {
@@ -131,7 +131,7 @@ module _ {T : Type 0} (old sync new : Medium) (done : T)
       tells = λ m config kept n stands room.
           numbers_are one.0 stands found
           (finds_there (Ok found) one image shows m config (point_of stands) stands.records
-          stands.last (stands_at_its_point image m config kept n stands) room);
+          stands.last (is_at_its_savepoint image m config kept n stands) room);
       shown = surveyed old.sectors image found
           (found_there old sync new done syncs (Ok found) shown image shows);
     }),

@@ -10,10 +10,10 @@ use Rattle.wasi_abi.specs.rules.Configs.{Settings}
 use Rattle.std.proofs.lemmas.List.{append-nil}
 use Rattle.process_rules.specs.Processes.{ProcessState, Guest}
 use Rattle.process_rules.specs.Runs.{Kept, Wider, widened, version_after, none as no_step, widen}
-use Rattle.process_rules.proofs.Hosted.{reached_versions}
+use Rattle.process_rules.proofs.ReachedStates.{reached_versions}
 use Rattle.process.specs.rules.Values.{ProcessValue, ShowsProcess, IsProcess}
 use Rattle.process.proofs.Lines.{lines_shown}
-use Rattle.state_image.specs.rules.Image.{Saved, image}
+use Rattle.state_image.specs.rules.ProcessImage.{Saved, process_image}
 use Rattle.state_image.specs.rules.Saving.{saved_of}
 use Rattle.sector_disk.specs.declared.sector.TheConstants.{SECTOR_SIZE}
 use Rattle.sector_disk.specs.rules.Medium.{Medium, CallsUpTo}
@@ -30,8 +30,8 @@ use Rattle.restart_theorem.specs.Lives.{kept_by_widening, kept_by_end}
 use Rattle.restart_theorem.specs.Courses.{Stage}
 use Rattle.restart_theorem.specs.Promises.{Promise, MayPlead}
 use Rattle.worker_store.specs.laws.CallEnds.{HasBound}
-use Rattle.worker_store.specs.laws.Laws.{ImagesFitAreas}
-use Rattle.worker_store.specs.laws.Saves.{StandsAtFrontOrNext}
+use Rattle.worker_store.specs.laws.Laws.{ProcessImagesFitAreas}
+use Rattle.worker_store.specs.laws.Saves.{IsAtFrontOrNext}
 use Rattle.worker_store.proofs.LawLemmas.Acts.{upgrades_save, upgrades_widen}
 use Rattle.worker_store.proofs.LawLemmas.Saving.{front_of_none}
 use Rattle.worker_store.specs.declared.fault.StoreFault.{StoreFault}
@@ -53,7 +53,7 @@ use Rattle.worker.specs.rules.Checkpoints.{IsCheckpointFault}
 use Rattle.worker.specs.rules.Upgrades.{upgraded, UpgradeCalls, IsUpgradeFault, LeavesProcess}
 use Rattle.worker.specs.rules.Upgrades.{UpgradeFails, HasUpgradeCause, Migrates, IsTooSmall}
 use Rattle.worker.specs.rules.Upgrades.{IsNotCaughtUp}
-use Rattle.worker.specs.Upgrading.{LeftBy}
+use Rattle.worker.specs.Upgrading.{AfterFault}
 use Rattle.worker.proofs.SavingActLemmas.{SavesProcess, SavesShown, save_fault, saving_done}
 use Rattle.worker.proofs.SavingActLemmas.{saving_fault, save_pleaded}
 use Rattle.worker.proofs.DurableLemmas.OnDisk.{room_now}
@@ -189,22 +189,22 @@ module _ {D : Type 0} (medium : D → Medium) (old new : DurableValue) (disk : D
 
 -- ---- what an error leaves
 
-pub left_of_fault : (fault : StoreFault) (before : WorkerStore) (v w : ProcessValue)
-    → LeftBy fault before v w → (w ≡ v) ⊎ (w ≡ upgraded v)
-left_of_fault store.TooBig before v w (inl same) = inl same
-left_of_fault store.TooBig before v w (inr wide) = inr wide.0
-left_of_fault store.Full before v w same = inl same
-left_of_fault store.TooLong before v w same = inl same
-left_of_fault store.Damaged before v w same = inl same
-left_of_fault (store.Layout why) before v w same = inl same
-left_of_fault (store.Disk why) before v w left = left
-left_of_fault store.Memory before v w same = inl same
-left_of_fault store.Failed before v w left = left
+pub after_fault_of : (fault : StoreFault) (before : WorkerStore) (v w : ProcessValue)
+    → AfterFault fault before v w → (w ≡ v) ⊎ (w ≡ upgraded v)
+after_fault_of store.TooBig before v w (inl same) = inl same
+after_fault_of store.TooBig before v w (inr wide) = inr wide.0
+after_fault_of store.Full before v w same = inl same
+after_fault_of store.TooLong before v w same = inl same
+after_fault_of store.Damaged before v w same = inl same
+after_fault_of (store.Layout why) before v w same = inl same
+after_fault_of (store.Disk why) before v w after_fault = after_fault
+after_fault_of store.Memory before v w same = inl same
+after_fault_of store.Failed before v w after_fault = after_fault
 
 -- ---- what it keeps
 
 module _ {D : Type 0} (medium : D → Medium) (old new : DurableValue) (disk disk' : D)
-    (fit : ImagesFitAreas) (is : IsProcess old.process)
+    (fit : ProcessImagesFitAreas) (is : IsProcess old.process)
     (takes : TakesRecords Two old.store.geometry.journal_sectors)
     (abreast : old.process.host.host.version ≡ One → old.is_abreast ≡ true)
     (leaves : LeavesFrontOrNext old.store new.process (medium disk) (medium disk'))
@@ -217,17 +217,17 @@ module _ {D : Type 0} (medium : D → Medium) (old new : DurableValue) (disk dis
   upgrade_carries same works says stores =
       saving_done medium Upgrade old new disk disk' fit
       (upgrade_saves_shown medium old new disk is takes abreast (inr same)) leaves few
-      (ap (λ (v : ProcessValue). v.host.host.version) same ∙ upgraded_version old.process) works says
-      stores
+      (ap (λ (v : ProcessValue). v.host.host.version) same ∙ upgraded_version
+      old.process) works says stores
 
   -- by a fault of its store
   module _ (why : StoreFault)
       (fails : SaveFails old.store new.process (medium disk) (medium disk') why)
-      (left : LeftBy why old.store old.process new.process) where
+      (after_fault : AfterFault why old.store old.process new.process) where
     shown_then : SavesShown Upgrade old new (medium disk)
     shown_then =
         upgrade_saves_shown medium old new disk is takes abreast
-        (left_of_fault why old.store old.process new.process left)
+        (after_fault_of why old.store old.process new.process after_fault)
 
     pub upgrade_fault_carries :
         UpgradeCarries old (Err (fault_of_store why)) new (medium disk) (medium disk')
@@ -239,17 +239,17 @@ module _ {D : Type 0} (medium : D → Medium) (old new : DurableValue) (disk dis
         UpgradeFails old new.process (medium disk) (medium disk') (fault_of_store why)
     upgrade_fault_fails m config guest promise stage p opened =
         let shown = shown_then m config guest promise stage p opened in
-        by why left
+        by why after_fault
         (save_fault medium old new disk fit m config guest promise stage p opened shown.0 shown.1
         shown.2 disk' why fails)
         (λ long. save_fault medium old new disk fit m config guest promise stage p opened shown.0
         shown.1 shown.2 disk' store.TooBig
         (λ settings config point records pending last now stores. inr long))
       where
-        by : (fault : StoreFault) → LeftBy fault old.store old.process new.process
+        by : (fault : StoreFault) → AfterFault fault old.store old.process new.process
             → IsCheckpointFault old (medium disk) (medium disk') (fault_of_store fault)
             → (SECTOR_SIZE * old.store.geometry.area_sectors
-            < length (image (saved_of new.process))
+            < length (process_image (saved_of new.process))
             → NUMBERS_END ≤ old.store.journal.generation + 1)
             → IsUpgradeFault old (medium disk) (medium disk') (fault_of_store fault)
             × LeavesProcess (fault_of_store fault) old.process new.process
@@ -262,9 +262,9 @@ module _ {D : Type 0} (medium : D → Medium) (old new : DurableValue) (disk dis
         by store.TooLong same h no_room = absurd h
         by store.Damaged same h no_room = absurd h
         by (store.Layout why) same h no_room = absurd h
-        by (store.Disk why) left h no_room = (h, left)
+        by (store.Disk why) after_fault h no_room = (h, after_fault)
         by store.Memory same h no_room = absurd h
-        by store.Failed left h no_room = absurd h
+        by store.Failed after_fault h no_room = absurd h
 
 -- ---- it is refused
 
@@ -272,17 +272,18 @@ module _ {D : Type 0} (medium : D → Medium) (old new : DurableValue) (disk dis
 leaves_nothing : {D : Type 0} (medium : D → Medium) (before : WorkerStore) (v : ProcessValue)
     (disk : D) → LeavesFrontOrNext before v (medium disk) (medium disk)
 leaves_nothing medium before v disk m config point next records pending last now is comes saved =
-    leaves_only (medium disk) (medium disk) (StandsAtFrontOrNext point next records last pending)
-    (started (medium disk) (StandsAtFrontOrNext point next records last pending))
-    (λ image left. inl (front_of_none m config point records pending last image
-    (is.journaled.stands image left)))
+    leaves_only (medium disk) (medium disk) (IsAtFrontOrNext point next records last pending)
+    (started (medium disk) (IsAtFrontOrNext point next records last pending))
+    (λ image crashed. inl (front_of_none m config point records pending last image
+    (is.journaled.at_savepoint image crashed)))
 
 not_said : (a b : Bool) → (a ≡ true → b ≡ true) → b ≡ false → a ≡ false
 not_said false b says silent = refl
 not_said true b says silent = let yes = says refl in absurd (cc)
 
 module _ {D : Type 0} (medium : D → Medium) (old new : DurableValue) (disk : D)
-    (fit : ImagesFitAreas) (is : IsProcess old.process) (same : new.process ≡ old.process) where
+    (fit : ProcessImagesFitAreas) (is : IsProcess old.process) (same : new.process
+    ≡ old.process) where
   -- for a cause that it may plead
   refused_by : (why : WorkFault) (cause : Cause) → ComesOf why cause
       → ((m : Module) (config : Settings) (guest : Guest) (promise : Promise) (stage : Stage)
@@ -358,7 +359,7 @@ pub no_upgrade_calls : (w : DurableValue) (why : WorkFault) (disk : Medium)
 no_upgrade_calls w why disk = (
   [],
   some_none (area_place w.store.geometry (w.store.journal.generation + 1))
-      (rounded_up (length (image (saved_of (upgraded w.process))))),
+      (rounded_up (length (process_image (saved_of (upgraded w.process))))),
   record {
     all = tt;
     begun = no_calls (with_head (w.store.journal.generation + 1) []
@@ -379,7 +380,7 @@ pub upgrade_calls_ok : (w : DurableValue) (done : Unit {0}) (old new : Medium)
 upgrade_calls_ok w done old new made =
     let makes = made.2 in (made.0, made.1, record { all = makes.all; begun = makes.begun })
 
--- ---- whatever stands on the disk
+-- ---- whatever is on the disk
 
 pub upgrade_cause : (w : DurableValue) (old new : Medium) (fault : StoreFault)
     → (w.has_failed ≡ false → IsUnfailed w.store) → w.has_failed ≡ false

@@ -4,7 +4,7 @@ use Rattle.std.specs.Prelude.{◌↔◌, IsTrue}
 use Rattle.wasi_abi.specs.declared.version.Version.TheVariants.{One, Two}
 use Rattle.disk_layout.specs.rules.Journal.{TakesRecords}
 use Rattle.worker.specs.declared.fault.WorkFault.TheVariants.{Upgrade}
-use Rattle.worker.specs.declared.running.Running.{Running}
+use Rattle.worker.specs.declared.running_worker.RunningWorker.{RunningWorker}
 use Rattle.worker.specs.declared.upgrade_fault.UpgradeFault.{UpgradeFault}
 use Rattle.worker.specs.declared.upgrade_fault.UpgradeFault.TheVariants as upgrade
 use Rattle.worker.specs.rules.DurableValues.{DurableValue, durable_of}
@@ -14,17 +14,17 @@ use Rattle.sector_disk.specs.rules.Medium.{Medium}
 
 -- ---- the tests
 
-takes_none : (w : Running) (takes : Bool)
+takes_none : (w : RunningWorker) (takes : Bool)
     → (IsTrue takes ↔ TakesRecords Two w.store.geometry.journal_sectors) → takes ≡ false
     → TakesRecords Two w.store.geometry.journal_sectors → ⊥
 takes_none w takes means none can = absurd (let yes = means.1 can in cc)
 
-pub refused_small : (w : Running) (takes : Bool)
+pub refused_small : (w : RunningWorker) (takes : Bool)
     → (IsTrue takes ↔ TakesRecords Two w.store.geometry.journal_sectors) → takes ≡ false
     → IsUpgradeRefused w upgrade.JournalTooSmall
 refused_small w takes means none = takes_none w takes means none
 
-module _ (w : Running) (takes : Bool)
+module _ (w : RunningWorker) (takes : Bool)
     (means : IsTrue takes ↔ TakesRecords Two w.store.geometry.journal_sectors)
     (yes : takes ≡ true) where
   takes_all : TakesRecords Two w.store.geometry.journal_sectors
@@ -43,7 +43,7 @@ module _ (w : Running) (takes : Bool)
 -- ---- what an upgrade says then
 
 -- of a worker whose parts are these
-module _ (w : Running) (old : DurableValue) (replayed : ℕ) (flag : Bool)
+module _ (w : RunningWorker) (old : DurableValue) (replayed : ℕ) (flag : Bool)
     (is_old : durable_of w replayed flag ≡ old) where
   -- it is refused
   module _ (fault : UpgradeFault) (refused : IsUpgradeRefused w fault) where

@@ -9,12 +9,12 @@ use Rattle.process_rules.specs.Runs.{widened}
 use Rattle.process.specs.rules.Values.{ProcessValue, ShowsProcess, IsProcess}
 use Rattle.sector_disk.specs.rules.Medium.{Medium, CallsUpTo}
 use Rattle.worker_store.specs.declared.fault.StoreFault.{StoreFault}
-use Rattle.worker_store.specs.laws.Laws.{ImagesFitAreas}
+use Rattle.worker_store.specs.laws.Laws.{ProcessImagesFitAreas}
 use Rattle.worker_store.specs.rules.Calls.{StoresNext}
 use Rattle.worker_store.specs.rules.Stores.{IsUnfailed}
 use Rattle.worker.specs.declared.fault.WorkFault.{WorkFault}
 use Rattle.worker.specs.declared.fault.WorkFault.TheVariants.{Upgrade}
-use Rattle.worker.specs.declared.running.Running.{Running}
+use Rattle.worker.specs.declared.running_worker.RunningWorker.{RunningWorker}
 use Rattle.worker.specs.declared.upgrade_fault.UpgradeFault.{UpgradeFault}
 use Rattle.worker.specs.declared.upgrade_fault.UpgradeFault.TheVariants as upgrade
 use Rattle.worker.specs.rules.WorkFaults.{fault_of_store}
@@ -24,21 +24,21 @@ use Rattle.worker.specs.rules.DurableValues.{DurableValue, durable_of}
 use Rattle.worker.specs.rules.Savings.{LeavesFrontOrNext, SaveCalls, SaveFails, HasSaveCause}
 use Rattle.worker.specs.rules.Upgrades.{upgraded, IsUpgradedIn, UpgradeCalls, UpgradeFails}
 use Rattle.worker.specs.rules.Upgrades.{HasUpgradeCause, Migrates, EndsInTwo}
-use Rattle.worker.specs.Upgrading.{MayUpgrade, IsUpgradeRefused, LeftBy, BarsAndCommits}
+use Rattle.worker.specs.Upgrading.{MayUpgrade, IsUpgradeRefused, AfterFault, BarsAndCommits}
 use Rattle.worker.proofs.MigrationLemmas.{migrates, ends_in_two}
 use Rattle.worker.proofs.UpgradeLemmas.{upgrade_carries, upgrade_fault_carries}
-use Rattle.worker.proofs.UpgradeLemmas.{upgrade_fault_fails, left_of_fault, upgrade_cause}
+use Rattle.worker.proofs.UpgradeLemmas.{upgrade_fault_fails, after_fault_of, upgrade_cause}
 use Rattle.worker.proofs.UpgradeLemmas.{too_small_carries, not_caught_up_carries}
 use Rattle.worker.proofs.UpgradeLemmas.{upgrade_calls_err, upgrade_calls_ok}
 use Rattle.worker.proofs.WideningLemmas.{upgraded_version, shows_upgraded}
 
-module _ {D : Type 0} (medium : D → Medium) (running after : Running) (replayed : ℕ)
+module _ {D : Type 0} (medium : D → Medium) (running after : RunningWorker) (replayed : ℕ)
     (flag : Bool) (old : DurableValue) (is_old : durable_of running replayed flag ≡ old)
     (disk disk' : D) (is : IsProcess running.process) where
   -- ---- it is refused
 
   module _ (fault : UpgradeFault) (refused : IsUpgradeRefused running fault) where
-    pub refused_carries : ImagesFitAreas → after.process ≡ running.process
+    pub refused_carries : ProcessImagesFitAreas → after.process ≡ running.process
         → UpgradeCarries old (Err (Upgrade fault)) (durable_of after replayed true) (medium disk)
         (medium disk)
     refused_carries fit same =
@@ -71,7 +71,7 @@ module _ {D : Type 0} (medium : D → Medium) (running after : Running) (replaye
 
   -- ---- it is saved, or that fails
 
-  module _ (fit : ImagesFitAreas) (may : MayUpgrade running) where
+  module _ (fit : ProcessImagesFitAreas) (may : MayUpgrade running) where
     pub migrates_so : BarsAndCommits medium running.store running.process after.process disk disk'
         → Migrates medium old disk disk'
     migrates_so bars = subst (λ (w : DurableValue). Migrates medium w disk disk') is_old
@@ -104,7 +104,7 @@ module _ {D : Type 0} (medium : D → Medium) (running after : Running) (replaye
 
       module _ (fault : StoreFault) (why : WorkFault) (same : why ≡ fault_of_store fault)
           (fails : SaveFails running.store after.process (medium disk) (medium disk') fault)
-          (left : LeftBy fault running.store running.process after.process) where
+          (after_fault : AfterFault fault running.store running.process after.process) where
         pub fault_carries : UpgradeCarries old (Err why) (durable_of after replayed true)
             (medium disk) (medium disk')
         fault_carries = subst (λ (e : WorkFault). UpgradeCarries old (Err e)
@@ -113,7 +113,7 @@ module _ {D : Type 0} (medium : D → Medium) (running after : Running) (replaye
             (durable_of after replayed true) (medium disk) (medium disk')) is_old
             (upgrade_fault_carries medium (durable_of running replayed flag)
             (durable_of after replayed true) disk disk' fit is may.takes may.abreast leaves few
-            fault fails left))
+            fault fails after_fault))
 
         pub fault_fails : UpgradeFails old after.process (medium disk) (medium disk') why
         fault_fails = subst (λ (e : WorkFault). UpgradeFails old after.process (medium disk)
@@ -122,11 +122,11 @@ module _ {D : Type 0} (medium : D → Medium) (running after : Running) (replaye
             (medium disk') (fault_of_store fault)) is_old
             (upgrade_fault_fails medium (durable_of running replayed flag)
             (durable_of after replayed true) disk disk' fit is may.takes may.abreast leaves few
-            fault fails left))
+            fault fails after_fault))
 
 -- ---- the worker
 
-module _ (running after : Running) (replayed : ℕ) (flag : Bool) (old : DurableValue)
+module _ (running after : RunningWorker) (replayed : ℕ) (flag : Bool) (old : DurableValue)
     (is_old : durable_of running replayed flag ≡ old) where
   pub upgraded_so : after.process ≡ upgraded running.process
       → after.is_abreast ≡ running.is_abreast
@@ -147,16 +147,16 @@ module _ (running after : Running) (replayed : ℕ) (flag : Bool) (old : Durable
         generation = numbered;
       })
 
-  pub left_so : (fault : StoreFault)
-      → LeftBy fault running.store running.process after.process
+  pub faults_so : (fault : StoreFault)
+      → AfterFault fault running.store running.process after.process
       → (after.process ≡ old.process) ⊎ (after.process ≡ upgraded old.process)
-  left_so fault left = subst (λ (w : DurableValue).
+  faults_so fault after_fault = subst (λ (w : DurableValue).
       (after.process ≡ w.process) ⊎ (after.process ≡ upgraded w.process)) is_old
-      (left_of_fault fault running.store running.process after.process left)
+      (after_fault_of fault running.store running.process after.process after_fault)
 
--- ---- calls, and whatever stands on the disk
+-- ---- calls, and whatever is on the disk
 
-module _ (running : Running) (replayed : ℕ) (flag : Bool) (old : DurableValue)
+module _ (running : RunningWorker) (replayed : ℕ) (flag : Bool) (old : DurableValue)
     (is_old : durable_of running replayed flag ≡ old) (disk disk' : Medium) where
   pub calls_err_so : (fault : StoreFault) (why : WorkFault)
       → SaveCalls {T = Unit {0}} running.store (upgraded running.process) (Err fault) disk disk'

@@ -3,10 +3,11 @@ use Rattle.std.proofs.Common.{◌≡◌, ◌⊎◌, [], refl, sym, ap, ◌∙◌
 use Rattle.wasm_syntax.specs.declared.module.Module.{Module}
 use Rattle.wasi_abi.specs.declared.version.Version.{Version}
 use Rattle.wasi_abi.specs.declared.version.Version.TheVariants.{One, Two}
-use Rattle.wasi_calls_rules.specs.Hosts.{Host}
+use Rattle.wasi_calls_rules.specs.WasiStates.{WasiState}
 use Rattle.process_rules.specs.Processes.{ProcessState, Guest}
 use Rattle.process_rules.specs.Runs.{widened}
-use Rattle.process.specs.rules.Values.{ProcessValue, ShowsProcess, IsProcess, HasWidened, waiting_in}
+use Rattle.process.specs.rules.Values.{ProcessValue, ShowsProcess, IsProcess, HasWidened}
+use Rattle.process.specs.rules.Values.{waiting_in}
 use Rattle.process.proofs.Widening.{value_widened, shows_widened, is_widened}
 use Rattle.worker.specs.rules.Upgrades.{in_version_two, upgraded}
 
@@ -67,7 +68,7 @@ stays_wide v wide = sym (upgraded_two v wide)
 pub shown_version : (v : ProcessValue) (guest : Guest) (p : ProcessState) → ShowsProcess v guest p
     → p.host.version ≡ v.host.host.version
 shown_version v guest p shows =
-    let host = shows.host in ap (λ (h : Host). h.version) host.is
+    let host = shows.host in ap (λ (h : WasiState). h.version) host.is
 
 pub shown_in_one : (v : ProcessValue) (guest : Guest) (p : ProcessState) → ShowsProcess v guest p
     → p.host.version ≡ One → v.host.host.version ≡ One

@@ -3,7 +3,7 @@ use Rattle.std.specs.Prelude.{◌≡◌, ◌≢◌, ℕ, ◌⊎◌, ◌+◌, ◌
 use Rattle.std.specs.Prelude.{◌∷◌}
 use Rattle.std.specs.Prelude.{length, map, Some, None, Result, Ok, Err}
 use Rattle.wasm_syntax.specs.declared.module.Module.{Module}
-use Rattle.wasi_abi.specs.declared.answer.Kind.{Kind}
+use Rattle.wasi_abi.specs.declared.answer.Question.{Question}
 use Rattle.wasi_abi.specs.rules.Configs.{Settings}
 use Rattle.wasi_calls_rules.specs.laws.Laws.{IsOfBytes}
 use Rattle.process_rules.specs.Processes.{ProcessState, Guest, host_of}
@@ -39,7 +39,7 @@ use Rattle.worker.specs.declared.fault.WorkFault.TheVariants.{Work}
 use Rattle.worker.specs.rules.CallCounts.{CallsForEvents}
 use Rattle.worker.specs.rules.WorkFaults.{fault_of_store}
 use Rattle.ephemeral_worker.specs.rules.Refusals.{slice_fault}
-use Rattle.worker.specs.declared.running.Running.{Running}
+use Rattle.worker.specs.declared.running_worker.RunningWorker.{RunningWorker}
 use Rattle.worker.specs.rules.DurableValues.{durable_of}
 use Rattle.worker.specs.rules.OpenWorkers.{IsOnDisk, IsAbreast, IsOpenOn}
 use Rattle.worker.specs.rules.DurableCalls.{ComesOf, HasCauseOf, HasCauseAt, IsReplyOf}
@@ -57,7 +57,7 @@ pub record Course : Type 0 where
 -- A worker within a slice, which has come to p. The disk holds what is promised, the guest's syncs
 -- up to this step included, by a savepoint of this generation at most.
 pub record IsRunningOn (c : Course) (promise : Promise) (stage : Stage) (p : ProcessState)
-    (step latest : ℕ) (w : Running) (disk : Medium) : Type 0 where
+    (step latest : ℕ) (w : RunningWorker) (disk : Medium) : Type 0 where
   pub opened : promise.has_opened ≡ true
   pub texts : IsOfBytes (host_of c.config)
   pub shows : ShowsProcess w.process c.guest p
@@ -69,29 +69,30 @@ pub record IsRunningOn (c : Course) (promise : Promise) (stage : Stage) (p : Pro
   pub abreast : IsAbreast promise stage p w.is_abreast
 
 -- between two turns
-abbrev pub IsBetweenTurns : Course → Promise → Stage → ProcessState → Running → Medium → Type 0
+abbrev pub IsBetweenTurns : Course → Promise → Stage → ProcessState → RunningWorker
+    → Medium → Type 0
 IsBetweenTurns c promise stage p w disk =
     IsRunningOn c promise stage p p.steps promise.events w disk
 
 -- something may be owed for the last step
-abbrev pub IsOwingTurn : Course → Promise → Stage → ProcessState → Running → Medium → Type 0
+abbrev pub IsOwingTurn : Course → Promise → Stage → ProcessState → RunningWorker → Medium → Type 0
 IsOwingTurn c promise stage p w disk =
     IsRunningOn c promise stage p (p.steps - 1) promise.events w disk
 
 -- the next step wants an answer
 pub record IsAskingOn (c : Course) (promise : Promise) (stage : Stage) (p : ProcessState)
-    (kind : Kind) (latest : ℕ) (w : Running) (disk : Medium) : Type 0 where
+    (question : Question) (latest : ℕ) (w : RunningWorker) (disk : Medium) : Type 0 where
   pub running : IsRunningOn c promise stage p p.steps latest w disk
   pub none_waits : waiting_in w.process ≡ []
   pub unended : p.ended ≡ None
-  pub wants : next_of c.guest p None ≡ Wants kind
+  pub wants : next_of c.guest p None ≡ Wants question
   pub room : p.steps < stage.step + c.fuel
 
 -- ---- what a turn does
 
 -- it goes on, by these exchanges
 pub record TurnGoes (c : Course) (promise : Promise) (stage : Stage) (exchanges : List Exchange)
-    (w : Running) (disk disk' : Medium) : Type 0 where
+    (w : RunningWorker) (disk disk' : Medium) : Type 0 where
   pub promise' : Promise
   pub stage' : Stage
   pub process : ProcessState
@@ -101,13 +102,13 @@ pub record TurnGoes (c : Course) (promise : Promise) (stage : Stage) (exchanges 
   pub running : IsBetweenTurns c promise' stage' process w disk'
 
 -- the end of a slice
-abbrev pub slice_end : Promise → ℕ → Reply → ℕ → Running → Promise
+abbrev pub slice_end : Promise → ℕ → Reply → ℕ → RunningWorker → Promise
 slice_end promise fuel reply held w =
     after promise (Ended (Slice fuel) reply held (saved_of w.process))
 
 -- it ends the slice, by these exchanges
 pub record TurnEnds (c : Course) (promise : Promise) (stage : Stage) (reply : Reply)
-    (exchanges : List Exchange) (w : Running) (disk disk' : Medium) : Type 0 where
+    (exchanges : List Exchange) (w : RunningWorker) (disk disk' : Medium) : Type 0 where
   pub between : Promise
   pub inside : Stage
   pub held : ℕ
@@ -128,7 +129,7 @@ pub record TurnEnds (c : Course) (promise : Promise) (stage : Stage) (reply : Re
       (durable_of w replayed false) disk'
 
 -- an error ends it
-abbrev pub TurnFails : Course → Promise → Stage → WorkFault → List Exchange → Running → Medium
+abbrev pub TurnFails : Course → Promise → Stage → WorkFault → List Exchange → RunningWorker → Medium
     → Medium → Type 0
 TurnFails c promise stage why exchanges w disk disk' = (cause : Cause) × ComesOf why cause
     × HasCauseAt why c.guest c.config w.process disk disk'
@@ -141,27 +142,27 @@ abbrev pub told_lines_of : List Begun → List Exchange
 told_lines_of begun = map Tells begun
 
 -- the records were put on the disk, and the lines that waited were released
-abbrev pub SettlesTurn : {O : Type 0} → Taking O → Running → Running → Medium → Medium → O → O
-    → Type 0
-SettlesTurn takes old new disk disk' outlet outlet' = (begun : List Begun)
+abbrev pub Flushes : {O : Type 0} → Taking O → RunningWorker → RunningWorker → Medium
+    → Medium → O → O → Type 0
+Flushes takes old new disk disk' outlet outlet' = (begun : List Begun)
     × Releases takes outlet begun outlet'
     × ((c : Course) (promise : Promise) (stage : Stage) (p : ProcessState)
     → IsOwingTurn c promise stage p old disk → IsForetold stage (told_lines_of begun)
     → TurnGoes c promise stage (told_lines_of begun) new disk disk')
 
 -- one of the two failed
-abbrev pub SettlesInVain : {O : Type 0} → Taking O → Running → WorkFault → Running → Medium
-    → Medium → O → O → Type 0
-SettlesInVain takes old why new disk disk' outlet outlet' = (begun : List Begun)
+abbrev pub FlushesInVain : {O : Type 0} → Taking O → RunningWorker → WorkFault
+    → RunningWorker → Medium → Medium → O → O → Type 0
+FlushesInVain takes old why new disk disk' outlet outlet' = (begun : List Begun)
     × Releases takes outlet begun outlet'
     × ((c : Course) (promise : Promise) (stage : Stage) (p : ProcessState)
     → IsOwingTurn c promise stage p old disk → IsForetold stage (told_lines_of begun)
     → TurnFails c promise stage why (told_lines_of begun) new disk disk')
 
 -- the store failed, which wants no memory and no number; or the outlet did
-abbrev pub SettlesVainly : {O : Type 0} → Taking O → ProcessValue → WorkFault → ProcessValue
+abbrev pub FlushesVainly : {O : Type 0} → Taking O → ProcessValue → WorkFault → ProcessValue
     → O → O → Type 0
-SettlesVainly takes old why new outlet outlet' =
+FlushesVainly takes old why new outlet outlet' =
     ((fault : StoreFault) × (why ≡ fault_of_store fault) × (fault ≢ store.Memory)
     × (fault ≢ store.TooBig) × (new ≡ old) × (outlet' ≡ outlet))
     ⊎ ((why ≡ Work slice.Outlet) × ReleasesSome takes old new outlet outlet')
@@ -173,32 +174,33 @@ abbrev pub IsOfStoreFault : WorkFault → Type 0
 IsOfStoreFault why = (fault : StoreFault) × (why ≡ fault_of_store fault)
 
 -- there is room in the journal for any record of its version
-abbrev pub HasRoom : Running → Type 0
+abbrev pub HasRoom : RunningWorker → Type 0
 HasRoom w = longest_record w.store.journal.version ≤ room_of w.store.geometry w.store.journal
 
 -- The disk has room for the answer. It may be one generation on: the question comes next.
-abbrev pub MakesRoom : Running → Running → Medium → Medium → Type 0
+abbrev pub MakesRoom : RunningWorker → RunningWorker → Medium → Medium → Type 0
 MakesRoom old new disk disk' =
-    (c : Course) (promise : Promise) (stage : Stage) (p : ProcessState) (kind : Kind)
-    → IsAskingOn c promise stage p kind promise.events old disk
-    → IsAskingOn c promise stage p kind (promise.events + 1) new disk'
+    (c : Course) (promise : Promise) (stage : Stage) (p : ProcessState) (question : Question)
+    → IsAskingOn c promise stage p question promise.events old disk
+    → IsAskingOn c promise stage p question (promise.events + 1) new disk'
     × HasRoom new × GoesOnFrom c.code c.config promise promise disk disk'
     × StaysWithin (promise.events + 1) disk disk'
 
 -- there is none
-abbrev pub MakesNoRoom : Running → WorkFault → Running → Medium → Medium → Type 0
+abbrev pub MakesNoRoom : RunningWorker → WorkFault → RunningWorker → Medium → Medium → Type 0
 MakesNoRoom old why new disk disk' =
-    (c : Course) (promise : Promise) (stage : Stage) (p : ProcessState) (kind : Kind)
-    → IsAskingOn c promise stage p kind promise.events old disk
+    (c : Course) (promise : Promise) (stage : Stage) (p : ProcessState) (question : Question)
+    → IsAskingOn c promise stage p question promise.events old disk
     → TurnFails c promise stage why [] new disk disk'
 
 -- a question, with what the source said to it
-abbrev pub asks_once : Kind → SourceSaid → List Exchange
-asks_once kind said = Asks (record { kind = kind; said = said }) ∷ []
+abbrev pub asks_once : Question → SourceSaid → List Exchange
+asks_once question said = Asks (record { question = question; said = said }) ∷ []
 
 -- an answer that fits was kept on record, and the process has taken it
-pub record TakesOnRecord (old : Running) (kind : Kind) (r : Record) (new : Running) : Type 0 where
-  pub fits : Fits (text_limit old.process.host.host.version) kind r.answer
+pub record TakesOnRecord (old : RunningWorker) (question : Question) (r : Record)
+    (new : RunningWorker) : Type 0 where
+  pub fits : Fits (text_limit old.process.host.host.version) question r.answer
   pub appended : new.store ≡ with_record old.store r
   pub record_fits : RecordFits old.store.journal.version r
   pub room : length (record_bytes old.store.journal.version r)
@@ -210,96 +212,99 @@ pub record TakesOnRecord (old : Running) (kind : Kind) (r : Record) (new : Runni
   pub guest_same : new.process.machine.guest ≡ old.process.machine.guest
 
 -- an answer that fits isn't kept on record
-pub record LacksRecord (old : Running) (kind : Kind) (r : Record) (why : WorkFault)
-    (new : Running) : Type 0 where
-  pub fits : Fits (text_limit old.process.host.host.version) kind r.answer
+pub record LacksRecord (old : RunningWorker) (question : Question) (r : Record) (why : WorkFault)
+    (new : RunningWorker) : Type 0 where
+  pub fits : Fits (text_limit old.process.host.host.version) question r.answer
   pub fault : StoreFault
   pub fails : AppendFails old.store r fault
   pub is : why ≡ fault_of_store fault
   pub same : new.process ≡ old.process
 
 -- an answer that fits is one that the process doesn't take
-pub record IsNotTaken (old : Running) (kind : Kind) (r : Record) (why : WorkFault)
-    (new : Running) : Type 0 where
-  pub fits : Fits (text_limit old.process.host.host.version) kind r.answer
+pub record IsNotTaken (old : RunningWorker) (question : Question) (r : Record) (why : WorkFault)
+    (new : RunningWorker) : Type 0 where
+  pub fits : Fits (text_limit old.process.host.host.version) question r.answer
   pub fault : ProcessFault
   pub given : GivesAnswer old.process r.answer (Err fault) new.process
   pub is : why ≡ Work (slice_fault fault)
 
 -- an answer doesn't fit
-pub record IsMisfit (old : Running) (kind : Kind) (r : Record) (why : WorkFault)
-    (new : Running) : Type 0 where
-  pub misfits : Fits (text_limit old.process.host.host.version) kind r.answer → ⊥
+pub record IsMisfit (old : RunningWorker) (question : Question) (r : Record) (why : WorkFault)
+    (new : RunningWorker) : Type 0 where
+  pub misfits : Fits (text_limit old.process.host.host.version) question r.answer → ⊥
   pub is : why ≡ Work slice.Source
   pub same : new ≡ old
 
 -- why it isn't taken on record
-abbrev pub TakesNone : Running → Kind → Record → WorkFault → Running → Type 0
-TakesNone old kind r why new = IsMisfit old kind r why new
-    ⊎ (LacksRecord old kind r why new ⊎ IsNotTaken old kind r why new)
+abbrev pub TakesNone : RunningWorker → Question → Record → WorkFault → RunningWorker → Type 0
+TakesNone old question r why new = IsMisfit old question r why new
+    ⊎ (LacksRecord old question r why new ⊎ IsNotTaken old question r why new)
 
 -- what becomes of an answer
-abbrev pub HearsAnswer : Running → Kind → Record → Result Bool WorkFault → Running → Type 0
-HearsAnswer old kind r (Ok is_there) new = (is_there ≡ true) × TakesOnRecord old kind r new
-HearsAnswer old kind r (Err why) new = TakesNone old kind r why new
+abbrev pub HearsAnswer : RunningWorker → Question → Record → Result Bool WorkFault
+    → RunningWorker → Type 0
+HearsAnswer old question r (Ok is_there) new = (is_there ≡ true) × TakesOnRecord old question r new
+HearsAnswer old question r (Err why) new = TakesNone old question r why new
 
 -- what becomes of what the source says to the question before this step
-abbrev pub HearsBy : Running → Kind → ℕ → SourceSaid → Result Bool WorkFault → Running → Type 0
-HearsBy old kind step (Err e) result new = (result ≡ Err (Work slice.Source)) × (new ≡ old)
-HearsBy old kind step (Ok None) result new = (result ≡ Ok false) × (new ≡ old)
-HearsBy old kind step (Ok (Some a)) result new =
-    HearsAnswer old kind (record { step = step; answer = a }) result new
+abbrev pub HearsBy : RunningWorker → Question → ℕ → SourceSaid → Result Bool WorkFault
+    → RunningWorker → Type 0
+HearsBy old question step (Err e) result new = (result ≡ Err (Work slice.Source)) × (new ≡ old)
+HearsBy old question step (Ok None) result new = (result ≡ Ok false) × (new ≡ old)
+HearsBy old question step (Ok (Some a)) result new =
+    HearsAnswer old question (record { step = step; answer = a }) result new
 
 -- the source was asked once
-pub record Hears {S : Type 0} (gives : Giving S) (old : Running) (kind : Kind) (step : ℕ)
-    (result : Result Bool WorkFault) (new : Running) (source source' : S) : Type 0 where
+pub record Hears {S : Type 0} (gives : Giving S) (old : RunningWorker)
+    (question : Question) (step : ℕ) (result : Result Bool WorkFault) (new : RunningWorker)
+    (source source' : S) : Type 0 where
   pub said : SourceSaid
-  pub asked : gives source kind said source'
-  pub hears : HearsBy old kind step said result new
+  pub asked : gives source question said source'
+  pub hears : HearsBy old question step said result new
 
 -- Whether there was an answer, which the process has taken. Where there was none, the slice is
 -- over.
-abbrev pub TurnAsks : Course → Promise → Stage → Bool → List Exchange → Running → Medium → Medium
-    → Type 0
+abbrev pub TurnAsks : Course → Promise → Stage → Bool → List Exchange → RunningWorker
+    → Medium → Medium → Type 0
 TurnAsks c promise stage true exchanges w disk disk' =
     TurnGoes c promise stage exchanges w disk disk'
 TurnAsks c promise stage false exchanges w disk disk' =
     TurnEnds c promise stage Waits exchanges w disk disk'
 
 -- the source was asked once or not at all
-abbrev pub AsksOutside : {S : Type 0} → Giving S → Kind → List Exchange → S → S → Type 0
-AsksOutside gives kind [] source source' = source' ≡ source
-AsksOutside gives kind (Asks ask ∷ []) source source' =
-    (ask.kind ≡ kind) × gives source ask.kind ask.said source'
-AsksOutside gives kind _ source source' = ⊥
+abbrev pub AsksOutside : {S : Type 0} → Giving S → Question → List Exchange → S → S → Type 0
+AsksOutside gives question [] source source' = source' ≡ source
+AsksOutside gives question (Asks ask ∷ []) source source' =
+    (ask.question ≡ question) × gives source ask.question ask.said source'
+AsksOutside gives question _ source source' = ⊥
 
 -- room is made, and the source is asked
-abbrev pub AsksTurn : {S : Type 0} → Giving S → Running → Kind → Result Bool WorkFault
-    → Running → Medium → Medium → S → S → Type 0
-AsksTurn gives old kind (Ok is_there) new disk disk' source source' = (exchanges : List Exchange)
-    × AsksOutside gives kind exchanges source source'
+abbrev pub AsksTurn : {S : Type 0} → Giving S → RunningWorker → Question → Result Bool WorkFault
+    → RunningWorker → Medium → Medium → S → S → Type 0
+AsksTurn gives old question (Ok is_there) new disk disk' source source' =
+    (exchanges : List Exchange) × AsksOutside gives question exchanges source source'
     × ((c : Course) (promise : Promise) (stage : Stage) (p : ProcessState)
-    → IsAskingOn c promise stage p kind promise.events old disk → IsForetold stage exchanges
+    → IsAskingOn c promise stage p question promise.events old disk → IsForetold stage exchanges
     → TurnAsks c promise stage is_there exchanges new disk disk') × (length exchanges ≡ 1)
-AsksTurn gives old kind (Err why) new disk disk' source source' = (exchanges : List Exchange)
-    × AsksOutside gives kind exchanges source source'
+AsksTurn gives old question (Err why) new disk disk' source source' = (exchanges : List Exchange)
+    × AsksOutside gives question exchanges source source'
     × ((c : Course) (promise : Promise) (stage : Stage) (p : ProcessState)
-    → IsAskingOn c promise stage p kind promise.events old disk → IsForetold stage exchanges
+    → IsAskingOn c promise stage p question promise.events old disk → IsForetold stage exchanges
     → TurnFails c promise stage why exchanges new disk disk')
 
 -- the store failed, and the source wasn't asked; or it was, in vain
-abbrev pub AsksVainly : {S : Type 0} → Giving S → Running → Kind → WorkFault → Running → S → S
-    → Type 0
-AsksVainly gives old kind why new source source' =
+abbrev pub AsksVainly : {S : Type 0} → Giving S → RunningWorker → Question → WorkFault
+    → RunningWorker → S → S → Type 0
+AsksVainly gives old question why new source source' =
     (IsOfStoreFault why × (new.process ≡ old.process) × (source' ≡ source))
-    ⊎ ((mid : Running) × (step : ℕ) × (mid.process ≡ old.process)
-    × Hears gives mid kind step (Err why) new source source')
+    ⊎ ((mid : RunningWorker) × (step : ℕ) × (mid.process ≡ old.process)
+    × Hears gives mid question step (Err why) new source source')
 
 -- ---- a slice
 
 -- All turns of a slice, or those so far. It is over for this reason, or fails.
-abbrev pub WorksOn : {S O : Type 0} → Giving S → Taking O → Running → ℕ → Result Now WorkFault
-    → Running → Medium → Medium → S → S → O → O → Type 0
+abbrev pub WorksOn : {S O : Type 0} → Giving S → Taking O → RunningWorker → ℕ → Result Now WorkFault
+    → RunningWorker → Medium → Medium → S → S → O → O → Type 0
 WorksOn gives takes old fuel result new disk disk' source source' outlet outlet' =
     (exchanges : List Exchange) × Exchanges gives takes source outlet exchanges source' outlet'
     × ((c : Course) (promise : Promise) (stage : Stage) (p : ProcessState) → c.fuel ≡ fuel

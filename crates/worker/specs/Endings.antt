@@ -16,19 +16,19 @@ use Rattle.worker.specs.declared.story.report.LifeEnd.TheVariants.{Finished, Sto
 use Rattle.worker.specs.declared.story.report.LifeEnd.TheVariants.{Failed}
 use Rattle.worker.specs.declared.story.report.LifeReport.{LifeReport}
 use Rattle.worker.specs.rules.Planned.{call_at}
-use Rattle.worker.specs.rules.StoryDisks.{IsLeftBy}
+use Rattle.worker.specs.rules.StoryDisks.{IsNextDisk}
 
 -- the end of a life by its stop, or by what ended its calls
-abbrev pub end_told : Bool → Result (Unit {0}) RecoverFault → LifeEnd
-end_told true ended = Stopped
-end_told false (Ok done) = Finished
-end_told false (Err why) = Failed why
+abbrev pub reported_end : Bool → Result (Unit {0}) RecoverFault → LifeEnd
+reported_end true ended = Stopped
+reported_end false (Ok done) = Finished
+reported_end false (Err why) = Failed why
 
 -- after an error the next life finds the same disk, and else what a cut leaves of it
 abbrev pub IsFoundBehind : LifeEnd → MemDisk → MemDisk → Type 0
-IsFoundBehind (Failed why) left next = next ≡ left
-IsFoundBehind Finished left next = IsFoundAfterCut (memory_medium left) (memory_medium next)
-IsFoundBehind Stopped left next = IsFoundAfterCut (memory_medium left) (memory_medium next)
+IsFoundBehind (Failed why) last next = next ≡ last
+IsFoundBehind Finished last next = IsFoundAfterCut (memory_medium last) (memory_medium next)
+IsFoundBehind Stopped last next = IsFoundAfterCut (memory_medium last) (memory_medium next)
 
 -- a stop has come, or has not, as a test says
 abbrev pub StopSays : Bool → Option ℕ → ℕ → Type 0
@@ -45,7 +45,7 @@ pub record EndsLife (lived : LivedOnce) (disk : FaultDisk MemDisk) (heard : Hear
   pub calls : report.calls ≡ call_number (call_counts_of disk)
   pub stopped : Bool
   pub stops : StopSays stopped (call_at life.stop) (call_number (call_counts_of disk))
-  pub ended : report.ended ≡ end_told stopped lived.ended
+  pub ended : report.ended ≡ reported_end stopped lived.ended
   pub behind : IsFoundBehind report.ended (disk_below disk) next
-  pub left : IsLeftBy life.tears report.ended disk next
+  pub next_disk : IsNextDisk life.tears report.ended disk next
   pub room : (memory_medium next).room ≡ (memory_medium (disk_below disk)).room

@@ -4,67 +4,68 @@ use Rattle.wasi_abi.specs.rules.Configs.{Settings}
 use Rattle.machine.specs.rules.Values.{MachineValue}
 use Rattle.process.specs.rules.Values.{ProcessValue}
 use Rattle.state_image.specs.rules.Restored.{IsRestored}
-use Rattle.sector_disk.specs.rules.Image.{Image}
+use Rattle.sector_disk.specs.rules.DiskImage.{DiskImage}
 use Rattle.disk_layout.specs.declared.geometry.Geometry.{Geometry}
 use Rattle.disk_layout.specs.declared.reading.contents.Contents.{Contents}
 use Rattle.disk_layout.specs.rules.Held.{GivesContents}
 use Rattle.disk_layout.specs.rules.Journal.{scan}
 use Rattle.state_image.specs.rules.Saving.{saved_of}
-use Rattle.worker_store.specs.declared.newest.NewestImage.{NewestImage}
-use Rattle.worker_store.specs.rules.AnyDisk.{NamesImage, TellsNewest}
+use Rattle.worker_store.specs.declared.newest.NewestProcessImage.{NewestProcessImage}
+use Rattle.worker_store.specs.rules.AnyDisk.{NamesProcessImage, TellsNewest}
 use Rattle.worker.specs.declared.found.Found.{Found}
 use Rattle.worker.specs.declared.recover_fault.RecoverFault.{RecoverFault}
 use Rattle.worker.specs.rules.ShownDisks.{HoldsModule, ShowsFault}
 
 -- The process was made again of the image that the newest head names.
-pub record IsRestoredIn {sectors : ℕ} {disk : Image} (holds : HoldsModule sectors disk)
+pub record IsRestoredIn {sectors : ℕ} {disk : DiskImage} (holds : HoldsModule sectors disk)
     (geometry : Geometry) (generation : ℕ) (process : ProcessValue) : Type 0 where
   pub placed : geometry ≡ holds.contents.geometry
   pub bytes : List ℕ
-  pub newest : NamesImage holds.contents.geometry disk generation (saved_of process).version bytes
+  pub newest : NamesProcessImage holds.contents.geometry disk generation
+      (saved_of process).version bytes
   pub restored : IsRestored holds.module_is holds.contents.config bytes process
 
 -- That was found, and the records of its generation, of the version of the process.
-pub record IsFoundIn (sectors : ℕ) (disk : Image) (found : Found) : Type 0 where
+pub record IsFoundIn (sectors : ℕ) (disk : DiskImage) (found : Found) : Type 0 where
   pub holds : HoldsModule sectors disk
   pub process : IsRestoredIn holds found.geometry found.generation found.process
   pub scanned : scan holds.contents.geometry (saved_of found.process).version disk found.generation
       ≡ found.records.items
 
 -- that, or what is wrong with the disk
-abbrev pub FindsIn : ℕ → Image → Result Found RecoverFault → Type 0
+abbrev pub FindsIn : ℕ → DiskImage → Result Found RecoverFault → Type 0
 FindsIn sectors disk (Ok found) = IsFoundIn sectors disk found
 FindsIn sectors disk (Err why) = ShowsFault sectors disk why
 
 -- ---- in steps
 
 -- configuration and module were read
-abbrev pub FindsBehindIn : Contents → Image → Result Found RecoverFault → Type 0
+abbrev pub FindsBehindIn : Contents → DiskImage → Result Found RecoverFault → Type 0
 FindsBehindIn contents disk result =
     (sectors : ℕ) → GivesContents sectors disk (Ok contents) → FindsIn sectors disk result
 
 -- the machine is that of the module that the disk holds
-pub record IsMachineIn {sectors : ℕ} {disk : Image} (holds : HoldsModule sectors disk)
+pub record IsMachineIn {sectors : ℕ} {disk : DiskImage} (holds : HoldsModule sectors disk)
     (geometry : Geometry) (config : Settings) (machine : MachineValue) : Type 0 where
   pub placed : geometry ≡ holds.contents.geometry
   pub configured : config ≡ holds.contents.config
   pub linked : machine.guest ≡ holds.module_is
 
-abbrev pub FindsLinkedIn : Geometry → Settings → MachineValue → Image → Result Found RecoverFault
-    → Type 0
+abbrev pub FindsLinkedIn : Geometry → Settings → MachineValue → DiskImage
+    → Result Found RecoverFault → Type 0
 FindsLinkedIn geometry config machine disk result =
     (sectors : ℕ) (holds : HoldsModule sectors disk) → IsMachineIn holds geometry config machine
     → FindsIn sectors disk result
 
 -- the newest image was read too
-abbrev pub FindsSnapshotIn : Geometry → Settings → MachineValue → NewestImage → Image
+abbrev pub FindsSnapshotIn : Geometry → Settings → MachineValue → NewestProcessImage → DiskImage
     → Result Found RecoverFault → Type 0
 FindsSnapshotIn geometry config machine snapshot disk result =
     (sectors : ℕ) (holds : HoldsModule sectors disk) → IsMachineIn holds geometry config machine
     → TellsNewest geometry disk (Ok snapshot) → FindsIn sectors disk result
 
 -- its process was made again
-abbrev pub FindsRecordsIn : Geometry → ℕ → ProcessValue → Image → Result Found RecoverFault
+abbrev pub FindsRecordsIn : Geometry → ℕ → ProcessValue → DiskImage → Result Found RecoverFault
     → Type 0
 FindsRecordsIn geometry generation process disk result =
     (sectors : ℕ) (holds : HoldsModule sectors disk)

@@ -34,7 +34,7 @@ pub record IsKeptOn (m : Module) (bytes : List ℕ) (config : Settings) (promise
 
 -- One life of what was put in keeps what was promised before it, and this is told of it. The disk
 -- that the next one finds keeps what is promised then.
-pub record IsToldOn (m : Module) (bytes : List ℕ) (config : Settings) (planned : PlannedLife)
+pub record IsReportedOn (m : Module) (bytes : List ℕ) (config : Settings) (planned : PlannedLife)
     (so_far : Promise) (report : LifeReport) (next : MemDisk) : Type 0 where
   pub life : Life
   pub lived : IsLived m config so_far (inputs_of planned) life
@@ -48,7 +48,7 @@ abbrev pub LivesOn : List ℕ → Settings → PlannedLife → MemDisk → LifeR
 LivesOn bytes config planned found report next =
     (m : Module) (so_far : Promise) → IsAccepted offer config.pages bytes m
     → IsKeptOn m bytes config so_far found
-    → IsToldOn m bytes config planned so_far report next
+    → IsReportedOn m bytes config planned so_far report next
 
 -- what is promised after these lives
 abbrev pub promised_by_all : Promise → List Life → Promise

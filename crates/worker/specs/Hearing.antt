@@ -1,7 +1,7 @@
 -- Where the answers of a life come from, and where its lines go.
 use Rattle.std.specs.Prelude.{◌≡◌, ℕ, Bool, true, List, Result, Ok, Err}
 use Rattle.wasi_abi.specs.declared.answer.Answer.{Answer}
-use Rattle.wasi_calls_rules.specs.Hosts.{Line}
+use Rattle.wasi_calls_rules.specs.WasiStates.{Line}
 use Rattle.record_replay.specs.declared.fault.OutletFault.{OutletFault}
 use Rattle.record_replay.specs.rules.Calls.{Giving, Taking}
 use Rattle.record_replay.specs.declared.refusing.RefusingOutlet.{RefusingOutlet}
@@ -10,7 +10,7 @@ use Rattle.worker.specs.declared.story.hearing.HeardLines.{HeardLines}
 
 -- a list of answers, as a source
 abbrev pub hands_out : Giving (List Answer)
-hands_out = λ old kind said new. HandsOut old said new
+hands_out = λ old question said new. HandsOut old said new
 
 -- a refused line leaves a mark
 abbrev pub MarksRefusal : Bool → Result (Unit {0}) OutletFault → Bool → Type 0

@@ -2,7 +2,7 @@
 use Rattle.std.specs.Prelude.{◌≡◌, ℕ, Bool, true, false, List, [], ◌∷◌, Option}
 use Rattle.std.specs.Prelude.{Result, Ok, Err}
 use Rattle.wasi_abi.specs.rules.Configs.{Settings}
-use Rattle.sector_disk.specs.rules.Image.{Image}
+use Rattle.sector_disk.specs.rules.DiskImage.{DiskImage}
 use Rattle.sector_disk.specs.rules.Medium.{Medium}
 use Rattle.record_replay.specs.rules.Calls.{Giving, Taking}
 use Rattle.restart_theorem.specs.Lives.{Act, Beginning, Recovers, Creates}
@@ -11,7 +11,7 @@ use Rattle.worker.specs.declared.recover_fault.RecoverFault.{RecoverFault}
 use Rattle.worker.specs.declared.recover_fault.RecoverFault.TheVariants as recover
 use Rattle.worker.specs.rules.DurableValues.{DurableValue}
 use Rattle.worker.specs.laws.OneLife.{CallsInOrder, BeginsLife, IsOneLife, shown_first}
-use Rattle.worker.specs.laws.OneLife.{left_undone}
+use Rattle.worker.specs.laws.OneLife.{undone_acts}
 use Rattle.worker.specs.declared.story.living.LivedOnce.{LivedOnce}
 use Rattle.worker.specs.declared.story.opening.OpenedWorker.{OpenedWorker}
 use Rattle.worker.specs.declared.story.report.Opening.{Opening}
@@ -21,7 +21,7 @@ use Rattle.worker.specs.rules.Told.{TellsOpening}
 
 -- a cut of each disk may leave some image: its answers fit one
 abbrev pub LeavesSome : {D : Type 0} → (D → Medium) → Type 0
-LeavesSome {D} medium = (disk : D) → (image : Image) × (medium disk).may_leave image
+LeavesSome {D} medium = (disk : D) → (image : DiskImage) × (medium disk).crash_images image
 
 -- ---- acts
 
@@ -29,11 +29,11 @@ LeavesSome {D} medium = (disk : D) → (image : Image) × (medium disk).may_leav
 abbrev pub DoesAct : {D S O : Type 0} → (D → Medium) → Giving S → Taking O → Act → DurableValue
     → D → S → O → Result (Unit {0}) WorkFault → DurableValue → D → S → O → Type 0
 DoesAct {D} {S} {O} medium gives takes act w disk source outlet (Ok done) w' disk' source' outlet' =
-    (acts : List Act) (left : Result (List Act) RecoverFault) (last : D) (source_last : S)
+    (acts : List Act) (undone : Result (List Act) RecoverFault) (last : D) (source_last : S)
     (outlet_last : O)
-    → CallsInOrder medium gives takes acts w' disk' source' outlet' left last source_last
+    → CallsInOrder medium gives takes acts w' disk' source' outlet' undone last source_last
     outlet_last
-    → CallsInOrder medium gives takes (act ∷ acts) w disk source outlet left last source_last
+    → CallsInOrder medium gives takes (act ∷ acts) w disk source outlet undone last source_last
     outlet_last
 DoesAct medium gives takes act w disk source outlet (Err why) w' disk' source' outlet' =
     (acts : List Act) → CallsInOrder medium gives takes (act ∷ acts) w disk source outlet
@@ -79,6 +79,6 @@ pub record LivesOnce {D S O : Type 0} (medium : D → Medium) (gives : Giving S)
   pub begins : Beginning
   pub worker : Option DurableValue
   pub calls : IsOneLife medium gives takes bytes config acts found source outlet begins worker
-      (left_undone lived.ended) last source' outlet'
+      (undone_acts lived.ended) last source' outlet'
   pub told : TellsOpening begins (shown_first worker) lived.opened
   pub generation : IsOfRecovery medium takes found outlet lived.opened

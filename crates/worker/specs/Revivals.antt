@@ -1,7 +1,7 @@
--- What the parts of a recovery do behind the reads: a replay, and the next generation.
+-- What the parts of a recovery do after the reads: a replay, and the next generation.
 use Rattle.std.specs.Prelude.{◌≡◌, ◌⊎◌, ℕ, ◌+◌, false, Result, Ok, Err}
 use Rattle.process.specs.rules.Values.{ProcessValue, IsProcess}
-use Rattle.sector_disk.specs.rules.Image.{Image}
+use Rattle.sector_disk.specs.rules.DiskImage.{DiskImage}
 use Rattle.sector_disk.specs.rules.Medium.{Medium, CallsUpTo, Passes, CountsUpTo}
 use Rattle.disk_layout.specs.declared.geometry.Geometry.{Geometry}
 use Rattle.record_replay.specs.declared.fault.ReplayFault.{ReplayFault}
@@ -28,7 +28,8 @@ pub record WritesNext (geometry : Geometry) (generation : ℕ) (v : ProcessValue
   pub leaves : LeavesPointOrNext geometry (generation + 1) v mid new
   pub passes : Passes mid new (λ _. Unit {0})
   pub counts : CountsUpTo (mid.unsynced + geometry.area_sectors + 1) mid new
-  pub some : (image : Image) → new.may_leave image → (before : Image) × mid.may_leave before
+  pub some : (image : DiskImage) → new.crash_images image → (before : DiskImage)
+      × mid.crash_images before
   pub counted : CallsUpTo (mid.sectors + 2) mid new
 
 -- it is there, and this is its store

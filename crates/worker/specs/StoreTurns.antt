@@ -1,4 +1,4 @@
--- What the parts of a slice do to a store and its disk, whatever stands on that.
+-- What the parts of a slice do to a store and its disk, whatever is on that.
 use Rattle.std.specs.Prelude.{◌≡◌, ◌⊎◌, ℕ, ◌+◌, ◌<◌, ◌≤◌, List, [], ◌∷◌, ◌++◌, drop, Result}
 use Rattle.std.specs.Prelude.{Ok, Err}
 use Rattle.sector_disk.specs.declared.disk_call.DiskCall.{DiskCall}
@@ -38,7 +38,7 @@ HasTurnCause old disk disk' (Store store.TooBig) = Unit {0}
 HasTurnCause old disk disk' (Store other) = ⊥
 HasTurnCause old disk disk' (Upgrade fault) = ⊥
 
--- it has failed: behind these calls of the disk others were begun
+-- it has failed: after these calls of the disk others were begun
 pub record StoreStops (old new : WorkerStore) (why : WorkFault) (disk disk' : Medium) : Type 0
   where
     pub geometry : new.geometry ≡ old.geometry
@@ -96,7 +96,7 @@ abbrev pub owed : ℕ → List ℕ → ℕ
 owed sectors [] = 0
 owed sectors (byte ∷ bytes) = sectors
 
--- one takes no more than that, and behind it none is owed
+-- one takes no more than that, and after it none is owed
 abbrev pub PaysCalls : {T : Type 0} → Result T WorkFault → WorkerStore → WorkerStore → Medium
     → Medium → Type 0
 PaysCalls (Ok done) old new disk disk' =

@@ -20,4 +20,4 @@ pub mod Surveys
 pub mod Told
 pub mod Unsynced
 pub mod Upgrades
-pub mod Wishes
+pub mod Questions

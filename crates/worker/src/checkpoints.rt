@@ -6,7 +6,7 @@ use crate::saving::{is_process, save_telling};
 use ephemeral_worker::SliceFault;
 use record_replay::Outlet;
 use sector_disk::Disk;
-use worker_store::laws::images_fit_areas;
+use worker_store::laws::process_images_fit_areas;
 
 impl Worker {
     ghost use Rattle.std.specs.Prelude.{◌≡◌, ◌≤◌, true, IfErr, OnErr, OnOk};
@@ -28,8 +28,8 @@ impl Worker {
     ) -> Result<(), WorkFault>
         requires { total_sectors self.old.store.geometry ≤ (D.medium disk.old).sectors }
 
-        // Whatever was promised is kept, by Ok or by any error; once it has answered Ok, also
-        // that no later life comes behind this process.
+        // Whatever was promised is kept, by Ok or by any error; once it has answered Ok, also that
+        // no later life comes after this process.
         ensures carries { CheckpointCarries self.old result self.new (D.medium disk.old)
             (D.medium disk.new) }
 
@@ -68,7 +68,7 @@ impl Worker {
         if self.has_failed {
             return Err(WorkFault::Work(SliceFault::Failed));
         }
-        images_fit_areas();
+        process_images_fit_areas();
         is_process(&self.running.process);
         let running = &mut self.running;
         let saved = save_telling(

@@ -9,9 +9,9 @@ ghost use Rattle.process_rules.specs.Processes.{host_of};
 
 use std::alloc::{AllocError, Global};
 use wasi_abi::Config;
-use wasm_syntax::Row;
+use wasm_syntax::ItemList;
 
-/// Another configuration of the same settings. It fails for want of memory alone.
+/// Another configuration of the same settings. It fails only when out of memory.
 pub(crate) fn copy_config(alloc: Global, config: &Config) -> Result<Config, AllocError>
     ensures copied { IfOk result (λ copy. copy ≡ config.now) }
     ensures within { IfOk result (λ _. AreSettingsWithinLimits config.now) }
@@ -29,11 +29,11 @@ pub(crate) fn copy_config(alloc: Global, config: &Config) -> Result<Config, Allo
 }
 
 /// The same texts, in memory of their own.
-fn copy_texts(alloc: Global, texts: &[Row<u8>]) -> Result<Row<Row<u8>>, AllocError>
+fn copy_texts(alloc: Global, texts: &[ItemList<u8>]) -> Result<ItemList<ItemList<u8>>, AllocError>
     ensures copied { IfOk result (λ copies. copies ≡ texts.now) }
     ensures bytes { IfOk result (λ _. AllByRecursion AreBytes texts.now) }
 {
-    let mut copies = Row::new(alloc);
+    let mut copies = ItemList::new(alloc);
     for text in texts {
         let copy = copy_text(alloc, text.as_slice())?;
         copies.push(copy)?;
@@ -42,9 +42,9 @@ fn copy_texts(alloc: Global, texts: &[Row<u8>]) -> Result<Row<Row<u8>>, AllocErr
 }
 
 /// The same text, in memory of its own.
-pub(crate) fn copy_text(alloc: Global, text: &[u8]) -> Result<Row<u8>, AllocError>
+pub(crate) fn copy_text(alloc: Global, text: &[u8]) -> Result<ItemList<u8>, AllocError>
     ensures copied { IfOk result (λ copy. copy ≡ text.now) }
     ensures bytes { IfOk result (λ _. AreBytes text.now) }
 {
-    Ok(Row::from_vec(Vec::from_slice(alloc, text)?))
+    Ok(ItemList::from_vec(Vec::from_slice(alloc, text)?))
 }

@@ -14,7 +14,7 @@ ghost use Rattle.worker.specs.Laying.{worker_laid};
 use crate::copying::copy_config;
 use crate::durable::Worker;
 use crate::fault::WorkFault;
-use crate::running::Running;
+use crate::running_worker::RunningWorker;
 use crate::saving::is_process;
 use ephemeral_worker::SliceFault;
 use machine_loader::read;
@@ -22,7 +22,7 @@ use process::Process;
 use sector_disk::Disk;
 use std::alloc::Global;
 use wasi_abi::Config;
-use worker_store::laws::images_fit_areas;
+use worker_store::laws::process_images_fit_areas;
 use worker_store::{StoreFault, WorkerStore, lay_out};
 
 /// The process of the module that the bytes spell, as it begins. It has a configuration of its own.
@@ -60,7 +60,7 @@ fn worker_of(
 {
     match laid {
         Ok(store) => Ok(Worker {
-            running: Running {
+            running: RunningWorker {
                 alloc,
                 process,
                 store,
@@ -84,7 +84,7 @@ impl Worker {
 
     /// A fresh worker of the module that the bytes spell, on this disk. Whatever stood on it is
     /// lost. A module that isn't accepted, and a disk with too few sectors, are refused before
-    /// anything is written. So is want of memory told.
+    /// anything is written. So is out of memory told.
     pub fn create<D: Disk>(
         alloc: Global,
         disk: &mut D,
@@ -113,7 +113,7 @@ impl Worker {
             (D.medium disk.new) }
     {
         let process = begin(alloc, wasm, config)?;
-        images_fit_areas();
+        process_images_fit_areas();
         is_process(&process);
         let laid = lay_out(alloc, disk, config, wasm, &process);
         worker_of(alloc, process, laid)

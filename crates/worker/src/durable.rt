@@ -2,7 +2,7 @@
 
 ghost use Rattle.std.specs.Prelude.{◌≡◌};
 
-use crate::running::Running;
+use crate::running_worker::RunningWorker;
 use process::Process;
 use std::marker::Model;
 
@@ -11,7 +11,7 @@ use std::marker::Model;
 /// answers `Failed`.
 #[derive(Drop)]
 pub struct Worker {
-    pub(crate) running: Running,
+    pub(crate) running: RunningWorker,
     pub(crate) replayed: u64,
     pub(crate) has_failed: bool,
 }

@@ -22,7 +22,7 @@ pub enum WorkFault {
     Work(SliceFault),
     #[error("N1 Disk")]
     Disk(DiskFault),
-    /// Neither want of memory nor a fault of the disk.
+    /// Neither out of memory nor a fault of the disk.
     #[error("{0}")]
     Store(StoreFault),
     #[error("{0}")]

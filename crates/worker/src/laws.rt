@@ -36,7 +36,7 @@ pub fn uncut_lives_go_on<D: Disk, S: Source, O: Outlet>()
 {}
 
 /// Take a life without an error, in which the power isn't cut. The process that all kept answers
-/// lead to stands as the life's outcome says: it has ended so, or it waits.
+/// lead to is as the life's outcome says: it has ended so, or it waits.
 pub fn lives_end_as_said<D: Disk, S: Source, O: Outlet>()
     ensures { LivesEndAsSaid D.medium S.gives O.takes }
 {}

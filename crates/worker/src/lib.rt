@@ -1,38 +1,36 @@
 //! A worker on its disk (this project's own). Its answers are recorded, its lines are released
-//! behind a barrier, and its process is saved from time to time. `Worker::create` makes one,
-//! and `Worker::recover` one that a disk stands for. What is proved of the other calls holds
-//! of any that is open on its disk (`IsOpenOn`).
+//! after a barrier, and its process is saved from time to time. `Worker::create` makes one, and
+//! `Worker::recover` one that a disk stands for. What is proved of the other calls holds of any
+//! that is open on its disk (`IsOpenOn`).
 //!
 //! # Promises
 //!
-//! - `Worker::create`: the worker of the accepted module that the bytes spell, at its start,
-//!   in generation 1 (`created`). Whatever stood on the disk, the worker is open on it after Ok.
-//!   Where no worker was, a cut at any moment leaves none, or this one, of which nothing was
-//!   promised before (`carries`). Each error comes only for its cause (`refused`). A module that
-//!   isn't accepted, a disk with too few sectors and want of memory leave the disk alone
-//!   (`untouched`). Its calls of the disk are told (`calls`).
-//! - `Worker::recover`: nothing is written or told before a good sync, and what the disk
-//!   then shows decides the result (`recovers`). Where it stands for a worker, the process is the
-//!   one that all answers on the disk lead to. Each line behind the snapshot is told again, once
-//!   and in order, and the next generation is committed. Where a mark of a worker is missing,
-//!   nothing is written or told. Whatever was promised is kept, by Ok and by any error (`carries`):
-//!   the lines and the opening are events that keep it, and a cut at any moment leaves what holds
-//!   all that was promised before. After Ok the worker is open on the disk, which has room for it
-//!   (`room`).
-//! - Whatever stands on the disk, the result of `Worker::recover` is what its newest head
-//!   and all behind it say. What is refused there is left as it is (`shown`). The head tells the
-//!   version of the image and of the records. A head at odds with the journal or with its image is
-//!   refused.
-//! - Whatever stands on the disk, where the outlet refuses a line a recovery releases no other one,
-//!   and says so. It says so of nothing else (`heeds`).
+//! - `Worker::create`: the worker of the accepted module that the bytes spell, at its start, in
+//!   generation 1 (`created`). Whatever stood on the disk, the worker is open on it after Ok. Where
+//!   no worker was, a cut at any moment leaves none, or this one, of which nothing was promised
+//!   before (`carries`). Each error comes only for its cause (`refused`). A module that isn't
+//!   accepted, a disk with too few sectors and out of memory leave the disk alone (`untouched`).
+//!   Its calls of the disk are told (`calls`).
+//! - `Worker::recover`: nothing is written or told before a good sync, and what the disk then shows
+//!   decides the result (`recovers`). Where it stands for a worker, the process is the one that all
+//!   answers on the disk lead to. Each line after the snapshot is told again, once and in order,
+//!   and the next generation is committed. Where a mark of a worker is missing, nothing is written
+//!   or told. Whatever was promised is kept, by Ok and by any error (`carries`): the lines and the
+//!   opening are events that keep it, and a cut at any moment leaves what holds all that was
+//!   promised before. After Ok the worker is open on the disk, which has room for it (`room`).
+//! - Whatever is on the disk, the result of `Worker::recover` is what its newest head and all after
+//!   it say. What is refused there is left as it is (`shown`). The head tells the version of the
+//!   image and of the records. A head at odds with the journal or with its image is refused.
+//! - Whatever is on the disk, where the outlet refuses a line a recovery releases no other one, and
+//!   says so. It says so of nothing else (`heeds`).
 //! - `read_survey`: nothing is written. The disk is synced, and what it then shows decides the
-//!   result (`Surveys`). Where it stands for a worker, its generation and the numbers and the version
-//!   of the saved process are told, and how many records lie behind it; or an error that says
-//!   nothing of them.
-//! - `inspect`: nothing is written. The disk is synced, and what it then shows is told (`Inspects`):
-//!   configuration and module, the newest snapshot and the process that it has saved, what that
-//!   process waits for, the records behind it, and how many sectors of the journal are left. A disk
-//!   is refused as by `read_survey`.
+//!   result (`Surveys`). Where it stands for a worker, its generation and the numbers and the
+//!   version of the saved process are told, and how many records lie after it; or an error that
+//!   says nothing of them.
+//! - `inspect`: nothing is written. The disk is synced, and what it then shows is told
+//!   (`Inspects`): configuration and module, the newest snapshot and the process that it has saved,
+//!   what that process waits for, the records after it, and how many sectors of the journal are
+//!   left. A disk is refused as by `read_survey`.
 //! - A recovery's error is that of the layer that has found it, under its own name
 //!   (`RecoverFault`). Want of memory may end a recovery anywhere, and then it says only what the
 //!   layers before have found (`shown`).
@@ -50,17 +48,17 @@
 //!   stays (`replayed`), and the disk has room for the next call (`room`).
 //! - `Worker::checkpoint` is a barrier, the release of each line that waits, and a commit. No line
 //!   waits between two calls, so it releases none (`quiet`). It keeps what was promised too
-//!   (`carries`), and after its Ok no later life comes behind it (`saved`). Its calls of the disk
+//!   (`carries`), and after its Ok no later life comes after it (`saved`). Its calls of the disk
 //!   are told (`calls`), and each error has its cause (`cause`). After an error the generation is
 //!   as it was (`unsaved`).
 //! - `Worker::upgrade` is the same, and the process is saved in version 2 (`done`). A cut at any
-//!   moment leaves a disk that stands for a worker of the one version or of the other. Up to the end
-//!   of the barrier it is version 1, and holds all that was promised. From then on it is version 1
-//!   with all answers, or version 2 (`migrates`), and after Ok version 2 alone (`ends`). It is
-//!   refused before anything is asked of the disk where the journal is too small (`too_small`). So
-//!   is a worker of version 1 beyond whose process an earlier life may have told lines
-//!   (`not_caught_up`). Whatever was promised is kept (`carries`).
-//! - Whatever stands on the disk, a slice, a checkpoint, an upgrade and a recovery answer a fault of
+//!   moment leaves a disk that stands for a worker of the one version or of the other. Up to the
+//!   end of the barrier it is version 1, and holds all that was promised. From then on it is
+//!   version 1 with all answers, or version 2 (`migrates`), and after Ok version 2 alone (`ends`).
+//!   It is refused before anything is asked of the disk where the journal is too small
+//!   (`too_small`). So is a worker of version 1 beyond whose process an earlier life may have told
+//!   lines (`not_caught_up`). Whatever was promised is kept (`carries`).
+//! - Whatever is on the disk, a slice, a checkpoint, an upgrade and a recovery answer a fault of
 //!   the disk only for its cause, and `Failed` only of a worker that had failed before
 //!   (`on_any_disk`).
 //! - At no moment of these are there more unsynced writes than before and the journal's, or an
@@ -89,26 +87,25 @@
 //! `RecoveryCarries`, `Reopens`, `ReopensInVain`, `FindsNone`, `HasRecoveryCause`
 //! (`Recoveries.antt`); `RecoversAsShown`, `AnswersDisk`, `HoldsWorker`, `ShowsFault`, `FailsHeld`
 //! (`ShownDisks.antt`); `HeedsOutlet` (`Outlets.antt`); `Surveys`, `SurveysFrom`, `survey_of`
-//! (`Surveys.antt`); `Inspects`, `IsInspected`, `sectors_left` (`Inspections.antt`); `TellsWish`
-//! (`Wishes.antt`); `SlicesOnDiskInVain`, `IsDiskCause`, `HasSliceCause`
-//! (`DurableFailures.antt`); `SliceCalls`
-//! (`SliceCalls.antt`); `CheckpointCalls`, `CheckpointFails`, `HasCheckpointCause`
-//! (`Checkpoints.antt`); `IsUpgradedIn`, `UpgradeCalls`, `UpgradeFails`, `HasUpgradeCause`,
-//! `StandsInOne`, `LeadsInOne`, `StandsInTwo`, `Migrates`, `EndsInTwo` (`Upgrades.antt`);
-//! `CountsInSlice`, `CountsInRecovery` (`Unsynced.antt`); `fault_of_store`
-//! (`WorkFaults.antt`); `fault_of_read`, `wants_memory`, `LayerWantsMemory`, `IsOfItsLayer`
-//! (`RecoverFaults.antt`);
-//! `most_calls`, `CallsForEvents` (`CallCounts.antt`); `inputs_of` (`Planned.antt`), `TellsLives`
-//! (`StoryDisks.antt`). They speak in the words of `restart_theorem` and `worker_store`.
+//! (`Surveys.antt`); `Inspects`, `IsInspected`, `sectors_left` (`Inspections.antt`);
+//! `TellsQuestion` (`Questions.antt`); `SlicesOnDiskInVain`, `IsDiskCause`, `HasSliceCause`
+//! (`DurableFailures.antt`); `SliceCalls` (`SliceCalls.antt`); `CheckpointCalls`,
+//! `CheckpointFails`, `HasCheckpointCause` (`Checkpoints.antt`); `IsUpgradedIn`, `UpgradeCalls`,
+//! `UpgradeFails`, `HasUpgradeCause`, `StandsInOne`, `LeadsInOne`, `StandsInTwo`, `Migrates`,
+//! `EndsInTwo` (`Upgrades.antt`); `CountsInSlice`, `CountsInRecovery` (`Unsynced.antt`);
+//! `fault_of_store` (`WorkFaults.antt`); `fault_of_read`, `wants_memory`, `LayerWantsMemory`,
+//! `IsOfItsLayer` (`RecoverFaults.antt`); `most_calls`, `CallsForEvents` (`CallCounts.antt`);
+//! `inputs_of` (`Planned.antt`), `TellsLives` (`StoryDisks.antt`). They speak in the words of
+//! `restart_theorem` and `worker_store`.
 //!
 //! # Who may touch what
 //!
 //! Only this crate decides when records are kept, when they are put on the disk, and when a process
 //! is saved. `wasmhost_commands` uses it. It is handed its disk at each call, and keeps none. It
-//! stands on `ephemeral_worker`, whose definitions of slices are its own, and on `worker_store`. A
-//! creation takes memory for the module, for a copy of the configuration and for its bytes; the
-//! process keeps the copy. A recovery takes memory for all that it reads. The other calls take none
-//! but what the process and the journal take.
+//! uses `ephemeral_worker`, whose definitions of slices are its own, and `worker_store`. A creation
+//! takes memory for the module, for a copy of the configuration and for its bytes; the process
+//! keeps the copy. A recovery takes memory for all that it reads. The other calls take none but
+//! what the process and the journal take.
 //!
 //! # Choices
 //!
@@ -172,9 +169,10 @@ mod found;
 mod inspecting;
 mod inspection;
 pub mod laws;
+mod question;
 mod recover_fault;
 mod recovering;
-mod running;
+mod running_worker;
 mod saving;
 mod slices;
 pub mod story;
@@ -184,7 +182,6 @@ mod turns;
 mod upgrade_fault;
 mod upgrades;
 mod widening;
-mod wish;
 
 pub use durable::Worker;
 pub use ephemeral_worker::SliceFault;
@@ -192,7 +189,7 @@ pub use fault::WorkFault;
 pub use inspecting::inspect;
 pub use inspection::Inspection;
 pub use recover_fault::RecoverFault;
-pub use running::Running;
+pub use running_worker::RunningWorker;
 pub use surveyed::Survey;
 pub use surveying::read_survey;
 pub use upgrade_fault::UpgradeFault;

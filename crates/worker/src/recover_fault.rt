@@ -10,7 +10,7 @@ use crate::fault::WorkFault;
 use disk_layout::LayoutFault;
 use ephemeral_worker::SliceFault;
 use journal::JournalFault;
-use machine_loader::FrontFault;
+use machine_loader::ModuleFault;
 use record_replay::ReplayFault;
 use sector_disk::DiskFault;
 use snapshot::SnapshotFault;
@@ -31,14 +31,14 @@ pub enum RecoverFault {
     Layout(LayoutFault),
     /// The module is decoded, validated and linked.
     #[error("{0}")]
-    Front(FrontFault),
+    Module(ModuleFault),
     /// The newest head, and the image that it names.
     #[error("{0}")]
     Snapshot(SnapshotFault),
     /// The process is made of its image again.
     #[error("{0}")]
-    Image(RestoreFault),
-    /// The records behind it.
+    ProcessImage(RestoreFault),
+    /// The records after it.
     #[error("{0}")]
     Journal(JournalFault),
     /// The process takes its records, and its lines are released once more.
@@ -52,11 +52,11 @@ impl RecoverFault {
         ensures { result ≡ wants_memory self.now }
     {
         match self {
-            RecoverFault::Front(fault) => fault.is_want_of_memory(),
+            RecoverFault::Module(fault) => fault.is_want_of_memory(),
             RecoverFault::Worker(WorkFault::Work(SliceFault::Memory))
             | RecoverFault::Layout(LayoutFault::Memory)
             | RecoverFault::Snapshot(SnapshotFault::Memory)
-            | RecoverFault::Image(RestoreFault::Memory)
+            | RecoverFault::ProcessImage(RestoreFault::Memory)
             | RecoverFault::Journal(JournalFault::Memory)
             | RecoverFault::Replay(ReplayFault::Memory) => true,
             _ => false,
@@ -93,19 +93,19 @@ impl From<ReadFault> for RecoverFault {
     }
 }
 
-impl From<FrontFault> for RecoverFault {
-    ghost from_gives = { λ fault e. e ≡ recover.Front fault };
+impl From<ModuleFault> for RecoverFault {
+    ghost from_gives = { λ fault e. e ≡ recover.Module fault };
 
-    fn from(fault: FrontFault) -> RecoverFault {
-        RecoverFault::Front(fault)
+    fn from(fault: ModuleFault) -> RecoverFault {
+        RecoverFault::Module(fault)
     }
 }
 
 impl From<RestoreFault> for RecoverFault {
-    ghost from_gives = { λ fault e. e ≡ recover.Image fault };
+    ghost from_gives = { λ fault e. e ≡ recover.ProcessImage fault };
 
     fn from(fault: RestoreFault) -> RecoverFault {
-        RecoverFault::Image(fault)
+        RecoverFault::ProcessImage(fault)
     }
 }
 

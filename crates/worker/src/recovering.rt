@@ -10,15 +10,23 @@ use crate::fault::WorkFault;
 use crate::finding::find;
 use crate::found::Found;
 use crate::recover_fault::RecoverFault;
-use crate::running::Running;
+use crate::running_worker::RunningWorker;
 use crate::saving::is_process;
 use disk_layout::Geometry;
 use process::Process;
 use record_replay::{Outlet, replay};
 use sector_disk::Disk;
 use std::alloc::Global;
-use worker_store::laws::images_fit_areas;
-use worker_store::{StoreFault, WorkerStore};
+use worker_store::laws::process_images_fit_areas;
+use worker_store::{HashedImage, StoreFault, WorkerStore};
+
+/// The snapshot by which a worker was found.
+#[derive(Drop)]
+pub(crate) struct LastSnapshot {
+    pub(crate) geometry: Geometry,
+    pub(crate) generation: u64,
+    pub(crate) process_image: HashedImage,
+}
 
 impl Worker {
     ghost use Rattle.std.specs.Prelude.{IfErr, IfOk};
@@ -43,8 +51,8 @@ impl Worker {
         ensures recovers { Recovers D.medium O.takes result disk.old disk.new outlet.old
             outlet.new }
 
-        // Whatever stands on the disk, the result is what the newest head and all behind it say,
-        // and what is refused there is left as it is.
+        // Whatever is on the disk, the result is what the newest head and all after it say, and
+        // what is refused there is left as it is.
         ensures shown { RecoversAsShown D.medium O.takes result disk.old disk.new outlet.old
             outlet.new }
 
@@ -54,22 +62,22 @@ impl Worker {
         ensures room { IfOk result (λ w.
             total_sectors w.store.geometry ≤ (D.medium disk.new).sectors) }
 
-        // Whatever stands on the disk, a fault of the disk has its cause, and nothing has failed
+        // Whatever is on the disk, a fault of the disk has its cause, and nothing has failed
         // before.
         ensures on_any_disk { IfErr result (λ why. HasRecoveryCause (D.medium disk.old)
             (D.medium disk.new) why) }
         ensures asks { CallsUpTo (most_recovering (D.medium disk.old).sectors)
             (D.medium disk.old) (D.medium disk.new) }
 
-        // Whatever stands on the disk, the outlet took each line; or it refused the last one, and
-        // the error says so.
+        // Whatever is on the disk, the outlet took each line; or it refused the last one, and the
+        // error says so.
         ensures heeds { HeedsOutlet O.takes (SaysOutletFault result) outlet.old outlet.new }
 
         // At no moment were there more unsynced writes than before, or than an area's and its
         // head.
         ensures counts { CountsInRecovery result (D.medium disk.old) (D.medium disk.new) }
     {
-        images_fit_areas();
+        process_images_fit_areas();
         if let Err(fault) = disk.sync() {
             return Err(RecoverFault::from(fault));
         }
@@ -96,13 +104,17 @@ fn revive<D: Disk, O: Outlet>(
     let Found {
         geometry,
         generation,
+        process_image,
         process,
         records,
     } = found;
+    let last = LastSnapshot {
+        geometry,
+        generation,
+        process_image,
+    };
     match replay(alloc, process, records.as_slice(), outlet) {
-        Ok((process, replayed)) => {
-            open_again(alloc, disk, &geometry, generation, process, replayed)
-        }
+        Ok((process, replayed)) => { open_again(alloc, disk, last, process, replayed) }
         Err(fault) => Err(RecoverFault::from(fault)),
     }
 }
@@ -111,21 +123,20 @@ fn revive<D: Disk, O: Outlet>(
 fn open_again<D: Disk>(
     alloc: Global,
     disk: &mut D,
-    geometry: &Geometry,
-    generation: u64,
+    last: LastSnapshot,
     process: Process,
     replayed: u64,
 ) -> Result<Worker, RecoverFault>
-    requires sectors { total_sectors geometry.now ≤ (D.medium disk.old).sectors }
+    requires sectors { total_sectors last.geometry ≤ (D.medium disk.old).sectors }
     requires none_waits { waiting_in process ≡ [] }
-    ensures opens { OpensAgain geometry.now generation process replayed result
+    ensures opens { OpensAgain last.geometry last.generation process replayed result
         (D.medium disk.old) (D.medium disk.new) }
     ensures some { IsProcess process }
 {
     is_process(&process);
-    match open_next(alloc, disk, geometry, generation, &process) {
+    match open_next(alloc, disk, last, &process) {
         Ok(store) => Ok(Worker {
-            running: Running {
+            running: RunningWorker {
                 alloc,
                 process,
                 store,
@@ -138,22 +149,27 @@ fn open_again<D: Disk>(
     }
 }
 
-/// Saves a process as the generation behind this one.
+/// Saves a process as the next generation. Where the process is still the one of the last snapshot,
+/// its digest is the one that was compared, and isn't computed again.
 fn open_next<D: Disk>(
     alloc: Global,
     disk: &mut D,
-    geometry: &Geometry,
-    generation: u64,
+    last: LastSnapshot,
     process: &Process,
 ) -> Result<WorkerStore, RecoverFault>
-    requires { total_sectors geometry.now ≤ (D.medium disk.old).sectors }
-    ensures { OpensNext geometry.now generation process.now result (D.medium disk.old)
+    requires { total_sectors last.geometry ≤ (D.medium disk.old).sectors }
+    ensures { OpensNext last.geometry last.generation process.now result (D.medium disk.old)
         (D.medium disk.new) }
 {
+    let LastSnapshot {
+        geometry,
+        generation,
+        process_image,
+    } = last;
     let Some(next) = generation.checked_add(1) else {
         return Err(RecoverFault::Worker(WorkFault::Store(StoreFault::TooBig)));
     };
-    match WorkerStore::reopen(alloc, disk, geometry, next, process) {
+    match WorkerStore::reopen(alloc, disk, &geometry, next, process, Some(process_image)) {
         Ok(store) => Ok(store),
         Err(fault) => Err(RecoverFault::from(fault)),
     }

@@ -35,7 +35,7 @@ pub(crate) fn save<D: Disk>(
 ) -> Result<(), StoreFault>
     requires { total_sectors store.old.geometry ≤ (D.medium disk.old).sectors }
 
-    // A cut at any moment leaves a front of these records behind those that stood before, or the
+    // A cut at any moment leaves a prefix of these records after those that stood before, or the
     // new snapshot.
     ensures any_moment { LeavesFrontOrNext store.old process.now (D.medium disk.old)
         (D.medium disk.new) }
@@ -55,7 +55,7 @@ pub(crate) fn save<D: Disk>(
     ensures cause { IfErr result (SaveFails store.old process.now (D.medium disk.old)
         (D.medium disk.new)) }
 
-    // What it does to any store, whatever stands on the disk.
+    // What it does to any store, whatever is on the disk.
     ensures runs { StoreSaves result store.old store.new (D.medium disk.old) (D.medium disk.new) }
     ensures on_any_disk { IfErr result (λ e. HasSaveCause store.old process.now
         (D.medium disk.old) (D.medium disk.new) e) }
@@ -98,7 +98,7 @@ pub(crate) fn save_telling<D: Disk, O: Outlet>(
     ensures same { process.new ≡ process.old }
     ensures quiet { outlet.new ≡ outlet.old }
 
-    // A cut at any moment leaves a front of these records behind those that stood before, or the
+    // A cut at any moment leaves a prefix of these records after those that stood before, or the
     // new snapshot.
     ensures any_moment { LeavesFrontOrNext store.old process.old (D.medium disk.old)
         (D.medium disk.new) }
@@ -118,7 +118,7 @@ pub(crate) fn save_telling<D: Disk, O: Outlet>(
     ensures cause { IfErr result (SaveFails store.old process.old (D.medium disk.old)
         (D.medium disk.new)) }
 
-    // What it does to any store, whatever stands on the disk.
+    // What it does to any store, whatever is on the disk.
     ensures runs { StoreSaves result store.old store.new (D.medium disk.old) (D.medium disk.new) }
     ensures on_any_disk { IfErr result (λ e. HasSaveCause store.old process.old
         (D.medium disk.old) (D.medium disk.new) e) }

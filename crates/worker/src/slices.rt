@@ -11,15 +11,15 @@ ghost use Rattle.worker.specs.rules.DurableFailures.{SlicesOnDiskInVain};
 
 use crate::durable::Worker;
 use crate::fault::WorkFault;
-use crate::running::Running;
+use crate::running_worker::RunningWorker;
 use ephemeral_worker::{Now, SliceFault};
 use process::Stop;
 use record_replay::{Outlet, Source};
 use sector_disk::Disk;
 
-impl Running {
+impl RunningWorker {
     /// Takes at most `fuel` steps. Each line is released, and each answer asked for, before the
-    /// next step. A line comes behind a barrier, and an answer where the journal has room for it.
+    /// next step. A line comes after a barrier, and an answer where the journal has room for it.
     fn work<D: Disk, S: Source, O: Outlet>(
         &mut self,
         disk: &mut D,
@@ -42,16 +42,16 @@ impl Running {
     {
         let first = self.process.steps();
         loop {
-            let left = fuel - (self.process.steps() - first);
-            match self.process.advance(left)? {
-                Stop::Owes => self.settle(disk, outlet)?,
+            let fuel_left = fuel - (self.process.steps() - first);
+            match self.process.advance(fuel_left)? {
+                Stop::Owes => self.flush(disk, outlet)?,
                 Stop::Ended(how) => {
                     self.is_abreast = true;
                     return Ok(Now::Ended(how));
                 }
                 Stop::Spent => return Ok(Now::Spent),
-                Stop::Asks(kind) => {
-                    if !self.ask(kind, disk, source)? {
+                Stop::Asks(question) => {
+                    if !self.ask(question, disk, source)? {
                         return Ok(Now::Waiting);
                     }
                 }
@@ -104,7 +104,7 @@ impl Worker {
             → (result ≡ Err (WorkFault.Work SliceFault.Failed)) × (self.new ≡ self.old)
             × (disk.new ≡ disk.old) × (source.new ≡ source.old) × (outlet.new ≡ outlet.old) }
 
-        // Whatever stands on the disk, a fault of the disk has its cause, and `Failed` too.
+        // Whatever is on the disk, a fault of the disk has its cause, and `Failed` too.
         ensures on_any_disk { IfErr result (λ why. HasSliceCause self.old (D.medium disk.old)
             (D.medium disk.new) why) }
         ensures room { total_sectors self.new.store.geometry ≤ (D.medium disk.new).sectors }

@@ -1,8 +1,8 @@
-//! What stands on a worker's disk, in numbers.
+//! What is on a worker's disk, in numbers.
 
 use wasi_abi::Version;
 
-/// The process that was saved last, in numbers, and how many records lie behind it.
+/// The process that was saved last, in numbers, and how many records lie after it.
 #[derive(Clone, Copy, Debug, PartialEq, Eq)]
 pub struct Survey {
     pub generation: u64,

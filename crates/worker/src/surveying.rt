@@ -25,8 +25,8 @@ fn numbers_of(found: &Found) -> Survey
     }
 }
 
-/// Tells what stands on a worker's disk. Syncs the disk, and reads what it shows. Nothing is
-/// replayed or written: the numbers are those of the process that was saved last.
+/// Tells what is on a worker's disk. Syncs the disk, and reads what it shows. Nothing is replayed
+/// or written: the numbers are those of the process that was saved last.
 pub fn read_survey<D: Disk>(alloc: Global, disk: &mut D) -> Result<Survey, RecoverFault>
     ensures { Surveys result (D.medium disk.old) (D.medium disk.new) }
 {

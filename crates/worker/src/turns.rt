@@ -8,25 +8,25 @@ ghost use Rattle.disk_layout.specs.rules.Places.{total_sectors};
 ghost use Rattle.record_replay.specs.rules.Waiting.{ReleasesAll};
 ghost use Rattle.ephemeral_worker.specs.Turns.{AsksOnce};
 ghost use Rattle.worker.specs.DurableTurns.{AsksTurn, Hears, MakesNoRoom, MakesRoom};
-ghost use Rattle.worker.specs.DurableTurns.{SettlesTurn, SettlesVainly, AsksVainly};
+ghost use Rattle.worker.specs.DurableTurns.{Flushes, FlushesVainly, AsksVainly};
 ghost use Rattle.worker.specs.DurableTurns.{IsOfStoreFault};
-ghost use Rattle.worker.specs.DurableTurns.{SettlesInVain, TakesNone, TakesOnRecord};
+ghost use Rattle.worker.specs.DurableTurns.{FlushesInVain, TakesNone, TakesOnRecord};
 ghost use Rattle.worker.specs.rules.CallCounts.{most_saving};
 ghost use Rattle.worker.specs.StoreTurns.{HearsOrNot, PaysCalls, StoreRuns};
 
 use crate::fault::WorkFault;
-use crate::running::Running;
+use crate::running_worker::RunningWorker;
 use crate::saving::save;
 use disk_layout::{Record, longest_record};
 use ephemeral_worker::SliceFault;
 use record_replay::{Outlet, Source, release_waiting};
 use sector_disk::Disk;
-use wasi_abi::{Kind, NUMBERS_END, fits};
-use worker_store::laws::images_fit_areas;
+use wasi_abi::{NUMBERS_END, Question, fits};
+use worker_store::laws::process_images_fit_areas;
 
-impl Running {
+impl RunningWorker {
     /// Puts the records on the disk, and then releases the lines that wait.
-    pub(crate) fn settle<D: Disk, O: Outlet>(
+    pub(crate) fn flush<D: Disk, O: Outlet>(
         &mut self,
         disk: &mut D,
         outlet: &mut O,
@@ -34,11 +34,11 @@ impl Running {
         requires { total_sectors self.old.store.geometry ≤ (D.medium disk.old).sectors }
         ensures all { OnOk result
             (ReleasesAll O.takes self.old.process self.new.process outlet.old outlet.new) }
-        ensures settles { OnOk result (SettlesTurn O.takes self.old self.new (D.medium disk.old)
+        ensures flushes { OnOk result (Flushes O.takes self.old self.new (D.medium disk.old)
             (D.medium disk.new) outlet.old outlet.new) }
-        ensures fails { IfErr result (λ why. SettlesInVain O.takes self.old why self.new
+        ensures fails { IfErr result (λ why. FlushesInVain O.takes self.old why self.new
             (D.medium disk.old) (D.medium disk.new) outlet.old outlet.new) }
-        ensures failed { IfErr result (λ why. SettlesVainly O.takes self.old.process why
+        ensures failed { IfErr result (λ why. FlushesVainly O.takes self.old.process why
             self.new.process outlet.old outlet.new) }
         ensures runs { StoreRuns result self.old.store self.new.store (D.medium disk.old)
             (D.medium disk.new) }
@@ -57,17 +57,17 @@ impl Running {
     /// each line that was ever told.
     pub(crate) fn ask<D: Disk, S: Source>(
         &mut self,
-        kind: Kind,
+        question: Question,
         disk: &mut D,
         source: &mut S,
     ) -> Result<bool, WorkFault>
         requires { total_sectors self.old.store.geometry ≤ (D.medium disk.old).sectors }
-        ensures once { IfOk result (λ is_there. AsksOnce S.gives kind self.old.process
+        ensures once { IfOk result (λ is_there. AsksOnce S.gives question self.old.process
             (Ok is_there) self.new.process source.old source.new) }
         ensures released { self.new.process.host.released ≡ self.old.process.host.released }
-        ensures asks { AsksTurn S.gives self.old kind result self.new (D.medium disk.old)
+        ensures asks { AsksTurn S.gives self.old question result self.new (D.medium disk.old)
             (D.medium disk.new) source.old source.new }
-        ensures failed { IfErr result (λ why. AsksVainly S.gives self.old kind why self.new
+        ensures failed { IfErr result (λ why. AsksVainly S.gives self.old question why self.new
             source.old source.new) }
         ensures runs { StoreRuns result self.old.store self.new.store (D.medium disk.old)
             (D.medium disk.new) }
@@ -79,7 +79,7 @@ impl Running {
         let step = self.process.steps() + 1;
         self.make_room(disk)?;
         self.is_abreast = true;
-        self.hear(kind, step, source)
+        self.hear(question, step, source)
     }
 
     /// Saves the process, where the journal may be too full for the next record.
@@ -103,22 +103,27 @@ impl Running {
         if self.store.room() >= longest_record(version) {
             return Ok(());
         }
-        images_fit_areas();
+        process_images_fit_areas();
         save(self.alloc, disk, &mut self.store, &self.process)?;
         Ok(())
     }
 
     /// Asks the source once. Its answer would be taken by this step.
-    fn hear<S: Source>(&mut self, kind: Kind, step: u64, source: &mut S) -> Result<bool, WorkFault>
-        ensures hears { Hears S.gives self.old kind step result self.new source.old source.new }
+    fn hear<S: Source>(
+        &mut self,
+        question: Question,
+        step: u64,
+        source: &mut S,
+    ) -> Result<bool, WorkFault>
+        ensures hears { Hears S.gives self.old question step result self.new source.old source.new }
         ensures released { self.new.process.host.released ≡ self.old.process.host.released }
         ensures kept { HearsOrNot result self.old.store self.new.store }
         ensures places { self.new.store.geometry ≡ self.old.store.geometry }
     {
-        match source.answer(kind) {
+        match source.answer(question) {
             Err(_) => Err(WorkFault::Work(SliceFault::Source)),
             Ok(None) => Ok(false),
-            Ok(Some(answer)) => match self.keep(kind, Record { step, answer }) {
+            Ok(Some(answer)) => match self.keep(question, Record { step, answer }) {
                 Ok(()) => Ok(true),
                 Err(fault) => Err(fault),
             },
@@ -126,16 +131,16 @@ impl Running {
     }
 
     /// Keeps an answer that fits on record, and gives it to the process.
-    fn keep(&mut self, kind: Kind, entry: Record) -> Result<(), WorkFault>
-        ensures taken { OnOk result (TakesOnRecord self.old kind entry self.new) }
-        ensures not_taken { IfErr result (λ why. TakesNone self.old kind entry why self.new) }
+    fn keep(&mut self, question: Question, entry: Record) -> Result<(), WorkFault>
+        ensures taken { OnOk result (TakesOnRecord self.old question entry self.new) }
+        ensures not_taken { IfErr result (λ why. TakesNone self.old question entry why self.new) }
         ensures released { self.new.process.host.released ≡ self.old.process.host.released }
         ensures kept { HearsOrNot result self.old.store self.new.store }
         ensures places { self.new.store.geometry ≡ self.old.store.geometry }
     {
         let does_fit = fits(
             self.process.host().version().text_limit(),
-            kind,
+            question,
             &entry.answer,
         );
         if !does_fit {

@@ -5,7 +5,7 @@ ghost use Rattle.worker.specs.Upgrading.{IsUpgradeRefused, MayUpgrade};
 
 use crate::durable::Worker;
 use crate::fault::WorkFault;
-use crate::running::Running;
+use crate::running_worker::RunningWorker;
 use crate::saving::is_process;
 use crate::upgrade_fault::UpgradeFault;
 use crate::widening::save_in_two;
@@ -13,9 +13,9 @@ use ephemeral_worker::SliceFault;
 use record_replay::Outlet;
 use sector_disk::Disk;
 use wasi_abi::Version;
-use worker_store::laws::images_fit_areas;
+use worker_store::laws::process_images_fit_areas;
 
-impl Running {
+impl RunningWorker {
     /// Tests whether the journal takes each record of version 2, and whether no line beyond a
     /// process of version 1 may have been told.
     fn test_upgrade(&self) -> Result<(), UpgradeFault>
@@ -61,8 +61,8 @@ impl Worker {
     ) -> Result<(), WorkFault>
         requires { total_sectors self.old.store.geometry ≤ (D.medium disk.old).sectors }
 
-        // Whatever was promised is kept, by Ok or by any error; once it has answered Ok, also
-        // that each later life is of version 2, and none comes behind this process.
+        // Whatever was promised is kept, by Ok or by any error; once it has answered Ok, also that
+        // each later life is of version 2, and none comes after this process.
         ensures carries { UpgradeCarries self.old result self.new (D.medium disk.old)
             (D.medium disk.new) }
 
@@ -73,7 +73,7 @@ impl Worker {
 
         // The process is in version 2, and else as it was. After an error it may be.
         ensures done { OnOk result (IsUpgradedIn self.old self.new) }
-        ensures left { OnErr result ((self.new.process ≡ self.old.process)
+        ensures after_fault { OnErr result ((self.new.process ≡ self.old.process)
             ⊎ (self.new.process ≡ upgraded self.old.process)) }
         ensures unsaved { OnErr result
             (self.new.store.journal.generation ≡ self.old.store.journal.generation) }
@@ -115,7 +115,7 @@ impl Worker {
         if self.has_failed {
             return Err(WorkFault::Work(SliceFault::Failed));
         }
-        images_fit_areas();
+        process_images_fit_areas();
         is_process(&self.running.process);
         if let Err(fault) = self.running.test_upgrade() {
             self.has_failed = true;

@@ -11,7 +11,7 @@ ghost use Rattle.worker.specs.rules.Savings.{HasSaveCause, LeavesFrontOrNext, Sa
 ghost use Rattle.worker.specs.rules.Savings.{SaveFails};
 ghost use Rattle.worker.specs.rules.Upgrades.{upgraded};
 ghost use Rattle.worker.specs.StoreTurns.{StoreSaves};
-ghost use Rattle.worker.specs.Upgrading.{BarsAndCommits, LeftBy};
+ghost use Rattle.worker.specs.Upgrading.{BarsAndCommits, AfterFault};
 
 use crate::saving::release_none;
 use process::Process;
@@ -21,7 +21,7 @@ use std::alloc::Global;
 use wasi_abi::{NUMBERS_END, Version};
 use worker_store::{StoreFault, WorkerStore};
 
-/// Puts the process into version 2, where the generation behind this one has a number.
+/// Puts the process into version 2, where the generation after this one has a number.
 fn widen(process: &mut Process, generation: u64) -> Result<(), StoreFault>
     ensures done { OnOk result (process.new ≡ upgraded process.old) }
     ensures counted { OnOk result (generation + 1 < NUMBERS_END) }
@@ -55,9 +55,9 @@ pub(crate) fn save_in_two<D: Disk, O: Outlet>(
     // Nothing is released. The process is in version 2, or after an error as it was.
     ensures quiet { outlet.new ≡ outlet.old }
     ensures done { OnOk result (process.new ≡ upgraded process.old) }
-    ensures left { IfErr result (λ e. LeftBy e store.old process.old process.new) }
+    ensures after_fault { IfErr result (λ e. AfterFault e store.old process.old process.new) }
 
-    // A cut at any moment leaves a front of these records behind those that stood before, or the
+    // A cut at any moment leaves a prefix of these records after those that stood before, or the
     // new snapshot. There was a moment between the two.
     ensures any_moment { LeavesFrontOrNext store.old process.new (D.medium disk.old)
         (D.medium disk.new) }
@@ -76,7 +76,7 @@ pub(crate) fn save_in_two<D: Disk, O: Outlet>(
     ensures cause { IfErr result (SaveFails store.old process.new (D.medium disk.old)
         (D.medium disk.new)) }
 
-    // What it does to any store, whatever stands on the disk.
+    // What it does to any store, whatever is on the disk.
     ensures runs { StoreSaves result store.old store.new (D.medium disk.old) (D.medium disk.new) }
     ensures on_any_disk { IfErr result (λ e. HasSaveCause store.old (upgraded process.old)
         (D.medium disk.old) (D.medium disk.new) e) }

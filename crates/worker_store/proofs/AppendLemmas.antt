@@ -18,7 +18,7 @@ use Rattle.worker_store.specs.rules.Faults.{fault_of_journal}
 abbrev pub refusal : JournalFault → Result (Unit {0}) JournalFault
 refusal fault = Err fault
 
--- it is for want of memory
+-- it is out of memory
 abbrev WantsMemory : Result (Unit {0}) JournalFault → Type 0
 WantsMemory (Err journal.Memory) = Unit {0}
 WantsMemory other = ⊥

@@ -5,16 +5,16 @@ use Rattle.std.specs.Prelude.{Result, Ok, Err, IsErr}
 use Rattle.std.proofs.lemmas.Bool.{false≢true}
 use Rattle.std.proofs.lemmas.List.{length-append, length-replicate}
 use Rattle.wasi_abi.specs.rules.Configs.{Settings}
-use Rattle.sector_disk.specs.rules.Image.{Image}
+use Rattle.sector_disk.specs.rules.DiskImage.{DiskImage}
 use Rattle.sector_disk.specs.rules.Medium.{Medium, After, Follows, IsAllSynced, LeavesOnly, Passes}
-use Rattle.sector_disk.specs.rules.Medium.{BeginsCalls, MakesCalls, Stays, spare}
+use Rattle.sector_disk.specs.rules.Medium.{BeginsCalls, PerformsCalls, Stays, spare}
 use Rattle.sector_disk.specs.declared.disk_call.DiskCall.{DiskCall}
 use Rattle.sector_disk.specs.declared.disk_call.DiskCall.TheVariants.{Sync}
 use Rattle.sector_disk.specs.rules.Calls.{rising_writes, synced_writes}
-use Rattle.sector_disk.proofs.CallLemmas.{begun_first, begun_then, made_then}
+use Rattle.sector_disk.proofs.CallLemmas.{begun_first, begun_then, performed_then}
 use Rattle.sector_disk.specs.rules.Run.{IsTornRun, IsWrittenRun}
-use Rattle.sector_disk.proofs.Moments.{goes_on, weaker, leaves_weaker, shows_left}
-use Rattle.sector_disk.proofs.Moments.{settled_only, stays_shows, stays_leaves_only}
+use Rattle.sector_disk.proofs.Moments.{goes_on, weaker, leaves_weaker, shows_crashed}
+use Rattle.sector_disk.proofs.Moments.{synced_only, stays_shows, stays_leaves_only}
 use Rattle.disk_layout.specs.declared.geometry.Geometry.{Geometry}
 use Rattle.disk_layout.specs.rules.Places.{config_bytes, geometry_of, journal_place, rounded_up}
 use Rattle.disk_layout.specs.rules.Sectors.{SectorsHold}
@@ -27,11 +27,11 @@ use Rattle.worker_store.proofs.LawLemmas.Creating.{zeros_keep_blank, zeros_take_
 use Rattle.worker_store.proofs.LawLemmas.Creating.{runs_keep_no_super}
 use Rattle.worker_store.proofs.LawLemmas.Creating.{no_super_is_blank, zero_runs_await_head}
 use Rattle.worker_store.specs.rules.Creations.{behind_calls, contents_calls}
-use Rattle.worker_store.proofs.LawLemmas.Passing.{step_at_any_moment, left_in_the_end}
+use Rattle.worker_store.proofs.LawLemmas.Passing.{step_at_any_moment, crashed_in_the_end}
 
 -- one call, and then another
-pub leaves_on : (a b c : Medium) (P Q R : Image → Type 0) → LeavesOnly a b P → LeavesOnly b c Q
-    → ((image : Image) → P image → R image) → ((image : Image) → Q image → R image)
+pub leaves_on : (a b c : Medium) (P Q R : DiskImage → Type 0) → LeavesOnly a b P → LeavesOnly b c Q
+    → ((image : DiskImage) → P image → R image) → ((image : DiskImage) → Q image → R image)
     → LeavesOnly a c R
 leaves_on a b c P Q R one two first second =
     let p = one.passes in
@@ -46,22 +46,22 @@ leaves_on a b c P Q R one two first second =
 -- ---- the super's zeros
 
 pub zeros_leave_blank : (a b : Medium) → LeavesAll a IsBlank
-    → LeavesOnly a b (After (IsTornRun 0 (zero_sector ∷ []) 1) a.may_leave)
+    → LeavesOnly a b (After (IsTornRun 0 (zero_sector ∷ []) 1) a.crash_images)
     → LeavesOnly a b IsBlank
 zeros_leave_blank a b all leaves =
     step_at_any_moment a b (IsTornRun 0 (zero_sector ∷ []) 1) IsBlank IsBlank all
     (λ x y blank run. zeros_keep_blank x y blank run) leaves
 
 pub zeros_leave_none : (a b : Medium)
-    → Follows (IsWrittenRun 0 (zero_sector ∷ []) 1) a.shows b.may_leave → LeavesAll b HasNoSuper
-zeros_leave_none a b follows image left =
-    let after = follows image left in
+    → Follows (IsWrittenRun 0 (zero_sector ∷ []) 1) a.shows b.crash_images → LeavesAll b HasNoSuper
+zeros_leave_none a b follows image crashed =
+    let after = follows image crashed in
     zeros_take_super after.0 image after.2
 
 -- ---- behind the super
 
-pub run_leaves_none : (at n : ℕ) (sectors : Image) (a b : Medium) → 1 ≤ at
-    → LeavesAll a HasNoSuper → LeavesOnly a b (After (IsTornRun at sectors n) a.may_leave)
+pub run_leaves_none : (at n : ℕ) (sectors : DiskImage) (a b : Medium) → 1 ≤ at
+    → LeavesAll a HasNoSuper → LeavesOnly a b (After (IsTornRun at sectors n) a.crash_images)
     → LeavesOnly a b HasNoSuper
 run_leaves_none at n sectors a b from all leaves =
     step_at_any_moment a b (IsTornRun at sectors n) HasNoSuper HasNoSuper all
@@ -74,28 +74,28 @@ both_leave_none a b c one two =
     leaves_on a b c HasNoSuper HasNoSuper HasNoSuper one two (λ i p. p) (λ i p. p)
 
 -- two runs, and three
-pub two_leave_none : (n : ℕ) (sectors zeros : Image) (a b c : Medium) → LeavesAll a HasNoSuper
-    → LeavesOnly a b (After (IsTornRun 3 sectors n) a.may_leave)
-    → LeavesOnly b c (After (IsTornRun 1 zeros 2) b.may_leave) → LeavesOnly a c HasNoSuper
+pub two_leave_none : (n : ℕ) (sectors zeros : DiskImage) (a b c : Medium) → LeavesAll a HasNoSuper
+    → LeavesOnly a b (After (IsTornRun 3 sectors n) a.crash_images)
+    → LeavesOnly b c (After (IsTornRun 1 zeros 2) b.crash_images) → LeavesOnly a c HasNoSuper
 two_leave_none n sectors zeros a b c all one two =
     let first = run_leaves_none 3 n sectors a b (omega arith) all one in
     both_leave_none a b c first
-    (run_leaves_none 1 2 zeros b c (omega arith) (left_in_the_end a b HasNoSuper first) two)
+    (run_leaves_none 1 2 zeros b c (omega arith) (crashed_in_the_end a b HasNoSuper first) two)
 
-pub three_leave_none : (n k at : ℕ) (sectors zeros journal : Image) (a b c d : Medium) → 1 ≤ at
+pub three_leave_none : (n k at : ℕ) (sectors zeros journal : DiskImage) (a b c d : Medium) → 1 ≤ at
     → LeavesAll a HasNoSuper
-    → LeavesOnly a b (After (IsTornRun 3 sectors n) a.may_leave)
-    → LeavesOnly b c (After (IsTornRun 1 zeros 2) b.may_leave)
-    → LeavesOnly c d (After (IsTornRun at journal k) c.may_leave) → LeavesOnly a d HasNoSuper
+    → LeavesOnly a b (After (IsTornRun 3 sectors n) a.crash_images)
+    → LeavesOnly b c (After (IsTornRun 1 zeros 2) b.crash_images)
+    → LeavesOnly c d (After (IsTornRun at journal k) c.crash_images) → LeavesOnly a d HasNoSuper
 three_leave_none n k at sectors zeros journal a b c d from all one two three =
     let first = two_leave_none n sectors zeros a b c all one two in
     both_leave_none a c d first
-    (run_leaves_none at k journal c d from (left_in_the_end a c HasNoSuper first) three)
+    (run_leaves_none at k journal c d from (crashed_in_the_end a c HasNoSuper first) three)
 
-pub none_left : (a b : Medium) → LeavesOnly a b HasNoSuper → LeavesAll b HasNoSuper
-none_left a b leaves = left_in_the_end a b HasNoSuper leaves
+pub none_crashed : (a b : Medium) → LeavesOnly a b HasNoSuper → LeavesAll b HasNoSuper
+none_crashed a b leaves = crashed_in_the_end a b HasNoSuper leaves
 
--- what reads give behind all three
+-- what reads give after all three
 pub behind_awaits : (settings : Settings) (config wasm : List ℕ) (geometry : Geometry)
     (a b c d : Medium) (at : ℕ) → at ≡ journal_place geometry → config ≡ config_bytes settings
     → geometry ≡ geometry_of settings (length wasm) → LeavesAll a HasNoSuper
@@ -104,7 +104,7 @@ pub behind_awaits : (settings : Settings) (config wasm : List ℕ) (geometry : G
     → Follows (IsWrittenRun 1 (zero_sector ∷ zero_sector ∷ []) 2) b.shows c.shows
     → Follows (IsWrittenRun at (replicate geometry.journal_sectors zero_sector)
     (length (replicate geometry.journal_sectors zero_sector))) c.shows d.shows
-    → (image : Image) → d.shows image → AwaitsHead settings wasm image
+    → (image : DiskImage) → d.shows image → AwaitsHead settings wasm image
 behind_awaits settings config wasm geometry a b c d at there spelled placed none first second third
     image shown =
     let three = third image shown in
@@ -121,7 +121,7 @@ behind_awaits settings config wasm geometry a b c d at there spelled placed none
     (length-append (config_bytes settings) wasm)
     (holds_what_is_written bytes one.0 two.0 written) in
     let no_super : HasNoSuper two.0 =
-    written.below 0 (omega arith) ∙ none one.0 (shows_left a one.0 one.1) in
+    written.below 0 (omega arith) ∙ none one.0 (shows_crashed a one.0 one.1) in
     let zeros : IsWrittenRun (journal_place own) (replicate own.journal_sectors zero_sector)
     own.journal_sectors three.0 image =
     subst (λ (g : Geometry). IsWrittenRun (journal_place g)
@@ -134,16 +134,16 @@ behind_awaits settings config wasm geometry a b c d at there spelled placed none
 
 -- ---- and a sync
 
-pub synced_none : (a b : Medium) → LeavesAll a HasNoSuper → Stays a b → Passes a b b.may_leave
+pub synced_none : (a b : Medium) → LeavesAll a HasNoSuper → Stays a b → Passes a b b.crash_images
     → LeavesOnly a b HasNoSuper
 synced_none a b all stays passes =
-    leaves_weaker a b a.may_leave HasNoSuper (stays_leaves_only a b stays passes) all
+    leaves_weaker a b a.crash_images HasNoSuper (stays_leaves_only a b stays passes) all
 
 pub synced_awaits : (settings : Settings) (wasm : List ℕ) (a b : Medium)
-    → ((image : Image) → a.shows image → AwaitsHead settings wasm image) → Stays a b
+    → ((image : DiskImage) → a.shows image → AwaitsHead settings wasm image) → Stays a b
     → IsAllSynced b → LeavesAll b (AwaitsHead settings wasm)
-synced_awaits settings wasm a b all stays settled image left =
-    all image (stays_shows a b stays image (settled_only b settled image left))
+synced_awaits settings wasm a b all stays all_synced image crashed =
+    all image (stays_shows a b stays image (synced_only b all_synced image crashed))
 
 -- blank, and then without a super
 pub blank_on : (a b c : Medium) → LeavesOnly a b IsBlank → LeavesOnly b c HasNoSuper
@@ -156,14 +156,14 @@ blank_on a b c one two =
 
 -- calls that were begun, where an error is answered
 pub err_calls : {T E : Type 0} (calls : List DiskCall) (r : Result T E) (old new : Medium)
-    → IsErr r → BeginsCalls calls old new → MakesCalls calls r old new
+    → IsErr r → BeginsCalls calls old new → PerformsCalls calls r old new
 err_calls calls (Ok done) old new is_err begun = absurd (false≢true is_err)
 err_calls calls (Err fault) old new is_err begun = record { all = tt; begun = begun }
 
--- calls, and others behind them
-both_made : (first second : List DiskCall) (a b c : Medium) → b.calls ≡ first ++ a.calls
+-- calls, and others after them
+both_performed : (first second : List DiskCall) (a b c : Medium) → b.calls ≡ first ++ a.calls
     → c.calls ≡ second ++ b.calls → c.calls ≡ (second ++ first) ++ a.calls
-both_made first second a b c one two =
+both_performed first second a b c one two =
     two ∙ ap (λ (l : List DiskCall). second ++ l) one ∙ sym (append_assoc second first a.calls)
 
 module _ (geometry : Geometry) where
@@ -190,10 +190,11 @@ module _ (geometry : Geometry) where
   pub behind_all : {T E : Type 0} (r : Result T E) (a b c d : Medium)
       → b.calls ≡ rising_writes 3 geometry.module_sectors ++ a.calls
       → c.calls ≡ rising_writes 1 2 ++ b.calls
-      → MakesCalls (rising_writes (journal_place geometry) geometry.journal_sectors) r c d
-      → MakesCalls (behind_calls geometry) r a d
+      → PerformsCalls (rising_writes (journal_place geometry) geometry.journal_sectors) r c d
+      → PerformsCalls (behind_calls geometry) r a d
   behind_all r a b c d one two made =
-      made_then (heads ++ contents) journal r a c d (both_made contents heads a b c one two) made
+      performed_then (heads ++ contents) journal r a c d (both_performed contents heads a b
+      c one two) made
 
   pub contents_first : (a b : Medium) → BeginsCalls (synced_writes 0 1) a b
       → BeginsCalls (contents_calls geometry) a b
@@ -208,10 +209,10 @@ module _ (geometry : Geometry) where
 
   pub contents_all : {T E : Type 0} (r : Result T E) (a b c d : Medium)
       → b.calls ≡ synced_writes 0 1 ++ a.calls → c.calls ≡ behind_calls geometry ++ b.calls
-      → MakesCalls (Sync ∷ []) r c d → MakesCalls (contents_calls geometry) r a d
+      → PerformsCalls (Sync ∷ []) r c d → PerformsCalls (contents_calls geometry) r a d
   contents_all r a b c d one two made =
-      made_then (behind_calls geometry ++ synced_writes 0 1) (Sync ∷ []) r a c d
-      (both_made (synced_writes 0 1) (behind_calls geometry) a b c one two) made
+      performed_then (behind_calls geometry ++ synced_writes 0 1) (Sync ∷ []) r a c d
+      (both_performed (synced_writes 0 1) (behind_calls geometry) a b c one two) made
 
 -- ---- why it fails
 
@@ -219,7 +220,7 @@ module _ (geometry : Geometry) where
 pub cause_behind : (n : ℕ) (a b c : Medium) → IsAllSynced b → b.room ≡ a.room
     → a.faults ≤ b.faults → (spare b < n) ⊎ (b.faults < c.faults)
     → (spare a ≡ 0) ⊎ (a.room < n) ⊎ (a.faults < c.faults)
-cause_behind n a b c settled room later cause =
-    let none = settled.unsynced in
+cause_behind n a b c all_synced room later cause =
+    let none = all_synced.unsynced in
     ⊎_elim (λ less. inr (inl (omega (arith, less, none, room))))
     (λ more. inr (inr (omega (arith, more, later)))) cause

@@ -16,14 +16,14 @@ use Rattle.snapshot.specs.declared.fault.SnapshotFault.{SnapshotFault}
 use Rattle.snapshot.specs.declared.fault.SnapshotFault.TheVariants.{TooBig, Disk}
 use Rattle.snapshot.specs.declared.snapshots.Snapshots.{Snapshots}
 use Rattle.snapshot.specs.declared.writing.Writing.{Writing}
-use Rattle.snapshot.specs.rules.Calls.{AsksForSectors, MakesStores}
+use Rattle.snapshot.specs.rules.Calls.{AsksForSectors, PerformsStores}
 use Rattle.snapshot.specs.rules.Snapshots.{is_failed, is_idle, generation_of, writing_of}
-use Rattle.snapshot.specs.rules.Snapshots.{length_of, sectors_of, filled_by, IsSameImage}
+use Rattle.snapshot.specs.rules.Snapshots.{length_of, sectors_of, filled_by, IsSameProcessImage}
 use Rattle.snapshot.specs.rules.Snapshots.{HasPushed}
 use Rattle.snapshot.specs.rules.Steps.{Fills}
 use Rattle.snapshot.proofs.WriterLemmas.{none_fills, more_fills}
 use Rattle.snapshot.proofs.SpareLemmas.{filled_within, filled_only}
-use Rattle.snapshot.proofs.StoreCalls.{stores, stores_none, same_stores, makes_at, HasStored}
+use Rattle.snapshot.proofs.StoreCalls.{stores, stores_none, same_stores, performs_at, HasStored}
 use Rattle.snapshot.proofs.StoreCalls.{begun_longer}
 use Rattle.snapshot.proofs.StoreCalls.{stored_then, begun_stores_then}
 use Rattle.worker_store.specs.Filling.{TakesBytes}
@@ -50,7 +50,7 @@ takes_none geometry s m begun =
       asked = omega arith;
       asks = omega arith;
       counts = λ within. counts_same m _;
-      calls = makes_at {T = Unit {0}} {E = SnapshotFault} (Ok tt) m m
+      calls = performs_at {T = Unit {0}} {E = SnapshotFault} (Ok tt) m m
           (same_stores (writing_of s) (writing_of s) at at (filled_by s 0) 0 refl refl (sym none))
           ([], stores_none (writing_of s) at, record { all = refl; begun = no_calls [] m });
       too_big = λ same. absurd (ok_no_err tt TooBig same);
@@ -95,15 +95,15 @@ filled_now a b n longer =
       filled_only b.state,
     )
 
--- stores that were all made, and others behind them
-makes_then : (writing : Writing) (at n k : ℕ) (old mid new : Medium)
+-- stores that were all made, and others after them
+performs_then : (writing : Writing) (at n k : ℕ) (old mid new : Medium)
     → HasStored writing at n old mid → (said : Result (Unit {0}) SnapshotFault)
-    → MakesStores (stores writing (at + n) k) said mid new
-    → MakesStores (stores writing at (n + k)) said old new
-makes_then writing at n k old mid new one (Ok done) two =
+    → PerformsStores (stores writing (at + n) k) said mid new
+    → PerformsStores (stores writing at (n + k)) said old new
+performs_then writing at n k old mid new one (Ok done) two =
     let all = stored_then writing at n k old mid new one (two.0, two.1, two.2.all) in
     (all.0, all.1, record { all = all.2; begun = (0, all.2) })
-makes_then writing at n k old mid new one (Err fault) two =
+performs_then writing at n k old mid new one (Err fault) two =
     let begun = begun_stores_then writing at n k old mid new one (two.0, two.1, two.2.begun) in
     (begun.0, begun.1, record { all = tt; begun = begun.2 })
 
@@ -111,17 +111,17 @@ makes_then writing at n k old mid new one (Err fault) two =
 module _ (geometry : Geometry) (x y : List ℕ) (said : Result (Unit {0}) SnapshotFault)
     (a b c : Snapshots) (old mid new : Medium) (one : TakesBytes geometry x (Ok tt) a b old mid)
     (two : TakesBytes geometry y said b c mid new) where
-  fills_both : LeavesOnly old new (After (Fills geometry (generation_of a)) old.may_leave)
+  fills_both : LeavesOnly old new (After (Fills geometry (generation_of a)) old.crash_images)
   fills_both =
       let same = one.same in
       more_fills geometry (generation_of a) old mid new one.any_moment
-      (subst (λ n. LeavesOnly mid new (After (Fills geometry n) mid.may_leave)) same.generation
+      (subst (λ n. LeavesOnly mid new (After (Fills geometry n) mid.crash_images)) same.generation
       two.any_moment)
 
   long_both : length (x ++ y) ≡ length x + length y
   long_both = length-append x y
 
-  stores_both : MakesStores (record {
+  stores_both : PerformsStores (record {
     writing = writing_of a;
     first = area_place geometry (generation_of a) + sectors_of a;
     count = filled_by a (length (x ++ y));
@@ -141,14 +141,14 @@ module _ (geometry : Geometry) (x y : List ℕ) (said : Result (Unit {0}) Snapsh
       ) in
       let first = one.calls in
       let stored : HasStored w at n old mid = (first.0, first.1, first.2.all) in
-      let next = makes_at said mid new
+      let next = performs_at said mid new
       (same_stores w (writing_of b) (at + n) behind k k same.writing here refl) two.calls in
       let all : n + k ≡ filled_by a (length (x ++ y)) =
       sym (filled_both a b (length x) (length y) one.longer)
       ∙ ap (λ j. filled_by a j) (sym long_both) in
-      makes_at said old new
+      performs_at said old new
       (same_stores w w at at (filled_by a (length (x ++ y))) (n + k) refl refl all)
-      (makes_then w at n k old mid new stored said next)
+      (performs_then w at n k old mid new stored said next)
 
   -- room for writes
   less_spare : spare mid + sectors_of b < geometry.area_sectors
@@ -184,7 +184,7 @@ module _ (geometry : Geometry) (x y : List ℕ) (said : Result (Unit {0}) Snapsh
         → HasPushed geometry new c (before ++ y)). λ before has.
         subst (λ (l : List ℕ). HasPushed geometry new c l) (append_assoc before x y)
         (more (before ++ x) (one.pushed before has))) two.pushed;
-    same = let first = one.same in on_ok_weaker said (λ (next : IsSameImage b c). record {
+    same = let first = one.same in on_ok_weaker said (λ (next : IsSameProcessImage b c). record {
       begun = next.begun;
       generation = next.generation ∙ first.generation;
       version = next.version ∙ first.version;
@@ -218,7 +218,7 @@ module _ (geometry : Geometry) (x y : List ℕ) (said : Result (Unit {0}) Snapsh
     cause = cause_both;
   }
 
--- after an error the bytes behind are as good as pushed
+-- after an error the bytes after are as good as pushed
 pub takes_longer : (geometry : Geometry) (x y : List ℕ) (fault : SnapshotFault) (a b : Snapshots)
     (old new : Medium) → TakesBytes geometry x (Err fault) a b old new
     → TakesBytes geometry (x ++ y) (Err fault) a b old new

@@ -21,9 +21,9 @@ use Rattle.disk_layout.specs.rules.Places.{total_sectors}
 use Rattle.disk_layout.specs.rules.Sectors.{super_bytes}
 use Rattle.journal.specs.rules.State.{state}
 use Rattle.snapshot.specs.declared.writing.Writing.TheVariants.{Whole}
-use Rattle.snapshot.specs.rules.Calls.{MakesStoresAndHead, with_head}
+use Rattle.snapshot.specs.rules.Calls.{PerformsStoresAndHead, with_head}
 use Rattle.snapshot.specs.rules.Steps.{Commits, Replaces}
-use Rattle.state_image.specs.rules.Image.{Saved, image}
+use Rattle.state_image.specs.rules.ProcessImage.{Saved, process_image}
 use Rattle.state_image.specs.rules.Saving.{saved_of}
 use Rattle.restart_theorem.specs.Stands.{IsBlank}
 use Rattle.worker_store.specs.laws.Savepoints.{Savepoint, places}
@@ -45,7 +45,7 @@ use Rattle.worker_store.proofs.CreationLemmas.{leaves_on}
 -- while the first snapshot is committed there is no super
 pub commit_leaves_none : (geometry : Geometry) (version : ℕ) (bytes : List ℕ) (a b : Medium)
     → LeavesAll a HasNoSuper
-    → LeavesOnly a b (After (Commits geometry 1 version bytes) a.may_leave)
+    → LeavesOnly a b (After (Commits geometry 1 version bytes) a.crash_images)
     → LeavesOnly a b HasNoSuper
 commit_leaves_none geometry version bytes a b all leaves =
     step_at_any_moment a b (Commits geometry 1 version bytes) HasNoSuper HasNoSuper all
@@ -76,40 +76,40 @@ module _ (m : Module) (settings : Settings) (point : Savepoint m settings) (conf
 
   awaits_super : (a b : Medium) → LeavesAll a (AwaitsHead settings wasm)
       → Follows (Replaces geometry 1 (version_number (saved_of process).version)
-      (image (saved_of process))) a.may_leave
-      b.may_leave → LeavesAll b (AwaitsSuper point)
+      (process_image (saved_of process))) a.crash_images
+      b.crash_images → LeavesAll b (AwaitsSuper point)
   awaits_super a b all follows =
       step_in_the_end a b
       (Replaces (places point) point.generation (version_number point.saved.version)
-      (image point.saved))
+      (process_image point.saved))
       (AwaitsHead settings point.wasm) (AwaitsSuper point)
       (subst (λ w. LeavesAll a (AwaitsHead settings w)) (sym first.wasm) all)
       (λ x y awaits replaces.
       first_commit_awaits_super m settings point x y first.generation first.numbers awaits replaces)
       (subst (λ (g : Geometry). Follows
       (Replaces g point.generation (version_number point.saved.version)
-      (image point.saved)) a.may_leave b.may_leave) place
+      (process_image point.saved)) a.crash_images b.crash_images) place
       (subst (λ n. Follows (Replaces geometry n (version_number point.saved.version)
-      (image point.saved)) a.may_leave
-      b.may_leave) (sym first.generation)
+      (process_image point.saved)) a.crash_images
+      b.crash_images) (sym first.generation)
       (subst (λ s. Follows (Replaces geometry 1 (version_number s.version)
-      (image s)) a.may_leave b.may_leave)
+      (process_image s)) a.crash_images b.crash_images)
       (sym first.saved) follows)))
 
   -- while the super is written, and once it is
   pub super_leaves : (a b c d : Medium) → digest ≡ sha256 (config ++ wasm)
       → (LeavesAll a IsBlank → LeavesOnly a c IsBlank) → LeavesAll b (AwaitsHead settings wasm)
       → Follows (Replaces geometry 1 (version_number (saved_of process).version)
-      (image (saved_of process))) b.may_leave
-      c.may_leave
-      → LeavesOnly c d (After (IsTornRun 0 (super_bytes geometry digest ∷ []) 1) c.may_leave)
+      (process_image (saved_of process))) b.crash_images
+      c.crash_images
+      → LeavesOnly c d (After (IsTornRun 0 (super_bytes geometry digest ∷ []) 1) c.crash_images)
       → LeavesAll a IsBlank → LeavesOnly a d (λ disk. IsBlank disk ⊎ BeginsAtPoint point disk)
   super_leaves a b c d is blank awaits follows torn all =
       let last = step_at_any_moment c d (IsTornRun 0 (super_of_point point ∷ []) 1)
       (AwaitsSuper point) (λ disk. IsBlank disk ⊎ BeginsAtPoint point disk)
       (awaits_super b c awaits follows)
       (λ x y before run. super_begins m settings point x y before run)
-      (subst (λ s. LeavesOnly c d (After (IsTornRun 0 (s ∷ []) 1) c.may_leave)) (same_super is)
+      (subst (λ s. LeavesOnly c d (After (IsTornRun 0 (s ∷ []) 1) c.crash_images)) (same_super is)
       torn) in
       leaves_on a c d IsBlank (λ disk. IsBlank disk ⊎ BeginsAtPoint point disk)
       (λ disk. IsBlank disk ⊎ BeginsAtPoint point disk) (blank all) last (λ disk b. inl b)
@@ -118,15 +118,15 @@ module _ (m : Module) (settings : Settings) (point : Savepoint m settings) (conf
   pub super_stands : (b c d : Medium) → digest ≡ sha256 (config ++ wasm)
       → LeavesAll b (AwaitsHead settings wasm)
       → Follows (Replaces geometry 1 (version_number (saved_of process).version)
-      (image (saved_of process))) b.may_leave
-      c.may_leave
-      → Follows (IsWrittenRun 0 (super_bytes geometry digest ∷ []) 1) c.shows d.may_leave
+      (process_image (saved_of process))) b.crash_images
+      c.crash_images
+      → Follows (IsWrittenRun 0 (super_bytes geometry digest ∷ []) 1) c.shows d.crash_images
       → LeavesAll d (BeginsAtPoint point)
   super_stands b c d is awaits follows written =
       shown_in_the_end c d (IsWrittenRun 0 (super_of_point point ∷ []) 1) (AwaitsSuper point)
       (BeginsAtPoint point) (awaits_super b c awaits follows)
       (λ x y before run. whole_super_begins m settings point x y before run)
-      (subst (λ s. Follows (IsWrittenRun 0 (s ∷ []) 1) c.shows d.may_leave) (same_super is)
+      (subst (λ s. Follows (IsWrittenRun 0 (s ∷ []) 1) c.shows d.crash_images) (same_super is)
       written)
 
 -- ---- the calls
@@ -146,7 +146,7 @@ module _ (geometry : Geometry) (count : ℕ) where
 
   pub creation_second : {T E : Type 0} (r : Result T E) (a b c : Medium)
       → b.calls ≡ contents_calls geometry ++ a.calls
-      → MakesStoresAndHead (record {
+      → PerformsStoresAndHead (record {
         writing = Whole;
         first = area_place geometry 1;
         count = rounded_up count;
@@ -198,12 +198,12 @@ pub first_stored : {D : Type 0} (medium : D → Medium) (settings : Settings) (w
     → ((m : Module) (point : Savepoint m settings) → IsFirstPoint wasm process point
     → LeavesAll (medium new) (BeginsAtPoint point))
     → StoresFirst settings wasm process store (medium new)
-first_stored medium settings wasm process store new works placed fresh sectors settled begins m
+first_stored medium settings wasm process store new works placed fresh sectors all_synced begins m
     point
     first =
     begun_stored medium m settings point store new 1 (sym first.generation) (omega arith) works
     (placed ∙ ap (λ w. geometry_of settings (length w)) (sym first.wasm))
-    (fresh ∙ ap (λ (s : Saved). state s.version 1 0 [] false) (sym first.saved)) sectors settled
+    (fresh ∙ ap (λ (s : Saved). state s.version 1 0 [] false) (sym first.saved)) sectors all_synced
     (begins m point first) first.numbers
 
 -- where no call was made
@@ -212,4 +212,4 @@ pub none_first : (settings : Settings) (wasm : List ℕ) (process : ProcessValue
 none_first settings wasm process a m point first all =
     leaves_only a a (λ disk. IsBlank disk ⊎ BeginsAtPoint point disk)
     (started a (λ disk. IsBlank disk ⊎ BeginsAtPoint point disk))
-    (λ disk left. inl (all disk left))
+    (λ disk crashed. inl (all disk crashed))

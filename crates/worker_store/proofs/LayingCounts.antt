@@ -5,16 +5,17 @@ use Rattle.sector_disk.proofs.CountLemmas.{counts_then}
 use Rattle.disk_layout.specs.declared.geometry.Geometry.{Geometry}
 use Rattle.disk_layout.specs.rules.Unsynced.{most_unsynced}
 use Rattle.worker_store.specs.rules.Creations.{behind_sectors}
-use Rattle.worker_store.proofs.UnsyncedLemmas.{settled_then}
+use Rattle.worker_store.proofs.UnsyncedLemmas.{synced_then}
 
-module _ (geometry : Geometry) (old mid next : Medium) (settled : IsAllSynced mid)
+module _ (geometry : Geometry) (old mid next : Medium) (all_synced : IsAllSynced mid)
     (passes : Passes old mid (λ _. Unit {0}))
     (first : CountsUpTo (max (old.unsynced + 1) (behind_sectors geometry)) old mid)
     (second : CountsUpTo (mid.unsynced + geometry.area_sectors + 1) mid next) where
   -- contents, and then the first image
-  pub image_counts_behind : CountsUpTo (max (old.unsynced + 1) (most_unsynced geometry)) old next
-  image_counts_behind =
-      let none = settled.unsynced in
+  pub process_image_counts_behind : CountsUpTo (max (old.unsynced
+      + 1) (most_unsynced geometry)) old next
+  process_image_counts_behind =
+      let none = all_synced.unsynced in
       counts_then (max (old.unsynced + 1) (behind_sectors geometry))
       (mid.unsynced + geometry.area_sectors + 1) (max (old.unsynced + 1) (most_unsynced geometry))
       old mid next (omega arith) (omega (arith, none)) passes.later first second
@@ -25,6 +26,6 @@ module _ (geometry : Geometry) (old mid next : Medium) (settled : IsAllSynced mi
       → CountsUpTo (max (old.unsynced + 1) (most_unsynced geometry)) old new
   super_counts_behind new done later third =
       let p = passes.later in
-      settled_then (max (old.unsynced + 1) (most_unsynced geometry)) 1
+      synced_then (max (old.unsynced + 1) (most_unsynced geometry)) 1
       (max (old.unsynced + 1) (most_unsynced geometry)) old next new done (omega arith)
-      (omega arith) (omega (arith, p, later)) image_counts_behind third
+      (omega arith) (omega (arith, p, later)) process_image_counts_behind third

@@ -2,14 +2,14 @@
 use Rattle.std.proofs.Common.{◌≡◌, ◌⊎◌, inl, inr, ℕ, List, refl, sym, ap, ◌∙◌}
 use Rattle.std.proofs.Common.{subst}
 use Rattle.std.specs.Prelude.{Result, Ok, Err, Option, Some}
-use Rattle.sector_disk.specs.rules.Image.{Image}
+use Rattle.sector_disk.specs.rules.DiskImage.{DiskImage}
 use Rattle.disk_layout.specs.declared.fault.LayoutFault.TheVariants as layout
 use Rattle.disk_layout.specs.declared.geometry.Geometry.{Geometry}
 use Rattle.disk_layout.specs.declared.head.Head.{Head}
 use Rattle.wasi_abi.specs.declared.version.Version.{Version}
 use Rattle.wasi_abi.specs.rules.Versions.{version_number}
 use Rattle.wasi_abi.proofs.VersionLemmas.{own_number}
-use Rattle.disk_layout.specs.rules.Sectors.{IsNewest, HoldsImage}
+use Rattle.disk_layout.specs.rules.Sectors.{IsNewest, HoldsProcessImage}
 use Rattle.disk_layout.specs.rules.Journal.{Record, TakesRecords}
 use Rattle.process_rules.specs.Processes.{ProcessState}
 use Rattle.wasi_abi.specs.rules.Configs.{Settings}
@@ -17,30 +17,28 @@ use Rattle.wasm_syntax.specs.declared.module.Module.{Module}
 use Rattle.snapshot.specs.declared.fault.SnapshotFault.{SnapshotFault}
 use Rattle.snapshot.specs.declared.fault.SnapshotFault.TheVariants as snapshot
 use Rattle.snapshot.specs.rules.Heads.{FindsHead, HasNone}
-use Rattle.state_image.specs.rules.Image.{image, IsMarkedOtherwise}
+use Rattle.state_image.specs.rules.ProcessImage.{process_image, IsMarkedOtherwise}
 use Rattle.state_image.proofs.Marks.{own_mark}
-use Rattle.snapshot.specs.rules.Newest.{NamesBytes, ReadsImage}
+use Rattle.snapshot.specs.rules.Newest.{NamesBytes, ReadsProcessImage}
 use Rattle.snapshot.proofs.LawLemmas.{shows_one}
 use Rattle.snapshot.proofs.ReadLemmas.{named_holds}
-use Rattle.std.specs.Prelude.{Vec}
-use Rattle.std.specs.declared.alloc.Global.{Global}
-use Rattle.worker_store.specs.declared.newest.NewestImage.{NewestImage}
+use Rattle.worker_store.specs.declared.newest.NewestProcessImage.{NewestProcessImage}
 use Rattle.worker_store.specs.declared.read_fault.ReadFault.{ReadFault}
 use Rattle.worker_store.specs.declared.read_fault.ReadFault.TheVariants as read
 use Rattle.worker_store.specs.laws.Readings.{FindsSaved}
-use Rattle.worker_store.specs.laws.Savepoints.{Savepoint, places, StandsAtPoint}
+use Rattle.worker_store.specs.laws.Savepoints.{Savepoint, places, IsAtSavepoint}
 use Rattle.worker_store.specs.rules.Readings.{ReadsNewest}
 use Rattle.worker_store.proofs.LawLemmas.Reading.{finds_newest_point, finds_the_point}
 use Rattle.worker_store.proofs.LawLemmas.Reading.{reads_undamaged}
 use Rattle.worker_store.specs.rules.ReadFaults.{read_of_snapshot}
 use Rattle.worker_store.specs.Judging.{JudgesMark}
 use Rattle.worker_store.specs.rules.AnyDisk.{TellsNewest, HasOtherVersion, NamesVersion}
-use Rattle.worker_store.specs.rules.AnyDisk.{LacksItsImage, HasShortJournal, HasOtherMark}
-use Rattle.worker_store.specs.rules.AnyDisk.{NamesImage}
+use Rattle.worker_store.specs.rules.AnyDisk.{LacksItsProcessImage, HasShortJournal, HasOtherMark}
+use Rattle.worker_store.specs.rules.AnyDisk.{NamesProcessImage}
 
 -- ---- the newest head
 
-module _ (geometry : Geometry) (disk : Image) (found : Option Head) (head : Head)
+module _ (geometry : Geometry) (disk : DiskImage) (found : Option Head) (head : Head)
     (is : found ≡ Some head) (finds : FindsHead disk found) where
   newest : IsNewest disk head.generation head
   newest = subst (λ (o : Option Head). FindsHead disk o) is finds
@@ -66,81 +64,81 @@ module _ (geometry : Geometry) (disk : Image) (found : Option Head) (head : Head
     -- of which the journal takes the longest record
     module _ (room : TakesRecords version geometry.journal_sectors) where
       names_it : (bytes : List ℕ) → NamesBytes geometry disk head bytes
-          → NamesImage geometry disk head.generation version bytes
+          → NamesProcessImage geometry disk head.generation version bytes
       names_it bytes names = record {
-        holds = subst (λ v. HoldsImage geometry disk head.generation v bytes) known
+        holds = subst (λ v. HoldsProcessImage geometry disk head.generation v bytes) known
             (named_holds geometry disk head bytes newest names);
         room = room;
       }
 
-      pub judged : (bytes : Vec ℕ Global) → NamesBytes geometry disk head bytes.items
-          → (result : Result NewestImage ReadFault)
+      pub judged : (bytes : List ℕ) → NamesBytes geometry disk head bytes
+          → (result : Result NewestProcessImage ReadFault)
           → JudgesMark version head.generation bytes result → TellsNewest geometry disk result
       judged bytes names (Ok found) judges =
-          subst (λ (f : NewestImage). TellsNewest geometry disk (Ok f)) (sym judges.0)
-          (names_it bytes.items names, judges.1)
+          subst (λ (f : NewestProcessImage). TellsNewest geometry disk (Ok f)) (sym judges.0)
+          (names_it bytes names, judges.1)
       judged bytes names (Err why) judges =
           subst (λ (f : ReadFault). TellsNewest geometry disk (Err f)) (sym judges.0)
           (inr (record {
             generation = head.generation;
             version = version;
-            bytes = bytes.items;
-            named = names_it bytes.items names;
+            bytes = bytes;
+            named = names_it bytes names;
             other = judges.1;
           }))
 
-      unread_image : (fault : SnapshotFault) → (fault ≡ snapshot.Failed → ⊥)
-          → ReadsImage geometry disk head (Err fault)
+      unread_process_image : (fault : SnapshotFault) → (fault ≡ snapshot.Failed → ⊥)
+          → ReadsProcessImage geometry disk head (Err fault)
           → TellsNewest geometry disk (Err (read_of_snapshot fault))
-      unread_image snapshot.TooBig works reads = absurd reads
-      unread_image snapshot.Damaged works reads = inr (record {
+      unread_process_image snapshot.TooBig works reads = absurd reads
+      unread_process_image snapshot.Damaged works reads = inr (record {
         version = version;
         head = head;
         is = its_version;
         room = room;
         lacks = reads;
       })
-      unread_image (snapshot.Disk fault) works reads = tt
-      unread_image snapshot.Memory works reads = record {
+      unread_process_image (snapshot.Disk fault) works reads = tt
+      unread_process_image snapshot.Memory works reads = record {
         version = version;
         head = head;
         is = its_version;
         room = room;
       }
-      unread_image snapshot.Failed works reads = works refl
+      unread_process_image snapshot.Failed works reads = works refl
 
-      pub image_wrong : (fault : SnapshotFault) (e : ReadFault) → e ≡ read_of_snapshot fault
-          → (fault ≡ snapshot.Failed → ⊥) → ReadsImage geometry disk head (Err fault)
+      pub process_image_wrong : (fault : SnapshotFault) (e : ReadFault) → e ≡ read_of_snapshot fault
+          → (fault ≡ snapshot.Failed → ⊥) → ReadsProcessImage geometry disk head (Err fault)
           → TellsNewest geometry disk (Err e)
-      image_wrong fault e same works reads =
+      process_image_wrong fault e same works reads =
           subst (λ (f : ReadFault). TellsNewest geometry disk (Err f)) (sym same)
-          (unread_image fault works reads)
+          (unread_process_image fault works reads)
 
--- ---- where a savepoint stands
+-- ---- where a savepoint is
 
-module _ (geometry : Geometry) (disk : Image) (m : Module) (config : Settings)
+module _ (geometry : Geometry) (disk : DiskImage) (m : Module) (config : Settings)
     (point : Savepoint m config) (records : List Record) (last : ProcessState)
-    (at : StandsAtPoint point records last disk) (placed : geometry ≡ places point) where
+    (at : IsAtSavepoint point records last disk) (placed : geometry ≡ places point) where
   saved : FindsSaved point disk
   saved = finds_newest_point m config point records last disk at
 
   -- an image that is named is that of the savepoint
-  its_image : (generation : ℕ) (version : Version) (bytes : List ℕ)
-      → NamesImage geometry disk generation version bytes
+  its_process_image : (generation : ℕ) (version : Version) (bytes : List ℕ)
+      → NamesProcessImage geometry disk generation version bytes
       → (generation ≡ point.generation) × (version ≡ point.saved.version)
-      × (bytes ≡ image point.saved)
-  its_image generation version bytes names =
+      × (bytes ≡ process_image point.saved)
+  its_process_image generation version bytes names =
       let holds = at.holds in
       let found = shows_one.same (places point) disk generation point.generation
-      (version_number version) (version_number point.saved.version) bytes (image point.saved)
-      (subst (λ (p : Geometry). HoldsImage p disk generation (version_number version) bytes)
-      placed names.holds) holds in
+      (version_number version) (version_number point.saved.version) bytes
+      (process_image point.saved) (subst (λ (p : Geometry). HoldsProcessImage p disk generation
+      (version_number version) bytes) placed names.holds) holds in
       (found.0, own_number version point.saved.version found.1, found.2)
 
-  its_snapshot : (s : NewestImage) → TellsNewest geometry disk (Ok s)
+  its_snapshot : (s : NewestProcessImage) → TellsNewest geometry disk (Ok s)
       → (s.generation ≡ point.generation) × (s.version ≡ point.saved.version)
-      × (s.image.items ≡ image point.saved)
-  its_snapshot s tells = its_image s.generation s.version s.image.items tells.0
+      × (s.process_image ≡ process_image point.saved)
+  its_snapshot s tells = its_process_image s.generation s.version s.process_image tells.0
 
   -- the newest head is of the version of the savepoint
   head_version : (head : Head) → IsNewest disk head.generation head
@@ -154,14 +152,14 @@ module _ (geometry : Geometry) (disk : Image) (m : Module) (config : Settings)
   not_another : HasOtherVersion disk → ⊥
   not_another tells = tells.other point.saved.version (head_version tells.head tells.newest)
 
-  not_lacking : LacksItsImage geometry disk → ⊥
+  not_lacking : LacksItsProcessImage geometry disk → ⊥
   not_lacking tells =
       let is = tells.is in
       reads_undamaged m config point records last disk tells.head at is.newest
       (subst (λ (p : Geometry). (bytes : List ℕ) → NamesBytes p disk tells.head bytes → ⊥) placed
       tells.lacks)
 
-  not_damaged : HasNone disk ⊎ LacksItsImage geometry disk → ⊥
+  not_damaged : HasNone disk ⊎ LacksItsProcessImage geometry disk → ⊥
   not_damaged (inl none) = let there = saved in there.some none
   not_damaged (inr lacks) = not_lacking lacks
 
@@ -177,8 +175,8 @@ module _ (geometry : Geometry) (disk : Image) (m : Module) (config : Settings)
 
   not_marked : HasOtherMark geometry disk → ⊥
   not_marked tells =
-      let found = its_image tells.generation tells.version tells.bytes tells.named in
-      own_mark point.saved (subst (λ v. IsMarkedOtherwise v (image point.saved)) found.1
+      let found = its_process_image tells.generation tells.version tells.bytes tells.named in
+      own_mark point.saved (subst (λ v. IsMarkedOtherwise v (process_image point.saved)) found.1
       (subst (λ b. IsMarkedOtherwise tells.version b) found.2 tells.other))
 
   not_at_odds : HasShortJournal geometry disk ⊎ HasOtherMark geometry disk → ⊥
@@ -186,8 +184,9 @@ module _ (geometry : Geometry) (disk : Image) (m : Module) (config : Settings)
   not_at_odds (inr marked) = not_marked marked
 
 -- what is told there is what was saved
-pub reads_newest : (geometry : Geometry) (disk : Image) (result : Result NewestImage ReadFault)
-    → TellsNewest geometry disk result → ReadsNewest geometry disk result
+pub reads_newest : (geometry : Geometry) (disk : DiskImage)
+    (result : Result NewestProcessImage ReadFault) → TellsNewest geometry disk result
+    → ReadsNewest geometry disk result
 reads_newest geometry disk (Ok s) tells =
     λ m config point records last at placed.
     its_snapshot geometry disk m config point records last at placed s tells

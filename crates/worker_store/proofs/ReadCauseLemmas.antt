@@ -83,10 +83,10 @@ module _ (T : Type 0) (old new : Medium) where
       → ((d : DiskFault) → ◌≡◌ {A = Result T JournalFault} (Err fault) (Err (journal.Disk d))
       → old.faults < new.faults)
       → HasReadCause old new (read_of_journal fault)
-  own_of_journal (journal.Disk d) kind cause = cause d refl
-  own_of_journal journal.Memory kind cause = tt
-  own_of_journal journal.Full kind cause = tt
-  own_of_journal journal.TooLong kind cause = tt
+  own_of_journal (journal.Disk d) which_fault cause = cause d refl
+  own_of_journal journal.Memory which_fault cause = tt
+  own_of_journal journal.Full which_fault cause = tt
+  own_of_journal journal.TooLong which_fault cause = tt
   own_of_journal journal.Failed (inl is) cause = absurd (cc)
   own_of_journal journal.Failed (inr is) cause = let same = is.1 in absurd (cc)
 
@@ -96,5 +96,6 @@ module _ (T : Type 0) (old new : Medium) where
       → ((d : DiskFault) → ◌≡◌ {A = Result T JournalFault} (Err fault) (Err (journal.Disk d))
       → old.faults < new.faults)
       → HasReadCause old new e
-  journal_cause fault e is kind cause =
-      subst (λ (f : ReadFault). HasReadCause old new f) (sym is) (own_of_journal fault kind cause)
+  journal_cause fault e is which_fault cause =
+      subst (λ (f : ReadFault). HasReadCause old new f) (sym is)
+      (own_of_journal fault which_fault cause)

@@ -1,11 +1,11 @@
--- What is read of a disk that stands at a savepoint.
+-- What is read of a disk that is at a savepoint.
 use Rattle.std.proofs.Common.{◌≡◌, ◌≤◌, ℕ, List, refl, sym, subst}
 use Rattle.std.specs.Prelude.{Result, Ok, Err, IfOk, IsTrue}
 use Rattle.std.proofs.lemmas.Bool.{false≢true}
 use Rattle.wasm_syntax.specs.declared.module.Module.{Module}
 use Rattle.wasi_abi.specs.rules.Configs.{Settings}
 use Rattle.process_rules.specs.Processes.{ProcessState}
-use Rattle.sector_disk.specs.rules.Image.{Image}
+use Rattle.sector_disk.specs.rules.DiskImage.{DiskImage}
 use Rattle.disk_layout.specs.declared.fault.LayoutFault.{LayoutFault}
 use Rattle.disk_layout.specs.declared.fault.LayoutFault.TheVariants as layout
 use Rattle.disk_layout.specs.declared.reading.contents.Contents.{Contents}
@@ -16,7 +16,7 @@ use Rattle.snapshot.specs.declared.snapshots.State.{State}
 use Rattle.snapshot.specs.declared.snapshots.State.TheVariants as state
 use Rattle.snapshot.specs.declared.snapshots.Snapshots.{Snapshots}
 use Rattle.snapshot.specs.rules.Snapshots.{has_failed, is_failed, is_idle, is_idle_state}
-use Rattle.worker_store.specs.laws.Savepoints.{Savepoint, places, StandsAtPoint}
+use Rattle.worker_store.specs.laws.Savepoints.{Savepoint, places, IsAtSavepoint}
 use Rattle.worker_store.proofs.LawLemmas.Reading.{reads_the_module}
 use Rattle.worker_store.specs.declared.read_fault.ReadFault.{ReadFault}
 use Rattle.worker_store.specs.rules.ReadFaults.{read_of_layout}
@@ -25,9 +25,9 @@ use Rattle.worker_store.proofs.FillLemmas.{ok_no_err}
 
 -- ---- configuration and module
 
-module _ (sectors : ℕ) (disk : Image) (m : Module) (config : Settings)
+module _ (sectors : ℕ) (disk : DiskImage) (m : Module) (config : Settings)
     (point : Savepoint m config) (records : List Record) (last : ProcessState)
-    (at : StandsAtPoint point records last disk)
+    (at : IsAtSavepoint point records last disk)
     (room : total_sectors (places point) ≤ sectors) where
   abbrev stored : Contents
   stored = record { geometry = places point; config = config; wasm = point.wasm }
@@ -40,7 +40,7 @@ module _ (sectors : ℕ) (disk : Image) (m : Module) (config : Settings)
       subst P same refl
 
 -- where it fails that says nothing of the disk
-pub contents_failed : (sectors : ℕ) (disk : Image) (fault : LayoutFault) (e : ReadFault)
+pub contents_failed : (sectors : ℕ) (disk : DiskImage) (fault : LayoutFault) (e : ReadFault)
     → e ≡ read_of_layout fault → GivesContents sectors disk (Err fault)
     → ReadsContents sectors disk (Err e)
 contents_failed sectors disk layout.NotAWorker e same gives =

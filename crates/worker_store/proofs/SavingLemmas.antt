@@ -15,7 +15,7 @@ use Rattle.disk_layout.specs.rules.Places.{area_place, rounded_up}
 use Rattle.snapshot.specs.declared.fault.SnapshotFault.{SnapshotFault}
 use Rattle.snapshot.specs.declared.snapshots.Snapshots.{Snapshots}
 use Rattle.snapshot.specs.declared.writing.Writing.{Writing}
-use Rattle.snapshot.specs.rules.Calls.{MakesStoresAndHead}
+use Rattle.snapshot.specs.rules.Calls.{PerformsStoresAndHead}
 use Rattle.snapshot.specs.rules.Snapshots.{generation_of, version_of, length_of, sectors_of}
 use Rattle.snapshot.specs.rules.Snapshots.{writing_of, filled_by, IsBegun, HasPushed}
 use Rattle.snapshot.specs.rules.Steps.{Fills, Commits, Replaces}
@@ -26,50 +26,51 @@ use Rattle.snapshot.proofs.StoreCalls.{stores, BeginsStoresAndHead, none_stored,
 use Rattle.snapshot.proofs.StoreCalls.{same_stores, begun_at, begun_longer, has_stored_at}
 use Rattle.snapshot.proofs.StoreCalls.{head_at, head_then}
 use Rattle.worker_store.specs.Filling.{TakesBytes}
-use Rattle.worker_store.proofs.UnsyncedLemmas.{image_counts}
+use Rattle.worker_store.proofs.UnsyncedLemmas.{process_image_counts}
 
 -- stores that were begun, where an error is answered
 pub made_no_head : {T E : Type 0} (writing : Writing) (at n g : ℕ) (r : Result T E)
     (old new : Medium) → IsErr r → BeginsStoresAndHead (stores writing at n) g old new
-    → MakesStoresAndHead (stores writing at n) g r old new
+    → PerformsStoresAndHead (stores writing at n) g r old new
 made_no_head writing at n g (Ok done) old new is_err begun = absurd (false≢true is_err)
 made_no_head writing at n g (Err fault) old new is_err begun =
     (begun.0, begun.1, record { all = tt; begun = begun.2 })
 
 -- no call
-pub none_made : {T E : Type 0} (writing : Writing) (at n g : ℕ) (r : Result T E) (m : Medium)
-    → IsErr r → MakesStoresAndHead (stores writing at n) g r m m
-none_made writing at n g r m is_err =
+pub none_performed : {T E : Type 0} (writing : Writing) (at n g : ℕ) (r : Result T E) (m : Medium)
+    → IsErr r → PerformsStoresAndHead (stores writing at n) g r m m
+none_performed writing at n g r m is_err =
     made_no_head writing at n g r m m is_err
     (no_head writing at n g m m (none_stored writing at n m))
 
-pub none_made_still : {D T E : Type 0} (medium : D → Medium) (writing : Writing) (at n g : ℕ)
+pub none_performed_still : {D T E : Type 0} (medium : D → Medium) (writing : Writing) (at n g : ℕ)
     (r : Result T E) (old new : D) → new ≡ old → IsErr r
-    → MakesStoresAndHead (stores writing at n) g r (medium old) (medium new)
-none_made_still medium writing at n g r old new same is_err =
-    subst (λ d. MakesStoresAndHead (stores writing at n) g r (medium old) (medium d)) (sym same)
-    (none_made writing at n g r (medium old) is_err)
+    → PerformsStoresAndHead (stores writing at n) g r (medium old) (medium new)
+none_performed_still medium writing at n g r old new same is_err =
+    subst (λ d. PerformsStoresAndHead (stores writing at n) g r (medium old) (medium d)) (sym same)
+    (none_performed writing at n g r (medium old) is_err)
 
 -- the same under another answer, of a generation that is the same
 module _ {T U E F : Type 0} (geometry : Geometry) (writing : Writing) (count n g : ℕ)
     (old new : Medium) (same : n ≡ g) where
   pub stored_err : (q : Result U F) (r : Result T E) → IsErr r
-      → MakesStoresAndHead (stores writing (area_place geometry n) count) n q old new
-      → MakesStoresAndHead (stores writing (area_place geometry g) count) g r old new
+      → PerformsStoresAndHead (stores writing (area_place geometry n) count) n q old new
+      → PerformsStoresAndHead (stores writing (area_place geometry g) count) g r old new
   stored_err q r is_err made =
       let makes = made.2 in
-      subst (λ k. MakesStoresAndHead (stores writing (area_place geometry k) count) k r old new)
+      subst (λ k. PerformsStoresAndHead (stores writing (area_place geometry k) count) k r old new)
       same
       (made_no_head writing (area_place geometry n) count n r old new is_err
       (made.0, made.1, makes.begun))
 
   pub stored_ok : (x : T) (y : U)
-      → MakesStoresAndHead {E = F} (stores writing (area_place geometry n) count) n (Ok y) old new
-      → MakesStoresAndHead {E = E} (stores writing (area_place geometry g) count) g (Ok x) old new
+      → PerformsStoresAndHead {E = F} (stores writing (area_place geometry n) count) n
+      (Ok y) old new → PerformsStoresAndHead {E = E} (stores writing (area_place geometry g) count)
+      g (Ok x) old new
   stored_ok x y made =
       let makes = made.2 in
       let r : Result T E = Ok x in
-      subst (λ k. MakesStoresAndHead (stores writing (area_place geometry k) count) k r old new)
+      subst (λ k. PerformsStoresAndHead (stores writing (area_place geometry k) count) k r old new)
       same
       (made.0, made.1, record { all = makes.all; begun = makes.begun })
 
@@ -85,11 +86,11 @@ module _ (geometry : Geometry) (g v : ℕ) (writing : Writing) (bytes : List ℕ
     (old mid : Medium) (begun : IsBegun g v writing b)
     (said : Result (Unit {0}) SnapshotFault)
     (takes : TakesBytes geometry bytes said b w old mid) where
-  filled : LeavesOnly old mid (After (Fills geometry g) old.may_leave)
-  filled = subst (λ n. LeavesOnly old mid (After (Fills geometry n) old.may_leave))
+  filled : LeavesOnly old mid (After (Fills geometry g) old.crash_images)
+  filled = subst (λ n. LeavesOnly old mid (After (Fills geometry n) old.crash_images))
       begun.generation takes.any_moment
 
-  pub filling_commits : LeavesOnly old mid (After (Commits geometry g v bytes) old.may_leave)
+  pub filling_commits : LeavesOnly old mid (After (Commits geometry g v bytes) old.crash_images)
   filling_commits = filled_commits geometry g v bytes old mid filled
 
   begun_counts : CountsUpTo (old.unsynced + (geometry.area_sectors - sectors_of b)) old mid
@@ -104,7 +105,7 @@ module _ (geometry : Geometry) (g v : ℕ) (writing : Writing) (bytes : List ℕ
   here = omega (arith, ap (λ j. area_place geometry j) begun.generation, begun.sectors)
 
   pub filling_calls : {T E : Type 0} (r : Result T E) → IsErr r
-      → MakesStoresAndHead (stores writing (area_place geometry g) (rounded_up (length bytes))) g
+      → PerformsStoresAndHead (stores writing (area_place geometry g) (rounded_up (length bytes))) g
       r old mid
   filling_calls r is_err =
       let at : ℕ = area_place geometry g in
@@ -131,27 +132,27 @@ module _ (geometry : Geometry) (g v : ℕ) (writing : Writing) (bytes : List ℕ
   of_version = let same = takes.same in same.version ∙ begun.version
 
   pub ended_commits : ((all : List ℕ) → HasPushed geometry mid w all → LeavesOnly mid new
-      (After (Commits geometry (generation_of w) (version_of w) all) mid.may_leave))
-      → LeavesOnly old new (After (Commits geometry g v bytes) old.may_leave)
+      (After (Commits geometry (generation_of w) (version_of w) all) mid.crash_images))
+      → LeavesOnly old new (After (Commits geometry g v bytes) old.crash_images)
   ended_commits last =
       let at = subst (λ n. LeavesOnly mid new
-      (After (Commits geometry n (version_of w) bytes) mid.may_leave)) of_generation
+      (After (Commits geometry n (version_of w) bytes) mid.crash_images)) of_generation
       (last bytes pushed_all) in
       committed geometry g v bytes old mid new
       (filled geometry g v writing bytes b w old mid begun (Ok tt) takes)
-      (subst (λ n. LeavesOnly mid new (After (Commits geometry g n bytes) mid.may_leave))
+      (subst (λ n. LeavesOnly mid new (After (Commits geometry g n bytes) mid.crash_images))
       of_version at)
 
   pub ended_replaces : ((all : List ℕ) → HasPushed geometry mid w all
-      → Follows (Replaces geometry (generation_of w) (version_of w) all) mid.may_leave
-      new.may_leave)
-      → Follows (Replaces geometry g v bytes) old.may_leave new.may_leave
+      → Follows (Replaces geometry (generation_of w) (version_of w) all) mid.crash_images
+      new.crash_images)
+      → Follows (Replaces geometry g v bytes) old.crash_images new.crash_images
   ended_replaces last =
-      let at = subst (λ n. Follows (Replaces geometry n (version_of w) bytes) mid.may_leave
-      new.may_leave) of_generation (last bytes pushed_all) in
+      let at = subst (λ n. Follows (Replaces geometry n (version_of w) bytes) mid.crash_images
+      new.crash_images) of_generation (last bytes pushed_all) in
       committed_whole geometry g v bytes old mid new
       (filled geometry g v writing bytes b w old mid begun (Ok tt) takes)
-      (subst (λ n. Follows (Replaces geometry g n bytes) mid.may_leave new.may_leave)
+      (subst (λ n. Follows (Replaces geometry g n bytes) mid.crash_images new.crash_images)
       of_version at)
 
   pub ended_counts : CountsUpTo (mid.unsynced + 1) mid new
@@ -159,15 +160,15 @@ module _ (geometry : Geometry) (g v : ℕ) (writing : Writing) (bytes : List ℕ
   ended_counts last =
       let leaves = takes.any_moment in
       let p = leaves.passes in
-      image_counts geometry.area_sectors b w old mid new p.later begun.sectors
+      process_image_counts geometry.area_sectors b w old mid new p.later begun.sectors
       (takes.within (omega (arith, begun.length))) takes.unsynced
       (begun_counts geometry g v writing bytes b w old mid begun (Ok tt) takes) last
 
   pub ended_calls : {T E : Type 0} (r : Result T E)
-      → MakesStoresAndHead (stores (writing_of w)
+      → PerformsStoresAndHead (stores (writing_of w)
       (area_place geometry (generation_of w) + sectors_of w)
       (rounded_up (length_of w) - sectors_of w)) (generation_of w) r mid new
-      → MakesStoresAndHead (stores writing (area_place geometry g) (rounded_up (length bytes))) g
+      → PerformsStoresAndHead (stores writing (area_place geometry g) (rounded_up (length bytes))) g
       r old new
   ended_calls r last =
       let same = takes.same in

@@ -1,19 +1,22 @@
 -- The calls of a store, by the laws of the worker on its disk.
 use Rattle.std.proofs.Common.{◌≡◌, ◌<◌, ◌≤◌, ◌⊎◌, ◌^◌, ℕ, ◌+◌, List, [], ◌++◌}
 use Rattle.std.proofs.Common.{length}
-use Rattle.std.proofs.Common.{refl, sym, ap, ◌∙◌, subst, ⊎_elim, arith, false}
+use Rattle.std.proofs.Common.{refl, sym, ap, ◌∙◌, subst, inr, ⊎_elim, arith, false, Err}
 use Rattle.std.proofs.lemmas.List.{length-append}
-use Rattle.sector_disk.specs.rules.Image.{Image}
+use Rattle.sector_disk.specs.rules.DiskImage.{DiskImage}
 use Rattle.sector_disk.specs.rules.Medium.{Medium, After, Follows, IsAllSynced, LeavesOnly}
 use Rattle.disk_layout.specs.declared.geometry.Geometry.{Geometry}
 use Rattle.wasi_abi.specs.rules.Versions.{version_number}
 use Rattle.disk_layout.specs.rules.Places.{total_sectors}
 use Rattle.disk_layout.specs.rules.Journal.{Record, record_bytes}
+use Rattle.journal.specs.declared.fault.JournalFault.{JournalFault}
+use Rattle.journal.specs.declared.fault.JournalFault.TheVariants as of_journal
+use Rattle.journal.specs.rules.Barriers.{StoresKept}
 use Rattle.journal.specs.rules.State.{JournalState, state}
-use Rattle.journal.specs.rules.Steps.{AppendsFront, RecordsStand, IsOn}
+use Rattle.journal.specs.rules.Steps.{AppendsFront, HoldsRecords, IsOn}
 use Rattle.snapshot.specs.rules.Steps.{Commits, Replaces}
 use Rattle.process.specs.rules.Values.{ProcessValue}
-use Rattle.state_image.specs.rules.Image.{Saved, image}
+use Rattle.state_image.specs.rules.ProcessImage.{Saved, process_image}
 use Rattle.state_image.specs.rules.Saving.{saved_of}
 use Rattle.disk_layout.specs.rules.Places.{geometry_of}
 use Rattle.wasm_syntax.specs.declared.module.Module.{Module}
@@ -33,6 +36,9 @@ use Rattle.worker_store.specs.laws.Laws.{AppendStores}
 use Rattle.worker_store.specs.rules.Stores.{IsStoreOf}
 use Rattle.worker_store.specs.rules.Calls.{LeavesBeforeOrNext, LeavesPointOrNext, StoresAgain}
 use Rattle.worker_store.specs.rules.Calls.{LeavesFronts, StoresAll, LeavesOneOfTwo, StoresNext}
+use Rattle.worker_store.specs.rules.Calls.{BarrierFails}
+use Rattle.worker_store.specs.rules.Faults.{fault_of_journal}
+use Rattle.worker_store.specs.declared.fault.StoreFault.{StoreFault}
 
 -- ---- records
 
@@ -54,7 +60,7 @@ module _ {D : Type 0} (medium : D → Medium) where
             last now asks next a n disk is.journaled runs moves fits numbers refl;
         fits = omega (arith, more, many, room, is.fits);
         sectors = is.sectors;
-        settled = is.settled;
+        all_synced = is.all_synced;
         early = is.early;
       }
 
@@ -62,10 +68,10 @@ module _ {D : Type 0} (medium : D → Medium) where
   module _ (before : WorkerStore) (old new : D)
       (leaves : (records kept : List Record)
       → IsOn before.geometry before.journal.version before.journal.generation before.journal.used
-      before.journal.kept records kept (medium old).may_leave
+      before.journal.kept records kept (medium old).crash_images
       → LeavesOnly (medium old) (medium new)
       (After (AppendsFront before.geometry before.journal.version before.journal.generation
-      before.journal.used records kept) (medium old).may_leave)) where
+      before.journal.used records kept) (medium old).crash_images)) where
     pub barrier_leaves : LeavesFronts before (medium old) (medium new)
     barrier_leaves m config point records pending last now is =
         let journal = before.journal in
@@ -75,31 +81,31 @@ module _ {D : Type 0} (medium : D → Medium) where
         (subst (λ (g : Geometry). LeavesOnly (medium old) (medium new)
         (After (AppendsFront g journal.version journal.generation journal.used records
         pending)
-        (medium old).may_leave)) is.geometry
+        (medium old).crash_images)) is.geometry
         (leaves records pending
         (subst (λ (g : Geometry). IsOn g journal.version journal.generation journal.used
-        journal.kept records pending (medium old).may_leave) (sym is.geometry) journaled.on)))
+        journal.kept records pending (medium old).crash_images) (sym is.geometry) journaled.on)))
 
     pub barrier_stores : (after : WorkerStore) (used : ℕ)
         → after.journal ≡ state before.journal.version before.journal.generation used [] false
         → after.geometry ≡ before.geometry → after.has_failed ≡ false
         → ((records kept : List Record)
         → IsOn before.geometry before.journal.version before.journal.generation
-        before.journal.used before.journal.kept records kept (medium old).may_leave
-        → (image : Image) → (medium new).may_leave image
-        → RecordsStand before.geometry after.journal.version after.journal.generation
+        before.journal.used before.journal.kept records kept (medium old).crash_images
+        → (image : DiskImage) → (medium new).crash_images image
+        → HoldsRecords before.geometry after.journal.version after.journal.generation
         after.journal.used (records ++ kept) image)
         → (length before.journal.kept ≡ 0) ⊎ IsAllSynced (medium new)
         → (length before.journal.kept ≡ 0 → new ≡ old)
         → StoresAll before after (medium old) (medium new)
-    barrier_stores after used e same works durable settled quiet m config point records pending last
-        now is =
+    barrier_stores after used e same works durable all_synced quiet m config point
+        records pending last now is =
         let journal = before.journal in
         let journaled = is.journaled in
         let on : IsOn before.geometry journal.version journal.generation journal.used journal.kept
-        records pending (medium old).may_leave =
+        records pending (medium old).crash_images =
         subst (λ (g : Geometry). IsOn g journal.version journal.generation journal.used
-        journal.kept records pending (medium old).may_leave) (sym is.geometry) journaled.on in
+        journal.kept records pending (medium old).crash_images) (sym is.geometry) journaled.on in
         let all = leaves records pending on in
         let p = all.passes in
         let none = ap (λ (j : JournalState). length j.kept) e in
@@ -113,15 +119,15 @@ module _ {D : Type 0} (medium : D → Medium) where
               (subst (λ (g : Geometry). LeavesOnly (medium old) (medium new)
               (After (AppendsFront g journal.version journal.generation journal.used records
               pending)
-              (medium old).may_leave)) is.geometry all) e
-              (subst (λ (g : Geometry). (image : Image) → (medium new).may_leave image
-              → RecordsStand g after.journal.version after.journal.generation
+              (medium old).crash_images)) is.geometry all) e
+              (subst (λ (g : Geometry). (image : DiskImage) → (medium new).crash_images image
+              → HoldsRecords g after.journal.version after.journal.generation
               after.journal.used (records ++ pending) image) is.geometry
               (durable records pending on));
           fits = omega (arith, none);
           sectors = let s = is.sectors in omega (arith, s, p.sectors);
-          settled = ⊎_elim (λ quiet_one. subst (λ (d : D). IsAllSynced (medium d))
-              (sym (quiet quiet_one)) is.settled) (λ done. done) settled;
+          all_synced = ⊎_elim (λ quiet_one. subst (λ (d : D). IsAllSynced (medium d))
+              (sym (quiet quiet_one)) is.all_synced) (λ done. done) all_synced;
           early = is.early;
         }
 
@@ -133,7 +139,7 @@ module _ {D : Type 0} (medium : D → Medium) where
       → total_sectors store.geometry ≤ (medium new).sectors → IsAllSynced (medium new)
       → LeavesAll (medium new) (BeginsAtPoint point) → IsNumbered point.process
       → IsStoreOf point store [] [] point.process point.process (medium new)
-  begun_stored m config point store new g numbered early works placed e sectors settled begins
+  begun_stored m config point store new g numbered early works placed e sectors all_synced begins
       numbers =
       let below : point.generation < 2 ^ 63 = subst (λ k. k < 2 ^ 63) numbered early in
       let fresh : store.journal ≡ state point.saved.version point.generation 0 [] false =
@@ -148,7 +154,7 @@ module _ {D : Type 0} (medium : D → Medium) where
             (begins_journaled medium m config point new begins (omega (arith, below)) numbers);
         fits = omega (arith, none);
         sectors = subst (λ (g : Geometry). total_sectors g ≤ (medium new).sectors) placed sectors;
-        settled = settled;
+        all_synced = all_synced;
         early = below;
       }
 
@@ -157,37 +163,37 @@ module _ {D : Type 0} (medium : D → Medium) where
       (counts : before.journal.generation < 2 ^ 63 → n ≡ before.journal.generation + 1) where
     pub commit_leaves : LeavesOnly (medium old) (medium new)
         (After (Commits before.geometry n (version_number (saved_of process).version)
-        (image (saved_of process)))
-        (medium old).may_leave) → LeavesOneOfTwo before process (medium old) (medium new)
+        (process_image (saved_of process)))
+        (medium old).crash_images) → LeavesOneOfTwo before process (medium old) (medium new)
     commit_leaves leaves m config point next records pending last now is is_next saved =
         let journaled = is.journaled in
         let whose = journaled.generation in
         let same : n ≡ next.generation =
         counts (subst (λ k. k < 2 ^ 63) (sym whose) is.early) ∙ ap (λ k. k + 1) whose
         ∙ sym is_next.generation in
-        commit_at_any_moment medium m config point next records last old new journaled.stands
+        commit_at_any_moment medium m config point next records last old new journaled.at_savepoint
         is_next
         (subst (λ (g : Geometry). LeavesOnly (medium old) (medium new)
-        (After (Commits g next.generation (version_number next.saved.version) (image next.saved))
-        (medium old).may_leave)) is.geometry
+        (After (Commits g next.generation (version_number next.saved.version)
+        (process_image next.saved)) (medium old).crash_images)) is.geometry
         (subst (λ k. LeavesOnly (medium old) (medium new)
-        (After (Commits before.geometry k (version_number next.saved.version) (image next.saved))
-        (medium old).may_leave)) same
+        (After (Commits before.geometry k (version_number next.saved.version)
+        (process_image next.saved)) (medium old).crash_images)) same
         (subst (λ s. LeavesOnly (medium old) (medium new)
-        (After (Commits before.geometry n (version_number s.version) (image s))
-        (medium old).may_leave)) (sym saved) leaves)))
+        (After (Commits before.geometry n (version_number s.version) (process_image s))
+        (medium old).crash_images)) (sym saved) leaves)))
 
     pub commit_stores : (after : WorkerStore)
         → after.journal ≡ state (saved_of process).version n 0 [] false
         → after.geometry ≡ before.geometry → after.has_failed ≡ false
         → (medium new).sectors ≡ (medium old).sectors
         → Follows (Replaces before.geometry n (version_number (saved_of process).version)
-        (image (saved_of process)))
-        (medium old).may_leave (medium new).may_leave
+        (process_image (saved_of process)))
+        (medium old).crash_images (medium new).crash_images
         → IsAllSynced (medium new) → n < 2 ^ 63
         → StoresNext before after process (medium old) (medium new)
-    commit_stores after e same works sectors done settled early m config point next records pending
-        last now is is_next saved =
+    commit_stores after e same works sectors done all_synced early m config point next
+        records pending last now is is_next saved =
         let journaled = is.journaled in
         let whose = journaled.generation in
         let numbered : n ≡ next.generation =
@@ -196,81 +202,103 @@ module _ {D : Type 0} (medium : D → Medium) where
         let place : places point ≡ places next =
         ap (λ w. geometry_of config (length w)) (sym is_next.wasm) in
         let begins = commit_in_the_end medium m config point next records last old new
-        journaled.stands is_next
+        journaled.at_savepoint is_next
         (subst (λ (g : Geometry).
-        Follows (Replaces g next.generation (version_number next.saved.version) (image next.saved))
-        (medium old).may_leave (medium new).may_leave) is.geometry
+        Follows (Replaces g next.generation (version_number next.saved.version)
+        (process_image next.saved)) (medium old).crash_images (medium new).crash_images) is.geometry
         (subst (λ k. Follows (Replaces before.geometry k (version_number next.saved.version)
-        (image next.saved))
-        (medium old).may_leave (medium new).may_leave) numbered
-        (subst (λ s. Follows (Replaces before.geometry n (version_number s.version) (image s))
-        (medium old).may_leave (medium new).may_leave) (sym saved) done))) in
+        (process_image next.saved))
+        (medium old).crash_images (medium new).crash_images) numbered
+        (subst (λ s. Follows (Replaces before.geometry n (version_number s.version)
+        (process_image s)) (medium old).crash_images (medium new).crash_images)
+        (sym saved) done))) in
         let room = is.sectors in
         let where_it_is = same ∙ is.geometry in
         begun_stored m config next after new n numbered early works (where_it_is ∙ place)
         (e ∙ ap (λ (s : Saved). state s.version n 0 [] false) (sym saved))
         (subst (λ (g : Geometry). total_sectors g ≤ (medium new).sectors) (sym where_it_is)
-        (omega (arith, room, sectors))) settled begins is_next.numbers
+        (omega (arith, room, sectors))) all_synced begins is_next.numbers
 
   -- what a commit leaves of a disk that stands for a worker, and what it leaves after Ok
   module _ (geometry : Geometry) (g : ℕ) (process : ProcessValue) (old new : D) where
     pub reopening_leaves : LeavesOnly (medium old) (medium new)
         (After (Commits geometry g (version_number (saved_of process).version)
-        (image (saved_of process)))
-        (medium old).may_leave) → LeavesBeforeOrNext geometry g process (medium old) (medium new)
+        (process_image (saved_of process)))
+        (medium old).crash_images) → LeavesBeforeOrNext geometry g process (medium old) (medium new)
     reopening_leaves leaves m config next kept n again all =
         commit_keeps_at_any_moment medium m config next kept n old new all
         (subst (λ (p : Geometry). LeavesOnly (medium old) (medium new)
-        (After (Commits p next.generation (version_number next.saved.version) (image next.saved))
-        (medium old).may_leave)) again.placed
+        (After (Commits p next.generation (version_number next.saved.version)
+        (process_image next.saved)) (medium old).crash_images)) again.placed
         (subst (λ k. LeavesOnly (medium old) (medium new)
         (After (Commits geometry k (version_number next.saved.version)
-        (image next.saved)) (medium old).may_leave))
+        (process_image next.saved)) (medium old).crash_images))
         (sym again.generation)
         (subst (λ s. LeavesOnly (medium old) (medium new)
-        (After (Commits geometry g (version_number s.version) (image s)) (medium old).may_leave))
-        (sym again.saved) leaves)))
+        (After (Commits geometry g (version_number s.version) (process_image s))
+        (medium old).crash_images)) (sym again.saved) leaves)))
 
     pub reopening_leaves_point : LeavesOnly (medium old) (medium new)
         (After (Commits geometry g (version_number (saved_of process).version)
-        (image (saved_of process)))
-        (medium old).may_leave) → LeavesPointOrNext geometry g process (medium old) (medium new)
+        (process_image (saved_of process)))
+        (medium old).crash_images) → LeavesPointOrNext geometry g process (medium old) (medium new)
     reopening_leaves_point leaves m config point next records last again comes all =
         let placed : geometry ≡ places point =
         again.placed ∙ ap (λ w. geometry_of config (length w)) comes.wasm in
         commit_at_any_moment medium m config point next records last old new all comes
         (subst (λ (p : Geometry). LeavesOnly (medium old) (medium new)
-        (After (Commits p next.generation (version_number next.saved.version) (image next.saved))
-        (medium old).may_leave)) placed
+        (After (Commits p next.generation (version_number next.saved.version)
+        (process_image next.saved)) (medium old).crash_images)) placed
         (subst (λ k. LeavesOnly (medium old) (medium new)
         (After (Commits geometry k (version_number next.saved.version)
-        (image next.saved)) (medium old).may_leave))
+        (process_image next.saved)) (medium old).crash_images))
         (sym again.generation)
         (subst (λ s. LeavesOnly (medium old) (medium new)
-        (After (Commits geometry g (version_number s.version) (image s)) (medium old).may_leave))
-        (sym again.saved) leaves)))
+        (After (Commits geometry g (version_number s.version) (process_image s))
+        (medium old).crash_images)) (sym again.saved) leaves)))
 
     pub reopening_stores : (store : WorkerStore)
         → store.journal ≡ state (saved_of process).version g 0 [] false
         → store.geometry ≡ geometry → store.has_failed ≡ false
         → total_sectors geometry ≤ (medium new).sectors
         → Follows (Replaces geometry g (version_number (saved_of process).version)
-        (image (saved_of process)))
-        (medium old).may_leave (medium new).may_leave
+        (process_image (saved_of process)))
+        (medium old).crash_images (medium new).crash_images
         → IsAllSynced (medium new) → g < 2 ^ 63
         → StoresAgain geometry g process store (medium old) (medium new)
-    reopening_stores store e same works sectors done settled early m config next kept n again all =
+    reopening_stores store e same works sectors done all_synced early m config next
+        kept n again all =
         let begins = commit_keeps_in_the_end medium m config next kept n old new all
         (subst (λ (p : Geometry).
-        Follows (Replaces p next.generation (version_number next.saved.version) (image next.saved))
-        (medium old).may_leave (medium new).may_leave) again.placed
-        (subst (λ k. Follows (Replaces geometry k (version_number next.saved.version)
-        (image next.saved))
-        (medium old).may_leave (medium new).may_leave) (sym again.generation)
-        (subst (λ s. Follows (Replaces geometry g (version_number s.version) (image s))
-        (medium old).may_leave (medium new).may_leave) (sym again.saved) done))) in
+        Follows (Replaces p next.generation (version_number next.saved.version)
+        (process_image next.saved)) (medium old).crash_images
+        (medium new).crash_images) again.placed (subst (λ k. Follows
+        (Replaces geometry k (version_number next.saved.version) (process_image next.saved))
+        (medium old).crash_images (medium new).crash_images) (sym again.generation)
+        (subst (λ s. Follows (Replaces geometry g (version_number s.version) (process_image s))
+        (medium old).crash_images (medium new).crash_images) (sym again.saved) done))) in
         begun_stored m config next store new g (sym again.generation) early works
         (same ∙ again.placed)
         (e ∙ ap (λ (s : Saved). state s.version g 0 [] false) (sym again.saved))
         (subst (λ (p : Geometry). total_sectors p ≤ (medium new).sectors) (sym same) sectors)
-        settled begins again.numbers
+        all_synced begins again.numbers
+
+-- ---- why a barrier fails
+
+barrier_fault : (store : WorkerStore) (after : JournalState) (old new : Medium)
+    (fault : JournalFault) → StoresKept store.geometry store.journal after (Err fault) old new
+    → BarrierFails store old new (fault_of_journal fault)
+barrier_fault store after old new of_journal.Full stores = let full = stores.full.0 refl in
+    (full.1, full.2)
+barrier_fault store after old new of_journal.TooLong stores = absurd (stores.not_too_long refl)
+barrier_fault store after old new (of_journal.Disk fault) stores = stores.cause fault refl
+barrier_fault store after old new of_journal.Memory stores = absurd (stores.no_memory refl)
+barrier_fault store after old new of_journal.Failed stores = inr (stores.failed.0 refl)
+
+pub barrier_fails_so : (store : WorkerStore) (after : JournalState) (old new : Medium)
+    (fault : JournalFault) (e : StoreFault) → e ≡ fault_of_journal fault
+    → StoresKept store.geometry store.journal after (Err fault) old new
+    → BarrierFails store old new e
+barrier_fails_so store after old new fault e is stores =
+    subst (λ (f : StoreFault). BarrierFails store old new f) (sym is)
+    (barrier_fault store after old new fault stores)

@@ -11,12 +11,12 @@ use Rattle.snapshot.specs.declared.snapshots.Snapshots.{Snapshots}
 use Rattle.snapshot.specs.rules.Snapshots.{is_failed, length_of, sectors_of, filled_by}
 use Rattle.snapshot.proofs.SpareLemmas.{filled_within}
 
--- a call that begins on a settled disk
-pub settled_then : (a b most : ℕ) (old mid new : Medium) → IsAllSynced mid → a ≤ most → b ≤ most
+-- a call that begins on a synced disk
+pub synced_then : (a b most : ℕ) (old mid new : Medium) → IsAllSynced mid → a ≤ most → b ≤ most
     → old.moment ≤ mid.moment → CountsUpTo a old mid → CountsUpTo (mid.unsynced + b) mid new
     → CountsUpTo most old new
-settled_then a b most old mid new settled ale ble later one two =
-    let none = settled.unsynced in
+synced_then a b most old mid new all_synced ale ble later one two =
+    let none = all_synced.unsynced in
     counts_then a (mid.unsynced + b) most old mid new ale (omega (arith, none)) later one two
 
 -- a call that leaves so many unsynced writes at most, and then another
@@ -67,12 +67,12 @@ pieces_count area a b old mid new later more within few one two =
     (omega (arith, few, more, within, filled_within b.state)) later one two
 
 -- all of an image, and its head
-pub image_counts : (area : ℕ) (b w : Snapshots) (old mid new : Medium) → old.moment ≤ mid.moment
-    → sectors_of b ≡ 0 → length_of w ≤ 512 * area
+pub process_image_counts : (area : ℕ) (b w : Snapshots) (old mid new : Medium)
+    → old.moment ≤ mid.moment → sectors_of b ≡ 0 → length_of w ≤ 512 * area
     → mid.unsynced + sectors_of b ≤ old.unsynced + sectors_of w
     → CountsUpTo (old.unsynced + (area - sectors_of b)) old mid
     → CountsUpTo (mid.unsynced + 1) mid new → CountsUpTo (old.unsynced + area + 1) old new
-image_counts area b w old mid new later none within few one two =
+process_image_counts area b w old mid new later none within few one two =
     counts_then (old.unsynced + (area - sectors_of b)) (mid.unsynced + 1)
     (old.unsynced + area + 1) old mid new (omega arith)
     (omega (arith, few, none, within, filled_within w.state)) later one two

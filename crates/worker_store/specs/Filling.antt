@@ -9,9 +9,9 @@ use Rattle.disk_layout.specs.rules.Places.{area_place}
 use Rattle.snapshot.specs.declared.fault.SnapshotFault.{SnapshotFault}
 use Rattle.snapshot.specs.declared.fault.SnapshotFault.TheVariants.{TooBig, Disk}
 use Rattle.snapshot.specs.declared.snapshots.Snapshots.{Snapshots}
-use Rattle.snapshot.specs.rules.Calls.{AsksForSectors, MakesStores}
+use Rattle.snapshot.specs.rules.Calls.{AsksForSectors, PerformsStores}
 use Rattle.snapshot.specs.rules.Snapshots.{is_failed, generation_of, writing_of, length_of}
-use Rattle.snapshot.specs.rules.Snapshots.{sectors_of, filled_by, IsSameImage, HasPushed}
+use Rattle.snapshot.specs.rules.Snapshots.{sectors_of, filled_by, IsSameProcessImage, HasPushed}
 use Rattle.snapshot.specs.rules.Steps.{Fills}
 
 -- These bytes of an image that is begun were pushed, in some pieces, up to the first error. The
@@ -20,10 +20,11 @@ pub record TakesBytes (geometry : Geometry) (bytes : List ℕ)
     (said : Result (Unit {0}) SnapshotFault) (was now : Snapshots) (old new : Medium) : Type 0
   where
     -- a cut at any moment leaves the newest snapshot that there was
-    pub any_moment : LeavesOnly old new (After (Fills geometry (generation_of was)) old.may_leave)
+    pub any_moment : LeavesOnly old new (After (Fills geometry (generation_of was))
+        old.crash_images)
     pub pushed : OnOk said ((before : List ℕ) → HasPushed geometry old was before
         → HasPushed geometry new now (before ++ bytes))
-    pub same : OnOk said (IsSameImage was now)
+    pub same : OnOk said (IsSameProcessImage was now)
     pub longer : OnOk said (length_of now ≡ length_of was + length bytes)
     pub within : OnOk said (length_of was ≤ SECTOR_SIZE * geometry.area_sectors
         → length_of now ≤ SECTOR_SIZE * geometry.area_sectors)
@@ -33,7 +34,7 @@ pub record TakesBytes (geometry : Geometry) (bytes : List ℕ)
     pub counts : length_of was ≤ SECTOR_SIZE * geometry.area_sectors
         → CountsUpTo (old.unsynced + (geometry.area_sectors - sectors_of was)) old new
     -- the sectors that they fill are stored, in rising order and without a sync
-    pub calls : MakesStores (record {
+    pub calls : PerformsStores (record {
       writing = writing_of was;
       first = area_place geometry (generation_of was) + sectors_of was;
       count = filled_by was (length bytes);

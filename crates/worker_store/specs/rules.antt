@@ -5,3 +5,4 @@ pub mod Calls
 pub mod Creations
 pub mod Readings
 pub mod AnyDisk
+pub mod Effects

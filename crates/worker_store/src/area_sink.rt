@@ -1,4 +1,4 @@
-// An image on its way into an area.
+//! An image on its way into an area.
 
 ghost use Rattle.std.specs.Prelude.{◌≡◌, ◌≤◌, false};
 ghost use Rattle.disk_layout.specs.rules.Places.{journal_place};

@@ -1,9 +1,9 @@
-// All of a new worker's disk that stands before its first snapshot.
+//! All of a new worker's disk that is before its first snapshot.
 
 ghost use Rattle.std.specs.Prelude.{◌≡◌, ◌⊎◌, ◌+◌, ◌++◌, ◌<◌, ◌≤◌, ◌^◌, IsErr, OnOk, length, max};
 ghost use Rattle.wasi_abi.specs.rules.Configs.{Settings};
-ghost use Rattle.sector_disk.specs.rules.Image.{Image};
-ghost use Rattle.sector_disk.specs.rules.Medium.{IsAllSynced, LeavesOnly, MakesCalls, Passes};
+ghost use Rattle.sector_disk.specs.rules.DiskImage.{DiskImage};
+ghost use Rattle.sector_disk.specs.rules.Medium.{IsAllSynced, LeavesOnly, PerformsCalls, Passes};
 ghost use Rattle.sector_disk.specs.rules.Medium.{CallsUpTo, spare, CountsUpTo};
 ghost use Rattle.disk_layout.specs.rules.Places.{config_bytes, geometry_of, rounded_up};
 ghost use Rattle.disk_layout.specs.rules.Places.{total_sectors};
@@ -37,10 +37,10 @@ pub(crate) fn lay_contents<D: Disk>(
     ensures awaits { (settings : Settings) → config.now ≡ config_bytes settings
         → geometry.now ≡ geometry_of settings (length wasm.now)
         → OnOk result (LeavesAll (D.medium disk.new) (AwaitsHead settings wasm.now)) }
-    ensures settled { OnOk result (IsAllSynced (D.medium disk.new)) }
+    ensures all_synced { OnOk result (IsAllSynced (D.medium disk.new)) }
     ensures passes { Passes (D.medium disk.old) (D.medium disk.new) (λ _. Unit {0}) }
     ensures none { OnOk result (LeavesAll (D.medium disk.new) HasNoSuper) }
-    ensures calls { MakesCalls (contents_calls geometry.now) result (D.medium disk.old)
+    ensures calls { PerformsCalls (contents_calls geometry.now) result (D.medium disk.old)
         (D.medium disk.new) }
     ensures cause { IsErr result → (spare (D.medium disk.old) ≡ 0)
         ⊎ ((D.medium disk.old).room < behind_sectors geometry.now)
@@ -48,8 +48,8 @@ pub(crate) fn lay_contents<D: Disk>(
     ensures asks { CallsUpTo (behind_sectors geometry.now + 3) (D.medium disk.old)
         (D.medium disk.new) }
 
-    // At no moment were there more unsynced writes than before and the super's, or than those
-    // behind it.
+    // At no moment were there more unsynced writes than before and the super's, or than those after
+    // it.
     ensures counts { CountsUpTo
         (max ((D.medium disk.old).unsynced + 1) (behind_sectors geometry.now))
         (D.medium disk.old) (D.medium disk.new) }
@@ -75,10 +75,10 @@ fn write_behind<D: Disk>(
     ensures awaits { (settings : Settings) → config.now ≡ config_bytes settings
         → geometry.now ≡ geometry_of settings (length wasm.now)
         → LeavesAll (D.medium disk.old) HasNoSuper
-        → OnOk result ((image : Image) → (D.medium disk.new).shows image
+        → OnOk result ((image : DiskImage) → (D.medium disk.new).shows image
         → AwaitsHead settings wasm.now image) }
     ensures passes { Passes (D.medium disk.old) (D.medium disk.new) (λ _. Unit {0}) }
-    ensures calls { MakesCalls (behind_calls geometry.now) result (D.medium disk.old)
+    ensures calls { PerformsCalls (behind_calls geometry.now) result (D.medium disk.old)
         (D.medium disk.new) }
     ensures cause { IsErr result → (spare (D.medium disk.old) < behind_sectors geometry.now)
         ⊎ ((D.medium disk.old).faults < (D.medium disk.new).faults) }

@@ -1,22 +1,20 @@
-// A worker's disk, laid out anew.
+//! A worker's disk, laid out anew.
 
-ghost use Rattle.std.specs.Prelude.{◌≡◌, ◌≢◌, ◌⊎◌, ◌+◌, ◌<◌, ◌≤◌, ◌^◌, IfErr, IfOk, OnOk, length};
-ghost use Rattle.std.specs.Prelude.{max};
+ghost use Rattle.std.specs.Prelude.{◌≡◌, ◌≢◌, ◌⊎◌, ◌+◌, ◌<◌, ◌≤◌, ◌^◌, IfErr, OnOk, length, max};
 ghost use Rattle.wasm_syntax.specs.declared.module.Module.{Module};
 ghost use Rattle.wasi_abi.specs.rules.Configs.{Settings};
-ghost use Rattle.sector_disk.specs.rules.Medium.{CallsUpTo, IsAllSynced, MakesCalls, Passes};
+ghost use Rattle.sector_disk.specs.rules.Medium.{CallsUpTo, IsAllSynced, PerformsCalls, Passes};
 ghost use Rattle.sector_disk.specs.rules.Medium.{CountsUpTo};
 ghost use Rattle.disk_layout.specs.rules.Places.{config_bytes, geometry_of, rounded_up};
 ghost use Rattle.disk_layout.specs.rules.Places.{total_sectors};
 ghost use Rattle.disk_layout.specs.rules.Unsynced.{most_unsynced};
-ghost use Rattle.state_image.specs.rules.Image.{image};
+ghost use Rattle.state_image.specs.rules.ProcessImage.{process_image};
 ghost use Rattle.state_image.specs.rules.Saving.{saved_of};
 ghost use Rattle.worker_store.specs.laws.Savepoints.{Savepoint};
 ghost use Rattle.worker_store.specs.laws.Commits.{BeginsAtPoint};
 ghost use Rattle.worker_store.specs.laws.Moments.{LeavesAll};
-ghost use Rattle.worker_store.specs.rules.Creations.{LeavesBlankOrFirst, StoresFirst, IsFirstPoint};
+ghost use Rattle.worker_store.specs.rules.Creations.{LaysOutDisk, LeavesBlankOrFirst, IsFirstPoint};
 ghost use Rattle.worker_store.specs.rules.Creations.{CreationFails, creation_calls};
-ghost use Rattle.worker_store.specs.rules.Stores.{begun_store};
 
 use crate::contents::lay_contents;
 use crate::fault::StoreFault;
@@ -31,7 +29,7 @@ use std::alloc::Global;
 use wasi_abi::Config;
 
 /// Lays a disk out for a worker of this configuration and the bytes of this module, that begins as
-/// this process. A disk with too few sectors is refused before anything is written, and so is want
+/// this process. A disk with too few sectors is refused before anything is written, and so is out
 /// of memory told. This is written, in this order:
 ///
 /// - zeros over the super, and a sync
@@ -46,35 +44,12 @@ pub fn lay_out<D: Disk>(
     process: &Process,
 ) -> Result<WorkerStore, StoreFault>
     requires { length wasm.now < 2 ^ 32 }
-
-    // A cut at any moment leaves a blank disk, or one that begins at the first snapshot.
-    ensures any_moment { LeavesBlankOrFirst config.now wasm.now process.now (D.medium disk.old)
+    ensures lays_out { LaysOutDisk config.now wasm.now process.now result (D.medium disk.old)
         (D.medium disk.new) }
-
-    // Once it has answered Ok, each cut leaves the first snapshot.
-    ensures durable { IfOk result (λ store. StoresFirst config.now wasm.now process.now store
-        (D.medium disk.new)) }
-    ensures begun { IfOk result (λ store.
-        store ≡ begun_store (geometry_of config.now (length wasm.now))
-        (saved_of process.now).version 1) }
-    ensures calls { MakesCalls (creation_calls (geometry_of config.now (length wasm.now))
-        (length (image (saved_of process.now)))) result (D.medium disk.old) (D.medium disk.new) }
     ensures too_small { (D.medium disk.old).sectors
         < total_sectors (geometry_of config.now (length wasm.now))
         → (result ≡ Err (StoreFault.Layout LayoutFault.TooSmall)) × (disk.new ≡ disk.old) }
     ensures memory { IfErr result (λ e. e ≡ StoreFault.Memory → disk.new ≡ disk.old) }
-    ensures cause { IfErr result (λ e. CreationFails (geometry_of config.now (length wasm.now))
-        process.now (D.medium disk.old) (D.medium disk.new) e) }
-
-    // Few calls more than the disk has sectors.
-    ensures asks { CallsUpTo ((D.medium disk.old).sectors + 9) (D.medium disk.old)
-        (D.medium disk.new) }
-
-    // At no moment were there more unsynced writes than before and one, or than ever wait for a
-    // sync.
-    ensures counts { CountsUpTo (max ((D.medium disk.old).unsynced + 1)
-        (most_unsynced (geometry_of config.now (length wasm.now)))) (D.medium disk.old)
-        (D.medium disk.new) }
 {
     let geometry = Geometry::of(config, wasm.len() as u32);
     if disk.sectors() < geometry.total_sectors() {
@@ -109,11 +84,11 @@ fn lay_worker<D: Disk>(
         → OnOk result ((m : Module) (point : Savepoint m settings)
         → IsFirstPoint wasm.now process.now point
         → LeavesAll (D.medium disk.new) (BeginsAtPoint point)) }
-    ensures settled { OnOk result (IsAllSynced (D.medium disk.new)) }
+    ensures all_synced { OnOk result (IsAllSynced (D.medium disk.new)) }
     ensures passes { Passes (D.medium disk.old) (D.medium disk.new) (λ _. Unit {0}) }
     ensures no_memory { IfErr result (λ e. e ≢ StoreFault.Memory) }
-    ensures calls { MakesCalls (creation_calls geometry.now (length (image (saved_of process.now))))
-        result (D.medium disk.old) (D.medium disk.new) }
+    ensures calls { PerformsCalls (creation_calls geometry.now
+        (length (process_image (saved_of process.now)))) result (D.medium disk.old) (D.medium disk.new) }
     ensures cause { IfErr result (λ e.
         CreationFails geometry.now process.now (D.medium disk.old) (D.medium disk.new) e) }
     ensures asks { CallsUpTo ((D.medium disk.old).sectors + 9) (D.medium disk.old)
@@ -123,7 +98,7 @@ fn lay_worker<D: Disk>(
         (D.medium disk.old) (D.medium disk.new) }
 {
     lay_contents(disk, geometry, config, wasm)?;
-    write_snapshot(disk, geometry, 1, Writing::Whole, process)?;
+    write_snapshot(disk, geometry, 1, Writing::Whole, process, None)?;
     let digest = digest_of(config, wasm);
     let contents = Super {
         geometry: *geometry,

@@ -64,7 +64,7 @@ pub fn calls_end()
         → CallsLeaveBetween m config guest }
 {}
 
-/// The parts of a call, one after another, are one, and its end comes behind them.
+/// The parts of a call, one after another, are one, and its end comes after them.
 pub fn parts_of_calls_join()
     ensures joined { PartsJoin }
     ensures foretold { PartsAreForetold }

@@ -1,4 +1,4 @@
-// Why a call of a store failed.
+//! Why a call of a store failed.
 
 ghost use Rattle.std.specs.Prelude.{◌≡◌};
 ghost use Rattle.worker_store.specs.declared.fault.StoreFault.TheVariants.{Disk, Memory};

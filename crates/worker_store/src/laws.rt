@@ -1,8 +1,8 @@
 //! Laws of what the steps of journal and snapshots leave of a disk that stands for a worker, and
 //! laws of stores. The functions do nothing: what they ensure is the law.
 
-ghost use Rattle.worker_store.specs.laws.Savepoints.{StandsAtItsPoint, PointStands};
-ghost use Rattle.worker_store.specs.laws.Savepoints.{PointStandsAlone, ReadAlikeStands};
+ghost use Rattle.worker_store.specs.laws.Savepoints.{IsAtItsSavepoint, PointStands};
+ghost use Rattle.worker_store.specs.laws.Savepoints.{PointStandsAlone, ReadAlikeIsAtSavepoint};
 ghost use Rattle.worker_store.specs.laws.Barriers.{RecordedOnce, BarrierLeavesFront};
 ghost use Rattle.worker_store.specs.laws.Barriers.{BarrierLeavesAll, FrontStands, BarrierStands};
 ghost use Rattle.worker_store.specs.laws.Commits.{NewPointBegins, PointIsReady};
@@ -24,17 +24,17 @@ ghost use Rattle.worker_store.specs.laws.Moments.{ZeroRunsInTheEnd, SuperAtAnyMo
 ghost use Rattle.worker_store.specs.laws.Moments.{SuperInTheEnd};
 ghost use Rattle.worker_store.specs.laws.Moments.{FillKeepsAtAnyMoment, CommitKeepsAtAnyMoment};
 ghost use Rattle.worker_store.specs.laws.Moments.{CommitKeepsInTheEnd};
-ghost use Rattle.worker_store.specs.laws.Commits.{FillingKeepsStanding, CommitKeepsStanding};
+ghost use Rattle.worker_store.specs.laws.Commits.{FillingKeepsWorker, CommitKeepsWorker};
 ghost use Rattle.worker_store.specs.laws.Commits.{ReplacingBegins};
 ghost use Rattle.worker_store.specs.laws.Readings.{ReadsTheModule, FindsThePoint, ReadsThePoint};
 ghost use Rattle.worker_store.specs.laws.Readings.{ReadsUndamaged, FindsNewestPoint};
 ghost use Rattle.worker_store.specs.laws.Readings.{ScansTheRecords};
-ghost use Rattle.worker_store.specs.laws.Carried.{HeldAtStands, StandsHeldAt, LessIsHeld};
+ghost use Rattle.worker_store.specs.laws.Carried.{HeldAtHoldsPromise, PromiseIsHeldAt, LessIsHeld};
 ghost use Rattle.worker_store.specs.laws.Carried.{MarkedIsHeld, BlankIsUnopened, StaysCarried};
 ghost use Rattle.worker_store.specs.laws.Carried.{NextIsHeld, FreshIsHeld, SavedIsHeld};
 ghost use Rattle.worker_store.specs.laws.Carried.{OpeningIsHeld, PointIsAt, PointOpens};
 ghost use Rattle.worker_store.specs.laws.Carried.{CarriedKeeps, BarrierCarries, BarrierCarriesOn};
-ghost use Rattle.worker_store.specs.laws.Carried.{CommitCarries, StandingCarries};
+ghost use Rattle.worker_store.specs.laws.Carried.{CommitCarries, SavepointCarries};
 ghost use Rattle.worker_store.specs.laws.Carried.{CreationCarries, BeginsCarried};
 ghost use Rattle.worker_store.specs.laws.Raised.{AllSyncsAreHeld, QuietSyncsAreHeld};
 ghost use Rattle.worker_store.specs.laws.Raised.{AnsweredSyncsAreHeld, AnswerIsOnRecord};
@@ -49,20 +49,20 @@ ghost use Rattle.worker_store.specs.laws.Saves.{SaveAtAnyMoment, SaveCarries, Do
 ghost use Rattle.worker_store.specs.laws.Saves.{FailedSavesCarry, EndsPromiseNoLess};
 ghost use Rattle.worker_store.specs.laws.Anew.{CreationOpens};
 ghost use Rattle.worker_store.specs.laws.Recovered.{RetoldIsHeld, RecoveryOpens};
-ghost use Rattle.worker_store.specs.laws.Laws.{AppendStores, ImagesFitAreas};
+ghost use Rattle.worker_store.specs.laws.Laws.{AppendStores, ProcessImagesFitAreas};
 
 use sector_disk::Disk;
-use state_image::laws::images_have_room;
+use state_image::laws::process_images_have_room;
 
 /// What a disk stands by, apart from the disk, says what it stands for.
-pub fn disks_stand_at_savepoints()
-    ensures point { StandsAtItsPoint }
+pub fn disks_are_at_savepoints()
+    ensures point { IsAtItsSavepoint }
     ensures stands { PointStands }
     ensures alone { PointStandsAlone }
-    ensures alike { ReadAlikeStands }
+    ensures alike { ReadAlikeIsAtSavepoint }
 {}
 
-/// Whatever a barrier has left, the disk stands for a front of the pending records. After Ok it
+/// Whatever a barrier has left, the disk stands for a prefix of the pending records. After Ok it
 /// stands for all of them. One answer more is one record more.
 pub fn barriers_leave_fronts()
     ensures recorded { RecordedOnce }
@@ -105,7 +105,7 @@ pub fn creations_end_fresh()
 /// The calls of a journal, on a disk of which each cut leaves what stands for the worker.
 pub fn journals_carry_workers<D: Disk>()
     ensures barrier { BarrierAtAnyMoment D.medium }
-    ensures settled { BarrierInTheEnd D.medium }
+    ensures durable { BarrierInTheEnd D.medium }
     ensures appended { AppendGoesOn D.medium }
     ensures stays { StaysJournaled D.medium }
     ensures begins { BeginsJournaled D.medium }
@@ -131,10 +131,10 @@ pub fn creations_carry_none<D: Disk>()
     ensures super_whole { SuperInTheEnd D.medium }
 {}
 
-/// The same of a commit of the next generation, by whatever the disk stands for a worker.
+/// The same of a commit of the next generation, whatever the disk stands by for a worker.
 pub fn commits_keep_what_stands()
-    ensures filled { FillingKeepsStanding }
-    ensures committed { CommitKeepsStanding }
+    ensures filled { FillingKeepsWorker }
+    ensures committed { CommitKeepsWorker }
     ensures replaced { ReplacingBegins }
 {}
 
@@ -155,11 +155,11 @@ pub fn disks_give_what_they_stand_by()
     ensures records { ScansTheRecords }
 {}
 
-/// What stands at a savepoint holds of a promise what the savepoint and its records hold. A next
+/// What is at a savepoint holds of a promise what the savepoint and its records hold. A next
 /// savepoint holds that too, and what an opening or the end of an act that saves promises there.
 pub fn savepoints_hold_promises()
-    ensures stands { HeldAtStands }
-    ensures held { StandsHeldAt }
+    ensures stands { HeldAtHoldsPromise }
+    ensures held { PromiseIsHeldAt }
     ensures marked { MarkedIsHeld }
     ensures blank { BlankIsUnopened }
     ensures less { LessIsHeld }
@@ -177,9 +177,9 @@ pub fn disks_carry_promises<D: Disk>()
     ensures keeps { CarriedKeeps D.medium }
     ensures stays { StaysCarried D.medium }
     ensures barrier { BarrierCarries D.medium }
-    ensures settled { BarrierCarriesOn D.medium }
+    ensures durable { BarrierCarriesOn D.medium }
     ensures commit { CommitCarries D.medium }
-    ensures standing { StandingCarries D.medium }
+    ensures savepoint { SavepointCarries D.medium }
     ensures creation { CreationCarries D.medium }
     ensures begins { BeginsCarried D.medium }
 {}
@@ -248,8 +248,8 @@ pub fn appends_carry_stores<D: Disk>()
 {}
 
 /// The image of a well-typed process is never longer than its area.
-pub fn images_fit_areas()
-    ensures { ImagesFitAreas }
+pub fn process_images_fit_areas()
+    ensures { ProcessImagesFitAreas }
 {
-    images_have_room();
+    process_images_have_room();
 }

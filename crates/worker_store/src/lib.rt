@@ -10,7 +10,7 @@
 //! - `WorkerStore::append` keeps a record in memory (`appended`). The store is then that of the
 //!   worker that has taken the answer (`laws::appends_carry_stores`). An error says which limit it
 //!   meets (`cause`). `room` is how many more bytes of records fit, before the next commit.
-//! - `WorkerStore::barrier`: a cut at any moment leaves a front of the pending records
+//! - `WorkerStore::barrier`: a cut at any moment leaves a prefix of the pending records
 //!   (`any_moment`). After Ok each cut leaves all of them (`durable`). It writes each sector once,
 //!   and syncs once (`calls`). Without pending records it leaves the disk alone (`quiet`).
 //! - `WorkerStore::commit`: a cut at any moment leaves what stood before, or the new snapshot
@@ -19,10 +19,10 @@
 //! - `lay_out`: a cut at any moment leaves a blank disk, or one that begins at the first snapshot
 //!   (`any_moment`). After Ok it leaves that (`durable`), whatever stood there before. Its writes
 //!   and syncs are the told ones, in that order (`calls`). A disk with too few sectors is refused
-//!   before any (`too_small`), and so is want of memory told (`memory`).
-//! - `read_worker`, `read_newest`, `read_records`: of a disk that stands at a savepoint they give
-//!   what it stands by (`gives`, `finds`, `scans`). Of any other one they give what stands there,
-//!   or tell what is wrong with it, in one order: the newest head, its version, the journal for that
+//!   before any (`too_small`), and so is out of memory told (`memory`).
+//! - `read_worker`, `read_newest`, `read_records`: of a disk that is at a savepoint they give what
+//!   it stands by (`gives`, `finds`, `scans`). Of any other one they give what is there, or tell
+//!   what is wrong with it, in one order: the newest head, its version, the journal for that
 //!   version, the image, and its mark (`tells`). They only read (`reads`). That there is no worker
 //!   is said by `read_worker` alone, only where a mark of one is missing, and always there
 //!   (`marks`, `own`). An error is that of the layer that has found it, or of the disk, which has
@@ -33,7 +33,7 @@
 //! - At no moment of these calls are there more unsynced writes than before and their own. In a
 //!   creation there are no more than before and one, or than ever wait for a sync (`counts`,
 //!   `most_unsynced`). A disk that takes that many has room for it (`cause`).
-//! - `laws::images_fit_areas`: the image of a well-typed process is never too big.
+//! - `laws::process_images_fit_areas`: the image of a well-typed process is never too big.
 //! - Each error comes only for its cause (`cause`). After an error of a store each of its calls
 //!   answers `Failed`, and touches neither disk nor store (`fails`, `refused`).
 //! - What becomes of any store is told too. Where it is laid out, opened or committed, a generation
@@ -45,13 +45,13 @@
 //! The calls of `laws`, `events` and `turns` do nothing; what they ensure is proved of the
 //! definitions. `worker` is proved by them.
 //!
-//! - `disks_stand_at_savepoints`: what a disk stands by, apart from the disk, says what it stands
-//!   for. Images of which the same is read stand at the same savepoint.
-//! - `barriers_leave_fronts`: whatever a barrier has left, the disk stands for a front of the
+//! - `disks_are_at_savepoints`: what a disk stands by, apart from the disk, says what it stands
+//!   for. Images of which the same is read are at the same savepoint.
+//! - `barriers_leave_fronts`: whatever a barrier has left, the disk stands for a prefix of the
 //!   pending records, and after Ok for all.
 //! - `commits_leave_one_of_two`: while an area is filled the disk stands for the same. Whatever a
 //!   commit has left, it stands for that or begins at the new snapshot.
-//! - `commits_keep_what_stands`: so it is by whatever generation the disk stands.
+//! - `commits_keep_what_stands`: so it is whatever generation the disk stands by.
 //! - `creations_begin_blank`, `creations_end_fresh`: until its super is whole, a disk on which a
 //!   worker is created is blank. Then it stands for no answers at step 0.
 //! - `journals_carry_workers`, `commits_carry_workers`, `recoveries_carry_workers`,
@@ -59,12 +59,12 @@
 //!   of the clauses of `journal`, `snapshot` and `disk_layout`.
 //! - `disks_give_what_they_stand_by`: what is read of a disk that stands for a worker is what it
 //!   stands by.
-//! - `savepoints_hold_promises`: what stands at a savepoint with its records holds of a promise
-//!   what these hold (`IsHeldAt`). The next savepoint holds that too, and what the end of an act
-//!   that saves, or a life that opens there, promises. A recovery finds what holds all that is
-//!   promised, or nothing was promised.
+//! - `savepoints_hold_promises`: what is at a savepoint with its records holds of a promise what
+//!   these hold (`IsHeldAt`). The next savepoint holds that too, and what the end of an act that
+//!   saves, or a life that opens there, promises. A recovery finds what holds all that is promised,
+//!   or nothing was promised.
 //! - `disks_carry_promises`: the disk of an open worker (`IsCarried`) keeps what is promised. So it
-//!   does at each moment of a barrier, of a commit and of a creation, and behind their errors.
+//!   does at each moment of a barrier, of a commit and of a creation, and after their errors.
 //! - `processes_are_savepoints`: the process at hand is the next savepoint, wherever the records of
 //!   the last one, and what is kept besides, have led (`IsNextOf`). One that begins is a first
 //!   savepoint.
@@ -72,7 +72,7 @@
 //!   and in the end what the act promises that saves the worker (`IsSaving`). A checkpoint is one.
 //!   `creations_open_workers`: so does a creation, and in the end what its opening promises.
 //!   `recoveries_open_workers`: so does a recovery.
-//! - `events_carry_promises`, `syncs_are_held`: so it is behind each event, and where more is kept.
+//! - `events_carry_promises`, `syncs_are_held`: so it is after each event, and where more is kept.
 //!   Which syncs of the guest need no answer but those on the disk follows from the steps between
 //!   two barriers.
 //!
@@ -88,8 +88,8 @@
 //!
 //! The calls of `turns` join parts of a call on a disk:
 //!
-//! - `images_hold_still`: an image that held what was promised holds it still, while lines are told
-//!   and answers are kept.
+//! - `disk_images_hold_still`: an image that held what was promised holds it still, while lines are
+//!   told and answers are kept.
 //! - `parts_leave_begun`: what is promised only grows, and the call is the one that began.
 //! - `turns_join`: parts one after the other leave, at each moment, what holds what was promised
 //!   when the first one began.
@@ -97,11 +97,11 @@
 //! # Definitions to read
 //!
 //! In `specs/rules/`: `IsStoreOf`, `begun_store`, `with_record`, `with_stored` (`Stores.antt`);
-//! what each call leaves, and when each error comes (`Calls.antt`, `Creations.antt`,
-//! `Readings.antt`, `AnyDisk.antt`); faults of the crates below (`Faults.antt`,
-//! `ReadFaults.antt`). Words that they
-//! take from `specs/laws/`: `Savepoint`, `StandsAtPoint` (`Savepoints.antt`), `StandsAtFront`
-//! (`Barriers.antt`), `BeginsAtPoint` and `StandsBefore` (`Commits.antt`).
+//! what each call does (`Effects.antt`, and `LaysOutDisk` of `Creations.antt`), what it leaves, and
+//! when each error comes (`Calls.antt`, `Creations.antt`, `Readings.antt`, `AnyDisk.antt`); faults
+//! of the crates below (`Faults.antt`, `ReadFaults.antt`). Words that they take from `specs/laws/`:
+//! `Savepoint`, `IsAtSavepoint` (`Savepoints.antt`), `IsAtFront` (`Barriers.antt`),
+//! `BeginsAtPoint` and `StandsBefore` (`Commits.antt`).
 //!
 //! All else in `specs/laws/` are second forms of what `restart_theorem`, `journal`, `snapshot` and
 //! `disk_layout` define. Nobody has to believe them. They are `AwaitsHead` and `AwaitsSuper`
@@ -138,7 +138,8 @@ mod zeros;
 
 pub use creation::lay_out;
 pub use fault::StoreFault;
-pub use newest::NewestImage;
+pub use newest::NewestProcessImage;
 pub use read_fault::ReadFault;
 pub use reading::{read_newest, read_records, read_worker};
+pub use snapshot::HashedImage;
 pub use store::WorkerStore;

@@ -1,11 +1,12 @@
-// The newest image of a worker.
+//! The newest image of a worker.
 
+use snapshot::HashedImage;
 use wasi_abi::Version;
 
 /// What the newest complete head of a worker's disk names, and the version of both.
 #[derive(Debug, Drop)]
-pub struct NewestImage {
+pub struct NewestProcessImage {
     pub version: Version,
     pub generation: u64,
-    pub image: Vec<u8>,
+    pub process_image: HashedImage,
 }

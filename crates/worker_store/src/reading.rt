@@ -1,7 +1,7 @@
-// What stands on a worker's disk, read back.
+//! What is on a worker's disk, read back.
 
 ghost use Rattle.std.specs.Prelude.{◌+◌, ◌≤◌, IfErr, IfOk};
-ghost use Rattle.sector_disk.specs.rules.Image.{Image};
+ghost use Rattle.sector_disk.specs.rules.DiskImage.{DiskImage};
 ghost use Rattle.sector_disk.specs.rules.Medium.{CallsUpTo};
 ghost use Rattle.disk_layout.specs.rules.Places.{total_sectors};
 ghost use Rattle.disk_layout.specs.rules.Stored.{OnlyReads};
@@ -11,12 +11,12 @@ ghost use Rattle.worker_store.specs.rules.Readings.{DeniesWorker, TellsMarks};
 ghost use Rattle.worker_store.specs.rules.ReadFaults.{HasReadCause};
 ghost use Rattle.worker_store.specs.Judging.{JudgesMark};
 
-use crate::newest::NewestImage;
+use crate::newest::NewestProcessImage;
 use crate::read_fault::ReadFault;
 use disk_layout::{Contents, Geometry, LayoutFault, Record, read_contents, takes_records};
 use journal::Journal;
 use sector_disk::Disk;
-use snapshot::{SnapshotFault, Snapshots};
+use snapshot::{HashedImage, SnapshotFault, Snapshots};
 use state_image::reading::is_marked_otherwise;
 use std::alloc::Global;
 use wasi_abi::Version;
@@ -25,10 +25,11 @@ use wasi_abi::Version;
 /// without one is a `Layout` fault.
 pub fn read_worker<D: Disk>(alloc: Global, disk: &mut D) -> Result<Contents, ReadFault>
     ensures reads { OnlyReads (D.medium disk.old) (D.medium disk.new) }
-    ensures gives { (image : Image) → (D.medium disk.new).shows image
+    ensures gives { (image : DiskImage) → (D.medium disk.new).shows image
         → ReadsContents (D.medium disk.old).sectors image result }
-    ensures marks { (image : Image) → (D.medium disk.new).shows image → TellsMarks image result }
-    ensures tells { (image : Image) → (D.medium disk.new).shows image
+    ensures marks { (image : DiskImage) → (D.medium disk.new).shows image
+        → TellsMarks image result }
+    ensures tells { (image : DiskImage) → (D.medium disk.new).shows image
         → TellsContents (D.medium disk.old).sectors image result }
     ensures room { IfOk result (λ c. total_sectors c.geometry ≤ (D.medium disk.old).sectors) }
     ensures cause { IfErr result (HasReadCause (D.medium disk.old) (D.medium disk.new)) }
@@ -54,12 +55,12 @@ pub fn read_newest<D: Disk>(
     alloc: Global,
     disk: &mut D,
     geometry: &Geometry,
-) -> Result<NewestImage, ReadFault>
+) -> Result<NewestProcessImage, ReadFault>
     requires { total_sectors geometry.now ≤ (D.medium disk.old).sectors }
     ensures reads { OnlyReads (D.medium disk.old) (D.medium disk.new) }
-    ensures tells { (image : Image) → (D.medium disk.new).shows image
+    ensures tells { (image : DiskImage) → (D.medium disk.new).shows image
         → TellsNewest geometry.now image result }
-    ensures finds { (image : Image) → (D.medium disk.new).shows image
+    ensures finds { (image : DiskImage) → (D.medium disk.new).shows image
         → ReadsNewest geometry.now image result }
     ensures own { DeniesWorker result → ⊥ }
     ensures cause { IfErr result (HasReadCause (D.medium disk.old) (D.medium disk.new)) }
@@ -80,23 +81,27 @@ pub fn read_newest<D: Disk>(
     if !takes_records(version, geometry.journal_sectors) {
         return Err(ReadFault::Layout(LayoutFault::Damaged));
     }
-    match snapshots.image_of(alloc, disk, geometry, &head) {
-        Ok(image) => judge_mark(version, head.generation, image),
+    match snapshots.process_image_of(alloc, disk, geometry, &head) {
+        Ok(process_image) => judge_mark(version, head.generation, process_image),
         Err(fault) => Err(ReadFault::from(fault)),
     }
 }
 
 /// The image of a head of this version, unless it has the mark of another one.
-fn judge_mark(version: Version, generation: u64, image: Vec<u8>) -> Result<NewestImage, ReadFault>
-    ensures { JudgesMark version generation image result }
+fn judge_mark(
+    version: Version,
+    generation: u64,
+    process_image: HashedImage,
+) -> Result<NewestProcessImage, ReadFault>
+    ensures { JudgesMark version generation process_image result }
 {
-    if is_marked_otherwise(version, image.as_slice()) {
+    if is_marked_otherwise(version, process_image.as_slice()) {
         return Err(ReadFault::Layout(LayoutFault::Damaged));
     }
-    Ok(NewestImage {
+    Ok(NewestProcessImage {
         version,
         generation,
-        image,
+        process_image,
     })
 }
 
@@ -111,9 +116,9 @@ pub fn read_records<D: Disk>(
 ) -> Result<Vec<Record>, ReadFault>
     requires { total_sectors geometry.now ≤ (D.medium disk.old).sectors }
     ensures reads { OnlyReads (D.medium disk.old) (D.medium disk.new) }
-    ensures scans { (image : Image) → (D.medium disk.new).shows image
+    ensures scans { (image : DiskImage) → (D.medium disk.new).shows image
         → ReadsRecords geometry.now version generation image result }
-    ensures tells { (image : Image) → (D.medium disk.new).shows image
+    ensures tells { (image : DiskImage) → (D.medium disk.new).shows image
         → TellsRecords geometry.now version generation image result }
     ensures own { DeniesWorker result → ⊥ }
     ensures cause { IfErr result (HasReadCause (D.medium disk.old) (D.medium disk.new)) }

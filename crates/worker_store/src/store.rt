@@ -1,4 +1,4 @@
-// What a worker on its disk calls.
+//! What a worker on its disk calls.
 
 use crate::fault::StoreFault;
 use crate::saving::write_snapshot;
@@ -6,7 +6,7 @@ use disk_layout::{Geometry, Record, takes_records};
 use journal::Journal;
 use process::Process;
 use sector_disk::Disk;
-use snapshot::Writing;
+use snapshot::{HashedImage, Writing};
 use std::alloc::Global;
 use wasi_abi::Version;
 
@@ -20,68 +20,34 @@ pub struct WorkerStore {
 }
 
 impl WorkerStore {
-    ghost use Rattle.std.specs.Prelude.{◌≡◌, ◌⊎◌, ◌+◌, ◌-◌, ◌<◌, ◌≤◌, [], false, true, IfErr, IfOk};
-    ghost use Rattle.std.specs.Prelude.{◌↔◌, IsTrue, OnErr, OnOk, length};
-    ghost use Rattle.state_image.specs.rules.Saving.{saved_of};
+    ghost use Rattle.std.specs.Prelude.{◌≡◌, ◌⊎◌, ◌-◌, ◌<◌, ◌≤◌, ◌↔◌, true, IfErr, IsTrue};
+    ghost use Rattle.std.specs.Prelude.{OnErr, OnOk, length};
     ghost use Rattle.disk_layout.specs.rules.Journal.{record_bytes, TakesRecords};
     ghost use Rattle.disk_layout.specs.rules.Places.{total_sectors};
-    ghost use Rattle.sector_disk.specs.rules.Image.{Image};
-    ghost use Rattle.sector_disk.specs.rules.Medium.{CallsUpTo, IsAllSynced, MakesCalls, Passes};
-    ghost use Rattle.sector_disk.specs.rules.Medium.{CountsUpTo};
     ghost use Rattle.journal.specs.rules.Packed.{sectors_for};
-    ghost use Rattle.journal.specs.rules.State.{room_of, state};
-    ghost use Rattle.journal.specs.rules.Steps.{RecordFits, barrier_calls};
-    ghost use Rattle.worker_store.specs.rules.Stores.{begun_store, with_record, with_stored};
-    ghost use Rattle.worker_store.specs.rules.Stores.{IsOfStore};
-    ghost use Rattle.worker_store.specs.rules.Calls.{AppendFails, LeavesFronts, StoresAll};
-    ghost use Rattle.worker_store.specs.rules.Calls.{BarrierFails, LeavesOneOfTwo, StoresNext};
-    ghost use Rattle.worker_store.specs.rules.Calls.{CommitFails, LeavesBeforeOrNext, StoresAgain};
-    ghost use Rattle.worker_store.specs.rules.Calls.{ReopeningFails, CommitCalls};
-    ghost use Rattle.worker_store.specs.rules.Calls.{LeavesPointOrNext};
+    ghost use Rattle.journal.specs.rules.State.{room_of};
+    ghost use Rattle.journal.specs.rules.Steps.{RecordFits};
+    ghost use Rattle.worker_store.specs.rules.Calls.{AppendFails};
+    ghost use Rattle.worker_store.specs.rules.Effects.{ReopensStore, StoresPending, CommitsProcess};
+    ghost use Rattle.worker_store.specs.rules.Stores.{IsOfStore, with_record};
 
     /// Opens the store of a worker that a recovery has brought back to this process, from the disk
     /// that stands for it. It is committed as this generation, one more than that of the newest
     /// snapshot, and in the version of the process. Lines that wait in the process have been
-    /// released by the caller.
+    /// released by the caller. Where its image is the known one again, no digest is computed.
     pub fn reopen<D: Disk>(
         alloc: Global,
         disk: &mut D,
         geometry: &Geometry,
         generation: u64,
         process: &Process,
+        known: Option<HashedImage>,
     ) -> Result<WorkerStore, StoreFault>
         requires { total_sectors geometry.now ≤ (D.medium disk.old).sectors }
-
-        // A cut at any moment leaves what stands for the same answers, or this snapshot.
-        ensures any_moment { LeavesBeforeOrNext geometry.now generation process.now
-            (D.medium disk.old) (D.medium disk.new) }
-        ensures point_or_next { LeavesPointOrNext geometry.now generation process.now
-            (D.medium disk.old) (D.medium disk.new) }
-
-        // No image comes of none.
-        ensures some { (image : Image) → (D.medium disk.new).may_leave image
-            → (before : Image) × (D.medium disk.old).may_leave before }
-
-        // Once it has answered Ok, each cut leaves this snapshot.
-        ensures durable { IfOk result (λ store. StoresAgain geometry.now generation process.now
-            store (D.medium disk.old) (D.medium disk.new)) }
-        ensures begun { IfOk result (λ store.
-            store ≡ begun_store geometry.now (saved_of process.now).version generation) }
-        ensures numbered { IfOk result (λ store. store.journal.generation ≡ generation) }
-        ensures placed { IfOk result (λ store. store.geometry ≡ geometry.now) }
-        ensures passes { Passes (D.medium disk.old) (D.medium disk.new) (λ _. Unit {0}) }
-        ensures calls { CommitCalls geometry.now generation process.now result
-            (D.medium disk.old) (D.medium disk.new) }
-        ensures cause { IfErr result (λ e. ReopeningFails geometry.now generation process.now
-            (D.medium disk.old) (D.medium disk.new) e) }
-        ensures asks { CallsUpTo ((D.medium disk.old).sectors + 2) (D.medium disk.old)
+        ensures { ReopensStore geometry.now generation process.now result (D.medium disk.old)
             (D.medium disk.new) }
-
-        // At no moment were there more unsynced writes than before, an area's, and the head.
-        ensures counts { CountsUpTo ((D.medium disk.old).unsynced + geometry.now.area_sectors + 1)
-            (D.medium disk.old) (D.medium disk.new) }
     {
-        let written = write_snapshot(disk, geometry, generation, Writing::Changes, process);
+        let written = write_snapshot(disk, geometry, generation, Writing::Changes, process, known);
         if let Err(fault) = written {
             return Err(StoreFault::from(fault));
         }
@@ -147,16 +113,8 @@ impl WorkerStore {
     /// leaves the disk alone.
     pub fn barrier<D: Disk>(&mut self, disk: &mut D) -> Result<(), StoreFault>
         requires { total_sectors self.old.geometry ≤ (D.medium disk.old).sectors }
-
-        // A cut at any moment leaves a front of these records behind those that stood before.
-        ensures any_moment { LeavesFronts self.old (D.medium disk.old) (D.medium disk.new) }
-
-        // Once it has answered Ok, each cut leaves all of them.
-        ensures durable { OnOk result (StoresAll self.old self.new (D.medium disk.old)
-            (D.medium disk.new)) }
-        ensures stored { OnOk result (self.new ≡ with_stored self.old) }
-        ensures settled { OnOk result ((length self.old.journal.kept ≡ 0)
-            ⊎ IsAllSynced (D.medium disk.new)) }
+        ensures stores { StoresPending self.old self.new result (D.medium disk.old)
+            (D.medium disk.new) }
         ensures quiet { length self.old.journal.kept ≡ 0 → disk.new ≡ disk.old }
 
         // Where the journal has too few sectors, nothing is written.
@@ -164,25 +122,8 @@ impl WorkerStore {
             < sectors_for (length self.old.journal.kept)
             → ((result ≡ Err StoreFault.Full) ⊎ (result ≡ Err StoreFault.Failed))
             × (disk.new ≡ disk.old) }
-
-        // It writes each sector once, in rising order, and then syncs once. After an error these
-        // calls are begun.
-        ensures calls { MakesCalls (barrier_calls self.old.geometry self.old.journal) result
-            (D.medium disk.old) (D.medium disk.new) }
-        ensures cause { IfErr result (λ e.
-            BarrierFails self.old (D.medium disk.old) (D.medium disk.new) e) }
-        ensures fails { OnErr result (self.new.has_failed ≡ true) }
-        ensures stays { IsOfStore self.old self.new }
-        ensures passes { Passes (D.medium disk.old) (D.medium disk.new) (λ _. Unit {0}) }
         ensures refused { self.old.has_failed ≡ true
             → (result ≡ Err StoreFault.Failed) × (self.new ≡ self.old) × (disk.new ≡ disk.old) }
-        ensures asks { CallsUpTo (D.medium disk.old).sectors (D.medium disk.old)
-            (D.medium disk.new) }
-
-        // At no moment were there more unsynced writes than before and these.
-        ensures counts { CountsUpTo
-            ((D.medium disk.old).unsynced + sectors_for (length self.old.journal.kept))
-            (D.medium disk.old) (D.medium disk.new) }
     {
         if self.has_failed {
             return Err(StoreFault::Failed);
@@ -205,48 +146,16 @@ impl WorkerStore {
         process: &Process,
     ) -> Result<(), StoreFault>
         requires { total_sectors self.old.geometry ≤ (D.medium disk.old).sectors }
-
-        // A cut at any moment leaves what stood before, or this snapshot.
-        ensures any_moment { LeavesOneOfTwo self.old process.now (D.medium disk.old)
+        ensures commits { CommitsProcess process.now self.old self.new result (D.medium disk.old)
             (D.medium disk.new) }
-
-        // Once it has answered Ok, each cut leaves this snapshot.
-        ensures durable { OnOk result (StoresNext self.old self.new process.now
-            (D.medium disk.old) (D.medium disk.new)) }
-
-        // Its calls: sectors of the image, a sync, the head, and a sync. After an error these
-        // calls are begun.
-        ensures calls { CommitCalls self.old.geometry (self.old.journal.generation + 1)
-            process.now result (D.medium disk.old) (D.medium disk.new) }
-        ensures cause { IfErr result (λ e.
-            CommitFails self.old process.now (D.medium disk.old) (D.medium disk.new) e) }
-        ensures fails { OnErr result (self.new.has_failed ≡ true) }
-        ensures stays { self.new.geometry ≡ self.old.geometry }
-        ensures numbered { OnOk result
-            (self.new.journal.generation ≡ self.old.journal.generation + 1) }
-        ensures fresh { OnOk result
-            (self.new.journal ≡ state (saved_of process.now).version self.new.journal.generation 0
-            [] false) }
-        ensures begun { OnOk result (self.new ≡ begun_store self.old.geometry
-            (saved_of process.now).version (self.old.journal.generation + 1)) }
-        ensures unchanged { OnErr result (self.new.journal ≡ self.old.journal) }
-        ensures settled { OnOk result (IsAllSynced (D.medium disk.new)) }
-        ensures passes { Passes (D.medium disk.old) (D.medium disk.new) (λ _. Unit {0}) }
         ensures refused { self.old.has_failed ≡ true
             → (result ≡ Err StoreFault.Failed) × (self.new ≡ self.old) × (disk.new ≡ disk.old) }
-        ensures asks { CallsUpTo ((D.medium disk.old).sectors + 2) (D.medium disk.old)
-            (D.medium disk.new) }
-
-        // At no moment were there more unsynced writes than before, an area's, and the head.
-        ensures counts { CountsUpTo
-            ((D.medium disk.old).unsynced + self.old.geometry.area_sectors + 1)
-            (D.medium disk.old) (D.medium disk.new) }
     {
         if self.has_failed {
             return Err(StoreFault::Failed);
         }
         let next = self.journal.generation().saturating_add(1);
-        let written = write_snapshot(disk, &self.geometry, next, Writing::Changes, process);
+        let written = write_snapshot(disk, &self.geometry, next, Writing::Changes, process, None);
         if let Err(fault) = written {
             self.has_failed = true;
             return Err(StoreFault::from(fault));

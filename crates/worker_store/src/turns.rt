@@ -8,7 +8,7 @@ ghost use Rattle.worker_store.specs.laws.Turns.{LinesCarry};
 use sector_disk::Disk;
 
 /// An image that held what was promised holds it still, while answers are kept and lines are told.
-pub fn images_hold_still()
+pub fn disk_images_hold_still()
     ensures told { ToldStillHolds }
     ensures asked { AskedStillHolds }
     ensures ended { EndedStillHolds }

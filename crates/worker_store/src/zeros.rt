@@ -1,4 +1,4 @@
-// Sectors of zeros.
+//! Sectors of zeros.
 
 ghost use Rattle.std.specs.Prelude.{◌≤◌, ◌+◌, replicate};
 ghost use Rattle.wasi_abi.specs.rules.Layouts.{padding};

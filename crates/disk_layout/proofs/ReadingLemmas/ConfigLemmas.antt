@@ -81,12 +81,12 @@ config_cut a b within-a within-b e =
 
 -- ---- bytes that are read
 
--- what is lent behind the numbers
+-- what is lent after the numbers
 pub behind_numbers : (bytes : List ℕ) → take (length bytes - 12) (drop 12 bytes) ≡ drop 12 bytes
 behind_numbers bytes =
     take_all (length bytes - 12) (drop 12 bytes) (omega (arith, length-drop 12 bytes))
 
--- arguments and environment stand behind the numbers, and others behind those
+-- arguments and environment are after the numbers, and others after those
 pub record HasTexts (bytes : List ℕ) (arguments environment : List (List ℕ)) (rest : List ℕ) :
     Type 0 where
   pub between : List ℕ

@@ -4,7 +4,7 @@ use Rattle.std.proofs.Common.{Err, refl, sym, ap, ◌∙◌, subst, inl, inr, �
 use Rattle.std.proofs.Common.{length-append}
 use Rattle.std.proofs.Math.Seq.{take-append_seam, drop-append_seam}
 use Rattle.sha2.specs.Sha256.{sha256}
-use Rattle.sector_disk.specs.rules.Image.{Image, sector_at}
+use Rattle.sector_disk.specs.rules.DiskImage.{DiskImage, sector_at}
 use Rattle.wasi_abi.specs.rules.Configs.{Settings}
 use Rattle.disk_layout.specs.declared.fault.LayoutFault.{LayoutFault}
 use Rattle.disk_layout.specs.declared.fault.LayoutFault.TheVariants.{NotAWorker, Version, TooSmall}
@@ -25,7 +25,7 @@ abbrev pub bytes_in : Contents → List ℕ
 bytes_in c = config_bytes c.config ++ c.wasm
 
 -- what the super says where contents are held
-pub record Says (image : Image) (c : Contents) : Type 0 where
+pub record Says (image : DiskImage) (c : Contents) : Type 0 where
   pub geometry : (super_of (sector_at image 0)).geometry ≡ geometry_of c.config (length c.wasm)
   pub digest : (super_of (sector_at image 0)).digest ≡ sha256 (bytes_in c)
   pub consistent : IsConsistent (super_of (sector_at image 0)).geometry
@@ -36,7 +36,7 @@ pub record Says (image : Image) (c : Contents) : Type 0 where
       (bytes_from image MODULE_PLACE (super_of (sector_at image 0)).geometry.module_sectors)
       ≡ bytes_in c
 
-pub held_says : (image : Image) (c : Contents) → IsHeld image c → Says image c
+pub held_says : (image : DiskImage) (c : Contents) → IsHeld image c → Says image c
 held_says image c held =
     let s = super_of (sector_at image 0) in
     let own : s.geometry ≡ c.geometry = ap (λ (x : Super). x.geometry) held.fields in
@@ -63,7 +63,7 @@ record IsSame (stored : Stored) (c : Contents) : Type 0 where
   config : stored.config ≡ config_bytes c.config
   wasm : stored.wasm ≡ c.wasm
 
-same_bytes : (sectors : ℕ) (image : Image) (stored : Stored) (c : Contents)
+same_bytes : (sectors : ℕ) (image : DiskImage) (stored : Stored) (c : Contents)
     → IsStored sectors image stored → IsHeld image c → IsSame stored c
 same_bytes sectors image stored c is held =
     let s = super_of (sector_at image 0) in
@@ -93,7 +93,7 @@ same_bytes sectors image stored c is held =
     }
 
 -- what is held is stored
-held_of : (sectors : ℕ) (image : Image) (stored : Stored) (s : Settings)
+held_of : (sectors : ℕ) (image : DiskImage) (stored : Stored) (s : Settings)
     → IsStored sectors image stored → IsStoredOf stored s
     → IsHeld image (record { geometry = stored.geometry; config = s; wasm = stored.wasm })
 held_of sectors image stored s is of =
@@ -124,7 +124,7 @@ held_of sectors image stored s is of =
         ap (λ (x : Geometry). (let y : Super = record { geometry = x; digest = d } in y)) one
         ∙ ap (λ (x : List ℕ). (let y : Super = record { geometry = h; digest = x } in y)) two
 
-stored_reaches : (sectors : ℕ) (image : Image) (stored : Stored) → IsStored sectors image stored
+stored_reaches : (sectors : ℕ) (image : DiskImage) (stored : Stored) → IsStored sectors image stored
     → ReachesContents sectors image
 stored_reaches sectors image stored is = (
   is.known,
@@ -146,7 +146,7 @@ same_contents g h s t v w one two three =
     ∙ ap (λ (y : List ℕ). (let x : Contents = record { geometry = h; config = t; wasm = y } in
     x)) three
 
-pub gives_stored : (sectors : ℕ) (image : Image) (stored : Stored)
+pub gives_stored : (sectors : ℕ) (image : DiskImage) (stored : Stored)
     (result : Result Contents LayoutFault) → IsStored sectors image stored
     → Agrees sectors stored result → GivesContents sectors image result
 gives_stored sectors image stored (Ok c) is agrees =
@@ -185,7 +185,7 @@ gives_stored sectors image stored (Err NotAWorker) is agrees = absurd agrees
 gives_stored sectors image stored (Err Version) is agrees = absurd agrees
 gives_stored sectors image stored (Err (Disk fault)) is agrees = absurd agrees
 
-other_digest : (sectors : ℕ) (image : Image)
+other_digest : (sectors : ℕ) (image : DiskImage)
     → HasOtherDigest sectors image (super_of (sector_at image 0)) → (c : Contents) → IsHeld image c
     → ⊥
 other_digest sectors image other c held =
@@ -193,7 +193,7 @@ other_digest sectors image other c held =
     other.digest (says.digest ∙ ap sha256 (sym says.contents))
 
 -- a fault of what is found is one of what is given
-pub gives_fault : (sectors : ℕ) (image : Image) (fault : LayoutFault)
+pub gives_fault : (sectors : ℕ) (image : DiskImage) (fault : LayoutFault)
     → FindsStored sectors image (Err fault) → GivesContents sectors image (Err fault)
 gives_fault sectors image NotAWorker finds = finds
 gives_fault sectors image Version finds = finds
@@ -206,7 +206,7 @@ gives_fault sectors image (Disk fault) finds = tt
 -- ---- one answer
 
 -- two contents that are held are the same
-one_held : (image : Image) (a b : Contents) → IsHeld image a → IsHeld image b → a ≡ b
+one_held : (image : DiskImage) (a b : Contents) → IsHeld image a → IsHeld image b → a ≡ b
 one_held image a b held-a held-b =
     let one = held_says image a held-a in
     let other = held_says image b held-b in
@@ -230,16 +230,16 @@ one_held image a b held-a held-b =
     ∙ sym held-b.geometry) (config_cut a.config b.config held-a.within held-b.within config)
     wasm
 
-held_is_consistent : (image : Image) (c : Contents) → IsHeld image c
+held_is_consistent : (image : DiskImage) (c : Contents) → IsHeld image c
     → IsConsistent (super_of (sector_at image 0)).geometry
 held_is_consistent image c held = let says = held_says image c held in says.consistent
 
-not_damaged : (sectors : ℕ) (image : Image) (c : Contents) → IsHeld image c
+not_damaged : (sectors : ℕ) (image : DiskImage) (c : Contents) → IsHeld image c
     → GivesContents sectors image (Err Damaged) → ⊥
 not_damaged sectors image c held gives =
     ⊎_elim (λ checks. checks.1 (held_is_consistent image c held)) (λ other. other.1 c held) gives
 
-not_too_small : (sectors : ℕ) (image : Image) (c : Contents) → IsHeld image c
+not_too_small : (sectors : ℕ) (image : DiskImage) (c : Contents) → IsHeld image c
     → total_sectors c.geometry ≤ sectors → GivesContents sectors image (Err TooSmall) → ⊥
 not_too_small sectors image c held room gives =
     ⊎_elim
@@ -255,7 +255,7 @@ not_too_small sectors image c held room gives =
     omega arith)
     gives
 
-not_both : (sectors : ℕ) (image : Image) → GivesContents sectors image (Err Damaged)
+not_both : (sectors : ℕ) (image : DiskImage) → GivesContents sectors image (Err Damaged)
     → GivesContents sectors image (Err TooSmall) → ⊥
 not_both sectors image damaged small =
     ⊎_elim
@@ -265,12 +265,12 @@ not_both sectors image damaged small =
     omega arith) (λ other. none.1 other.1.0 other.1.1) small)
     damaged
 
-damaged_knows : (sectors : ℕ) (image : Image) → GivesContents sectors image (Err Damaged)
+damaged_knows : (sectors : ℕ) (image : DiskImage) → GivesContents sectors image (Err Damaged)
     → IsKnown (sector_at image 0)
 damaged_knows sectors image gives = ⊎_elim (λ checks. checks.0) (λ other. let reaches = other.0 in
     reaches.0) gives
 
-small_knows : (sectors : ℕ) (image : Image) → GivesContents sectors image (Err TooSmall)
+small_knows : (sectors : ℕ) (image : DiskImage) → GivesContents sectors image (Err TooSmall)
     → IsKnown (sector_at image 0)
 small_knows sectors image gives = ⊎_elim (λ checks. checks.0) (λ other. let reaches = other.0 in
     reaches.0) gives

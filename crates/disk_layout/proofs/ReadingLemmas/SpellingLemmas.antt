@@ -16,7 +16,7 @@ use Rattle.disk_layout.proofs.StampLemmas.{all_take as bytes_front}
 
 -- ---- numbers
 
--- a number that stands at the front, and what stands behind it
+-- a number that is at the front, and what is after it
 pub number_first : (n x : ℕ) (bytes rest : List ℕ) → x < 256 ^ n → bytes ≡ bytes_of n x ++ rest
     → number_of (take n bytes) ≡ x
 number_first n x bytes rest lt is =
@@ -146,7 +146,7 @@ texts_cut bytes a b r s one other =
 
 -- ---- texts that are read one after another
 
--- what remains of any texts that stand at the front
+-- what remains of any texts that are at the front
 abbrev pub Remain : List ℕ → ℕ → List ℕ → Type 0
 Remain bytes count rest = (texts : List (List ℕ)) (behind : List ℕ) → TextsFirst bytes texts behind
     → (more : List (List ℕ)) × ((length more ≡ count) × AllByRecursion HasShortLength more
@@ -172,8 +172,8 @@ fewer_remain bytes count fewer rest text after one remain here texts behind firs
   where
     by_case : (more : List (List ℕ)) → length more ≡ count → AllByRecursion HasShortLength more
         → rest ≡ spelled more ++ behind
-        → (left : List (List ℕ)) × ((length left ≡ fewer) × AllByRecursion HasShortLength left
-        × (after ≡ spelled left ++ behind))
+        → (lists_left : List (List ℕ)) × ((length lists_left ≡ fewer)
+        × AllByRecursion HasShortLength lists_left × (after ≡ spelled lists_left ++ behind))
     by_case [] size room is = absurd (omega arith)
     by_case (t ∷ more) size room is =
         let also : TextFirst rest t (spelled more ++ behind) =

@@ -3,7 +3,7 @@ use Rattle.std.specs.Prelude.{◌≡◌, ℕ, List, [], ◌∷◌, length, take,
 use Rattle.wasi_abi.specs.rules.Configs.{Settings}
 use Rattle.wasi_abi.specs.declared.answer.Answer.TheVariants as answer
 use Rattle.wasi_abi.specs.declared.version.Version.TheVariants.{One, Two}
-use Rattle.sector_disk.specs.rules.Image.{front_over}
+use Rattle.sector_disk.specs.rules.DiskImage.{front_over}
 use Rattle.disk_layout.specs.rules.Places.{geometry_of, config_bytes, rounded_up}
 use Rattle.disk_layout.specs.rules.Places.{head_place, area_place, journal_place, total_sectors}
 use Rattle.disk_layout.specs.rules.Sectors.{shown_generation}
@@ -27,7 +27,7 @@ hello_record = record { step = 6; answer = answer.Request (codes "hello") }
 abbrev pub third_sector : ℕ → List ℕ
 third_sector g = journal_sector g 3 (7 ∷ [])
 
--- two pages, three units of files, and the bytes of the environment behind those of the arguments
+-- two pages, three units of files, and the bytes of the environment after those of the arguments
 abbrev pub varied : Settings
 varied = record {
   pages = 2;

@@ -1,9 +1,10 @@
 -- Laws of heads and of the images that they name.
 use Rattle.std.specs.Prelude.{ℕ, ◌%◌, ◌≤◌, List, [], ◌∷◌, replicate}
 use Rattle.sha2.specs.Sha256.{sha256}
-use Rattle.sector_disk.specs.rules.Image.{Image}
+use Rattle.sector_disk.specs.rules.DiskImage.{DiskImage}
 use Rattle.disk_layout.specs.rules.Places.{Geometry}
-use Rattle.disk_layout.specs.rules.Sectors.{Head, head_bytes, IsComplete, IsNewest, HoldsImage}
+use Rattle.disk_layout.specs.rules.Sectors.{Head, head_bytes, IsComplete, IsNewest}
+use Rattle.disk_layout.specs.rules.Sectors.{HoldsProcessImage}
 use Rattle.disk_layout.specs.laws.Laws.{HeadFits}
 
 -- a head that is written is complete in the area of its generation
@@ -32,11 +33,11 @@ two_areas = record {
   journal_sectors = 0;
 }
 
-abbrev pub seven_disk : List ℕ → List ℕ → Image
+abbrev pub seven_disk : List ℕ → List ℕ → DiskImage
 seven_disk first second = [] ∷ first ∷ second ∷ (9 ∷ []) ∷ (7 ∷ 8 ∷ []) ∷ []
 
 -- its heads are of generations 2 and 3
-abbrev pub second_and_third : Image
+abbrev pub second_and_third : DiskImage
 second_and_third = seven_disk (head_bytes (seven_head 1 2)) (head_bytes (seven_head 1 3))
 
 pub record HeadExamples : Type 0 where
@@ -50,7 +51,7 @@ pub record HeadExamples : Type 0 where
   pub another_version : IsNewest second_and_third 3 (seven_head 2 3) → ⊥
   -- where the other head is torn, the older one is the newest
   pub alone : IsNewest (seven_disk (head_bytes (seven_head 1 2)) []) 2 (seven_head 1 2)
-  pub holds : HoldsImage two_areas second_and_third 3 1 (7 ∷ [])
-  pub holds_no_other_byte : HoldsImage two_areas second_and_third 3 1 (9 ∷ []) → ⊥
-  pub holds_no_more_bytes : HoldsImage two_areas second_and_third 3 1 (7 ∷ 8 ∷ []) → ⊥
-  pub holds_no_other_version : HoldsImage two_areas second_and_third 3 2 (7 ∷ []) → ⊥
+  pub holds : HoldsProcessImage two_areas second_and_third 3 1 (7 ∷ [])
+  pub holds_no_other_byte : HoldsProcessImage two_areas second_and_third 3 1 (9 ∷ []) → ⊥
+  pub holds_no_more_bytes : HoldsProcessImage two_areas second_and_third 3 1 (7 ∷ 8 ∷ []) → ⊥
+  pub holds_no_other_version : HoldsProcessImage two_areas second_and_third 3 2 (7 ∷ []) → ⊥

@@ -2,7 +2,7 @@
 use Rattle.std.specs.Prelude.{◌≡◌, ◌⊎◌, ℕ, ◌+◌, ◌%◌, ◌^◌, ◌<◌, ◌≤◌, List, ◌++◌, length, take, drop}
 use Rattle.std.specs.List.{AllByRecursion}
 use Rattle.guest_memory.specs.rules.Bytes.{IsByte}
-use Rattle.sector_disk.specs.rules.Image.{front_over}
+use Rattle.sector_disk.specs.rules.DiskImage.{front_over}
 use Rattle.disk_layout.specs.rules.Sectors.{Stamp, stamp_of, stamp_bytes, shown_generation, Head}
 use Rattle.disk_layout.specs.rules.Sectors.{head_of, head_bytes, Super, super_of, super_layout}
 use Rattle.disk_layout.specs.rules.Sectors.{super_bytes, IsMarked}

@@ -19,7 +19,7 @@ use Rattle.disk_layout.specs.declared.record.TheConstants.{REALTIME_KIND, MONOTO
 use Rattle.disk_layout.specs.declared.record.TheConstants.{RANDOM_KIND}
 
 pub record LayoutNumbers : Type 0 where
-  -- behind the super and the two heads
+  -- after the super and the two heads
   pub module_place : MODULE_PLACE ≡ 3
   -- the super
   pub super_mark : SUPER_MARK ≡ codes "DWORKER!"
@@ -36,8 +36,8 @@ pub record LayoutNumbers : Type 0 where
   -- a head
   pub head_mark : HEAD_MARK ≡ codes "DWAREA.."
   pub version_at : VERSION_AT ≡ 8
-  pub image_length_at : IMAGE_LENGTH_AT ≡ 16
-  pub image_digest_at : IMAGE_DIGEST_AT ≡ 24
+  pub process_image_length_at : IMAGE_LENGTH_AT ≡ 16
+  pub process_image_digest_at : IMAGE_DIGEST_AT ≡ 24
   pub head_place : HEAD_STAMP_PLACE ≡ 1
   -- a stamp
   pub generation_at : GENERATION_AT ≡ 496

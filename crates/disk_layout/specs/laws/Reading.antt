@@ -1,6 +1,6 @@
 -- Laws of configuration and module on a disk (this project's own).
 use Rattle.std.specs.Prelude.{◌≡◌, ℕ, ◌^◌, ◌<◌, ◌≤◌, List, length, Result, Ok, Err}
-use Rattle.sector_disk.specs.rules.Image.{Image}
+use Rattle.sector_disk.specs.rules.DiskImage.{DiskImage}
 use Rattle.wasi_abi.specs.rules.Configs.{Settings, AreSettingsWithinLimits}
 use Rattle.disk_layout.specs.declared.fault.LayoutFault.{LayoutFault}
 use Rattle.disk_layout.specs.declared.fault.LayoutFault.TheVariants.{Memory, Disk}
@@ -20,12 +20,12 @@ IsOfTheDisk (Err (Disk fault)) = ⊥
 IsOfTheDisk other = Unit {0}
 
 abbrev pub OneAnswer : Type 0
-OneAnswer = (sectors : ℕ) (image : Image) (one other : Result Contents LayoutFault)
+OneAnswer = (sectors : ℕ) (image : DiskImage) (one other : Result Contents LayoutFault)
     → IsOfTheDisk one → IsOfTheDisk other → GivesContents sectors image one
     → GivesContents sectors image other → one ≡ other
 
 abbrev pub ReadsWhatIsWritten : Type 0
-ReadsWhatIsWritten = (sectors : ℕ) (image : Image) (config : Settings) (wasm : List ℕ)
+ReadsWhatIsWritten = (sectors : ℕ) (image : DiskImage) (config : Settings) (wasm : List ℕ)
     → AreSettingsWithinLimits config → length wasm < 2 ^ 32 → HasWorker config wasm image
     → total_sectors (geometry_of config (length wasm)) ≤ sectors
     → GivesContents sectors image (Ok (record {

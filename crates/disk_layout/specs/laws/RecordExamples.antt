@@ -5,7 +5,7 @@ use Rattle.wasi_abi.specs.declared.answer.Answer.{Answer}
 use Rattle.wasi_abi.specs.declared.answer.Answer.TheVariants as answer
 use Rattle.wasi_abi.specs.declared.version.Version.{Version}
 use Rattle.wasi_abi.specs.declared.version.Version.TheVariants.{One, Two}
-use Rattle.sector_disk.specs.rules.Image.{Image}
+use Rattle.sector_disk.specs.rules.DiskImage.{DiskImage}
 use Rattle.disk_layout.specs.rules.Places.{Geometry}
 use Rattle.disk_layout.specs.rules.Journal.{Record, record_bytes, record_at, answer_of}
 use Rattle.disk_layout.specs.rules.Journal.{journal_sector, payloads_from, scan}
@@ -53,7 +53,7 @@ pub record RecordExamples : Type 0 where
   pub long_random_bytes : answer_of 1 5 (6 ∷ 7 ∷ []) ≡ None
   pub no_kind : answer_of 2 0 [] ≡ None
   pub sixth_kind : answer_of 2 6 [] ≡ None
-  -- what stands behind a record isn't its own
+  -- what is after a record isn't its own
   pub read_at_the_front : record_at One (front_of 1 1 ++ (7 ∷ 8 ∷ []))
       ≡ Some (at_258 (answer.Request (7 ∷ [])))
   pub no_record : record_at One [] ≡ None
@@ -90,18 +90,18 @@ JournalsHaveRoom = (v : Version) (sectors : ℕ) → 64 ≤ sectors → TakesRec
 abbrev pub bare : Geometry
 bare = record { config = 0; wasm = 0; module_sectors = 0; area_sectors = 0; journal_sectors = 3 }
 
-abbrev pub bare_disk : List ℕ → List ℕ → List ℕ → Image
+abbrev pub bare_disk : List ℕ → List ℕ → List ℕ → DiskImage
 bare_disk first second third = [] ∷ [] ∷ [] ∷ first ∷ second ∷ third ∷ []
 
 -- the payloads of generation 5 on it
-abbrev pub fifth_of : Image → List ℕ
+abbrev pub fifth_of : DiskImage → List ℕ
 fifth_of image = payloads_from image 5 3 1 3
 
 abbrev pub end_record : Record
 end_record = record { step = 9; answer = answer.End }
 
 -- two records in two sectors of generation 5, so many bytes of them in the first
-abbrev pub spread : ℕ → List ℕ → Image
+abbrev pub spread : ℕ → List ℕ → DiskImage
 spread n bytes = bare_disk (journal_sector 5 1 (take n bytes)) (journal_sector 5 2 (drop n bytes))
     (journal_sector 4 3 (7 ∷ []))
 

@@ -1,7 +1,7 @@
 -- Configuration and module that a disk holds, whole (this project's own).
 use Rattle.std.specs.Prelude.{◌≡◌, ◌≢◌, ◌⊎◌, ℕ, ◌<◌, ◌≤◌, ◌++◌, length, Result, Ok, Err}
 use Rattle.sha2.specs.Sha256.{sha256}
-use Rattle.sector_disk.specs.rules.Image.{Image, sector_at}
+use Rattle.sector_disk.specs.rules.DiskImage.{DiskImage, sector_at}
 use Rattle.wasi_abi.specs.rules.Configs.{Settings, AreSettingsWithinLimits}
 use Rattle.disk_layout.specs.declared.fault.LayoutFault.{LayoutFault}
 use Rattle.disk_layout.specs.declared.fault.LayoutFault.TheVariants.{NotAWorker, Version, TooSmall}
@@ -15,8 +15,8 @@ use Rattle.disk_layout.specs.declared.geometry.TheConstants.{MODULE_PLACE}
 use Rattle.disk_layout.specs.declared.superblock.TheConstants.{LAYOUT}
 
 -- The super is known, and its numbers and its digest are those of this configuration and this
--- module. Their bytes stand behind the heads.
-pub record IsHeld (image : Image) (c : Contents) : Type 0 where
+-- module. Their bytes are after the heads.
+pub record IsHeld (image : DiskImage) (c : Contents) : Type 0 where
   pub known : IsKnown (sector_at image 0)
   pub within : AreSettingsWithinLimits c.config
   pub geometry : c.geometry ≡ geometry_of c.config (length c.wasm)
@@ -28,13 +28,13 @@ pub record IsHeld (image : Image) (c : Contents) : Type 0 where
       ++ c.wasm)
 
 -- the super is known, its lengths and sectors agree, and the disk reaches as far as the module
-abbrev pub ReachesContents : ℕ → Image → Type 0
+abbrev pub ReachesContents : ℕ → DiskImage → Type 0
 ReachesContents sectors image =
     Checks sectors (sector_at image 0) (Ok (super_of (sector_at image 0)))
 
--- The answer of a disk of so many sectors that shows this image. But for want of memory and faults
--- of the disk, no other one is right.
-abbrev pub GivesContents : ℕ → Image → Result Contents LayoutFault → Type 0
+-- The answer of a disk of so many sectors that shows this image. Apart from out of memory and
+-- faults of the disk, no other one is right.
+abbrev pub GivesContents : ℕ → DiskImage → Result Contents LayoutFault → Type 0
 GivesContents sectors image (Ok c) = IsHeld image c × (total_sectors c.geometry ≤ sectors)
 GivesContents sectors image (Err NotAWorker) = HasMarks image → ⊥
 GivesContents sectors image (Err Version) =

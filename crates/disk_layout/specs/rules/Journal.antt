@@ -11,7 +11,7 @@ use Rattle.wasi_abi.specs.declared.version.Version.{Version}
 use Rattle.wasi_abi.specs.declared.version.Version.TheVariants.{One, Two}
 use Rattle.wasi_abi.specs.rules.Versions.{text_limit, length_bytes}
 use Rattle.wasi_abi.specs.rules.Layouts.{u16_bytes, u64_bytes, padding}
-use Rattle.sector_disk.specs.rules.Image.{Image, sector_at}
+use Rattle.sector_disk.specs.rules.DiskImage.{DiskImage, sector_at}
 use Rattle.disk_layout.specs.rules.Places.{Geometry, journal_place}
 use Rattle.disk_layout.specs.rules.Sectors.{stamp_bytes, shown_generation}
 use Rattle.disk_layout.specs.declared.record.TheConstants.{REQUEST_KIND, END_KIND, REALTIME_KIND}
@@ -39,7 +39,7 @@ payload_of (answer.Realtime n) = u64_bytes n
 payload_of (answer.Monotonic n) = u64_bytes n
 payload_of (answer.Random bytes) = bytes
 
--- how many bytes stand before a record's payload: kind, step, and the payload's length
+-- how many bytes are before a record's payload: kind, step, and the payload's length
 abbrev pub record_head_bytes : Version → ℕ
 record_head_bytes v = PAYLOAD_LENGTH_AT + length_bytes v
 
@@ -129,7 +129,7 @@ is_of g place sector = shown_generation place sector == g && nat_lt 0 (used_leng
 
 -- the payloads from this sector on, whose places are counted from 1, as far as sectors are of this
 -- generation
-abbrev pub payloads_from : Image → ℕ → ℕ → ℕ → ℕ → List ℕ
+abbrev pub payloads_from : DiskImage → ℕ → ℕ → ℕ → ℕ → List ℕ
 payloads_from image g sector place zero = []
 payloads_from image g sector place (suc count) =
     if is_of g place (sector_at image sector)
@@ -139,7 +139,7 @@ payloads_from image g sector place (suc count) =
 
 -- what the journal of generation g holds. Each record has a byte at least, so there are no more
 -- than bytes
-abbrev pub scan : Geometry → Version → Image → ℕ → List Record
+abbrev pub scan : Geometry → Version → DiskImage → ℕ → List Record
 scan geometry v image g =
     let bytes : List ℕ = payloads_from image g (journal_place geometry) 1 geometry.journal_sectors
     in

@@ -53,7 +53,7 @@ head_place g = 1 + g % 2
 abbrev pub area_place : Geometry → ℕ → ℕ
 area_place geometry g = MODULE_PLACE + geometry.module_sectors + (g % 2) * geometry.area_sectors
 
--- the first sector of the journal: behind configuration, module and both areas
+-- the first sector of the journal: after configuration, module and both areas
 abbrev pub journal_place : Geometry → ℕ
 journal_place geometry = MODULE_PLACE + geometry.module_sectors + 2 * geometry.area_sectors
 

@@ -11,7 +11,7 @@ use Rattle.disk_layout.specs.declared.stamp.Stamp.{Stamp as DeclaredStamp}
 use Rattle.disk_layout.specs.declared.head.Head.{Head as DeclaredHead}
 use Rattle.disk_layout.specs.declared.superblock.Super.{Super as DeclaredSuper}
 use Rattle.wasi_abi.specs.rules.Layouts.{u32_bytes, u64_bytes, padding}
-use Rattle.sector_disk.specs.rules.Image.{Image, sector_at}
+use Rattle.sector_disk.specs.rules.DiskImage.{DiskImage, sector_at}
 use Rattle.disk_layout.specs.rules.Places.{Geometry, geometry_of, config_bytes, head_place}
 use Rattle.disk_layout.specs.rules.Places.{area_place}
 use Rattle.disk_layout.specs.declared.geometry.TheConstants.{MODULE_PLACE}
@@ -40,12 +40,12 @@ Super = DeclaredSuper
 -- ---- bytes over sectors
 
 -- so many sectors from a place on, one after another
-abbrev pub bytes_from : Image → ℕ → ℕ → List ℕ
+abbrev pub bytes_from : DiskImage → ℕ → ℕ → List ℕ
 bytes_from image place zero = []
 bytes_from image place (suc count) = sector_at image place ++ bytes_from image (place + 1) count
 
 -- the first bytes of so many sectors are these
-abbrev pub SectorsHold : Image → ℕ → ℕ → List ℕ → Type 0
+abbrev pub SectorsHold : DiskImage → ℕ → ℕ → List ℕ → Type 0
 SectorsHold image place count bytes = take (length bytes) (bytes_from image place count) ≡ bytes
 
 -- ---- the super
@@ -65,7 +65,7 @@ pub record IsMarked (sector : List ℕ) : Type 0 where
   pub last : part sector END_MARK_AT 8 ≡ SUPER_END_MARK
 
 -- sector 0 has both marks of a super
-abbrev pub HasMarks : Image → Type 0
+abbrev pub HasMarks : DiskImage → Type 0
 HasMarks image = IsMarked (sector_at image 0)
 
 -- the fields that a sector holds at their places
@@ -85,8 +85,8 @@ super_of sector = record {
   digest = part sector CONTENTS_DIGEST_AT 32;
 }
 
--- the super of this configuration and module, and the two behind the heads
-pub record HasWorker (config : Settings) (wasm : List ℕ) (image : Image) : Type 0 where
+-- the super of this configuration and module, and the two after the heads
+pub record HasWorker (config : Settings) (wasm : List ℕ) (image : DiskImage) : Type 0 where
   pub super : sector_at image 0
       ≡ super_bytes (geometry_of config (length wasm)) (sha256 (config_bytes config ++ wasm))
   pub contents : SectorsHold image MODULE_PLACE (geometry_of config (length wasm)).module_sectors
@@ -147,7 +147,7 @@ pub record IsComplete (area : ℕ) (sector : List ℕ) : Type 0 where
 
 -- The newest complete head of an image, of generation g: it is complete, and the other one is not,
 -- or is older.
-pub record IsNewest (image : Image) (g : ℕ) (h : Head) : Type 0 where
+pub record IsNewest (image : DiskImage) (g : ℕ) (h : Head) : Type 0 where
   pub complete : IsComplete (g % 2) (sector_at image (head_place g))
   pub is : h ≡ head_of (sector_at image (head_place g))
   pub same : h.generation ≡ g
@@ -155,8 +155,8 @@ pub record IsNewest (image : Image) (g : ℕ) (h : Head) : Type 0 where
       → (stamp_of (sector_at image (head_place (g + 1)))).generation < g
 
 -- the area of generation g holds these bytes, and its head says so
-pub record HoldsImage (geometry : Geometry) (image : Image) (g version : ℕ) (bytes : List ℕ) :
-    Type 0 where
+pub record HoldsProcessImage (geometry : Geometry) (image : DiskImage) (g version : ℕ)
+    (bytes : List ℕ) : Type 0 where
   pub newest : IsNewest image g (record {
     version = version;
     length_in_bytes = length bytes;

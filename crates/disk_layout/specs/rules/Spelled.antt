@@ -13,12 +13,12 @@ SpellsConfig bytes None = (s : Settings) → AreSettingsWithinLimits s → bytes
 abbrev pub HasShortLength : List ℕ → Type 0
 HasShortLength text = length text < 2 ^ 16
 
--- this text's bytes stand at the front, before the others
+-- this text's bytes are at the front, before the others
 pub record TextFirst (bytes text rest : List ℕ) : Type 0 where
   pub room : HasShortLength text
   pub is : bytes ≡ short_text_bytes text ++ rest
 
--- no text's bytes stand at the front
+-- no text's bytes are at the front
 abbrev pub NoTextFirst : List ℕ → Type 0
 NoTextFirst bytes = (text rest : List ℕ) → TextFirst bytes text rest → ⊥
 
@@ -27,11 +27,11 @@ pub record HaveRoom (texts : List (List ℕ)) : Type 0 where
   pub few : length texts ≤ 64
   pub each : AllByRecursion HasShortLength texts
 
--- the bytes of these texts stand at the front, before the others
+-- the bytes of these texts are at the front, before the others
 pub record TextsFirst (bytes : List ℕ) (texts : List (List ℕ)) (rest : List ℕ) : Type 0 where
   pub room : HaveRoom texts
   pub is : bytes ≡ texts_bytes texts ++ rest
 
--- the bytes of no texts stand at the front
+-- the bytes of no texts are at the front
 abbrev pub NoTextsFirst : List ℕ → Type 0
 NoTextsFirst bytes = (texts : List (List ℕ)) (rest : List ℕ) → TextsFirst bytes texts rest → ⊥

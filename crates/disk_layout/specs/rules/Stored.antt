@@ -1,8 +1,8 @@
--- What a super leads to: the configuration and the module behind it (this project's own).
+-- What a super leads to: the configuration and the module after it (this project's own).
 use Rattle.std.specs.Prelude.{◌≡◌, ◌≢◌, ◌⊎◌, ℕ, ◌+◌, ◌<◌, ◌≤◌, List, ◌++◌, length, take, Result, Ok}
 use Rattle.std.specs.Prelude.{Err}
 use Rattle.sha2.specs.Sha256.{sha256}
-use Rattle.sector_disk.specs.rules.Image.{Image, sector_at}
+use Rattle.sector_disk.specs.rules.DiskImage.{DiskImage, sector_at}
 use Rattle.sector_disk.specs.rules.Medium.{Medium, Stays, LeavesOnly, CountsUpTo}
 use Rattle.disk_layout.specs.declared.fault.LayoutFault.{LayoutFault}
 use Rattle.disk_layout.specs.declared.fault.LayoutFault.TheVariants.{NotAWorker, Version, TooSmall}
@@ -18,7 +18,7 @@ use Rattle.disk_layout.specs.declared.superblock.TheConstants.{LAYOUT}
 -- unsynced writes, and it is asked for no write and no sync
 pub record OnlyReads (old new : Medium) : Type 0 where
   pub stays : Stays old new
-  pub leaves : LeavesOnly old new old.may_leave
+  pub leaves : LeavesOnly old new old.crash_images
   pub unsynced : new.unsynced ≡ old.unsynced
   pub counts : CountsUpTo old.unsynced old new
   pub calls : new.calls ≡ old.calls
@@ -50,7 +50,7 @@ Checks sectors sector (Err TooSmall) = IsKnown sector × IsConsistent (super_of 
     × (sectors < MODULE_PLACE + (super_of sector).geometry.module_sectors)
 Checks sectors sector (Err other) = ⊥
 
--- these are the configuration and the module in the bytes behind a super, if their digest is the
+-- these are the configuration and the module in the bytes after a super, if their digest is the
 -- super's
 abbrev pub SplitsContents : Super → List ℕ → Result Stored LayoutFault → Type 0
 SplitsContents c bytes (Ok s) = (s.geometry ≡ c.geometry) × (length s.config ≡ c.geometry.config)
@@ -62,9 +62,9 @@ SplitsContents c bytes (Err Damaged) =
 SplitsContents c bytes (Err Memory) = Unit {0}
 SplitsContents c bytes (Err other) = ⊥
 
--- on a disk of so many sectors configuration and module stand where the super says, and their
+-- on a disk of so many sectors configuration and module are where the super says, and their
 -- digest is the super's
-pub record IsStored (sectors : ℕ) (image : Image) (s : Stored) : Type 0 where
+pub record IsStored (sectors : ℕ) (image : DiskImage) (s : Stored) : Type 0 where
   pub known : IsKnown (sector_at image 0)
   pub geometry : s.geometry ≡ (super_of (sector_at image 0)).geometry
   pub consistent : IsConsistent s.geometry
@@ -74,8 +74,8 @@ pub record IsStored (sectors : ℕ) (image : Image) (s : Stored) : Type 0 where
   pub contents : SectorsHold image MODULE_PLACE s.geometry.module_sectors (s.config ++ s.wasm)
   pub digest : (super_of (sector_at image 0)).digest ≡ sha256 (s.config ++ s.wasm)
 
--- the super says where they stand, and they have another digest
-pub record HasOtherDigest (sectors : ℕ) (image : Image) (s : Super) : Type 0 where
+-- the super says where they are, and they have another digest
+pub record HasOtherDigest (sectors : ℕ) (image : DiskImage) (s : Super) : Type 0 where
   pub says : Checks sectors (sector_at image 0) (Ok s)
   pub digest : s.digest
       ≢ sha256 (take (s.geometry.config + s.geometry.wasm)
@@ -83,7 +83,7 @@ pub record HasOtherDigest (sectors : ℕ) (image : Image) (s : Super) : Type 0 w
 
 -- what is found on a disk of so many sectors. Where a fault names a cause of the disk's content, it
 -- is there.
-abbrev pub FindsStored : ℕ → Image → Result Stored LayoutFault → Type 0
+abbrev pub FindsStored : ℕ → DiskImage → Result Stored LayoutFault → Type 0
 FindsStored sectors image (Ok s) = IsStored sectors image s
 FindsStored sectors image (Err NotAWorker) = HasMarks image → ⊥
 FindsStored sectors image (Err Version) =

@@ -1,4 +1,4 @@
-// A configuration from its bytes.
+//! A configuration from its bytes.
 
 ghost use Rattle.std.specs.Prelude.{IfOk};
 ghost use Rattle.disk_layout.specs.rules.Spelled.{SpellsConfig};
@@ -10,7 +10,7 @@ use std::alloc::{AllocError, Global};
 use wasi_abi::Config;
 
 /// The configuration whose bytes these are; none where they are those of no configuration within
-/// its limits. It fails only for want of memory.
+/// its limits. It fails only when out of memory.
 pub fn config_from(alloc: Global, bytes: &[u8]) -> Result<Option<Config>, AllocError>
     ensures { IfOk result (λ o. SpellsConfig bytes.now o) }
 {

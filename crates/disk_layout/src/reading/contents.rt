@@ -1,7 +1,7 @@
-// What a worker's disk holds behind its super.
+//! What a worker's disk holds after its super.
 
 ghost use Rattle.std.specs.Prelude.{◌≡◌, ◌<◌, ◌≤◌, Err, IfOk};
-ghost use Rattle.sector_disk.specs.rules.Image.{Image};
+ghost use Rattle.sector_disk.specs.rules.DiskImage.{DiskImage};
 ghost use Rattle.sector_disk.specs.rules.Medium.{CallsUpTo};
 ghost use Rattle.disk_layout.specs.rules.Places.{total_sectors};
 ghost use Rattle.disk_layout.specs.rules.Stored.{OnlyReads};
@@ -12,17 +12,17 @@ use crate::{Geometry, LayoutFault, Stored, read_super};
 use sector_disk::{Disk, DiskFault};
 use std::alloc::Global;
 use wasi_abi::Config;
-use wasm_syntax::Row;
+use wasm_syntax::ItemList;
 
 /// A worker's configuration and module, and where its things lie.
 #[derive(Debug, Drop)]
 pub struct Contents {
     pub geometry: Geometry,
     pub config: Config,
-    pub wasm: Row<u8>,
+    pub wasm: ItemList<u8>,
 }
 
-/// Reads the super, and the configuration and the module behind it. What is wrong is found in this
+/// Reads the super, and the configuration and the module after it. What is wrong is found in this
 /// order:
 ///
 /// - a mark of the super is missing (`NotAWorker`)
@@ -36,7 +36,7 @@ pub struct Contents {
 /// Want of memory and a fault of the disk may come before any of these.
 pub fn read_contents<D: Disk>(alloc: Global, disk: &mut D) -> Result<Contents, LayoutFault>
     ensures reads { OnlyReads (D.medium disk.old) (D.medium disk.new) }
-    ensures gives { (image : Image) → (D.medium disk.new).shows image
+    ensures gives { (image : DiskImage) → (D.medium disk.new).shows image
         → GivesContents (D.medium disk.old).sectors image result }
     ensures room { IfOk result (λ c. total_sectors c.geometry ≤ (D.medium disk.old).sectors) }
     ensures cause { (fault : DiskFault) → result ≡ Err (LayoutFault.Disk fault)

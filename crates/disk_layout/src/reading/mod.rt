@@ -1,4 +1,4 @@
-//! The configuration and the module that stand on a worker's disk, read back.
+//! The configuration and the module that are on a worker's disk, read back.
 
 mod configuration;
 mod contents;

@@ -1,4 +1,4 @@
-// Texts from their bytes.
+//! Texts from their bytes.
 
 ghost use Rattle.std.specs.Prelude.{IfOk, MatchOption};
 ghost use Rattle.disk_layout.specs.rules.Spelled.{TextFirst, NoTextFirst, TextsFirst, NoTextsFirst};
@@ -6,13 +6,13 @@ ghost use Rattle.disk_layout.specs.rules.Spelled.{TextFirst, NoTextFirst, TextsF
 use crate::{u16_from, u32_from};
 use std::alloc::{AllocError, Global};
 use wasi_abi::MOST_TEXTS;
-use wasm_syntax::Row;
+use wasm_syntax::ItemList;
 
-/// The texts at the front, behind their number, and what stands behind them.
+/// The texts at the front, after their number, and what is after them.
 pub(crate) fn texts_from(
     alloc: Global,
     bytes: &[u8],
-) -> Result<Option<(Row<Row<u8>>, &[u8])>, AllocError>
+) -> Result<Option<(ItemList<ItemList<u8>>, &[u8])>, AllocError>
     ensures { IfOk result (λ o. MatchOption o (NoTextsFirst bytes.now) (λ r.
         TextsFirst bytes.now r.0 r.1.now)) }
 {
@@ -29,14 +29,14 @@ pub(crate) fn texts_from(
         let Some((text, behind)) = text_from(rest) else {
             return Ok(None);
         };
-        let text = Row::from_vec(Vec::from_slice(alloc, text)?);
+        let text = ItemList::from_vec(Vec::from_slice(alloc, text)?);
         texts.push(text)?;
         rest = behind;
     }
-    Ok(Some((Row::from_vec(texts), rest)))
+    Ok(Some((ItemList::from_vec(texts), rest)))
 }
 
-/// The text at the front, behind its length, and what stands behind it.
+/// The text at the front, after its length, and what is after it.
 fn text_from(bytes: &[u8]) -> Option<(&[u8], &[u8])>
     ensures { MatchOption result (NoTextFirst bytes.now) (λ r.
         TextFirst bytes.now r.0.now r.1.now) }

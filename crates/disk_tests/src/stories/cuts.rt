@@ -9,12 +9,12 @@ use crate::stories::lives::{
 use sector_disk::{DiskFault, Place};
 use std::alloc::Global;
 use wasi_abi::Answer;
-use wasm_syntax::Row;
+use wasm_syntax::ItemList;
 use worker::story::{LifeEnd, LifeReport, PlannedLife, Report};
 use worker::{RecoverFault, SliceFault, WorkFault};
 
-/// The last call of the disk with which `echo` is created, behind two of the recovery that found
-/// no worker: 72 of zeros, contents and syncs, 129 of the image, and five behind it.
+/// The last call of the disk with which `echo` is created, after two of the recovery that found no
+/// worker: 72 of zeros, contents and syncs, 129 of the image, and five after it.
 const LAST_OF_CREATION: u64 = 206;
 
 /// A worker was created, and stopped before its line.
@@ -60,7 +60,7 @@ static TALES: [Tale; 8] = [
         told: &[CREATED, AGAIN],
     },
     // It is stopped in the write of the first journal sector. The record of `hello` ends at byte
-    // 505 of that, and all behind it are zeros.
+    // 505 of that, and all after it are zeros.
     Tale {
         name: "a torn record is lost",
         guest: ECHO,
@@ -224,7 +224,7 @@ fn lives_are_told_as_they_were(rt: HostRuntime) -> Result<(), Halt> {
 
 /// A life with so many requests.
 fn busy_life(alloc: Global, count: usize) -> Result<PlannedLife, Halt> {
-    let mut answers = Row::new(alloc);
+    let mut answers = ItemList::new(alloc);
     for _ in 0..count {
         answers.push(request(alloc, b"b")?)?;
     }
@@ -239,7 +239,7 @@ fn second_generation(report: &Report) -> u64 {
     }
 }
 
-/// The same behind a life with so many requests.
+/// The same after a life with so many requests.
 fn generation_behind(alloc: Global, count: usize) -> Result<u64, Halt> {
     let report = report_of_two(alloc, busy_life(alloc, count)?, &IDLE)?;
     Ok(second_generation(&report))
@@ -280,7 +280,7 @@ static MISTOLD: [Told; 2] = [
 
 /// The only answer of a life is a time.
 fn timed_life(alloc: Global) -> Result<PlannedLife, Halt> {
-    let mut answers = Row::new(alloc);
+    let mut answers = ItemList::new(alloc);
     answers.push(Answer::Realtime { nanoseconds: 5 })?;
     life_with(alloc, answers, 20)
 }

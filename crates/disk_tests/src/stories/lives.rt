@@ -5,7 +5,8 @@ use crate::halt::Halt;
 use sector_disk::Place;
 use std::alloc::Global;
 use wasi_abi::{Answer, Config};
-use wasm_syntax::Row;
+use wasi_calls_rules::OutputStream;
+use wasm_syntax::ItemList;
 use worker::story::{LifeEnd, LifeReport, Opening, PlannedAct, PlannedLife, Report, story};
 
 /// A life: its requests, then so many steps, where it is stopped, where its disk fails, the release
@@ -61,7 +62,7 @@ pub(crate) const IDLE: Plan = Plan {
 
 /// How a life was opened: its generation, steps, answers and lines, or 0 for the generation of one
 /// that was not opened. One that was created is of generation 1. Then how it ended, and its only
-/// line, number 1 of stream 1. An empty one stands for none.
+/// line, number 1 of stdout. An empty one stands for none.
 pub(crate) struct Told {
     pub(crate) opened: [u64; 4],
     pub(crate) ended: LifeEnd,
@@ -90,16 +91,16 @@ pub(crate) struct Tale {
     pub(crate) told: &'static [Told],
 }
 
-fn requests(alloc: Global, texts: &[&[u8]]) -> Result<Row<Answer>, Halt> {
-    let mut answers = Row::new(alloc);
+fn requests(alloc: Global, texts: &[&[u8]]) -> Result<ItemList<Answer>, Halt> {
+    let mut answers = ItemList::new(alloc);
     for text in texts {
         answers.push(request(alloc, *text)?)?;
     }
     Ok(answers)
 }
 
-fn slice(alloc: Global, fuel: u64) -> Result<Row<PlannedAct>, Halt> {
-    let mut acts = Row::new(alloc);
+fn slice(alloc: Global, fuel: u64) -> Result<ItemList<PlannedAct>, Halt> {
+    let mut acts = ItemList::new(alloc);
     acts.push(PlannedAct::Slice { fuel })?;
     Ok(acts)
 }
@@ -107,7 +108,7 @@ fn slice(alloc: Global, fuel: u64) -> Result<Row<PlannedAct>, Halt> {
 /// A life with these answers that takes so many steps. Nothing stops it.
 pub(crate) fn life_with(
     alloc: Global,
-    answers: Row<Answer>,
+    answers: ItemList<Answer>,
     fuel: u64,
 ) -> Result<PlannedLife, Halt> {
     let acts = slice(alloc, fuel)?;
@@ -117,19 +118,19 @@ pub(crate) fn life_with(
         stop: None,
         fail: None,
         refuse: None,
-        tears: Row::new(alloc),
+        tears: ItemList::new(alloc),
     })
 }
 
 /// A life that opens, and does nothing.
 pub(crate) fn with_nothing_to_do(alloc: Global) -> PlannedLife {
     PlannedLife {
-        answers: Row::new(alloc),
-        acts: Row::new(alloc),
+        answers: ItemList::new(alloc),
+        acts: ItemList::new(alloc),
         stop: None,
         fail: None,
         refuse: None,
-        tears: Row::new(alloc),
+        tears: ItemList::new(alloc),
     }
 }
 
@@ -144,7 +145,7 @@ pub(crate) fn saving_life(alloc: Global, fail: Option<Place>) -> Result<PlannedL
 fn life_of(alloc: Global, plan: &Plan) -> Result<PlannedLife, Halt> {
     let answers = requests(alloc, plan.requests)?;
     let acts = slice(alloc, plan.fuel)?;
-    let tears = Row::from_vec(Vec::from_slice(alloc, plan.tears)?);
+    let tears = ItemList::from_vec(Vec::from_slice(alloc, plan.tears)?);
     Ok(PlannedLife {
         answers,
         acts,
@@ -158,13 +159,13 @@ fn life_of(alloc: Global, plan: &Plan) -> Result<PlannedLife, Halt> {
 /// What is told of these lives of a module, with a page, a unit of files and a journal of 64
 /// sectors.
 pub(crate) fn told_of(alloc: Global, wasm: &[u8], lives: &[PlannedLife]) -> Result<Report, Halt> {
-    let config = Config::new(1, 1, 64, Row::new(alloc), Row::new(alloc))?;
+    let config = Config::new(1, 1, 64, ItemList::new(alloc), ItemList::new(alloc))?;
     Ok(story(alloc, wasm, &config, lives)?)
 }
 
 /// What is told of the lives of these plans.
 pub(crate) fn report_of(alloc: Global, guest: &[u8], plans: &[Plan]) -> Result<Report, Halt> {
-    let mut lives = Row::new(alloc);
+    let mut lives = ItemList::new(alloc);
     for plan in plans {
         lives.push(life_of(alloc, plan)?)?;
     }
@@ -177,7 +178,7 @@ pub(crate) fn report_of_two(
     first: PlannedLife,
     second: &Plan,
 ) -> Result<Report, Halt> {
-    let mut lives = Row::new(alloc);
+    let mut lives = ItemList::new(alloc);
     lives.push(first)?;
     lives.push(life_of(alloc, second)?)?;
     told_of(alloc, ECHO, lives.as_slice())
@@ -186,13 +187,13 @@ pub(crate) fn report_of_two(
 /// How a life was opened, as `Told` has it.
 pub(crate) fn opened_as(life: &LifeReport) -> [u64; 4] {
     match &life.opened {
-        Opening::Created { image: _ } => [1, 0, 0, 0],
+        Opening::Created { process_image: _ } => [1, 0, 0, 0],
         Opening::Recovered {
             generation,
             steps,
             answers,
             lines,
-            image: _,
+            process_image: _,
         } => [*generation, *steps, *answers, *lines],
         Opening::Unopened => [0, 0, 0, 0],
     }
@@ -202,7 +203,7 @@ fn tells_only(life: &LifeReport, text: &[u8]) -> bool {
     let lines = life.releases.lines();
     lines.len() == 1
         && lines.iter().all(|line| {
-            line.number == 1 && line.stream == 1 && line.text.as_slice() == text
+            line.number == 1 && line.stream == OutputStream::Stdout && line.text.as_slice() == text
         })
 }
 

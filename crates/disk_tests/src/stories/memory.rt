@@ -11,7 +11,7 @@ use worker::{RecoverFault, WorkFault};
 /// What is told of a life whose disk wants memory.
 const DISK_STARVED: RecoverFault = RecoverFault::Worker(WorkFault::Disk(DiskFault::Memory));
 
-/// Whether a life ended by want of memory, of its disk or of some layer.
+/// Whether a life ended because its disk or some layer was out of memory.
 fn has_starved(life: &LifeReport) -> bool {
     match life.ended {
         LifeEnd::Failed(why) => why == DISK_STARVED || why.is_want_of_memory(),

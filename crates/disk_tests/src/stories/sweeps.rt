@@ -5,7 +5,7 @@ use crate::halt::Halt;
 use crate::stories::lives::{told_of, with_nothing_to_do};
 use sector_disk::Place;
 use std::alloc::Global;
-use wasm_syntax::Row;
+use wasm_syntax::ItemList;
 use worker::story::{LifeEnd, LifeReport, Opening, PlannedAct, PlannedLife, Report};
 
 /// A sync and a read find no worker. A creation has 198 writes and 6 syncs. Each of two lines has a
@@ -52,9 +52,9 @@ fn troubled_life(alloc: Global, trouble: &Trouble) -> Result<PlannedLife, Halt> 
     Ok(life)
 }
 
-/// What is told of such a life, and of an empty one behind it.
+/// What is told of such a life, and of an empty one after it.
 fn report_of_trouble(alloc: Global, trouble: &Trouble) -> Result<Report, Halt> {
-    let mut lives = Row::new(alloc);
+    let mut lives = ItemList::new(alloc);
     lives.push(troubled_life(alloc, trouble)?)?;
     lives.push(with_nothing_to_do(alloc))?;
     told_of(alloc, ECHO, lives.as_slice())
@@ -63,13 +63,13 @@ fn report_of_trouble(alloc: Global, trouble: &Trouble) -> Result<Report, Halt> {
 /// How many answers a life opened with: a created one with none.
 fn answers_of(life: &LifeReport) -> Option<u64> {
     match &life.opened {
-        Opening::Created { image: _ } => Some(0),
+        Opening::Created { process_image: _ } => Some(0),
         Opening::Recovered {
             generation: _,
             steps: _,
             answers,
             lines: _,
-            image: _,
+            process_image: _,
         } => Some(*answers),
         Opening::Unopened => None,
     }
@@ -139,7 +139,7 @@ fn opens_after(alloc: Global, mishap: Mishap, place: Place) -> Result<bool, Halt
     }
 }
 
-/// The first call and front behind which the next life doesn't open as it must.
+/// The first call and front after which the next life doesn't open as it must.
 fn first_miss(alloc: Global, mishap: Mishap, fronts: &[u16; 5]) -> Result<Option<Place>, Halt> {
     for call in 1..=CALLS {
         for front in fronts {

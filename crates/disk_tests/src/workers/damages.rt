@@ -2,7 +2,7 @@
 
 use crate::guests::{ECHO, SECTORS, blank};
 use crate::halt::{Halt, NO_WORKER};
-use crate::workers::working::{Stand, create, open};
+use crate::workers::working::{WorkerProgress, create, open};
 use disk_layout::LayoutFault;
 use record_replay::ReplayFault;
 use sector_disk::{Disk, DiskFault, FaultDisk, MemDisk};
@@ -22,11 +22,11 @@ struct Piece {
 struct Damage {
     name: &'static str,
     pieces: &'static [Piece],
-    opens: Result<Stand, Halt>,
+    opens: Result<WorkerProgress, Halt>,
 }
 
 /// A fresh worker that was recovered.
-const FRESH: Stand = Stand {
+const FRESH: WorkerProgress = WorkerProgress {
     generation: 2,
     steps: 0,
     answers: 0,
@@ -44,15 +44,15 @@ const SNAPSHOT: Halt = Halt::Recovery(RecoverFault::Snapshot(SnapshotFault::Dama
 
 const TOO_BIG: Halt = Halt::Work(WorkFault::Store(StoreFault::TooBig));
 
-const NO_IMAGE: Halt = Halt::Recovery(RecoverFault::Image(RestoreFault::NotAnImage));
+const NO_IMAGE: Halt = Halt::Recovery(RecoverFault::ProcessImage(RestoreFault::NotAnImage));
 
 const DIVERGED: Halt = Halt::Recovery(RecoverFault::Replay(ReplayFault::Diverged));
 
 /// A creation on a disk with too few sectors.
 const TOO_FEW: Halt = Halt::Work(WorkFault::Store(StoreFault::Layout(LayoutFault::TooSmall)));
 
-/// The lengths and digests of the image of `ECHO` at its start, of all but its last byte, and of
-/// it with a zero behind it.
+/// The lengths and digests of the image of `ECHO` at its start, of all but its last byte, and of it
+/// with a zero after it.
 const WHOLE: &[u8] = &[
     0x13, 0x01, 0x01, 0x00, 0x00, 0x00, 0x00, 0x00, 0x5a, 0xd2, 0xa2, 0xbb, 0x20, 0x89, 0x86, 0x55,
     0x43, 0x12, 0x22, 0x98, 0x9d, 0xe2, 0xca, 0x89, 0xed, 0x08, 0x24, 0x08, 0x5c, 0x16, 0x66, 0x78,
@@ -394,8 +394,8 @@ fn created_disk(alloc: Global) -> Result<MemDisk, Halt> {
     Ok(disk)
 }
 
-/// What a recovery says, but for want of memory.
-fn says(alloc: Global, disk: &mut MemDisk) -> Result<Result<Stand, Halt>, Halt> {
+/// What a recovery says, unless memory runs out.
+fn says(alloc: Global, disk: &mut MemDisk) -> Result<Result<WorkerProgress, Halt>, Halt> {
     match open(alloc, disk) {
         Err(Halt::Memory) => Err(Halt::Memory),
         opens => Ok(opens),
@@ -430,7 +430,7 @@ fn is_refused(alloc: Global, disk: &mut MemDisk) -> Result<bool, Halt> {
 }
 
 /// Whether a recovery is refused for want of sectors, once the super, the heads and the module of a
-/// worker's disk stand there.
+/// worker's disk are there.
 fn shows_too_few(alloc: Global, disk: &mut MemDisk, whole: &mut MemDisk) -> Result<bool, Halt> {
     let mut bytes = [0; 512];
     for sector in SUPER..=MODULE {

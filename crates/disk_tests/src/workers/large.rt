@@ -4,7 +4,9 @@
 use crate::guests::{SPIN, blank};
 use crate::halt::Halt;
 use crate::workers::saves::work_on_each;
-use crate::workers::working::{IDLE, Stand, Work, are_lines, create_with, live_on, stand_of};
+use crate::workers::working::{
+    IDLE, Work, WorkerProgress, are_lines, create_with, live_on, progress_of,
+};
 use record_replay::LineList;
 use sector_disk::MemDisk;
 use std::alloc::Global;
@@ -14,7 +16,7 @@ const PAGES: u64 = 16;
 
 const SECTORS: u64 = 8_516;
 
-/// A checkpoint into each area. Then a request, of which the image that is saved behind it has a
+/// A checkpoint into each area. Then a request, of which the image that is saved after it has a
 /// page that is another. Then two requests more.
 static PARTS: [Work; 4] = [
     Work {
@@ -39,8 +41,8 @@ static PARTS: [Work; 4] = [
     },
 ];
 
-/// The first question is asked behind 5 steps. A request takes 600,024, the next question included.
-const LEFT: Stand = Stand {
+/// The first question is asked after 5 steps. A request takes 600,024, the next question included.
+const LEFT: WorkerProgress = WorkerProgress {
     generation: 4,
     steps: 1_800_077,
     answers: 3,
@@ -49,7 +51,7 @@ const LEFT: Stand = Stand {
 };
 
 /// The snapshot was saved at step 600,029, and the last answer was taken by step 1,200,054.
-const OPENS: Stand = Stand {
+const OPENS: WorkerProgress = WorkerProgress {
     generation: 5,
     steps: 1_200_054,
     answers: 3,
@@ -58,14 +60,14 @@ const OPENS: Stand = Stand {
 };
 
 /// Where the first life ends.
-fn first_life(alloc: Global, disk: &mut MemDisk) -> Result<Stand, Halt> {
+fn first_life(alloc: Global, disk: &mut MemDisk) -> Result<WorkerProgress, Halt> {
     match create_with(alloc, disk, SPIN, PAGES) {
         Ok(mut worker) => {
             let worked = work_on_each(alloc, &mut worker, disk, &PARTS);
-            let stands = stand_of(&worker);
+            let progress = progress_of(&worker);
             drop(worker);
             worked?;
-            Ok(stands)
+            Ok(progress)
         }
         Err(halt) => Err(halt),
     }

@@ -7,7 +7,7 @@ ghost use Rattle.sector_disk.specs.rules.Memory.{memory_medium};
 use crate::guests::{ECHO, HELLO, SECTORS, SYNC_FOLDER, SYNC_OUTPUT, THREE, blank};
 use crate::halt::Halt;
 use crate::workers::working::{
-    IDLE, Stand, Work, are_lines, create, live_on, open, was_stopped, work_on,
+    IDLE, Work, WorkerProgress, are_lines, create, live_on, open, was_stopped, work_on,
 };
 use record_replay::LineList;
 use sector_disk::{FaultDisk, MemDisk, Place};
@@ -25,7 +25,7 @@ const NONE: Lines = Lines {
     texts: &[],
 };
 
-/// A first life behind its creation, where it is stopped and what fronts are left. Then what the
+/// A first life after its creation, where it is stopped and what fronts are left. Then what the
 /// second one opens with, the lines that its recovery tells, what it does, and the lines of that.
 struct Story {
     name: &'static str,
@@ -33,7 +33,7 @@ struct Story {
     work: Work,
     stop: Option<Place>,
     tears: &'static [u16],
-    opens: Stand,
+    opens: WorkerProgress,
     told: Lines,
     goes_on: Work,
     told_then: Lines,
@@ -95,7 +95,7 @@ const TORN: Story = Story {
         front: 504,
     }),
     tears: &[],
-    opens: Stand {
+    opens: WorkerProgress {
         generation: 2,
         steps: 0,
         answers: 0,
@@ -119,7 +119,7 @@ const WHOLE: Story = Story {
         front: 505,
     }),
     tears: &[],
-    opens: Stand {
+    opens: WorkerProgress {
         generation: 2,
         steps: 6,
         answers: 1,
@@ -140,7 +140,7 @@ const AGAIN: Story = Story {
     work: FIRST,
     stop: None,
     tears: &[],
-    opens: Stand {
+    opens: WorkerProgress {
         generation: 2,
         steps: 6,
         answers: 1,
@@ -161,7 +161,7 @@ const RECOVERED: Story = Story {
     work: BOTH,
     stop: None,
     tears: &[],
-    opens: Stand {
+    opens: WorkerProgress {
         generation: 2,
         steps: 28,
         answers: 2,
@@ -189,7 +189,7 @@ const SAVED: Story = Story {
     },
     stop: None,
     tears: &[],
-    opens: Stand {
+    opens: WorkerProgress {
         generation: 3,
         steps: 42,
         answers: 2,
@@ -207,7 +207,7 @@ const UNASKED: Story = Story {
     work: ALONE,
     stop: None,
     tears: &[],
-    opens: Stand {
+    opens: WorkerProgress {
         generation: 2,
         steps: 0,
         answers: 0,
@@ -232,7 +232,7 @@ const ENDED: Story = Story {
     },
     stop: None,
     tears: &[],
-    opens: Stand {
+    opens: WorkerProgress {
         generation: 3,
         steps: 8,
         answers: 0,
@@ -244,7 +244,7 @@ const ENDED: Story = Story {
     told_then: NONE,
 };
 
-/// Three records in three sectors. The stop is in the sync behind them.
+/// Three records in three sectors. The stop is in the sync after them.
 const SECOND_TORN: Story = Story {
     name: "the second of three sectors isn't whole",
     guest: THREE,
@@ -255,7 +255,7 @@ const SECOND_TORN: Story = Story {
     },
     stop: Some(Place { call: 4, front: 0 }),
     tears: &[512, 499, 512],
-    opens: Stand {
+    opens: WorkerProgress {
         generation: 2,
         steps: 5,
         answers: 1,
@@ -277,7 +277,7 @@ const FULL_TORN: Story = Story {
     },
     stop: Some(Place { call: 4, front: 0 }),
     tears: &[512, 499, 512],
-    opens: Stand {
+    opens: WorkerProgress {
         generation: 2,
         steps: 5,
         answers: 1,
@@ -295,7 +295,7 @@ const SYNCED_FOLDER: Story = Story {
     work: SYNCED,
     stop: None,
     tears: &[],
-    opens: Stand {
+    opens: WorkerProgress {
         generation: 2,
         steps: 5,
         answers: 1,
@@ -313,7 +313,7 @@ const SYNCED_OUTPUT: Story = Story {
     work: SYNCED,
     stop: None,
     tears: &[],
-    opens: Stand {
+    opens: WorkerProgress {
         generation: 2,
         steps: 0,
         answers: 0,
@@ -340,7 +340,7 @@ static STORIES: [Story; 11] = [
 ];
 
 /// The disk that the worker leaves which was just made on this one, and whether it was stopped.
-fn left_by(
+fn disk_after_life(
     alloc: Global,
     mut worker: Worker,
     disk: MemDisk,
@@ -358,14 +358,14 @@ fn left_by(
 /// What a cut leaves of this disk, if its life was stopped just where that is wanted.
 fn cut_so(
     alloc: Global,
-    left: &MemDisk,
+    disk_after: &MemDisk,
     stopped: Result<bool, Halt>,
     story: &Story,
 ) -> Result<Option<MemDisk>, Halt> {
     if stopped? != story.stop.is_some() {
         return Ok(None);
     }
-    match left.cut(alloc, story.tears) {
+    match disk_after.cut(alloc, story.tears) {
         Ok(disk) => Ok(Some(disk)),
         Err(fault) => Err(Halt::from(fault)),
     }
@@ -375,8 +375,8 @@ fn first_life(alloc: Global, story: &Story) -> Result<Option<MemDisk>, Halt> {
     let mut disk = blank(alloc, SECTORS)?;
     match create(alloc, &mut disk, story.guest) {
         Ok(worker) => {
-            let (left, stopped) = left_by(alloc, worker, disk, story);
-            cut_so(alloc, &left, stopped, story)
+            let (disk_after, stopped) = disk_after_life(alloc, worker, disk, story);
+            cut_so(alloc, &disk_after, stopped, story)
         }
         Err(halt) => Err(halt),
     }
@@ -401,12 +401,12 @@ fn is_told(alloc: Global, story: &Story) -> Result<bool, Halt> {
     }
 }
 
-/// Whether a life that does nothing opens on this disk as the story tells, and another one behind
-/// it where that one did, with nothing to replay.
+/// Whether a life that does nothing opens on this disk as the story tells, and another one after it
+/// where that one did, with nothing to replay.
 fn opens_twice(alloc: Global, disk: &mut MemDisk, story: &Story) -> Result<bool, Halt> {
     let opens = open(alloc, disk)?;
     let again = open(alloc, disk)?;
-    let then = Stand {
+    let then = WorkerProgress {
         generation: story.opens.generation.saturating_add(1),
         replayed: 0,
         ..story.opens

@@ -6,7 +6,7 @@ ghost use Rattle.sector_disk.specs.rules.Memory.{memory_medium};
 
 use crate::guests::{ECHO, SECTORS, THREE, blank};
 use crate::halt::Halt;
-use crate::workers::working::{Stand, Work, create, stand_of, work_on};
+use crate::workers::working::{Work, WorkerProgress, create, progress_of, work_on};
 use record_replay::LineList;
 use sector_disk::{Disk, DiskFault, FaultDisk, MemDisk};
 use std::alloc::Global;
@@ -34,7 +34,7 @@ const AREA_1: u64 = 2_308;
 
 const LAST_1: u64 = 2_436;
 
-/// What is done behind a creation, one after another. Then the reads, writes and syncs of the last
+/// What is done after a creation, one after another. Then the reads, writes and syncs of the last
 /// part, and the sectors that it changes.
 struct Cost {
     name: &'static str,
@@ -73,7 +73,7 @@ const LONG_TOLD: Work = Work {
     is_saved: false,
 };
 
-/// And one step behind it.
+/// And one step after it.
 const BEHIND: Work = Work {
     requests: &[b"hello"],
     fuel: 21,
@@ -184,7 +184,7 @@ fn differ_at(
     Ok(true)
 }
 
-/// The disk behind the last part, and its calls.
+/// The disk after the last part, and its calls.
 fn count_calls(
     alloc: Global,
     worker: &mut Worker,
@@ -214,7 +214,7 @@ fn is_last_so(
     Ok(calls == cost.calls && differ_at(&mut before, &mut after, cost.changes)?)
 }
 
-/// Whether the last part costs so much, behind the others.
+/// Whether the last part costs so much, after the others.
 fn costs_so(
     alloc: Global,
     worker: &mut Worker,
@@ -254,33 +254,33 @@ fn answer_each(
     Ok(())
 }
 
-/// Where a worker stands after so many requests.
-fn stand_after(alloc: Global, count: u64) -> Result<Stand, Halt> {
+/// Where a worker is after so many requests.
+fn progress_after(alloc: Global, count: u64) -> Result<WorkerProgress, Halt> {
     let mut disk = blank(alloc, SECTORS)?;
     let mut worker = create(alloc, &mut disk, ECHO)?;
     let worked = answer_each(alloc, &mut worker, &mut disk, count);
-    let stands = stand_of(&worker);
+    let progress = progress_of(&worker);
     drop(worker);
     worked?;
-    Ok(stands)
+    Ok(progress)
 }
 
 /// A journal has 64 sectors, of which each barrier takes one. The longest record has 4,107 bytes.
 /// So 56 sectors are taken, and then there is a snapshot before the next question. A request takes
-/// 22 steps, and the question behind it comes before another five.
+/// 22 steps, and the question after it comes before another five.
 static FILLED: [(u64, u64, u64); 4] = [(1, 1, 27), (55, 1, 1_215), (56, 2, 1_237), (57, 2, 1_259)];
 
 /// Whether after so many requests the worker is in this generation, after so many steps.
 fn is_filled_so(alloc: Global, row: &(u64, u64, u64)) -> Result<bool, Halt> {
-    let stands = stand_after(alloc, row.0)?;
-    let wanted = Stand {
+    let progress = progress_after(alloc, row.0)?;
+    let wanted = WorkerProgress {
         generation: row.1,
         steps: row.2,
         answers: row.0,
         lines: row.0,
         replayed: 0,
     };
-    Ok(stands == wanted)
+    Ok(progress == wanted)
 }
 
 /// A disk on which the line of `hello` was told.

@@ -6,12 +6,12 @@ ghost use Rattle.sector_disk.specs.rules.Memory.{memory_medium};
 
 use crate::guests::{ECHO, SECTORS, THREE, blank, request};
 use crate::halt::Halt;
-use crate::workers::working::{Stand, create, stand_of};
+use crate::workers::working::{WorkerProgress, create, progress_of};
 use record_replay::{AnswerList, LineList, Source, SourceFault};
 use sector_disk::{Disk, FaultDisk, MemDisk};
 use std::alloc::Global;
-use wasi_abi::{Answer, Kind};
-use wasm_syntax::Row;
+use wasi_abi::{Answer, Question};
+use wasm_syntax::ItemList;
 use worker::{SliceFault, WorkFault, Worker};
 
 /// Hands out the answers of a list, and then fails.
@@ -21,8 +21,8 @@ struct FailingSource(AnswerList);
 impl Source for FailingSource {
     ghost gives = { λ _ _ _ _. ⊤ };
 
-    fn answer(&mut self, kind: Kind) -> Result<Option<Answer>, SourceFault> {
-        match self.0.answer(kind) {
+    fn answer(&mut self, question: Question) -> Result<Option<Answer>, SourceFault> {
+        match self.0.answer(question) {
             Ok(Some(answer)) => Ok(Some(answer)),
             _ => Err(SourceFault),
         }
@@ -102,7 +102,7 @@ static ASKED: [Asked; 7] = [
 ];
 
 fn random(alloc: Global) -> Result<Answer, Halt> {
-    let bytes = Row::from_vec(Vec::from_slice(alloc, b"hello")?);
+    let bytes = ItemList::from_vec(Vec::from_slice(alloc, b"hello")?);
     Ok(Answer::Random { bytes })
 }
 
@@ -161,7 +161,7 @@ fn say_four<D: Disk>(
     ]
 }
 
-/// Whether a slice fails by its source, each call behind it fails too, and the disk isn't called.
+/// Whether a slice fails by its source, each call after it fails too, and the disk isn't called.
 fn fails_so(alloc: Global, worker: &mut Worker, disk: MemDisk, asked: &Asked) -> Result<bool, Halt>
     requires { total_sectors worker.old.store.geometry ≤ (memory_medium disk).sectors }
 {
@@ -172,16 +172,16 @@ fn fails_so(alloc: Global, worker: &mut Worker, disk: MemDisk, asked: &Asked) ->
     Ok(said == SAID && told.lines().is_empty() && counting.calls() == (0, 0, 0))
 }
 
-/// Whether the worker stands where it has asked.
+/// Whether the worker is where it has asked.
 fn has_asked(worker: &Worker, asked: &Asked) -> bool {
-    let wanted = Stand {
+    let wanted = WorkerProgress {
         generation: 1,
         steps: asked.steps,
         answers: asked.requests.len() as u64,
         lines: 0,
         replayed: 0,
     };
-    stand_of(worker) == wanted
+    progress_of(worker) == wanted
 }
 
 fn is_failed_so(alloc: Global, asked: &Asked) -> Result<bool, Halt> {

@@ -7,7 +7,7 @@ ghost use Rattle.sector_disk.specs.rules.Memory.{memory_medium};
 use crate::guests::{ECHO, HELLO, SECTORS, blank};
 use crate::halt::{Halt, NO_WORKER};
 use crate::workers::working::{
-    Stand, Work, are_all_told, create, open, stand_of, was_stopped, work_on,
+    Work, WorkerProgress, are_all_told, create, open, progress_of, was_stopped, work_on,
 };
 use record_replay::{AnswerList, LineList};
 use sector_disk::{Disk, DiskFault, FaultDisk, MemDisk, Place};
@@ -27,7 +27,7 @@ static SAID: [Option<WorkFault>; 3] = [
 ];
 
 /// Generation 2 was found, and nothing was done yet.
-const SECOND: Stand = Stand {
+const SECOND: WorkerProgress = WorkerProgress {
     generation: 3,
     steps: 0,
     answers: 0,
@@ -54,7 +54,7 @@ fn say_three<D: Disk>(alloc: Global, worker: &mut Worker, disk: &mut D) -> [Opti
     ]
 }
 
-/// The disk behind a checkpoint whose last call fails, if that and what follows say so.
+/// The disk after a checkpoint whose last call fails, if that and what follows say so.
 fn failed_disk(alloc: Global, worker: &mut Worker, disk: MemDisk) -> Option<MemDisk>
     requires { total_sectors worker.old.store.geometry ≤ (memory_medium disk).sectors }
 {
@@ -65,17 +65,17 @@ fn failed_disk(alloc: Global, worker: &mut Worker, disk: MemDisk) -> Option<MemD
     let mut failing = FaultDisk::new(disk, None, Some(fail));
     let said = say_three(alloc, worker, &mut failing);
     let is_so = said == SAID && count_of(&failing) == HEAD_SYNC;
-    let left = failing.into_inner();
-    if is_so { Some(left) } else { None }
+    let disk_after = failing.into_inner();
+    if is_so { Some(disk_after) } else { None }
 }
 
 /// The same with a fresh worker of `ECHO`.
 fn failed_checkpoint(alloc: Global) -> Result<Option<MemDisk>, Halt> {
     let mut disk = blank(alloc, SECTORS)?;
     let mut worker = create(alloc, &mut disk, ECHO)?;
-    let left = failed_disk(alloc, &mut worker, disk);
+    let disk_after = failed_disk(alloc, &mut worker, disk);
     drop(worker);
-    Ok(left)
+    Ok(disk_after)
 }
 
 /// How many calls a recovery of this disk begins, if it finds generation 2.
@@ -89,7 +89,11 @@ fn calls_of_recovery(alloc: Global, disk: MemDisk) -> Result<Option<u64>, Halt> 
 }
 
 /// The disk that a recovery leaves which is stopped there, and what it says.
-fn stopped_recovery(alloc: Global, disk: MemDisk, stop: Place) -> (MemDisk, Result<Stand, Halt>) {
+fn stopped_recovery(
+    alloc: Global,
+    disk: MemDisk,
+    stop: Place,
+) -> (MemDisk, Result<WorkerProgress, Halt>) {
     let mut stopping = FaultDisk::new(disk, Some(stop), None);
     let opens = open(alloc, &mut stopping);
     (stopping.into_inner(), opens)
@@ -97,18 +101,18 @@ fn stopped_recovery(alloc: Global, disk: MemDisk, stop: Place) -> (MemDisk, Resu
 
 /// Whether generation 2 is found once the power is cut.
 fn is_second(alloc: Global, disk: &MemDisk) -> Result<bool, Halt> {
-    let mut left = disk.cut(alloc, &[])?;
-    Ok(open(alloc, &mut left)? == SECOND)
+    let mut disk_after = disk.cut(alloc, &[])?;
+    Ok(open(alloc, &mut disk_after)? == SECOND)
 }
 
 /// Whether a recovery of this disk that is stopped at this call leaves generation 2.
 fn is_kept_over_a_stop(alloc: Global, disk: MemDisk, call: u64) -> Result<bool, Halt> {
-    let (left, opens) = stopped_recovery(alloc, disk, Place { call, front: 100 });
-    Ok(opens == Err(CUT) && is_second(alloc, &left)?)
+    let (disk_after, opens) = stopped_recovery(alloc, disk, Place { call, front: 100 });
+    Ok(opens == Err(CUT) && is_second(alloc, &disk_after)?)
 }
 
-/// Whether generation 2 is found behind a checkpoint whose last call fails, also where a recovery
-/// is stopped in the write of its head, which is its last call but one.
+/// Whether generation 2 is found after a checkpoint whose last call fails, also where a recovery is
+/// stopped in the write of its head, which is its last call but one.
 fn is_found(alloc: Global) -> Result<bool, Halt> {
     let Some(disk) = failed_checkpoint(alloc)? else {
         return Ok(false);
@@ -123,17 +127,17 @@ fn is_found(alloc: Global) -> Result<bool, Halt> {
 }
 
 /// A guest, all requests to it, how many steps a life takes and whether it is saved then. Then the
-/// texts of all its lines, and what three lives open with, one behind another.
+/// texts of all its lines, and what three lives open with, one after another.
 struct Task {
     guest: &'static [u8],
     requests: &'static [&'static [u8]],
     fuel: u64,
     is_saved: bool,
     texts: &'static [&'static [u8]],
-    opens: [Stand; 3],
+    opens: [WorkerProgress; 3],
 }
 
-const CREATED: Stand = Stand {
+const CREATED: WorkerProgress = WorkerProgress {
     generation: 1,
     steps: 0,
     answers: 0,
@@ -149,14 +153,14 @@ const ECHOES: Task = Task {
     texts: &[b"hello", b"world"],
     opens: [
         CREATED,
-        Stand {
+        WorkerProgress {
             generation: 3,
             steps: 49,
             answers: 2,
             lines: 2,
             replayed: 0,
         },
-        Stand {
+        WorkerProgress {
             generation: 5,
             steps: 49,
             answers: 2,
@@ -175,14 +179,14 @@ static TASKS: [Task; 3] = [
         texts: &[b"hi"],
         opens: [
             CREATED,
-            Stand {
+            WorkerProgress {
                 generation: 3,
                 steps: 8,
                 answers: 0,
                 lines: 1,
                 replayed: 0,
             },
-            Stand {
+            WorkerProgress {
                 generation: 5,
                 steps: 8,
                 answers: 0,
@@ -201,14 +205,14 @@ static TASKS: [Task; 3] = [
         texts: &[b"hello", b"world"],
         opens: [
             CREATED,
-            Stand {
+            WorkerProgress {
                 generation: 2,
                 steps: 28,
                 answers: 2,
                 lines: 1,
                 replayed: 28,
             },
-            Stand {
+            WorkerProgress {
                 generation: 3,
                 steps: 28,
                 answers: 2,
@@ -278,10 +282,10 @@ fn live<D: Disk>(
     disk: &mut D,
     task: &Task,
     told: &mut LineList,
-) -> Result<Stand, Halt> {
+) -> Result<WorkerProgress, Halt> {
     match open_or_create(alloc, disk, task.guest, told) {
         Ok(mut worker) => {
-            let opens = stand_of(&worker);
+            let opens = progress_of(&worker);
             let worked = finish(alloc, &mut worker, disk, task, told);
             drop(worker);
             worked?;
@@ -292,7 +296,7 @@ fn live<D: Disk>(
 }
 
 /// How a life has ended.
-fn end_of(life: Result<Stand, Halt>) -> Result<(), Halt> {
+fn end_of(life: Result<WorkerProgress, Halt>) -> Result<(), Halt> {
     let _opens = life?;
     Ok(())
 }
@@ -320,9 +324,9 @@ fn stopped_life(
     told: &mut LineList,
 ) -> Result<(MemDisk, bool, u64), Halt> {
     let disk = blank(alloc, SECTORS)?;
-    let (left, stopped, count) = life_on(alloc, disk, stop, task, told);
-    match left.cut(alloc, &[]) {
-        Ok(left) => Ok((left, stopped?, count)),
+    let (disk_after, stopped, count) = life_on(alloc, disk, stop, task, told);
+    match disk_after.cut(alloc, &[]) {
+        Ok(disk_after) => Ok((disk_after, stopped?, count)),
         Err(fault) => Err(Halt::from(fault)),
     }
 }
@@ -385,37 +389,37 @@ fn blank_again(alloc: Global) -> Result<(MemDisk, Again), Halt> {
 /// What a cut leaves of a disk.
 fn cut_again(alloc: Global, disk: &MemDisk) -> Result<(MemDisk, Again), Halt> {
     match disk.cut(alloc, &[]) {
-        Ok(left) => Ok((left, Ok(()))),
+        Ok(disk_after) => Ok((disk_after, Ok(()))),
         Err(fault) => {
-            let left = disk.cut(alloc, &[])?;
-            Ok((left, Err(Halt::from(fault))))
+            let disk_after = disk.cut(alloc, &[])?;
+            Ok((disk_after, Err(Halt::from(fault))))
         }
     }
 }
 
-/// What a life says, and what a cut leaves behind it.
+/// What a life says, and what a cut leaves after it.
 fn cut_life(
     alloc: Global,
     mut disk: MemDisk,
     task: &Task,
     told: &mut LineList,
-) -> Result<(MemDisk, Result<Stand, Halt>), Halt> {
+) -> Result<(MemDisk, Result<WorkerProgress, Halt>), Halt> {
     let opens = live(alloc, &mut disk, task, told);
-    let (left, again) = cut_again(alloc, &disk)?;
+    let (disk_after, again) = cut_again(alloc, &disk)?;
     match again {
-        Ok(()) => Ok((left, opens)),
-        Err(halt) => Ok((left, Err(halt))),
+        Ok(()) => Ok((disk_after, opens)),
+        Err(halt) => Ok((disk_after, Err(halt))),
     }
 }
 
-/// What three lives say, of which one ends for want of memory where an allocation is refused, or
-/// the cut behind it is made again.
+/// What three lives say, of which one ends out of memory where an allocation is refused, or the cut
+/// after it is made again.
 fn three_lives(
     alloc: Global,
     disk: MemDisk,
     task: &Task,
     told: &mut LineList,
-) -> Result<[Result<Stand, Halt>; 3], Halt> {
+) -> Result<[Result<WorkerProgress, Halt>; 3], Halt> {
     let (disk, first) = cut_life(alloc, disk, task, told)?;
     let (disk, second) = cut_life(alloc, disk, task, told)?;
     let (_disk, third) = cut_life(alloc, disk, task, told)?;
@@ -423,15 +427,15 @@ fn three_lives(
 }
 
 /// What the first of them says that ended so.
-fn said_by(lives: &[Result<Stand, Halt>; 3]) -> Result<(), Halt> {
+fn said_by(lives: &[Result<WorkerProgress, Halt>; 3]) -> Result<(), Halt> {
     for life in lives {
         let _opens = (*life)?;
     }
     Ok(())
 }
 
-/// Whether no life was in want of memory, and they opened as the task says.
-fn open_so(lives: &[Result<Stand, Halt>; 3], task: &Task) -> bool {
+/// Whether no life was out of memory, and they opened as the task says.
+fn open_so(lives: &[Result<WorkerProgress, Halt>; 3], task: &Task) -> bool {
     for (life, wanted) in lives.iter().zip(&task.opens) {
         if *life != Ok(*wanted) {
             return false;
@@ -440,8 +444,8 @@ fn open_so(lives: &[Result<Stand, Halt>; 3], task: &Task) -> bool {
     true
 }
 
-/// Whether three lives tell all lines, and what was in want of memory. Where nothing was, they open
-/// as the task says.
+/// Whether three lives tell all lines, and what was out of memory. Where nothing was, they open as
+/// the task says.
 fn are_told_in_three(alloc: Global, task: &Task) -> Result<(bool, Result<(), Halt>), Halt> {
     let (disk, made) = blank_again(alloc)?;
     let mut told = LineList::new(alloc);

@@ -7,12 +7,14 @@ ghost use Rattle.sector_disk.specs.rules.Memory.{memory_medium};
 
 use crate::guests::{ECHO, RANDOM, blank};
 use crate::halt::Halt;
-use crate::workers::working::{IDLE, Stand, Work, are_lines, create_long, stand_of, work_on};
+use crate::workers::working::{
+    IDLE, Work, WorkerProgress, are_lines, create_long, progress_of, work_on,
+};
 use record_replay::{AnswerList, LineList};
 use sector_disk::{Disk, FaultDisk, MemDisk, Place};
 use std::alloc::Global;
 use wasi_abi::{Answer, Version};
-use wasm_syntax::Row;
+use wasm_syntax::ItemList;
 use worker::{SliceFault, UpgradeFault, WorkFault, Worker};
 
 /// The least journal that takes the records of version 2, and the sectors of a disk with it.
@@ -125,7 +127,7 @@ static CASES: [Case; 7] = [
     },
 ];
 
-/// What two upgrades say behind this work.
+/// What two upgrades say after this work.
 fn say_twice(
     alloc: Global,
     worker: &mut Worker,
@@ -168,7 +170,7 @@ fn says_so_again(alloc: Global, mut disk: MemDisk, case: &Case) -> Result<bool, 
     }
 }
 
-/// What a cut leaves of a disk behind this work.
+/// What a cut leaves of a disk after this work.
 fn cut_after(
     alloc: Global,
     worker: &mut Worker,
@@ -190,9 +192,9 @@ fn is_case(alloc: Global, case: &Case) -> Result<bool, Halt> {
         drop(worker);
         return is_so;
     };
-    let left = cut_after(alloc, &mut worker, &mut disk, &first);
+    let disk_after = cut_after(alloc, &mut worker, &mut disk, &first);
     drop(worker);
-    says_so_again(alloc, left?, case)
+    says_so_again(alloc, disk_after?, case)
 }
 
 /// An upgrade is refused for its journal, and for lines that an earlier life told.
@@ -206,7 +208,7 @@ fn upgrades_are_refused(rt: HostRuntime) -> Result<(), Halt> {
 
 /// The answer to a call for 5,000 random bytes.
 fn random(alloc: Global) -> Result<AnswerList, Halt> {
-    let bytes = Row::from_vec(Vec::from_slice(alloc, &[7; 5_000])?);
+    let bytes = ItemList::from_vec(Vec::from_slice(alloc, &[7; 5_000])?);
     let mut answers = Vec::new(alloc);
     answers.push(Answer::Random { bytes })?;
     Ok(AnswerList::new(answers))
@@ -261,7 +263,7 @@ const PART: u16 = 504;
 static PREFIXES: [u16; 4] = [PART, 0, 511, 512];
 
 /// No record is left.
-const NOTHING: Stand = Stand {
+const NOTHING: WorkerProgress = WorkerProgress {
     generation: 2,
     steps: 0,
     answers: 0,
@@ -270,7 +272,7 @@ const NOTHING: Stand = Stand {
 };
 
 /// The record is left, in version 1.
-const NARROW: Stand = Stand {
+const NARROW: WorkerProgress = WorkerProgress {
     generation: 2,
     steps: 6,
     answers: 1,
@@ -279,7 +281,7 @@ const NARROW: Stand = Stand {
 };
 
 /// The process is left, in version 2. That it was widened counts as an answer.
-const WIDE: Stand = Stand {
+const WIDE: WorkerProgress = WorkerProgress {
     generation: 3,
     steps: 12,
     answers: 2,
@@ -315,10 +317,10 @@ fn meets(
 }
 
 /// What the next life finds: what a cut leaves, or the same disk.
-fn found_after(alloc: Global, left: MemDisk, mishap: Mishap) -> Result<MemDisk, Halt> {
+fn found_after(alloc: Global, disk_after: MemDisk, mishap: Mishap) -> Result<MemDisk, Halt> {
     match mishap {
-        Mishap::Stop => Ok(left.cut(alloc, &[])?),
-        Mishap::Failure => Ok(left),
+        Mishap::Stop => Ok(disk_after.cut(alloc, &[])?),
+        Mishap::Failure => Ok(disk_after),
     }
 }
 
@@ -334,17 +336,17 @@ fn found(
 {
     let mut told = LineList::new(alloc);
     work_on(alloc, worker, &mut disk, &ANSWERED, &mut told)?;
-    let (left, is_said) = meets(alloc, worker, disk, mishap, place);
-    let next = found_after(alloc, left, mishap)?;
+    let (disk_after, is_said) = meets(alloc, worker, disk, mishap, place);
+    let next = found_after(alloc, disk_after, mishap)?;
     Ok(if is_said { Some(next) } else { None })
 }
 
 /// The version and the place with which the next life opens.
-fn opens(alloc: Global, mut disk: MemDisk) -> Result<(Version, Stand), Halt> {
+fn opens(alloc: Global, mut disk: MemDisk) -> Result<(Version, WorkerProgress), Halt> {
     let mut told = LineList::new(alloc);
     match Worker::recover(alloc, &mut disk, &mut told) {
         Ok(worker) => {
-            let opened = (worker.process().version(), stand_of(&worker));
+            let opened = (worker.process().version(), progress_of(&worker));
             drop(worker);
             Ok(opened)
         }
@@ -353,7 +355,7 @@ fn opens(alloc: Global, mut disk: MemDisk) -> Result<(Version, Stand), Halt> {
 }
 
 /// Whether it is whole in the one version or the other. Once the barrier is done it has the answer.
-fn is_whole(opened: (Version, Stand), place: Place) -> bool {
+fn is_whole(opened: (Version, WorkerProgress), place: Place) -> bool {
     match opened {
         (Version::One, stand) => stand == NARROW || (stand == NOTHING && place.call <= BARRIER),
         (Version::Two, stand) => stand == WIDE && BARRIER < place.call,
@@ -363,10 +365,10 @@ fn is_whole(opened: (Version, Stand), place: Place) -> bool {
 fn is_whole_after(alloc: Global, mishap: Mishap, place: Place) -> Result<bool, Halt> {
     let mut disk = blank(alloc, SECTORS)?;
     let mut worker = create_long(alloc, &mut disk, ECHO, JOURNAL)?;
-    let left = found(alloc, &mut worker, disk, mishap, place);
+    let disk_after = found(alloc, &mut worker, disk, mishap, place);
     drop(worker);
-    match left? {
-        Some(left) => Ok(is_whole(opens(alloc, left)?, place)),
+    match disk_after? {
+        Some(disk_after) => Ok(is_whole(opens(alloc, disk_after)?, place)),
         None => Ok(false),
     }
 }

@@ -8,11 +8,12 @@ use crate::halt::Halt;
 use record_replay::{AnswerList, LineList, NumberedLine};
 use sector_disk::{Disk, DiskFault};
 use std::alloc::Global;
+use wasi_calls_rules::OutputStream;
 use worker::{WorkFault, Worker};
 
-/// Where a worker stands.
+/// Where a worker is.
 #[derive(Clone, Copy, PartialEq, Eq)]
-pub(crate) struct Stand {
+pub(crate) struct WorkerProgress {
     pub(crate) generation: u64,
     pub(crate) steps: u64,
     pub(crate) answers: u64,
@@ -20,9 +21,9 @@ pub(crate) struct Stand {
     pub(crate) replayed: u64,
 }
 
-pub(crate) fn stand_of(worker: &Worker) -> Stand {
+pub(crate) fn progress_of(worker: &Worker) -> WorkerProgress {
     let process = worker.process();
-    Stand {
+    WorkerProgress {
         generation: worker.generation(),
         steps: process.steps(),
         answers: process.answers(),
@@ -146,17 +147,17 @@ pub(crate) fn work_on<D: Disk>(
 }
 
 /// A life of the worker that the disk stands for. What it opens with; the lines of its recovery and
-/// those behind that are put to the two lists.
+/// those after that are put to the two lists.
 pub(crate) fn live_on<D: Disk>(
     alloc: Global,
     disk: &mut D,
     told: &mut LineList,
     work: &Work,
     told_then: &mut LineList,
-) -> Result<Stand, Halt> {
+) -> Result<WorkerProgress, Halt> {
     match Worker::recover(alloc, disk, told) {
         Ok(mut worker) => {
-            let opens = stand_of(&worker);
+            let opens = progress_of(&worker);
             let worked = work_on(alloc, &mut worker, disk, work, told_then);
             drop(worker);
             worked?;
@@ -167,11 +168,11 @@ pub(crate) fn live_on<D: Disk>(
 }
 
 /// What a life opens with that does nothing.
-pub(crate) fn open<D: Disk>(alloc: Global, disk: &mut D) -> Result<Stand, Halt> {
+pub(crate) fn open<D: Disk>(alloc: Global, disk: &mut D) -> Result<WorkerProgress, Halt> {
     let mut told = LineList::new(alloc);
     match Worker::recover(alloc, disk, &mut told) {
         Ok(worker) => {
-            let opens = stand_of(&worker);
+            let opens = progress_of(&worker);
             drop(worker);
             Ok(opens)
         }
@@ -194,7 +195,7 @@ fn has_its_text(line: &NumberedLine, texts: &[&[u8]]) -> bool {
         return false;
     };
     match texts.get(place as usize) {
-        Some(text) => line.stream == 1 && line.text.as_slice() == *text,
+        Some(text) => line.stream == OutputStream::Stdout && line.text.as_slice() == *text,
         None => false,
     }
 }
@@ -220,7 +221,8 @@ pub(crate) fn are_lines(told: &LineList, first: u64, texts: &[&[u8]]) -> bool {
     }
     let mut number = first;
     for (line, text) in lines.iter().zip(texts) {
-        if line.number != number || line.stream != 1 || line.text.as_slice() != *text {
+        let is_output = line.stream == OutputStream::Stdout;
+        if line.number != number || !is_output || line.text.as_slice() != *text {
             return false;
         }
         number = number.saturating_add(1);

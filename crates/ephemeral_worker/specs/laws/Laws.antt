@@ -18,7 +18,7 @@ SlicesAdd {S} {O} gives takes =
     → Slices gives takes second g why third t u p q
     → Slices gives takes first (f + g) why third s u o q
 
--- A slice that fails behind one whose fuel is spent is one slice of the fuel of both that fails.
+-- A slice that fails after one whose fuel is spent is one slice of the fuel of both that fails.
 abbrev pub SlicesAddInVain : {S O : Type 0} → Giving S → Taking O → Type 0
 SlicesAddInVain {S} {O} gives takes =
     (first second third : WorkerValue) (f g : ℕ) (why : SliceFault) (s t u : S) (o p q : O)

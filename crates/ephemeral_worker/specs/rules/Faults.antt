@@ -1,17 +1,17 @@
 -- Why a worker fails, and what it has done until then.
 use Rattle.std.specs.Prelude.{◌≡◌, ℕ, suc, ◌<◌, ◌≤◌, true, false, List, [], ◌∷◌, ◌++◌, length, map}
 use Rattle.std.specs.Prelude.{Option, Some, None, Result, Ok, Err}
-use Rattle.wasi_abi.specs.declared.answer.Kind.{Kind}
+use Rattle.wasi_abi.specs.declared.answer.Question.{Question}
 use Rattle.wasi_abi.specs.declared.answer.Answer.{Answer}
 use Rattle.wasi_abi.specs.rules.Answers.{Fits}
 use Rattle.wasi_abi.specs.rules.Versions.{text_limit}
-use Rattle.wasi_calls_rules.specs.Hosts.{Line}
+use Rattle.wasi_calls_rules.specs.WasiStates.{Line}
 use Rattle.process_rules.specs.Processes.{ProcessState, Guest}
 use Rattle.process_rules.specs.Runs.{Moves}
 use Rattle.record_replay.specs.declared.fault.SourceFault.{SourceFault}
 use Rattle.record_replay.specs.rules.Calls.{Giving, Taking, Ask, Exchange, Asks, Tells, Exchanges}
 use Rattle.record_replay.specs.rules.Calls.{last_refused}
-use Rattle.machine_loader.specs.rules.Acceptance.{IsTold, HasNoAcceptedModule, is_want}
+use Rattle.machine_loader.specs.rules.Acceptance.{IsReported, HasNoAcceptedModule, is_want}
 use Rattle.process.specs.rules.Values.{ShowsProcess}
 use Rattle.process.specs.rules.Stops.{CallsHost, IsBeyond}
 use Rattle.ephemeral_worker.specs.declared.fault.SliceFault.{SliceFault}
@@ -24,8 +24,8 @@ use Rattle.ephemeral_worker.specs.rules.Slices.{SliceLeadsTo, AreAnswered, AreWa
 
 -- a refusal of the module says why it isn't accepted
 abbrev pub IsRefusedByWorker : ℕ → List ℕ → SliceFault → Type 0
-IsRefusedByWorker pages bytes (fault.Refused (refusal.Front why)) = (is_want why ≡ false)
-    × IsTold pages bytes why × HasNoAcceptedModule pages bytes
+IsRefusedByWorker pages bytes (fault.Refused (refusal.Module why)) = (is_want why ≡ false)
+    × IsReported pages bytes why × HasNoAcceptedModule pages bytes
 IsRefusedByWorker pages bytes (fault.Refused refusal.StepsSpent) = ⊥
 IsRefusedByWorker pages bytes fault.Memory = Unit {0}
 IsRefusedByWorker pages bytes _ = ⊥
@@ -33,23 +33,23 @@ IsRefusedByWorker pages bytes _ = ⊥
 -- ---- a slice
 
 -- The source failed at the last question, or handed over what doesn't fit.
-abbrev pub IsBadAnswer : ℕ → Kind → Result (Option Answer) SourceFault → Type 0
-IsBadAnswer limit kind (Err e) = Unit {0}
-IsBadAnswer limit kind (Ok (Some a)) = Fits limit kind a → ⊥
-IsBadAnswer limit kind (Ok None) = ⊥
+abbrev pub IsBadAnswer : ℕ → Question → Result (Option Answer) SourceFault → Type 0
+IsBadAnswer limit question (Err e) = Unit {0}
+IsBadAnswer limit question (Ok (Some a)) = Fits limit question a → ⊥
+IsBadAnswer limit question (Ok None) = ⊥
 
 -- the last question, and this answer to it
-abbrev pub last_answer : Kind → Option Answer → List Exchange
-last_answer kind None = []
-last_answer kind (Some a) = Asks (record { kind = kind; said = Ok (Some a) }) ∷ []
+abbrev pub last_answer : Question → Option Answer → List Exchange
+last_answer question None = []
+last_answer question (Some a) = Asks (record { question = question; said = Ok (Some a) }) ∷ []
 
 -- The calls have led to q, and each question was answered. One more answer may have been handed
 -- over, which q has not taken.
 pub record LeadsUpTo (guest : Guest) (p : ProcessState) (exchanges : List Exchange) (n : ℕ)
     (q : ProcessState) (given : Option Answer) : Type 0 where
   pub front : List Exchange
-  pub kind : Kind
-  pub is : exchanges ≡ front ++ last_answer kind given
+  pub question : Question
+  pub is : exchanges ≡ front ++ last_answer question given
   pub leads : SliceLeadsTo guest p front n q
   pub answered : AreAnswered front
 
@@ -84,7 +84,7 @@ pub record StopsAtAnswer (guest : Guest) (p : ProcessState) (exchanges : List Ex
   pub ask : Ask
   pub is : exchanges ≡ front ++ (Asks ask ∷ [])
   pub leads : SliceLeadsTo guest p front n q
-  pub bad : IsBadAnswer (text_limit q.host.version) ask.kind ask.said
+  pub bad : IsBadAnswer (text_limit q.host.version) ask.question ask.said
 
 module _ {S O : Type 0} (gives : Giving S) (takes : Taking O) where
   -- The process that the worker showed has gone on to one that it then shows, up to what failed.
@@ -111,7 +111,7 @@ IsCause guest p fuel exchanges steps q fault.Memory =
 IsCause guest p fuel exchanges steps q (fault.Refused refusal.StepsSpent) =
     (steps < fuel) × (q.ended ≡ None) × (given : Option Answer)
     × LeadsUpTo guest p exchanges steps q given × IsBeyond guest q given
-IsCause guest p fuel exchanges steps q (fault.Refused (refusal.Front why)) = ⊥
+IsCause guest p fuel exchanges steps q (fault.Refused (refusal.Module why)) = ⊥
 IsCause guest p fuel exchanges steps q fault.Failed = ⊥
 
 -- A worker that had failed does nothing. One that fails has failed from then on; whichever process

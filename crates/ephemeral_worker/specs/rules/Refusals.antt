@@ -2,7 +2,7 @@
 use Rattle.std.specs.Prelude.{Bool, true, false}
 use Rattle.process.specs.declared.fault.ProcessFault.{ProcessFault}
 use Rattle.process.specs.declared.fault.ProcessFault.TheVariants as stop
-use Rattle.machine_loader.specs.declared.fault.FrontFault.{FrontFault}
+use Rattle.machine_loader.specs.declared.fault.ModuleFault.{ModuleFault}
 use Rattle.machine_loader.specs.rules.Acceptance.{is_want}
 use Rattle.ephemeral_worker.specs.declared.fault.SliceFault.{SliceFault}
 use Rattle.ephemeral_worker.specs.declared.fault.SliceFault.TheVariants as fault
@@ -15,10 +15,10 @@ slice_fault stop.Memory = fault.Memory
 slice_fault stop.StepsSpent = fault.Refused refusal.StepsSpent
 
 -- where the module isn't accepted, or the host has no room
-abbrev pub refusal_by : Bool → FrontFault → SliceFault
+abbrev pub refusal_by : Bool → ModuleFault → SliceFault
 refusal_by true why = fault.Memory
-refusal_by false why = fault.Refused (refusal.Front why)
+refusal_by false why = fault.Refused (refusal.Module why)
 
 -- out of memory is told as that, each other fault of a module as a refusal
-abbrev pub refusal_of : FrontFault → SliceFault
+abbrev pub refusal_of : ModuleFault → SliceFault
 refusal_of why = refusal_by (is_want why) why

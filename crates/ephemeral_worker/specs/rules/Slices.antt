@@ -2,9 +2,9 @@
 use Rattle.std.specs.Prelude.{◌≡◌, ℕ, suc, ◌<◌, ◌≤◌, false, List, [], ◌∷◌, ◌++◌, length, Option}
 use Rattle.std.specs.Prelude.{Some, None, Result, Ok, Err}
 use Rattle.std.specs.List.{AllByRecursion}
-use Rattle.wasi_abi.specs.declared.answer.Kind.{Kind}
+use Rattle.wasi_abi.specs.declared.answer.Question.{Question}
 use Rattle.wasi_abi.specs.declared.answer.Answer.{Answer}
-use Rattle.wasi_calls_rules.specs.Hosts.{Line}
+use Rattle.wasi_calls_rules.specs.WasiStates.{Line}
 use Rattle.process_rules.specs.Processes.{ProcessState, Guest}
 use Rattle.process_rules.specs.Runs.{Wants, next_of, Kept, Given, Runs}
 use Rattle.record_replay.specs.declared.fault.SourceFault.{SourceFault}
@@ -46,13 +46,13 @@ pub record AreAnswered (exchanges : List Exchange) : Type 0 where
   pub all : AllByRecursion HasAnswer (asks_of exchanges)
 
 -- they lead to a process whose next step wants this answer, and each question was answered
-pub record LeadsToWish (guest : Guest) (p : ProcessState) (exchanges : List Exchange)
-    (kind : Kind) : Type 0 where
+pub record LeadsToQuestion (guest : Guest) (p : ProcessState) (exchanges : List Exchange)
+    (question : Question) : Type 0 where
   pub steps : ℕ
   pub process : ProcessState
   pub leads : SliceLeadsTo guest p exchanges steps process
   pub running : process.ended ≡ None
-  pub wants : next_of guest process None ≡ Wants kind
+  pub wants : next_of guest process None ≡ Wants question
   pub answered : AreAnswered exchanges
 
 -- Each question is what the process wants to which the calls before it lead. So only the last one
@@ -60,7 +60,7 @@ pub record LeadsToWish (guest : Guest) (p : ProcessState) (exchanges : List Exch
 abbrev pub AreWanted : Guest → ProcessState → List Exchange → Type 0
 AreWanted guest p exchanges =
     (front rest : List Exchange) (ask : Ask) → exchanges ≡ front ++ (Asks ask ∷ rest)
-    → LeadsToWish guest p front ask.kind
+    → LeadsToQuestion guest p front ask.question
 
 -- ---- a slice
 
@@ -78,17 +78,18 @@ module _ {S O : Type 0} (gives : Giving S) (takes : Taking O) where
     pub shows : ShowsProcess new.process guest process
 
 -- the last question was answered by none
-abbrev pub IsUnanswered : List Exchange → Kind → Type 0
-IsUnanswered exchanges kind = (front : List Exchange)
-    × (exchanges ≡ front ++ (Asks (record { kind = kind; said = Ok None }) ∷ []))
+abbrev pub IsUnanswered : List Exchange → Question → Type 0
+IsUnanswered exchanges question = (front : List Exchange)
+    × (exchanges ≡ front ++ (Asks (record { question = question; said = Ok None }) ∷ []))
 
 -- Why the slice is over: its steps are taken; an answer is wanted that isn't there yet; or the
 -- process has ended. All that was asked for was answered, but for the answer that isn't there.
 abbrev pub IsNow : Guest → ProcessState → List Exchange → ℕ → ℕ → Now → Type 0
 IsNow guest q exchanges steps fuel now.Spent = (steps ≡ fuel) × (q.ended ≡ None)
     × AreAnswered exchanges
-IsNow guest q exchanges steps fuel now.Waiting = (steps < fuel) × (q.ended ≡ None) × (kind : Kind)
-    × (next_of guest q None ≡ Wants kind) × IsUnanswered exchanges kind
+IsNow guest q exchanges steps fuel now.Waiting = (steps < fuel) × (q.ended ≡ None)
+    × (question : Question) × (next_of guest q None ≡ Wants question)
+    × IsUnanswered exchanges question
 IsNow guest q exchanges steps fuel (now.Ended how) =
     (steps ≤ fuel) × (q.ended ≡ Some (ending_of how)) × AreAnswered exchanges
 

@@ -28,7 +28,7 @@ module _ {T : Type 0} where
   whole_cut Front Back [] (suc i) f b = f
   whole_cut Front Back (x ∷ xs) (suc i) f b = (f.0, whole_cut Front Back xs i f.1 b.1)
 
-  -- one that is of a kind stands behind others
+  -- one that is of a kind is after others
   pub behind_all : (P : T → Type 0) (xs : List T) (i : ℕ) (d : T)
       → AllByRecursion P xs → i < length xs → P (get_or xs i d)
   behind_all P [] i d h lt = absurd (omega arith)

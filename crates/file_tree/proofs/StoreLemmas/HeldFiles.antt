@@ -100,17 +100,17 @@ module _ (chunks : Chunks) (keys : List ℕ) (len : ℕ) (now : FileBody)
       ++ replicate (length after * CHUNK_BYTES - size) 0
       → Rekeys chunks new keys after
       → TurnsInto chunks new now (InChunks after size) (resized (bytes_of_file chunks now) size)
-  file_cut between new after size le was full left cleared rekeyed =
+  file_cut between new after size le was full kept cleared rekeyed =
       let front = take (chunks_for size) cs in
       let before : length after ≡ length front =
       sym (length-stored between after was.are.present)
-      ∙ ap (λ (xs : List (List ℕ)). length xs) left
+      ∙ ap (λ (xs : List (List ℕ)). length xs) kept
       in
       let made = is_cut cs len shape (stored new after) (bytes_of_file chunks now) size bytes_are le
       full.full (length-stored new after full.are.present ∙ before)
       (cleared
       ∙ ap (λ (xs : List (List ℕ)). take size (concat xs)
-      ++ zeros_of (length after * CHUNK_BYTES - size)) left
+      ++ zeros_of (length after * CHUNK_BYTES - size)) kept
       ∙ ap (λ (n : ℕ). take size (concat front) ++ zeros_of (n * CHUNK_BYTES - size)) before) in
       subst (λ (b : FileBody). TurnsInto chunks new b (InChunks after size)
       (resized (bytes_of_file chunks now) size)) e
@@ -127,7 +127,7 @@ module _ (chunks : Chunks) (keys : List ℕ) (len : ℕ) (now : FileBody)
   pub file_size : length (bytes_of_file chunks now) ≡ len
   file_size = size_is cs len shape (bytes_of_file chunks now) bytes_are
 
-  -- a chunk at a place ends behind the bytes before it
+  -- a chunk at a place ends after the bytes before it
   pub chunk_begins : (i : ℕ) → i < length keys → i * CHUNK_BYTES < len
   chunk_begins i lt = omega (arith, count_keys, no_more len, lt)
 

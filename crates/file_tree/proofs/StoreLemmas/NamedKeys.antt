@@ -84,10 +84,10 @@ module _ (address : ℕ → List ℕ) where
       (before_both (address i) (address j) (address k) (behind_if (address i) (address j) h)
       (behind_if (address j) (address k) g))
 
-  -- a key at or before the cut stands before the new one
-  stands_before : (key k : ℕ) → address k ≢ address key → IsUpTo (address key) (address k)
+  -- a key at or before the cut is before the new one
+  is_before_the_new : (key k : ℕ) → address k ≢ address key → IsUpTo (address key) (address k)
       → After k key
-  stands_before key k ne up =
+  is_before_the_new key k ne up =
       in_front (address k) (address key)
       (one_before (address key) (address k) (λ e. ne (sym e))
       (not_behind_if (address key) (address k) up))
@@ -99,7 +99,7 @@ module _ (address : ℕ → List ℕ) where
   ordered_put key [] (suc p) order cut other = absurd cut
   ordered_put key (x ∷ xs) zero order cut other = (cut, order)
   ordered_put key (x ∷ xs) (suc p) order cut other =
-      let first : After x key = stands_before key x (other x (inl refl)) cut.0 in (
+      let first : After x key = is_before_the_new key x (other x (inl refl)) cut.0 in (
         all_of_held (After x) (insert xs p key) (λ y at. elim (held_put xs p key y at) [
           | inl h ↦ held_by_all (After x) xs y order.0 h
           | inr e ↦ subst (After x) (sym e) first

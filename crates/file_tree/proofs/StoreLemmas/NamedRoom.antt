@@ -13,7 +13,7 @@ one_less [] i lt = absurd (omega (arith, lt))
 one_less (x ∷ xs) zero lt = omega arith
 one_less (x ∷ xs) (suc i) lt = omega (arith, one_less xs i (omega (arith, lt)))
 
--- where an element stands
+-- where an element is
 place_held : (xs : List ℕ) (y : ℕ) → HasElement xs y
     → (i : ℕ) × (i < length xs) × (get_or xs i 0 ≡ y)
 place_held [] y at = absurd at

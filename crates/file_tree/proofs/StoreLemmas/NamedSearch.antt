@@ -19,7 +19,7 @@ pub seen_at_key : (from : List ℕ) (slab : Slab Node) (key : ℕ) (n : Node) (b
     → is_before from (address_of n.hook) ≡ b → is_before from (address_at slab key) ≡ b
 seen_at_key from slab key n b is e = ap (is_before from) (address_of_node slab key n is) ∙ e
 
--- what comes before a key up to an address is so itself, and what comes behind one behind it too
+-- what comes before a key up to an address is so itself, and what comes after one after it too
 pub up_to_down : (from : List ℕ) (slab : Slab Node) (j k : ℕ)
     → IsBehind (address_at slab j) (address_at slab k)
     → KeyUpTo from slab k → KeyUpTo from slab j

@@ -47,7 +47,7 @@ over_none [] i = refl
 over_none (x ∷ xs) zero = refl
 over_none (x ∷ xs) (suc i) = ap (λ (zs : List ℕ). x ∷ zs) (over_none xs i)
 
--- one piece, and another one behind it
+-- one piece, and another one after it
 pub over_more : (xs : List ℕ) (i : ℕ) (ys zs : List ℕ) (n : ℕ) → n ≡ i + length ys
     → overlaid (overlaid xs i ys) n zs ≡ overlaid xs i (ys ++ zs)
 over_more [] i ys zs n e = refl
@@ -250,7 +250,7 @@ none_cleared cs at full start within last =
     ∙ ap (λ (xs : List ℕ). xs ++ replicate {A = ℕ} (length cs * CHUNK_BYTES - at) 0)
     (sym (take_all at (concat cs) (omega (arith, length-joined cs full, all))))
 
--- two pieces, one behind the other
+-- two pieces, one after the other
 pub take_two : (xs : List ℕ) (i r n : ℕ) → n ≡ i + r → take i xs ++ take r (drop i xs) ≡ take n xs
 take_two xs zero r n e = (let same : r ≡ n = omega (arith, e) in ap (λ (k : ℕ). take k xs) same)
 take_two [] (suc i) zero n e = sym (take_all n [] (omega arith))
@@ -277,7 +277,7 @@ pub over_written : (xs : List ℕ) (from : ℕ) (ys : List ℕ) → from + lengt
 over_written xs from ys h = sym (over_at xs from ys (from + length ys) refl h)
     ∙ is_written xs from ys h
 
--- a piece that is read behind what was read before
+-- a piece that is read after what was read before
 pub read_two : (into xs ys rest back : List ℕ) (i r n from at : ℕ) → n ≡ i + r → at ≡ from + i
     → i ≤ length into → length (take r (drop at xs)) ≡ r
     → take i into ≡ take i (drop from xs) → ys ≡ take r (drop at xs) ++ rest

@@ -1,4 +1,4 @@
--- Bytes with zeros behind them.
+-- Bytes with zeros after them.
 use Rattle.std.proofs.Common.{◌≡◌, ℕ, zero, suc, ◌+◌, ◌-◌, ◌≤◌, List, [], ◌∷◌, ◌++◌, length, take}
 use Rattle.std.proofs.Common.{drop, refl, sym, ap, ◌∙◌, arith}
 use Rattle.std.specs.Prelude.{replicate, if◌then◌else◌, Result, Ok, Err, OnOk}
@@ -6,7 +6,7 @@ use Rattle.std.specs.Prelude.{is_ok}
 use Rattle.std.proofs.lemmas.List.{append-nil, take-replicate}
 use Rattle.file_tree.specs.rules.Bytes.{written, resized}
 
--- so many bytes are the same, however many zeros are behind them
+-- so many bytes are the same, however many zeros are after them
 front_padded : (xs : List ℕ) (n a b : ℕ) → n ≤ length xs + a → n ≤ length xs + b
     → take n (xs ++ replicate a 0) ≡ take n (xs ++ replicate b 0)
 front_padded [] n a b g h = take-replicate n a 0 (omega arith)

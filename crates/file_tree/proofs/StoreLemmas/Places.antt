@@ -1,4 +1,4 @@
--- What stands at a place of a list that is cut.
+-- What is at a place of a list that is cut.
 use Rattle.std.proofs.Common.{◌≡◌, ℕ, zero, suc, ◌+◌, ◌<◌, ◌≤◌, ◌⊎◌, inl, inr, List, [], ◌∷◌}
 use Rattle.std.proofs.Common.{length, get_or, Some, None, refl, sym, ap, subst, ◌∙◌, arith}
 use Rattle.std.specs.Prelude.{slice_get}
@@ -51,7 +51,7 @@ module _ {T : Type 0} where
     all_in_front (x ∷ xs) (suc p) y cut none (inr at) = all_in_front xs p y cut.1 none at
 
     module _ (Before : T → T → Type 0) where
-      -- what stands from the cut on is the first one there, or stands behind it
+      -- what is from the cut on is the first one there, or is after it
       pub first_behind : (xs : List T) (p : ℕ) (y z : T) → AreOrdered Before xs
           → IsCut Front Back xs p → slice_get xs p ≡ Some y → HasElement xs z → (Front z → ⊥)
           → (z ≡ y) ⊎ Before y z
@@ -65,7 +65,7 @@ module _ {T : Type 0} where
       first_behind (x ∷ xs) (suc p) y z order cut is (inr at) never =
           first_behind xs p y z order.1 cut.1 is at never
 
-      -- what stands before the cut is the last one there, or stands before it
+      -- what is before the cut is the last one there, or is before it
       pub last_before : (xs : List T) (p : ℕ) (y z : T) → AreOrdered Before xs
           → IsCut Front Back xs (suc p) → slice_get xs p ≡ Some y → HasElement xs z → (Back z → ⊥)
           → (z ≡ y) ⊎ Before z y
@@ -79,7 +79,7 @@ module _ {T : Type 0} where
       last_before (x ∷ xs) (suc p) y z order cut is (inr at) never =
           last_before xs p y z order.1 cut.1 is at never
 
-  -- one stands behind the one before it
+  -- one is after the one before it
   pub next_behind : (Before : T → T → Type 0) (xs : List T) (i : ℕ) (y z : T)
       → AreOrdered Before xs
       → slice_get xs i ≡ Some y → slice_get xs (suc i) ≡ Some z → Before y z

@@ -38,7 +38,7 @@ not_fewer m n le = omega (arith, no_more m, enough n, le)
 abbrev pub zeros_of : ℕ → List ℕ
 zeros_of n = replicate n 0
 
--- bytes with zeros behind them are chunks of that size
+-- bytes with zeros after them are chunks of that size
 pub record AreMade (cs : List (List ℕ)) (size : ℕ) (bytes : List ℕ) : Type 0 where
   pub are : AreChunks cs size
   pub bytes_are : take size (concat cs) ≡ bytes
@@ -130,8 +130,8 @@ module _ (cs : List (List ℕ)) (len : ℕ) (are : AreChunks cs len) where
       let full : AreFull ds =
       subst AreFull (sym d) (full_append cs fresh are.full (full_zeros more)) in
       let pad = length cs * CHUNK_BYTES - len in
-      let left = length ds * CHUNK_BYTES - size in
-      let same : pad + more * CHUNK_BYTES ≡ (size - length now) + left =
+      let bytes_left = length ds * CHUNK_BYTES - size in
+      let same : pad + more * CHUNK_BYTES ≡ (size - length now) + bytes_left =
       omega (arith, sized, count, m, are.count, not_fewer len size le, fits, enough size, le) in
       let whole : take size now ≡ now = take_all size now (omega (arith, sized, le)) in
       are_made ds size (resized now size) full count
@@ -150,10 +150,11 @@ module _ (cs : List (List ℕ)) (len : ℕ) (are : AreChunks cs len) where
       ∙ ap (λ (xs : List ℕ). (now ++ zeros_of pad) ++ xs) (joined_zeros more)
       ∙ append_assoc now (zeros_of pad) (zeros_of (more * CHUNK_BYTES))
       ∙ ap (λ (xs : List ℕ). now ++ xs) (replicate-append-replicate pad (more * CHUNK_BYTES) 0
-      ∙ ap zeros_of same ∙ sym (replicate-append-replicate (size - length now) left 0))
-      ∙ sym (append_assoc now (zeros_of (size - length now)) (zeros_of left))
-      ∙ ap (λ (xs : List ℕ). (xs ++ zeros_of (size - length now)) ++ zeros_of left) (sym whole)
-      ∙ ap (λ (xs : List ℕ). xs ++ zeros_of left) (is_resized now size)) where
+      ∙ ap zeros_of same ∙ sym (replicate-append-replicate (size - length now) bytes_left 0))
+      ∙ sym (append_assoc now (zeros_of (size - length now)) (zeros_of bytes_left))
+      ∙ ap (λ (xs : List ℕ). (xs ++ zeros_of (size - length now))
+      ++ zeros_of bytes_left) (sym whole) ∙ ap (λ (xs : List ℕ). xs
+      ++ zeros_of bytes_left) (is_resized now size)) where
         full_zeros : (n : ℕ) → AreFull (replicate n (zeros_of CHUNK_BYTES))
         full_zeros zero = tt
         full_zeros (suc n) = (length-replicate {A = ℕ} CHUNK_BYTES 0, full_zeros n)
@@ -166,7 +167,7 @@ module _ (cs : List (List ℕ)) (len : ℕ) (are : AreChunks cs len) where
             ap (λ (xs : List ℕ). zeros_of CHUNK_BYTES ++ xs) (joined_zeros n)
             ∙ replicate-append-replicate CHUNK_BYTES (n * CHUNK_BYTES) 0 ∙ ap zeros_of sum
 
-  -- fewer bytes: the chunks behind them are gone, and the last one has zeros behind them
+  -- fewer bytes: the chunks after them are gone, and the last one has zeros after them
   pub is_cut : (ds : List (List ℕ)) (now : List ℕ) (size : ℕ) → take len (concat cs) ≡ now
       → size ≤ len → AreFull ds
       → length ds ≡ length (take (chunks_for size) cs)

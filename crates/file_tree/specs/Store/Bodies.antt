@@ -41,7 +41,7 @@ pub record AreFullAt (chunks : Chunks) (keys : List ℕ) : Type 0 where
   pub are : AreStored chunks keys
   pub full : AreFull (stored chunks keys)
 
--- the chunks of a file are there: no more than it takes, and zeros behind its bytes
+-- the chunks of a file are there: no more than it takes, and zeros after its bytes
 pub record HasChunks (chunks : Chunks) (f : FileBody) : Type 0 where
   pub are : AreStored chunks (keys_of f)
   pub shape : AreChunks (stored chunks (keys_of f)) (len_of f)

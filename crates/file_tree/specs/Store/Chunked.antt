@@ -15,7 +15,7 @@ overlaid (x ∷ xs) (suc from) bytes = x ∷ overlaid xs from bytes
 abbrev pub AreFull : List (List ℕ) → Type 0
 AreFull chunks = AllByRecursion (λ (c : List ℕ). length c ≡ CHUNK_BYTES) chunks
 
--- chunks of a file of this size: no more than it takes, and zeros behind its bytes
+-- chunks of a file of this size: no more than it takes, and zeros after its bytes
 pub record AreChunks (chunks : List (List ℕ)) (size : ℕ) : Type 0 where
   pub full : AreFull chunks
   pub count : length chunks ≡ chunks_for size

@@ -8,12 +8,12 @@ module _ {T : Type 0} where
   HasElement [] y = ⊥
   HasElement (x ∷ xs) y = (x ≡ y) ⊎ HasElement xs y
 
-  -- each stands so to all behind it
+  -- each is so to all after it
   abbrev pub AreOrdered : (T → T → Type 0) → List T → Type 0
   AreOrdered Before [] = Unit {0}
   AreOrdered Before (x ∷ xs) = AllByRecursion (Before x) xs × AreOrdered Before xs
 
-  -- what stands before this place is of one kind, and what stands from it on of another one
+  -- what is before this place is of one kind, and what is from it on of another one
   abbrev pub IsCut : (T → Type 0) → (T → Type 0) → List T → ℕ → Type 0
   IsCut Front Back xs zero = AllByRecursion Back xs
   IsCut Front Back [] (suc place) = ⊥

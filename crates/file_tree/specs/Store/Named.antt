@@ -12,7 +12,7 @@ use Rattle.file_tree.specs.Store.Stored.{stored}
 use Rattle.file_tree.specs.Store.Cuts.{HasElement, AreOrdered, IsCut}
 
 -- The number of a directory and a name in it, as one list. In the order of these lists nodes of
--- one directory stand together, by their names. What has no name has no address.
+-- one directory are together, by their names. What has no name has no address.
 abbrev pub address_of : Hook → List ℕ
 address_of Root = []
 address_of Removed = []
@@ -22,7 +22,7 @@ address_of (In d name) = d ∷ name
 abbrev pub address_at : Slab Node → ℕ → List ℕ
 address_at slab key = address_of (hook_held (get slab key))
 
--- an address stands behind this one
+-- an address is after this one
 abbrev pub IsBehind : List ℕ → List ℕ → Type 0
 IsBehind from address = is_before from address ≡ true
 
@@ -58,7 +58,7 @@ NoKey k = ⊥
 abbrev pub OnlyKey : ℕ → ℕ → Type 0
 OnlyKey key k = k ≡ key
 
--- the keys are cut behind an address
+-- the keys are cut after an address
 abbrev pub IsCutBehind : List ℕ → Slab Node → List ℕ → ℕ → Type 0
 IsCutBehind from slab keys place = IsCut (KeyUpTo from slab) (KeyBehind from slab) keys place
 

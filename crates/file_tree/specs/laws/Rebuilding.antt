@@ -6,7 +6,7 @@ use Rattle.file_tree.specs.rules.Files.{IsSmallContent, inserted, node_of, path_
 use Rattle.file_tree.specs.rules.Files.{child, entries_of, created_removed, hung, with_next}
 use Rattle.file_tree.specs.rules.Files.{with_file_bytes, bytes_of_node}
 use Rattle.file_tree.specs.rules.Changes.{path_at, empty, CanHang}
-use Rattle.file_tree.specs.declared.kind.NodeKind.{NodeKind}
+use Rattle.file_tree.specs.declared.node_type.NodeType.{NodeType}
 use Rattle.file_tree.specs.declared.limits.TheConstants.{NODES}
 use Rattle.file_tree.specs.laws.Laws.{node_number, content_of}
 
@@ -19,8 +19,8 @@ pub record ListsNode (fs : Files) (d k : ℕ) (name : Name) : Type 0 where
   pub place : ℕ
   pub is : slice_get (entries_of fs d) place ≡ Some (entry_under name k)
 
--- An entry's path is that of its directory and the name behind it. Each node but the root that has
--- a path is an entry of exactly one directory.
+-- An entry's path is that of its directory and the name after it. Each node but the root that has a
+-- path is an entry of exactly one directory.
 pub record EntriesTellPaths : Type 0 where
   pub path : (fs : Files) (d k : ℕ) (name : Name) → IsFiles fs → ListsNode fs d k name
       → path_of fs k ≡ Some (path_at fs d ++ name ∷ [])
@@ -91,15 +91,15 @@ pub record HaveSameEntries (fs gs : Files) : Type 0 where
 
 -- A new node without a path, a higher next number and other bytes leave entries and paths.
 pub record OthersKeepEntries : Type 0 where
-  pub created : (fs : Files) (k : ℕ) (kind : NodeKind) → IsFiles fs → fs.next ≤ k
-      → length fs.nodes < NODES → HaveSameEntries fs (created_removed k (empty kind) fs)
+  pub created : (fs : Files) (k : ℕ) (node_type : NodeType) → IsFiles fs → fs.next ≤ k
+      → length fs.nodes < NODES → HaveSameEntries fs (created_removed k (empty node_type) fs)
   pub next : (fs : Files) (most : ℕ) → IsFiles fs → fs.next ≤ most
       → HaveSameEntries fs (with_next most fs)
   pub bytes : (fs : Files) (k : ℕ) (bytes : List ℕ) → IsFiles fs → is_some (node_of fs k) ≡ true
       → is_directory fs k ≡ false → IsSmallContent (File bytes)
       → HaveSameEntries fs (with_file_bytes k bytes fs)
 
--- The entry at a place stands behind those before it, if it is put among them.
+-- The entry at a place is after those before it, if it is put among them.
 abbrev pub EntriesComeInOrder : Type 0
 EntriesComeInOrder =
     (fs : Files) (d place : ℕ) (e : Entry) → IsFiles fs

@@ -4,13 +4,13 @@ use Rattle.std.specs.Prelude.{Option, Some, None, is_some, unwrap_or, ◌++◌, 
 use Rattle.file_tree.specs.rules.Files.{Name, Path, Files, Content, Directory, File, IsNodeName}
 use Rattle.file_tree.specs.rules.Files.{path_of, path_behind, child, is_directory, bytes_of_node}
 use Rattle.file_tree.specs.rules.Files.{entries_of}
-use Rattle.file_tree.specs.declared.kind.NodeKind.{NodeKind}
-use Rattle.file_tree.specs.declared.kind.NodeKind.TheVariants as kind
+use Rattle.file_tree.specs.declared.node_type.NodeType.{NodeType}
+use Rattle.file_tree.specs.declared.node_type.NodeType.TheVariants as node_types
 
 -- what a new node holds
-abbrev pub empty : NodeKind → Content
-empty kind.Directory = Directory
-empty kind.File = File []
+abbrev pub empty : NodeType → Content
+empty node_types.Directory = Directory
+empty node_types.File = File []
 
 -- the whole path of a node, where it has one
 abbrev pub path_at : Files → ℕ → Path

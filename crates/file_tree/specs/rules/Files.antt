@@ -127,7 +127,7 @@ bytes_of_node fs k = bytes_held (node_of fs k)
 abbrev pub used : Files → ℕ
 used fs = sum_by (λ (n : FileNode). length (bytes_of_content n.content)) fs.nodes
 
--- the name behind a directory's path, where exactly one is there
+-- the name after a directory's path, where exactly one is there
 abbrev pub name_behind : Path → Path → Option Name
 name_behind [] [] = None
 name_behind [] (name ∷ []) = Some name
@@ -237,7 +237,7 @@ forgotten k fs = record {
   next = fs.next;
 }
 
--- what stands behind a front
+-- what is after a front
 abbrev pub path_behind : Path → Path → Option Path
 path_behind [] p = Some p
 path_behind (n ∷ front) [] = None

@@ -29,7 +29,7 @@ impl ByteList {
         }
     }
 
-    /// A copy of these bytes. Only want of memory makes it fail.
+    /// A copy of these bytes. It fails only when out of memory.
     pub fn copy_of(alloc: Global, bytes: &[u8]) -> Result<Self, AllocError>
         ensures { IfOk result (λ b. b ≡ bytes.now) }
     {

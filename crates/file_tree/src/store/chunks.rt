@@ -36,7 +36,7 @@ impl Model for Chunk {
 }
 
 impl Chunk {
-    /// A chunk of zeros. Only want of memory makes it fail.
+    /// A chunk of zeros. It fails only when out of memory.
     pub fn zeros(alloc: Global) -> Result<Self, AllocError>
         ensures { IfOk result (λ c. c ≡ replicate CHUNK_BYTES 0) }
     {
@@ -94,7 +94,7 @@ fn zero(items: &mut [u8])
     items.fill(0);
 }
 
-/// So many chunks of zeros. Only want of memory makes it fail.
+/// So many chunks of zeros. It fails only when out of memory.
 pub fn zero_chunks(alloc: Global, count: usize) -> Result<Vec<Chunk>, AllocError>
     ensures { IfOk result (λ chunks. chunks.items ≡ replicate count (replicate CHUNK_BYTES 0)) }
 {
@@ -209,7 +209,7 @@ pub fn read_chunks(chunks: &Slab<Chunk>, keys: &[usize], from: usize, into: &mut
     }
 }
 
-// Puts a chunk behind the others of a file. There is room for it, and for its key.
+// Puts a chunk after the others of a file. There is room for it, and for its key.
 fn put_chunk(chunks: &mut Slab<Chunk>, keys: &mut Vec<usize>, chunk: Chunk)
     requires full { AreFullAt chunks.old keys.old.items }
     requires whole { length chunk ≡ CHUNK_BYTES }
@@ -228,7 +228,7 @@ fn put_chunk(chunks: &mut Slab<Chunk>, keys: &mut Vec<usize>, chunk: Chunk)
     keys.push_reserved(key);
 }
 
-/// Puts chunks of zeros behind the others of a file. There is room for them, and for their keys.
+/// Puts chunks of zeros after the others of a file. There is room for them, and for their keys.
 pub fn put_chunks(chunks: &mut Slab<Chunk>, keys: &mut Vec<usize>, mut zeros: Vec<Chunk>)
     requires full { AreFullAt chunks.old keys.old.items }
     requires zeros { zeros.items
@@ -250,7 +250,7 @@ fn free_last(chunks: &mut Slab<Chunk>, keys: &mut Vec<usize>)
     requires full { AreFullAt chunks.old keys.old.items }
     requires some { 0 < length keys.old.items }
     ensures full { AreFullAt chunks.new keys.new.items }
-    ensures left { stored chunks.new keys.new.items
+    ensures kept { stored chunks.new keys.new.items
         ≡ take (length keys.old.items - 1) (stored chunks.old keys.old.items) }
     ensures count { length keys.new.items + 1 ≡ length keys.old.items }
     ensures others { Rekeys chunks.old chunks.new keys.old.items keys.new.items }
@@ -265,7 +265,7 @@ pub fn free_chunks(chunks: &mut Slab<Chunk>, keys: &mut Vec<usize>, count: usize
     requires full { AreFullAt chunks.old keys.old.items }
     requires fewer { count ≤ length keys.old.items }
     ensures full { AreFullAt chunks.new keys.new.items }
-    ensures left { stored chunks.new keys.new.items
+    ensures kept { stored chunks.new keys.new.items
         ≡ take count (stored chunks.old keys.old.items) }
     ensures count { length keys.new.items ≡ count }
     ensures others { Rekeys chunks.old chunks.new keys.old.items keys.new.items }

@@ -57,7 +57,7 @@ impl FileChunks {
         self.len
     }
 
-    /// The bytes in the chunk at a place. The last chunk may have fewer, and behind it there are
+    /// The bytes in the chunk at a place. The last chunk may have fewer, and after it there are
     /// none.
     pub fn chunk<'a>(&self, chunks: &'a Slab<Chunk>, index: usize) -> &'a [u8]
         requires { HasChunks chunks.now self.now }
@@ -77,7 +77,7 @@ impl FileChunks {
     }
 
     /// Puts the bytes from one of them on into `into`, as many as there are and fit, and gives how
-    /// many. What is behind them in `into` stays.
+    /// many. What is after them in `into` stays.
     pub fn read(&self, chunks: &Slab<Chunk>, from: usize, into: &mut [u8]) -> usize
         requires { HasChunks chunks.now self.now }
         ensures count { result
@@ -103,8 +103,8 @@ impl FileChunks {
         write_chunks(chunks, self.keys.as_slice(), from, bytes);
     }
 
-    /// Cuts the bytes to a size, or puts zeros behind them up to it. It touches the last chunk, and
-    /// those that come or go. Only want of memory makes it fail, and then nothing is changed.
+    /// Cuts the bytes to a size, or puts zeros after them up to it. It touches the last chunk, and
+    /// those that come or go. It fails only when out of memory, and then nothing is changed.
     pub fn resize(&mut self, chunks: &mut Slab<Chunk>, size: usize) -> Result<(), AllocError>
         requires held { HasChunks chunks.old self.old }
         requires size { size ≤ FILE_BYTES }
@@ -120,7 +120,7 @@ impl FileChunks {
         self.grow(chunks, size)
     }
 
-    // Puts zeros behind the bytes up to a size. All chunks for them are taken before anything is
+    // Puts zeros after the bytes up to a size. All chunks for them are taken before anything is
     // changed.
     fn grow(&mut self, chunks: &mut Slab<Chunk>, size: usize) -> Result<(), AllocError>
         requires held { HasChunks chunks.old self.old }
@@ -140,8 +140,8 @@ impl FileChunks {
         Ok(())
     }
 
-    // Cuts the bytes to a size. What is behind them in the last chunk is zeros from then on, and
-    // the chunks behind that are free.
+    // Cuts the bytes to a size. What is after them in the last chunk is zeros from then on, and the
+    // chunks after that are free.
     fn cut(&mut self, chunks: &mut Slab<Chunk>, size: usize)
         requires held { HasChunks chunks.old self.old }
         requires fewer { size ≤ len_of self.old }

@@ -75,9 +75,9 @@ impl FileNodes {
         self.chunks.len()
     }
 
-    /// Puts a node behind the others, whose numbers are lower. It has no bytes, and nothing hangs
-    /// where it does. The room to hang it is taken too, wherever it hangs now. Only want of memory
-    /// makes it fail, and then nothing is changed.
+    /// Puts a node after the others, whose numbers are lower. It has no bytes, and nothing hangs
+    /// where it does. The room to hang it is taken too, wherever it hangs now. It fails only when
+    /// out of memory, and then nothing is changed.
     pub fn push(&mut self, node: Node) -> Result<(), AllocError>
         requires number { AllByRecursion (λ (n : TheNode). n.number < node.number) self.old }
         requires free { IsFreeHook node.hook self.old }
@@ -127,7 +127,7 @@ impl FileNodes {
     }
 
     /// Puts the bytes of the file at a place from one of them on into `into`, as many as there are
-    /// and fit, and gives how many. What is behind them in `into` stays.
+    /// and fit, and gives how many. What is after them in `into` stays.
     pub fn read(&self, place: usize, from: usize, into: &mut [u8]) -> usize
         requires { place < length self.now }
         ensures count { (n : TheNode) → n ≡ slice_index_or self.now place n
@@ -181,8 +181,8 @@ impl FileNodes {
         node.content.write(&mut self.chunks, from, bytes);
     }
 
-    /// Cuts the file at a place to a size, or puts zeros behind its bytes up to it. Only want of
-    /// memory makes it fail, and then nothing is changed.
+    /// Cuts the file at a place to a size, or puts zeros after its bytes up to it. It fails only
+    /// when out of memory, and then nothing is changed.
     pub fn resize(&mut self, place: usize, size: usize) -> Result<(), AllocError>
         requires place { place < length self.old }
         requires size { size ≤ FILE_BYTES }

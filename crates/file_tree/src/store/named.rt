@@ -31,7 +31,7 @@ fn is_before(name: &[u8], other: &[u8]) -> bool
     name.len() < other.len()
 }
 
-// Whether a node with this hook hangs behind a name of a directory: in a later directory, or there
+// Whether a node with this hook hangs after a name of a directory: in a later directory, or there
 // under a later name.
 fn hangs_behind(hook: &Hook, directory: u64, name: &[u8]) -> bool
     ensures { result ≡ is_name_before (directory ∷ name.now) (address_of hook.now) }
@@ -59,7 +59,7 @@ fn hangs_in(hook: &Hook, directory: u64) -> bool
     }
 }
 
-/// How many nodes don't hang behind a name of a directory. Each step halves those that are left.
+/// How many nodes don't hang after a name of a directory. Each step halves those that are left.
 pub fn count_up_to(slab: &Slab<Node>, keys: &[usize], directory: u64, name: &[u8]) -> usize
     requires { AreByAddress slab.now keys.now }
     ensures cut { IsCutBehind (directory ∷ name.now) slab.now keys.now result }

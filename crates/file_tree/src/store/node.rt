@@ -64,8 +64,8 @@ impl NodeContent {
         }
     }
 
-    /// Cuts a file to a size, or puts zeros behind its bytes up to it. Only want of memory makes it
-    /// fail, and then nothing is changed.
+    /// Cuts a file to a size, or puts zeros after its bytes up to it. It fails only when out of
+    /// memory, and then nothing is changed.
     pub fn resize(&mut self, chunks: &mut Slab<Chunk>, size: usize) -> Result<(), AllocError>
         requires file { is_directory_content (content_shown self.old) ≡ false }
         requires held { HasChunks chunks.old (file_body self.old) }

@@ -79,9 +79,9 @@ impl Nodes {
         self.order.len()
     }
 
-    /// Puts a node behind the others, whose numbers are lower. Nothing hangs where it does. The
-    /// room to hang it is taken too, wherever it hangs now. Only want of memory makes it fail, and
-    /// then nothing is changed.
+    /// Puts a node after the others, whose numbers are lower. Nothing hangs where it does. The room
+    /// to hang it is taken too, wherever it hangs now. It fails only when out of memory, and then
+    /// nothing is changed.
     pub fn push(&mut self, node: Node) -> Result<(), AllocError>
         requires number { AllByRecursion (λ (n : TheNode). n.number < node.number) self.old }
         requires free { IsFreeHook node.hook self.old }
@@ -187,8 +187,8 @@ impl Nodes {
         put_key(&self.slab, &mut self.names, key);
     }
 
-    /// Cuts the file at a place to a size, or puts zeros behind its bytes up to it. Only want of
-    /// memory makes it fail, and then nothing is changed.
+    /// Cuts the file at a place to a size, or puts zeros after its bytes up to it. It fails only
+    /// when out of memory, and then nothing is changed.
     pub fn resize(
         &mut self,
         chunks: &mut Slab<Chunk>,

@@ -15,7 +15,7 @@ pages_in m = length m.bytes / page_size
 abbrev pub zeroed : ℕ → ℕ → LinearMemory
 zeroed pages limit = record { bytes = replicate (pages * page_size) 0; limit = limit }
 
--- the memory with so many pages of zero bytes behind it
+-- the memory with so many pages of zero bytes after it
 abbrev pub grown_by : ℕ → LinearMemory → LinearMemory
 grown_by pages m = record m { bytes = m.bytes ++ replicate (pages * page_size) 0 }
 

@@ -1,8 +1,8 @@
--- Worked examples of journals: what stands in their sectors, and what a barrier may leave.
+-- Worked examples of journals: what is in their sectors, and what a barrier may leave.
 use Rattle.std.specs.Prelude.{◌≡◌, ◌-◌, ◌^◌, ℕ, false, List, [], ◌∷◌, ◌++◌, length, take, replicate}
 use Rattle.wasi_abi.specs.declared.answer.Answer.TheVariants as answer
 use Rattle.wasi_abi.specs.declared.version.Version.TheVariants.{One, Two}
-use Rattle.sector_disk.specs.rules.Image.{Image}
+use Rattle.sector_disk.specs.rules.DiskImage.{DiskImage}
 use Rattle.sector_disk.specs.declared.disk_call.DiskCall.TheVariants.{WriteOf, Sync}
 use Rattle.disk_layout.specs.rules.Places.{Geometry}
 use Rattle.disk_layout.specs.rules.Journal.{record_bytes, journal_sector}
@@ -11,7 +11,7 @@ use Rattle.disk_layout.specs.laws.RecordExamples.{bare, bare_disk, end_record, s
 use Rattle.disk_layout.specs.laws.RecordExamples.{two_wide_records}
 use Rattle.journal.specs.rules.Packed.{sectors_for, packed}
 use Rattle.journal.specs.rules.State.{state, room_of}
-use Rattle.journal.specs.rules.Steps.{RecordFits, records_bytes, RecordsStand, SameOthers}
+use Rattle.journal.specs.rules.Steps.{RecordFits, records_bytes, HoldsRecords, SameOthers}
 use Rattle.journal.specs.rules.Steps.{AppendsFront, barrier_calls}
 
 pub record PackingExamples : Type 0 where
@@ -53,10 +53,10 @@ pub record FittingExamples : Type 0 where
   pub too_long_in_two : (text : List ℕ) → length text ≡ 65537
       → RecordFits Two (record { step = 0; answer = answer.Request text }) → ⊥
 
--- ---- what stands
+-- ---- what is held
 
--- two records in two sectors of generation 5, and behind them one of this generation
-abbrev pub before_one_of : ℕ → Image
+-- two records in two sectors of generation 5, and after them one of this generation
+abbrev pub before_one_of : ℕ → DiskImage
 before_one_of g = bare_disk (journal_sector 5 1 (record_bytes One hello_record))
     (journal_sector 5 2 (record_bytes One end_record)) (journal_sector g 3 (7 ∷ []))
 
@@ -64,48 +64,49 @@ before_one_of g = bare_disk (journal_sector 5 1 (record_bytes One hello_record))
 abbrev pub short : Geometry
 short = record bare { journal_sectors = 1 }
 
-pub record StandingExamples : Type 0 where
-  pub stands : RecordsStand bare One 5 2 (hello_record ∷ end_record ∷ []) (spread 12 two_records)
-  pub in_fewer_sectors : RecordsStand bare One 5 1 (hello_record ∷ []) (spread 16 two_records) → ⊥
-  pub in_more_sectors : RecordsStand bare One 5 3 (hello_record ∷ end_record ∷ [])
+pub record HoldingExamples : Type 0 where
+  pub in_two_sectors : HoldsRecords bare One 5 2 (hello_record ∷ end_record
+      ∷ []) (spread 12 two_records)
+  pub in_fewer_sectors : HoldsRecords bare One 5 1 (hello_record ∷ []) (spread 16 two_records) → ⊥
+  pub in_more_sectors : HoldsRecords bare One 5 3 (hello_record ∷ end_record ∷ [])
       (spread 12 two_records) → ⊥
-  pub of_another_generation : RecordsStand bare One 4 2 (hello_record ∷ end_record ∷ [])
+  pub of_another_generation : HoldsRecords bare One 4 2 (hello_record ∷ end_record ∷ [])
       (spread 12 two_records) → ⊥
-  pub before_one_of_earlier : RecordsStand bare One 5 2 (hello_record ∷ end_record ∷ [])
+  pub before_one_of_earlier : HoldsRecords bare One 5 2 (hello_record ∷ end_record ∷ [])
       (before_one_of 4)
-  pub before_a_later_one : RecordsStand bare One 5 2 (hello_record ∷ end_record ∷ [])
+  pub before_a_later_one : HoldsRecords bare One 5 2 (hello_record ∷ end_record ∷ [])
       (before_one_of 6) → ⊥
-  pub beyond_the_journal : RecordsStand short One 5 2 (hello_record ∷ end_record ∷ [])
+  pub beyond_the_journal : HoldsRecords short One 5 2 (hello_record ∷ end_record ∷ [])
       (spread 12 two_records) → ⊥
-  pub other_records : RecordsStand bare One 5 2 (hello_record ∷ []) (spread 12 two_records) → ⊥
-  pub in_two : RecordsStand bare Two 5 2 (hello_record ∷ end_record ∷ [])
+  pub other_records : HoldsRecords bare One 5 2 (hello_record ∷ []) (spread 12 two_records) → ⊥
+  pub in_two : HoldsRecords bare Two 5 2 (hello_record ∷ end_record ∷ [])
       (spread 12 two_wide_records)
   -- lengths of two bytes in a journal of version 2
-  pub of_the_other_version : RecordsStand bare Two 5 2 (hello_record ∷ end_record ∷ [])
+  pub of_the_other_version : HoldsRecords bare Two 5 2 (hello_record ∷ end_record ∷ [])
       (spread 12 two_records) → ⊥
 
 -- ---- what a barrier may leave
 
--- a journal that holds one record, with these two sectors behind it, and one sector more
-abbrev pub behind_hello : List ℕ → List ℕ → Image
+-- a journal that holds one record, with these two sectors after it, and one sector more
+abbrev pub behind_hello : List ℕ → List ℕ → DiskImage
 behind_hello second third = [] ∷ [] ∷ [] ∷ journal_sector 5 1 (record_bytes One hello_record)
     ∷ second ∷ third ∷ (9 ∷ []) ∷ []
 
-abbrev pub only_hello : Image
+abbrev pub only_hello : DiskImage
 only_hello = behind_hello [] []
 
--- the second record is written behind it
+-- the second record is written after it
 abbrev pub whole_end : List ℕ
 whole_end = journal_sector 5 2 (record_bytes One end_record)
 
 abbrev pub torn_end : List ℕ
 torn_end = take 7 whole_end
 
-abbrev pub with_end : Image
+abbrev pub with_end : DiskImage
 with_end = behind_hello whole_end []
 
--- a front of the kept record, which stays beside what stood
-abbrev pub AppendsEnd : Image → Type 0
+-- a prefix of the kept record, which stays beside what stood
+abbrev pub AppendsEnd : DiskImage → Type 0
 AppendsEnd new = AppendsFront bare One 5 1 (hello_record ∷ []) (end_record ∷ []) only_hello new
 
 pub record BarrierExamples : Type 0 where

@@ -1,14 +1,14 @@
 -- Which sectors of the journal are filled (this project's own).
 use Rattle.std.specs.Prelude.{◌≡◌, ℕ, List}
 use Rattle.wasi_abi.specs.declared.version.Version.{Version}
-use Rattle.sector_disk.specs.rules.Image.{Image}
+use Rattle.sector_disk.specs.rules.DiskImage.{DiskImage}
 use Rattle.disk_layout.specs.rules.Places.{Geometry}
 use Rattle.disk_layout.specs.rules.Journal.{Record}
 use Rattle.journal.specs.rules.Filled.{sectors_filled}
-use Rattle.journal.specs.rules.Steps.{RecordsStand}
+use Rattle.journal.specs.rules.Steps.{HoldsRecords}
 
--- where records stand in so many sectors, as many are filled
-abbrev pub FillsWhatStands : Type 0
-FillsWhatStands = (geometry : Geometry) (v : Version) (g used : ℕ) (records : List Record)
-    (image : Image) → RecordsStand geometry v g used records image
+-- where records are in so many sectors, as many are filled
+abbrev pub FillsWhatIsHeld : Type 0
+FillsWhatIsHeld = (geometry : Geometry) (v : Version) (g used : ℕ) (records : List Record)
+    (image : DiskImage) → HoldsRecords geometry v g used records image
     → sectors_filled geometry image g ≡ used

@@ -1,29 +1,29 @@
 -- Laws of the journal (this project's own).
 use Rattle.std.specs.Prelude.{◌≡◌, ℕ, ◌+◌, ◌<◌, List, []}
 use Rattle.wasi_abi.specs.declared.version.Version.{Version}
-use Rattle.sector_disk.specs.rules.Image.{Image, sector_at}
+use Rattle.sector_disk.specs.rules.DiskImage.{DiskImage, sector_at}
 use Rattle.disk_layout.specs.rules.Places.{Geometry, journal_place}
 use Rattle.disk_layout.specs.rules.Sectors.{shown_generation}
 use Rattle.disk_layout.specs.rules.Journal.{Record, scan}
-use Rattle.journal.specs.rules.Steps.{RecordsStand, AllRecordsFit}
+use Rattle.journal.specs.rules.Steps.{HoldsRecords, AllRecordsFit}
 
 -- each sector of the journal shows an earlier generation
-abbrev pub ShowsEarlierThan : Geometry → ℕ → Image → Type 0
+abbrev pub ShowsEarlierThan : Geometry → ℕ → DiskImage → Type 0
 ShowsEarlierThan geometry g image = (k : ℕ) → k < geometry.journal_sectors
     → shown_generation (1 + k) (sector_at image (journal_place geometry + k)) < g
 
 -- a journal of a generation that no sector shows has no records yet
-abbrev pub FreshStands : Type 0
-FreshStands = (geometry : Geometry) (v : Version) (g : ℕ) (image : Image)
-    → ShowsEarlierThan geometry g image → RecordsStand geometry v g 0 [] image
+abbrev pub FreshHoldsNone : Type 0
+FreshHoldsNone = (geometry : Geometry) (v : Version) (g : ℕ) (image : DiskImage)
+    → ShowsEarlierThan geometry g image → HoldsRecords geometry v g 0 [] image
 
--- a scan gives the records that stand in the sectors
-abbrev pub ScansWhatStands : Type 0
-ScansWhatStands = (geometry : Geometry) (v : Version) (g used : ℕ) (records : List Record)
-    (image : Image) → RecordsStand geometry v g used records image → AllRecordsFit v records
+-- a scan gives the records that are in the sectors
+abbrev pub ScansWhatIsHeld : Type 0
+ScansWhatIsHeld = (geometry : Geometry) (v : Version) (g used : ℕ) (records : List Record)
+    (image : DiskImage) → HoldsRecords geometry v g used records image → AllRecordsFit v records
     → scan geometry v image g ≡ records
 
 -- a scan of a generation that no sector shows gives none
 abbrev pub ScansNoneOfLater : Type 0
-ScansNoneOfLater = (geometry : Geometry) (v : Version) (g : ℕ) (image : Image)
+ScansNoneOfLater = (geometry : Geometry) (v : Version) (g : ℕ) (image : DiskImage)
     → ShowsEarlierThan geometry g image → scan geometry v image g ≡ []

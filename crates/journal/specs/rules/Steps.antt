@@ -2,7 +2,7 @@
 use Rattle.std.specs.Prelude.{◌≡◌, ℕ, zero, suc, ◌+◌, ◌^◌, ◌<◌, ◌≤◌, true, List, [], ◌++◌, length}
 use Rattle.std.specs.Prelude.{take}
 use Rattle.std.specs.List.{AllByRecursion, flat_map}
-use Rattle.sector_disk.specs.rules.Image.{Image, sector_at}
+use Rattle.sector_disk.specs.rules.DiskImage.{DiskImage, sector_at}
 use Rattle.sector_disk.specs.rules.Calls.{synced_writes}
 use Rattle.sector_disk.specs.declared.disk_call.DiskCall.{DiskCall}
 use Rattle.disk_layout.specs.rules.Places.{Geometry, journal_place}
@@ -40,7 +40,7 @@ records_bytes v records = flat_map (record_bytes v) records
 
 -- So many sectors of the journal are written in generation g, which hold these bytes, and each
 -- later one shows an earlier generation.
-pub record HoldsBytes (geometry : Geometry) (g used : ℕ) (bytes : List ℕ) (image : Image) :
+pub record HoldsBytes (geometry : Geometry) (g used : ℕ) (bytes : List ℕ) (image : DiskImage) :
     Type 0 where
   pub within : used ≤ geometry.journal_sectors
   pub written : (k : ℕ) → k < used → is_of g (1 + k) (sector_at image (journal_place geometry + k))
@@ -50,26 +50,26 @@ pub record HoldsBytes (geometry : Geometry) (g used : ℕ) (bytes : List ℕ) (i
       → shown_generation (1 + k) (sector_at image (journal_place geometry + k)) < g
 
 -- so many sectors hold these records
-abbrev pub RecordsStand : Geometry → Version → ℕ → ℕ → List Record → Image → Type 0
-RecordsStand geometry v g used records image =
+abbrev pub HoldsRecords : Geometry → Version → ℕ → ℕ → List Record → DiskImage → Type 0
+HoldsRecords geometry v g used records image =
     HoldsBytes geometry g used (records_bytes v records) image
 
 -- all sectors but those of the journal from this one on are as they were
-pub record SameOthers (geometry : Geometry) (used : ℕ) (old new : Image) : Type 0 where
+pub record SameOthers (geometry : Geometry) (used : ℕ) (old new : DiskImage) : Type 0 where
   pub count : length new ≡ length old
   pub below : (k : ℕ) → k < journal_place geometry + used → sector_at new k ≡ sector_at old k
   pub above : (k : ℕ) → journal_place geometry + geometry.journal_sectors ≤ k
       → sector_at new k ≡ sector_at old k
 
 -- no sector of the journal shows a later generation
-abbrev pub ShowsNoneAfter : Geometry → ℕ → Image → Type 0
+abbrev pub ShowsNoneAfter : Geometry → ℕ → DiskImage → Type 0
 ShowsNoneAfter geometry g image = (k : ℕ) → k < geometry.journal_sectors
     → shown_generation (1 + k) (sector_at image (journal_place geometry + k)) ≤ g
 
--- a scan of the new image gives the records, and a front of those kept behind them; no other sector
+-- a scan of the new image gives the records, and a prefix of those kept after them; no other sector
 -- is changed
 pub record AppendsFront (geometry : Geometry) (v : Version) (g used : ℕ)
-    (records kept : List Record) (old new : Image) : Type 0 where
+    (records kept : List Record) (old new : DiskImage) : Type 0 where
   pub count : ℕ
   pub within : count ≤ length kept
   pub scanned : scan geometry v new g ≡ records ++ take count kept
@@ -79,8 +79,9 @@ pub record AppendsFront (geometry : Geometry) (v : Version) (g used : ℕ)
 -- what the records of a journal are: these are on the disk whatever a cut leaves, and those only in
 -- memory
 pub record IsOn (geometry : Geometry) (v : Version) (g used : ℕ) (kept_bytes : List ℕ)
-    (records kept : List Record) (outcomes : Image → Type 0) : Type 0 where
-  pub stands : (image : Image) → outcomes image → RecordsStand geometry v g used records image
+    (records kept : List Record) (outcomes : DiskImage → Type 0) : Type 0 where
+  pub holds_records : (image : DiskImage) → outcomes image → HoldsRecords geometry v g
+      used records image
   pub spells : kept_bytes ≡ records_bytes v kept
   pub fit : AllRecordsFit v records
   pub fit_kept : AllRecordsFit v kept
@@ -92,7 +93,7 @@ abbrev pub calls_to : ℕ → ℕ → List DiskCall
 calls_to at zero = []
 calls_to at (suc n) = synced_writes at (suc n)
 
--- what a barrier asks the disk for: the sectors that the kept bytes take, the first of them behind
+-- what a barrier asks the disk for: the sectors that the kept bytes take, the first of them after
 -- those in use
 abbrev pub barrier_calls : Geometry → JournalState → List DiskCall
 barrier_calls geometry s = calls_to (journal_place geometry + s.used) (sectors_for (length s.kept))

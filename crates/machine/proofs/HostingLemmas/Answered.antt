@@ -7,21 +7,21 @@ use Rattle.wasm_syntax.specs.declared.types.FunctionType.{FunctionType}
 use Rattle.wasm_syntax.specs.declared.value.Value.{Value}
 use Rattle.wasm_semantics.specs.Types.{AreOf, number_in, gives_of}
 use Rattle.wasm_semantics.specs.Validity.{module_context}
-use Rattle.wasm_semantics.specs.Configuration.{Host, Program, Thread, Configuration, Asks}
-use Rattle.wasm_semantics.specs.Steps.{rule, answered}
+use Rattle.wasm_semantics.specs.Configuration.{Imported, Program, Thread, Configuration, Asks}
+use Rattle.wasm_semantics.specs.Steps.{counted_step, answered}
 use Rattle.wasm_semantics.specs.Typed.{IsTypedMemory}
 use Rattle.machine_frame.specs.declared.rules.frame.StackFrame.{StackFrame}
 use Rattle.machine_frame.specs.rules.laws.Threads.{HasTaken}
 use Rattle.machine_frame.proofs.Threads.Hosting.{answers_lead}
 use Rattle.machine.specs.Routines.Routines.{opcodes_in, tables_in}
-use Rattle.machine.specs.declared.turns.code.Executable.{Executable}
-use Rattle.machine.specs.declared.turns.state.State.{State}
-use Rattle.machine.specs.Turns.Codes.{Stands, parts_of_state}
-use Rattle.machine.specs.Turns.Waiting.{IsAsking, TakesWords}
-use Rattle.machine.proofs.TurnLemmas.Advancing.{ready}
+use Rattle.machine.specs.declared.execution.code.Executable.{Executable}
+use Rattle.machine.specs.declared.execution.state.State.{State}
+use Rattle.machine.specs.Execution.Codes.{StateStandsFor, parts_of_state}
+use Rattle.machine.specs.Execution.Waiting.{IsAsking, TakesWords}
+use Rattle.machine.proofs.CycleLemmas.Advancing.{ready}
 use Rattle.machine.specs.rules.Answers.{IsWaiting, IsAnswered}
 
--- a front of a list has as many items as it should
+-- a prefix of a list has as many items as it should
 front_count : (taken : ℕ) (words : List ℕ) → taken ≤ length words
     → length (take taken words) ≡ taken
 front_count taken words few = simp length-take (omega (arith, few))
@@ -33,10 +33,10 @@ behind s frame frames words =
 
 module _ (code : Executable) (s : State) (functions : List FunctionType) (program : Program)
     (d : Configuration) (f : ℕ) (arguments results : List Value) (waits : Thread)
-    (kind : FunctionType)
-    (stands : Stands code s functions program d) (asks : rule program d
+    (signature : FunctionType)
+    (stands : StateStandsFor code s functions program d) (asks : counted_step program d
     ≡ Asks f arguments waits) (there : slice_get program.functions f
-    ≡ Some (Host kind)) (gives : AreOf (gives_of kind) results)
+    ≡ Some (Imported signature)) (gives : AreOf (gives_of signature) results)
     (frame : StackFrame) (frames : List StackFrame) (were : s.frames
     ≡ frame ∷ frames) (taken : ℕ) (few : taken
     ≤ length s.slots)
@@ -46,14 +46,14 @@ module _ (code : Executable) (s : State) (functions : List FunctionType) (progra
   typed_bytes = let k = stands.stands in
       subst (λ z. IsTypedMemory program z) (sym k.shown.bytes_are) k.typed.store.memory
 
-  pub answer_stands : Stands code (behind s frame frames (map number_in results
+  pub answer_stands : StateStandsFor code (behind s frame frames (map number_in results
       ++ drop taken s.slots)) functions program (answered d s.memory.bytes results waits)
   answer_stands = record {
     is_code = stands.is_code;
     stands =
         answers_lead (module_context code.«module» functions) program (opcodes_in code.«module»)
         (tables_in code.«module» code.routines.items) code.table.items
-        (parts_of_state s) d frame frames f arguments results waits kind s.memory
+        (parts_of_state s) d frame frames f arguments results waits signature s.memory
         (take taken s.slots) (drop taken s.slots)
         (ready code s functions program d stands) stands.stands were asks there gives typed_bytes
         stands.stands.shown.limit_is (sym (take-append-drop taken s.slots))
@@ -101,21 +101,21 @@ pub is_answered : (code : Executable) (s : State) (results : List Value) (first 
     → frames ≡ record x { position = first.position + 1 } ∷ xs)
     → IsAnswered results code s (record s { frames = frames; slots = slots })
 is_answered code s results first taken frames slots takes top replaced is =
-    λ functions program d f arguments waits kind stands asks there gives.
+    λ functions program d f arguments waits signature stands asks there gives.
     let t = takes functions program d f arguments waits (record { stands = stands; asks = asks }) in
     let at = t.1 in
     let frames_are = moved_on s.frames at.1 frames at.0 first at.2 top is in
     let slots_are =
     replaced (take taken s.slots) (drop taken s.slots) (sym (front_count taken s.slots t.0))
     (sym (take-append-drop taken s.slots)) in
-    let new = answer_stands code s functions program d f arguments results waits kind stands asks
-    there gives at.0 at.1 at.2 taken t.0 at.3 in
-    subst (λ xs. Stands code (record s {
+    let new = answer_stands code s functions program d f arguments results waits
+    signature stands asks there gives at.0 at.1 at.2 taken t.0 at.3 in
+    subst (λ xs. StateStandsFor code (record s {
       frames = xs;
       slots = slots;
     }) functions program (answered d s.memory.bytes results waits))
     (sym frames_are)
-    (subst (λ ws. Stands code (record s {
+    (subst (λ ws. StateStandsFor code (record s {
       frames = record at.0 { position = suc at.0.position }
           ∷ at.1;
       slots = ws;

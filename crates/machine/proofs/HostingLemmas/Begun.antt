@@ -14,7 +14,7 @@ use Rattle.machine.specs.rules.Offers.{offer}
 use Rattle.machine.specs.rules.Instances.{IsLinked}
 use Rattle.machine.proofs.InstanceLemmas.Offered.{no_entry}
 use Rattle.machine_frame.specs.rules.Threads.{AreFrames, PartsStandFor}
-use Rattle.machine.specs.Turns.Codes.{IsExecutable, Stands, parts_of_state}
+use Rattle.machine.specs.Execution.Codes.{IsExecutable, StateStandsFor, parts_of_state}
 use Rattle.machine.specs.declared.hosting.starting.MachineStart.{MachineStart}
 use Rattle.machine.specs.Hosting.Beginnings.{first, IsOfInstance, StartStands}
 use Rattle.machine.proofs.HostingLemmas.Programs.{has_program}
@@ -37,7 +37,7 @@ module _ (pages : ℕ) (m : Module) (i : Instance) (b : MachineStart) (few : pag
       few = few;
       is_program = rw guest is_program;
       routines = rw (guest, ← linked.same) h.routines;
-      kinds = rw (guest, ← linked.same) h.kinds;
+      type_indices = rw (guest, ← linked.same) h.type_indices;
       calls = rw (guest, h.calls) linked.calls;
       offered = rw guest linked.linkable.imports;
     }
@@ -65,7 +65,7 @@ module _ (pages : ℕ) (m : Module) (i : Instance) (b : MachineStart) (few : pag
       few_values = omega arith;
     }
 
-    pub stands : Stands b.code b.state functions program
+    pub stands : StateStandsFor b.code b.state functions program
         (first linked.linkable.store (calls_of m.start linked.linkable.entry))
     stands = record { is_code = is_code; stands = rw guest first_stands }
 

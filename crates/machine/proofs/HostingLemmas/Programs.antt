@@ -8,7 +8,7 @@ use Rattle.wasm_syntax.specs.declared.module.Function.{Function}
 use Rattle.wasm_semantics.specs.Types.{imported_functions}
 use Rattle.wasm_syntax.specs.rules.Modules.{function_type_of}
 use Rattle.wasm_semantics.specs.Validity.{AreTypesAt, IsFunctionValid, IsValid, memories_of}
-use Rattle.wasm_semantics.specs.Configuration.{Callee, Host, Own, Program}
+use Rattle.wasm_semantics.specs.Configuration.{Callee, Imported, Own, Program}
 use Rattle.wasm_semantics.specs.Instantiation.{AreCallees, IsProgram, least_pages_of}
 use Rattle.wasm_semantics.specs.Instantiation.{most_pages_of}
 
@@ -31,7 +31,7 @@ all_callees m functions [] own fs t v = own_callees m functions own v
 all_callees m functions (x ∷ imported) own [] t v = absurd t
 all_callees m functions (x ∷ imported) own (f ∷ fs) t v =
     let others = all_callees m functions imported own fs t.1 v in
-    (Host f ∷ others.0, (t.0, others.1))
+    (Imported f ∷ others.0, (t.0, others.1))
 
 pub has_program : (m : Module) (pages : ℕ) → IsValid m → (program : Program)
     × IsProgram m pages program

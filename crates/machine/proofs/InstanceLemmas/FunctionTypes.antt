@@ -22,23 +22,23 @@ pub types_next : (imports : List Import) (functions : List Function) (i : ℕ) (
     ++ map function_type_of functions
 types_next imports functions i x h is = ap (λ xs. all_types xs functions) (next imports i x h is)
 
-pub type_here : (first left : ℕ) (others : List ℕ) → left ≡ 0
-    → slice_get (first ∷ others) left ≡ Some first
+pub type_here : (first index_left : ℕ) (others : List ℕ) → index_left ≡ 0
+    → slice_get (first ∷ others) index_left ≡ Some first
 type_here first zero others e = refl
-type_here first (suc left) others e = cc
+type_here first (suc index_left) others e = cc
 
-pub type_further : (first left : ℕ) (others : List ℕ) → (left ≡ 0 → ⊥)
-    → slice_get (first ∷ others) left ≡ slice_get others (left - 1)
+pub type_further : (first index_left : ℕ) (others : List ℕ) → (index_left ≡ 0 → ⊥)
+    → slice_get (first ∷ others) index_left ≡ slice_get others (index_left - 1)
 type_further first zero others e = absurd (e refl)
-type_further first (suc left) others e = ap (slice_get others) (omega arith)
+type_further first (suc index_left) others e = ap (slice_get others) (omega arith)
 
 -- past all imports
-pub own_type : (imports : List Import) (functions : List Function) (i left x : ℕ)
+pub own_type : (imports : List Import) (functions : List Function) (i index_left x : ℕ)
     → length imports ≤ i
     → slice_get (all_types imports functions) x
-    ≡ slice_get (all_types (drop i imports) functions) left
+    ≡ slice_get (all_types (drop i imports) functions) index_left
     → slice_get (all_types imports functions) x
-    ≡ option_map function_type_of (slice_get functions left)
-own_type imports functions i left x h so_far =
-    so_far ∙ (at_drop_all (λ is. slice_get (all_types is functions) left) imports i h
-    ∙ slice_get-map function_type_of functions left)
+    ≡ option_map function_type_of (slice_get functions index_left)
+own_type imports functions i index_left x h so_far =
+    so_far ∙ (at_drop_all (λ is. slice_get (all_types is functions) index_left) imports i h
+    ∙ slice_get-map function_type_of functions index_left)

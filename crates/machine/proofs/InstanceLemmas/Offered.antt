@@ -41,16 +41,16 @@ find_here {X} p xs i x h is holds = ap (find p) (next xs i x h is)
 
 pub no_entry : OffersNoEntry offer
 unfolding offer
-no_entry from name kind e p r = of_call (offered_call from name) e
+no_entry from name signature e p r = of_call (offered_call from name) e
   where
     with_parameters : (c : Call) → result_types c ≡ [] → parameters_of c ≡ [] → ⊥
     with_parameters call.ProcExit r p = cc
     with_parameters _ r p = cc
 
-    of_call : (o : Option Call) → option_map call_type_of o ≡ Some kind → ⊥
+    of_call : (o : Option Call) → option_map call_type_of o ≡ Some signature → ⊥
     of_call None e = cc
     of_call (Some c) e =
-        let same : call_type_of c ≡ kind = cc in
+        let same : call_type_of c ≡ signature = cc in
         with_parameters c (ap (λ (t : FunctionType). t.results) same
         ∙ r) (ap (λ (t : FunctionType). t.parameters) same ∙ p)
 
@@ -77,10 +77,10 @@ has_call types i h = of_call (imported_call i) h
 pub function_item : (o : Option FunctionType) (types : List FunctionType) (item : ImportItem)
     → IsItemOffered o types item → (x : ℕ) × (item ≡ import.Function x)
 function_item None types item h = absurd h
-function_item (Some kind) types (import.Function x) h = (x, refl)
-function_item (Some kind) types (import.Table t) h = absurd h
-function_item (Some kind) types (import.Memory t) h = absurd h
-function_item (Some kind) types (import.Global t) h = absurd h
+function_item (Some signature) types (import.Function x) h = (x, refl)
+function_item (Some signature) types (import.Table t) h = absurd h
+function_item (Some signature) types (import.Memory t) h = absurd h
+function_item (Some signature) types (import.Global t) h = absurd h
 
 pub no_globals : (types : List FunctionType) (imports : List Import)
     → AllByRecursion (IsOffered offer types) imports → imported_globals imports ≡ []
@@ -105,11 +105,12 @@ no_memories types (i ∷ imports) h =
 
 -- what is refused for a fault isn't offered
 refused_import : (types : List FunctionType) (i : Import) (o : Option FunctionType)
-    (kind : FunctionType) → o ≡ Some kind → (IsItemOffered (Some kind) types i.item → ⊥)
-    → IsItemOffered o types i.item → ⊥
-refused_import types i None kind e denied h = h
-refused_import types i (Some k) kind e denied h = let same : k ≡ kind = cc in let P : FunctionType
-    → Type 0 = λ k. IsItemOffered (Some k) types i.item in denied (subst P same h)
+    (signature : FunctionType) → o ≡ Some signature → (IsItemOffered (Some signature)
+    types i.item → ⊥) → IsItemOffered o types i.item → ⊥
+refused_import types i None signature e denied h = h
+refused_import types i (Some k) signature e denied h = let same : k
+    ≡ signature = cc in let P : FunctionType → Type 0 = λ k. IsItemOffered (Some k) types i.item in
+    denied (subst P same h)
 
 pub not_offered : (types : List FunctionType) (i : Import) (e : LinkFault)
     → IsImportRefused types i e → IsOffered offer types i → ⊥
@@ -193,11 +194,11 @@ same_type t call p r =
     same_parts t.parameters (parameters_of call) t.results (result_types call) p r
 
 -- an import's function has the type of the call
-pub type_there : (types : List FunctionType) (item : ImportItem) (x : ℕ) (kind : FunctionType)
-    → item ≡ import.Function x → IsItemOffered (Some kind) types item
-    → slice_get types x ≡ Some kind
-type_there types item x kind e h = let P : ImportItem
-    → Type 0 = λ item. IsItemOffered (Some kind) types item in subst P e h
+pub type_there : (types : List FunctionType) (item : ImportItem) (x : ℕ) (signature : FunctionType)
+    → item ≡ import.Function x → IsItemOffered (Some signature) types item
+    → slice_get types x ≡ Some signature
+type_there types item x signature e h = let P : ImportItem
+    → Type 0 = λ item. IsItemOffered (Some signature) types item in subst P e h
 
 pub offered_at : (types : List FunctionType) (i : Import) (x : ℕ) (call : Call)
     → Some call ≡ imported_call i → i.item ≡ import.Function x
@@ -207,9 +208,9 @@ offered_at types i x call named e at =
     let Q : Option FunctionType → Type 0 = λ o. IsItemOffered o types i.item in
     subst Q (sym (offered_as i call named)) (subst P (sym e) at)
 
-pub no_function : (types : List FunctionType) (kind : FunctionType) (item : ImportItem)
-    → ((x : ℕ) → item ≡ import.Function x → ⊥) → IsItemOffered (Some kind) types item → ⊥
-no_function types kind (import.Function x) differs h = differs x refl
-no_function types kind (import.Table t) differs h = h
-no_function types kind (import.Memory t) differs h = h
-no_function types kind (import.Global t) differs h = h
+pub no_function : (types : List FunctionType) (signature : FunctionType) (item : ImportItem)
+    → ((x : ℕ) → item ≡ import.Function x → ⊥) → IsItemOffered (Some signature) types item → ⊥
+no_function types signature (import.Function x) differs h = differs x refl
+no_function types signature (import.Table t) differs h = h
+no_function types signature (import.Memory t) differs h = h
+no_function types signature (import.Global t) differs h = h

@@ -21,9 +21,9 @@ use Rattle.wasm_syntax.specs.rules.Sequence.{IsPlain, Spells}
 use Rattle.wasm_semantics.specs.Types.{takes_of}
 use Rattle.wasm_semantics.specs.Typing.{Context, HasType, body_context}
 use Rattle.wasm_semantics.specs.Validity.{module_context}
-use Rattle.wasm_semantics.specs.Configuration.{Callee, Host, Own, Program}
+use Rattle.wasm_semantics.specs.Configuration.{Callee, Imported, Own, Program}
 use Rattle.wasm_semantics.specs.Shapes.{Shape, LabelShape, body_shape}
-use Rattle.wasm_semantics.specs.Steps.{kind_of}
+use Rattle.wasm_semantics.specs.Steps.{signature_of}
 use Rattle.wasm_semantics.specs.Typed.{IsTypedProgram}
 use Rattle.wasm_semantics.proofs.TypedShape.{reached_shapes_typed}
 use Rattle.wasm_semantics.proofs.Soundness.Beginning.{programs_typed}
@@ -37,22 +37,22 @@ use Rattle.machine_frame.specs.rules.Fitting.{AreWordsOf, FitsRunning, FitsWaiti
 use Rattle.machine_frame.proofs.Threads.Waiting.{none_behind}
 use Rattle.machine_frame.specs.rules.Threads.{IsOwn}
 use Rattle.machine.specs.laws.Routines.{IsNumberedCallee}
-use Rattle.machine.specs.declared.turns.code.Executable.{Executable}
-use Rattle.machine.specs.Turns.Codes.{IsExecutable}
+use Rattle.machine.specs.declared.execution.code.Executable.{Executable}
+use Rattle.machine.specs.Execution.Codes.{IsExecutable}
 use Rattle.machine.specs.Loading.Bodies.{IsOwnAt, HasMore, CallTakes}
 use Rattle.machine.specs.Loading.Checks.{FitsTop, FitsBelow}
 use Rattle.machine.proofs.RoutineLemmas.Numbers.{functions_numbered, functions_counted}
 use Rattle.machine.proofs.RoutineLemmas.Made.{all_at}
-use Rattle.machine.proofs.TurnLemmas.Codes.{calls_count, has_own}
+use Rattle.machine.proofs.CycleLemmas.Codes.{calls_count, has_own}
 use Rattle.wasm_semantics.specs.laws.Laws.{GivesOneAtMost}
 
 -- ---- the function of a frame
 
 -- The program has a function with this number, of this type and this body.
 pub record IsBodyOf (c : Context) (program : Program) (f : ℕ) (g : Function)
-    (kind : FunctionType) : Type 0 where
-  pub body : HasBody c kind g.code
-  pub is : slice_get program.functions f ≡ Some (Own kind g.code.locals body.sequence)
+    (signature : FunctionType) : Type 0 where
+  pub body : HasBody c signature g.code
+  pub is : slice_get program.functions f ≡ Some (Own signature g.code.locals body.sequence)
 
 module _ (code : Executable) (functions : List FunctionType) (program : Program)
     (is : IsExecutable code functions program) where
@@ -67,19 +67,19 @@ module _ (code : Executable) (functions : List FunctionType) (program : Program)
   pub not_own : (f : ℕ) → ((g : Function) → IsOwnAt code f g → ⊥) → IsOwn program f → ⊥
   not_own f none own =
       let h = has_own code functions program is f own in
-      none h.function (h.not_host, h.function_there)
+      none h.function (h.not_imported, h.function_there)
 
   -- the callee of an own function
   callee_of : (f : ℕ) (g : Function) → IsOwnAt code f g → (callee : Callee)
       → slice_get program.functions f ≡ Some callee → IsNumberedCallee code.«module» f callee
-      → (kind : FunctionType) → kind_of callee ≡ kind
-      → (body : Sequence) × (callee ≡ Own kind g.code.locals body) × Spells g.code.body body
-  callee_of f g at (Host k) e n kind same =
+      → (signature : FunctionType) → signature_of callee ≡ signature
+      → (body : Sequence) × (callee ≡ Own signature g.code.locals body) × Spells g.code.body body
+  callee_of f g at (Imported k) e n signature same =
       let low = n.0 in
       let high = at.0 in
       let count = calls_count code functions program is in
       absurd (omega (arith, low, high, count))
-  callee_of f g at (Own k declared body) e n kind same =
+  callee_of f g at (Own k declared body) e n signature same =
       let count = calls_count code functions program is in
       let number = n.2 in
       let place : f - length code.calls.items ≡ n.0 = omega (arith, count, number) in
@@ -90,7 +90,7 @@ module _ (code : Executable) (functions : List FunctionType) (program : Program)
       let locals : declared ≡ g.code.locals =
       n.5 ∙ ap (λ (z : Function). z.code.locals) function in (
         body,
-        ap (λ z. Own z declared body) same ∙ ap (λ z. Own kind z body) locals,
+        ap (λ z. Own z declared body) same ∙ ap (λ z. Own signature z body) locals,
         subst (λ (z : Function). Spells z.code.body body) function n.6,
       )
 
@@ -102,21 +102,21 @@ module _ (code : Executable) (functions : List FunctionType) (program : Program)
       let all = functions_counted is.pages code.«module» program is.is_program in
       omega (arith, within, high, count, all)
 
-  kind_there : (f : ℕ) (callee : Callee) (kind : FunctionType)
-      → slice_get program.functions f ≡ Some callee → Some kind ≡ slice_get functions f
-      → kind_of callee ≡ kind
-  kind_there f callee kind e k =
+  signature_there : (f : ℕ) (callee : Callee) (signature : FunctionType)
+      → slice_get program.functions f ≡ Some callee → Some signature ≡ slice_get functions f
+      → signature_of callee ≡ signature
+  signature_there f callee signature e k =
       let t = typed_code in
-      let there : slice_get functions f ≡ Some (kind_of callee) =
-      ap (λ z. slice_get z f) t.functions ∙ (slice_get-map kind_of program.functions f
-      ∙ ap (option_map kind_of) e) in
+      let there : slice_get functions f ≡ Some (signature_of callee) =
+      ap (λ z. slice_get z f) t.functions ∙ (slice_get-map signature_of program.functions f
+      ∙ ap (option_map signature_of) e) in
       cc
 
   -- what an own function is
-  pub body_of : (f : ℕ) (g : Function) (kind : FunctionType) → IsOwnAt code f g
-      → Some kind ≡ slice_get functions f
-      → IsBodyOf (module_context code.«module» functions) program f g kind
-  body_of f g kind at k =
+  pub body_of : (f : ℕ) (g : Function) (signature : FunctionType) → IsOwnAt code f g
+      → Some signature ≡ slice_get functions f
+      → IsBodyOf (module_context code.«module» functions) program f g signature
+  body_of f g signature at k =
       let within = some_callee f g at in
       found (slice_get program.functions f) refl (λ e. none_within within e)
     where
@@ -130,74 +130,83 @@ module _ (code : Executable) (functions : List FunctionType) (program : Program)
 
       found : (o : Option Callee) → slice_get program.functions f ≡ o
           → (slice_get program.functions f ≡ None → ⊥)
-          → IsBodyOf (module_context code.«module» functions) program f g kind
+          → IsBodyOf (module_context code.«module» functions) program f g signature
       found None e some = absurd (some e)
       found (Some callee) e some =
           let n = functions_numbered is.pages code.«module» program f callee is.is_program e in
-          let b = callee_of f g at callee e n kind (kind_there f callee kind e k) in
-          let there : slice_get program.functions f ≡ Some (Own kind g.code.locals b.0) =
+          let b = callee_of f g at callee e n signature (signature_there f callee signature e k) in
+          let there : slice_get program.functions f ≡ Some (Own signature g.code.locals b.0) =
           e ∙ ap Some b.1 in
           record {
             body = record {
               sequence = b.0;
               spells = b.2;
-              typed = typed_code.bodies f (Own kind g.code.locals b.0) there;
+              typed = typed_code.bodies f (Own signature g.code.locals b.0) there;
             };
             is = there;
           }
 
   -- a function gives one value at most
-  pub one_result : (f : ℕ) (kind : FunctionType) → Some kind ≡ slice_get functions f
-      → length kind.results ≤ 1
-  one_result f kind k =
+  pub one_result : (f : ℕ) (signature : FunctionType) → Some signature ≡ slice_get functions f
+      → length signature.results ≤ 1
+  one_result f signature k =
       let ready = is.routines.ready is.pages program functions is.few is.is_program is.types in
-      all_at GivesOneAtMost functions f kind ready.functions (sym k)
+      all_at GivesOneAtMost functions f signature ready.functions (sym k)
 
   -- a function of the program's own has a type
-  pub own_kind : (f : ℕ) (own : IsOwn program f) → slice_get functions f ≡ Some own.kind
-  own_kind f own =
+  pub own_signature : (f : ℕ) (own : IsOwn program f) → slice_get functions f ≡ Some own.signature
+  own_signature f own =
       let t = typed_code in
-      ap (λ z. slice_get z f) t.functions ∙ (slice_get-map kind_of program.functions f
-      ∙ ap (option_map kind_of) own.is)
+      ap (λ z. slice_get z f) t.functions ∙ (slice_get-map signature_of program.functions f
+      ∙ ap (option_map signature_of) own.is)
 
 -- ---- one function only
 
-module _ (c : Context) (program : Program) (place : ShownFrame) (kind : FunctionType)
+module _ (c : Context) (program : Program) (place : ShownFrame) (signature : FunctionType)
     (declared : List ValueType) (body : Sequence)
-    (is : slice_get program.functions place.function ≡ Some (Own kind declared body)) where
+    (is : slice_get program.functions place.function ≡ Some (Own signature declared body)) where
   abbrev own_place : IsOwnPlace c program place
-  own_place = record { kind = kind; declared = declared; body = body; is = is; same = refl }
+  own_place = record {
+    signature = signature;
+    declared = declared;
+    body = body;
+    is =
+        is;
+    same = refl;
+  }
 
-  pub top_fits : FitsRunning (body_context c kind declared) body place → FitsTop c program place
+  pub top_fits : FitsRunning (body_context c signature declared) body place
+      → FitsTop c program place
   top_fits h = (own_place, h)
 
   abbrev RunningIn : Callee → Type 0
-  RunningIn (Host k) = Unit {0}
+  RunningIn (Imported k) = Unit {0}
   RunningIn (Own k d b) = FitsRunning (body_context c k d) b place
 
-  pub top_runs : FitsTop c program place → FitsRunning (body_context c kind declared) body place
+  pub top_runs : FitsTop c program place → FitsRunning (body_context c signature
+      declared) body place
   top_runs h =
       let there = h.0.is in
-      let same : Own h.0.kind h.0.declared h.0.body ≡ Own kind declared body = cc in
+      let same : Own h.0.signature h.0.declared h.0.body ≡ Own signature declared body = cc in
       subst RunningIn same h.1
 
   module _ (above : FunctionType) where
-    pub below_fits : FitsWaiting (body_context c kind declared) body place above
+    pub below_fits : FitsWaiting (body_context c signature declared) body place above
         → FitsBelow c program above place
     below_fits h = (own_place, h)
 
     abbrev WaitingIn : Callee → Type 0
-    WaitingIn (Host k) = Unit {0}
+    WaitingIn (Imported k) = Unit {0}
     WaitingIn (Own k d b) = FitsWaiting (body_context c k d) b place above
 
     pub below_waits : FitsBelow c program above place
-        → FitsWaiting (body_context c kind declared) body place above
+        → FitsWaiting (body_context c signature declared) body place above
     below_waits h =
         let there = h.0.is in
-        let same : Own h.0.kind h.0.declared h.0.body ≡ Own kind declared body = cc in
+        let same : Own h.0.signature h.0.declared h.0.body ≡ Own signature declared body = cc in
         subst WaitingIn same h.1
 
--- ---- what stands at a position
+-- ---- what is at a position
 
 module _ (c : Context) (body : Sequence) (p : ℕ) (typed : IsTypedBody c body) where
   -- what remains begins with the opcode there
@@ -255,15 +264,15 @@ shape_with (Some s) types e = (s, refl, (let same : types_in s ≡ types = cc in
 
 -- ---- the running frame
 
-module _ (c : Context) (kind : FunctionType) (g : Function) (b : HasBody c kind g.code)
+module _ (c : Context) (signature : FunctionType) (g : Function) (b : HasBody c signature g.code)
     (place : ShownFrame) where
   abbrev inner : Context
-  inner = body_context c kind g.code.locals
+  inner = body_context c signature g.code.locals
 
   opcodes_are : g.code.body ≡ opcodes_of b.sequence
   opcodes_are = b.spells.is
 
-  pub runs_more : FitsRunning (body_context c kind g.code.locals) b.sequence place
+  pub runs_more : FitsRunning (body_context c signature g.code.locals) b.sequence place
       → HasMore g.code.body place.position
   runs_more h =
       let there = some_there inner b.sequence place.position b.typed h.shape h.reached h.more in
@@ -274,18 +283,19 @@ module _ (c : Context) (kind : FunctionType) (g : Function) (b : HasBody c kind 
         open_ones.1,
       )
 
-  pub runs_reached : None ≡ types_at (body_context c kind g.code.locals) b.sequence place.position
-      → FitsRunning (body_context c kind g.code.locals) b.sequence place → ⊥
+  pub runs_reached : None ≡ types_at (body_context c signature g.code.locals) b.sequence
+      place.position → FitsRunning (body_context c signature g.code.locals) b.sequence place → ⊥
   runs_reached e h =
       let there = ap (option_map types_in) h.reached in
       absurd (cc)
 
   module _ (types : List ValueType)
-      (found : Some types ≡ types_at (body_context c kind g.code.locals) b.sequence place.position)
+      (found : Some types ≡ types_at (body_context c signature g.code.locals) b.sequence
+      place.position)
     where
       pub runs : HasMore g.code.body place.position
-          → AreWordsOf ((kind.parameters ++ g.code.locals) ++ types) place.slots
-          → FitsRunning (body_context c kind g.code.locals) b.sequence place
+          → AreWordsOf ((signature.parameters ++ g.code.locals) ++ types) place.slots
+          → FitsRunning (body_context c signature g.code.locals) b.sequence place
       runs more words =
           let s = shape_with (body_shape inner b.sequence place.position) types found in
           let at : HasOpcode b.sequence place.position more.0 =
@@ -295,16 +305,17 @@ module _ (c : Context) (kind : FunctionType) (g : Function) (b : HasBody c kind 
             shape = s.0;
             reached = s.1;
             more = stops_close s.0.rest more.0 more.2 more.3 first;
-            words = subst (λ z. AreWordsOf ((kind.parameters ++ g.code.locals) ++ z) place.slots)
-                (sym s.2) words;
+            words = subst (λ z. AreWordsOf ((signature.parameters ++ g.code.locals)
+                ++ z) place.slots) (sym s.2) words;
           }
 
-      pub runs_words : FitsRunning (body_context c kind g.code.locals) b.sequence place
-          → AreWordsOf ((kind.parameters ++ g.code.locals) ++ types) place.slots
+      pub runs_words : FitsRunning (body_context c signature g.code.locals) b.sequence place
+          → AreWordsOf ((signature.parameters ++ g.code.locals) ++ types) place.slots
       runs_words h =
           let there = ap (option_map types_in) h.reached in
           let same : types_in h.shape ≡ types = cc in
-          subst (λ z. AreWordsOf ((kind.parameters ++ g.code.locals) ++ z) place.slots) same h.words
+          subst (λ z. AreWordsOf ((signature.parameters ++ g.code.locals)
+          ++ z) place.slots) same h.words
 
 -- ---- a frame that waits
 
@@ -334,113 +345,117 @@ all_count takes types below =
     )
 
 -- a call takes so many operands
-taken_count : (c : Context) (i : Instruction) (rest after : Sequence) (kind : FunctionType)
-    (takes : List ValueType) → IsFirst rest i → IsCallOf c rest kind takes after
-    → CallTakes c i kind (length takes)
-taken_count c i (Plain (instr.Call x) rest) after kind takes f h =
-    subst (λ z. CallTakes c z kind (length takes)) (sym f.0)
-    (h.0, ap length h.1 ∙ length-reverse kind.parameters)
-taken_count c i (Plain (instr.CallIndirect x) rest) after kind takes f h =
-    subst (λ z. CallTakes c z kind (length takes)) (sym f.0)
-    (h.0, ap length h.1 ∙ ap suc (length-reverse kind.parameters))
-taken_count c i _ after kind takes f h = absurd h
+taken_count : (c : Context) (i : Instruction) (rest after : Sequence) (signature : FunctionType)
+    (takes : List ValueType) → IsFirst rest i → IsCallOf c rest signature takes after
+    → CallTakes c i signature (length takes)
+taken_count c i (Plain (instr.Call x) rest) after signature takes f h =
+    subst (λ z. CallTakes c z signature (length takes)) (sym f.0)
+    (h.0, ap length h.1 ∙ length-reverse signature.parameters)
+taken_count c i (Plain (instr.CallIndirect x) rest) after signature takes f h =
+    subst (λ z. CallTakes c z signature (length takes)) (sym f.0)
+    (h.0, ap length h.1 ∙ ap suc (length-reverse signature.parameters))
+taken_count c i _ after signature takes f h = absurd h
 
-one_count : (c : Context) (i : Instruction) (kind : FunctionType) (n m : ℕ)
-    → CallTakes c i kind n → CallTakes c i kind m → n ≡ m
-one_count c (instr.Call x) kind n m a b = a.1 ∙ sym b.1
-one_count c (instr.CallIndirect x) kind n m a b = a.1 ∙ sym b.1
-one_count c _ kind n m a b = absurd a
+one_count : (c : Context) (i : Instruction) (signature : FunctionType) (n m : ℕ)
+    → CallTakes c i signature n → CallTakes c i signature m → n ≡ m
+one_count c (instr.Call x) signature n m a b = a.1 ∙ sym b.1
+one_count c (instr.CallIndirect x) signature n m a b = a.1 ∙ sym b.1
+one_count c _ signature n m a b = absurd a
 
--- the call that stands there, with what it takes and leaves
-record Called (c : Context) (rest : Sequence) (kind : FunctionType) (n : ℕ)
+-- the call that is there, with what it takes and leaves
+record Called (c : Context) (rest : Sequence) (signature : FunctionType) (n : ℕ)
     (operands : List ValueType) : Type 0 where
   takes : List ValueType
   types : List ValueType
   after : Sequence
-  calls : IsCallOf c rest kind takes after
+  calls : IsCallOf c rest signature takes after
   split : operands ≡ takes ++ types
   count : length takes ≡ n
 
--- where a call is what stands first
-call_first : (c : Context) (kind : FunctionType) (n : ℕ) (i : Instruction) (rest : Sequence)
-    → IsFirst rest i → CallTakes c i kind n → (after : Sequence) × (rest ≡ Plain i after)
-call_first c kind n i Stop f h =
-    absurd (⊎_elim (λ (e : i ≡ instr.End). subst (λ z. CallTakes c z kind n) e h)
-    (λ (e : i ≡ instr.Else). subst (λ z. CallTakes c z kind n) e h) f)
-call_first c kind n i (Plain j rest) f h = (rest, ap (λ z. Plain z rest) (sym f.0))
-call_first c kind n i (InBlock t body rest) f h = absurd (subst (λ z. CallTakes c z kind n) f h)
-call_first c kind n i (InLoop t body rest) f h = absurd (subst (λ z. CallTakes c z kind n) f h)
-call_first c kind n i (InIf t first rest) f h = absurd (subst (λ z. CallTakes c z kind n) f h)
-call_first c kind n i (InIfElse t first second rest) f h =
-    absurd (subst (λ z. CallTakes c z kind n) f h)
+-- where a call is what is first
+call_first : (c : Context) (signature : FunctionType) (n : ℕ) (i : Instruction) (rest : Sequence)
+    → IsFirst rest i → CallTakes c i signature n → (after : Sequence) × (rest ≡ Plain i after)
+call_first c signature n i Stop f h =
+    absurd (⊎_elim (λ (e : i ≡ instr.End). subst (λ z. CallTakes c z signature n) e h)
+    (λ (e : i ≡ instr.Else). subst (λ z. CallTakes c z signature n) e h) f)
+call_first c signature n i (Plain j rest) f h = (rest, ap (λ z. Plain z rest) (sym f.0))
+call_first c signature n i (InBlock t body rest) f h = absurd
+    (subst (λ z. CallTakes c z signature n) f h)
+call_first c signature n i (InLoop t body rest) f h = absurd
+    (subst (λ z. CallTakes c z signature n) f h)
+call_first c signature n i (InIf t first rest) f h = absurd
+    (subst (λ z. CallTakes c z signature n) f h)
+call_first c signature n i (InIfElse t first second rest) f h =
+    absurd (subst (λ z. CallTakes c z signature n) f h)
 
 called_plain : (c : Context) (branches : List (List ValueType)) (out : List ValueType)
-    (i : Instruction) (after : Sequence) (kind : FunctionType) (n : ℕ) (operands : List ValueType)
-    → CallTakes c i kind n → HasType c branches (Plain i after) operands out
-    → Called c (Plain i after) kind n operands
-called_plain c branches out (instr.Call x) after kind n operands h t =
+    (i : Instruction) (after : Sequence) (signature : FunctionType) (n : ℕ)
+    (operands : List ValueType) → CallTakes c i signature n
+    → HasType c branches (Plain i after) operands out → Called c (Plain i after)
+    signature n operands
+called_plain c branches out (instr.Call x) after signature n operands h t =
     let found = h.0 in
-    let rule = t.4 in
-    let other = rule.1 in
-    let same : rule.0 ≡ kind = cc in
+    let typing = t.4 in
+    let other = typing.1 in
+    let same : typing.0 ≡ signature = cc in
     record {
-      takes = takes_of kind;
+      takes = takes_of signature;
       types = t.2;
       after = after;
       calls = (h.0, refl, refl);
-      split = t.3 ∙ ap (λ z. z ++ t.2) (rule.2 ∙ ap takes_of same);
-      count = length-reverse kind.parameters ∙ sym h.1;
+      split = t.3 ∙ ap (λ z. z ++ t.2) (typing.2 ∙ ap takes_of same);
+      count = length-reverse signature.parameters ∙ sym h.1;
     }
-called_plain c branches out (instr.CallIndirect x) after kind n operands h t =
+called_plain c branches out (instr.CallIndirect x) after signature n operands h t =
     let found = h.0 in
-    let rule = t.4 in
-    let other = rule.1 in
-    let same : rule.0 ≡ kind = cc in
+    let typing = t.4 in
+    let other = typing.1 in
+    let same : typing.0 ≡ signature = cc in
     record {
-      takes = I32 ∷ takes_of kind;
+      takes = I32 ∷ takes_of signature;
       types = t.2;
       after = after;
       calls = (h.0, refl, refl);
-      split = t.3 ∙ ap (λ z. z ++ t.2) (rule.3 ∙ ap (λ z. I32 ∷ takes_of z) same);
-      count = ap suc (length-reverse kind.parameters) ∙ sym h.1;
+      split = t.3 ∙ ap (λ z. z ++ t.2) (typing.3 ∙ ap (λ z. I32 ∷ takes_of z) same);
+      count = ap suc (length-reverse signature.parameters) ∙ sym h.1;
     }
-called_plain c branches out _ after kind n operands h t = absurd h
+called_plain c branches out _ after signature n operands h t = absurd h
 
 called : (c : Context) (branches : List (List ValueType)) (out : List ValueType)
-    (i : Instruction) (rest : Sequence) (kind : FunctionType) (n : ℕ) (operands : List ValueType)
-    → IsFirst rest i → CallTakes c i kind n → HasType c branches rest operands out
-    → Called c rest kind n operands
-called c branches out i rest kind n operands f h t =
-    let e = call_first c kind n i rest f h in
+    (i : Instruction) (rest : Sequence) (signature : FunctionType) (n : ℕ)
+    (operands : List ValueType) → IsFirst rest i → CallTakes c i signature n
+    → HasType c branches rest operands out → Called c rest signature n operands
+called c branches out i rest signature n operands f h t =
+    let e = call_first c signature n i rest f h in
     let here = subst (λ z. HasType c branches z operands out) e.1 t in
-    subst (λ z. Called c z kind n operands) (sym e.1)
-    (called_plain c branches out i e.0 kind n operands h here)
+    subst (λ z. Called c z signature n operands) (sym e.1)
+    (called_plain c branches out i e.0 signature n operands h here)
 
 -- a body looks up the same functions and types as its module
-takes_inside : (c : Context) (kind : FunctionType) (declared : List ValueType) (i : Instruction)
-    (above : FunctionType) (n : ℕ) → CallTakes c i above n
-    → CallTakes (body_context c kind declared) i above n
-takes_inside c kind declared (instr.Call x) above n h = h
-takes_inside c kind declared (instr.CallIndirect x) above n h = h
-takes_inside c kind declared _ above n h = absurd h
+takes_inside : (c : Context) (signature : FunctionType) (declared : List ValueType)
+    (i : Instruction) (above : FunctionType) (n : ℕ) → CallTakes c i above n
+    → CallTakes (body_context c signature declared) i above n
+takes_inside c signature declared (instr.Call x) above n h = h
+takes_inside c signature declared (instr.CallIndirect x) above n h = h
+takes_inside c signature declared _ above n h = absurd h
 
-takes_outside : (c : Context) (kind : FunctionType) (declared : List ValueType) (i : Instruction)
-    (above : FunctionType) (n : ℕ) → CallTakes (body_context c kind declared) i above n
-    → CallTakes c i above n
-takes_outside c kind declared (instr.Call x) above n h = h
-takes_outside c kind declared (instr.CallIndirect x) above n h = h
-takes_outside c kind declared _ above n h = absurd h
+takes_outside : (c : Context) (signature : FunctionType) (declared : List ValueType)
+    (i : Instruction) (above : FunctionType) (n : ℕ) → CallTakes
+    (body_context c signature declared) i above n → CallTakes c i above n
+takes_outside c signature declared (instr.Call x) above n h = h
+takes_outside c signature declared (instr.CallIndirect x) above n h = h
+takes_outside c signature declared _ above n h = absurd h
 
-module _ (c : Context) (kind : FunctionType) (g : Function) (b : HasBody c kind g.code)
+module _ (c : Context) (signature : FunctionType) (g : Function) (b : HasBody c signature g.code)
     (place : ShownFrame) (above : FunctionType) where
   abbrev waits_in : Context
-  waits_in = body_context c kind g.code.locals
+  waits_in = body_context c signature g.code.locals
 
   body_is : g.code.body ≡ opcodes_of b.sequence
   body_is = b.spells.is
 
-  -- a call stands where a frame waits
-  pub waits_there : FitsWaiting (body_context c kind g.code.locals) b.sequence place above
+  -- a call is where a frame waits
+  pub waits_there : FitsWaiting (body_context c signature g.code.locals) b.sequence place above
       → (i : Instruction) × (slice_get g.code.body place.position ≡ Some i)
       × (n : ℕ) × CallTakes c i above n
   waits_there h =
@@ -450,29 +465,31 @@ module _ (c : Context) (kind : FunctionType) (g : Function) (b : HasBody c kind 
         there.0,
         ap (λ z. slice_get z place.position) body_is ∙ there.1,
         length h.takes,
-        takes_outside c kind g.code.locals there.0 above (length h.takes)
+        takes_outside c signature g.code.locals there.0 above (length h.takes)
             (taken_count waits_in there.0 h.shape.rest h.rest above h.takes there.2 h.calls),
       )
 
-  pub waits_reached : None ≡ types_at (body_context c kind g.code.locals) b.sequence place.position
-      → FitsWaiting (body_context c kind g.code.locals) b.sequence place above → ⊥
+  pub waits_reached : None ≡ types_at (body_context c signature g.code.locals) b.sequence
+      place.position → FitsWaiting (body_context c signature g.code.locals) b.sequence
+      place above → ⊥
   waits_reached e h =
       let there = ap (option_map types_in) h.reached in
       absurd (cc)
 
   module _ (i : Instruction) (at : slice_get g.code.body place.position ≡ Some i) (n : ℕ)
       (told : CallTakes c i above n) (types : List ValueType)
-      (found : Some types ≡ types_at (body_context c kind g.code.locals) b.sequence place.position)
+      (found : Some types ≡ types_at (body_context c signature g.code.locals) b.sequence
+      place.position)
     where
       opcode : HasOpcode b.sequence place.position i
       opcode = ap (λ z. slice_get z place.position) (sym body_is) ∙ at
 
       takes : CallTakes waits_in i above n
-      takes = takes_inside c kind g.code.locals i above n told
+      takes = takes_inside c signature g.code.locals i above n told
 
-      pub waits : AreWordsOf ((kind.parameters ++ g.code.locals) ++ take (length types - n) types)
-          place.slots
-          → FitsWaiting (body_context c kind g.code.locals) b.sequence place above
+      pub waits : AreWordsOf ((signature.parameters ++ g.code.locals)
+          ++ take (length types - n) types) place.slots
+          → FitsWaiting (body_context c signature g.code.locals) b.sequence place above
       waits words =
           let s = shape_with (body_shape waits_in b.sequence place.position) types found in
           let first = first_there waits_in b.sequence place.position b.typed i s.0 opcode s.1 in
@@ -482,7 +499,7 @@ module _ (c : Context) (kind : FunctionType) (g : Function) (b : HasBody c kind 
           let below = types_below s.0.labels in
           let whole : types ≡ reverse ((k.takes ++ k.types) ++ below) =
           sym s.2 ∙ ap (λ z. reverse (z ++ below)) k.split in
-          let left : take (length types - n) types ≡ reverse (k.types ++ below) =
+          let types_left : take (length types - n) types ≡ reverse (k.types ++ below) =
           ap (λ z. take (length z - n) z) whole
           ∙ (ap (λ m. take (length (reverse ((k.takes ++ k.types) ++ below)) - m)
           (reverse ((k.takes ++ k.types) ++ below))) (sym k.count)
@@ -495,14 +512,14 @@ module _ (c : Context) (kind : FunctionType) (g : Function) (b : HasBody c kind 
             reached = s.1;
             calls = k.calls;
             split = k.split;
-            words = subst (λ z. AreWordsOf ((kind.parameters ++ g.code.locals) ++ z) place.slots)
-                left words;
+            words = subst (λ z. AreWordsOf ((signature.parameters ++ g.code.locals)
+                ++ z) place.slots) types_left words;
           }
 
       -- so many operands there are
-      pub waits_words : FitsWaiting (body_context c kind g.code.locals) b.sequence place above
+      pub waits_words : FitsWaiting (body_context c signature g.code.locals) b.sequence place above
           → (n ≤ length types)
-          × AreWordsOf ((kind.parameters ++ g.code.locals) ++ take (length types - n) types)
+          × AreWordsOf ((signature.parameters ++ g.code.locals) ++ take (length types - n) types)
           place.slots
       waits_words h =
           let there = ap (option_map types_in) h.reached in
@@ -515,13 +532,14 @@ module _ (c : Context) (kind : FunctionType) (g : Function) (b : HasBody c kind 
           in
           let count : n ≡ length h.takes = one_count waits_in i above n (length h.takes) takes
           (taken_count waits_in i h.shape.rest h.rest above h.takes first h.calls) in
-          let left : reverse (h.types ++ below) ≡ take (length types - n) types =
+          let types_left : reverse (h.types ++ below) ≡ take (length types - n) types =
           sym (left_below h.takes h.types below)
           ∙ (ap (λ m. take (length (reverse ((h.takes ++ h.types) ++ below)) - m)
           (reverse ((h.takes ++ h.types) ++ below))) (sym count)
           ∙ ap (λ z. take (length z - n) z) (sym whole)) in (
             omega (arith, count, ap length whole, all_count h.takes h.types below),
-            subst (λ z. AreWordsOf ((kind.parameters ++ g.code.locals) ++ z) place.slots) left
+            subst (λ z. AreWordsOf ((signature.parameters ++ g.code.locals)
+                ++ z) place.slots) types_left
                 h.words,
           )
 

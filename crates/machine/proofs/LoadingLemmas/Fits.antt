@@ -15,14 +15,14 @@ use Rattle.machine_frame.specs.rules.Fitting.{FitFrames, FitsProgram}
 use Rattle.machine_frame.specs.rules.Threads.{places_of, machine_state_of}
 use Rattle.machine_frame.proofs.Threads.Fitting.{shown_fits, fits_shown}
 use Rattle.machine_frame.proofs.Threads.Showing.{places_count, shown_frames}
-use Rattle.machine.specs.declared.turns.code.Executable.{Executable}
-use Rattle.machine.specs.declared.turns.state.State.{State}
-use Rattle.machine.specs.Turns.Codes.{Stands, parts_of_state}
-use Rattle.machine.specs.Insides.{seen, IsSettledIn, IsMachine, with_memory_of}
+use Rattle.machine.specs.declared.execution.code.Executable.{Executable}
+use Rattle.machine.specs.declared.execution.state.State.{State}
+use Rattle.machine.specs.Execution.Codes.{StateStandsFor, parts_of_state}
+use Rattle.machine.specs.Insides.{seen, IsReducedIn, IsMachine, with_memory_of}
 use Rattle.machine.specs.Insides.{IsLoading}
 use Rattle.machine.specs.rules.Loading.{ShowsSome}
 use Rattle.machine.specs.Loading.Checks.{FitsAround}
-use Rattle.machine.proofs.Inside.{typed_memory, memory_in, least_fits, settled_with}
+use Rattle.machine.proofs.Inside.{typed_memory, memory_in, least_fits, reduced_with}
 use Rattle.machine.proofs.OneProgram.{one_program, one_list}
 use Rattle.machine.proofs.LoadingLemmas.Bodies.{typed_code}
 
@@ -131,7 +131,7 @@ module _ (code : Executable) (s : State) (most : ℕ) (h : IsLoading code s most
       let w = v.shows in
       let ctx = module_context code.«module» v.functions in
       let few = w.few_frames in
-      let stands : Stands code s v.functions shown.program d = record {
+      let stands : StateStandsFor code s v.functions shown.program d = record {
         is_code = h.loaded.is_code v.functions shown.program v.is;
         stands = record {
           typed = w.typed;
@@ -154,13 +154,13 @@ module _ (code : Executable) (s : State) (most : ℕ) (h : IsLoading code s most
         own = h.own;
         fits = least_fits code.«module» most v.functions shown.program v.is d.store.memory
             w.typed.store.memory;
-        settled = λ memory functions program is_memory is.
+        reduced = λ memory functions program is_memory is.
             let p = one_program code.«module» most v.functions functions shown.program program
             v.is is in
             let f = one_list code.«module» most v.functions functions shown.program program
             v.is is in
-            let own = settled_with code s v.functions shown.program d stands memory w.settled
+            let own = reduced_with code s v.functions shown.program d stands memory w.reduced
             (memory_in code.«module» most v.functions shown.program v.is memory is_memory) in
-            subst (λ q. IsSettledIn code (with_memory_of s memory) functions q) p
-            (subst (λ fs. IsSettledIn code (with_memory_of s memory) fs shown.program) f own);
+            subst (λ q. IsReducedIn code (with_memory_of s memory) functions q) p
+            (subst (λ fs. IsReducedIn code (with_memory_of s memory) fs shown.program) f own);
       }

@@ -21,7 +21,7 @@ use Rattle.machine_frame.proofs.Threads.Showing.{parts_of}
 use Rattle.machine.specs.Loading.Checks.{FitsTop, FitsBelow}
 use Rattle.machine.proofs.LoadingLemmas.Words.{front_there}
 
--- what is so far from the end stands so far from the front
+-- what is so far from the end is so far from the front
 pub from_end : {X : Type 0} (xs : List X) (i j : ℕ) (x : X) → slice_get (reverse xs) i ≡ Some x
     → i + suc j ≡ length xs → slice_get xs j ≡ Some x
 from_end xs i j x e at =
@@ -41,12 +41,12 @@ pub record SoFar (c : Context) (program : Program) (places : List ShownFrame) (n
   pub place : ShownFrame
   pub is_above : above ≡ place.function
   pub own : IsOwnPlace c program place
-  pub toward : FitCallers c program own.kind (drop number places) → FitFrames c program places
-  pub back : FitFrames c program places → FitCallers c program own.kind (drop number places)
+  pub toward : FitCallers c program own.signature (drop number places) → FitFrames c program places
+  pub back : FitFrames c program places → FitCallers c program own.signature (drop number places)
 
-one_kind : (c : Context) (program : Program) (place : ShownFrame)
-    (a b : IsOwnPlace c program place) → a.kind ≡ b.kind
-one_kind c program place a b =
+one_signature : (c : Context) (program : Program) (place : ShownFrame)
+    (a b : IsOwnPlace c program place) → a.signature ≡ b.signature
+one_signature c program place a b =
     let e = a.is in
     let k = b.is in
     cc
@@ -66,7 +66,7 @@ module _ (c : Context) (program : Program) (places : List ShownFrame) where
             let h : FitFrames c program (top ∷ drop 1 places) =
             subst (FitFrames c program) whole all in
             subst (λ k. FitCallers c program k (drop 1 places))
-            (one_kind c program top h.0 fits.0) h.2;
+            (one_signature c program top h.0 fits.0) h.2;
       }
 
   pub no_begin : (top : ShownFrame) → slice_get places 0 ≡ Some top
@@ -82,7 +82,7 @@ module _ (c : Context) (program : Program) (places : List ShownFrame) where
     rest_is = front_there places number q there
 
     -- one more frame fits
-    pub goes_on : FitsBelow c program so_far.own.kind q
+    pub goes_on : FitsBelow c program so_far.own.signature q
         → SoFar c program places (number + 1) q.function
     goes_on fits =
         let next : suc number ≡ number + 1 = omega arith in
@@ -91,28 +91,28 @@ module _ (c : Context) (program : Program) (places : List ShownFrame) where
           is_above = refl;
           own = fits.0;
           toward = λ callers.
-              let here : FitCallers c program fits.0.kind (drop (suc number) places) =
-              subst (λ n. FitCallers c program fits.0.kind (drop n places)) (sym next) callers in
-              so_far.toward (subst (FitCallers c program so_far.own.kind) (sym rest_is)
-              (fits.0, fits.1, here));
+              let here : FitCallers c program fits.0.signature (drop (suc number) places) =
+              subst (λ n. FitCallers c program fits.0.signature (drop n places))
+              (sym next) callers in so_far.toward (subst (FitCallers c program
+              so_far.own.signature) (sym rest_is) (fits.0, fits.1, here));
           back = λ all.
-              let h : FitCallers c program so_far.own.kind (q ∷ drop (suc number) places) =
-              subst (FitCallers c program so_far.own.kind) rest_is (so_far.back all) in
+              let h : FitCallers c program so_far.own.signature (q ∷ drop (suc number) places) =
+              subst (FitCallers c program so_far.own.signature) rest_is (so_far.back all) in
               let here = subst (λ k. FitCallers c program k (drop (suc number) places))
-              (one_kind c program q h.0 fits.0) h.2 in
-              subst (λ n. FitCallers c program fits.0.kind (drop n places)) next here;
+              (one_signature c program q h.0 fits.0) h.2 in
+              subst (λ n. FitCallers c program fits.0.signature (drop n places)) next here;
         }
 
-    pub stops : FitFrames c program places → FitsBelow c program so_far.own.kind q
+    pub stops : FitFrames c program places → FitsBelow c program so_far.own.signature q
     stops all =
-        let h : FitCallers c program so_far.own.kind (q ∷ drop (suc number) places) =
-        subst (FitCallers c program so_far.own.kind) rest_is (so_far.back all) in
+        let h : FitCallers c program so_far.own.signature (q ∷ drop (suc number) places) =
+        subst (FitCallers c program so_far.own.signature) rest_is (so_far.back all) in
         (h.0, h.1)
 
   pub all_fit : (number above : ℕ) → SoFar c program places number above
       → length places ≤ number → FitFrames c program places
   all_fit number above so_far past =
-      so_far.toward (subst (FitCallers c program so_far.own.kind)
+      so_far.toward (subst (FitCallers c program so_far.own.signature)
       (sym (at_drop_all (λ ys. ys) places number past)) tt)
 
 -- ---- how many values there are
@@ -137,39 +137,39 @@ held_count (frame ∷ frames) words h =
 -- the values below the running frame are as many as its base
 pub few_of : (program : Program) (top : StackFrame) (frames : List StackFrame) (words : List ℕ)
     → AreStacked (top ∷ frames) words
-    → ((kind : FunctionType) (declared : List ValueType) (body : Sequence)
-    → slice_get program.functions top.function ≡ Some (Own kind declared body)
-    → length kind.parameters + length declared + top.base ≤ HELD_VALUES)
+    → ((signature : FunctionType) (declared : List ValueType) (body : Sequence)
+    → slice_get program.functions top.function ≡ Some (Own signature declared body)
+    → length signature.parameters + length declared + top.base ≤ HELD_VALUES)
     → FewHeld program (places_of (top ∷ frames) words)
-few_of program top frames words h few = λ kind declared body is.
+few_of program top frames words h few = λ signature declared body is.
     let parts = parts_of words h.0 h.1 top.base h.2 h.3 in
     let more = held_count frames h.1 h.4 in
     let below : slots_held (places_of frames (drop (length words - top.base) words))
     ≡ length h.1 = ap (λ z. slots_held (places_of frames z)) parts.back ∙ more in
-    let own = few kind declared body is in
+    let own = few signature declared body is in
     let base = h.3 in
     omega (arith, below, own, base)
 
 pub few_top : (program : Program) (top : StackFrame) (frames : List StackFrame) (words : List ℕ)
     → AreStacked (top ∷ frames) words → FewHeld program (places_of (top ∷ frames) words)
-    → (kind : FunctionType) (declared : List ValueType) (body : Sequence)
-    → slice_get program.functions top.function ≡ Some (Own kind declared body)
-    → length kind.parameters + length declared + top.base ≤ HELD_VALUES
-few_top program top frames words h few kind declared body is =
+    → (signature : FunctionType) (declared : List ValueType) (body : Sequence)
+    → slice_get program.functions top.function ≡ Some (Own signature declared body)
+    → length signature.parameters + length declared + top.base ≤ HELD_VALUES
+few_top program top frames words h few signature declared body is =
     let parts = parts_of words h.0 h.1 top.base h.2 h.3 in
     let more = held_count frames h.1 h.4 in
     let below : slots_held (places_of frames (drop (length words - top.base) words))
     ≡ length h.1 = ap (λ z. slots_held (places_of frames z)) parts.back ∙ more in
-    let own = few kind declared body is in
+    let own = few signature declared body is in
     let base = h.3 in
     omega (arith, below, own, base)
 
 -- the same of frames of which this is the first
 module _ (program : Program) (top : StackFrame) (frames : List StackFrame) (words : List ℕ)
     (e : slice_get frames 0 ≡ Some top) (h : AreStacked frames words) where
-  pub few_held : ((kind : FunctionType) (declared : List ValueType) (body : Sequence)
-      → slice_get program.functions top.function ≡ Some (Own kind declared body)
-      → length kind.parameters + length declared + top.base ≤ HELD_VALUES)
+  pub few_held : ((signature : FunctionType) (declared : List ValueType) (body : Sequence)
+      → slice_get program.functions top.function ≡ Some (Own signature declared body)
+      → length signature.parameters + length declared + top.base ≤ HELD_VALUES)
       → FewHeld program (places_of frames words)
   few_held few =
       let whole = front_there frames 0 top e in
@@ -178,9 +178,9 @@ module _ (program : Program) (top : StackFrame) (frames : List StackFrame) (word
       subst P (sym whole) (few_of program top (drop 1 frames) words (subst S whole h) few)
 
   pub few_there : FewHeld program (places_of frames words)
-      → (kind : FunctionType) (declared : List ValueType) (body : Sequence)
-      → slice_get program.functions top.function ≡ Some (Own kind declared body)
-      → length kind.parameters + length declared + top.base ≤ HELD_VALUES
+      → (signature : FunctionType) (declared : List ValueType) (body : Sequence)
+      → slice_get program.functions top.function ≡ Some (Own signature declared body)
+      → length signature.parameters + length declared + top.base ≤ HELD_VALUES
   few_there few =
       let whole = front_there frames 0 top e in
       let P : List StackFrame → Type 0 = λ z. FewHeld program (places_of z words) in

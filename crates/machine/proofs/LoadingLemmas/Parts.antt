@@ -14,15 +14,15 @@ use Rattle.machine_frame.specs.declared.rules.frame.StackFrame.{StackFrame}
 use Rattle.machine_frame.specs.rules.Stacked.{AreStacked}
 use Rattle.machine_frame.specs.rules.Threads.{places_of}
 use Rattle.machine_frame.specs.rules.Fitting.{slots_held}
-use Rattle.machine.specs.declared.turns.code.Executable.{Executable}
-use Rattle.machine.specs.declared.turns.state.State.{State}
+use Rattle.machine.specs.declared.execution.code.Executable.{Executable}
+use Rattle.machine.specs.declared.execution.state.State.{State}
 use Rattle.machine.specs.declared.loading.fault.LoadFault.{LoadFault}
 use Rattle.machine.specs.declared.loading.fault.LoadFault.TheVariants.{Unfit}
 use Rattle.machine.specs.Insides.{seen, IsMachine, IsLoading, IsLoadedCode}
 use Rattle.machine.specs.Insides.{with_memory_of}
 use Rattle.machine.specs.rules.Values.{least_of}
 use Rattle.machine.specs.rules.Loading.{IsSlotPushed, with_frames}
-use Rattle.machine.proofs.Placed.{settled_zeroed}
+use Rattle.machine.proofs.Placed.{reduced_zeroed}
 use Rattle.machine.proofs.LoadingLemmas.Frames.{held_count}
 
 -- ---- results
@@ -46,9 +46,9 @@ loaded_code code s most machine = record {
   program = machine.program;
   is = machine.is;
   is_code = λ functions program is.
-      (settled_zeroed code s most machine functions program is).stands.is_code;
+      (reduced_zeroed code s most machine functions program is).stands.is_code;
   table = λ functions program is.
-      let k = (settled_zeroed code s most machine functions program is).stands.stands in
+      let k = (reduced_zeroed code s most machine functions program is).stands.stands in
       subst (AllByRecursion (IsTypedEntry program)) k.same_table k.typed.store.table;
 }
 
@@ -72,7 +72,7 @@ module _ (word : ℕ) where
   stacked_more (frame ∷ frames) words some h =
       (word ∷ h.0, h.1, ap (λ z. word ∷ z) h.2, h.3, h.4)
 
-  -- the innermost frame has it behind its others
+  -- the innermost frame has it after its others
   more_places : (frames : List StackFrame) (words : List ℕ) → AreStacked frames words
       → (place : ShownFrame) (places : List ShownFrame) → places_of frames words ≡ place ∷ places
       → places_of frames (word ∷ words)

@@ -7,63 +7,63 @@ use Rattle.wasm_syntax.specs.declared.module.Module.{Module}
 use Rattle.wasm_syntax.specs.declared.module.Function.{Function}
 use Rattle.wasm_syntax.specs.rules.Sequence.{Spells}
 use Rattle.wasm_semantics.specs.Types.{imported_functions}
-use Rattle.wasm_semantics.specs.Configuration.{Callee, Host, Own}
+use Rattle.wasm_semantics.specs.Configuration.{Callee, Imported, Own}
 use Rattle.wasm_semantics.specs.Instantiation.{AreCallees}
 use Rattle.machine.specs.Routines.Routines.{imported_count, own_entry}
 use Rattle.machine.specs.laws.Routines.{IsNumberedCallee, FunctionsAreNumbered, FunctionsAreCounted}
 
 -- the same over these imported and own functions
 abbrev Numbered : Module → List ℕ → List Function → ℕ → Callee → Type 0
-Numbered m imported functions f (Host kind) = (f < length imported) × (x : ℕ)
-    × (slice_get imported f ≡ Some x) × (slice_get m.types x ≡ Some kind)
-Numbered m imported functions f (Own kind declared body) =
+Numbered m imported functions f (Imported signature) = (f < length imported) × (x : ℕ)
+    × (slice_get imported f ≡ Some x) × (slice_get m.types x ≡ Some signature)
+Numbered m imported functions f (Own signature declared body) =
     (place : ℕ) × (own : Function) × (f ≡ length imported + place)
     × (slice_get functions place ≡ Some own)
-    × (slice_get m.types own.function_type ≡ Some kind) × (declared ≡ own.code.locals)
+    × (slice_get m.types own.function_type ≡ Some signature) × (declared ≡ own.code.locals)
     × Spells own.code.body body
 
 -- one more imported function before
 behind_import : (m : Module) (x : ℕ) (imported : List ℕ) (functions : List Function) (f : ℕ)
     (callee : Callee) → Numbered m imported functions f callee
     → Numbered m (x ∷ imported) functions (suc f) callee
-behind_import m x imported functions f (Host kind) h =
+behind_import m x imported functions f (Imported signature) h =
     (let below = h.0 in omega arith, h.1, h.2, h.3)
-behind_import m x imported functions f (Own kind declared body) h =
+behind_import m x imported functions f (Own signature declared body) h =
     (h.0, h.1, (let is = h.2 in omega arith), h.3, h.4, h.5, h.6)
 
 -- one more own function before
 behind_own : (m : Module) (g : Function) (functions : List Function) (f : ℕ) (callee : Callee)
     → Numbered m [] functions f callee → Numbered m [] (g ∷ functions) (suc f) callee
-behind_own m g functions f (Host kind) h = absurd (let below = h.0 in omega arith)
-behind_own m g functions f (Own kind declared body) h =
+behind_own m g functions f (Imported signature) h = absurd (let below = h.0 in omega arith)
+behind_own m g functions f (Own signature declared body) h =
     (suc h.0, h.1, (let is = h.2 in omega arith), h.3, h.4, h.5, h.6)
 
 numbered : (m : Module) (imported : List ℕ) (functions : List Function) (callees : List Callee)
     (f : ℕ) (callee : Callee) → AreCallees m imported functions callees
     → slice_get callees f ≡ Some callee → Numbered m imported functions f callee
 numbered m (x ∷ imported) functions [] f callee h e = absurd h
-numbered m (x ∷ imported) functions (Own kind declared body ∷ callees) f callee h e = absurd h
-numbered m (x ∷ imported) functions (Host kind ∷ callees) zero callee h e =
-    let same : Host kind ≡ callee = cc in
+numbered m (x ∷ imported) functions (Own signature declared body ∷ callees) f callee h e = absurd h
+numbered m (x ∷ imported) functions (Imported signature ∷ callees) zero callee h e =
+    let same : Imported signature ≡ callee = cc in
     subst (Numbered m (x ∷ imported) functions zero) same (omega arith, x, refl, h.0)
-numbered m (x ∷ imported) functions (Host kind ∷ callees) (suc f) callee h e =
+numbered m (x ∷ imported) functions (Imported signature ∷ callees) (suc f) callee h e =
     behind_import m x imported functions f callee
     (numbered m imported functions callees f callee h.1 e)
 numbered m [] [] [] f callee h e = absurd (cc)
-numbered m [] [] (Host kind ∷ callees) f callee h e = absurd h
-numbered m [] [] (Own kind declared body ∷ callees) f callee h e = absurd h
+numbered m [] [] (Imported signature ∷ callees) f callee h e = absurd h
+numbered m [] [] (Own signature declared body ∷ callees) f callee h e = absurd h
 numbered m [] (g ∷ functions) [] f callee h e = absurd h
-numbered m [] (g ∷ functions) (Host kind ∷ callees) f callee h e = absurd h
-numbered m [] (g ∷ functions) (Own kind declared body ∷ callees) zero callee h e =
-    let same : Own kind declared body ≡ callee = cc in
+numbered m [] (g ∷ functions) (Imported signature ∷ callees) f callee h e = absurd h
+numbered m [] (g ∷ functions) (Own signature declared body ∷ callees) zero callee h e =
+    let same : Own signature declared body ≡ callee = cc in
     subst (Numbered m [] (g ∷ functions) zero) same (zero, g, refl, refl, h.0, h.1, h.2)
-numbered m [] (g ∷ functions) (Own kind declared body ∷ callees) (suc f) callee h e =
+numbered m [] (g ∷ functions) (Own signature declared body ∷ callees) (suc f) callee h e =
     behind_own m g functions f callee (numbered m [] functions callees f callee h.3 e)
 
 as_numbered : (m : Module) (f : ℕ) (callee : Callee)
     → Numbered m (imported_functions m.imports) m.functions f callee → IsNumberedCallee m f callee
-as_numbered m f (Host kind) h = h
-as_numbered m f (Own kind declared body) h = h
+as_numbered m f (Imported signature) h = h
+as_numbered m f (Own signature declared body) h = h
 
 pub functions_numbered : FunctionsAreNumbered
 functions_numbered pages m program f callee p e =
@@ -73,15 +73,15 @@ functions_numbered pages m program f callee p e =
 counted : (m : Module) (imported : List ℕ) (functions : List Function) (callees : List Callee)
     → AreCallees m imported functions callees → length callees ≡ length imported + length functions
 counted m (x ∷ imported) functions [] h = absurd h
-counted m (x ∷ imported) functions (Own kind declared body ∷ callees) h = absurd h
-counted m (x ∷ imported) functions (Host kind ∷ callees) h =
+counted m (x ∷ imported) functions (Own signature declared body ∷ callees) h = absurd h
+counted m (x ∷ imported) functions (Imported signature ∷ callees) h =
     let e = counted m imported functions callees h.1 in omega arith
 counted m [] [] [] h = refl
-counted m [] [] (Host kind ∷ callees) h = absurd h
-counted m [] [] (Own kind declared body ∷ callees) h = absurd h
+counted m [] [] (Imported signature ∷ callees) h = absurd h
+counted m [] [] (Own signature declared body ∷ callees) h = absurd h
 counted m [] (g ∷ functions) [] h = absurd h
-counted m [] (g ∷ functions) (Host kind ∷ callees) h = absurd h
-counted m [] (g ∷ functions) (Own kind declared body ∷ callees) h =
+counted m [] (g ∷ functions) (Imported signature ∷ callees) h = absurd h
+counted m [] (g ∷ functions) (Own signature declared body ∷ callees) h =
     let e = counted m [] functions callees h.3 in omega arith
 
 pub functions_counted : FunctionsAreCounted

@@ -11,7 +11,7 @@ use Rattle.wasm_semantics.specs.Linking.{IsLinkable}
 use Rattle.machine.specs.rules.Offers.{offer}
 use Rattle.machine.specs.declared.instance.instance.Instance.{Instance}
 use Rattle.machine.specs.Routines.Routines.{AreRoutines}
-use Rattle.machine.specs.Turns.Codes.{Stands}
+use Rattle.machine.specs.Execution.Codes.{StateStandsFor}
 use Rattle.machine.specs.declared.hosting.starting.MachineStart.{MachineStart}
 
 -- before the host's first call
@@ -19,15 +19,15 @@ abbrev pub first : Store → List ℕ → Configuration
 first store later = record { store = store; thread = []; later = later }
 
 -- the index of the type of each function of the module
-abbrev pub kinds_of : Module → List ℕ
-kinds_of m = imported_functions m.imports ++ map function_type_of m.functions
+abbrev pub type_indices_of : Module → List ℕ
+type_indices_of m = imported_functions m.imports ++ map function_type_of m.functions
 
 -- Of this instance, with all that running needs, and before the host's first call.
 pub record IsOfInstance (i : Instance) (b : MachineStart) : Type 0 where
   pub valid : IsValid i.«module»
   pub guest : b.code.«module» ≡ i.«module»
   pub calls : b.code.calls.items ≡ i.calls.items
-  pub kinds : b.code.kinds.items ≡ kinds_of i.«module»
+  pub type_indices : b.code.type_indices.items ≡ type_indices_of i.«module»
   pub routines : AreRoutines i.«module» b.code.routines.items
   pub table : b.code.table.items ≡ i.table.items
   pub frames : b.state.frames ≡ []
@@ -48,5 +48,5 @@ pub record StartStands (pages : ℕ) (m : Module) (b : MachineStart) : Type 0 wh
   pub types : AreFunctionTypes m functions
   pub stands : (functions : List FunctionType) (program : Program) → AreFunctionTypes m functions
       → IsProgram m pages program
-      → Stands b.code b.state functions program
+      → StateStandsFor b.code b.state functions program
       (first linkable.store (calls_of m.start linkable.entry))

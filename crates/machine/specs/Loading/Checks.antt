@@ -13,9 +13,9 @@ use Rattle.machine_slots.specs.rules.Places.{ShownFrame}
 use Rattle.machine_frame.specs.rules.Fitting.{AreWordsOf, IsOwnPlace, place_context, FitsRunning}
 use Rattle.machine_frame.specs.rules.Fitting.{FitsWaiting, FewHeld}
 use Rattle.machine_frame.specs.rules.Threads.{places_of}
-use Rattle.machine.specs.declared.turns.code.Executable.{Executable}
-use Rattle.machine.specs.declared.turns.state.State.{State}
-use Rattle.machine.specs.Turns.Codes.{IsExecutable}
+use Rattle.machine.specs.declared.execution.code.Executable.{Executable}
+use Rattle.machine.specs.declared.execution.state.State.{State}
+use Rattle.machine.specs.Execution.Codes.{IsExecutable}
 
 -- ---- what the checks look up
 

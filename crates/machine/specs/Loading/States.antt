@@ -1,6 +1,6 @@
 -- What is put into a state.
 use Rattle.std.specs.Prelude.{◌≡◌, ℕ, ◌∷◌, length}
-use Rattle.machine.specs.declared.turns.state.State.{State}
+use Rattle.machine.specs.declared.execution.state.State.{State}
 
 -- one more frame, above all words
 abbrev pub IsFramePushed : ℕ → ℕ → State → State → Type 0

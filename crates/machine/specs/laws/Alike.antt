@@ -3,9 +3,9 @@ use Rattle.std.specs.Prelude.{◌≡◌, ℕ, List, Some, slice_get}
 use Rattle.wasm_syntax.specs.declared.types.FunctionType.{FunctionType}
 use Rattle.wasm_syntax.specs.declared.value.Value.{Value}
 use Rattle.wasm_semantics.specs.Types.{AreOf, gives_of}
-use Rattle.wasm_semantics.specs.Configuration.{Host, Program, Thread, Configuration, Asks}
-use Rattle.wasm_semantics.specs.Steps.{rule}
-use Rattle.machine.specs.declared.turns.pause.Paused.{Paused}
+use Rattle.wasm_semantics.specs.Configuration.{Imported, Program, Thread, Configuration, Asks}
+use Rattle.wasm_semantics.specs.Steps.{counted_step}
+use Rattle.machine.specs.declared.execution.pause.Paused.{Paused}
 use Rattle.machine.specs.rules.Values.{MachineValue, IsSameMachine, ShowsIn}
 use Rattle.machine.specs.rules.Runs.{RunsOnFuel, Answers}
 
@@ -29,9 +29,9 @@ MachinesRunAlike =
 abbrev pub MachinesAnswerAlike : Type 0
 MachinesAnswerAlike =
     (v w v' w' : MachineValue) (program : Program) (d : Configuration) (results : List Value)
-    (f : ℕ) (arguments : List Value) (waits : Thread) (kind : FunctionType)
+    (f : ℕ) (arguments : List Value) (waits : Thread) (signature : FunctionType)
     → v.guest ≡ w.guest → IsSameMachine v v' → IsSameMachine w w'
     → ShowsIn v program d → ShowsIn w program d
-    → rule program d ≡ Asks f arguments waits → slice_get program.functions f ≡ Some (Host kind)
-    → AreOf (gives_of kind) results → Answers results v v' → Answers results w w'
-    → v' ≡ w'
+    → counted_step program d ≡ Asks f arguments waits → slice_get program.functions f
+    ≡ Some (Imported signature) → AreOf (gives_of signature) results → Answers results v v'
+    → Answers results w w' → v' ≡ w'

@@ -9,7 +9,7 @@ use Rattle.guest_memory.specs.rules.Bytes.{IsByte}
 use Rattle.guest_memory.specs.rules.Memories.{LinearMemory}
 use Rattle.wasm_semantics.specs.Types.{AreOf, gives_of}
 use Rattle.wasm_semantics.specs.Configuration.{Program, Thread, Configuration, Asks}
-use Rattle.wasm_semantics.specs.Steps.{rule}
+use Rattle.wasm_semantics.specs.Steps.{counted_step}
 use Rattle.machine.specs.rules.Values.{MachineValue, ShowsIn, with_memory}
 use Rattle.machine.specs.rules.Runs.{AsksFor, WaitsFor}
 
@@ -32,8 +32,8 @@ abbrev pub AsksTheSame : Type 0
 AsksTheSame =
     (program : Program) (d : Configuration) (bytes : List ℕ) (f : ℕ) (arguments : List Value)
     (waits : Thread)
-    → rule program d ≡ Asks f arguments waits
-    → rule program (with_memory_bytes d bytes) ≡ Asks f arguments waits
+    → counted_step program d ≡ Asks f arguments waits
+    → counted_step program (with_memory_bytes d bytes) ≡ Asks f arguments waits
 
 -- So a machine that has asked for a call waits for what the call gives, also with such a memory.
 abbrev pub WaitsForTheCall : Type 0

@@ -4,19 +4,19 @@ use Rattle.wasm_syntax.specs.declared.module.Module.{Module}
 use Rattle.wasm_syntax.specs.declared.module.Function.{Function}
 use Rattle.wasm_syntax.specs.rules.Sequence.{Spells}
 use Rattle.wasm_semantics.specs.Types.{imported_functions}
-use Rattle.wasm_semantics.specs.Configuration.{Callee, Host, Own, Program}
+use Rattle.wasm_semantics.specs.Configuration.{Callee, Imported, Own, Program}
 use Rattle.wasm_semantics.specs.Instantiation.{IsProgram}
 use Rattle.machine.specs.Routines.Routines.{imported_count}
 
--- a function of the host's is an imported one, and one of the module's own comes behind those, at
+-- a function of the host's is an imported one, and one of the module's own comes after those, at
 -- its place among the own ones
 abbrev pub IsNumberedCallee : Module → ℕ → Callee → Type 0
-IsNumberedCallee m f (Host kind) = (f < imported_count m) × (x : ℕ)
-    × (slice_get (imported_functions m.imports) f ≡ Some x) × (slice_get m.types x ≡ Some kind)
-IsNumberedCallee m f (Own kind declared body) =
+IsNumberedCallee m f (Imported signature) = (f < imported_count m) × (x : ℕ)
+    × (slice_get (imported_functions m.imports) f ≡ Some x) × (slice_get m.types x ≡ Some signature)
+IsNumberedCallee m f (Own signature declared body) =
     (place : ℕ) × (own : Function) × (f ≡ imported_count m + place)
     × (slice_get m.functions place ≡ Some own)
-    × (slice_get m.types own.function_type ≡ Some kind) × (declared ≡ own.code.locals)
+    × (slice_get m.types own.function_type ≡ Some signature) × (declared ≡ own.code.locals)
     × Spells own.code.body body
 
 abbrev pub FunctionsAreNumbered : Type 0

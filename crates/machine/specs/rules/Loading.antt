@@ -20,13 +20,13 @@ abbrev pub with_frame : ℕ → ℕ → MachineValue → MachineValue
 with_frame function position v =
     with_frames (record { function = function; position = position; slots = [] } ∷ v.state.frames) v
 
--- one more slot of the innermost frame, behind its others
+-- one more slot of the innermost frame, after its others
 abbrev pub IsSlotPushed : ℕ → MachineValue → MachineValue → Type 0
 IsSlotPushed word old new =
     (place : ShownFrame) (places : List ShownFrame) → old.state.frames ≡ place ∷ places
     → new ≡ with_frames (record place { slots = place.slots ++ word ∷ [] } ∷ places) old
 
--- one more global, behind the others
+-- one more global, after the others
 abbrev pub with_global : ℕ → MachineValue → MachineValue
 with_global word v =
     record v { state = record v.state { globals = v.state.globals ++ word ∷ [] } }

@@ -17,8 +17,9 @@ use Rattle.machine.specs.rules.Initial.{CanStart, AreImportsOffered, CanBegin}
 -- The host offers nothing under the import's name, or a function of another type.
 abbrev pub IsImportRefused : List FunctionType → Import → LinkFault → Type 0
 IsImportRefused types i UnknownImport = offer i.module_name i.name ≡ None
-IsImportRefused types i ImportType = (kind : FunctionType)
-    × (offer i.module_name i.name ≡ Some kind) × (IsItemOffered (Some kind) types i.item → ⊥)
+IsImportRefused types i ImportType = (signature : FunctionType)
+    × (offer i.module_name i.name ≡ Some signature) × (IsItemOffered (Some signature)
+    types i.item → ⊥)
 IsImportRefused types i _ = ⊥
 
 -- the first import that isn't offered is refused for this
@@ -41,7 +42,7 @@ IsRefused pages m TooManyPages = CanStart m × HasExportedMemory m × AreImports
     × (FitsPages (memories_of m) pages → ⊥)
 IsRefused pages m Memory = IsLinkable offer pages m
 
--- any fault but want of memory says that P doesn't hold
+-- any fault but out of memory says that P doesn't hold
 abbrev pub LinkDenies : Type 0 → LinkFault → Type 0
 LinkDenies P Memory = Unit {0}
 LinkDenies P NoStart = P → ⊥

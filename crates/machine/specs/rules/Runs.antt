@@ -8,15 +8,16 @@ use Rattle.wasm_syntax.specs.declared.module.Module.{Module}
 use Rattle.wasi_abi.specs.declared.call.Call.{Call}
 use Rattle.wasi_abi.specs.rules.Calls.{call_type_of}
 use Rattle.wasm_semantics.specs.Types.{AreOf, number_in, takes_of, gives_of}
-use Rattle.wasm_semantics.specs.Configuration.{Host, Program, Thread, Configuration, Asks, Traps}
-use Rattle.wasm_semantics.specs.Steps.{rule, stopped, answered, IsEnded, Settles, Steps}
+use Rattle.wasm_semantics.specs.Configuration.{Imported, Program, Thread, Configuration, Asks}
+use Rattle.wasm_semantics.specs.Configuration.{Traps}
+use Rattle.wasm_semantics.specs.Steps.{counted_step, stopped, answered, IsEnded, ReducesTo, Steps}
 use Rattle.wasm_semantics.specs.Instantiation.{Begins}
 use Rattle.wasm_semantics.specs.Linking.{IsLinkable}
 use Rattle.machine.specs.rules.Offers.{offer, AreImportedCalls}
-use Rattle.machine.specs.declared.turns.pause.Pause.{Pause}
-use Rattle.machine.specs.declared.turns.pause.Pause.TheVariants as pause
-use Rattle.machine.specs.declared.turns.pause.Paused.{Paused}
-use Rattle.machine.specs.declared.turns.pause.HostCall.{HostCall}
+use Rattle.machine.specs.declared.execution.pause.Pause.{Pause}
+use Rattle.machine.specs.declared.execution.pause.Pause.TheVariants as pause
+use Rattle.machine.specs.declared.execution.pause.Paused.{Paused}
+use Rattle.machine.specs.declared.execution.pause.HostCall.{HostCall}
 use Rattle.machine.specs.rules.Values.{MachineValue, HoldsMemory, ShowsIn}
 
 -- ---- the beginning
@@ -33,65 +34,66 @@ pub record HasBegun (pages : ℕ) (m : Module) (v : MachineValue) : Type 0 where
 
 -- ---- fuel
 
--- so many counted rules of the fuel lead to a configuration that the machine then shows
-pub record Arrives (new : MachineValue) (program : Program) (d : Configuration) (fuel left : ℕ) :
-    Type 0 where
+-- so many counted steps of the fuel lead to a configuration that the machine then shows
+pub record Arrives (new : MachineValue) (program : Program) (d : Configuration)
+    (fuel fuel_left : ℕ) : Type 0 where
   pub configuration : Configuration
   pub steps : ℕ
-  pub used : steps + left ≡ fuel
+  pub used : steps + fuel_left ≡ fuel
   pub ran : Steps program steps d configuration
   pub shows : ShowsIn new program configuration
 
--- The rule asks the host for the function that is this call of the module's imports, with arguments
--- of its types, the first one first.
+-- The counted step asks the host for the function that is this call of the module's imports, with
+-- arguments of its types, the first one first.
 pub record AsksFor (m : Module) (program : Program) (d : Configuration) (call : Call)
     (arguments : List ℕ) : Type 0 where
   pub function : ℕ
   pub operands : List Value
   pub waits : Thread
-  pub asks : rule program d ≡ Asks function operands waits
+  pub asks : counted_step program d ≡ Asks function operands waits
   pub calls : List Call
   pub are_calls : AreImportedCalls m.imports calls
   pub is_call : slice_get calls function ≡ Some call
-  pub is_host : slice_get program.functions function ≡ Some (Host (call_type_of call))
+  pub is_imported : slice_get program.functions function ≡ Some (Imported (call_type_of call))
   pub typed : AreOf (takes_of (call_type_of call)) operands
   pub are : arguments ≡ reverse (map number_in operands)
 
--- The rule after so many traps, which is one more of the fuel. The machine then shows that
+-- The counted step after so many traps, which is one more of the fuel. The machine then shows that
 -- configuration without a thread.
-pub record TrapsAfter (new : MachineValue) (program : Program) (d : Configuration) (fuel left : ℕ)
-    (why : Trap) : Type 0 where
+pub record TrapsAfter (new : MachineValue) (program : Program) (d : Configuration)
+    (fuel fuel_left : ℕ) (why : Trap) : Type 0 where
   pub configuration : Configuration
   pub steps : ℕ
-  pub used : suc steps + left ≡ fuel
+  pub used : suc steps + fuel_left ≡ fuel
   pub ran : Steps program steps d configuration
-  pub traps : rule program configuration ≡ Traps why
+  pub traps : counted_step program configuration ≡ Traps why
   pub shows : ShowsIn new program (stopped configuration)
 
 -- Why it pauses. The fuel is spent and the program has not ended. Or some is left, and a call of
 -- the host waits. Or it has ended, or it has trapped.
 abbrev pub RunsFor : MachineValue → Program → Configuration → ℕ → ℕ → Pause → Type 0
-RunsFor new program d fuel left pause.Spent = (a : Arrives new program d fuel left)
-    × (a.configuration.thread ≢ []) × (left ≡ 0)
-RunsFor new program d fuel left (pause.Host asked) = (a : Arrives new program d fuel left)
-    × AsksFor new.guest program a.configuration asked.call asked.arguments × (0 < left)
-RunsFor new program d fuel left pause.Returned = (a : Arrives new program d fuel left)
+RunsFor new program d fuel fuel_left pause.Spent = (a : Arrives new program d fuel fuel_left)
+    × (a.configuration.thread ≢ []) × (fuel_left ≡ 0)
+RunsFor new program d fuel fuel_left (pause.Host asked) = (a : Arrives new program d fuel fuel_left)
+    × AsksFor new.guest program a.configuration asked.call asked.arguments × (0 < fuel_left)
+RunsFor new program d fuel fuel_left pause.Returned = (a : Arrives new program d fuel fuel_left)
     × IsEnded a.configuration
-RunsFor new program d fuel left (pause.Trapped why) = TrapsAfter new program d fuel left why
+RunsFor new program d fuel fuel_left (pause.Trapped why) = TrapsAfter new program d
+    fuel fuel_left why
 
 -- whichever configuration of whichever program it showed
 abbrev pub RunsOnFuel : MachineValue → ℕ → Paused → MachineValue → Type 0
 RunsOnFuel old fuel paused new = (program : Program) (d : Configuration) → ShowsIn old program d
-    → RunsFor new program d fuel paused.left paused.why
+    → RunsFor new program d fuel paused.fuel_left paused.why
 
 -- ---- what waits
 
--- the rule asks the host for nothing
+-- the counted step asks the host for nothing
 abbrev pub AsksNothing : Program → Configuration → Type 0
 AsksNothing program d = (f : ℕ) (arguments : List Value) (waits : Thread)
-    → rule program d ≡ Asks f arguments waits → ⊥
+    → counted_step program d ≡ Asks f arguments waits → ⊥
 
--- the call that the rule asks the host for, or none where it asks for nothing
+-- the call that the counted step asks the host for, or none where it asks for nothing
 abbrev pub TellsCall : Module → Program → Configuration → Option HostCall → Type 0
 TellsCall m program d None = AsksNothing program d
 TellsCall m program d (Some asked) = AsksFor m program d asked.call asked.arguments
@@ -116,15 +118,15 @@ pub record WaitsFor (results : List Value) (v : MachineValue) : Type 0 where
   pub function : ℕ
   pub arguments : List Value
   pub waits : Thread
-  pub kind : FunctionType
-  pub asks : rule program configuration ≡ Asks function arguments waits
-  pub is_host : slice_get program.functions function ≡ Some (Host kind)
-  pub gives : AreOf (gives_of kind) results
+  pub signature : FunctionType
+  pub asks : counted_step program configuration ≡ Asks function arguments waits
+  pub is_imported : slice_get program.functions function ≡ Some (Imported signature)
+  pub gives : AreOf (gives_of signature) results
 
--- The answer settles to a configuration that the machine then shows.
+-- The answer reduces to a configuration that the machine then shows.
 pub record Finishes (new : MachineValue) (program : Program) (answer : Configuration) : Type 0 where
   pub configuration : Configuration
-  pub settles : Settles program answer configuration
+  pub reduces : ReducesTo program answer configuration
   pub shows : ShowsIn new program configuration
 
 -- whichever call of the host it waited at that gives such results, with the bytes that memory had
@@ -132,9 +134,9 @@ pub record Finishes (new : MachineValue) (program : Program) (answer : Configura
 abbrev pub Answers : List Value → MachineValue → MachineValue → Type 0
 Answers results old new =
     (program : Program) (d : Configuration) (f : ℕ) (arguments : List Value) (waits : Thread)
-    (kind : FunctionType)
-    → ShowsIn old program d → rule program d ≡ Asks f arguments waits
-    → slice_get program.functions f ≡ Some (Host kind) → AreOf (gives_of kind) results
+    (signature : FunctionType)
+    → ShowsIn old program d → counted_step program d ≡ Asks f arguments waits
+    → slice_get program.functions f ≡ Some (Imported signature) → AreOf (gives_of signature) results
     → Finishes new program (answered d old.state.memory results waits)
 
 -- ---- the end by the host

@@ -4,7 +4,7 @@ ghost use Rattle.std.specs.Prelude.{◌≡◌, ◌<◌, ◌≤◌, ◌++◌, ℕ
 ghost use Rattle.wasm_semantics.specs.Types.{number_in};
 ghost use Rattle.machine.specs.rules.Answers.{IsAnswered, IsWaiting, call_results};
 
-use crate::turns::{Executable, State, words_taken};
+use crate::execution::{Executable, State, words_taken};
 use machine_slots::{SLOTS, Slots};
 
 /// Puts what a call gives in the place of the words that it took.
@@ -20,7 +20,7 @@ fn replace(slots: &mut Slots, taken: usize, given: Option<u32>)
     }
 }
 
-/// Answers the call of the host that waits, and goes on behind it. If the call gives a result, that
+/// Answers the call of the host that waits, and goes on after it. If the call gives a result, that
 /// is put in the place of what the call took. Takes no memory.
 pub fn answer(code: &Executable, state: &mut State, given: Option<u32>)
     requires { IsWaiting (call_results given) code.now state.old }

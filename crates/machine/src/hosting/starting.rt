@@ -6,11 +6,11 @@ ghost use Rattle.machine.specs.rules.Offers.{offer};
 ghost use Rattle.machine.specs.rules.Refusals.{IsRefused, LinkDenies};
 ghost use Rattle.machine.specs.Hosting.Beginnings.{IsOfInstance, StartStands};
 
+use crate::execution::{Executable, State};
 use crate::frames::Frames;
 use crate::hosting::parts::{first_calls, words_of};
 use crate::instance::{Instance, LinkFault};
 use crate::routines::routines;
-use crate::turns::{Executable, State};
 use guest_memory::MOST_PAGES;
 use machine_slots::Slots;
 use std::alloc::{AllocError, Global};
@@ -28,7 +28,7 @@ fn prepare(alloc: Global, instance: Instance) -> Result<MachineStart, AllocError
     ensures { IfOk result (IsOfInstance instance) }
 {
     let module = instance.module.module();
-    let kinds = function_type_indices(alloc, module)?;
+    let type_indices = function_type_indices(alloc, module)?;
     let routines = routines(alloc, module)?;
     let later = first_calls(alloc, module.start, instance.entry)?;
     let globals = words_of(alloc, instance.globals.as_slice())?;
@@ -37,7 +37,7 @@ fn prepare(alloc: Global, instance: Instance) -> Result<MachineStart, AllocError
     let code = Executable {
         module: instance.module,
         calls: instance.calls,
-        kinds,
+        type_indices,
         routines,
         table: instance.table,
     };

@@ -2,7 +2,7 @@
 
 ghost use Rattle.std.specs.Prelude.{◌≡◌, ◌↔◌, IfOk, IfErr, OnOk, IsTrue, List};
 ghost use Rattle.std.specs.List.{AllByRecursion};
-ghost use Rattle.wasm_syntax.specs.declared.types.FunctionType.{FunctionType as Kind};
+ghost use Rattle.wasm_syntax.specs.declared.types.FunctionType.{FunctionType as Signature};
 ghost use Rattle.wasi_abi.specs.rules.Calls.{call_type_of};
 ghost use Rattle.wasm_semantics.specs.Linking.{IsOffered};
 ghost use Rattle.machine.specs.rules.Offers.{offer, offered_call, imported_call, AreImportedCalls};
@@ -69,7 +69,7 @@ pub fn check_imports(types: &[FunctionType], imports: &[Import]) -> Result<(), L
 
 /// The calls that the imports name, in their order, where the host offers all of them.
 pub fn imported_calls(alloc: Global, imports: &[Import]) -> Result<Vec<Call>, AllocError>
-    requires { (types : List Kind) × AllByRecursion (IsOffered offer types) imports.now }
+    requires { (types : List Signature) × AllByRecursion (IsOffered offer types) imports.now }
     ensures { IfOk result (λ calls. AreImportedCalls imports.now calls.items) }
 {
     let mut calls = Vec::with_capacity(alloc, imports.len())?;

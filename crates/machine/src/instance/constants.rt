@@ -7,7 +7,7 @@ ghost use Rattle.wasm_semantics.specs.Instantiation.{AreInitial, constant_of, of
 use crate::instance::items::at;
 use wasm_syntax::{Global, Instruction, Value};
 
-/// The value of a constant expression, in which no globals stand.
+/// The value of a constant expression, in which no globals are.
 pub fn initial_value(expression: &[Instruction]) -> Option<Value>
     ensures { result ≡ constant_of [] expression.now }
 {
@@ -25,7 +25,7 @@ fn global_value(globals: &[Global], x: u32) -> Option<Value>
     initial_value(global.initial.as_slice())
 }
 
-/// The value of a constant expression, in which these globals may stand.
+/// The value of a constant expression, in which these globals may be.
 fn constant(globals: &[Global], expression: &[Instruction]) -> Option<Value>
     ensures { (values : List Number) → AreInitial globals.now values
         → result ≡ constant_of values expression.now }

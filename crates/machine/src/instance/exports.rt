@@ -2,7 +2,7 @@
 
 ghost use Rattle.std.specs.Prelude.{◌≡◌, ◌≢◌, ◌↔◌, ◌++◌, ℕ, List, IsTrue, IfSome, IfNone, Some};
 ghost use Rattle.std.specs.Prelude.{slice_get, option_copied, map};
-ghost use Rattle.wasm_syntax.specs.declared.types.FunctionType.{FunctionType as Kind};
+ghost use Rattle.wasm_syntax.specs.declared.types.FunctionType.{FunctionType as Signature};
 ghost use Rattle.wasm_syntax.specs.declared.module.ExportItem.{ExportItem as Item};
 ghost use Rattle.wasm_syntax.specs.rules.Modules.{function_type_of};
 ghost use Rattle.wasm_semantics.specs.Validity.{AreFunctionTypes, HaveDistinctNames, IsValid};
@@ -30,22 +30,22 @@ fn function_type_index(module: &Module, function: u32) -> Option<u32>
     ensures { result ≡ slice_get (imported_functions module.now.imports
         ++ map function_type_of module.now.functions) function }
 {
-    let mut left = function;
+    let mut index_left = function;
     for import in module.imports.as_slice() {
         if let ImportItem::Function(index) = import.item {
-            if left == 0 {
+            if index_left == 0 {
                 return Some(index);
             }
-            left -= 1;
+            index_left -= 1;
         }
     }
-    let own = module.functions.get(left as usize)?;
+    let own = module.functions.get(index_left as usize)?;
     Some(own.function_type)
 }
 
 /// The type of a function.
 fn function_type(module: &Module, function: u32) -> Option<&FunctionType>
-    ensures { (functions : List Kind) → AreFunctionTypes module.now functions
+    ensures { (functions : List Signature) → AreFunctionTypes module.now functions
         → option_copied result ≡ slice_get functions function }
 {
     let index = function_type_index(module, function)?;

@@ -7,7 +7,7 @@ use guest_memory::MemoryFault;
 use std::alloc::{AllocError, AllocFailed};
 use thiserror::Error;
 
-/// The first fault in this order, or want of memory.
+/// The first fault in this order, or out of memory.
 #[derive(Clone, Copy, Debug, PartialEq, Eq, Error)]
 pub enum LinkFault {
     /// No function without parameters and results is exported as `_start`.

@@ -7,7 +7,7 @@ ghost use Rattle.wasm_semantics.specs.Typing.{Context as Typing};
 ghost use Rattle.wasm_validate.specs.Parts.Contexts.{IsContextOf};
 ghost use Rattle.machine.specs.Loading.Bodies.{CallTakes, HasMore, IsOwnAt};
 
-use crate::turns::{Executable, is_same};
+use crate::execution::{Executable, is_same};
 use wasm_syntax::{Function, FunctionType, Instruction};
 use wasm_validate::ModuleContext;
 

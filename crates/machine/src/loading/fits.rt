@@ -1,22 +1,22 @@
 //! Whether the parts of a machine show some configuration.
 
 ghost use Rattle.std.specs.Prelude.{◌≡◌, ◌*◌, ◌≤◌, ◌↔◌, List, [], length, IsTrue, IfOk};
-ghost use Rattle.wasm_syntax.specs.declared.types.FunctionType.{FunctionType as Kind};
+ghost use Rattle.wasm_syntax.specs.declared.types.FunctionType.{FunctionType as Signature};
 ghost use Rattle.guest_memory.specs.rules.Bytes.{page_size};
 ghost use Rattle.wasm_semantics.specs.Configuration.{Program};
 ghost use Rattle.wasm_semantics.specs.Validity.{module_context};
 ghost use Rattle.machine_frame.specs.rules.Fitting.{FitsProgram};
 ghost use Rattle.machine_frame.specs.rules.Stacked.{AreStacked};
 ghost use Rattle.machine_frame.specs.rules.Threads.{machine_state_of};
-ghost use Rattle.machine.specs.Turns.Codes.{IsExecutable, parts_of_state};
+ghost use Rattle.machine.specs.Execution.Codes.{IsExecutable, parts_of_state};
 ghost use Rattle.machine.specs.Loading.Checks.{FitsAround, IsSomeCode, TellsFit};
 
+use crate::execution::{Executable, State};
 use crate::loading::frames::fit_frames;
 use crate::loading::limits::{are_entries, hold_few};
 use crate::loading::words::are_globals;
 use crate::routines::context_of;
-use crate::running::is_memory;
-use crate::turns::{Executable, State};
+use crate::running_machine::is_memory;
 use std::alloc::{AllocError, Global};
 use wasm_validate::{BodyChecker, ModuleContext};
 
@@ -52,7 +52,7 @@ fn fits_around(code: &Executable, context: &ModuleContext, state: &State) -> boo
 pub fn fits(alloc: Global, code: &Executable, state: &State) -> Result<bool, AllocError>
     requires stacked { AreStacked state.now.frames state.now.slots }
     requires code { IsSomeCode code.now }
-    ensures { (functions : List Kind) (program : Program)
+    ensures { (functions : List Signature) (program : Program)
         → IsExecutable code.now functions program
         → state.now.memory.limit ≡ program.most_pages
         → program.least_pages * page_size ≤ length state.now.memory.bytes

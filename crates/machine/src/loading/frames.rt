@@ -7,11 +7,11 @@ ghost use Rattle.machine_frame.specs.rules.Threads.{places_of};
 ghost use Rattle.machine.specs.rules.LentFrames.{lent_frame};
 ghost use Rattle.machine.specs.Loading.Checks.{CanLookUp, FitsBelow, FitsTop, TellsFit};
 
+use crate::execution::Executable;
 use crate::frames::Frames;
 use crate::loading::bodies::{has_more, opcode_at, own_function, taken_by};
 use crate::loading::words::are_slots;
 use crate::places::{FramePlace, place_of};
-use crate::turns::Executable;
 use machine_slots::Slots;
 use std::alloc::AllocError;
 use wasm_syntax::FunctionType;
@@ -77,11 +77,17 @@ fn fits_waiting(
     let Some(types) = checker.operand_types(context, function_type, own, place.position)? else {
         return Ok(false);
     };
-    let Some(left) = types.len().checked_sub(taken) else {
+    let Some(count_left) = types.len().checked_sub(taken) else {
         return Ok(false);
     };
     let parameters = function_type.parameters.as_slice();
-    Ok(are_slots(parameters, own.locals.as_slice(), &types, left, place.slots))
+    Ok(are_slots(
+        parameters,
+        own.locals.as_slice(),
+        &types,
+        count_left,
+        place.slots,
+    ))
 }
 
 /// Whether all frames fit, from the running one out.

@@ -8,9 +8,9 @@ ghost use Rattle.machine_frame.specs.rules.Stacked.{AreStacked};
 ghost use Rattle.machine_frame.specs.rules.Threads.{places_of};
 ghost use Rattle.machine.specs.Loading.Checks.{TellsFit};
 
+use crate::execution::Executable;
 use crate::frames::Frames;
 use crate::loading::bodies::own_function;
-use crate::turns::Executable;
 use machine_slots::Slots;
 use machine_slots::limits::HELD_VALUES;
 use wasm_validate::ModuleContext;

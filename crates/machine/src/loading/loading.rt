@@ -2,12 +2,12 @@
 
 ghost use Rattle.std.specs.Prelude.{◌≡◌};
 
+use crate::execution::{Executable, State, clear};
 use crate::instance::{entry_of, first_pages};
 use crate::loading::fault::LoadFault;
 use crate::loading::fits::fits;
 use crate::loading::parts::{push_frame, push_slot, set_bytes};
-use crate::running::Machine;
-use crate::turns::{Executable, State, clear};
+use crate::running_machine::Machine;
 use std::alloc::Global;
 use std::marker::Model;
 
@@ -36,7 +36,7 @@ impl Machine {
     ghost use Rattle.machine.specs.rules.Loading.{emptied};
 
     /// Takes frames, slots, globals and calls to come away, so that others can be put in their
-    /// place. Module, table and memory stay. No memory is taken.
+    /// place. Module, table and memory remain. No memory is taken.
     pub fn into_loading(self) -> Loading
         requires { HoldsMemory self }
         ensures { result ≡ emptied self }
@@ -81,7 +81,7 @@ impl Loading {
         push_frame(&mut self.state, function, position)
     }
 
-    /// Puts a slot behind those of the innermost frame. `Unfit` where there is no frame, or where
+    /// Puts a slot after those of the innermost frame. `Unfit` where there is no frame, or where
     /// all frames together have 69,632 slots. Takes no memory.
     pub fn push_slot(&mut self, word: u64) -> Result<(), LoadFault>
         ensures pushed { OnOk result ((self.old.state.frames ≢ [])
@@ -93,7 +93,7 @@ impl Loading {
         push_slot(&mut self.state, word)
     }
 
-    /// Puts a global behind the others. Only want of memory makes it fail.
+    /// Puts a global after the others. It fails only when out of memory.
     pub fn push_global(&mut self, word: u64) -> Result<(), LoadFault>
         ensures pushed { OnOk result (self.new ≡ with_global word self.old) }
         ensures memory { IfErr result (λ e. e ≡ LoadFault.Memory) }

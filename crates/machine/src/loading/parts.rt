@@ -7,8 +7,8 @@ ghost use Rattle.machine.specs.declared.loading.fault.LoadFault.TheVariants.{Unf
 ghost use Rattle.machine.specs.rules.Loading.{BytesDenied};
 ghost use Rattle.machine.specs.Loading.States.{IsFramePushed};
 
+use crate::execution::State;
 use crate::loading::fault::LoadFault;
-use crate::turns::State;
 use guest_memory::{Memory, MemoryFault, PAGE_SIZE};
 use machine_frame::StackFrame;
 use machine_slots::SLOTS;

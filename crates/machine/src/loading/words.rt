@@ -2,7 +2,7 @@
 
 ghost use Rattle.std.specs.Prelude.{◌≡◌, ◌≤◌, ◌↔◌, ◌++◌, List, IsTrue, MatchOption, length, map};
 ghost use Rattle.std.specs.Prelude.{slice_get, take};
-ghost use Rattle.wasm_syntax.specs.declared.types.ValueType.{ValueType as Kind};
+ghost use Rattle.wasm_syntax.specs.declared.types.ValueType.{ValueType as TheValueType};
 ghost use Rattle.wasm_semantics.specs.Types.{IsOf, value_of, value_type_of};
 ghost use Rattle.machine_frame.specs.rules.Fitting.{AreWordsOf};
 
@@ -78,9 +78,9 @@ fn are_operands(types: &OperandTypes, count: usize, words: &[u64]) -> bool
     true
 }
 
-/// The words behind those of these types, if the first ones are of these types, one by one.
+/// The words after those of these types, if the first ones are of these types, one by one.
 fn words_behind<'a>(types: &[ValueType], words: &'a [u64]) -> Option<&'a [u64]>
-    ensures { (others : List Kind) → MatchOption result
+    ensures { (others : List TheValueType) → MatchOption result
         (AreWordsOf (types.now ++ others) words.now → ⊥)
         (λ rest. AreWordsOf (types.now ++ others) words.now ↔ AreWordsOf others rest.now) }
 {

@@ -18,11 +18,11 @@ use Rattle.wasm_semantics.specs.Types.{is_same_function_type}
 use Rattle.wasm_semantics.specs.Typing.{Context}
 use Rattle.wasm_semantics.specs.Configuration.{Callee, Program, Label, Frame, FrameOf, Thread}
 use Rattle.wasm_semantics.specs.Configuration.{Configuration, Traps}
-use Rattle.wasm_semantics.specs.Steps.{called, calls_entry, kind_of, rule, IsSettled}
+use Rattle.wasm_semantics.specs.Steps.{called, calls_entry, signature_of, counted_step, IsReduced}
 use Rattle.wasm_semantics.specs.Typed.{IsTypedProgram, IsTypedEntry}
 use Rattle.wasm_semantics.proofs.Soundness.ControlSound.{same_function_type}
 use Rattle.wasm_semantics.proofs.Soundness.ControlSound.{are_same as types_same}
-use Rattle.wasm_semantics.proofs.Soundness.RuleSound.{callee_at, callee_inside}
+use Rattle.wasm_semantics.proofs.Soundness.CountedSound.{callee_at, callee_inside}
 use Rattle.machine_slots.specs.rules.Places.{all_below}
 use Rattle.machine_slots.specs.Frames.{frame_words}
 use Rattle.machine_jumps.specs.Tables.{Table}
@@ -33,8 +33,9 @@ use Rattle.machine_frame.specs.rules.Threads.{PartsStandFor}
 use Rattle.machine_frame.specs.rules.laws.Threads.{Top, EntryLeads, CallLeads, CallsLead}
 use Rattle.machine_frame.specs.rules.laws.Threads.{IndirectCallsLead}
 use Rattle.machine_frame.proofs.Threads.Running.{frames_run}
-use Rattle.machine_frame.proofs.Threads.Rules.{settled_before, with_rest, with_values, call_rule}
-use Rattle.machine_frame.proofs.Threads.Rules.{indirect_rule}
+use Rattle.machine_frame.proofs.Threads.CountedSteps.{reduced_before, with_rest, with_values}
+use Rattle.machine_frame.proofs.Threads.CountedSteps.{call_counted}
+use Rattle.machine_frame.proofs.Threads.CountedSteps.{indirect_counted}
 use Rattle.machine_frame.proofs.Threads.Waiting.{executes}
 use Rattle.machine_frame.proofs.Threads.Entering.{IsCalling, leads}
 
@@ -47,10 +48,10 @@ pub record Direct (c : Context) (program : Program) (held : MachineParts) (d : C
   pub callee : Callee
   pub there : slice_get program.functions g ≡ Some callee
   pub after : Sequence
-  pub calling : IsCalling c program frame frames thread (kind_of callee) held.words ls labels vs
-      after
-  pub settled : IsSettled program d
-  pub calls : rule program d
+  pub calling : IsCalling c program frame frames thread (signature_of callee)
+      held.words ls labels vs after
+  pub reduced : IsReduced program d
+  pub calls : counted_step program d
       ≡ called g callee d (λ others. FrameOf frame.function ls labels others after) vs thread
 
 module _ (c : Context) (program : Program) (opcodes : ℕ → List Instruction) (tables : ℕ
@@ -62,17 +63,17 @@ module _ (c : Context) (program : Program) (opcodes : ℕ → List Instruction) 
         → Direct c program held d frame frames g top.runs.ls top.runs.labels top.runs.vs top.thread
     direct g at =
         let routine = ready.routines frame.function top.own in
-        let s = top.runs.stands in
+        let s = top.runs.is_there in
         let here : HasOpcode top.own.body frame.position (instr.Call g) = (rw routine.spelled at at)
         in
         let x = executes (context_of c top.own) top.own.body frame.position
         (instr.Call g) s.shapes s.types top.runs.rest routine.typed s.reached here tt in
-        let operands : AreOf (takes_of x.rule.0 ++ x.below) top.runs.vs =
-        subst (λ z. AreOf z top.runs.vs) (x.split ∙ ap (λ z. z ++ x.below) x.rule.2) s.operands in
+        let operands : AreOf (takes_of x.typing.0 ++ x.below) top.runs.vs =
+        subst (λ z. AreOf z top.runs.vs) (x.split ∙ ap (λ z. z ++ x.below) x.typing.2) s.operands in
         let callee =
-        callee_at program.functions g x.rule.0
-        (sym (ap (λ fs. slice_get fs g) ready.typed.functions) ∙ x.rule.1) in
-        let calling : IsCalling c program frame frames top.thread x.rule.0 held.words top.runs.ls
+        callee_at program.functions g x.typing.0
+        (sym (ap (λ fs. slice_get fs g) ready.typed.functions) ∙ x.typing.1) in
+        let calling : IsCalling c program frame frames top.thread x.typing.0 held.words top.runs.ls
         top.runs.labels top.runs.vs x.after = record {
           own = top.own;
           callers = top.callers;
@@ -83,7 +84,7 @@ module _ (c : Context) (program : Program) (opcodes : ℕ → List Instruction) 
           below = x.below;
           call = Plain (instr.Call g) x.after;
           reached = x.reached;
-          calls = (x.rule.1, x.rule.2, refl);
+          calls = (x.typing.1, x.typing.2, refl);
           labels_are = s.labels_are;
           locals = s.locals;
           operands = operands;
@@ -99,9 +100,9 @@ module _ (c : Context) (program : Program) (opcodes : ℕ → List Instruction) 
           calling = subst (λ k.
               IsCalling c program frame frames top.thread k held.words top.runs.ls top.runs.labels
               top.runs.vs x.after) (sym callee.2) calling;
-          settled = settled_before program d frame.function top.runs.ls top.runs.vs top.runs.labels
+          reduced = reduced_before program d frame.function top.runs.ls top.runs.vs top.runs.labels
               (instr.Call g) x.after top.thread thread;
-          calls = call_rule program d frame.function top.runs.ls top.runs.vs top.runs.labels g
+          calls = call_counted program d frame.function top.runs.ls top.runs.vs top.runs.labels g
               x.after
               top.thread callee.0 thread callee.1;
         }
@@ -113,7 +114,7 @@ calls_lead c program opcodes tables table held d frame frames f is =
     let here = direct c program opcodes tables held d frame frames is.ready top f is.here in (
       here.callee,
       here.there,
-      leads c program table held d frame frames is.ready.typed is.stands is.frames_are here.settled
+      leads c program table held d frame frames is.ready.typed is.stands is.frames_are here.reduced
           top.thread held.words top.runs.ls top.runs.labels top.runs.vs here.after f here.callee
           here.there here.calling here.calls,
     )
@@ -133,34 +134,34 @@ typed_entry program [] i entry h e = absurd (cc)
 typed_entry program (x ∷ table) zero entry h e = let same : x ≡ entry = cc in rw same at h.0
 typed_entry program (x ∷ table) (suc i) entry h e = typed_entry program table i entry h.1 e
 
-abbrev kind_by : List ValueType → List ValueType → FunctionType
-kind_by parameters results = record { parameters = parameters; results = results }
+abbrev signature_by : List ValueType → List ValueType → FunctionType
+signature_by parameters results = record { parameters = parameters; results = results }
 
-pub same_kind : (f g : FunctionType) → is_same_function_type f g ≡ true → f ≡ g
-same_kind f g e =
+pub same_signature : (f g : FunctionType) → is_same_function_type f g ≡ true → f ≡ g
+same_signature f g e =
     let s = same_function_type f g e in
     let parameters : f.parameters ≡ g.parameters = sym (reverse-reverse f.parameters)
     ∙ ap reverse (sym s.0) ∙ reverse-reverse g.parameters in
     let results : f.results ≡ g.results = sym (reverse-reverse f.results) ∙ ap reverse (sym s.1)
     ∙ reverse-reverse g.results in
-    ap (λ z. kind_by z f.results) parameters ∙ ap (λ z. kind_by g.parameters z) results
+    ap (λ z. signature_by z f.results) parameters ∙ ap (λ z. signature_by g.parameters z) results
 
-kind_same : (f : FunctionType) → is_same_function_type f f ≡ true
-kind_same f = rw (types_same f.parameters) (types_same f.results)
+signature_same : (f : FunctionType) → is_same_function_type f f ≡ true
+signature_same f = rw (types_same f.parameters) (types_same f.results)
 
-other_kind : (f g : FunctionType) → is_same_function_type f g ≡ false → f ≢ g
-other_kind f g e same =
+other_signature : (f g : FunctionType) → is_same_function_type f g ≡ false → f ≢ g
+other_signature f g e same =
     let yes : is_same_function_type f g ≡ true =
-    subst (λ z. is_same_function_type f z ≡ true) same (kind_same f) in
+    subst (λ z. is_same_function_type f z ≡ true) same (signature_same f) in
     let no : true ≡ false = sym yes ∙ e in absurd (cc)
 
 module _ (c : Context) (program : Program) (table : List (Option ℕ)) (held : MachineParts)
     (d : Configuration) (frame : threads.StackFrame) (frames : List threads.StackFrame)
     (typed : IsTypedProgram c program) (stands : PartsStandFor c program table held d)
-    (were : held.frames ≡ frame ∷ frames) (settled : IsSettled program d)
+    (were : held.frames ≡ frame ∷ frames) (reduced : IsReduced program d)
     (thread : Thread) (words : List ℕ) (ls : List Value) (labels : List Label) (vs : List Value)
-    (rest : Sequence) (kind : FunctionType)
-    (calling : IsCalling c program frame frames thread kind words ls labels vs rest)
+    (rest : Sequence) (signature : FunctionType)
+    (calling : IsCalling c program frame frames thread signature words ls labels vs rest)
     (index : ℕ) where
   abbrev caller : List Value → Frame
   caller others = FrameOf frame.function ls labels others rest
@@ -170,52 +171,55 @@ module _ (c : Context) (program : Program) (table : List (Option ℕ)) (held : M
       typed_entry program d.store.table index entry stands.typed.store.table
       (rw stands.same_table e)
 
-  of_kind : (f : ℕ) (callee : Callee) → slice_get program.functions f ≡ Some callee
-      → rule program d ≡ calls_entry program (Some (Some f)) kind d caller vs thread → (b : Bool)
-      → is_same_function_type kind (kind_of callee) ≡ b
-      → (kind ≡ kind_of callee → CallLeads c program table held d words f callee)
-      × (kind ≢ kind_of callee → rule program d ≡ Traps trap.IndirectCallTypeMismatch)
-  of_kind f callee at is true e =
-      let same = same_kind kind (kind_of callee) e in
-      let now : rule program d ≡ called f callee d caller vs thread = is ∙ rw (at, e) refl in (
-        λ z. leads c program table held d frame frames typed stands were settled thread words ls
+  of_signature : (f : ℕ) (callee : Callee) → slice_get program.functions f ≡ Some callee
+      → counted_step program d ≡ calls_entry program (Some (Some f)) signature d caller vs
+      thread → (b : Bool) → is_same_function_type signature (signature_of callee) ≡ b
+      → (signature ≡ signature_of callee → CallLeads c program table held d words f callee)
+      × (signature ≢ signature_of callee → counted_step program d
+      ≡ Traps trap.IndirectCallTypeMismatch)
+  of_signature f callee at is true e =
+      let same = same_signature signature (signature_of callee) e in
+      let now : counted_step program d ≡ called f callee d caller vs thread = is
+      ∙ rw (at, e) refl in (
+        λ z. leads c program table held d frame frames typed stands were reduced thread words ls
             labels vs rest f callee at
             (subst (λ k. IsCalling c program frame frames thread k words ls labels vs rest) same
             calling) now,
         λ z. absurd (z same),
       )
-  of_kind f callee at is false e =
-      let no = other_kind kind (kind_of callee) e in
-      let now : rule program d ≡ Traps trap.IndirectCallTypeMismatch = is ∙ rw (at, e) refl in
-      (λ z. absurd (no z), λ z. now)
+  of_signature f callee at is false e =
+      let no = other_signature signature (signature_of callee) e in
+      let now : counted_step program d ≡ Traps trap.IndirectCallTypeMismatch = is
+      ∙ rw (at, e) refl in (λ z. absurd (no z), λ z. now)
 
   pub entry_leads : (entry : Option (Option ℕ)) → slice_get table index ≡ entry
-      → rule program d ≡ calls_entry program entry kind d caller vs thread
-      → EntryLeads c program table held d words kind entry
+      → counted_step program d ≡ calls_entry program entry signature d caller vs thread
+      → EntryLeads c program table held d words signature entry
   entry_leads None e is = is
   entry_leads (Some None) e is = is
   entry_leads (Some (Some f)) e is =
       let callee = callee_inside program.functions f (entry_there (Some f) e) in (
         callee.0,
         callee.1,
-        of_kind f callee.0 callee.1 is (is_same_function_type kind (kind_of callee.0)) refl,
+        of_signature f callee.0 callee.1 is (is_same_function_type signature
+            (signature_of callee.0)) refl,
       )
 
 -- the running frame at a call through the table of a function of the type t
 pub record Indirect (c : Context) (program : Program) (held : MachineParts) (d : Configuration)
     (frame : threads.StackFrame) (frames : List threads.StackFrame) (t : ℕ) (ls : List Value)
     (labels : List Label) (thread : Thread) : Type 0 where
-  pub kind : FunctionType
-  pub kind_is : slice_get program.types t ≡ Some kind
+  pub signature : FunctionType
+  pub signature_is : slice_get program.types t ≡ Some signature
   pub index : ℕ
   pub words : List ℕ
   pub words_are : held.words ≡ index ∷ words
   pub vs : List Value
   pub after : Sequence
-  pub calling : IsCalling c program frame frames thread kind words ls labels vs after
-  pub settled : IsSettled program d
-  pub calls : rule program d ≡ calls_entry program (slice_get d.store.table index) kind d (λ others.
-      FrameOf frame.function ls labels others after) vs thread
+  pub calling : IsCalling c program frame frames thread signature words ls labels vs after
+  pub reduced : IsReduced program d
+  pub calls : counted_step program d ≡ calls_entry program (slice_get d.store.table index)
+      signature d (λ others. FrameOf frame.function ls labels others after) vs thread
 
 module _ (c : Context) (program : Program) (opcodes : ℕ → List Instruction) (tables : ℕ
     → Table) (held : MachineParts) (d : Configuration) (frame : threads.StackFrame)
@@ -227,20 +231,20 @@ module _ (c : Context) (program : Program) (opcodes : ℕ → List Instruction) 
         → Indirect c program held d frame frames t top.runs.ls top.runs.labels top.thread
     indirect t at =
         let routine = ready.routines frame.function top.own in
-        let s = top.runs.stands in
+        let s = top.runs.is_there in
         let here : HasOpcode top.own.body frame.position (instr.CallIndirect t) =
         (rw routine.spelled at at) in
         let x = executes (context_of c top.own) top.own.body frame.position
         (instr.CallIndirect t) s.shapes s.types top.runs.rest routine.typed s.reached here tt in
-        let kind : FunctionType = x.rule.0 in
-        let kind_is : slice_get program.types t ≡ Some kind =
-        sym (ap (λ ts. slice_get ts t) ready.typed.types) ∙ x.rule.1 in
-        let operands : AreOf (I32 ∷ (takes_of kind ++ x.below)) top.runs.vs =
-        subst (λ z. AreOf z top.runs.vs) (x.split ∙ ap (λ z. z ++ x.below) x.rule.3) s.operands in
-        let on = indexed (takes_of kind ++ x.below) top.runs.vs operands in
+        let signature : FunctionType = x.typing.0 in
+        let signature_is : slice_get program.types t ≡ Some signature =
+        sym (ap (λ ts. slice_get ts t) ready.typed.types) ∙ x.typing.1 in
+        let operands : AreOf (I32 ∷ (takes_of signature ++ x.below)) top.runs.vs =
+        subst (λ z. AreOf z top.runs.vs) (x.split ∙ ap (λ z. z ++ x.below) x.typing.3) s.operands in
+        let on = indexed (takes_of signature ++ x.below) top.runs.vs operands in
         let words : List ℕ =
         frame_words top.runs.ls on.1 (map number_in (all_below top.runs.labels)) top.callers in
-        let calling : IsCalling c program frame frames top.thread kind words top.runs.ls
+        let calling : IsCalling c program frame frames top.thread signature words top.runs.ls
         top.runs.labels on.1 x.after = record {
           own = top.own;
           callers = top.callers;
@@ -251,7 +255,7 @@ module _ (c : Context) (program : Program) (opcodes : ℕ → List Instruction) 
           below = x.below;
           call = Plain (instr.CallIndirect t) x.after;
           reached = x.reached;
-          calls = (x.rule.1, x.rule.3, refl);
+          calls = (x.typing.1, x.typing.3, refl);
           labels_are = s.labels_are;
           locals = s.locals;
           operands = on.3;
@@ -264,8 +268,8 @@ module _ (c : Context) (program : Program) (opcodes : ℕ → List Instruction) 
         with_values d frame.function top.runs.ls top.runs.vs (value.I32 on.0
         ∷ on.1) top.runs.labels (Plain (instr.CallIndirect t) x.after) top.thread before on.2 in
         record {
-          kind = kind;
-          kind_is = kind_is;
+          signature = signature;
+          signature_is = signature_is;
           index = on.0;
           words = words;
           words_are = top.runs.words_are
@@ -274,10 +278,10 @@ module _ (c : Context) (program : Program) (opcodes : ℕ → List Instruction) 
           vs = on.1;
           after = x.after;
           calling = calling;
-          settled = settled_before program d frame.function top.runs.ls (value.I32 on.0
+          reduced = reduced_before program d frame.function top.runs.ls (value.I32 on.0
               ∷ on.1) top.runs.labels (instr.CallIndirect t) x.after top.thread thread;
-          calls = indirect_rule program d frame.function top.runs.ls on.1 top.runs.labels t on.0
-              x.after top.thread kind thread kind_is;
+          calls = indirect_counted program d frame.function top.runs.ls on.1 top.runs.labels t on.0
+              x.after top.thread signature thread signature_is;
         }
 
 pub indirect_calls_lead : IndirectCallsLead
@@ -285,18 +289,18 @@ indirect_calls_lead c program opcodes tables table held d frame frames t is =
     let top = frames_run c program opcodes tables table held d frame frames is.ready is.stands
     is.frames_are in
     let here = indirect c program opcodes tables held d frame frames is.ready top t is.here in
-    let called_is : rule program d
-    ≡ calls_entry program (slice_get table here.index) here.kind d (λ others.
+    let called_is : counted_step program d
+    ≡ calls_entry program (slice_get table here.index) here.signature d (λ others.
     FrameOf frame.function top.runs.ls top.runs.labels others here.after) here.vs top.thread =
-    here.calls ∙ ap (λ z. calls_entry program (slice_get z here.index) here.kind d (λ others.
+    here.calls ∙ ap (λ z. calls_entry program (slice_get z here.index) here.signature d (λ others.
     FrameOf frame.function top.runs.ls top.runs.labels others here.after) here.vs top.thread)
     is.stands.same_table in (
-      here.kind,
-      here.kind_is,
+      here.signature,
+      here.signature_is,
       here.index,
       here.words,
       here.words_are,
       entry_leads c program table held d frame frames is.ready.typed is.stands is.frames_are
-          here.settled top.thread here.words top.runs.ls top.runs.labels here.vs here.after
-          here.kind here.calling here.index (slice_get table here.index) refl called_is,
+          here.reduced top.thread here.words top.runs.ls top.runs.labels here.vs here.after
+          here.signature here.calling here.index (slice_get table here.index) refl called_is,
     )

@@ -12,10 +12,12 @@ use Rattle.wasm_syntax.specs.declared.value.Trap.TheVariants as trap
 use Rattle.wasm_syntax.specs.rules.Sequence.{Sequence}
 use Rattle.wasm_semantics.specs.Types.{AreOf, number_in, takes_of}
 use Rattle.wasm_semantics.specs.Typing.{Context}
-use Rattle.wasm_semantics.specs.Configuration.{Callee, Host, Own, Program, Label, Frame, FrameOf}
+use Rattle.wasm_semantics.specs.Configuration.{Callee, Imported, Own, Program, Label, Frame}
+use Rattle.wasm_semantics.specs.Configuration.{FrameOf}
 use Rattle.wasm_semantics.specs.Configuration.{Thread, Configuration, Outcome, Goes, Traps, Asks}
-use Rattle.wasm_semantics.specs.Steps.{topmost, entered, called, held_by, is_exhausted, kind_of}
-use Rattle.wasm_semantics.specs.Steps.{zero_of, rule, IsSettled, IsCounted}
+use Rattle.wasm_semantics.specs.Steps.{topmost, entered, called, held_by, is_exhausted}
+use Rattle.wasm_semantics.specs.Steps.{signature_of}
+use Rattle.wasm_semantics.specs.Steps.{zero_of, counted_step, IsReduced, IsCounted}
 use Rattle.wasm_semantics.specs.Shapes.{LabelShape}
 use Rattle.wasm_semantics.specs.Typed.{IsTypedProgram}
 use Rattle.wasm_semantics.proofs.Soundness.Values.{topmost_are, zeros_are, are_both, reverse_are}
@@ -23,13 +25,13 @@ use Rattle.machine_slots.specs.rules.Places.{HaveShape, all_below, IsCallOf}
 use Rattle.machine_slots.specs.Frames.{frame_words}
 use Rattle.machine_slots.proofs.Branches.{topmost_is, entry_pushes}
 use Rattle.machine_jumps.specs.Jumps.{HasShape}
-use Rattle.machine_frame.proofs.Standing.Positions.{entry_stands}
+use Rattle.machine_frame.proofs.FramePosition.Positions.{entry_is_typed}
 use Rattle.machine_frame.specs.declared.rules.frame.StackFrame as threads
 use Rattle.machine_frame.specs.rules.Threads.{IsOwn, context_of, AreWaiting, MachineParts}
 use Rattle.machine_frame.specs.rules.Threads.{PartsStandFor}
 use Rattle.machine_frame.specs.rules.laws.Threads.{CallLeads}
 use Rattle.machine_frame.proofs.Threads.Words.{values_count, waiting_words, waiting_frames}
-use Rattle.machine_frame.proofs.Threads.Rules.{counted_typed}
+use Rattle.machine_frame.proofs.Threads.CountedSteps.{counted_typed}
 use Rattle.machine_frame.proofs.Threads.Waiting.{words_above}
 
 -- ---- the limits of the stack
@@ -76,50 +78,50 @@ chosen_second b x y e = rw e refl
 -- The running frame is at a call of a function of this type. Its words are `words`, with the
 -- arguments on top, and its values `vs`, where a call through the table has taken its index.
 pub record IsCalling (c : Context) (program : Program) (frame : threads.StackFrame)
-    (frames : List threads.StackFrame) (thread : Thread) (kind : FunctionType) (words : List ℕ)
+    (frames : List threads.StackFrame) (thread : Thread) (signature : FunctionType) (words : List ℕ)
     (ls : List Value) (labels : List Label) (vs : List Value) (rest : Sequence) : Type 0 where
   pub own : IsOwn program frame.function
   pub callers : List ℕ
   pub base_is : frame.base ≡ length callers
-  pub waiting : AreWaiting c program own.kind frames callers thread
+  pub waiting : AreWaiting c program own.signature frames callers thread
   pub shapes : List LabelShape
   pub takes : List ValueType
   pub below : List ValueType
   pub call : Sequence
   pub reached : HasShape (context_of c own) own.body frame.position shapes (takes ++ below) call
-  pub calls : IsCallOf (context_of c own) call kind takes rest
+  pub calls : IsCallOf (context_of c own) call signature takes rest
   pub labels_are : HaveShape shapes labels
   pub locals : AreOf (context_of c own).locals ls
-  pub operands : AreOf (takes_of kind ++ below) vs
+  pub operands : AreOf (takes_of signature ++ below) vs
   pub words_are : words ≡ frame_words ls vs (map number_in (all_below labels)) callers
 
 module _ (c : Context) (program : Program) (frame : threads.StackFrame)
-    (frames : List threads.StackFrame) (thread : Thread) (kind : FunctionType) (words : List ℕ)
+    (frames : List threads.StackFrame) (thread : Thread) (signature : FunctionType) (words : List ℕ)
     (ls : List Value) (labels : List Label) (vs : List Value) (rest : Sequence)
-    (calling : IsCalling c program frame frames thread kind words ls labels vs rest) where
+    (calling : IsCalling c program frame frames thread signature words ls labels vs rest) where
   -- the words below the arguments
   abbrev pub under : List ℕ
-  under = frame_words ls (drop (length (takes_of kind)) vs)
+  under = frame_words ls (drop (length (takes_of signature)) vs)
       (map number_in (all_below labels)) calling.callers
 
   -- the frame that waits
   abbrev pub waits : Thread
-  waits = FrameOf frame.function ls labels (drop (length (takes_of kind)) vs) rest ∷ thread
+  waits = FrameOf frame.function ls labels (drop (length (takes_of signature)) vs) rest ∷ thread
 
   pub record Taken : Type 0 where
     pub arguments : List Value
-    pub top : topmost (length (takes_of kind)) vs ≡ Some arguments
-    pub are : AreOf (takes_of kind) arguments
+    pub top : topmost (length (takes_of signature)) vs ≡ Some arguments
+    pub are : AreOf (takes_of signature) arguments
     pub words_are : words ≡ map number_in arguments ++ under
-    pub count : length arguments ≡ length kind.parameters
-    pub waiting : AreWaiting c program kind (frame ∷ frames) under waits
+    pub count : length arguments ≡ length signature.parameters
+    pub waiting : AreWaiting c program signature (frame ∷ frames) under waits
     pub held : length under ≡ held_by waits
 
   pub taken : Taken
   taken =
-      let r = topmost_are (takes_of kind) calling.below vs calling.operands in
-      let split = topmost_is (length (takes_of kind)) vs r.0 r.1 in
-      let waiting : AreWaiting c program kind (frame ∷ frames) under waits = (
+      let r = topmost_are (takes_of signature) calling.below vs calling.operands in
+      let split = topmost_is (length (takes_of signature)) vs r.0 r.1 in
+      let waiting : AreWaiting c program signature (frame ∷ frames) under waits = (
         calling.own,
         refl,
         record {
@@ -144,23 +146,23 @@ module _ (c : Context) (program : Program) (frame : threads.StackFrame)
         words_are =
             calling.words_are
             ∙ ap (λ z. frame_words ls z (map number_in (all_below labels)) calling.callers) split.1
-            ∙ words_above ls r.0 (drop (length (takes_of kind)) vs)
+            ∙ words_above ls r.0 (drop (length (takes_of signature)) vs)
             (map number_in (all_below labels)) calling.callers;
-        count = values_count (takes_of kind) r.0 r.2 ∙ length-reverse kind.parameters;
+        count = values_count (takes_of signature) r.0 r.2 ∙ length-reverse signature.parameters;
         waiting = waiting;
-        held = waiting_words c program kind (frame ∷ frames) under waits waiting;
+        held = waiting_words c program signature (frame ∷ frames) under waits waiting;
       }
 
 -- ---- what follows
 
 -- the locals of a function that is entered
-pub entered_locals : (kind : FunctionType) (declared : List ValueType) (arguments : List Value)
-    → AreOf (takes_of kind) arguments
-    → AreOf (kind.parameters ++ declared) (reverse arguments ++ map zero_of declared)
-entered_locals kind declared arguments are =
-    let first : AreOf kind.parameters (reverse arguments) =
-    (rw reverse-reverse at (reverse_are (takes_of kind) arguments are)) in
-    are_both kind.parameters declared (reverse arguments) (map zero_of declared) first
+pub entered_locals : (signature : FunctionType) (declared : List ValueType) (arguments : List Value)
+    → AreOf (takes_of signature) arguments
+    → AreOf (signature.parameters ++ declared) (reverse arguments ++ map zero_of declared)
+entered_locals signature declared arguments are =
+    let first : AreOf signature.parameters (reverse arguments) =
+    (rw reverse-reverse at (reverse_are (takes_of signature) arguments are)) in
+    are_both signature.parameters declared (reverse arguments) (map zero_of declared) first
     (zeros_are declared)
 
 pub entered_count : (declared : List ValueType) (arguments : List Value)
@@ -173,61 +175,62 @@ entered_count declared arguments =
       length-map declared zero_of,
     )
 
-pub called_own : (f : ℕ) (kind : FunctionType) (declared : List ValueType) (body : Sequence)
+pub called_own : (f : ℕ) (signature : FunctionType) (declared : List ValueType) (body : Sequence)
     (d : Configuration) (caller : List Value → Frame) (vs arguments : List Value) (thread : Thread)
-    → topmost (length (takes_of kind)) vs ≡ Some arguments
-    → called f (Own kind declared body) d caller vs thread
-    ≡ (if is_exhausted (entered f kind declared body arguments
-    ∷ caller (drop (length (takes_of kind)) vs) ∷ thread) then Traps trap.StackExhausted
+    → topmost (length (takes_of signature)) vs ≡ Some arguments
+    → called f (Own signature declared body) d caller vs thread
+    ≡ (if is_exhausted (entered f signature declared body arguments
+    ∷ caller (drop (length (takes_of signature)) vs) ∷ thread) then Traps trap.StackExhausted
     else Goes (record d {
-      thread = entered f kind declared body arguments
-          ∷ caller (drop (length (takes_of kind)) vs) ∷ thread;
+      thread = entered f signature declared body arguments
+          ∷ caller (drop (length (takes_of signature)) vs) ∷ thread;
     }))
-called_own f kind declared body d caller vs arguments thread e = rw e refl
+called_own f signature declared body d caller vs arguments thread e = rw e refl
 
-pub called_host : (f : ℕ) (kind : FunctionType) (d : Configuration) (caller : List Value
+pub called_import : (f : ℕ) (signature : FunctionType) (d : Configuration) (caller : List Value
     → Frame) (vs arguments : List Value) (thread : Thread)
-    → topmost (length (takes_of kind)) vs ≡ Some arguments
-    → called f (Host kind) d caller vs thread
-    ≡ Asks f arguments (caller (drop (length (takes_of kind)) vs) ∷ thread)
-called_host f kind d caller vs arguments thread e = rw e refl
+    → topmost (length (takes_of signature)) vs ≡ Some arguments
+    → called f (Imported signature) d caller vs thread
+    ≡ Asks f arguments (caller (drop (length (takes_of signature)) vs) ∷ thread)
+called_import f signature d caller vs arguments thread e = rw e refl
 
 module _ (c : Context) (program : Program) (table : List (Option ℕ)) (held : MachineParts)
     (d : Configuration) (frame : threads.StackFrame) (frames : List threads.StackFrame)
     (typed : IsTypedProgram c program) (stands : PartsStandFor c program table held d)
-    (were : held.frames ≡ frame ∷ frames) (settled : IsSettled program d)
+    (were : held.frames ≡ frame ∷ frames) (reduced : IsReduced program d)
     (thread : Thread) (words : List ℕ) (ls : List Value) (labels : List Label) (vs : List Value)
     (rest : Sequence) (f : ℕ) where
   abbrev caller : List Value → Frame
   caller others = FrameOf frame.function ls labels others rest
 
-  host_leads : (kind : FunctionType)
-      → IsCalling c program frame frames thread kind words ls labels vs rest
-      → rule program d ≡ called f (Host kind) d caller vs thread
-      → CallLeads c program table held d words f (Host kind)
-  host_leads kind calling is =
-      let t = taken c program frame frames thread kind words ls labels vs rest calling in (
+  import_leads : (signature : FunctionType)
+      → IsCalling c program frame frames thread signature words ls labels vs rest
+      → counted_step program d ≡ called f (Imported signature) d caller vs thread
+      → CallLeads c program table held d words f (Imported signature)
+  import_leads signature calling is =
+      let t = taken c program frame frames thread signature words ls labels vs rest calling in (
         t.arguments,
-        waits c program frame frames thread kind words ls labels vs rest calling,
-        under c program frame frames thread kind words ls labels vs rest calling,
-        is ∙ called_host f kind d caller vs t.arguments thread t.top,
+        waits c program frame frames thread signature words ls labels vs rest calling,
+        under c program frame frames thread signature words ls labels vs rest calling,
+        is ∙ called_import f signature d caller vs t.arguments thread t.top,
         t.are,
         t.words_are,
       )
 
-  module _ (kind : FunctionType) (declared : List ValueType) (body : Sequence)
-      (at : slice_get program.functions f ≡ Some (Own kind declared body))
-      (calling : IsCalling c program frame frames thread kind words ls labels vs rest)
-      (is : rule program d ≡ called f (Own kind declared body) d caller vs thread) where
-    abbrev now : Taken c program frame frames thread kind words ls labels vs rest calling
-    now = taken c program frame frames thread kind words ls labels vs rest calling
+  module _ (signature : FunctionType) (declared : List ValueType) (body : Sequence)
+      (at : slice_get program.functions f ≡ Some (Own signature declared body))
+      (calling : IsCalling c program frame frames thread signature words ls labels vs rest)
+      (is : counted_step program d ≡ called f (Own signature declared body) d caller
+      vs thread) where
+    abbrev now : Taken c program frame frames thread signature words ls labels vs rest calling
+    now = taken c program frame frames thread signature words ls labels vs rest calling
 
     abbrev below : List ℕ
-    below = under c program frame frames thread kind words ls labels vs rest calling
+    below = under c program frame frames thread signature words ls labels vs rest calling
 
     abbrev inside : Thread
-    inside = entered f kind declared body now.arguments
-        ∷ waits c program frame frames thread kind words ls labels vs rest calling
+    inside = entered f signature declared body now.arguments
+        ∷ waits c program frame frames thread signature words ls labels vs rest calling
 
     abbrev next : Configuration
     next = record d { thread = inside }
@@ -235,7 +238,7 @@ module _ (c : Context) (program : Program) (table : List (Option ℕ)) (held : M
     deeper : length inside ≡ length held.frames + 1
     deeper =
         let frames_count =
-        waiting_frames c program calling.own.kind frames calling.callers thread calling.waiting
+        waiting_frames c program calling.own.signature frames calling.callers thread calling.waiting
         in
         omega (arith, ap length were)
 
@@ -252,7 +255,7 @@ module _ (c : Context) (program : Program) (table : List (Option ℕ)) (held : M
           length-map now.arguments number_in,
         )
 
-    enough : length words ≡ length kind.parameters + length below
+    enough : length words ≡ length signature.parameters + length below
     enough =
         let all = ap length now.words_are in
         omega (
@@ -267,15 +270,15 @@ module _ (c : Context) (program : Program) (table : List (Option ℕ)) (held : M
         → IsCounted program d next
     goes h k =
         is
-        ∙ called_own f kind declared body d caller vs now.arguments thread now.top
+        ∙ called_own f signature declared body d caller vs now.arguments thread now.top
         ∙ chosen_second (is_exhausted inside) (Traps trap.StackExhausted) (Goes next)
         (fits inside (omega (arith, deeper)) (omega (arith, more_held)))
 
     traps : (512 ≤ length held.frames) ⊎ (65536 < length declared + length words)
-        → rule program d ≡ Traps trap.StackExhausted
+        → counted_step program d ≡ Traps trap.StackExhausted
     traps h =
         is
-        ∙ called_own f kind declared body d caller vs now.arguments thread now.top
+        ∙ called_own f signature declared body d caller vs now.arguments thread now.top
         ∙ chosen_first (is_exhausted inside) (Traps trap.StackExhausted) (Goes next)
         (exhausts inside
         (⊎_elim
@@ -288,14 +291,14 @@ module _ (c : Context) (program : Program) (table : List (Option ℕ)) (held : M
           frames = record {
             function = f;
             position = 0;
-            base = length words - length kind.parameters;
+            base = length words - length signature.parameters;
           } ∷ held.frames;
           words = replicate (length declared) 0 ++ words;
         }) next
     stands_inside h k =
         let locals : List Value = reverse now.arguments ++ map zero_of declared in
         let own : IsOwn program f = record {
-          kind = kind;
+          signature = signature;
           declared = declared;
           body = body;
           is = at;
@@ -304,12 +307,12 @@ module _ (c : Context) (program : Program) (table : List (Option ℕ)) (held : M
         ap (λ z. replicate (length declared) 0 ++ z) now.words_are
         ∙ sym (entry_pushes now.arguments declared below) in
         record {
-          typed = counted_typed c program d next typed stands.typed settled (goes h k);
+          typed = counted_typed c program d next typed stands.typed reduced (goes h k);
           frames = rw were (
             own,
             refl,
-            entry_stands (context_of c own) body locals
-                (entered_locals kind declared now.arguments now.are),
+            entry_is_typed (context_of c own) body locals
+                (entered_locals signature declared now.arguments now.are),
             below,
             record { words_are = pushed; base_is = omega (arith, enough) },
             now.waiting,
@@ -321,12 +324,13 @@ module _ (c : Context) (program : Program) (table : List (Option ℕ)) (held : M
           few_values = omega (arith, more_held);
         }
 
-    own_leads : CallLeads c program table held d words f (Own kind declared body)
+    own_leads : CallLeads c program table held d words f (Own signature declared body)
     own_leads = (omega (arith, enough), λ h k. (next, goes h k, stands_inside h k), λ h. traps h)
 
   pub leads : (callee : Callee) → slice_get program.functions f ≡ Some callee
-      → IsCalling c program frame frames thread (kind_of callee) words ls labels vs rest
-      → rule program d ≡ called f callee d caller vs thread
+      → IsCalling c program frame frames thread (signature_of callee) words ls labels vs rest
+      → counted_step program d ≡ called f callee d caller vs thread
       → CallLeads c program table held d words f callee
-  leads (Host kind) at calling is = host_leads kind calling is
-  leads (Own kind declared body) at calling is = own_leads kind declared body at calling is
+  leads (Imported signature) at calling is = import_leads signature calling is
+  leads (Own signature declared body) at calling is = own_leads signature declared
+      body at calling is

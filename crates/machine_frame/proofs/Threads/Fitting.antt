@@ -17,7 +17,7 @@ use Rattle.wasm_semantics.specs.Typing.{Context, HasType, body_context}
 use Rattle.wasm_semantics.specs.Configuration.{Own, Program, Store, Label, LabelOf, FrameOf}
 use Rattle.wasm_semantics.specs.Configuration.{Thread}
 use Rattle.wasm_semantics.specs.Shapes.{LabelShape, ShapeOf, AreTypedShapes}
-use Rattle.wasm_semantics.specs.Steps.{held_by, held_below, left_by}
+use Rattle.wasm_semantics.specs.Steps.{held_by, held_below, exited_by}
 use Rattle.wasm_semantics.specs.Typed.{IsTypedMemory, IsTypedProgram, IsTypedThread}
 use Rattle.wasm_semantics.specs.Typed.{AreTypedLabels, IsEntry}
 use Rattle.wasm_semantics.proofs.TypedShape.{reached_shapes_typed}
@@ -190,15 +190,15 @@ callers_fit c program above (place ∷ places) (FrameOf f ls labels vs rest ∷ 
     let own = h.0 in
     let words =
     words_of_parts
-    (own.kind.parameters ++ own.declared) s.types s.shape.labels ls labels vs s.labels_are
+    (own.signature.parameters ++ own.declared) s.types s.shape.labels ls labels vs s.labels_are
     s.operands s.locals in (
       record {
-        kind = own.kind;
+        signature = own.signature;
         declared = own.declared;
         body = own.body;
         is =
-            subst (λ z. slice_get program.functions z ≡ Some (Own own.kind own.declared own.body))
-            (sym own.same) own.is;
+            subst (λ z. slice_get program.functions z ≡ Some
+            (Own own.signature own.declared own.body)) (sym own.same) own.is;
         same = refl;
       },
       record {
@@ -211,10 +211,10 @@ callers_fit c program above (place ∷ places) (FrameOf f ls labels vs rest ∷ 
         split = s.split;
         words =
             subst
-            (AreWordsOf ((own.kind.parameters ++ own.declared) ++ reverse
+            (AreWordsOf ((own.signature.parameters ++ own.declared) ++ reverse
             (s.types ++ types_below s.shape.labels))) (sym s.slots) words;
       },
-      callers_fit c program own.kind places thread h.2,
+      callers_fit c program own.signature places thread h.2,
     )
 
 frames_fit : (c : Context) (program : Program) (places : List ShownFrame) (thread : Thread)
@@ -226,25 +226,25 @@ frames_fit c program (place ∷ places) (FrameOf f ls labels vs rest ∷ thread)
     let own = h.0 in
     let words =
     words_of_parts
-    (own.kind.parameters ++ own.declared) s.shape.operands s.shape.labels ls labels vs
+    (own.signature.parameters ++ own.declared) s.shape.operands s.shape.labels ls labels vs
     s.labels_are s.operands s.locals in (
       record {
-        kind = own.kind;
+        signature = own.signature;
         declared = own.declared;
         body = own.body;
         is =
-            subst (λ z. slice_get program.functions z ≡ Some (Own own.kind own.declared own.body))
-            (sym own.same) own.is;
+            subst (λ z. slice_get program.functions z ≡ Some
+            (Own own.signature own.declared own.body)) (sym own.same) own.is;
         same = refl;
       },
       record {
         shape = s.shape;
         reached = s.reached;
         more = λ e. s.more (s.remains ∙ e);
-        words = subst (AreWordsOf ((own.kind.parameters ++ own.declared) ++ types_in s.shape))
+        words = subst (AreWordsOf ((own.signature.parameters ++ own.declared) ++ types_in s.shape))
             (sym s.slots) words;
       },
-      callers_fit c program own.kind places thread h.2,
+      callers_fit c program own.signature places thread h.2,
     )
 
 -- a thread that is shown
@@ -261,8 +261,8 @@ shown_callers c program above (place ∷ places) h =
     let own = h.0 in
     let p =
     parts_with
-    (own.kind.parameters ++ own.declared) s.types s.shape.labels place.slots s.words in
-    let more = shown_callers c program own.kind places h.2 in
+    (own.signature.parameters ++ own.declared) s.types s.shape.labels place.slots s.words in
+    let more = shown_callers c program own.signature places h.2 in
     record {
       thread = FrameOf place.function p.ls p.labels p.vs s.rest ∷ more.thread;
       shows = (
@@ -295,8 +295,9 @@ shown_thread c program (place ∷ places) h =
     let own = h.0 in
     let p =
     parts_with
-    (own.kind.parameters ++ own.declared) s.shape.operands s.shape.labels place.slots s.words in
-    let more = shown_callers c program own.kind places h.2 in
+    (own.signature.parameters ++ own.declared) s.shape.operands s.shape.labels
+    place.slots s.words in
+    let more = shown_callers c program own.signature places h.2 in
     record {
       thread = FrameOf place.function p.ls p.labels p.vs s.shape.rest ∷ more.thread;
       shows = (
@@ -339,36 +340,36 @@ labels_typed c (ts ∷ tss) (ShapeOf takes target types after which ∷ shapes)
 
 -- what follows a call is typed with what the call gives
 behind_call : (c : Context) (branches : List (List ValueType)) (call rest : Sequence)
-    (kind : FunctionType) (takes types out : List ValueType)
-    → IsCallOf c call kind takes rest → HasType c branches call (takes ++ types) out
-    → HasType c branches rest (gives_of kind ++ types) out
-behind_call c branches (Plain (instr.Call x) after) rest kind takes types out h t =
+    (signature : FunctionType) (takes types out : List ValueType)
+    → IsCallOf c call signature takes rest → HasType c branches call (takes ++ types) out
+    → HasType c branches rest (gives_of signature ++ types) out
+behind_call c branches (Plain (instr.Call x) after) rest signature takes types out h t =
     let known = h.0 in
-    let rule = t.4 in
-    let found = rule.1 in
-    let same : rule.0 ≡ kind = cc in
-    let taken : t.0 ≡ takes = rule.2 ∙ ap takes_of same ∙ sym h.1 in
+    let typing = t.4 in
+    let found = typing.1 in
+    let same : typing.0 ≡ signature = cc in
+    let taken : t.0 ≡ takes = typing.2 ∙ ap takes_of same ∙ sym h.1 in
     let below : t.2 ≡ types = append_cancel_left takes t.2 types (ap (λ z. z ++ t.2) (sym taken)
     ∙ sym t.3) in
-    let given : t.1 ≡ gives_of kind = rule.3 ∙ ap gives_of same in
-    let behind : HasType c branches after (gives_of kind ++ types) out =
-    subst (λ z. HasType c branches after (gives_of kind ++ z) out) below
+    let given : t.1 ≡ gives_of signature = typing.3 ∙ ap gives_of same in
+    let behind : HasType c branches after (gives_of signature ++ types) out =
+    subst (λ z. HasType c branches after (gives_of signature ++ z) out) below
     (subst (λ z. HasType c branches after (z ++ t.2) out) given t.5) in
-    subst (λ z. HasType c branches z (gives_of kind ++ types) out) (sym h.2) behind
-behind_call c branches (Plain (instr.CallIndirect x) after) rest kind takes types out h t =
+    subst (λ z. HasType c branches z (gives_of signature ++ types) out) (sym h.2) behind
+behind_call c branches (Plain (instr.CallIndirect x) after) rest signature takes types out h t =
     let known = h.0 in
-    let rule = t.4 in
-    let found = rule.1 in
-    let same : rule.0 ≡ kind = cc in
-    let taken : t.0 ≡ takes = rule.3 ∙ ap (λ z. I32 ∷ takes_of z) same ∙ sym h.1 in
+    let typing = t.4 in
+    let found = typing.1 in
+    let same : typing.0 ≡ signature = cc in
+    let taken : t.0 ≡ takes = typing.3 ∙ ap (λ z. I32 ∷ takes_of z) same ∙ sym h.1 in
     let below : t.2 ≡ types = append_cancel_left takes t.2 types (ap (λ z. z ++ t.2) (sym taken)
     ∙ sym t.3) in
-    let given : t.1 ≡ gives_of kind = rule.4 ∙ ap gives_of same in
-    let behind : HasType c branches after (gives_of kind ++ types) out =
-    subst (λ z. HasType c branches after (gives_of kind ++ z) out) below
+    let given : t.1 ≡ gives_of signature = typing.4 ∙ ap gives_of same in
+    let behind : HasType c branches after (gives_of signature ++ types) out =
+    subst (λ z. HasType c branches after (gives_of signature ++ z) out) below
     (subst (λ z. HasType c branches after (z ++ t.2) out) given t.5) in
-    subst (λ z. HasType c branches z (gives_of kind ++ types) out) (sym h.2) behind
-behind_call c branches _ rest kind takes types out h t = absurd h
+    subst (λ z. HasType c branches z (gives_of signature ++ types) out) (sym h.2) behind
+behind_call c branches _ rest signature takes types out h t = absurd h
 
 module _ (c : Context) (program : Program) (typed : IsTypedProgram c program) where
   callers_typed : (above : FunctionType) (places : List ShownFrame) (thread : Thread)
@@ -380,12 +381,12 @@ module _ (c : Context) (program : Program) (typed : IsTypedProgram c program) wh
   callers_typed above (place ∷ places) (FrameOf f ls labels vs rest ∷ thread) h =
       let own = h.0 in
       let s = h.1 in
-      let inner : Context = body_context c own.kind own.declared in
+      let inner : Context = body_context c own.signature own.declared in
       let t = reached_shapes_typed inner own.body place.position s.shape
-      (typed.bodies f (Own own.kind own.declared own.body) own.is) s.reached in
+      (typed.bodies f (Own own.signature own.declared own.body) own.is) s.reached in
       let here : HasType inner t.branches s.shape.rest (s.takes ++ s.types) t.out =
       subst (λ z. HasType inner t.branches s.shape.rest z t.out) s.split t.typed_rest in (
-        own.kind,
+        own.signature,
         own.declared,
         own.body,
         own.is,
@@ -401,7 +402,7 @@ module _ (c : Context) (program : Program) (typed : IsTypedProgram c program) wh
           typed_labels =
               labels_typed inner t.branches s.shape.labels labels t.out s.labels_are t.typed_labels;
         },
-        callers_typed own.kind places thread h.2,
+        callers_typed own.signature places thread h.2,
       )
 
   thread_typed : (places : List ShownFrame) (thread : Thread)
@@ -412,10 +413,10 @@ module _ (c : Context) (program : Program) (typed : IsTypedProgram c program) wh
   thread_typed (place ∷ places) (FrameOf f ls labels vs rest ∷ thread) h =
       let own = h.0 in
       let s = h.1 in
-      let inner : Context = body_context c own.kind own.declared in
+      let inner : Context = body_context c own.signature own.declared in
       let t = reached_shapes_typed inner own.body place.position s.shape
-      (typed.bodies f (Own own.kind own.declared own.body) own.is) s.reached in (
-        own.kind,
+      (typed.bodies f (Own own.signature own.declared own.body) own.is) s.reached in (
+        own.signature,
         own.declared,
         own.body,
         own.is,
@@ -430,35 +431,35 @@ module _ (c : Context) (program : Program) (typed : IsTypedProgram c program) wh
           typed_labels =
               labels_typed inner t.branches s.shape.labels labels t.out s.labels_are t.typed_labels;
         },
-        callers_typed own.kind places thread h.2,
+        callers_typed own.signature places thread h.2,
       )
 
--- ---- settled threads
+-- ---- reduced threads
 
-frame_settles : (program : Program) (f : ℕ) (ls : List Value) (labels : List Label)
+frame_reduces : (program : Program) (f : ℕ) (ls : List Value) (labels : List Label)
     (vs : List Value) (rest : Sequence) (thread : Thread) (later : List ℕ) (store : Store)
-    → rest ≢ Stop → left_by program (FrameOf f ls labels vs rest ∷ thread) later store ≡ None
-frame_settles program f ls labels vs Stop thread later store more = absurd (more refl)
-frame_settles program f ls labels vs (Plain i rest) thread later store more = refl
-frame_settles program f ls labels vs (InBlock t body rest) thread later store more = refl
-frame_settles program f ls labels vs (InLoop t body rest) thread later store more = refl
-frame_settles program f ls labels vs (InIf t first rest) thread later store more = refl
-frame_settles program f ls labels vs (InIfElse t first second rest) thread later store more = refl
+    → rest ≢ Stop → exited_by program (FrameOf f ls labels vs rest ∷ thread) later store ≡ None
+frame_reduces program f ls labels vs Stop thread later store more = absurd (more refl)
+frame_reduces program f ls labels vs (Plain i rest) thread later store more = refl
+frame_reduces program f ls labels vs (InBlock t body rest) thread later store more = refl
+frame_reduces program f ls labels vs (InLoop t body rest) thread later store more = refl
+frame_reduces program f ls labels vs (InIf t first rest) thread later store more = refl
+frame_reduces program f ls labels vs (InIfElse t first second rest) thread later store more = refl
 
-settles : (c : Context) (program : Program) (places : List ShownFrame) (thread : Thread)
+reduces : (c : Context) (program : Program) (places : List ShownFrame) (thread : Thread)
     (later : List ℕ) (store : Store)
     → ShowsThread c program places thread → (places ≡ [] → later ≡ [])
-    → left_by program thread later store ≡ None
-settles c program [] [] later store h over = ap (λ z. left_by program [] z store) (over refl)
-settles c program [] (frame ∷ thread) later store h over = absurd h
-settles c program (place ∷ places) [] later store h over = absurd h
-settles c program (place ∷ places) (FrameOf f ls labels vs rest ∷ thread) later store h over =
-    frame_settles program f ls labels vs rest thread later store h.1.more
+    → exited_by program thread later store ≡ None
+reduces c program [] [] later store h over = ap (λ z. exited_by program [] z store) (over refl)
+reduces c program [] (frame ∷ thread) later store h over = absurd h
+reduces c program (place ∷ places) [] later store h over = absurd h
+reduces c program (place ∷ places) (FrameOf f ls labels vs rest ∷ thread) later store h over =
+    frame_reduces program f ls labels vs rest thread later store h.1.more
 
--- where a settled thread has no frames, the host calls nothing more
+-- where a reduced thread has no frames, the host calls nothing more
 pub nothing_later : (program : Program) (later : List ℕ) (store : Store)
     → AllByRecursion (IsEntry program) later
-    → left_by program [] later store ≡ None → later ≡ []
+    → exited_by program [] later store ≡ None → later ≡ []
 nothing_later program [] store h e = refl
 nothing_later program (f ∷ later) store h e =
     let there = h.0.3 in
@@ -468,7 +469,7 @@ nothing_later program (f ∷ later) store h e =
 over_shown : (c : Context) (program : Program) (places : List ShownFrame) (thread : Thread)
     (later : List ℕ) (store : Store)
     → ShowsThread c program places thread → AllByRecursion (IsEntry program) later
-    → left_by program thread later store ≡ None
+    → exited_by program thread later store ≡ None
     → places ≡ [] → later ≡ []
 over_shown c program [] [] later store h entries e none =
     nothing_later program later store entries e
@@ -504,15 +505,15 @@ callers_count c program above (place ∷ places) (FrameOf f ls labels vs rest �
     omega (
       arith,
       slots_count place ls labels vs h.1.slots,
-      callers_count c program h.0.kind places
+      callers_count c program h.0.signature places
           thread h.2,
     )
 
-locals_count : (c : Context) (kind : FunctionType) (declared : List ValueType) (ls : List Value)
-    → AreOf (body_context c kind declared).locals ls
-    → length ls ≡ length kind.parameters + length declared
-locals_count c kind declared ls h = values_count (kind.parameters ++ declared) ls h
-    ∙ length-append kind.parameters declared
+locals_count : (c : Context) (signature : FunctionType) (declared : List ValueType)
+    (ls : List Value) → AreOf (body_context c signature declared).locals ls
+    → length ls ≡ length signature.parameters + length declared
+locals_count c signature declared ls h = values_count (signature.parameters ++ declared) ls h
+    ∙ length-append signature.parameters declared
 
 few_shown : (c : Context) (program : Program) (places : List ShownFrame) (thread : Thread)
     → ShowsThread c program places thread → held_beside thread ≤ HELD_VALUES
@@ -520,23 +521,23 @@ few_shown : (c : Context) (program : Program) (places : List ShownFrame) (thread
 few_shown c program [] thread h few = tt
 few_shown c program (place ∷ places) [] h few = absurd h
 few_shown c program (place ∷ places) (FrameOf f ls labels vs rest ∷ thread) h few =
-    λ kind declared body is.
+    λ signature declared body is.
     let own = h.0 in
     let known : slice_get program.functions place.function ≡ Some
-    (Own own.kind own.declared own.body) =
-    subst (λ z. slice_get program.functions z ≡ Some (Own own.kind own.declared own.body))
+    (Own own.signature own.declared own.body) =
+    subst (λ z. slice_get program.functions z ≡ Some (Own own.signature own.declared own.body))
     (sym own.same) own.is in
-    let kinds : own.kind ≡ kind = cc in
+    let signatures : own.signature ≡ signature = cc in
     let locals : own.declared ≡ declared = cc in
-    let count = locals_count c own.kind own.declared ls h.1.locals in
-    let callers = callers_count c program own.kind places thread h.2 in
+    let count = locals_count c own.signature own.declared ls h.1.locals in
+    let callers = callers_count c program own.signature places thread h.2 in
     omega (
       arith,
       few,
       count,
       callers,
       ap
-          (λ (z : FunctionType). length z.parameters) kinds,
+          (λ (z : FunctionType). length z.parameters) signatures,
       ap length locals,
     )
 
@@ -549,12 +550,12 @@ few_again c program (place ∷ places) [] h few = absurd h
 few_again c program (place ∷ places) (FrameOf f ls labels vs rest ∷ thread) h few =
     let own = h.0 in
     let known : slice_get program.functions place.function ≡ Some
-    (Own own.kind own.declared own.body) =
-    subst (λ z. slice_get program.functions z ≡ Some (Own own.kind own.declared own.body))
+    (Own own.signature own.declared own.body) =
+    subst (λ z. slice_get program.functions z ≡ Some (Own own.signature own.declared own.body))
     (sym own.same) own.is in
-    let enough = few own.kind own.declared own.body known in
-    let count = locals_count c own.kind own.declared ls h.1.locals in
-    let callers = callers_count c program own.kind places thread h.2 in
+    let enough = few own.signature own.declared own.body known in
+    let count = locals_count c own.signature own.declared ls h.1.locals in
+    let callers = callers_count c program own.signature places thread h.2 in
     omega (arith, enough, count, callers)
 
 -- ---- the whole
@@ -568,7 +569,7 @@ shown_fits c program table state d h =
       later = subst (AllByRecursion (IsEntry program)) (sym h.later) h.typed.later;
       over = λ none. h.later
           ∙ over_shown c program state.frames d.thread d.later d.store h.frames h.typed.later
-          h.settled none;
+          h.reduced none;
       frames = frames_fit c program state.frames d.thread h.frames;
       few_frames = h.few_frames;
       few_values = few_shown c program state.frames d.thread h.frames h.few_values;
@@ -591,7 +592,7 @@ fits_shown c program table state typed entries h =
           thread = thread_typed c program typed state.frames t.thread t.shows;
           later = h.later;
         };
-        settled = settles c program state.frames t.thread state.later store t.shows h.over;
+        reduced = reduces c program state.frames t.thread state.later store t.shows h.over;
         memory = refl;
         globals = sym globals.numbers;
         same_table = refl;

@@ -15,19 +15,21 @@ use Rattle.wasm_syntax.specs.rules.Sequence.{Sequence}
 use Rattle.wasm_semantics.specs.Types.{AreOf, number_in, takes_of, gives_of}
 use Rattle.wasm_semantics.specs.Types.{is_same_function_type}
 use Rattle.wasm_semantics.specs.Typing.{Context}
-use Rattle.wasm_semantics.specs.Configuration.{Callee, Host, Own, Program, Label, Frame, FrameOf}
+use Rattle.wasm_semantics.specs.Configuration.{Callee, Imported, Own, Program, Label, Frame}
+use Rattle.wasm_semantics.specs.Configuration.{FrameOf}
 use Rattle.wasm_semantics.specs.Configuration.{Thread, Configuration, Goes, Traps, Asks}
 use Rattle.wasm_semantics.specs.Steps.{where_some, entered, called, calls_entry, held_by}
-use Rattle.wasm_semantics.specs.Steps.{is_exhausted, kind_of, zero_of, returned, rule, left_by}
-use Rattle.wasm_semantics.specs.Steps.{IsSettled, IsUncounted, answered}
+use Rattle.wasm_semantics.specs.Steps.{is_exhausted, signature_of, zero_of, returned, counted_step}
+use Rattle.wasm_semantics.specs.Steps.{exited_by}
+use Rattle.wasm_semantics.specs.Steps.{IsReduced, IsAdministrative, answered}
 use Rattle.wasm_semantics.specs.Typed.{IsTypedMemory, IsEntry}
-use Rattle.wasm_semantics.proofs.Soundness.LeaveSound.{leaves_typed, answers_typed}
+use Rattle.wasm_semantics.proofs.Soundness.AdministrativeSound.{administrative_typed, answers_typed}
 use Rattle.machine_slots.specs.rules.Places.{held_beside}
 use Rattle.guest_memory.specs.rules.Memories.{LinearMemory}
 use Rattle.machine_slots.specs.Frames.{frame_words}
 use Rattle.machine_slots.proofs.Branches.{entry_pushes}
 use Rattle.machine_jumps.specs.Tables.{Table}
-use Rattle.machine_frame.proofs.Standing.Positions.{entry_stands}
+use Rattle.machine_frame.proofs.FramePosition.Positions.{entry_is_typed}
 use Rattle.machine_frame.specs.declared.rules.frame.StackFrame as threads
 use Rattle.machine_frame.specs.rules.Threads.{IsOwn, context_of, AreWaiting, AreFrames}
 use Rattle.machine_frame.specs.rules.Threads.{IsReadyProgram}
@@ -37,8 +39,8 @@ use Rattle.machine_frame.proofs.Threads.Words.{same_parts}
 use Rattle.machine_frame.proofs.Threads.Running.{frames_run}
 use Rattle.machine_frame.proofs.Threads.Waiting.{gives_back}
 use Rattle.machine_frame.proofs.Threads.Entering.{IsCalling, under, waits, taken, entered_locals}
-use Rattle.machine_frame.proofs.Threads.Entering.{entered_count, called_own, called_host}
-use Rattle.machine_frame.proofs.Threads.Calling.{direct, same_kind, indirect}
+use Rattle.machine_frame.proofs.Threads.Entering.{entered_count, called_own, called_import}
+use Rattle.machine_frame.proofs.Threads.Calling.{direct, same_signature, indirect}
 
 -- ---- the host's next call
 
@@ -54,23 +56,23 @@ host_calls c program opcodes tables table held d f later ready stands none more 
     let entries : AllByRecursion (IsEntry program) (f ∷ later) = (rw d_later at stands.typed.later)
     in
     let entry = entries.0 in
-    let kind : FunctionType = entry.0 in
+    let signature : FunctionType = entry.0 in
     let declared : List ValueType = entry.1 in
     let body : Sequence = entry.2 in
     let own : IsOwn program f = record {
-      kind = kind;
+      signature = signature;
       declared = declared;
       body = body;
       is = entry.3;
     } in
     let next : Configuration =
-    record { store = d.store; thread = entered f kind declared body [] ∷ []; later = later } in
-    let leaves : IsUncounted program d next =
-    ap (λ t. left_by program t d.later d.store) empty.0
-    ∙ ap (λ z. left_by program [] z d.store) d_later
+    record { store = d.store; thread = entered f signature declared body [] ∷ []; later = later } in
+    let leaves : IsAdministrative program d next =
+    ap (λ t. exited_by program t d.later d.store) empty.0
+    ∙ ap (λ z. exited_by program [] z d.store) d_later
     ∙ rw entry.3 refl in
     let locals : List Value = map zero_of declared in
-    let none_taken : AreOf (takes_of kind) [] = rw entry.4 tt in
+    let none_taken : AreOf (takes_of signature) [] = rw entry.4 tt in
     let few = ready.few_locals f own in
     let pushed : replicate (length declared) 0 ≡ frame_words locals [] [] [] =
     sym (entry_pushes [] declared [] ∙ append-nil (replicate (length declared) 0)) in (
@@ -80,11 +82,12 @@ host_calls c program opcodes tables table held d f later ready stands none more 
       next,
       leaves,
       record {
-        typed = leaves_typed c program d next ready.typed stands.typed leaves;
+        typed = administrative_typed c program d next ready.typed stands.typed leaves;
         frames = (
           own,
           refl,
-          entry_stands (context_of c own) body locals (entered_locals kind declared [] none_taken),
+          entry_is_typed (context_of c own) body locals (entered_locals signature declared
+              [] none_taken),
           [],
           record { words_are = pushed; base_is = refl },
           refl,
@@ -103,11 +106,11 @@ host_calls c program opcodes tables table held d f later ready stands none more 
 record Asked (c : Context) (program : Program) (frame : threads.StackFrame)
     (frames : List threads.StackFrame) (thread : Thread) (words : List ℕ) (ls : List Value)
     (labels : List Label) (rest : Sequence) (arguments : List Value) (waiter : Thread)
-    (kind : FunctionType) : Type 0 where
+    (signature : FunctionType) : Type 0 where
   under : List ℕ
   others : List Value
   waits_are : waiter ≡ FrameOf frame.function ls labels others rest ∷ thread
-  waiting : AreWaiting c program kind (frame ∷ frames) under waiter
+  waiting : AreWaiting c program signature (frame ∷ frames) under waiter
   words_are : words ≡ map number_in arguments ++ under
 
 no_asking : (b : Bool) (d : Configuration) (f : ℕ) (arguments : List Value) (waiter : Thread)
@@ -118,37 +121,37 @@ no_asking false d f arguments waiter e = absurd (cc)
 module _ (c : Context) (program : Program) (frame : threads.StackFrame)
     (frames : List threads.StackFrame) (thread : Thread) (words : List ℕ) (ls : List Value)
     (labels : List Label) (vs : List Value) (rest : Sequence) (d : Configuration)
-    (f : ℕ) (arguments : List Value) (waiter : Thread) (kind : FunctionType)
-    (there : slice_get program.functions f ≡ Some (Host kind)) where
+    (f : ℕ) (arguments : List Value) (waiter : Thread) (signature : FunctionType)
+    (there : slice_get program.functions f ≡ Some (Imported signature)) where
   abbrev caller : List Value → Frame
   caller others = FrameOf frame.function ls labels others rest
 
   asked : (g : ℕ) (callee : Callee) → slice_get program.functions g ≡ Some callee
-      → IsCalling c program frame frames thread (kind_of callee) words ls labels vs rest
+      → IsCalling c program frame frames thread (signature_of callee) words ls labels vs rest
       → called g callee d caller vs thread ≡ Asks f arguments waiter
-      → Asked c program frame frames thread words ls labels rest arguments waiter kind
-  asked g (Host other) at calling e =
+      → Asked c program frame frames thread words ls labels rest arguments waiter signature
+  asked g (Imported other) at calling e =
       let t = taken c program frame frames thread other words ls labels vs rest calling in
       let w : Thread = waits c program frame frames thread other words ls labels vs rest calling in
       let both : Asks g t.arguments w ≡ Asks f arguments waiter =
-      sym (called_host g other d caller vs t.arguments thread t.top) ∙ e in
+      sym (called_import g other d caller vs t.arguments thread t.top) ∙ e in
       let number : g ≡ f = cc in
       let given : t.arguments ≡ arguments = cc in
       let waiters : w ≡ waiter = cc in
-      let callees : Some (Host other) ≡ Some (Host kind) =
+      let callees : Some (Imported other) ≡ Some (Imported signature) =
       sym at ∙ ap (λ z. slice_get program.functions z) number ∙ there in
-      let kinds : other ≡ kind = cc in
+      let signatures : other ≡ signature = cc in
       record {
         under = under c program frame frames thread other words ls labels vs rest calling;
         others = drop (length (takes_of other)) vs;
         waits_are = sym waiters;
         waiting =
-            subst (λ z. AreWaiting c program kind (frame
+            subst (λ z. AreWaiting c program signature (frame
             ∷ frames) (under c program frame frames thread other words ls labels vs rest
             calling) z) waiters
             (subst (λ k. AreWaiting c program k (frame
             ∷ frames) (under c program frame frames thread other words ls labels vs rest
-            calling) w) kinds t.waiting);
+            calling) w) signatures t.waiting);
         words_are = t.words_are
             ∙ ap (λ z. map number_in z
             ++ under c program frame frames thread other words ls labels vs rest calling) given;
@@ -168,29 +171,29 @@ module _ (c : Context) (program : Program) (frame : threads.StackFrame)
 
   module _ (own : FunctionType)
       (calling : IsCalling c program frame frames thread own words ls labels vs rest) where
-    asked_kind : (g : ℕ) (callee : Callee) → slice_get program.functions g ≡ Some callee
-        → (b : Bool) → is_same_function_type own (kind_of callee) ≡ b
+    asked_signature : (g : ℕ) (callee : Callee) → slice_get program.functions g ≡ Some callee
+        → (b : Bool) → is_same_function_type own (signature_of callee) ≡ b
         → (if b then called g callee d caller vs thread else Traps trap.IndirectCallTypeMismatch)
         ≡ Asks f arguments waiter
-        → Asked c program frame frames thread words ls labels rest arguments waiter kind
-    asked_kind g callee at true same e =
+        → Asked c program frame frames thread words ls labels rest arguments waiter signature
+    asked_signature g callee at true same e =
         asked g callee at
         (subst (λ k. IsCalling c program frame frames thread k words ls labels vs rest)
-        (same_kind own (kind_of callee) same) calling) e
-    asked_kind g callee at false same e = absurd (cc)
+        (same_signature own (signature_of callee) same) calling) e
+    asked_signature g callee at false same e = absurd (cc)
 
     asked_callee : (g : ℕ) (callee : Option Callee) → slice_get program.functions g ≡ callee
-        → where_some callee (λ callee. if is_same_function_type own (kind_of callee)
+        → where_some callee (λ callee. if is_same_function_type own (signature_of callee)
         then called g callee d caller vs thread else Traps trap.IndirectCallTypeMismatch)
         ≡ Asks f arguments waiter
-        → Asked c program frame frames thread words ls labels rest arguments waiter kind
+        → Asked c program frame frames thread words ls labels rest arguments waiter signature
     asked_callee g None at e = absurd (cc)
     asked_callee g (Some callee) at e =
-        asked_kind g callee at (is_same_function_type own (kind_of callee)) refl e
+        asked_signature g callee at (is_same_function_type own (signature_of callee)) refl e
 
     asked_entry : (entry : Option (Option ℕ))
         → calls_entry program entry own d caller vs thread ≡ Asks f arguments waiter
-        → Asked c program frame frames thread words ls labels rest arguments waiter kind
+        → Asked c program frame frames thread words ls labels rest arguments waiter signature
     asked_entry None e = absurd (cc)
     asked_entry (Some None) e = absurd (cc)
     asked_entry (Some (Some g)) e = asked_callee g (slice_get program.functions g) refl e
@@ -198,41 +201,41 @@ module _ (c : Context) (program : Program) (frame : threads.StackFrame)
 -- the frame waits at a call, and the words under what the call takes are those under it
 record Answered (c : Context) (program : Program) (held : MachineParts) (d : Configuration)
     (frame : threads.StackFrame) (frames : List threads.StackFrame) (ls : List Value)
-    (labels : List Label) (thread waiter : Thread) (kind : FunctionType) (under : List ℕ) :
+    (labels : List Label) (thread waiter : Thread) (signature : FunctionType) (under : List ℕ) :
     Type 0 where
   rest : Sequence
   others : List Value
-  settled : IsSettled program d
+  reduced : IsReduced program d
   waits_are : waiter ≡ FrameOf frame.function ls labels others rest ∷ thread
-  waiting : AreWaiting c program kind (frame ∷ frames) under waiter
+  waiting : AreWaiting c program signature (frame ∷ frames) under waiter
 
 module _ (c : Context) (program : Program) (opcodes : ℕ → List Instruction) (tables : ℕ
     → Table) (table : List (Option ℕ)) (held : MachineParts) (d : Configuration)
     (frame : threads.StackFrame) (frames : List threads.StackFrame)
-    (f : ℕ) (arguments results : List Value) (waiter : Thread) (kind : FunctionType)
+    (f : ℕ) (arguments results : List Value) (waiter : Thread) (signature : FunctionType)
     (memory : LinearMemory) (gone under : List ℕ)
     (ready : IsReadyProgram c program opcodes tables)
     (stands : PartsStandFor c program table held d) (were : held.frames ≡ frame ∷ frames)
-    (asks : rule program d ≡ Asks f arguments waiter) (there : slice_get program.functions f
-    ≡ Some (Host kind)) (words_are : held.words ≡ gone
+    (asks : counted_step program d ≡ Asks f arguments waiter) (there : slice_get program.functions f
+    ≡ Some (Imported signature)) (words_are : held.words ≡ gone
     ++ under) (top : Top c program held d frame frames) where
   abbrev Waits : Type 0
-  Waits = Answered c program held d frame frames top.runs.ls top.runs.labels top.thread waiter kind
-      under
+  Waits = Answered c program held d frame frames top.runs.ls top.runs.labels top.thread
+      waiter signature under
 
-  waits_under : (rest : Sequence) (words front : List ℕ) → IsSettled program d
+  waits_under : (rest : Sequence) (words front : List ℕ) → IsReduced program d
       → (a : Asked c program frame frames top.thread words top.runs.ls top.runs.labels rest
-      arguments waiter kind) → held.words ≡ (front ++ map number_in arguments) ++ a.under
+      arguments waiter signature) → held.words ≡ (front ++ map number_in arguments) ++ a.under
       → length gone ≡ length (front ++ map number_in arguments) → Waits
-  waits_under rest words front settled a e h =
+  waits_under rest words front reduced a e h =
       let parts = same_parts (front ++ map number_in arguments) gone a.under under (sym h) (sym e
       ∙ words_are) in
       record {
         rest = rest;
         others = a.others;
-        settled = settled;
+        reduced = reduced;
         waits_are = a.waits_are;
-        waiting = subst (λ z. AreWaiting c program kind (frame ∷ frames) z waiter) parts.1
+        waiting = subst (λ z. AreWaiting c program signature (frame ∷ frames) z waiter) parts.1
             a.waiting;
       }
 
@@ -241,9 +244,9 @@ module _ (c : Context) (program : Program) (opcodes : ℕ → List Instruction) 
   waits_direct g at h =
       let here = direct c program opcodes tables held d frame frames ready top g at in
       let a = asked c program frame frames top.thread held.words top.runs.ls top.runs.labels
-      top.runs.vs here.after d f arguments waiter kind there g here.callee here.there
+      top.runs.vs here.after d f arguments waiter signature there g here.callee here.there
       here.calling (sym here.calls ∙ asks) in
-      waits_under here.after held.words [] here.settled a a.words_are (h
+      waits_under here.after held.words [] here.reduced a a.words_are (h
       ∙ sym (length-map arguments number_in))
 
   waits_indirect : (t : ℕ)
@@ -252,9 +255,9 @@ module _ (c : Context) (program : Program) (opcodes : ℕ → List Instruction) 
   waits_indirect t at h =
       let here = indirect c program opcodes tables held d frame frames ready top t at in
       let a = asked_entry c program frame frames top.thread here.words top.runs.ls top.runs.labels
-      here.vs here.after d f arguments waiter kind there here.kind here.calling
+      here.vs here.after d f arguments waiter signature there here.signature here.calling
       (slice_get d.store.table here.index) (sym here.calls ∙ asks) in
-      waits_under here.after here.words (here.index ∷ []) here.settled a (here.words_are
+      waits_under here.after here.words (here.index ∷ []) here.reduced a (here.words_are
       ∙ ap (λ z. here.index ∷ z) a.words_are) (h
       ∙ ap suc (sym (length-map arguments number_in)))
 
@@ -264,7 +267,7 @@ module _ (c : Context) (program : Program) (opcodes : ℕ → List Instruction) 
   waits_at (Some (instr.CallIndirect t)) at h = waits_indirect t at h
   waits_at _ at h = absurd h
 
-  answer_stands : Waits → AreOf (gives_of kind) results → IsTypedMemory program memory.bytes
+  answer_stands : Waits → AreOf (gives_of signature) results → IsTypedMemory program memory.bytes
       → memory.limit ≡ program.most_pages
       → PartsStandFor c program table
       (record held {
@@ -280,9 +283,9 @@ module _ (c : Context) (program : Program) (opcodes : ℕ → List Instruction) 
       let few : held_beside (returned results waiter) ≤ 65536 =
       subst (λ t. held_beside (returned results t) ≤ 65536) (sym w.waits_are) beside in
       record {
-        typed = answers_typed c program d f arguments waiter memory.bytes results kind ready.typed
-            stands.typed asks w.settled there o bytes;
-        frames = gives_back c program (λ f own. (ready.routines f own).typed) kind frame frames
+        typed = answers_typed c program d f arguments waiter memory.bytes results
+            signature ready.typed stands.typed asks w.reduced there o bytes;
+        frames = gives_back c program (λ f own. (ready.routines f own).typed) signature frame frames
             under waiter results o w.waiting;
         shown = record {
           globals_are = stands.shown.globals_are;
@@ -296,11 +299,11 @@ module _ (c : Context) (program : Program) (opcodes : ℕ → List Instruction) 
       }
 
 pub answers_lead : AnswersLead
-answers_lead c program opcodes tables table held d frame frames f arguments results waiter kind
+answers_lead c program opcodes tables table held d frame frames f arguments results waiter signature
     memory gone under ready stands were asks there o bytes limit words_are has =
     let top = frames_run c program opcodes tables table held d frame frames ready stands were in
     let w = waits_at c program opcodes tables table held d frame frames f arguments results waiter
-    kind memory gone under ready stands were asks there words_are top
+    signature memory gone under ready stands were asks there words_are top
     (slice_get (opcodes frame.function) frame.position) refl has in
-    answer_stands c program opcodes tables table held d frame frames f arguments results waiter kind
-    memory gone under ready stands were asks there words_are top w o bytes limit
+    answer_stands c program opcodes tables table held d frame frames f arguments results
+    waiter signature memory gone under ready stands were asks there words_are top w o bytes limit

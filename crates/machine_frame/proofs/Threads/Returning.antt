@@ -13,12 +13,12 @@ use Rattle.wasm_semantics.specs.Configuration.{Own, Program, Label, Configuratio
 use Rattle.wasm_semantics.specs.Steps.{topmost, returned, held_by}
 use Rattle.wasm_semantics.specs.Typed.{IsTyped}
 use Rattle.wasm_semantics.proofs.Soundness.Values.{topmost_are}
-use Rattle.wasm_semantics.proofs.Soundness.LeaveSound.{leaves_typed}
+use Rattle.wasm_semantics.proofs.Soundness.AdministrativeSound.{administrative_typed}
 use Rattle.machine_slots.specs.rules.Places.{all_below, held_beside}
 use Rattle.machine_jumps.specs.Moves.{opcodes_of, HasOpcode, IsTypedBody}
 use Rattle.machine_jumps.specs.Tables.{Table}
-use Rattle.machine_frame.specs.rules.Standing.{StandsAt}
-use Rattle.machine_frame.proofs.Standing.Positions.{stands_somewhere}
+use Rattle.machine_frame.specs.rules.FramePosition.{IsTypedAt}
+use Rattle.machine_frame.proofs.FramePosition.Positions.{is_typed_somewhere}
 use Rattle.machine_frame.specs.declared.rules.frame.StackFrame.{StackFrame}
 use Rattle.machine_frame.specs.rules.Threads.{context_of, IsReadyProgram, MachineParts}
 use Rattle.machine_frame.specs.rules.Threads.{PartsStandFor}
@@ -28,13 +28,13 @@ use Rattle.machine_frame.proofs.Threads.Words.{values_count, frame_holds}
 use Rattle.machine_frame.proofs.Threads.Running.{frames_run}
 use Rattle.machine_frame.proofs.Threads.Waiting.{none_behind, executes, frame_ends, fewer_held}
 use Rattle.machine_frame.proofs.Threads.Waiting.{fewer_frames}
-use Rattle.machine_frame.proofs.Threads.Rules.{settled_before, counted_typed, with_rest}
-use Rattle.machine_frame.proofs.Threads.Rules.{return_rule, end_rule}
+use Rattle.machine_frame.proofs.Threads.CountedSteps.{reduced_before, counted_typed, with_rest}
+use Rattle.machine_frame.proofs.Threads.CountedSteps.{return_counted, end_administrative}
 
 -- ---- what remains at the end
 
 at_end : (c : Context) (body : Sequence) (p : ℕ) (ls vs : List Value) (labels : List Label)
-    (rest : Sequence) → IsTypedBody c body → StandsAt c body p ls labels vs rest
+    (rest : Sequence) → IsTypedBody c body → IsTypedAt c body p ls labels vs rest
     → p ≡ length (opcodes_of body) → (labels ≡ []) × (rest ≡ Stop) × AreOf c.returns vs
 at_end c body p ls vs labels rest typed s at =
     ⊎_elim
@@ -42,7 +42,7 @@ at_end c body p ls vs labels rest typed s at =
     absurd (none_behind (opcodes_of body) p h.0 at h.1))
     (λ (h : (p ≡ length (opcodes_of body)) × (labels ≡ []) × (rest ≡ Stop) × AreOf c.returns vs).
     (h.1, h.2, h.3))
-    (stands_somewhere c body p ls vs labels rest typed s)
+    (is_typed_somewhere c body p ls vs labels rest typed s)
 
 topmost_all : (vs : List Value) → topmost (length vs) vs ≡ Some vs
 topmost_all [] = refl
@@ -54,21 +54,21 @@ module _ (c : Context) (program : Program) (opcodes : ℕ → List Instruction) 
     (ready : IsReadyProgram c program opcodes tables)
     (stands : PartsStandFor c program table held d) (were : held.frames
     ≡ frame ∷ frames) (top : Top c program held d frame frames) where
-  few_results : length top.own.kind.results ≤ 1
+  few_results : length top.own.signature.results ≤ 1
   few_results = let one = (ready.routines frame.function top.own).one in
-      omega (arith, one, length-reverse top.own.kind.results)
+      omega (arith, one, length-reverse top.own.signature.results)
 
-  results_fit : length top.own.kind.results ≤ length top.runs.vs
-      → length top.own.kind.results + frame.base ≤ length held.words
+  results_fit : length top.own.signature.results ≤ length top.runs.vs
+      → length top.own.signature.results + frame.base ≤ length held.words
   results_fit h =
       let here = ap length top.runs.words_are in
       let base = top.base_is in
       omega (arith, h, here, base, frame_holds top.runs.ls top.runs.vs top.runs.labels top.callers)
 
   -- the whole after the frame has ended with these results
-  ended : (results : List Value) → AreOf (gives_of top.own.kind) results
-      → topmost (length top.own.kind.results) top.runs.vs ≡ Some results → (words : List ℕ)
-      → WordsReturned frames (length top.own.kind.results) frame.base held.words words
+  ended : (results : List Value) → AreOf (gives_of top.own.signature) results
+      → topmost (length top.own.signature.results) top.runs.vs ≡ Some results → (words : List ℕ)
+      → WordsReturned frames (length top.own.signature.results) frame.base held.words words
       → IsTyped c program (record d { thread = returned results top.thread })
       → PartsStandFor c program table (record held {
         frames = frames_behind frames;
@@ -81,10 +81,10 @@ module _ (c : Context) (program : Program) (opcodes : ℕ → List Instruction) 
       in
       record {
         typed = typed;
-        frames = frame_ends c program (λ f own. (ready.routines f own).typed) top.own.kind frames
-            top.callers top.thread (length top.own.kind.results) frame.base top.runs.ls top.runs.vs
-            results (map number_in (all_below top.runs.labels)) held.words words o top.waiting t
-            top.base_is top.runs.words_are falls;
+        frames = frame_ends c program (λ f own. (ready.routines f own).typed)
+            top.own.signature frames top.callers top.thread (length top.own.signature.results)
+            frame.base top.runs.ls top.runs.vs results (map number_in (all_below top.runs.labels))
+            held.words words o top.waiting t top.base_is top.runs.words_are falls;
         shown = stands.shown;
         same_table = stands.same_table;
         later = stands.later;
@@ -99,15 +99,15 @@ bodies_end c program opcodes tables table held d frame frames ready stands were 
     let top = frames_run c program opcodes tables table held d frame frames ready stands were in
     let routine = ready.routines frame.function top.own in
     let s = at_end (context_of c top.own) top.own.body frame.position top.runs.ls top.runs.vs
-    top.runs.labels top.runs.rest routine.typed top.runs.stands (at ∙ ap length routine.spelled)
+    top.runs.labels top.runs.rest routine.typed top.runs.is_there (at ∙ ap length routine.spelled)
     in
-    let count : length top.own.kind.results ≡ length top.runs.vs =
-    sym (values_count (gives_of top.own.kind) top.runs.vs s.2
-    ∙ length-reverse top.own.kind.results) in
+    let count : length top.own.signature.results ≡ length top.runs.vs =
+    sym (values_count (gives_of top.own.signature) top.runs.vs s.2
+    ∙ length-reverse top.own.signature.results) in
     let leaves =
-    end_rule program d frame.function top.runs.ls top.runs.vs top.runs.labels top.runs.rest
-    top.thread top.runs.thread s.0 s.1 in
-    let t : topmost (length top.own.kind.results) top.runs.vs ≡ Some top.runs.vs =
+    end_administrative program d frame.function top.runs.ls top.runs.vs
+    top.runs.labels top.runs.rest top.thread top.runs.thread s.0 s.1 in
+    let t : topmost (length top.own.signature.results) top.runs.vs ≡ Some top.runs.vs =
     rw count (topmost_all top.runs.vs) in (
       top.own,
       few_results c program opcodes tables table held d frame frames ready stands were top,
@@ -117,7 +117,7 @@ bodies_end c program opcodes tables table held d frame frames ready stands were 
         record d { thread = returned top.runs.vs top.thread },
         leaves,
         ended c program opcodes tables table held d frame frames ready stands were top top.runs.vs
-            s.2 t words falls (leaves_typed c program d _ ready.typed stands.typed leaves),
+            s.2 t words falls (administrative_typed c program d _ ready.typed stands.typed leaves),
       ),
     )
 
@@ -130,30 +130,31 @@ returns_lead c program opcodes tables table held d frame frames is =
     let routine = is.ready.routines frame.function top.own in
     let here : HasOpcode top.own.body frame.position instr.Return = (rw routine.spelled at is.here)
     in
-    let s = top.runs.stands in
+    let s = top.runs.is_there in
     let x = executes (context_of c top.own) top.own.body frame.position instr.Return s.shapes
     s.types top.runs.rest routine.typed s.reached here tt in
-    let split : s.types ≡ gives_of top.own.kind ++ (x.rule.0 ++ x.below) =
-    x.split ∙ ap (λ z. z ++ x.below) x.rule.1
-    ∙ append_assoc (gives_of top.own.kind) x.rule.0 x.below in
-    let operands : AreOf (gives_of top.own.kind ++ (x.rule.0 ++ x.below)) top.runs.vs =
+    let split : s.types ≡ gives_of top.own.signature ++ (x.typing.0 ++ x.below) =
+    x.split ∙ ap (λ z. z ++ x.below) x.typing.1
+    ∙ append_assoc (gives_of top.own.signature) x.typing.0 x.below in
+    let operands : AreOf (gives_of top.own.signature ++ (x.typing.0 ++ x.below)) top.runs.vs =
     (rw split at s.operands) in
-    let r = topmost_are (gives_of top.own.kind) (x.rule.0 ++ x.below) top.runs.vs operands in
-    let same : length (gives_of top.own.kind) ≡ length top.own.kind.results =
-    length-reverse top.own.kind.results in
-    let t : topmost (length top.own.kind.results) top.runs.vs ≡ Some r.0 =
+    let r = topmost_are (gives_of top.own.signature) (x.typing.0 ++ x.below) top.runs.vs operands in
+    let same : length (gives_of top.own.signature) ≡ length top.own.signature.results =
+    length-reverse top.own.signature.results in
+    let t : topmost (length top.own.signature.results) top.runs.vs ≡ Some r.0 =
     subst (λ n. topmost n top.runs.vs ≡ Some r.0) same r.1 in
     let thread =
     with_rest d frame.function top.runs.ls top.runs.vs top.runs.labels top.runs.rest
     (Plain instr.Return x.after) top.thread top.runs.thread x.remains in
-    let goes = return_rule program d frame.function top.runs.ls top.runs.vs r.0 top.runs.labels
-    x.after top.thread (Own top.own.kind top.own.declared top.own.body) thread top.own.is r.1 in
-    let settled =
-    settled_before program d frame.function top.runs.ls top.runs.vs top.runs.labels instr.Return
+    let goes = return_counted program d frame.function top.runs.ls top.runs.vs r.0 top.runs.labels
+    x.after top.thread (Own top.own.signature top.own.declared top.own.body) thread
+    top.own.is r.1 in
+    let reduced =
+    reduced_before program d frame.function top.runs.ls top.runs.vs top.runs.labels instr.Return
     x.after top.thread thread in
     let typed = counted_typed c program d (record d { thread = returned r.0 top.thread })
-    is.ready.typed is.stands.typed settled goes in
-    let given = gives_of top.own.kind ++ (x.rule.0 ++ x.below) in
+    is.ready.typed is.stands.typed reduced goes in
+    let given = gives_of top.own.signature ++ (x.typing.0 ++ x.below) in
     let many = values_count given top.runs.vs operands in (
       top.own,
       few_results c program opcodes tables table held d frame frames is.ready is.stands
@@ -163,7 +164,7 @@ returns_lead c program opcodes tables table held d frame frames is =
             arith,
             many,
             same,
-            length-append (gives_of top.own.kind) (x.rule.0 ++ x.below),
+            length-append (gives_of top.own.signature) (x.typing.0 ++ x.below),
           )),
       λ words falls. (
         record d { thread = returned r.0 top.thread },

@@ -10,14 +10,14 @@ use Rattle.wasm_syntax.specs.rules.Sequence.{Stop}
 use Rattle.wasm_semantics.specs.Types.{number_in}
 use Rattle.wasm_semantics.specs.Typing.{Context}
 use Rattle.wasm_semantics.specs.Configuration.{Program, Store, Label, LabelOf, FrameOf, Thread}
-use Rattle.wasm_semantics.specs.Steps.{left_by}
+use Rattle.wasm_semantics.specs.Steps.{exited_by}
 use Rattle.machine_slots.specs.rules.Places.{all_below, slots_of, ShowsCallers, ShowsThread}
 use Rattle.machine_slots.specs.Frames.{frame_words}
 use Rattle.machine_slots.proofs.TypedFrames.{slots_words, words_slots}
 use Rattle.machine_frame.specs.declared.rules.frame.StackFrame.{StackFrame}
 use Rattle.machine_frame.specs.rules.Stacked.{AreStacked}
 use Rattle.machine_frame.specs.rules.Threads.{AreWaiting, AreFrames, places_of}
-use Rattle.machine_frame.specs.rules.laws.Threads.{SettledIsShown, ShownStands}
+use Rattle.machine_frame.specs.rules.laws.Threads.{ReducedIsShown, ShownStands}
 
 -- ---- the words of a frame, apart from those below
 
@@ -66,18 +66,26 @@ places_count (frame ∷ frames) words =
 
 -- ---- what is shown
 
-waiting_shown : (c : Context) (program : Program) (kind : FunctionType) (frames : List StackFrame)
-    (words : List ℕ) (thread : Thread) → AreWaiting c program kind frames words thread
-    → ShowsCallers c program kind (places_of frames words) thread
-waiting_shown c program kind [] words [] h = tt
-waiting_shown c program kind [] words (other ∷ thread) h = absurd h
-waiting_shown c program kind (frame ∷ frames) words [] h = absurd h
-waiting_shown c program kind (frame ∷ frames) words (FrameOf f ls labels vs rest ∷ thread) h =
+waiting_shown : (c : Context) (program : Program) (signature : FunctionType)
+    (frames : List StackFrame) (words : List ℕ) (thread : Thread)
+    → AreWaiting c program signature frames words thread → ShowsCallers c program signature
+    (places_of frames words) thread
+waiting_shown c program signature [] words [] h = tt
+waiting_shown c program signature [] words (other ∷ thread) h = absurd h
+waiting_shown c program signature (frame ∷ frames) words [] h = absurd h
+waiting_shown c program signature (frame ∷ frames) words (FrameOf f ls labels vs rest ∷ thread) h =
     let w = h.2 in
     let parts = parts_of words (own_words ls labels vs) h.3 frame.base (h.4.words_are
     ∙ words_part ls labels vs h.3) h.4.base_is in
-    let more = waiting_shown c program h.0.kind frames h.3 thread h.5 in (
-      record { kind = h.0.kind; declared = h.0.declared; body = h.0.body; is = h.0.is; same = h.1 },
+    let more = waiting_shown c program h.0.signature frames h.3 thread h.5 in (
+      record {
+        signature = h.0.signature;
+        declared = h.0.declared;
+        body = h.0.body;
+        is =
+            h.0.is;
+        same = h.1;
+      },
       record {
         shape = record { labels = w.shapes; operands = w.takes ++ w.types; rest = w.call };
         takes = w.takes;
@@ -90,20 +98,20 @@ waiting_shown c program kind (frame ∷ frames) words (FrameOf f ls labels vs re
         locals = w.locals;
         slots = ap reverse parts.front ∙ slots_are ls labels vs;
       },
-      subst (λ z. ShowsCallers c program h.0.kind (places_of frames z) thread)
+      subst (λ z. ShowsCallers c program h.0.signature (places_of frames z) thread)
           (sym parts.back) more,
     )
 
--- a settled frame has something to execute
+-- a reduced frame has something to execute
 never_stops : (program : Program) (store : Store) (later : List ℕ) (f : ℕ) (ls vs : List Value)
     (labels : List Label) (frames : Thread)
-    → left_by program (FrameOf f ls labels vs Stop ∷ frames) later store ≡ None → ⊥
+    → exited_by program (FrameOf f ls labels vs Stop ∷ frames) later store ≡ None → ⊥
 never_stops program store later f ls vs [] frames e = absurd (cc)
 never_stops program store later f ls vs (LabelOf keeps target below after which ∷ labels) frames e =
     absurd (cc)
 
 frames_shown : (c : Context) (program : Program) (frames : List StackFrame) (words : List ℕ)
-    (thread : Thread) (later : List ℕ) (store : Store) → left_by program thread later store ≡ None
+    (thread : Thread) (later : List ℕ) (store : Store) → exited_by program thread later store ≡ None
     → AreFrames c program frames words thread
     → ShowsThread c program (places_of frames words) thread
 frames_shown c program [] words [] later store e h = tt
@@ -114,8 +122,15 @@ frames_shown c program (frame ∷ frames) words (FrameOf f ls labels vs rest
     let s = h.2 in
     let parts = parts_of words (own_words ls labels vs) h.3 frame.base (h.4.words_are
     ∙ words_part ls labels vs h.3) h.4.base_is in
-    let more = waiting_shown c program h.0.kind frames h.3 thread h.5 in (
-      record { kind = h.0.kind; declared = h.0.declared; body = h.0.body; is = h.0.is; same = h.1 },
+    let more = waiting_shown c program h.0.signature frames h.3 thread h.5 in (
+      record {
+        signature = h.0.signature;
+        declared = h.0.declared;
+        body = h.0.body;
+        is =
+            h.0.is;
+        same = h.1;
+      },
       record {
         shape = record { labels = s.shapes; operands = s.types; rest = rest };
         reached = s.reached;
@@ -126,41 +141,42 @@ frames_shown c program (frame ∷ frames) words (FrameOf f ls labels vs rest
         locals = s.locals;
         slots = ap reverse parts.front ∙ slots_are ls labels vs;
       },
-      subst (λ z. ShowsCallers c program h.0.kind (places_of frames z) thread)
+      subst (λ z. ShowsCallers c program h.0.signature (places_of frames z) thread)
           (sym parts.back) more,
     )
 
-pub settled_is_shown : SettledIsShown
-settled_is_shown c program opcodes tables table held d ready stands settled =
+pub reduced_is_shown : ReducedIsShown
+reduced_is_shown c program opcodes tables table held d ready stands reduced =
     let few = stands.few_frames in
     record {
       typed = stands.typed;
-      settled = settled;
+      reduced = reduced;
       memory = stands.shown.bytes_are;
       globals = stands.shown.globals_are;
       same_table = stands.same_table;
       later = sym stands.later;
-      frames = frames_shown c program held.frames held.words d.thread d.later d.store settled
+      frames = frames_shown c program held.frames held.words d.thread d.later d.store reduced
           stands.frames;
       few_frames = omega (arith, few, places_count held.frames held.words);
       few_values = stands.few_values;
     }
 
--- ---- what stands
+-- ---- what is there
 
-waiting_stacked : (c : Context) (program : Program) (kind : FunctionType) (frames : List StackFrame)
-    (words : List ℕ) (thread : Thread) → AreWaiting c program kind frames words thread
-    → AreStacked frames words
-waiting_stacked c program kind [] words [] h = h
-waiting_stacked c program kind [] words (other ∷ thread) h = absurd h
-waiting_stacked c program kind (frame ∷ frames) words [] h = absurd h
-waiting_stacked c program kind (frame ∷ frames) words (FrameOf f ls labels vs rest ∷ thread) h = (
-  own_words ls labels vs,
-  h.3,
-  h.4.words_are ∙ words_part ls labels vs h.3,
-  h.4.base_is,
-  waiting_stacked c program h.0.kind frames h.3 thread h.5,
-)
+waiting_stacked : (c : Context) (program : Program) (signature : FunctionType)
+    (frames : List StackFrame) (words : List ℕ) (thread : Thread)
+    → AreWaiting c program signature frames words thread → AreStacked frames words
+waiting_stacked c program signature [] words [] h = h
+waiting_stacked c program signature [] words (other ∷ thread) h = absurd h
+waiting_stacked c program signature (frame ∷ frames) words [] h = absurd h
+waiting_stacked c program signature (frame ∷ frames) words (FrameOf f ls labels vs rest
+    ∷ thread) h = (
+      own_words ls labels vs,
+      h.3,
+      h.4.words_are ∙ words_part ls labels vs h.3,
+      h.4.base_is,
+      waiting_stacked c program h.0.signature frames h.3 thread h.5,
+    )
 
 pub frames_stacked : (c : Context) (program : Program) (frames : List StackFrame) (words : List ℕ)
     (thread : Thread) → AreFrames c program frames words thread → AreStacked frames words
@@ -172,7 +188,7 @@ frames_stacked c program (frame ∷ frames) words (FrameOf f ls labels vs rest �
   h.3,
   h.4.words_are ∙ words_part ls labels vs h.3,
   h.4.base_is,
-  waiting_stacked c program h.0.kind frames h.3 thread h.5,
+  waiting_stacked c program h.0.signature frames h.3 thread h.5,
 )
 
 -- the words of a frame whose place has these slots
@@ -184,19 +200,20 @@ stacked_words ls labels vs words own callers base e parts slots =
     e ∙ ap (λ z. z ++ callers) (own_are ls labels vs own (sym (ap reverse parts.front) ∙ slots))
     ∙ sym (words_part ls labels vs callers)
 
-shown_waits : (c : Context) (program : Program) (kind : FunctionType) (frames : List StackFrame)
-    (words : List ℕ) (thread : Thread) → AreStacked frames words
-    → ShowsCallers c program kind (places_of frames words) thread
-    → AreWaiting c program kind frames words thread
-shown_waits c program kind [] words [] k h = k
-shown_waits c program kind [] words (other ∷ thread) k h = absurd h
-shown_waits c program kind (frame ∷ frames) words [] k h = absurd h
-shown_waits c program kind (frame ∷ frames) words (FrameOf f ls labels vs rest ∷ thread) k h =
+shown_waits : (c : Context) (program : Program) (signature : FunctionType)
+    (frames : List StackFrame) (words : List ℕ) (thread : Thread) → AreStacked frames words
+    → ShowsCallers c program signature (places_of frames words) thread
+    → AreWaiting c program signature frames words thread
+shown_waits c program signature [] words [] k h = k
+shown_waits c program signature [] words (other ∷ thread) k h = absurd h
+shown_waits c program signature (frame ∷ frames) words [] k h = absurd h
+shown_waits c program signature (frame ∷ frames) words (FrameOf f ls labels vs rest ∷ thread) k h =
     let s = h.1 in
     let parts = parts_of words k.0 k.1 frame.base k.2 k.3 in
-    let more : ShowsCallers c program h.0.kind (places_of frames k.1) thread =
-    subst (λ z. ShowsCallers c program h.0.kind (places_of frames z) thread) parts.back h.2 in (
-      record { kind = h.0.kind; declared = h.0.declared; body = h.0.body; is = h.0.is },
+    let more : ShowsCallers c program h.0.signature (places_of frames k.1) thread =
+    subst (λ z. ShowsCallers c program h.0.signature (places_of frames z) thread)
+    parts.back h.2 in (
+      record { signature = h.0.signature; declared = h.0.declared; body = h.0.body; is = h.0.is },
       h.0.same,
       record {
         shapes = s.shape.labels;
@@ -219,7 +236,7 @@ shown_waits c program kind (frame ∷ frames) words (FrameOf f ls labels vs rest
         words_are = stacked_words ls labels vs words k.0 k.1 frame.base k.2 parts s.slots;
         base_is = k.3;
       },
-      shown_waits c program h.0.kind frames k.1 thread k.4 more,
+      shown_waits c program h.0.signature frames k.1 thread k.4 more,
     )
 
 pub shown_frames : (c : Context) (program : Program) (frames : List StackFrame) (words : List ℕ)
@@ -232,9 +249,10 @@ shown_frames c program (frame ∷ frames) words [] k h = absurd h
 shown_frames c program (frame ∷ frames) words (FrameOf f ls labels vs rest ∷ thread) k h =
     let s = h.1 in
     let parts = parts_of words k.0 k.1 frame.base k.2 k.3 in
-    let more : ShowsCallers c program h.0.kind (places_of frames k.1) thread =
-    subst (λ z. ShowsCallers c program h.0.kind (places_of frames z) thread) parts.back h.2 in (
-      record { kind = h.0.kind; declared = h.0.declared; body = h.0.body; is = h.0.is },
+    let more : ShowsCallers c program h.0.signature (places_of frames k.1) thread =
+    subst (λ z. ShowsCallers c program h.0.signature (places_of frames z) thread)
+    parts.back h.2 in (
+      record { signature = h.0.signature; declared = h.0.declared; body = h.0.body; is = h.0.is },
       h.0.same,
       record {
         shapes = s.shape.labels;
@@ -254,7 +272,7 @@ shown_frames c program (frame ∷ frames) words (FrameOf f ls labels vs rest ∷
         words_are = stacked_words ls labels vs words k.0 k.1 frame.base k.2 parts s.slots;
         base_is = k.3;
       },
-      shown_waits c program h.0.kind frames k.1 thread k.4 more,
+      shown_waits c program h.0.signature frames k.1 thread k.4 more,
     )
 
 pub shown_stands : ShownStands

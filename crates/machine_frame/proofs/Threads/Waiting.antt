@@ -12,7 +12,7 @@ use Rattle.wasm_syntax.specs.declared.instruction.Instruction.TheVariants as ins
 use Rattle.wasm_syntax.specs.rules.Sequence.{Sequence, Stop, Plain, InBlock, InLoop, InIf, InIfElse}
 use Rattle.wasm_syntax.specs.rules.Sequence.{IsPlain}
 use Rattle.wasm_semantics.specs.Types.{AreOf, number_in, takes_of, gives_of}
-use Rattle.wasm_semantics.specs.Typing.{Context, HasRule}
+use Rattle.wasm_semantics.specs.Typing.{Context, HasInstructionType}
 use Rattle.wasm_semantics.specs.Configuration.{Program, Label, FrameOf, Thread}
 use Rattle.wasm_semantics.specs.Steps.{topmost, returned, held_by}
 use Rattle.wasm_semantics.specs.Shapes.{LabelShape, types_behind}
@@ -24,7 +24,7 @@ use Rattle.machine_slots.proofs.Branches.{return_splits}
 use Rattle.machine_jumps.specs.Jumps.{HasShape}
 use Rattle.machine_jumps.specs.Moves.{opcodes_of, HasOpcode, IsFirst, IsTypedBody}
 use Rattle.machine_jumps.proofs.MovesHold.{opcodes_first, no_opcode_behind, plain_leads_on}
-use Rattle.machine_frame.specs.rules.Standing.{StandsAt}
+use Rattle.machine_frame.specs.rules.FramePosition.{IsTypedAt}
 use Rattle.machine_frame.specs.declared.rules.frame.StackFrame.{StackFrame}
 use Rattle.machine_frame.specs.rules.Threads.{WaitsAt, IsOwn, context_of, AreWaiting, AreFrames}
 use Rattle.machine_frame.specs.rules.laws.Threads.{WordsReturned, frames_behind}
@@ -68,7 +68,7 @@ plain_remains c body p i (label ∷ shapes) types rest typed e o plain =
     let same : h.0 ≡ i = cc in
     first_plain rest i plain (rw same at h.2)
 
--- This instruction remains, and its rule takes the topmost operands.
+-- This opcode remains, and its type takes the topmost operands.
 pub record Executes (c : Context) (body : Sequence) (p : ℕ) (i : Instruction)
     (shapes : List LabelShape) (types : List ValueType) (rest : Sequence) : Type 0 where
   pub after : Sequence
@@ -78,7 +78,7 @@ pub record Executes (c : Context) (body : Sequence) (p : ℕ) (i : Instruction)
   pub gives : List ValueType
   pub below : List ValueType
   pub split : types ≡ takes ++ below
-  pub rule : HasRule c branches i takes gives
+  pub typing : HasInstructionType c branches i takes gives
   pub reached : HasShape c body p shapes (takes ++ below) (Plain i after)
 
 pub executes : (c : Context) (body : Sequence) (p : ℕ) (i : Instruction) (shapes : List LabelShape)
@@ -102,45 +102,46 @@ executes c body p i shapes types rest typed e o plain =
       gives = h.1;
       below = h.2;
       split = h.3;
-      rule = h.4;
+      typing = h.4;
       reached = subst (λ z. HasShape c body p shapes z (Plain i r.0)) h.3 here;
     }
 
 -- ---- behind a call
 
-call_behind : (c : Context) (call rest : Sequence) (kind : FunctionType)
-    (takes below : List ValueType) → IsCallOf c call kind takes rest → (i : Instruction)
-    × (call ≡ Plain i rest) × (types_behind c i (takes ++ below) ≡ Some (gives_of kind ++ below))
-call_behind c (Plain (instr.Call x) after) rest kind takes below h = (
+call_behind : (c : Context) (call rest : Sequence) (signature : FunctionType)
+    (takes below : List ValueType) → IsCallOf c call signature takes rest → (i : Instruction)
+    × (call ≡ Plain i rest) × (types_behind c i (takes ++ below)
+    ≡ Some (gives_of signature ++ below))
+call_behind c (Plain (instr.Call x) after) rest signature takes below h = (
   instr.Call x,
   ap (λ z. Plain (instr.Call x) z) (sym h.2),
-  rw (h.0, h.1) (ap (λ z. Some (gives_of kind
-      ++ z)) (drop-append_seam (takes_of kind) below)),
+  rw (h.0, h.1) (ap (λ z. Some (gives_of signature
+      ++ z)) (drop-append_seam (takes_of signature) below)),
 )
-call_behind c (Plain (instr.CallIndirect x) after) rest kind takes below h = (
+call_behind c (Plain (instr.CallIndirect x) after) rest signature takes below h = (
   instr.CallIndirect x,
   ap (λ z. Plain (instr.CallIndirect x) z) (sym h.2),
-  rw (h.0, h.1) (ap (λ z. Some (gives_of kind
-      ++ z)) (drop-append_seam (takes_of kind) below)),
+  rw (h.0, h.1) (ap (λ z. Some (gives_of signature
+      ++ z)) (drop-append_seam (takes_of signature) below)),
 )
-call_behind c _ rest kind takes below h = absurd h
+call_behind c _ rest signature takes below h = absurd h
 
--- The frame that waits is given what the function gives, and stands behind its call.
-pub stands_behind : (c : Context) (body : Sequence) (p : ℕ) (kind : FunctionType) (ls : List Value)
-    (labels : List Label) (vs results : List Value) (rest : Sequence) → IsTypedBody c body
-    → WaitsAt c body p kind ls labels vs rest → AreOf (gives_of kind) results
-    → StandsAt c body (suc p) ls labels (results ++ vs) rest
-stands_behind c body p kind ls labels vs results rest typed w o =
-    let b = call_behind c w.call rest kind w.takes w.types w.calls in
+-- The frame that waits is given what the function gives, and is after its call.
+pub is_typed_behind : (c : Context) (body : Sequence) (p : ℕ) (signature : FunctionType)
+    (ls : List Value) (labels : List Label) (vs results : List Value) (rest : Sequence)
+    → IsTypedBody c body → WaitsAt c body p signature ls labels vs rest
+    → AreOf (gives_of signature) results → IsTypedAt c body (suc p) ls labels (results ++ vs) rest
+is_typed_behind c body p signature ls labels vs results rest typed w o =
+    let b = call_behind c w.call rest signature w.takes w.types w.calls in
     let here : HasShape c body p w.shapes (w.takes ++ w.types) (Plain b.0 rest) =
     (rw b.1 at w.reached) in
     record {
       shapes = w.shapes;
-      types = gives_of kind ++ w.types;
-      reached = plain_leads_on c body p w.shapes (w.takes ++ w.types) (gives_of kind
+      types = gives_of signature ++ w.types;
+      reached = plain_leads_on c body p w.shapes (w.takes ++ w.types) (gives_of signature
           ++ w.types) b.0 rest typed here b.2;
       labels_are = w.labels_are;
-      operands = are_both (gives_of kind) w.types results vs o w.operands;
+      operands = are_both (gives_of signature) w.types results vs o w.operands;
       locals = w.locals;
     }
 
@@ -161,16 +162,16 @@ AreBodies c program = (f : ℕ) (own : IsOwn program f) → IsTypedBody (context
 
 module _ (c : Context) (program : Program) (bodies : AreBodies c program) where
   -- the frame that waits is given these values
-  pub gives_back : (kind : FunctionType) (frame : StackFrame) (frames : List StackFrame)
-      (words : List ℕ) (thread : Thread) (results : List Value) → AreOf (gives_of kind) results
-      → AreWaiting c program kind (frame ∷ frames) words thread
+  pub gives_back : (signature : FunctionType) (frame : StackFrame) (frames : List StackFrame)
+      (words : List ℕ) (thread : Thread) (results : List Value) → AreOf (gives_of signature) results
+      → AreWaiting c program signature (frame ∷ frames) words thread
       → AreFrames c program (frames_behind (frame ∷ frames)) (map number_in results
       ++ words) (returned results thread)
-  gives_back kind frame frames words [] results o h = absurd h
-  gives_back kind frame frames words (FrameOf f ls labels vs rest ∷ thread) results o h = (
+  gives_back signature frame frames words [] results o h = absurd h
+  gives_back signature frame frames words (FrameOf f ls labels vs rest ∷ thread) results o h = (
     h.0,
     h.1,
-    stands_behind (context_of c h.0) h.0.body frame.position kind ls labels vs results rest
+    is_typed_behind (context_of c h.0) h.0.body frame.position signature ls labels vs results rest
         (bodies f h.0) h.2 o,
     h.3,
     record {
@@ -182,27 +183,27 @@ module _ (c : Context) (program : Program) (bodies : AreBodies c program) where
   )
 
   -- a frame ends with these values
-  pub frame_ends : (kind : FunctionType) (frames : List StackFrame) (callers : List ℕ)
+  pub frame_ends : (signature : FunctionType) (frames : List StackFrame) (callers : List ℕ)
       (thread : Thread) (n base : ℕ) (ls vs results : List Value) (below old words : List ℕ)
-      → AreOf (gives_of kind) results → AreWaiting c program kind frames callers thread
+      → AreOf (gives_of signature) results → AreWaiting c program signature frames callers thread
       → topmost n vs ≡ Some results → base ≡ length callers → old ≡ frame_words ls vs below callers
       → WordsReturned frames n base old words
       → AreFrames c program (frames_behind frames) words (returned results thread)
-  frame_ends kind [] callers [] n base ls vs results below old words o h top at was falls =
+  frame_ends signature [] callers [] n base ls vs results below old words o h top at was falls =
       one_fall 0 base old words callers falls (rw (
         at,
         was,
       ) (return_splits 0 ls vs [] below callers refl)) ∙ h
-  frame_ends kind [] callers (other ∷ thread) n base ls vs results below old words o h top at was
-      falls = absurd h
-  frame_ends kind (frame ∷ frames) callers thread n base ls vs results below old words o h top at
-      was falls =
+  frame_ends signature [] callers (other ∷ thread) n base ls vs results below old words
+      o h top at was falls = absurd h
+  frame_ends signature (frame ∷ frames) callers thread n base ls vs results below old
+      words o h top at was falls =
       let same : words ≡ map number_in results ++ callers =
       one_fall n base old words (map number_in results ++ callers) falls (rw (
         at,
         was,
       ) (return_splits n ls vs results below callers top)) in
-      rw same (gives_back kind frame frames callers thread results o h)
+      rw same (gives_back signature frame frames callers thread results o h)
 
 -- the frames that are left hold no more than they held when they waited
 pub fewer_held : (results : List Value) (thread : Thread)

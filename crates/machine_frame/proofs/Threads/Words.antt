@@ -59,25 +59,25 @@ frame_holds ls vs labels callers =
     )
 
 -- Frames that wait have a word for each value that they hold.
-pub waiting_words : (c : Context) (program : Program) (kind : FunctionType)
+pub waiting_words : (c : Context) (program : Program) (signature : FunctionType)
     (frames : List StackFrame) (words : List ℕ) (thread : Thread)
-    → AreWaiting c program kind frames words thread → length words ≡ held_by thread
-waiting_words c program kind [] words [] h = ap length h
-waiting_words c program kind [] words (other ∷ thread) h = absurd h
-waiting_words c program kind (frame ∷ frames) words [] h = absurd h
-waiting_words c program kind (frame ∷ frames) words (FrameOf f ls labels vs rest ∷ thread) h =
-    let below = waiting_words c program h.0.kind frames h.3 thread h.5 in
+    → AreWaiting c program signature frames words thread → length words ≡ held_by thread
+waiting_words c program signature [] words [] h = ap length h
+waiting_words c program signature [] words (other ∷ thread) h = absurd h
+waiting_words c program signature (frame ∷ frames) words [] h = absurd h
+waiting_words c program signature (frame ∷ frames) words (FrameOf f ls labels vs rest ∷ thread) h =
+    let below = waiting_words c program h.0.signature frames h.3 thread h.5 in
     let here = ap length h.4.words_are in
     omega (arith, below, here, frame_holds ls vs labels h.3, held_all labels)
 
-pub waiting_frames : (c : Context) (program : Program) (kind : FunctionType)
+pub waiting_frames : (c : Context) (program : Program) (signature : FunctionType)
     (frames : List StackFrame) (words : List ℕ) (thread : Thread)
-    → AreWaiting c program kind frames words thread → length frames ≡ length thread
-waiting_frames c program kind [] words [] h = refl
-waiting_frames c program kind [] words (other ∷ thread) h = absurd h
-waiting_frames c program kind (frame ∷ frames) words [] h = absurd h
-waiting_frames c program kind (frame ∷ frames) words (FrameOf f ls labels vs rest ∷ thread) h =
-    ap suc (waiting_frames c program h.0.kind frames h.3 thread h.5)
+    → AreWaiting c program signature frames words thread → length frames ≡ length thread
+waiting_frames c program signature [] words [] h = refl
+waiting_frames c program signature [] words (other ∷ thread) h = absurd h
+waiting_frames c program signature (frame ∷ frames) words [] h = absurd h
+waiting_frames c program signature (frame ∷ frames) words (FrameOf f ls labels vs rest ∷ thread) h =
+    ap suc (waiting_frames c program h.0.signature frames h.3 thread h.5)
 
 -- A fall leads to the words that it leads to.
 pub one_fall : (keeps base : ℕ) (old new other : List ℕ) → Falls keeps base old new

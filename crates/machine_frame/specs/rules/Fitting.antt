@@ -34,13 +34,13 @@ pub record FitsRunning (c : Context) (body : Sequence) (place : ShownFrame) : Ty
 -- A frame that waits: its position is that of a call of a function of this type, and its slots are
 -- of the types of its locals and of the operands that the call leaves.
 pub record FitsWaiting (c : Context) (body : Sequence) (place : ShownFrame)
-    (kind : FunctionType) : Type 0 where
+    (signature : FunctionType) : Type 0 where
   pub shape : Shape
   pub takes : List ValueType
   pub types : List ValueType
   pub rest : Sequence
   pub reached : body_shape c body place.position ≡ Some shape
-  pub calls : IsCallOf c shape.rest kind takes rest
+  pub calls : IsCallOf c shape.rest signature takes rest
   pub split : shape.operands ≡ takes ++ types
   pub words : AreWordsOf (c.locals ++ reverse (types ++ types_below shape.labels)) place.slots
 
@@ -51,21 +51,21 @@ IsOwnPlace c program place = IsFrameOf c program place place.function
 -- what its body looks up
 abbrev pub place_context : {c : Context} {program : Program} {place : ShownFrame}
     → IsOwnPlace c program place → Context
-place_context {c} own = body_context c own.kind own.declared
+place_context {c} own = body_context c own.signature own.declared
 
 -- frames that wait, each for the one above it
 abbrev pub FitCallers : Context → Program → FunctionType → List ShownFrame → Type 0
 FitCallers c program above [] = Unit {0}
 FitCallers c program above (place ∷ places) =
     (own : IsOwnPlace c program place) × FitsWaiting (place_context own) own.body place above
-    × FitCallers c program own.kind places
+    × FitCallers c program own.signature places
 
 -- the running frame first
 abbrev pub FitFrames : Context → Program → List ShownFrame → Type 0
 FitFrames c program [] = Unit {0}
 FitFrames c program (place ∷ places) =
     (own : IsOwnPlace c program place) × FitsRunning (place_context own) own.body place
-    × FitCallers c program own.kind places
+    × FitCallers c program own.signature places
 
 -- ---- limits
 
@@ -78,9 +78,9 @@ slots_held (place ∷ places) = length place.slots + slots_held places
 abbrev pub FewHeld : Program → List ShownFrame → Type 0
 FewHeld program [] = Unit {0}
 FewHeld program (place ∷ places) =
-    (kind : FunctionType) (declared : List ValueType) (body : Sequence)
-    → slice_get program.functions place.function ≡ Some (Own kind declared body)
-    → length kind.parameters + length declared + slots_held places ≤ HELD_VALUES
+    (signature : FunctionType) (declared : List ValueType) (body : Sequence)
+    → slice_get program.functions place.function ≡ Some (Own signature declared body)
+    → length signature.parameters + length declared + slots_held places ≤ HELD_VALUES
 
 -- ---- the whole
 

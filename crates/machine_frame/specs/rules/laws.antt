@@ -1,3 +1,3 @@
-pub mod Standing
+pub mod FramePosition
 pub mod Threads
 pub mod Fitting

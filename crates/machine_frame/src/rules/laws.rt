@@ -1,18 +1,20 @@
 //! Laws over all programs, bodies and frames. The functions do nothing: what they ensure is the
 //! law.
 
-ghost use Rattle.machine_frame.specs.rules.Walks.{WalksAreSteps, WalksSettle, WalksCompose};
+ghost use Rattle.machine_frame.specs.rules.Walks.{WalksAreSteps, WalksReduce, WalksCompose};
 ghost use Rattle.machine_frame.specs.rules.Walks.{WalksAreTyped};
-ghost use Rattle.machine_frame.specs.rules.laws.Standing.{OpcodesRemain, StandsSomewhere};
-ghost use Rattle.machine_frame.specs.rules.laws.Standing.{LabelsEnd};
-ghost use Rattle.machine_frame.specs.rules.laws.Standing.{OperandsAreFew, EntryStands};
-ghost use Rattle.machine_frame.specs.rules.laws.Standing.{EffectsLeadOn};
-ghost use Rattle.machine_frame.specs.rules.laws.Standing.{BlocksLeadIn, LoopsLeadIn, IfsLeadIn};
-ghost use Rattle.machine_frame.specs.rules.laws.Standing.{ChoicesLeadIn, BranchesLead};
-ghost use Rattle.machine_frame.specs.rules.laws.Standing.{ConditionsLead};
-ghost use Rattle.machine_frame.specs.rules.laws.Standing.{TablesLead, EndsLeadOut, PartsLeadOut};
+ghost use Rattle.machine_frame.specs.rules.laws.FramePosition.{OpcodesRemain, IsTypedSomewhere};
+ghost use Rattle.machine_frame.specs.rules.laws.FramePosition.{LabelsEnd};
+ghost use Rattle.machine_frame.specs.rules.laws.FramePosition.{OperandsAreFew, EntryIsTyped};
+ghost use Rattle.machine_frame.specs.rules.laws.FramePosition.{EffectsLeadOn};
+ghost use Rattle.machine_frame.specs.rules.laws.FramePosition.{BlocksLeadIn, LoopsLeadIn};
+ghost use Rattle.machine_frame.specs.rules.laws.FramePosition.{IfsLeadIn};
+ghost use Rattle.machine_frame.specs.rules.laws.FramePosition.{ChoicesLeadIn, BranchesLead};
+ghost use Rattle.machine_frame.specs.rules.laws.FramePosition.{ConditionsLead};
+ghost use Rattle.machine_frame.specs.rules.laws.FramePosition.{TablesLead, EndsLeadOut};
+ghost use Rattle.machine_frame.specs.rules.laws.FramePosition.{PartsLeadOut};
 ghost use Rattle.machine_frame.specs.rules.laws.Fitting.{ShownFits, FitsIsShown};
-ghost use Rattle.machine_frame.specs.rules.laws.Threads.{SettledIsShown, ShownStands, FramesRun};
+ghost use Rattle.machine_frame.specs.rules.laws.Threads.{ReducedIsShown, ShownStands, FramesRun};
 ghost use Rattle.machine_frame.specs.rules.laws.Threads.{RunsStand, CallsLead, IndirectCallsLead};
 ghost use Rattle.machine_frame.specs.rules.laws.Threads.{ReturnsLead, BodiesEnd, HostCalls};
 ghost use Rattle.machine_frame.specs.rules.laws.Threads.{AnswersLead};
@@ -20,21 +22,21 @@ ghost use Rattle.machine_frame.specs.rules.laws.Threads.{AnswersLead};
 /// Walks, and the steps that they are.
 pub fn walks_are_steps()
     ensures steps { WalksAreSteps }
-    ensures settle { WalksSettle }
+    ensures reduce { WalksReduce }
     ensures compose { WalksCompose }
     ensures typed { WalksAreTyped }
 {}
 
-/// What stands where a frame does, and how many labels and values it has there.
-pub fn frames_stand_at_opcodes()
+/// What is where a frame does, and how many labels and values it has there.
+pub fn frames_are_at_opcodes()
     ensures opcodes { OpcodesRemain }
-    ensures somewhere { StandsSomewhere }
+    ensures somewhere { IsTypedSomewhere }
     ensures labels { LabelsEnd }
     ensures few { OperandsAreFew }
-    ensures entry { EntryStands }
+    ensures entry { EntryIsTyped }
 {}
 
-/// An instruction that stays in its sequence, or begins one, leads to the next position, or where
+/// An opcode that stays in its sequence, or begins one, leads to the next position, or where
 /// the table says.
 pub fn frames_lead_on()
     ensures effects { EffectsLeadOn }
@@ -61,7 +63,7 @@ pub fn ends_lead_out()
 
 /// What a machine's frames and words show.
 pub fn machines_show()
-    ensures settled { SettledIsShown }
+    ensures reduced { ReducedIsShown }
     ensures shown { ShownStands }
 {}
 

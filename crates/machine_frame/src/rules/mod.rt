@@ -6,14 +6,14 @@
 //!
 //! The calls do nothing; what they ensure is proved of all typed programs.
 //!
-//! - `laws::walks_are_steps`: walks are counted steps, they settle, join, and stay typed (`steps`,
-//!   `settle`, `compose`, `typed`).
-//! - `laws::frames_stand_at_opcodes`: what stands where a frame does, how many labels and values
-//!   it has there, and where a function is entered.
-//! - `laws::frames_lead_on`, `branches_lead`, `ends_lead_out`: where each instruction of a running
+//! - `laws::walks_are_steps`: walks are counted steps, they reduce, join, and remain typed
+//!   (`steps`, `reduce`, `compose`, `typed`).
+//! - `laws::frames_are_at_opcodes`: what is where a frame does, how many labels and values it has
+//!   there, and where a function is entered.
+//! - `laws::frames_lead_on`, `branches_lead`, `ends_lead_out`: where each opcode of a running
 //!   frame leads, which the branch table says.
-//! - `laws::machines_show`: what stands for a settled configuration shows it, and the other way
-//!   round (`settled`, `shown`).
+//! - `laws::machines_show`: what stands for a reduced configuration shows it, and the other way
+//!   round (`reduced`, `shown`).
 //! - `laws::fitting_is_showing`: what a state has to be so that it shows some configuration of its
 //!   program, and that nothing else shows one (`fits`, `shown`).
 //! - `laws::frames_run`: the running frame apart, and the whole after it has run (`apart`,
@@ -23,8 +23,8 @@
 //!
 //! # Definitions to read
 //!
-//! In `specs/rules/`: `Walks` (`Walks.antt`); `IsRoutine`, `StandsAt`, `Around`, `FrameShows`
-//! (`Standing.antt`); `AreFrames`, `IsReadyProgram`, `MachineParts`, `PartsStandFor`,
+//! In `specs/rules/`: `Walks` (`Walks.antt`); `IsRoutine`, `IsTypedAt`, `Around`, `FrameShows`
+//! (`FramePosition.antt`); `AreFrames`, `IsReadyProgram`, `MachineParts`, `PartsStandFor`,
 //! `machine_state_of` (`Threads.antt`); `FitsProgram` (`Fitting.antt`); `AreStacked`
 //! (`Stacked.antt`). What each law says is in `specs/rules/laws/`.
 //!

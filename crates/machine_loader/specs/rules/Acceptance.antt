@@ -17,8 +17,8 @@ use Rattle.machine.specs.rules.Refusals.{IsRefused}
 use Rattle.machine.specs.rules.Offers.{offer}
 use Rattle.machine.specs.rules.Values.{MachineValue}
 use Rattle.machine.specs.rules.Runs.{HasBegun}
-use Rattle.machine_loader.specs.declared.fault.FrontFault.{FrontFault}
-use Rattle.machine_loader.specs.declared.fault.FrontFault.TheVariants.{Decode, Valid, Link}
+use Rattle.machine_loader.specs.declared.fault.ModuleFault.{ModuleFault}
+use Rattle.machine_loader.specs.declared.fault.ModuleFault.TheVariants.{Decode, Valid, Link}
 
 -- the machine is of the accepted module that these bytes spell, and has begun
 pub record Accepts (pages : ℕ) (bytes : List ℕ) (machine : MachineValue) : Type 0 where
@@ -44,12 +44,12 @@ HasAcceptedModule pages bytes = (m : Module) × IsAccepted offer pages bytes m
 abbrev pub HasNoAcceptedModule : ℕ → List ℕ → Type 0
 HasNoAcceptedModule pages bytes = (m : Module) → IsAccepted offer pages bytes m → ⊥
 
--- a fault other than want of memory says P
-abbrev pub FrontDenies : FrontFault → Type 0 → Type 0
-FrontDenies (Decode decode.Memory) P = Unit {0}
-FrontDenies (Valid valid.Memory) P = Unit {0}
-FrontDenies (Link link.Memory) P = Unit {0}
-FrontDenies _ P = P
+-- a fault other than out of memory says P
+abbrev pub ModuleFaultDenies : ModuleFault → Type 0 → Type 0
+ModuleFaultDenies (Decode decode.Memory) P = Unit {0}
+ModuleFaultDenies (Valid valid.Memory) P = Unit {0}
+ModuleFaultDenies (Link link.Memory) P = Unit {0}
+ModuleFaultDenies _ P = P
 
 -- a module that isn't valid is told with a fault of a kind that it has
 abbrev pub IsInvalid : Module → ValidFault → Type 0
@@ -57,37 +57,37 @@ IsInvalid m fault = DeniesValid fault (IsValid m) × HasFault m fault
 
 -- Which of the first two steps refuses, and what it says: no module is spelled; or one is, which
 -- isn't valid.
-abbrev pub IsToldOfReading : List ℕ → FrontFault → Type 0
-IsToldOfReading bytes (Decode fault) = fault ≢ decode.Memory → HasNoModule bytes
-IsToldOfReading bytes (Valid fault) = (m : Module) × IsModule bytes m × IsWithinLimits bytes m
+abbrev pub IsReportedOfReading : List ℕ → ModuleFault → Type 0
+IsReportedOfReading bytes (Decode fault) = fault ≢ decode.Memory → HasNoModule bytes
+IsReportedOfReading bytes (Valid fault) = (m : Module) × IsModule bytes m × IsWithinLimits bytes m
     × IsInvalid m fault
-IsToldOfReading bytes (Link fault) = ⊥
+IsReportedOfReading bytes (Link fault) = ⊥
 
 -- Which step refuses, and what it says: no module is spelled; or one is, which isn't valid; or it
 -- is valid, and this is the first thing that it wants for linking. Want of memory says only what
 -- the steps before found.
-abbrev pub IsTold : ℕ → List ℕ → FrontFault → Type 0
-IsTold pages bytes (Decode fault) = fault ≢ decode.Memory → HasNoModule bytes
-IsTold pages bytes (Valid fault) = (m : Module) × IsModule bytes m × IsWithinLimits bytes m
+abbrev pub IsReported : ℕ → List ℕ → ModuleFault → Type 0
+IsReported pages bytes (Decode fault) = fault ≢ decode.Memory → HasNoModule bytes
+IsReported pages bytes (Valid fault) = (m : Module) × IsModule bytes m × IsWithinLimits bytes m
     × IsInvalid m fault
-IsTold pages bytes (Link fault) = (m : Module) × IsModule bytes m × IsWithinLimits bytes m
+IsReported pages bytes (Link fault) = (m : Module) × IsModule bytes m × IsWithinLimits bytes m
     × IsValid m × IsRefused pages m fault
 
 -- the host had no room
-abbrev pub is_want : FrontFault → Bool
+abbrev pub is_want : ModuleFault → Bool
 is_want (Decode decode.Memory) = true
 is_want (Valid valid.Memory) = true
 is_want (Link link.Memory) = true
 is_want _ = false
 
 -- where in the bytes the fault is, for those of the decoder that say it
-abbrev pub place_in : FrontFault → Option ℕ
+abbrev pub place_in : ModuleFault → Option ℕ
 place_in (Decode fault) = place_of fault
 place_in (Valid fault) = None
 place_in (Link fault) = None
 
 -- the limit of modules that the bytes pass, and where, for the one fault that says so
-abbrev pub passed_in : FrontFault → Option PassedLimit
+abbrev pub passed_in : ModuleFault → Option PassedLimit
 passed_in (Decode fault) = passed_of fault
 passed_in (Valid fault) = None
 passed_in (Link fault) = None

@@ -7,7 +7,7 @@ use Rattle.wasm_syntax.specs.declared.instruction.Instruction.{Instruction}
 use Rattle.wasm_syntax.specs.rules.Sequence.{Sequence, spelled}
 use Rattle.guest_memory.specs.rules.Memories.{LinearMemory}
 use Rattle.wasm_semantics.specs.Types.{AreOf, number_in}
-use Rattle.wasm_semantics.specs.Typing.{Context, HasRule}
+use Rattle.wasm_semantics.specs.Typing.{Context, HasInstructionType}
 use Rattle.wasm_semantics.specs.Configuration.{Program, Store, Label, LabelOf, FrameOf}
 use Rattle.wasm_semantics.specs.Shapes.{Shape, body_shape}
 use Rattle.wasm_semantics.specs.Steps.{topmost, branch, held_below, zero_of}
@@ -24,7 +24,7 @@ TypedFramesAreReady =
     (p q types : List ValueType) (base : ℕ)
     (words globals : List ℕ) (memory : LinearMemory) (store : Store) (ls vs : List Value)
     (below callers : List ℕ)
-    → program.most_pages ≤ 2 ^ 16 → IsEffect i → HasRule c labels i p q
+    → program.most_pages ≤ 2 ^ 16 → IsEffect i → HasInstructionType c labels i p q
     → IsTypedStore c program store → AreOf c.locals ls
     → AreOf (p ++ types) vs → base ≡ length callers → words ≡ frame_words ls vs below callers
     → ShowsStore program store globals memory

@@ -11,7 +11,7 @@ use Rattle.wasm_semantics.specs.Types.{AreOf, number_in, takes_of}
 use Rattle.wasm_semantics.specs.Typing.{Context, body_context}
 use Rattle.wasm_semantics.specs.Configuration.{Own, Program, Label, LabelOf, FrameOf, Thread}
 use Rattle.wasm_semantics.specs.Configuration.{Configuration}
-use Rattle.wasm_semantics.specs.Steps.{held_by, IsSettled}
+use Rattle.wasm_semantics.specs.Steps.{held_by, IsReduced}
 use Rattle.wasm_semantics.specs.Shapes.{Shape, LabelShape, ShapeOf, body_shape}
 use Rattle.wasm_semantics.specs.Typed.{IsTyped}
 use Rattle.machine_slots.specs.declared.limits.TheConstants.{FRAMES, HELD_VALUES}
@@ -55,11 +55,11 @@ slots_of ls labels vs = map number_in (ls ++ reverse (vs ++ all_below labels))
 
 -- what a call takes from the operands: its arguments, and before those the place in the table
 abbrev pub IsCallOf : Context → Sequence → FunctionType → List ValueType → Sequence → Type 0
-IsCallOf c (Plain (instr.Call x) after) kind takes rest = (slice_get c.functions x ≡ Some kind)
-    × (takes ≡ takes_of kind) × (rest ≡ after)
-IsCallOf c (Plain (instr.CallIndirect x) after) kind takes rest = (slice_get c.types x ≡ Some kind)
-    × (takes ≡ I32 ∷ takes_of kind) × (rest ≡ after)
-IsCallOf c _ kind takes rest = ⊥
+IsCallOf c (Plain (instr.Call x) after) signature takes rest = (slice_get c.functions x
+    ≡ Some signature) × (takes ≡ takes_of signature) × (rest ≡ after)
+IsCallOf c (Plain (instr.CallIndirect x) after) signature takes rest = (slice_get c.types x
+    ≡ Some signature) × (takes ≡ I32 ∷ takes_of signature) × (rest ≡ after)
+IsCallOf c _ signature takes rest = ⊥
 
 -- the running frame, at its next counted instruction
 pub record ShowsRunning (c : Context) (body : Sequence) (place : ShownFrame) (ls : List Value)
@@ -74,13 +74,14 @@ pub record ShowsRunning (c : Context) (body : Sequence) (place : ShownFrame) (ls
   pub slots : place.slots ≡ slots_of ls labels vs
 
 -- a frame that waits, at its call of a function of this type
-pub record ShowsWaiting (c : Context) (body : Sequence) (place : ShownFrame) (kind : FunctionType)
-    (ls : List Value) (labels : List Label) (vs : List Value) (rest : Sequence) : Type 0 where
+pub record ShowsWaiting (c : Context) (body : Sequence) (place : ShownFrame)
+    (signature : FunctionType) (ls : List Value) (labels : List Label) (vs : List Value)
+    (rest : Sequence) : Type 0 where
   pub shape : Shape
   pub takes : List ValueType
   pub types : List ValueType
   pub reached : body_shape c body place.position ≡ Some shape
-  pub calls : IsCallOf c shape.rest kind takes rest
+  pub calls : IsCallOf c shape.rest signature takes rest
   pub labels_are : HaveShape shape.labels labels
   pub split : shape.operands ≡ takes ++ types
   pub operands : AreOf types vs
@@ -89,10 +90,10 @@ pub record ShowsWaiting (c : Context) (body : Sequence) (place : ShownFrame) (ki
 
 -- a frame's function
 pub record IsFrameOf (c : Context) (program : Program) (place : ShownFrame) (f : ℕ) : Type 0 where
-  pub kind : FunctionType
+  pub signature : FunctionType
   pub declared : List ValueType
   pub body : Sequence
-  pub is : slice_get program.functions f ≡ Some (Own kind declared body)
+  pub is : slice_get program.functions f ≡ Some (Own signature declared body)
   pub same : place.function ≡ f
 
 -- the frames that wait, each for the one above it
@@ -100,8 +101,8 @@ abbrev pub ShowsCallers : Context → Program → FunctionType → List ShownFra
 ShowsCallers c program above [] [] = Unit {0}
 ShowsCallers c program above (place ∷ places) (FrameOf f ls labels vs rest ∷ frames) =
     (own : IsFrameOf c program place f)
-    × ShowsWaiting (body_context c own.kind own.declared) own.body place above ls labels vs rest
-    × ShowsCallers c program own.kind places frames
+    × ShowsWaiting (body_context c own.signature own.declared) own.body place above ls
+    labels vs rest × ShowsCallers c program own.signature places frames
 ShowsCallers c program above [] (frame ∷ frames) = ⊥
 ShowsCallers c program above (place ∷ places) [] = ⊥
 
@@ -110,8 +111,8 @@ abbrev pub ShowsThread : Context → Program → List ShownFrame → Thread → 
 ShowsThread c program [] [] = Unit {0}
 ShowsThread c program (place ∷ places) (FrameOf f ls labels vs rest ∷ frames) =
     (own : IsFrameOf c program place f)
-    × ShowsRunning (body_context c own.kind own.declared) own.body place ls labels vs rest
-    × ShowsCallers c program own.kind places frames
+    × ShowsRunning (body_context c own.signature own.declared) own.body place ls labels vs rest
+    × ShowsCallers c program own.signature places frames
 ShowsThread c program [] (frame ∷ frames) = ⊥
 ShowsThread c program (place ∷ places) [] = ⊥
 
@@ -120,12 +121,12 @@ abbrev pub held_beside : Thread → ℕ
 held_beside [] = 0
 held_beside (FrameOf f ls labels vs rest ∷ frames) = length ls + held_by frames
 
--- A machine shows a settled, typed configuration, whose table is the module's, within the limits of
+-- A machine shows a reduced, typed configuration, whose table is the module's, within the limits of
 -- its stack.
 pub record Shows (c : Context) (program : Program) (table : List (Option ℕ)) (state : MachineState)
     (configuration : Configuration) : Type 0 where
   pub typed : IsTyped c program configuration
-  pub settled : IsSettled program configuration
+  pub reduced : IsReduced program configuration
   pub memory : state.memory ≡ configuration.store.memory
   pub globals : state.globals ≡ map number_in configuration.store.globals
   pub same_table : configuration.store.table ≡ table

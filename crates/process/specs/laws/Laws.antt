@@ -3,13 +3,13 @@ use Rattle.std.specs.Prelude.{◌≡◌, ℕ, List, Option, Some, Ok, slice_get,
 use Rattle.wasm_syntax.specs.declared.value.Value.{Value}
 use Rattle.wasm_semantics.specs.Types.{number_in}
 use Rattle.wasm_semantics.specs.Configuration.{Thread, Asks}
-use Rattle.wasm_semantics.specs.Steps.{rule}
+use Rattle.wasm_semantics.specs.Steps.{counted_step}
 use Rattle.wasi_abi.specs.declared.answer.Answer.{Answer}
 use Rattle.wasi_abi.specs.declared.call.Call.{Call}
-use Rattle.wasi_calls_rules.specs.Hosts.{Host}
+use Rattle.wasi_calls_rules.specs.WasiStates.{WasiState}
 use Rattle.wasi_calls_rules.specs.Checks.{Done}
 use Rattle.wasi_calls_rules.specs.Lines.{lines_ended}
-use Rattle.wasi_calls_rules.specs.Rows.{row}
+use Rattle.wasi_calls_rules.specs.CallRules.{call_rule}
 use Rattle.process_rules.specs.Processes.{ProcessState, Guest, HasLineNumbers}
 use Rattle.process_rules.specs.Runs.{next_of}
 use Rattle.process.specs.rules.Stops.{LacksNumbers}
@@ -19,20 +19,21 @@ pub record LacksByCall (guest : Guest) (p : ProcessState) (given : Option Answer
   pub function : ℕ
   pub operands : List Value
   pub waits : Thread
-  pub asks : rule guest.program p.configuration ≡ Asks function operands waits
+  pub asks : counted_step guest.program p.configuration ≡ Asks function operands waits
   pub call : Call
   pub is_call : slice_get guest.calls function ≡ Some call
   pub done : Done
-  pub is_done : row call (reverse (map number_in operands)) given p.configuration.store.memory
+  pub is_done : call_rule call (reverse (map number_in operands)) given p.configuration.store.memory
       p.host
       ≡ Ok done
   pub lacks : HasLineNumbers done.host → ⊥
 
--- No other step lacks numbers: no rule of the module, no end, no wish and no call that is refused.
+-- No other step lacks numbers: no counted step of the module, no end, no question and no call that
+-- is refused.
 abbrev pub CallsAloneLackNumbers : Type 0
 CallsAloneLackNumbers = (guest : Guest) (p : ProcessState) (given : Option Answer)
     → HasLineNumbers p.host → LacksNumbers (next_of guest p given) → LacksByCall guest p given
 
 -- an end has numbers where the process before it has
 abbrev pub EndsHaveNumbers : Type 0
-EndsHaveNumbers = (h : Host) → HasLineNumbers h → HasLineNumbers (lines_ended h)
+EndsHaveNumbers = (h : WasiState) → HasLineNumbers h → HasLineNumbers (lines_ended h)

@@ -3,9 +3,9 @@ use Rattle.std.specs.Prelude.{◌≡◌, ◌≢◌, ◌⊎◌, ℕ, suc, ◌<◌
 use Rattle.std.specs.Prelude.{if◌then◌else◌, List, Option, Some, None, Result, Ok, Err}
 use Rattle.wasm_syntax.specs.declared.value.Value.{Value}
 use Rattle.wasm_semantics.specs.Configuration.{Configuration, Thread, Asks}
-use Rattle.wasm_semantics.specs.Steps.{rule}
+use Rattle.wasm_semantics.specs.Steps.{counted_step}
 use Rattle.wasi_abi.specs.declared.answer.Answer.{Answer}
-use Rattle.wasi_calls_rules.specs.Hosts.{Host}
+use Rattle.wasi_calls_rules.specs.WasiStates.{WasiState}
 use Rattle.process_rules.specs.Processes.{Ending, ProcessState, Guest, HasLineNumbers}
 use Rattle.process_rules.specs.Runs.{Next, On, Over, Wants, next_of, Moves, IsWanted}
 use Rattle.process_rules.specs.Owing.{IsOwing, RunsQuietly}
@@ -49,14 +49,14 @@ StopsFor old new guest p fuel (stop.Ended how) =
 StopsFor old new guest p fuel stop.Spent =
     (waiting_in old ≡ []) × (come : ComesQuietly new guest p) × (come.steps ≡ fuel)
     × (come.process.ended ≡ None)
-StopsFor old new guest p fuel (stop.Asks kind) =
+StopsFor old new guest p fuel (stop.Asks question) =
     (waiting_in old ≡ []) × (come : ComesQuietly new guest p) × (come.steps < fuel)
     × (come.process.ended ≡ None)
-    × (next_of guest come.process None ≡ Wants kind)
+    × (next_of guest come.process None ≡ Wants question)
 
 -- the next step doesn't end the process, whatever answer it is given
 abbrev pub EndsNot : Guest → ProcessState → Type 0
-EndsNot guest p = (given : Option Answer) (why : Ending) (d : Configuration) (h : Host)
+EndsNot guest p = (given : Option Answer) (why : Ending) (d : Configuration) (h : WasiState)
     → next_of guest p given ≢ Over why d h
 
 -- the next step is a call of the host, and not one that ends the process
@@ -64,11 +64,11 @@ pub record CallsHost (guest : Guest) (p : ProcessState) : Type 0 where
   pub function : ℕ
   pub operands : List Value
   pub waits : Thread
-  pub asks : rule guest.program p.configuration ≡ Asks function operands waits
+  pub asks : counted_step guest.program p.configuration ≡ Asks function operands waits
   pub ends_not : EndsNot guest p
 
 -- It goes on, with more lines than can be numbered, unfinished ones counted. An end adds no line to
--- these, and a wish none at all.
+-- these, and a question none at all.
 abbrev pub LacksNumbers : Next → Type 0
 LacksNumbers (On configuration host) = HasLineNumbers host → ⊥
 LacksNumbers _ = ⊥

@@ -7,9 +7,9 @@ use Rattle.wasm_semantics.specs.Steps.{IsEnded}
 use Rattle.wasm_semantics.specs.Linking.{IsLinkable}
 use Rattle.wasi_abi.specs.rules.Configs.{Settings}
 use Rattle.wasi_abi.specs.rules.Versions.{widenings}
-use Rattle.wasi_calls_rules.specs.Hosts.{Line}
+use Rattle.wasi_calls_rules.specs.WasiStates.{Line}
 use Rattle.wasi_calls_rules.specs.Lines.{lines_ended}
-use Rattle.wasi_calls.specs.rules.Held.{HeldHost, ShowsHost, held_released, held_widened}
+use Rattle.wasi_calls.specs.rules.Held.{HeldWasiState, ShowsWasiState, held_released, held_widened}
 use Rattle.machine.specs.rules.Offers.{offer}
 use Rattle.machine.specs.rules.Values.{MachineValue, ShowsIn}
 use Rattle.process_rules.specs.Processes.{Ending, Exited, Trapped, ProcessState, Guest, AreCalls}
@@ -26,14 +26,14 @@ ending_of (end.Trapped why) = Trapped why
 -- a process as contracts see it: machine, host, counts, and how it ended
 pub record ProcessValue : Type 0 where
   pub machine : MachineValue
-  pub host : HeldHost
+  pub host : HeldWasiState
   pub steps : ℕ
   pub answers : ℕ
   pub requests : ℕ
   pub ended : Option Ending
 
 -- of its parts
-abbrev pub process_of : MachineValue → HeldHost → ℕ → ℕ → ℕ → Option ProcessEnd → ProcessValue
+abbrev pub process_of : MachineValue → HeldWasiState → ℕ → ℕ → ℕ → Option ProcessEnd → ProcessValue
 process_of machine host steps answers requests ended = record {
   machine = machine;
   host = host;
@@ -56,15 +56,15 @@ lines_in v = v.host.released + length (waiting_in v)
 pub record ShowsProcess (v : ProcessValue) (guest : Guest) (p : ProcessState) : Type 0 where
   pub calls : AreCalls v.machine.guest.imports guest.calls
   pub configuration : ShowsIn v.machine guest.program p.configuration
-  pub host : ShowsHost v.host p.host
+  pub host : ShowsWasiState v.host p.host
   pub steps : v.steps ≡ p.steps
   pub answers : v.answers ≡ p.answers
   pub requests : v.requests ≡ p.requests
   pub ended : v.ended ≡ p.ended
   pub closed : p.ended ≡ None → IsEnded p.configuration → ⊥
 
--- It shows some process, and its numbers can be counted. Lines are numbered
--- below 2 ^ 63 - 2, and those that its end would emit are counted among them.
+-- It shows some process, and its numbers can be counted. Lines are numbered below 2 ^ 63 - 2, and
+-- those that its end would emit are counted among them.
 pub record IsProcess (v : ProcessValue) : Type 0 where
   pub guest : Guest
   pub process : ProcessState

@@ -9,12 +9,13 @@ use Rattle.wasm_syntax.specs.declared.module.Module.{Module}
 use Rattle.wasm_syntax.specs.laws.Examples.{i32_const, no_type, transfer_type, one_page}
 use Rattle.wasm_syntax.specs.laws.Examples.{wasi_function, exports_from}
 use Rattle.wasm_semantics.specs.Configuration.{Thread, Asks}
-use Rattle.wasm_semantics.specs.Steps.{rule, answered}
+use Rattle.wasm_semantics.specs.Steps.{counted_step, answered}
 use Rattle.wasm_semantics.specs.laws.Examples.{v}
 use Rattle.wasi_abi.specs.declared.answer.Answer.TheVariants as answer
 use Rattle.wasi_abi.specs.declared.call.Call.TheVariants as call
 use Rattle.wasi_abi.specs.rules.Configs.{Settings}
-use Rattle.wasi_calls_rules.specs.Hosts.{Line}
+use Rattle.wasi_calls_rules.specs.WasiStates.{Line}
+use Rattle.wasi_calls_rules.specs.declared.output_stream.OutputStream.TheVariants.{Stdout}
 use Rattle.process_rules.specs.Processes.{ProcessState}
 use Rattle.process_rules.specs.Runs.{Kept, Given, Reaches, On, next_of}
 use Rattle.process_rules.specs.Behind.{IsNarrowTo, AnswersBehindLine, IsLine, AnswersBehindSync}
@@ -64,7 +65,7 @@ abbrev pub abc_and_more : List Kept → List Kept
 abc_and_more more = Given (answer.Request (codes "abc")) ∷ more
 
 abbrev pub abc_line : Line
-abc_line = record { stream = 1; text = codes "abc" }
+abc_line = record { stream = Stdout; text = codes "abc" }
 
 -- After n steps, the request among them, it calls `fd_sync` on this descriptor. That gives this
 -- number, and changes neither memory nor the host.
@@ -73,7 +74,8 @@ pub record SyncGives (config : Settings) (n descriptor number : ℕ) : Type 0 wh
   pub reached : Reaches syncing config (abc_and_more []) n process
   pub is_call : slice_get reached.guest.calls 1 ≡ Some call.FdSync
   pub waits : Thread
-  pub asks : rule reached.guest.program process.configuration ≡ Asks 1 (v descriptor ∷ []) waits
+  pub asks : counted_step reached.guest.program process.configuration
+      ≡ Asks 1 (v descriptor ∷ []) waits
   pub gives : next_of reached.guest process None
       ≡ On (answered process.configuration process.configuration.store.memory (v number
       ∷ []) waits) process.host

@@ -8,6 +8,7 @@ use Rattle.wasm_semantics.specs.Configuration.{Configuration}
 use Rattle.guest_memory.specs.rules.Bytes.{number_of, part, page_size}
 use Rattle.wasi_abi.specs.declared.answer.Answer.TheVariants as answer
 use Rattle.wasi_abi.specs.rules.Configs.{Settings}
+use Rattle.wasi_calls_rules.specs.declared.output_stream.OutputStream.TheVariants.{Stdout}
 use Rattle.process_rules.specs.Processes.{ProcessState, Exited, Trapped, host_of}
 use Rattle.process_rules.specs.Runs.{Kept, Given, Reaches}
 
@@ -31,17 +32,17 @@ at_rest memory = record {
 
 -- The memory of `hello` at its end. It has where its text is and how long, the text and its
 -- newline, and zeros up to the bytes 16 to 19. Into these the call has put the number 3. Zeros
--- stand from there to the end of the page.
+-- are from there to the end of the page.
 abbrev pub hello_memory : List ℕ
 hello_memory = (8 ∷ 0 ∷ 0 ∷ 0 ∷ 3 ∷ 0 ∷ 0 ∷ 0 ∷ []) ++ (codes "hi" ++ 10 ∷ []) ++ replicate 5 0
     ++ (3 ∷ 0 ∷ 0 ∷ 0 ∷ []) ++ replicate 65516 0
 
 -- Four constants, `fd_write`, a drop, a constant and `proc_exit` are eight steps. The exit code is
--- 7, and the line `hi` has been emitted on stream 1; nothing else of the host has changed.
+-- 7, and the line `hi` has been emitted on stdout; nothing else of the host has changed.
 abbrev pub hello_end : Settings → ProcessState
 hello_end config = record {
   configuration = at_rest hello_memory;
-  host = record (host_of config) { lines = record { stream = 1; text = codes "hi" } ∷ [] };
+  host = record (host_of config) { lines = record { stream = Stdout; text = codes "hi" } ∷ [] };
   steps = 8;
   answers = 0;
   requests = 0;
@@ -63,7 +64,7 @@ abc_and_end = Given (answer.Request (codes "abc")) ∷ Given answer.End ∷ []
 
 -- The memory of `echo` at its end. It has the buffer that it reads into, 4,096 bytes from 64 on,
 -- and the one that it writes from, of which four were there. Then come the count of the last read,
--- 0, and of the last write, 4. From 64 on stand the text and its newline.
+-- 0, and of the last write, 4. From 64 on are the text and its newline.
 abbrev pub echo_memory : List ℕ
 echo_memory =
     (64 ∷ 0 ∷ 0 ∷ 0 ∷ 0 ∷ 16 ∷ 0 ∷ 0 ∷ []) ++ (64 ∷ 0 ∷ 0 ∷ 0 ∷ 4 ∷ 0 ∷ 0 ∷ 0 ∷ [])
@@ -76,7 +77,7 @@ abbrev pub echo_end : Settings → ProcessState
 echo_end config = record {
   configuration = at_rest echo_memory;
   host = record (host_of config) {
-    lines = record { stream = 1; text = codes "abc" } ∷ [];
+    lines = record { stream = Stdout; text = codes "abc" } ∷ [];
     input_ended = true;
   };
   steps = 33;

@@ -8,13 +8,13 @@ use Rattle.wasm_semantics.specs.Typing.{Context}
 use Rattle.wasm_semantics.specs.Validity.{AreFunctionTypes, module_context, IsValid}
 use Rattle.wasm_semantics.specs.Configuration.{Program, Configuration, Traps}
 use Rattle.wasm_semantics.specs.Linking.{Offer, IsLinkable}
-use Rattle.wasm_semantics.specs.Steps.{rule, stopped, IsSettled, IsEnded, Steps}
+use Rattle.wasm_semantics.specs.Steps.{counted_step, stopped, IsReduced, IsEnded, Steps}
 use Rattle.wasm_semantics.specs.Typed.{IsTyped, OffersNoEntry}
 use Rattle.wasi_abi.specs.declared.call.Call.{Call}
 use Rattle.wasi_abi.specs.rules.Calls.{module_name, name_of, call_type_of}
 use Rattle.wasi_abi.specs.rules.Configs.{Settings}
 use Rattle.wasi_abi.specs.rules.Answers.{AreBytes}
-use Rattle.wasi_calls_rules.specs.Hosts.{IsHost}
+use Rattle.wasi_calls_rules.specs.WasiStates.{IsWasiState}
 use Rattle.wasi_calls_rules.specs.laws.Laws.{Emits, IsConfiguredAs, IsOfBytes}
 use Rattle.wasi_abi.specs.declared.version.Version.TheVariants.{One}
 use Rattle.wasi_abi.specs.rules.Versions.{text_limit, widenings}
@@ -52,7 +52,7 @@ abbrev pub QuietRunsAreRuns : Type 0
 QuietRunsAreRuns = (guest : Guest) (p q : ProcessState) (n : ℕ) → RunsQuietly guest p n q
     → Runs guest p [] n q × (q.host.lines ≡ p.host.lines)
 
--- a run of so many steps is counted, and emits lines behind those that were there
+-- a run of so many steps is counted, and emits lines after those that were there
 abbrev pub RunsCount : Type 0
 RunsCount = (guest : Guest) (p q : ProcessState) (kept : List Kept) (n : ℕ) → Runs guest p kept n q
     → q.steps ≡ p.steps + n
@@ -76,15 +76,15 @@ WideningIsAll =
 
 -- ---- rules that ask the host for nothing
 
--- Where so many counted rules lead to a configuration that isn't the program's end, after none of
+-- Where so many counted steps lead to a configuration that isn't the program's end, after none of
 -- them anything is owed.
-abbrev pub RulesAreQuiet : Type 0
-RulesAreQuiet =
+abbrev pub StepsAreQuiet : Type 0
+StepsAreQuiet =
     (guest : Guest) (p : ProcessState) (n : ℕ) (d : Configuration) → p.ended ≡ None
     → Steps guest.program n p.configuration d → (IsEnded d → ⊥)
     → RunsQuietly guest p n (record p { configuration = d; steps = p.steps + n })
 
--- a step that ends the process, behind so many after which nothing is owed
+-- a step that ends the process, after so many after which nothing is owed
 pub record EndsAfter (guest : Guest) (p : ProcessState) (n : ℕ) (q : ProcessState) : Type 0 where
   pub before : ProcessState
   pub runs : RunsQuietly guest p n before
@@ -92,9 +92,9 @@ pub record EndsAfter (guest : Guest) (p : ProcessState) (n : ℕ) (q : ProcessSt
   pub moves : Moves guest before None q
   pub no_sync : Syncs guest before → ⊥
 
--- The last rule ends it, where that leads to the program's end.
-abbrev pub LastRuleEnds : Type 0
-LastRuleEnds =
+-- The last counted step ends it, where that leads to the program's end.
+abbrev pub LastStepEnds : Type 0
+LastStepEnds =
     (guest : Guest) (p : ProcessState) (n : ℕ) (d : Configuration) → p.ended ≡ None
     → Steps guest.program (suc n) p.configuration d → IsEnded d
     → EndsAfter guest p n (over (Exited 0) (record p {
@@ -102,11 +102,11 @@ LastRuleEnds =
       steps = p.steps + suc n;
     }))
 
--- A trap behind so many counted rules ends it.
+-- A trap after so many counted steps ends it.
 abbrev pub TrapEnds : Type 0
 TrapEnds =
     (guest : Guest) (p : ProcessState) (n : ℕ) (d : Configuration) (why : Trap) → p.ended ≡ None
-    → Steps guest.program n p.configuration d → rule guest.program d ≡ Traps why
+    → Steps guest.program n p.configuration d → counted_step guest.program d ≡ Traps why
     → EndsAfter guest p n (over (Trapped why) (record p {
       configuration = stopped d;
       steps = p.steps + suc n;
@@ -139,16 +139,16 @@ NodesAreFew =
     → Reaches m config kept n p → p.host.files.next ≤ n + 2
 
 -- a process with a host, whose host and memory hold bytes
-pub record HasHost (p : ProcessState) : Type 0 where
-  pub host : IsHost p.host
+pub record HasWasiState (p : ProcessState) : Type 0 where
+  pub host : IsWasiState p.host
   pub of_bytes : IsOfBytes p.host
   pub memory : AreBytes p.configuration.store.memory
 
 -- What a valid module reaches has a host, where its arguments and environment are bytes.
-abbrev pub ReachedHaveHosts : Type 0
-ReachedHaveHosts =
+abbrev pub ReachedHaveWasiStates : Type 0
+ReachedHaveWasiStates =
     (m : Module) (config : Settings) (kept : List Kept) (n : ℕ) (p : ProcessState) → IsValid m
-    → IsOfBytes (host_of config) → Reaches m config kept n p → HasHost p
+    → IsOfBytes (host_of config) → Reaches m config kept n p → HasWasiState p
 
 -- ---- counts and ends
 
@@ -180,8 +180,8 @@ ReachedAreClosed =
 
 -- what is offered under the name of a call has its type
 abbrev pub OffersCalls : Offer → Type 0
-OffersCalls offer = (c : Call) (kind : FunctionType) → offer module_name (name_of c) ≡ Some kind
-    → kind ≡ call_type_of c
+OffersCalls offer = (c : Call) (signature : FunctionType) → offer module_name (name_of c)
+    ≡ Some signature → signature ≡ call_type_of c
 
 -- the code of an exit has 32 bits
 abbrev pub IsSmallEnding : Option Ending → Type 0
@@ -189,13 +189,13 @@ IsSmallEnding None = Unit {0}
 IsSmallEnding (Some (Exited code)) = code < 2 ^ 32
 IsSmallEnding (Some (Trapped why)) = Unit {0}
 
--- its configuration is typed and settled, and where it has exited, its code has 32 bits
+-- its configuration is typed and reduced, and where it has exited, its code has 32 bits
 pub record IsTypedProcess (c : Context) (program : Program) (p : ProcessState) : Type 0 where
   pub typed : IsTyped c program p.configuration
-  pub settled : IsSettled program p.configuration
+  pub reduced : IsReduced program p.configuration
   pub ended : IsSmallEnding p.ended
 
--- A process is typed and settled that a valid module reaches which can be linked under these pages,
+-- A process is typed and reduced that a valid module reaches which can be linked under these pages,
 -- where its arguments and environment are bytes.
 abbrev pub ReachedAreTyped : Type 0
 ReachedAreTyped =

@@ -10,7 +10,7 @@ use Rattle.process_rules.specs.Behind.{AnswersBehindLine}
 use Rattle.process_rules.specs.laws.Examples.{ComesTo, hello_end}
 
 -- Widened after four steps, before it writes, `hello` goes on to the same end but for the widening:
--- version 2, and one answer taken. Its line is behind that answer, and not behind none: so it would
+-- version 2, and one answer taken. Its line is after that answer, and not after none: so it would
 -- be if a front could run on past the widening that comes next. Widened after its end, it has
 -- emitted its line before, and takes no step more.
 pub record HelloIsWidened (config : Settings) : Type 0 where

@@ -1,6 +1,6 @@
 -- Lists of calls, one after another; and records, which lead to one process.
 use Rattle.std.specs.Prelude.{◌≡◌, ◌↔◌, ℕ, ◌+◌, List, [], ◌∷◌, ◌++◌, length, map}
-use Rattle.wasi_calls_rules.specs.Hosts.{Line}
+use Rattle.wasi_calls_rules.specs.WasiStates.{Line}
 use Rattle.wasi_calls_rules.specs.laws.Laws.{Emits}
 use Rattle.disk_layout.specs.declared.record.Record.{Record}
 use Rattle.process_rules.specs.Processes.{ProcessState, Guest}

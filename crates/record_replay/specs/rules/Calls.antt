@@ -1,9 +1,9 @@
 -- What was done to a source and to an outlet, call by call (this project's own). No value stores a
 -- history: a list of calls leads from a value before to a value after, by the relation of one call.
 use Rattle.std.specs.Prelude.{◌≡◌, ℕ, ◌+◌, List, [], ◌∷◌, ◌++◌, length, Option, Result, Ok, Err}
-use Rattle.wasi_abi.specs.declared.answer.Kind.{Kind}
+use Rattle.wasi_abi.specs.declared.answer.Question.{Question}
 use Rattle.wasi_abi.specs.declared.answer.Answer.{Answer}
-use Rattle.wasi_calls_rules.specs.Hosts.{Line}
+use Rattle.wasi_calls_rules.specs.WasiStates.{Line}
 use Rattle.record_replay.specs.declared.fault.SourceFault.{SourceFault}
 use Rattle.record_replay.specs.declared.fault.OutletFault.{OutletFault}
 
@@ -17,16 +17,16 @@ Leads {V} step before (call ∷ calls) after = (between : V) × step before call
 
 -- what a source gives: the source before, what was asked, what it said, the source after
 abbrev pub Giving : Type 0 → Type 1
-Giving S = S → Kind → Result (Option Answer) SourceFault → S → Type 0
+Giving S = S → Question → Result (Option Answer) SourceFault → S → Type 0
 
 -- one question, with what the source said
 pub record Ask : Type 0 where
-  pub kind : Kind
+  pub question : Question
   pub said : Result (Option Answer) SourceFault
 
 -- one call of a source leads from this value to that one
 abbrev pub Asked : {S : Type 0} → Giving S → S → Ask → S → Type 0
-Asked gives before ask after = gives before ask.kind ask.said after
+Asked gives before ask after = gives before ask.question ask.said after
 
 -- these questions lead from one source to another
 abbrev pub AnswersInOrder : {S : Type 0} → Giving S → S → List Ask → S → Type 0

@@ -2,7 +2,7 @@
 use Rattle.std.specs.Prelude.{◌≡◌, ℕ, ◌-◌, ◌==◌, List, [], ◌∷◌, ◌++◌, Option, Some, None, Result}
 use Rattle.std.specs.Prelude.{Ok, Err, if◌then◌else◌}
 use Rattle.wasi_abi.specs.declared.answer.Answer.{Answer}
-use Rattle.wasi_calls_rules.specs.Hosts.{Line}
+use Rattle.wasi_calls_rules.specs.WasiStates.{Line}
 use Rattle.record_replay.specs.rules.Calls.{Taking}
 use Rattle.record_replay.specs.declared.fault.SourceFault.{SourceFault}
 use Rattle.record_replay.specs.declared.fault.OutletFault.{OutletFault}
@@ -11,8 +11,8 @@ use Rattle.record_replay.specs.declared.refusing.RefusingOutlet.{RefusingOutlet}
 
 -- the first answer is handed out, and the others are left; where there is none, nothing changes
 abbrev pub HandsOut : List Answer → Result (Option Answer) SourceFault → List Answer → Type 0
-HandsOut [] said left = (said ≡ Ok None) × (left ≡ [])
-HandsOut (a ∷ answers) said left = (said ≡ Ok (Some a)) × (left ≡ answers)
+HandsOut [] said answers_left = (said ≡ Ok None) × (answers_left ≡ [])
+HandsOut (a ∷ answers) said answers_left = (said ≡ Ok (Some a)) × (answers_left ≡ answers)
 
 -- a line with its number
 abbrev pub numbered : ℕ → Line → NumberedLine

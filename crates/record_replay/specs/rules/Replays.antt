@@ -3,7 +3,7 @@
 use Rattle.std.specs.Prelude.{◌≡◌, ◌⊎◌, ℕ, suc, ◌-◌, ◌<◌, ◌≤◌, ◌==◌, if◌then◌else◌}
 use Rattle.std.specs.Prelude.{List, [], ◌∷◌, ◌++◌, drop, Option, Some, None}
 use Rattle.wasi_abi.specs.declared.answer.Answer.{Answer}
-use Rattle.wasi_calls_rules.specs.Hosts.{Line}
+use Rattle.wasi_calls_rules.specs.WasiStates.{Line}
 use Rattle.disk_layout.specs.declared.record.Record.{Record}
 use Rattle.process_rules.specs.Processes.{ProcessState, Guest}
 use Rattle.process_rules.specs.Runs.{Runs}
@@ -16,7 +16,7 @@ use Rattle.record_replay.specs.declared.fault.ReplayFault.TheVariants as fault
 
 -- ---- lines
 
--- The lines of p behind the first so many were released, each once, in their order, with their
+-- The lines of p after the first so many were released, each once, in their order, with their
 -- numbers, and the outlet took them.
 abbrev pub TellsFrom : {O : Type 0} → Taking O → ℕ → ProcessState → O → O → Type 0
 TellsFrom takes released p outlet outlet' =
@@ -83,7 +83,7 @@ Diverges guest reached [] p = ⊥
 Diverges guest reached (next ∷ others) p = FitsNowhere guest reached next
     ⊎ ((p.ended ≡ None) × (p.steps < next.step) × IsBeyond guest p (answer_due p next))
 
--- The next step, which isn't behind the next record, is a call of the host; or it is that record's,
+-- The next step, which isn't after the next record, is a call of the host; or it is that record's,
 -- whose answer is copied.
 abbrev pub WantsMemory : Guest → List Record → ProcessState → Type 0
 WantsMemory guest [] p = ⊥

@@ -1,6 +1,6 @@
 -- Lines that wait are released (this project's own).
 use Rattle.std.specs.Prelude.{◌≡◌, ℕ, suc, List, ◌∷◌, ◌++◌, length}
-use Rattle.wasi_calls_rules.specs.Hosts.{Line}
+use Rattle.wasi_calls_rules.specs.WasiStates.{Line}
 use Rattle.process.specs.rules.Values.{ProcessValue, HasReleased, waiting_in}
 use Rattle.record_replay.specs.rules.Calls.{Taking, Releases, all_taken, last_refused}
 

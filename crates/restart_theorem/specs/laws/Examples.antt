@@ -1,14 +1,15 @@
--- Two lives of a worker that tells each request again, and what is promised after each kind of
--- event. The power is cut after the first line was told, and before its record of the steps behind
+-- Two lives of a worker that tells each request again, and what is promised after each sort of
+-- event. The power is cut after the first line was told, and before its record of the steps after
 -- it.
 use Rattle.std.specs.Prelude.{◌≡◌, ℕ, true, false, List, [], ◌∷◌, codes, Some, None, Ok}
 use Rattle.wasi_abi.specs.declared.version.Version.TheVariants.{One, Two}
-use Rattle.wasi_abi.specs.declared.answer.Kind.TheVariants as kind
+use Rattle.wasi_abi.specs.declared.answer.Question.TheVariants as question
 use Rattle.wasi_abi.specs.declared.answer.Answer.{Answer}
 use Rattle.wasi_abi.specs.declared.answer.Answer.TheVariants as answer
+use Rattle.wasi_calls_rules.specs.declared.output_stream.OutputStream.TheVariants.{Stdout}
 use Rattle.process_rules.specs.Processes.{Exited}
 use Rattle.process_rules.specs.Runs.{Given, Wider}
-use Rattle.state_image.specs.rules.Image.{Saved}
+use Rattle.state_image.specs.rules.ProcessImage.{Saved}
 use Rattle.restart_theorem.specs.Lives.{Slice, Checkpoint, Upgrade, Inputs, Release, OfDisk}
 use Rattle.restart_theorem.specs.Lives.{OfMemory, OfOutlet, Over}
 use Rattle.restart_theorem.specs.Lives.{OfSource, Reply, Spent, Done, Fails, Event, Told, Asked}
@@ -42,11 +43,11 @@ saved_at steps lines = record {
 }
 
 abbrev pub hello_line : Release
-hello_line = record { number = 1; line = record { stream = 1; text = codes "hello" } }
+hello_line = record { number = 1; line = record { stream = Stdout; text = codes "hello" } }
 
 -- a process of five steps asks for a request, and this is the answer
 abbrev pub hands_over : Answer → Event
-hands_over a = Asked 5 kind.Request (Ok (Some a)) true
+hands_over a = Asked 5 question.Request (Ok (Some a)) true
 
 abbrev pub hello_request : Event
 hello_request = hands_over (answer.Request (codes "hello"))
@@ -90,8 +91,9 @@ pub record LivesExamples : Type 0 where
   pub first_two : kept_after [] shortened
       ≡ Given (answer.Realtime 7) ∷ Given (answer.Realtime 8) ∷ []
   -- an answer that doesn't fit isn't kept, and none and a fault are nothing to keep
-  pub misfit : kept_after [] (Asked 5 kind.Request (Ok (Some (answer.Realtime 7))) false ∷ []) ≡ []
-  pub none_there : kept_after [] (Asked 5 kind.Request (Ok None) true ∷ []) ≡ []
+  pub misfit : kept_after [] (Asked 5 question.Request (Ok (Some (answer.Realtime 7)))
+      false ∷ []) ≡ []
+  pub none_there : kept_after [] (Asked 5 question.Request (Ok None) true ∷ []) ≡ []
   -- What is kept where an upgrade ends: that the process was widened which it shows, once, also
   -- where the upgrade has failed. A process that stays in version 1 was not.
   pub widened : kept_after [] (hello_request ∷ upgrade_ended Done ∷ [])
@@ -181,7 +183,7 @@ pub record PromiseExamples : Type 0 where
   pub after_a_refusal : promised_to (once_asked (Told hello_line false ∷ []))
       ≡ record (promise_of 0 0 0 5 3) { begun = 1 }
 
--- ---- where a life stands
+-- ---- where a life is
 
 -- one slice of 20 steps; the source has one answer, and the outlet refuses the second line
 abbrev pub some_inputs : Inputs
@@ -202,7 +204,7 @@ pub record CourseExamples : Type 0 where
   pub opened : stage_behind (Opened 0 (saved_at 3 2) ∷ [])
       ≡ record (at_first some_inputs) { phase = Open; step = 3; line = Some 2 }
   pub none_there : (stage_behind
-      (Opened 0 (saved_at 0 0) ∷ Asked 5 kind.Request (Ok None) true ∷ [])).phase ≡ NoneThere 5
+      (Opened 0 (saved_at 0 0) ∷ Asked 5 question.Request (Ok None) true ∷ [])).phase ≡ NoneThere 5
   pub refused : (stage_behind (Opened 0 (saved_at 0 0) ∷ Told hello_line false ∷ [])).phase
       ≡ Broken OfOutlet
   pub failed : (stage_behind (Opened 0 (saved_at 0 0)
@@ -228,7 +230,7 @@ pub record CourseExamples : Type 0 where
   pub asked_without_fuel : IsAskedIn Open (Slice 20 ∷ []) 3 23 → ⊥
   -- a life is abreast once it has asked, or ended; where it opens again it isn't
   pub abreast_at_a_question : (stage_behind
-      (Opened 0 (saved_at 0 0) ∷ Asked 5 kind.Request (Ok None) true ∷ [])).is_abreast ≡ true
+      (Opened 0 (saved_at 0 0) ∷ Asked 5 question.Request (Ok None) true ∷ [])).is_abreast ≡ true
   pub abreast_at_the_end : (stage_behind (Opened 0 (saved_at 0 0)
       ∷ Ended (Slice 20) (Over (Exited 7)) 0 (saved_at 8 1) ∷ [])).is_abreast ≡ true
   pub not_abreast_after_a_slice : (stage_behind (Opened 0 (saved_at 0 0)

@@ -4,17 +4,17 @@
 use Rattle.std.specs.Prelude.{◌≡◌, ◌≤◌, ℕ, true, false, List, [], ◌∷◌, length, Some, None}
 use Rattle.std.specs.Prelude.{Ok, slice_get}
 use Rattle.wasm_syntax.specs.declared.module.Module.{Module}
-use Rattle.wasi_abi.specs.declared.answer.Kind.{Kind}
+use Rattle.wasi_abi.specs.declared.answer.Question.{Question}
 use Rattle.wasi_abi.specs.declared.answer.Answer.{Answer}
 use Rattle.wasi_abi.specs.rules.Answers.{Fits}
 use Rattle.wasi_abi.specs.rules.Configs.{Settings}
 use Rattle.wasi_abi.specs.declared.version.Version.TheVariants.{Two}
 use Rattle.wasi_abi.specs.rules.Versions.{text_limit}
-use Rattle.wasi_calls_rules.specs.Hosts.{Line}
+use Rattle.wasi_calls_rules.specs.WasiStates.{Line}
 use Rattle.process_rules.specs.Processes.{ProcessState}
 use Rattle.process_rules.specs.Runs.{Kept, Given, Wider, Wants, next_of, Reaches}
 use Rattle.disk_layout.specs.rules.Journal.{TakesRecords}
-use Rattle.state_image.specs.rules.Image.{Saved}
+use Rattle.state_image.specs.rules.ProcessImage.{Saved}
 use Rattle.restart_theorem.specs.Lives.{Slice, Checkpoint, Upgrade, SourceSaid, Inputs, Release}
 use Rattle.restart_theorem.specs.Lives.{OfDisk, OfOutlet, OfMemory, Spent, Waits, Done, Fails}
 use Rattle.restart_theorem.specs.Lives.{Event, Told, Asked}
@@ -26,13 +26,13 @@ use Rattle.restart_theorem.specs.laws.Refused.{in_peace, created_life, recovered
 -- ---- a module that tells two requests again
 
 -- a process that has told so many lines asks for this answer
-pub record AsksThis (m : Module) (config : Settings) (kept : List Kept) (steps : ℕ) (kind : Kind)
-    (answer : Answer) (lines : ℕ) : Type 0 where
+pub record AsksThis (m : Module) (config : Settings) (kept : List Kept) (steps : ℕ)
+    (question : Question) (answer : Answer) (lines : ℕ) : Type 0 where
   pub process : ProcessState
   pub reached : Reaches m config kept steps process
   pub running : process.ended ≡ None
-  pub wants : next_of reached.guest process None ≡ Wants kind
-  pub fits : Fits (text_limit process.host.version) kind answer
+  pub wants : next_of reached.guest process None ≡ Wants question
+  pub fits : Fits (text_limit process.host.version) question answer
   pub told : length process.host.lines ≡ lines
 
 -- by some step within these it has emitted this line, at this place
@@ -56,20 +56,20 @@ pub record ShowsAt (m : Module) (config : Settings) (kept : List Kept) (steps li
 
 -- what such a module comes to
 pub record Teller (m : Module) (config : Settings) : Type 0 where
-  pub kind : Kind
+  pub question : Question
   pub hello : Answer
   pub world : Answer
   pub first : Line
   pub second : Line
   pub fresh : ShowsAt m config [] 0 0
-  pub asks_first : AsksThis m config [] 5 kind hello 0
-  -- behind the first answer; behind its line; and where it asks again
+  pub asks_first : AsksThis m config [] 5 question hello 0
+  -- after the first answer; behind its line; and where it asks again
   pub answered : ShowsAt m config (Given hello ∷ []) 6 0
   pub has_first : HasLine m config (Given hello ∷ []) 0 6 27 first
   pub emitted : ShowsAt m config (Given hello ∷ []) 17 1
-  pub asks_second : AsksThis m config (Given hello ∷ []) 27 kind world 1
+  pub asks_second : AsksThis m config (Given hello ∷ []) 27 question world 1
   pub asking : ShowsAt m config (Given hello ∷ []) 27 1
-  -- behind the second answer, and behind its line
+  -- after the second answer, and behind its line
   pub replayed : ShowsAt m config (Given hello ∷ Given world ∷ []) 28 1
   pub has_second : HasLine m config (Given hello ∷ Given world ∷ []) 1 28 42 second
   pub later : ShowsAt m config (Given hello ∷ Given world ∷ []) 42 2
@@ -87,10 +87,10 @@ module _ {m : Module} {config : Settings} (t : Teller m config) where
   both_requests = Ok (Some t.hello) ∷ Ok (Some t.world) ∷ []
 
   abbrev pub asked_first : Event
-  asked_first = Asked 5 t.kind (Ok (Some t.hello)) true
+  asked_first = Asked 5 t.question (Ok (Some t.hello)) true
 
   abbrev pub asked_second : Event
-  asked_second = Asked 27 t.kind (Ok (Some t.world)) true
+  asked_second = Asked 27 t.question (Ok (Some t.world)) true
 
   -- both requests in one slice of 42 steps, and what comes then
   abbrev pub both_told : List Event → List Event
@@ -131,7 +131,8 @@ module _ {m : Module} {config : Settings} (t : Teller m config) where
 
   abbrev pub telling_life : Life
   telling_life = recovered_life (Opened 1 t.answered.saved ∷ Told line_one true
-      ∷ Asked 27 t.kind (Ok None) true ∷ Ended (Slice 22) Waits 1 t.asking.saved ∷ []) 30 Finished
+      ∷ Asked 27 t.question (Ok None) true ∷ Ended (Slice 22) Waits 1 t.asking.saved
+      ∷ []) 30 Finished
 
   abbrev pub nothing_to_do : Inputs
   nothing_to_do = in_peace [] []

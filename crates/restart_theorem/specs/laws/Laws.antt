@@ -4,7 +4,7 @@ use Rattle.wasm_syntax.specs.declared.module.Module.{Module}
 use Rattle.wasm_semantics.specs.Validity.{IsValid}
 use Rattle.wasi_abi.specs.rules.Configs.{Settings}
 use Rattle.process_rules.specs.Behind.{AnswersBehindSync}
-use Rattle.state_image.specs.rules.Image.{Saved}
+use Rattle.state_image.specs.rules.ProcessImage.{Saved}
 use Rattle.restart_theorem.specs.Lives.{Act, Checkpoint, Inputs, Release, Reply, Done, Fails}
 use Rattle.restart_theorem.specs.Lives.{Event, Told, Asked, Opened, Ended, Life}
 use Rattle.restart_theorem.specs.Lives.{events_of, kept_after, kept_answers, told_lines}
@@ -48,7 +48,7 @@ CallsJoin =
 abbrev pub OpenWith : ℕ → ℕ → List Event → Type 0
 OpenWith a n [] = Unit {0}
 OpenWith a n (Told r is_taken ∷ events) = OpenWith a n events
-OpenWith a n (Asked steps kind said fits ∷ events) = OpenWith a n events
+OpenWith a n (Asked steps question said fits ∷ events) = OpenWith a n events
 OpenWith a n (Opened held shown ∷ events) =
     (a ≤ held) × (n ≤ shown.steps) × OpenWith a n events
 OpenWith a n (Ended act reply held shown ∷ events) = OpenWith a n events
@@ -87,7 +87,7 @@ SyncsAreForGood =
 abbrev pub TellBeyond : ℕ → List Event → Type 0
 TellBeyond n [] = Unit {0}
 TellBeyond n (Told r is_taken ∷ events) = (n < r.number) × TellBeyond n events
-TellBeyond n (Asked steps kind said fits ∷ events) = TellBeyond n events
+TellBeyond n (Asked steps question said fits ∷ events) = TellBeyond n events
 TellBeyond n (Opened held shown ∷ events) = TellBeyond n events
 TellBeyond n (Ended act reply held shown ∷ events) = TellBeyond n events
 

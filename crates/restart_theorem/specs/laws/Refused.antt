@@ -3,18 +3,19 @@ use Rattle.std.specs.Prelude.{◌≡◌, ◌≢◌, ◌≤◌, ◌<◌, ℕ, ◌
 use Rattle.std.specs.Prelude.{length, Some, None, Ok}
 use Rattle.wasm_syntax.specs.declared.module.Module.{Module}
 use Rattle.wasm_semantics.specs.Validity.{IsValid}
-use Rattle.wasi_abi.specs.declared.answer.Kind.{Kind}
-use Rattle.wasi_abi.specs.declared.answer.Kind.TheVariants as kind
+use Rattle.wasi_abi.specs.declared.answer.Question.{Question}
+use Rattle.wasi_abi.specs.declared.answer.Question.TheVariants as question
 use Rattle.wasi_abi.specs.declared.answer.Answer.{Answer}
 use Rattle.wasi_abi.specs.declared.answer.Answer.TheVariants as answer
 use Rattle.wasi_abi.specs.declared.version.Version.TheVariants.{One, Two}
 use Rattle.wasi_abi.specs.rules.Answers.{IsRequestText}
 use Rattle.wasi_abi.specs.rules.Configs.{Settings}
-use Rattle.wasi_calls_rules.specs.Hosts.{Line}
+use Rattle.wasi_calls_rules.specs.WasiStates.{Line}
+use Rattle.wasi_calls_rules.specs.declared.output_stream.OutputStream.TheVariants.{Stdout}
 use Rattle.process_rules.specs.Processes.{ProcessState}
 use Rattle.process_rules.specs.Runs.{Given, version_after, Reaches}
 use Rattle.process_rules.specs.Behind.{AnswersBehindSync}
-use Rattle.state_image.specs.rules.Image.{Saved}
+use Rattle.state_image.specs.rules.ProcessImage.{Saved}
 use Rattle.restart_theorem.specs.Lives.{Act, Slice, Checkpoint, Upgrade, SourceSaid, Inputs}
 use Rattle.restart_theorem.specs.Lives.{Release, Cause, OfJournal, OfLines}
 use Rattle.restart_theorem.specs.Lives.{OfDisk, OfSource, OfAnswer, OfOutlet, OfMemory, Reply}
@@ -43,9 +44,9 @@ recovered_life events calls ends =
 abbrev pub creation_begun : Promise
 creation_begun = as_begun Creates nothing_yet
 
--- the line 1 with this text on stream 1
+-- the line 1 with this text on stdout
 abbrev pub first_line : List ℕ → Release
-first_line text = record { number = 1; line = record { stream = 1; text = text } }
+first_line text = record { number = 1; line = record { stream = Stdout; text = text } }
 
 -- errors that come from the outside of a worker, and not from its disk or memory
 pub data IsFromOutside : Cause → Type 0 where
@@ -60,12 +61,12 @@ pub data IsOfUpgrades : Cause → Type 0 where
 
 -- ---- events
 
--- Whatever was promised and wherever a life stands, these events are refused. Each field's name
+-- Whatever was promised and wherever a life is, these events are refused. Each field's name
 -- says what goes wrong.
 pub record RefusedEvents (m : Module) (config : Settings) (so_far : Promise) (stage : Stage)
     : Type 0 where
-  pub asks_before_it_opens : (steps : ℕ) (kind : Kind) (said : SourceSaid) (fits : Bool)
-      → stage.phase ≡ Shut → IsKept m config so_far stage (Asked steps kind said fits) → ⊥
+  pub asks_before_it_opens : (steps : ℕ) (question : Question) (said : SourceSaid) (fits : Bool)
+      → stage.phase ≡ Shut → IsKept m config so_far stage (Asked steps question said fits) → ⊥
   pub opens_twice : (held : ℕ) (shown : Saved) → stage.phase ≡ Open
       → IsKept m config so_far stage (Opened held shown) → ⊥
   pub opens_uncreated : (held : ℕ) (shown : Saved) → so_far.was_created ≡ false
@@ -125,9 +126,9 @@ pub record RefusedUpgrades (m : Module) (config : Settings) (so_far : Promise) (
       → IsKept m config so_far stage (Ended Upgrade reply held shown) → ⊥
   pub tells_a_line : (acts : List Act) (r : Release) (is_taken : Bool) → stage.phase ≡ Open
       → stage.acts ≡ Upgrade ∷ acts → IsKept m config so_far stage (Told r is_taken) → ⊥
-  pub asks : (acts : List Act) (steps : ℕ) (kind : Kind) (said : SourceSaid) (fits : Bool)
+  pub asks : (acts : List Act) (steps : ℕ) (question : Question) (said : SourceSaid) (fits : Bool)
       → stage.phase ≡ Open → stage.acts ≡ Upgrade ∷ acts
-      → IsKept m config so_far stage (Asked steps kind said fits) → ⊥
+      → IsKept m config so_far stage (Asked steps question said fits) → ⊥
   -- one that widens the process before a line that was told, or before a sync that has returned
   pub widens_before_a_line : (reply : Reply) (held : ℕ) (shown : Saved)
       → version_after so_far.kept ≡ One → shown.version ≡ Two → shown.lines < so_far.begun
@@ -170,7 +171,7 @@ pub record RefusedUpgrades (m : Module) (config : Settings) (so_far : Promise) (
   -- a question in version 2 that refuses a text within its limit
   pub refuses_a_long_text : (steps : ℕ) (text : List ℕ) → version_after so_far.kept ≡ Two
       → IsRequestText 65536 text → IsKept m config so_far stage
-      (Asked steps kind.Request (Ok (Some (answer.Request text))) false) → ⊥
+      (Asked steps question.Request (Ok (Some (answer.Request text))) false) → ⊥
 
 -- ---- lives
 
@@ -200,9 +201,9 @@ pub record RefusedWorkers (m : Module) (config : Settings) : Type 0 where
       (Opened 0 first ∷ Ended (Slice fuel) Waits 0 last ∷ []) calls ends ∷ []) → ⊥
   -- one that has asked, and says that an answer isn't there which was
   pub deaf : (answer : Answer) (says : List SourceSaid) (acts : List Act) (steps calls : ℕ)
-      (kind : Kind) (events : List Event) (ends : End) (first : Saved)
+      (question : Question) (events : List Event) (ends : End) (first : Saved)
       → GoesOn m config (in_peace (Ok (Some answer) ∷ says) acts ∷ []) (created_life
-      (Opened 0 first ∷ Asked steps kind (Ok None) true ∷ events) calls ends ∷ []) → ⊥
+      (Opened 0 first ∷ Asked steps question (Ok None) true ∷ events) calls ends ∷ []) → ⊥
   -- acts left undone without a cause
   pub undone : (act : Act) (acts : List Act) (says : List SourceSaid) (calls : ℕ) (ends : End)
       (first : Saved)
@@ -221,11 +222,11 @@ pub record RefusedWorkers (m : Module) (config : Settings) : Type 0 where
       → (second.machine.memory ≡ first.machine.memory) × (second.files ≡ first.files)
       × (second.descriptors ≡ first.descriptors)
   -- a question while a line waits
-  pub asks_early : (inputs : Inputs) (p : ProcessState) (steps calls : ℕ) (kind : Kind)
+  pub asks_early : (inputs : Inputs) (p : ProcessState) (steps calls : ℕ) (question : Question)
       (said : SourceSaid) (fits : Bool) (events : List Event) (ends : End) (first : Saved)
       → IsValid m → Reaches m config [] steps p → first.lines < length p.host.lines
       → GoesOn m config (inputs ∷ []) (created_life
-      (Opened 0 first ∷ Asked steps kind said fits ∷ events) calls ends ∷ []) → ⊥
+      (Opened 0 first ∷ Asked steps question said fits ∷ events) calls ends ∷ []) → ⊥
   -- a line that is told twice, with two texts, in two lives
   pub two_texts : (i j : Inputs) (calls more : ℕ) (ends others : End) (first : Saved)
       (text other : List ℕ) (rest : List Event) → IsValid m → text ≢ other
@@ -245,12 +246,12 @@ pub record RefusedWorkers (m : Module) (config : Settings) : Type 0 where
       (created_life (Opened 0 first ∷ Told (first_line text) false ∷ []) calls ends
       ∷ recovered_life (Opened held second ∷ rest) more others ∷ []) → ⊥
   -- an answer that is lost behind a guest sync that returned
-  pub lost_behind_sync : (i j : Inputs) (answer : Answer) (kind : Kind)
+  pub lost_behind_sync : (i j : Inputs) (answer : Answer) (question : Question)
       (fuel steps k calls more : ℕ) (ends others : End) (first last second : Saved)
       (rest : List Event)
       → k ≤ last.steps → AnswersBehindSync m config (Given answer ∷ []) k 1
       → GoesOn m config (i ∷ j ∷ [])
-      (created_life (Opened 0 first ∷ Asked steps kind (Ok (Some answer)) true
+      (created_life (Opened 0 first ∷ Asked steps question (Ok (Some answer)) true
       ∷ Ended (Slice fuel) Spent 1 last ∷ []) calls ends
       ∷ recovered_life (Opened 0 second ∷ rest) more others ∷ []) → ⊥
   -- a checkpoint that holds nothing
@@ -307,10 +308,10 @@ pub record RefusedUpgraders (m : Module) (config : Settings) : Type 0 where
       ∷ recovered_life (Opened 0 second ∷ Ended Upgrade Done held third ∷ rest) more others
       ∷ []) → ⊥
   -- one that speaks of lines beyond it, where the life has asked
-  pub pleads_after_a_question : (inputs : Inputs) (steps fuel held late calls : ℕ) (kind : Kind)
-      (said : SourceSaid) (fits : Bool) (ends : End) (first second third : Saved)
-      (rest : List Event)
-      → GoesOn m config (inputs ∷ []) (created_life (Opened 0 first ∷ Asked steps kind said fits
+  pub pleads_after_a_question : (inputs : Inputs) (steps fuel held late calls : ℕ)
+      (question : Question) (said : SourceSaid) (fits : Bool) (ends : End)
+      (first second third : Saved) (rest : List Event)
+      → GoesOn m config (inputs ∷ []) (created_life (Opened 0 first ∷ Asked steps question said fits
       ∷ Ended (Slice fuel) Waits held second ∷ Ended Upgrade (Fails OfLines) late third ∷ rest)
       calls ends ∷ []) → ⊥
   -- a worker that is created in version 2

@@ -5,7 +5,7 @@ use Rattle.wasi_abi.specs.declared.version.Version.TheVariants.{One, Two}
 use Rattle.wasi_abi.specs.rules.Configs.{Settings}
 use Rattle.process_rules.specs.Processes.{ProcessState}
 use Rattle.process_rules.specs.Runs.{Kept, Wider, widened, Reaches}
-use Rattle.state_image.specs.rules.Image.{Saved}
+use Rattle.state_image.specs.rules.ProcessImage.{Saved}
 use Rattle.restart_theorem.specs.Lives.{Act, Upgrade, Inputs, Reply, Done}
 use Rattle.restart_theorem.specs.Lives.{Event, Told, Asked, Opened, Ended, Life, events_of}
 use Rattle.restart_theorem.specs.Lives.{kept_by_end}
@@ -25,7 +25,7 @@ UpgradeNone (e ∷ events) = UpgradeNone events
 abbrev pub ShowOne : List Event → Type 0
 ShowOne [] = Unit {0}
 ShowOne (Told r is_taken ∷ events) = ShowOne events
-ShowOne (Asked steps kind said fits ∷ events) = ShowOne events
+ShowOne (Asked steps question said fits ∷ events) = ShowOne events
 ShowOne (Opened held shown ∷ events) = (shown.version ≡ One) × ShowOne events
 ShowOne (Ended act reply held shown ∷ events) = (shown.version ≡ One) × ShowOne events
 
@@ -65,7 +65,7 @@ EndsWidenOnce =
 abbrev pub OpenInTwo : ℕ → ℕ → List Event → Type 0
 OpenInTwo a n [] = Unit {0}
 OpenInTwo a n (Told r is_taken ∷ events) = OpenInTwo a n events
-OpenInTwo a n (Asked steps kind said fits ∷ events) = OpenInTwo a n events
+OpenInTwo a n (Asked steps question said fits ∷ events) = OpenInTwo a n events
 OpenInTwo a n (Opened held shown ∷ events) =
     (shown.version ≡ Two) × (a ≤ held) × (n ≤ shown.steps) × OpenInTwo a n events
 OpenInTwo a n (Ended act reply held shown ∷ events) = OpenInTwo a n events

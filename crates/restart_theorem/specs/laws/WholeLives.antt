@@ -2,15 +2,16 @@
 use Rattle.std.specs.Prelude.{◌≡◌, ℕ, ◌≤◌, ◌^◌, Bool, true, List, [], ◌∷◌, codes}
 use Rattle.std.specs.Prelude.{Some}
 use Rattle.wasm_syntax.specs.laws.Examples.{hello, echo}
-use Rattle.wasi_abi.specs.declared.answer.Kind.{Kind}
-use Rattle.wasi_abi.specs.declared.answer.Kind.TheVariants as kind
+use Rattle.wasi_abi.specs.declared.answer.Question.{Question}
+use Rattle.wasi_abi.specs.declared.answer.Question.TheVariants as questions
 use Rattle.wasi_abi.specs.declared.answer.Answer.TheVariants as answer
 use Rattle.wasi_abi.specs.declared.version.Version.TheVariants.{Two}
 use Rattle.wasi_abi.specs.rules.Configs.{Settings}
+use Rattle.wasi_calls_rules.specs.declared.output_stream.OutputStream.TheVariants.{Stdout, Stderr}
 use Rattle.process_rules.specs.Processes.{Exited}
 use Rattle.process_rules.specs.laws.Examples.{hello_memory}
 use Rattle.process_rules.specs.Runs.{Kept, Given}
-use Rattle.state_image.specs.rules.Image.{Saved}
+use Rattle.state_image.specs.rules.ProcessImage.{Saved}
 use Rattle.state_image.specs.laws.Examples.{fresh_process}
 use Rattle.state_image.specs.laws.WellTypedExamples.{hello_first_memory}
 use Rattle.disk_layout.specs.rules.Journal.{TakesRecords}
@@ -27,7 +28,7 @@ use Rattle.restart_theorem.specs.laws.Refused.{creation_begun}
 
 -- the one line of `hello`
 abbrev pub hi_told : Release
-hi_told = record { number = 1; line = record { stream = 1; text = codes "hi" } }
+hi_told = record { number = 1; line = record { stream = Stdout; text = codes "hi" } }
 
 -- what `hello` begins as, and what it is after its eight steps
 abbrev pub hello_first : Saved
@@ -86,14 +87,14 @@ pub record HelloLives (config : Settings) : Type 0 where
   pub tells_another_line : (so_far : Promise) (stage : Stage) (is_taken : Bool)
       → so_far.kept ≡ []
       → IsKept hello config so_far stage
-      (Told (record hi_told { line = record { stream = 2; text = codes "hi" } }) is_taken) → ⊥
+      (Told (record hi_told { line = record { stream = Stderr; text = codes "hi" } }) is_taken) → ⊥
   pub tells_a_second_line : (so_far : Promise) (stage : Stage) (is_taken : Bool)
       → so_far.kept ≡ []
       → IsKept hello config so_far stage (Told (record hi_told { number = 2 }) is_taken) → ⊥
   -- it asks for nothing
-  pub asks : (so_far : Promise) (stage : Stage) (steps : ℕ) (wish : Kind) (said : SourceSaid)
-      (fits : Bool) → so_far.kept ≡ []
-      → IsKept hello config so_far stage (Asked steps wish said fits) → ⊥
+  pub asks : (so_far : Promise) (stage : Stage) (steps : ℕ) (question : Question)
+      (said : SourceSaid) (fits : Bool) → so_far.kept ≡ []
+      → IsKept hello config so_far stage (Asked steps question said fits) → ⊥
 
 -- ---- the same module, upgraded
 
@@ -140,7 +141,7 @@ abc_kept = Given (answer.Request (codes "abc")) ∷ []
 
 -- Events that are none of `echo`.
 pub record EchoRefusals (config : Settings) : Type 0 where
-  -- where its line was told, no life opens without the request behind it
+  -- where its line was told, no life opens without the request after it
   pub loses_a_line : (so_far : Promise) (stage : Stage) (shown : Saved)
       → so_far.kept ≡ abc_kept → 1 ≤ so_far.begun
       → IsKept echo config so_far stage (Opened 0 shown) → ⊥
@@ -148,6 +149,7 @@ pub record EchoRefusals (config : Settings) : Type 0 where
   pub tells_unasked : (so_far : Promise) (stage : Stage) (r : Release) (is_taken : Bool)
       → so_far.kept ≡ [] → IsKept echo config so_far stage (Told r is_taken) → ⊥
   -- what it asks for is a request
-  pub asks_for_another : (so_far : Promise) (stage : Stage) (steps : ℕ) (wish : Kind)
+  pub asks_for_another : (so_far : Promise) (stage : Stage) (steps : ℕ) (question : Question)
       (said : SourceSaid) (fits : Bool) → so_far.kept ≡ []
-      → IsKept echo config so_far stage (Asked steps wish said fits) → wish ≡ kind.Request
+      → IsKept echo config so_far stage (Asked steps question said fits) → question
+      ≡ questions.Request

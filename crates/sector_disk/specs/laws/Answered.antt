@@ -3,9 +3,11 @@ use Rattle.std.specs.Prelude.{◌≡◌, ◌⊎◌, ◌<◌, ◌≤◌, ◌+◌,
 use Rattle.std.proofs.Common.{sym, ap, subst, ◌∙◌, inl, inr, ⊎_elim, arith}
 use Rattle.std.proofs.lemmas.List.{set_past, length-set}
 use Rattle.std.proofs.lemmas.Bool.{cases_lt, cases_eq}
-use Rattle.sector_disk.specs.rules.Image.{Image, sector_at, with_sector, with_front, front_over}
-use Rattle.sector_disk.specs.rules.Image.{IsImage}
-use Rattle.sector_disk.specs.laws.Fronts.{image-with_sector, image-with_front, whole-with_front}
+use Rattle.sector_disk.specs.rules.DiskImage.{DiskImage, sector_at, with_sector, with_front}
+use Rattle.sector_disk.specs.rules.DiskImage.{front_over}
+use Rattle.sector_disk.specs.rules.DiskImage.{IsDiskImage}
+use Rattle.sector_disk.specs.laws.Fronts.{disk_image-with_sector, disk_image-with_front}
+use Rattle.sector_disk.specs.laws.Fronts.{whole-with_front}
 use Rattle.sector_disk.specs.laws.Fronts.{sector-with_sector, sector-with_other, with_front_twice}
 use Rattle.sector_disk.specs.laws.Fronts.{with_front_comm, with_front_self, front_hides}
 use Rattle.sector_disk.specs.laws.Fronts.{front_within, shorter, longer}
@@ -17,39 +19,42 @@ use Rattle.sector_disk.specs.declared.file_call.FileCall.TheVariants.{Read, Wrot
 use Rattle.sector_disk.specs.declared.file_call.FileCall.TheVariants.{Failed}
 
 -- both are images
-image_on : (n : ℕ) (call : FileCall) (bytes : List ℕ) (before : Image → Image → Type 0)
-    → ((s l : Image) → before s l → IsImage n s × IsImage n l) → (s l : Image)
-    → OneOn call bytes before s l → IsImage n s × IsImage n l
-image_on n (Read k) bytes before was s l on = was s l on.0
-image_on n (Wrote k) bytes before was s l (s0, l0, f, b, le, full, es, el) =
+disk_image_on : (n : ℕ) (call : FileCall) (bytes : List ℕ) (before : DiskImage → DiskImage → Type 0)
+    → ((s l : DiskImage) → before s l → IsDiskImage n s × IsDiskImage n l) → (s l : DiskImage)
+    → OneOn call bytes before s l → IsDiskImage n s × IsDiskImage n l
+disk_image_on n (Read k) bytes before was s l on = was s l on.0
+disk_image_on n (Wrote k) bytes before was s l (s0, l0, f, b, le, full, es, el) =
     let both = was s0 l0 b in (
-      subst (λ (i : Image). IsImage n i) (sym es) (image-with_sector n s0 k bytes both.0 (λ lt.
+      subst (λ (i : DiskImage). IsDiskImage n i) (sym es) (disk_image-with_sector n s0 k
+          bytes both.0 (λ lt.
           full)),
-      subst (λ (i : Image). IsImage n i) (sym el)
-          (image-with_front n l0 k f bytes both.1 le (λ lt. full)),
+      subst (λ (i : DiskImage). IsDiskImage n i) (sym el)
+          (disk_image-with_front n l0 k f bytes both.1 le (λ lt. full)),
     )
-image_on n (Tore k) bytes before was s l (s0, l0, m, f, b, le, less, full, es, el) =
+disk_image_on n (Tore k) bytes before was s l (s0, l0, m, f, b, le, less, full, es, el) =
     let both = was s0 l0 b in (
-      subst (λ (i : Image). IsImage n i) (sym es) (image-with_front n s0 k m bytes both.0 le (λ lt.
+      subst (λ (i : DiskImage). IsDiskImage n i) (sym es) (disk_image-with_front n s0 k m bytes
+          both.0 le (λ lt.
           full)),
-      subst (λ (i : Image). IsImage n i) (sym el) (image-with_front n l0 k f bytes both.1
+      subst (λ (i : DiskImage). IsDiskImage n i) (sym el) (disk_image-with_front n l0 k
+          f bytes both.1
           (omega arith) (λ lt. full)),
     )
-image_on n Synced bytes before was s l (l0, b, e) = let both = was s l0 b in
-    (both.0, subst (λ (i : Image). IsImage n i) (sym e) both.0)
-image_on n (Failed which) bytes before was s l on = was s l on
+disk_image_on n Synced bytes before was s l (l0, b, e) = let both = was s l0 b in
+    (both.0, subst (λ (i : DiskImage). IsDiskImage n i) (sym e) both.0)
+disk_image_on n (Failed which) bytes before was s l on = was s l on
 
-pub images : (n : ℕ) (answers : AnsweredCalls) (s l : Image) → Explains n answers s l
-    → IsImage n s × IsImage n l
-images n [] s l on = on
-images n (answer ∷ answers) s l on =
-    image_on n answer.0 answer.1 (Explains n answers) (images n answers) s l on
+pub disk_images : (n : ℕ) (answers : AnsweredCalls) (s l : DiskImage) → Explains n answers s l
+    → IsDiskImage n s × IsDiskImage n l
+disk_images n [] s l on = on
+disk_images n (answer ∷ answers) s l on =
+    disk_image_on n answer.0 answer.1 (Explains n answers) (disk_images n answers) s l on
 
 -- a cut may leave all that reads give
-stay_on : (n : ℕ) (call : FileCall) (bytes : List ℕ) (before : Image → Image → Type 0)
-    → ((s l : Image) → before s l → IsImage n s × IsImage n l)
-    → ((s l : Image) → before s l → before s s)
-    → (s l : Image) → OneOn call bytes before s l → OneOn call bytes before s s
+stay_on : (n : ℕ) (call : FileCall) (bytes : List ℕ) (before : DiskImage → DiskImage → Type 0)
+    → ((s l : DiskImage) → before s l → IsDiskImage n s × IsDiskImage n l)
+    → ((s l : DiskImage) → before s l → before s s)
+    → (s l : DiskImage) → OneOn call bytes before s l → OneOn call bytes before s s
 stay_on n (Read k) bytes before is stays s l on = (stays s l on.0, on.1)
 stay_on n (Wrote k) bytes before is stays s l (s0, l0, f, b, le, full, es, el) =
     let both = is s0 l0 b in (
@@ -66,7 +71,7 @@ stay_on n (Wrote k) bytes before is stays s l (s0, l0, f, b, le, full, es, el) =
           (cases_lt k n),
     )
   where
-    out_of : (n : ℕ) (image : Image) (k f : ℕ) (bytes : List ℕ) → IsImage n image → n ≤ k
+    out_of : (n : ℕ) (image : DiskImage) (k f : ℕ) (bytes : List ℕ) → IsDiskImage n image → n ≤ k
         → with_sector image k bytes ≡ with_front image k f bytes
     out_of n image k f bytes is out =
         let past : length image ≤ k = let c = is.count in omega (arith, c) in
@@ -77,21 +82,22 @@ stay_on n (Tore k) bytes before is stays s l (s0, l0, m, f, b, le, less, full, e
 stay_on n Synced bytes before is stays s l (l0, b, e) = (l0, b, refl)
 stay_on n (Failed which) bytes before is stays s l on = stays s l on
 
-pub stays : (n : ℕ) (answers : AnsweredCalls) (s l : Image) → Explains n answers s l
+pub stays : (n : ℕ) (answers : AnsweredCalls) (s l : DiskImage) → Explains n answers s l
     → Explains n answers s s
 stays n [] s l on = (on.0, on.0)
 stays n (answer ∷ answers) s l on =
-    stay_on n answer.0 answer.1 (Explains n answers) (images n answers) (stays n answers) s l on
+    stay_on n answer.0 answer.1 (Explains n answers) (disk_images n answers)
+    (stays n answers) s l on
 
 -- a write past the last sector
-out_of_range : (n : ℕ) (image : Image) (k f : ℕ) (bytes : List ℕ) → length image ≡ n → n ≤ k
+out_of_range : (n : ℕ) (image : DiskImage) (k f : ℕ) (bytes : List ℕ) → length image ≡ n → n ≤ k
     → with_front image k f bytes ≡ image
 out_of_range n image k f bytes size out =
     set_past image k (front_over f bytes (sector_at image k)) (omega arith)
 
 -- what a cut leaves may keep more of what reads give: a write
-wrote_more : (n k j f g : ℕ) (bytes : List ℕ) (s0 l0 : Image) → IsImage n s0 → IsImage n l0
-    → f ≤ 512 → g ≤ 512 → length bytes ≡ 512
+wrote_more : (n k j f g : ℕ) (bytes : List ℕ) (s0 l0 : DiskImage) → IsDiskImage n s0
+    → IsDiskImage n l0 → f ≤ 512 → g ≤ 512 → length bytes ≡ 512
     → (h : ℕ) × (h ≤ 512)
     × (with_front (with_front l0 k g bytes) j f (sector_at (with_sector s0 k bytes) j)
     ≡ with_front (with_front l0 j f (sector_at s0 j)) k h bytes)
@@ -107,9 +113,9 @@ wrote_more n k j f g bytes s0 l0 is-s is-l le-f le-g full =
     let s-is : with_sector s0 k bytes ≡ s0 = set_past s0 k bytes (omega arith) in (
       g,
       le-g,
-      ap (λ (i : Image). with_front i j f (sector_at (with_sector s0 k bytes) j))
+      ap (λ (i : DiskImage). with_front i j f (sector_at (with_sector s0 k bytes) j))
           (out_of_range n l0 k g bytes c out)
-          ∙ ap (λ (i : Image). with_front l0 j f (sector_at i j)) s-is
+          ∙ ap (λ (i : DiskImage). with_front l0 j f (sector_at i j)) s-is
           ∙ sym (out_of_range n (with_front l0 j f (sector_at s0 j)) k g bytes (length-set l0 j _
           ∙ c) out),
     ))
@@ -132,10 +138,10 @@ tore_same f g m b s l le-f le-g le-m full-b full-s =
     (cases_lt f g))
     (cases_lt m f)
 
-tore_more : (n k j f g m : ℕ) (bytes : List ℕ) (s0 l0 : Image) → IsImage n s0 → IsImage n l0
-    → f ≤ 512 → g ≤ m → m ≤ 512 → length bytes ≡ 512 → (before : Image → Type 0) → before l0
-    → ((j f : ℕ) → f ≤ 512 → before (with_front l0 j f (sector_at s0 j)))
-    → (l : Image) × (h : ℕ) × before l × (h ≤ m)
+tore_more : (n k j f g m : ℕ) (bytes : List ℕ) (s0 l0 : DiskImage) → IsDiskImage n s0
+    → IsDiskImage n l0 → f ≤ 512 → g ≤ m → m ≤ 512 → length bytes ≡ 512
+    → (before : DiskImage → Type 0) → before l0 → ((j f : ℕ) → f ≤ 512
+    → before (with_front l0 j f (sector_at s0 j))) → (l : DiskImage) × (h : ℕ) × before l × (h ≤ m)
     × (with_front (with_front l0 k g bytes) j f (sector_at (with_front s0 k m bytes) j)
     ≡ with_front l k h bytes)
 tore_more n k j f g m bytes s0 l0 is-s is-l le-f le-g le-m full before here more =
@@ -146,9 +152,9 @@ tore_more n k j f g m bytes s0 l0 is-s is-l le-f le-g le-m full before here more
       g,
       more j f le-f,
       le-g,
-      ap (λ (i : Image). with_front i j f (sector_at (with_front s0 k m bytes) j))
+      ap (λ (i : DiskImage). with_front i j f (sector_at (with_front s0 k m bytes) j))
           (out_of_range n l0 k g bytes c out)
-          ∙ ap (λ (i : Image). with_front l0 j f (sector_at i j))
+          ∙ ap (λ (i : DiskImage). with_front l0 j f (sector_at i j))
           (out_of_range n s0 k m bytes d out)
           ∙ sym (out_of_range n (with_front l0 j f (sector_at s0 j)) k g bytes (length-set l0 j _
           ∙ c) out),
@@ -156,7 +162,7 @@ tore_more n k j f g m bytes s0 l0 is-s is-l le-f le-g le-m full before here more
     (λ (lt : k < n).
     ⊎_elim
     (λ (e : j ≡ k).
-    let Goal : ℕ → Type 0 = λ i. (l : Image) × (h : ℕ) × before l × (h ≤ m)
+    let Goal : ℕ → Type 0 = λ i. (l : DiskImage) × (h : ℕ) × before l × (h ≤ m)
     × (with_front (with_front l0 k g bytes) i f (sector_at (with_front s0 k m bytes) i)
     ≡ with_front l k h bytes) in
     let in-s : k < length s0 = let d = is-s.count in omega arith in
@@ -197,11 +203,11 @@ tore_more n k j f g m bytes s0 l0 is-s is-l le-f le-g le-m full before here more
     (cases_eq j k))
     (⊎_elim (λ lt. inr lt) (λ out. inl out) (cases_lt k n))
 
-more_on : (n : ℕ) (call : FileCall) (bytes : List ℕ) (before : Image → Image → Type 0)
-    → ((s l : Image) → before s l → IsImage n s × IsImage n l)
-    → ((s l : Image) → before s l → (j f : ℕ) → f ≤ 512
+more_on : (n : ℕ) (call : FileCall) (bytes : List ℕ) (before : DiskImage → DiskImage → Type 0)
+    → ((s l : DiskImage) → before s l → IsDiskImage n s × IsDiskImage n l)
+    → ((s l : DiskImage) → before s l → (j f : ℕ) → f ≤ 512
     → before s (with_front l j f (sector_at s j)))
-    → (s l : Image) → OneOn call bytes before s l → (j f : ℕ) → f ≤ 512
+    → (s l : DiskImage) → OneOn call bytes before s l → (j f : ℕ) → f ≤ 512
     → OneOn call bytes before s (with_front l j f (sector_at s j))
 more_on n (Read k) bytes before is more s l on j f le = (more s l on.0 j f le, on.1)
 more_on n (Wrote k) bytes before is more s l (s0, l0, g, b, le-g, full, es, el) j f le =
@@ -214,8 +220,8 @@ more_on n (Wrote k) bytes before is more s l (s0, l0, g, b, le-g, full, es, el) 
       step.1,
       full,
       es,
-      ap (λ (i : Image). with_front i j f (sector_at s j)) el
-          ∙ ap (λ (i : Image). with_front (with_front l0 k g bytes) j f (sector_at i j)) es
+      ap (λ (i : DiskImage). with_front i j f (sector_at s j)) el
+          ∙ ap (λ (i : DiskImage). with_front (with_front l0 k g bytes) j f (sector_at i j)) es
           ∙ step.2,
     )
 more_on n (Tore k) bytes before is more s l (s0, l0, m, g, b, le-m, le-g, full, es, el) j f le =
@@ -231,76 +237,80 @@ more_on n (Tore k) bytes before is more s l (s0, l0, m, g, b, le-m, le-g, full, 
       step.3,
       full,
       es,
-      ap (λ (i : Image). with_front i j f (sector_at s j)) el
-          ∙ ap (λ (i : Image). with_front (with_front l0 k g bytes) j f (sector_at i j)) es
+      ap (λ (i : DiskImage). with_front i j f (sector_at s j)) el
+          ∙ ap (λ (i : DiskImage). with_front (with_front l0 k g bytes) j f (sector_at i j)) es
           ∙ step.4,
     )
 more_on n Synced bytes before is more s l (l0, b, e) j f le =
-    (l0, b, ap (λ (i : Image). with_front i j f (sector_at s j)) e ∙ with_front_self s j f)
+    (l0, b, ap (λ (i : DiskImage). with_front i j f (sector_at s j)) e ∙ with_front_self s j f)
 more_on n (Failed which) bytes before is more s l on j f le = more s l on j f le
 
-pub keeps_more_of : (n : ℕ) (answers : AnsweredCalls) (s l : Image) → Explains n answers s l
+pub keeps_more_of : (n : ℕ) (answers : AnsweredCalls) (s l : DiskImage) → Explains n answers s l
     → (j f : ℕ) → f ≤ 512 → Explains n answers s (with_front l j f (sector_at s j))
-keeps_more_of n [] s l on j f le =
-    (on.0, image-with_front n l j f (sector_at s j) on.1 le (λ lt. let is = on.0 in is.full j lt))
+keeps_more_of n [] s l on j f le = (
+  on.0,
+  disk_image-with_front n l j f (sector_at s j) on.1 le
+      (λ lt. let is = on.0 in is.full j lt),
+)
 keeps_more_of n (answer ∷ answers) s l on j f le =
-    more_on n answer.0 answer.1 (Explains n answers) (images n answers)
+    more_on n answer.0 answer.1 (Explains n answers) (disk_images n answers)
     (keeps_more_of n answers) s l on j f le
 
 -- moments
-pub from_shows : (call : FileCall) (bytes : List ℕ) (before : Image → Type 0) (s : Image)
-    → ShowsOn call bytes before s → (was : Image) × before was
+pub from_shows : (call : FileCall) (bytes : List ℕ) (before : DiskImage → Type 0) (s : DiskImage)
+    → ShowsOn call bytes before s → (was : DiskImage) × before was
 from_shows (Read k) bytes before s on = (s, on.0)
 from_shows (Wrote k) bytes before s on = (on.0, on.1)
 from_shows (Tore k) bytes before s on = (on.0, on.2)
 from_shows Synced bytes before s on = (s, on)
 from_shows (Failed which) bytes before s on = (s, on)
 
-none_since : (n t : ℕ) (answers : AnsweredCalls) (left s : Image) → length answers < t
-    → ExplainsSince n t answers left s → ⊥
-none_since n t [] left s lt since = let no-later = since.0 in absurd (omega arith)
-none_since n t (answer ∷ answers) left s lt since =
+none_since : (n t : ℕ) (answers : AnsweredCalls) (crashed s : DiskImage) → length answers < t
+    → ExplainsSince n t answers crashed s → ⊥
+none_since n t [] crashed s lt since = let no-later = since.0 in absurd (omega arith)
+none_since n t (answer ∷ answers) crashed s lt since =
     ⊎_elim
-    (λ (now : (t ≤ length answers + 1) × Explains n (answer ∷ answers) s left). let no-later = now.0
+    (λ (now : (t ≤ length answers + 1) × Explains n (answer ∷ answers) s crashed). let
+    no-later = now.0
     in absurd (omega arith))
-    (λ (earlier : ShowsOn answer.0 answer.1 (ExplainsSince n t answers left) s).
-    let was = from_shows answer.0 answer.1 (ExplainsSince n t answers left) s earlier in
-    none_since n t answers left was.0 (omega arith) was.1)
+    (λ (earlier : ShowsOn answer.0 answer.1 (ExplainsSince n t answers crashed) s).
+    let was = from_shows answer.0 answer.1 (ExplainsSince n t answers crashed) s earlier in
+    none_since n t answers crashed was.0 (omega arith) was.1)
     since
 
-pub since_now : (n t : ℕ) (answers : AnsweredCalls) (left s : Image) → t ≤ length answers
-    → Explains n answers s left → ExplainsSince n t answers left s
-since_now n t [] left s le on = (omega arith, on)
-since_now n t (answer ∷ answers) left s le on = inl (omega arith, on)
+pub since_now : (n t : ℕ) (answers : AnsweredCalls) (crashed s : DiskImage) → t ≤ length answers
+    → Explains n answers s crashed → ExplainsSince n t answers crashed s
+since_now n t [] crashed s le on = (omega arith, on)
+since_now n t (answer ∷ answers) crashed s le on = inl (omega arith, on)
 
-pub since_only : (n : ℕ) (answers : AnsweredCalls) (left s : Image)
-    → ExplainsSince n (length answers) answers left s → Explains n answers s left
-since_only n [] left s since = since.1
-since_only n (answer ∷ answers) left s since =
+pub since_only : (n : ℕ) (answers : AnsweredCalls) (crashed s : DiskImage)
+    → ExplainsSince n (length answers) answers crashed s → Explains n answers s crashed
+since_only n [] crashed s since = since.1
+since_only n (answer ∷ answers) crashed s since =
     ⊎_elim
     (λ (now : (length (answer ∷ answers) ≤ length answers + 1)
-    × Explains n (answer ∷ answers) s left). now.1)
+    × Explains n (answer ∷ answers) s crashed). now.1)
     (λ (earlier : ShowsOn answer.0 answer.1
-    (ExplainsSince n (length (answer ∷ answers)) answers left) s).
+    (ExplainsSince n (length (answer ∷ answers)) answers crashed) s).
     let was = from_shows answer.0 answer.1
-    (ExplainsSince n (length (answer ∷ answers)) answers left) s earlier in
-    absurd (none_since n (length (answer ∷ answers)) answers left was.0 (omega arith) was.1))
+    (ExplainsSince n (length (answer ∷ answers)) answers crashed) s earlier in
+    absurd (none_since n (length (answer ∷ answers)) answers crashed was.0 (omega arith) was.1))
     since
 
 -- one answer more
-pub since_on : (n t : ℕ) (answer : FileCall × List ℕ) (answers : AnsweredCalls) (left s : Image)
-    → ExplainsSince n t (answer ∷ answers) left s
-    → ((was : Image) × ExplainsSince n t answers left was)
-    ⊎ ((now : Image) × Explains n (answer ∷ answers) now left)
-since_on n t answer answers left s since =
+pub since_on : (n t : ℕ) (answer : FileCall × List ℕ) (answers : AnsweredCalls)
+    (crashed s : DiskImage) → ExplainsSince n t (answer ∷ answers) crashed s
+    → ((was : DiskImage) × ExplainsSince n t answers crashed was)
+    ⊎ ((now : DiskImage) × Explains n (answer ∷ answers) now crashed)
+since_on n t answer answers crashed s since =
     ⊎_elim
-    (λ (now : (t ≤ length answers + 1) × Explains n (answer ∷ answers) s left). inr (s, now.1))
-    (λ (earlier : ShowsOn answer.0 answer.1 (ExplainsSince n t answers left) s).
-    inl (from_shows answer.0 answer.1 (ExplainsSince n t answers left) s earlier))
+    (λ (now : (t ≤ length answers + 1) × Explains n (answer ∷ answers) s crashed). inr (s, now.1))
+    (λ (earlier : ShowsOn answer.0 answer.1 (ExplainsSince n t answers crashed) s).
+    inl (from_shows answer.0 answer.1 (ExplainsSince n t answers crashed) s earlier))
     since
 
--- a whole write is a front of all its bytes
-pub whole_front : (n : ℕ) (image : Image) (k : ℕ) (bytes : List ℕ) → IsImage n image
+-- a whole write is a prefix of all its bytes
+pub whole_front : (n : ℕ) (image : DiskImage) (k : ℕ) (bytes : List ℕ) → IsDiskImage n image
     → length bytes ≡ 512 → with_sector image k bytes ≡ with_front image k 512 bytes
 whole_front n image k bytes is full =
     ⊎_elim (λ (lt : k < n). sym (whole-with_front n image k bytes is lt full))
@@ -309,9 +319,9 @@ whole_front n image k bytes is full =
     (cases_lt k n)
 
 -- what explains a run of moments explains this one
-shows_on : (call : FileCall) (bytes : List ℕ) (before : Image → Image → Type 0) (was : Image
-    → Type 0) → ((s : Image) → was s → (l : Image) × before s l) → (s : Image)
-    → ShowsOn call bytes was s → (l : Image) × OneOn call bytes before s l
+shows_on : (call : FileCall) (bytes : List ℕ) (before : DiskImage → DiskImage
+    → Type 0) (was : DiskImage → Type 0) → ((s : DiskImage) → was s → (l : DiskImage) × before s l)
+    → (s : DiskImage) → ShowsOn call bytes was s → (l : DiskImage) × OneOn call bytes before s l
 shows_on (Read k) bytes before was has s on = let b = has s on.0 in (b.0, (b.1, on.1))
 shows_on (Wrote k) bytes before was has s (s0, b, full, e) = let w = has s0 b in
     (with_front w.0 k 0 bytes, (s0, w.0, 0, w.1, omega arith, full, e, refl))
@@ -320,47 +330,49 @@ shows_on (Tore k) bytes before was has s (s0, f, b, le, full, e) = let w = has s
 shows_on Synced bytes before was has s on = let w = has s on in (s, (w.0, w.1, refl))
 shows_on (Failed which) bytes before was has s on = has s on
 
-pub since_shows : (n t : ℕ) (answers : AnsweredCalls) (left s : Image)
-    → ExplainsSince n t answers left s → (l : Image) × Explains n answers s l
-since_shows n t [] left s since = (left, since.1)
-since_shows n t (answer ∷ answers) left s since =
+pub since_shows : (n t : ℕ) (answers : AnsweredCalls) (crashed s : DiskImage)
+    → ExplainsSince n t answers crashed s → (l : DiskImage) × Explains n answers s l
+since_shows n t [] crashed s since = (crashed, since.1)
+since_shows n t (answer ∷ answers) crashed s since =
     ⊎_elim
-    (λ (now : (t ≤ length answers + 1) × Explains n (answer ∷ answers) s left). (left, now.1))
-    (λ (earlier : ShowsOn answer.0 answer.1 (ExplainsSince n t answers left) s).
-    shows_on answer.0 answer.1 (Explains n answers) (ExplainsSince n t answers left)
-    (since_shows n t answers left) s earlier)
+    (λ (now : (t ≤ length answers + 1) × Explains n (answer ∷ answers) s crashed). (crashed, now.1))
+    (λ (earlier : ShowsOn answer.0 answer.1 (ExplainsSince n t answers crashed) s).
+    shows_on answer.0 answer.1 (Explains n answers) (ExplainsSince n t answers crashed)
+    (since_shows n t answers crashed) s earlier)
     since
 
 -- a read or a sync adds nothing to what a cut may have left
-stay_since : (n t : ℕ) (call : FileCall) (bytes : List ℕ) (answers : AnsweredCalls) (left s : Image)
-    → t ≤ length answers
-    → (OneOn call bytes (Explains n answers) s left → ExplainsSince n t answers left s)
-    → (ShowsOn call bytes (ExplainsSince n t answers left) s → ExplainsSince n t answers left s)
-    → ExplainsSince n t ((call, bytes) ∷ answers) left s → ExplainsSince n t answers left s
-stay_since n t call bytes answers left s le now before since =
-    ⊎_elim (λ (here : (t ≤ length answers + 1) × Explains n ((call, bytes) ∷ answers) s left).
+stay_since : (n t : ℕ) (call : FileCall) (bytes : List ℕ) (answers : AnsweredCalls)
+    (crashed s : DiskImage) → t ≤ length answers
+    → (OneOn call bytes (Explains n answers) s crashed → ExplainsSince n t answers crashed s)
+    → (ShowsOn call bytes (ExplainsSince n t answers crashed) s
+    → ExplainsSince n t answers crashed s) → ExplainsSince n t ((call, bytes) ∷ answers) crashed s
+    → ExplainsSince n t answers crashed s
+stay_since n t call bytes answers crashed s le now before since =
+    ⊎_elim (λ (here : (t ≤ length answers + 1) × Explains n ((call, bytes) ∷ answers) s crashed).
     now here.1) before since
 
 pub read_since : (n t : ℕ) {k : ℕ} {bytes : List ℕ} (moments answers : AnsweredCalls)
-    (left s : Image) → moments ≡ (Read k, bytes) ∷ answers → t ≤ length answers
-    → ExplainsSince n t moments left s → ExplainsSince n t answers left s
-read_since n t {k} {bytes} moments answers left s e le since =
-    stay_since n t (Read k) bytes answers left s le (λ on. since_now n t answers left s le on.0)
-    (λ on. on.0) (subst (λ (a : AnsweredCalls). ExplainsSince n t a left s) e since)
+    (crashed s : DiskImage) → moments ≡ (Read k, bytes) ∷ answers → t ≤ length answers
+    → ExplainsSince n t moments crashed s → ExplainsSince n t answers crashed s
+read_since n t {k} {bytes} moments answers crashed s e le since =
+    stay_since n t (Read k) bytes answers crashed s le (λ on. since_now n t answers
+    crashed s le on.0) (λ on. on.0) (subst (λ (a : AnsweredCalls). ExplainsSince n t a
+    crashed s) e since)
 
 pub failed_since : (n t : ℕ) {which : Failure} {bytes : List ℕ} (moments answers : AnsweredCalls)
-    (left s : Image) → moments ≡ (Failed which, bytes) ∷ answers → t ≤ length answers
-    → ExplainsSince n t moments left s → ExplainsSince n t answers left s
-failed_since n t {which} {bytes} moments answers left s e le since =
-    stay_since n t (Failed which) bytes answers left s le
-    (λ on. since_now n t answers left s le on)
-    (λ on. on) (subst (λ (a : AnsweredCalls). ExplainsSince n t a left s) e since)
+    (crashed s : DiskImage) → moments ≡ (Failed which, bytes) ∷ answers → t ≤ length answers
+    → ExplainsSince n t moments crashed s → ExplainsSince n t answers crashed s
+failed_since n t {which} {bytes} moments answers crashed s e le since =
+    stay_since n t (Failed which) bytes answers crashed s le
+    (λ on. since_now n t answers crashed s le on)
+    (λ on. on) (subst (λ (a : AnsweredCalls). ExplainsSince n t a crashed s) e since)
 
-pub synced_since : (n t : ℕ) {bytes : List ℕ} (moments answers : AnsweredCalls) (left s : Image)
-    → moments ≡ (Synced, bytes) ∷ answers → t ≤ length answers → ExplainsSince n t moments left s
-    → ExplainsSince n t answers left s
-synced_since n t {bytes} moments answers left s e le since =
-    stay_since n t Synced bytes answers left s le
-    (λ on. subst (λ (i : Image). ExplainsSince n t answers i s) (sym on.2)
+pub synced_since : (n t : ℕ) {bytes : List ℕ} (moments answers : AnsweredCalls)
+    (crashed s : DiskImage) → moments ≡ (Synced, bytes) ∷ answers → t ≤ length answers
+    → ExplainsSince n t moments crashed s → ExplainsSince n t answers crashed s
+synced_since n t {bytes} moments answers crashed s e le since =
+    stay_since n t Synced bytes answers crashed s le
+    (λ on. subst (λ (i : DiskImage). ExplainsSince n t answers i s) (sym on.2)
     (since_now n t answers s s le (stays n answers s on.0 on.1)))
-    (λ on. on) (subst (λ (a : AnsweredCalls). ExplainsSince n t a left s) e since)
+    (λ on. on) (subst (λ (a : AnsweredCalls). ExplainsSince n t a crashed s) e since)

@@ -1,8 +1,9 @@
 -- Worked examples of images, of runs of writes, of what is counted, and of folders.
 use Rattle.std.specs.Prelude.{◌≡◌, ◌<◌, ◌≤◌, ◌+◌, ◌-◌, ◌^◌, ◌++◌, ℕ, List, [], ◌∷◌, Option, Some}
 use Rattle.std.specs.Prelude.{None, replicate, refl, Bool, true, false, IsTrue, codes}
-use Rattle.sector_disk.specs.rules.Image.{Image, sector_at, with_sector, front_over, with_front}
-use Rattle.sector_disk.specs.rules.Image.{IsImage, IsTornWithin}
+use Rattle.sector_disk.specs.rules.DiskImage.{DiskImage, sector_at, with_sector, front_over}
+use Rattle.sector_disk.specs.rules.DiskImage.{with_front}
+use Rattle.sector_disk.specs.rules.DiskImage.{IsDiskImage, IsTornWithin}
 use Rattle.std.proofs.Common.{zero, suc, length, drop, sym, ap, ◌∙◌, arith}
 use Rattle.std.proofs.lemmas.List.{drop_all}
 use Rattle.sector_disk.specs.rules.Medium.{Medium, BeginsCalls, spare}
@@ -25,15 +26,15 @@ use Rattle.sector_disk.specs.declared.file_call.FileCall.TheVariants.{Failed}
 use Rattle.sector_disk.specs.declared.file_call.Failure.TheVariants.{OfRead, OfSync, Refused}
 
 -- three sectors of two bytes
-abbrev pub three : Image
+abbrev pub three : DiskImage
 three = (1 ∷ 1 ∷ []) ∷ (2 ∷ 2 ∷ []) ∷ (3 ∷ 3 ∷ []) ∷ []
 
 -- of these, the middle one and the last with other bytes
-abbrev pub with_both : List ℕ → List ℕ → Image
+abbrev pub with_both : List ℕ → List ℕ → DiskImage
 with_both middle last = (1 ∷ 1 ∷ []) ∷ middle ∷ last ∷ []
 
 -- what is written there
-abbrev pub eights_and_nines : Image
+abbrev pub eights_and_nines : DiskImage
 eights_and_nines = (8 ∷ 8 ∷ []) ∷ (9 ∷ 9 ∷ []) ∷ []
 
 abbrev pub write_of : ℕ → List ℕ → Write
@@ -43,7 +44,7 @@ write_of k bytes = record { sector = k; bytes = bytes }
 abbrev pub three_writes : List Write
 three_writes = write_of 1 (8 ∷ 8 ∷ []) ∷ write_of 1 (4 ∷ 5 ∷ []) ∷ write_of 2 (9 ∷ 9 ∷ []) ∷ []
 
-pub record ImageExamples : Type 0 where
+pub record DiskImageExamples : Type 0 where
   pub front : front_over 1 (8 ∷ 8 ∷ []) (2 ∷ 2 ∷ []) ≡ 8 ∷ 2 ∷ []
   pub front_there : with_front three 1 1 (8 ∷ 8 ∷ []) ≡ with_both (8 ∷ 2 ∷ []) (3 ∷ 3 ∷ [])
   pub sector_there : with_sector three 2 (9 ∷ []) ≡ with_both (2 ∷ 2 ∷ []) (9 ∷ [])
@@ -59,9 +60,9 @@ pub record ImageExamples : Type 0 where
 -- ---- images and runs, and what is none
 
 pub record RunExamples : Type 0 where
-  pub image : IsImage 1 (replicate 512 0 ∷ [])
-  pub short_sector : IsImage 1 (replicate 511 0 ∷ []) → ⊥
-  pub too_few_sectors : IsImage 2 (replicate 512 0 ∷ []) → ⊥
+  pub image : IsDiskImage 1 (replicate 512 0 ∷ [])
+  pub short_sector : IsDiskImage 1 (replicate 511 0 ∷ []) → ⊥
+  pub too_few_sectors : IsDiskImage 2 (replicate 512 0 ∷ []) → ⊥
   pub torn_within : IsTornWithin 1 1 (8 ∷ 8 ∷ []) three (with_both (8 ∷ 2 ∷ []) (3 ∷ 3 ∷ []))
   pub torn_beyond : IsTornWithin 1 1 (8 ∷ 8 ∷ []) three (with_both (8 ∷ 8 ∷ []) (3 ∷ 3 ∷ [])) → ⊥
   pub written : IsWrittenRun 1 eights_and_nines 2 three (with_both (8 ∷ 8 ∷ []) (9 ∷ 9 ∷ []))
@@ -108,8 +109,8 @@ pub record CountExamples : Type 0 where
   pub after_a_stop : trouble_at (at_third 7) None 4 ≡ Some Stopped
   pub at_a_failure : trouble_at None (at_third 7) 3 ≡ Some (Fails 7)
   pub after_a_failure : trouble_at None (at_third 7) 4 ≡ None
-  pub told : place_numbers (at_third 7) ≡ 1 ∷ 3 ∷ 7 ∷ []
-  pub told_nothing : place_numbers None ≡ 0 ∷ []
+  pub fault_plan : place_numbers (at_third 7) ≡ 1 ∷ 3 ∷ 7 ∷ []
+  pub plans_nothing : place_numbers None ≡ 0 ∷ []
   -- a failed read is not for good, and a failed write or sync is
   pub read_on : is_given_up (drop 1 five_calls) ≡ false
   pub given_up_by_a_write : is_given_up five_calls ≡ true
@@ -136,18 +137,18 @@ pub record FolderExamples : Type 0 where
   pub inside_the_root : folder_of (codes "/a/x") ≡ codes "/a"
   pub two_slashes : folder_of (codes "a//x") ≡ codes "a/"
 
--- ---- laws of any disk, which no contract can name: they stand here with their proofs
+-- ---- laws of any disk, which no contract can name: they are here with their proofs
 
 pub troubles_are_faults : (below : Medium) (stop fail : Option Place) (n : ℕ)
     (begun : CallCounts)
     → (troubled below stop fail n begun).faults ≡ below.faults + n
 troubles_are_faults below stop fail n begun = refl
 
-pub both_are_told : (below : Medium) (stop fail : Option Place) (n : ℕ)
+pub both_are_planned : (below : Medium) (stop fail : Option Place) (n : ℕ)
     (begun : CallCounts)
-    → (troubled below stop fail n begun).told
-    ≡ place_numbers stop ++ place_numbers fail ++ below.told
-both_are_told below stop fail n begun = refl
+    → (troubled below stop fail n begun).fault_plan
+    ≡ place_numbers stop ++ place_numbers fail ++ below.fault_plan
+both_are_planned below stop fail n begun = refl
 
 -- a front is taken wherever there is room for one more write
 pub front_is_taken : (front k : ℕ) (bytes : List ℕ) (is_taken : Bool) (old new : Medium)
@@ -158,11 +159,12 @@ front_is_taken front k bytes is_taken old new leaves inside room same =
 
 -- reads then give just that front over what they gave
 pub front_is_exact : (front k : ℕ) (bytes : List ℕ) (is_taken : Bool) (old new : Medium)
-    (shown left : Image) → LeavesFront front k bytes is_taken old new → IsTrue is_taken
-    → new.may shown left → (was : Image) × old.shows was × (shown ≡ with_front was k front bytes)
-front_is_exact front k bytes is_taken old new shown left leaves taken may =
-    let both = leaves.exactly taken shown left may in
-    (both.0, (old.of_may both.0 both.1 both.2).0, both.3)
+    (shown crashed : DiskImage) → LeavesFront front k bytes is_taken old new → IsTrue is_taken
+    → new.crash_pairs shown crashed → (was : DiskImage) × old.shows was
+    × (shown ≡ with_front was k front bytes)
+front_is_exact front k bytes is_taken old new shown crashed leaves taken pair =
+    let both = leaves.exactly taken shown crashed pair in
+    (both.0, (old.of_pair both.0 both.1 both.2).0, both.3)
 
 -- a disk that is told where to stop or to fail was asked for what the disk below was asked for
 pub calls_are_below : (below : Medium) (stop fail : Option Place) (n : ℕ)

@@ -8,8 +8,9 @@ use Rattle.std.proofs.lemmas.List.{drop-append-le, take-append-drop, take-take, 
 use Rattle.std.proofs.lemmas.List.{set-set, set_comm, set-get_or, length-set, get_or-set_same}
 use Rattle.std.proofs.lemmas.List.{get_or-set_other, take_all, drop_all}
 use Rattle.std.proofs.lemmas.Bool.{cases_lt, cases_eq}
-use Rattle.sector_disk.specs.rules.Image.{Image, sector_at, with_sector, with_front, front_over}
-use Rattle.sector_disk.specs.rules.Image.{IsImage}
+use Rattle.sector_disk.specs.rules.DiskImage.{DiskImage, sector_at, with_sector, with_front}
+use Rattle.sector_disk.specs.rules.DiskImage.{front_over}
+use Rattle.sector_disk.specs.rules.DiskImage.{IsDiskImage}
 
 -- a front over a shorter front of anything hides it
 pub front_hides : (f g : ℕ) (b c a : List ℕ) → f ≤ g → f ≤ length c
@@ -72,21 +73,22 @@ pub front_self : (f : ℕ) (a : List ℕ) → front_over f a a ≡ a
 front_self f a = take-append-drop f a
 
 -- a sector's own front changes nothing
-pub with_front_self : (image : Image) (k f : ℕ) → with_front image k f (sector_at image k) ≡ image
+pub with_front_self : (image : DiskImage) (k f : ℕ) → with_front image k f
+    (sector_at image k) ≡ image
 with_front_self image k f = ap (λ (l : List ℕ). set image k l) (front_self f (sector_at image k))
     ∙ set-get_or image k []
 
 -- the sector that was written, and every other one
-pub sector-with_sector : (image : Image) (k : ℕ) (bytes : List ℕ) → k < length image
+pub sector-with_sector : (image : DiskImage) (k : ℕ) (bytes : List ℕ) → k < length image
     → sector_at (with_sector image k bytes) k ≡ bytes
 sector-with_sector image k bytes lt = get_or-set_same image k bytes [] lt
 
-pub sector-with_other : (image : Image) (j k : ℕ) (bytes : List ℕ) → j ≢ k
+pub sector-with_other : (image : DiskImage) (j k : ℕ) (bytes : List ℕ) → j ≢ k
     → sector_at (with_sector image k bytes) j ≡ sector_at image j
 sector-with_other image j k bytes ne = get_or-set_other image k j bytes [] ne
 
--- in one sector a front of what was there before the later write, and then the later write, are one
--- front of the later write
+-- in one sector a prefix of what was there before the later write, and then the later write, are
+-- one prefix of the later write
 pub merged : (f g : ℕ) (b c a : List ℕ) → f ≤ 512 → g ≤ 512 → length b ≡ 512 → length c ≡ 512
     → (h : ℕ) × (h ≤ 512) × (front_over h b (front_over f c a) ≡ front_over f b (front_over g b a))
 merged f g b c a le-f le-g full-b full-c =
@@ -105,7 +107,7 @@ merged f g b c a le-f le-g full-b full-c =
     ))
     (cases_lt f g)
 
-pub with_front_twice : (image : Image) (k f g : ℕ) (b c : List ℕ) → k < length image
+pub with_front_twice : (image : DiskImage) (k f g : ℕ) (b c : List ℕ) → k < length image
     → with_front (with_front image k f c) k g b
     ≡ with_sector image k (front_over g b (front_over f c (sector_at image k)))
 with_front_twice image k f g b c lt =
@@ -114,7 +116,7 @@ with_front_twice image k f g b c lt =
     ∙ set-set image k (front_over f c (sector_at image k))
     (front_over g b (front_over f c (sector_at image k)))
 
-pub with_front_comm : (image : Image) (k s f g : ℕ) (b c : List ℕ) → k ≢ s
+pub with_front_comm : (image : DiskImage) (k s f g : ℕ) (b c : List ℕ) → k ≢ s
     → with_front (with_front image k f c) s g b ≡ with_front (with_front image s g b) k f c
 with_front_comm image k s f g b c ne =
     ap (λ (l : List ℕ). set (with_front image k f c) s (front_over g b l))
@@ -129,9 +131,9 @@ pub length-front_over : (f n : ℕ) (b a : List ℕ) → f ≤ n → length b �
 length-front_over f n b a le full-b full-a =
     omega (arith, length-append (take f b) (drop f a), length-take f b, length-drop f a)
 
-pub image-with_sector : (n : ℕ) (image : Image) (k : ℕ) (bytes : List ℕ) → IsImage n image
-    → (k < n → length bytes ≡ 512) → IsImage n (with_sector image k bytes)
-image-with_sector n image k bytes is full = record {
+pub disk_image-with_sector : (n : ℕ) (image : DiskImage) (k : ℕ) (bytes : List ℕ)
+    → IsDiskImage n image → (k < n → length bytes ≡ 512) → IsDiskImage n (with_sector image k bytes)
+disk_image-with_sector n image k bytes is full = record {
   count = length-set image k bytes ∙ is.count;
   full = λ j lt. ⊎_elim
       (λ (e : j ≡ k). rw e (let here : k < length image = omega (
@@ -144,15 +146,17 @@ image-with_sector n image k bytes is full = record {
       (cases_eq j k);
 }
 
-pub image-with_front : (n : ℕ) (image : Image) (k f : ℕ) (bytes : List ℕ) → IsImage n image
-    → f ≤ 512 → (k < n → length bytes ≡ 512) → IsImage n (with_front image k f bytes)
-image-with_front n image k f bytes is le full =
-    image-with_sector n image k _ is (λ lt. length-front_over f 512 bytes (sector_at image k) le
-    (full lt) (is.full k lt))
+pub disk_image-with_front : (n : ℕ) (image : DiskImage) (k f : ℕ) (bytes : List ℕ)
+    → IsDiskImage n image → f ≤ 512 → (k < n → length bytes ≡ 512)
+    → IsDiskImage n (with_front image k f bytes)
+disk_image-with_front n image k f bytes is le full =
+    disk_image-with_sector n image k _ is (λ lt. length-front_over f 512 bytes
+    (sector_at image k) le (full lt) (is.full k lt))
 
 -- the longest front is the whole write
-pub whole-with_front : (n : ℕ) (image : Image) (k : ℕ) (bytes : List ℕ) → IsImage n image → k < n
-    → length bytes ≡ 512 → with_front image k 512 bytes ≡ with_sector image k bytes
+pub whole-with_front : (n : ℕ) (image : DiskImage) (k : ℕ) (bytes : List ℕ)
+    → IsDiskImage n image → k < n → length bytes ≡ 512 → with_front image k 512 bytes
+    ≡ with_sector image k bytes
 whole-with_front n image k bytes is lt full =
     let short : length (sector_at image k) ≤ 512 = omega (arith, is.full k lt) in
     ap (λ (l : List ℕ). set image k (take 512 bytes ++ l)) (drop_all 512 (sector_at image k) short)

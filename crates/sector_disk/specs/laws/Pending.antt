@@ -1,4 +1,4 @@
--- Laws of writes that no sync has settled.
+-- Laws of writes that no sync has made durable.
 use Rattle.std.specs.Prelude.{◌≡◌, ◌⊎◌, ◌<◌, ◌≤◌, ◌≢◌, ◌+◌, ℕ, min, List, [], ◌∷◌, ◌++◌, length}
 use Rattle.std.specs.Prelude.{drop, All, Vec, refl}
 use Rattle.std.specs.declared.alloc.Global.{Global}
@@ -6,13 +6,15 @@ use Rattle.std.proofs.Common.{get_or, sym, inl, inr, ⊎_elim, ap, subst, ◌∙
 use Rattle.std.proofs.lemmas.List.{drop-drop, drop_more, length-set}
 use Rattle.std.proofs.lemmas.List.Elements.{All-head, All-tail, All-nil, All-cons}
 use Rattle.std.proofs.lemmas.Bool.{cases_eq}
-use Rattle.sector_disk.specs.rules.Image.{Image, sector_at, with_sector, with_front, IsImage}
-use Rattle.sector_disk.specs.rules.Image.{IsTorn}
+use Rattle.sector_disk.specs.rules.DiskImage.{DiskImage, sector_at, with_sector, with_front}
+use Rattle.sector_disk.specs.rules.DiskImage.{IsDiskImage}
+use Rattle.sector_disk.specs.rules.DiskImage.{IsTorn}
 use Rattle.sector_disk.specs.laws.Fronts.{merged, with_front_twice, with_front_comm}
 use Rattle.sector_disk.specs.laws.Fronts.{with_front_self, sector-with_sector, sector-with_other}
-use Rattle.sector_disk.specs.laws.Fronts.{image-with_sector, image-with_front, whole-with_front}
+use Rattle.sector_disk.specs.laws.Fronts.{disk_image-with_sector, disk_image-with_front}
+use Rattle.sector_disk.specs.laws.Fronts.{whole-with_front}
 use Rattle.sector_disk.specs.rules.Pending.{IsWriteWithin, Leaves, replayed, first_front, torn_by}
-use Rattle.sector_disk.specs.rules.Pending.{HadLeft}
+use Rattle.sector_disk.specs.rules.Pending.{HadCrashImage}
 use Rattle.sector_disk.specs.declared.write.Write.{Write}
 
 first_fits : (n : ℕ) (write : Write) (writes : List Write) → All (IsWriteWithin n) (write ∷ writes)
@@ -24,32 +26,33 @@ rest_fit : (n : ℕ) (write : Write) (writes : List Write) → All (IsWriteWithi
 rest_fit n write writes all = All-tail (IsWriteWithin n) write writes all
 
 -- writes leave images, and their whole is an image
-pub image-replayed : (n : ℕ) (writes : List Write) (from : Image) → IsImage n from
-    → All (IsWriteWithin n) writes → IsImage n (replayed writes from)
-image-replayed n [] from is all = is
-image-replayed n (write ∷ writes) from is all =
-    image-replayed n writes _ (image-with_sector n from write.sector write.bytes is (λ lt.
+pub disk_image-replayed : (n : ℕ) (writes : List Write) (from : DiskImage) → IsDiskImage n from
+    → All (IsWriteWithin n) writes → IsDiskImage n (replayed writes from)
+disk_image-replayed n [] from is all = is
+disk_image-replayed n (write ∷ writes) from is all =
+    disk_image-replayed n writes _ (disk_image-with_sector n from write.sector write.bytes is (λ lt.
     (first_fits n write writes all).full)) (rest_fit n write writes all)
 
-pub image-left : (n : ℕ) (writes : List Write) (from image : Image) → IsImage n from
-    → All (IsWriteWithin n) writes → Leaves writes from image → IsImage n image
-image-left n [] from image is all left = rw left is
-image-left n (write ∷ writes) from image is all left =
-    image-left n writes _ image (image-with_front n from write.sector left.0 write.bytes is left.1
-    (λ lt. (first_fits n write writes all).full)) (rest_fit n write writes all) left.2
+pub disk_image-crashed : (n : ℕ) (writes : List Write) (from image : DiskImage) → IsDiskImage n from
+    → All (IsWriteWithin n) writes → Leaves writes from image → IsDiskImage n image
+disk_image-crashed n [] from image is all crashed = rw crashed is
+disk_image-crashed n (write ∷ writes) from image is all crashed =
+    disk_image-crashed n writes _ image (disk_image-with_front n from write.sector crashed.0
+    write.bytes is crashed.1 (λ lt. (first_fits n write writes all).full))
+    (rest_fit n write writes all) crashed.2
 
 -- one more write
-pub left_more : (writes : List Write) (write : Write) (from image : Image)
-    → Leaves (writes ++ write ∷ []) from image → (before : Image) × Leaves writes from before
+pub crashed_more : (writes : List Write) (write : Write) (from image : DiskImage)
+    → Leaves (writes ++ write ∷ []) from image → (before : DiskImage) × Leaves writes from before
     × IsTorn write.sector write.bytes before image
-left_more [] write from image left =
-    (from, refl, record { front = left.0; within = left.1; is = left.2 })
-left_more (first ∷ writes) write from image left =
-    let rest = left_more writes write (with_front from first.sector left.0 first.bytes) image left.2
-    in
-    (rest.0, (left.0, left.1, rest.1), rest.2)
+crashed_more [] write from image crashed =
+    (from, refl, record { front = crashed.0; within = crashed.1; is = crashed.2 })
+crashed_more (first ∷ writes) write from image crashed =
+    let rest = crashed_more writes write (with_front from first.sector crashed.0 first.bytes)
+    image crashed.2 in
+    (rest.0, (crashed.0, crashed.1, rest.1), rest.2)
 
-pub replayed_more : (writes : List Write) (write : Write) (from : Image)
+pub replayed_more : (writes : List Write) (write : Write) (from : DiskImage)
     → replayed (writes ++ write ∷ []) from
     ≡ with_sector (replayed writes from) write.sector write.bytes
 replayed_more [] write from = refl
@@ -57,24 +60,24 @@ replayed_more (first ∷ writes) write from =
     replayed_more writes write (with_sector from first.sector first.bytes)
 
 -- a cut may leave all that was written
-pub whole_left : (n : ℕ) (writes : List Write) (from : Image) → IsImage n from
+pub whole_crashed : (n : ℕ) (writes : List Write) (from : DiskImage) → IsDiskImage n from
     → All (IsWriteWithin n) writes → Leaves writes from (replayed writes from)
-whole_left n [] from is all = refl
-whole_left n (write ∷ writes) from is all =
-    let next = whole_left n writes (with_sector from write.sector write.bytes)
-    (image-with_sector n from write.sector write.bytes is (λ lt.
+whole_crashed n [] from is all = refl
+whole_crashed n (write ∷ writes) from is all =
+    let next = whole_crashed n writes (with_sector from write.sector write.bytes)
+    (disk_image-with_sector n from write.sector write.bytes is (λ lt.
     (first_fits n write writes all).full)) (rest_fit n write writes all) in (
       512,
       omega arith,
-      subst (λ (start : Image).
+      subst (λ (start : DiskImage).
           Leaves writes start (replayed writes (with_sector from write.sector write.bytes)))
           (sym (whole-with_front n from write.sector write.bytes is
           (first_fits n write writes all).within (first_fits n write writes all).full)) next,
     )
 
 -- what a cut leaves may keep more of what reads give, in any sector
-same_sector : (n : ℕ) (a b : Image) (k f g : ℕ) (bytes : List ℕ) → length a ≡ n → IsImage n b
-    → k < n → f ≤ 512 → g ≤ 512 → length bytes ≡ 512
+same_sector : (n : ℕ) (a b : DiskImage) (k f g : ℕ) (bytes : List ℕ) → length a ≡ n
+    → IsDiskImage n b → k < n → f ≤ 512 → g ≤ 512 → length bytes ≡ 512
     → (h : ℕ) × (h ≤ 512)
     × (with_front (with_front a k f (sector_at b k)) k h bytes
     ≡ with_front (with_front a k g bytes) k f (sector_at (with_sector b k bytes) k))
@@ -90,7 +93,7 @@ same_sector n a b k f g bytes size is lt le-f le-g full =
           (sector-with_sector b k bytes in-b) ∙ with_front_twice a k g f bytes bytes in-a),
     )
 
-other_sector : (a b : Image) (k s f g : ℕ) (bytes : List ℕ) → k ≢ s
+other_sector : (a b : DiskImage) (k s f g : ℕ) (bytes : List ℕ) → k ≢ s
     → with_front (with_front a k f (sector_at b k)) s g bytes
     ≡ with_front (with_front a s g bytes) k f (sector_at (with_sector b s bytes) k)
 other_sector a b k s f g bytes ne =
@@ -98,8 +101,8 @@ other_sector a b k s f g bytes ne =
     ∙ ap (λ (l : List ℕ). with_front (with_front a s g bytes) k f l)
     (sym (sector-with_other b k s bytes ne))
 
-pub keeps_step : (n : ℕ) (a b : Image) (k f g : ℕ) (write : Write) → length a ≡ n → IsImage n b
-    → IsWriteWithin n write → f ≤ 512 → g ≤ 512
+pub keeps_step : (n : ℕ) (a b : DiskImage) (k f g : ℕ) (write : Write) → length a ≡ n
+    → IsDiskImage n b → IsWriteWithin n write → f ≤ 512 → g ≤ 512
     → (h : ℕ) × (h ≤ 512)
     × (with_front (with_front a k f (sector_at b k)) write.sector h write.bytes
     ≡ with_front (with_front a write.sector g write.bytes) k f
@@ -120,80 +123,82 @@ keeps_step n a b k f g write size is fits le-f le-g =
     ))
     (cases_eq write.sector k)
 
-keeps_from : (n : ℕ) (writes : List Write) (a b image : Image) (k f : ℕ) → length a ≡ n
-    → IsImage n b → All (IsWriteWithin n) writes → f ≤ 512 → Leaves writes a image
+keeps_from : (n : ℕ) (writes : List Write) (a b image : DiskImage) (k f : ℕ) → length a ≡ n
+    → IsDiskImage n b → All (IsWriteWithin n) writes → f ≤ 512 → Leaves writes a image
     → Leaves writes (with_front a k f (sector_at b k))
     (with_front image k f (sector_at (replayed writes b) k))
-keeps_from n [] a b image k f size is all le left =
-    ap (λ (i : Image). with_front i k f (sector_at b k)) left
-keeps_from n (write ∷ writes) a b image k f size is all le left =
-    let step = keeps_step n a b k f left.0 write size is (first_fits n write writes all) le left.1
-    in
-    let rest = keeps_from n writes (with_front a write.sector left.0 write.bytes)
+keeps_from n [] a b image k f size is all le crashed =
+    ap (λ (i : DiskImage). with_front i k f (sector_at b k)) crashed
+keeps_from n (write ∷ writes) a b image k f size is all le crashed =
+    let step = keeps_step n a b k f crashed.0 write size is
+    (first_fits n write writes all) le crashed.1 in
+    let rest = keeps_from n writes (with_front a write.sector crashed.0 write.bytes)
     (with_sector b write.sector write.bytes) image k f
     (length-set a write.sector _
-    ∙ size) (image-with_sector n b write.sector write.bytes is (λ lt.
-    (first_fits n write writes all).full)) (rest_fit n write writes all) le left.2 in (
+    ∙ size) (disk_image-with_sector n b write.sector write.bytes is (λ lt.
+    (first_fits n write writes all).full)) (rest_fit n write writes all) le crashed.2 in (
       step.0,
       step.1,
-      subst (λ (start : Image).
+      subst (λ (start : DiskImage).
           Leaves writes start
           (with_front image k f (sector_at
           (replayed writes (with_sector b write.sector write.bytes))
           k))) (sym step.2) rest,
     )
 
-pub keeps_more : (n : ℕ) (writes : List Write) (from image : Image) (k f : ℕ) → IsImage n from
-    → All (IsWriteWithin n) writes → f ≤ 512 → Leaves writes from image
+pub keeps_more : (n : ℕ) (writes : List Write) (from image : DiskImage) (k f : ℕ)
+    → IsDiskImage n from → All (IsWriteWithin n) writes → f ≤ 512 → Leaves writes from image
     → Leaves writes from (with_front image k f (sector_at (replayed writes from) k))
-keeps_more n writes from image k f is all le left =
-    subst (λ (start : Image).
+keeps_more n writes from image k f is all le crashed =
+    subst (λ (start : DiskImage).
     Leaves writes start (with_front image k f (sector_at (replayed writes from) k)))
     (with_front_self from k f)
-    (keeps_from n writes from from image k f is.count is all le left)
+    (keeps_from n writes from from image k f is.count is all le crashed)
 
 -- since the last moment there is none
-pub none_left : (t : ℕ) (past : List (Vec (List ℕ) Global × Vec Write Global)) (image : Image)
-    → length past ≤ t → HadLeft t past image → ⊥
-none_left t [] image le had = had
-none_left t (moment ∷ earlier) image le had =
+pub none_crashed : (t : ℕ) (past : List (Vec (List ℕ) Global × Vec Write Global))
+    (image : DiskImage) → length past ≤ t → HadCrashImage t past image → ⊥
+none_crashed t [] image le had = had
+none_crashed t (moment ∷ earlier) image le had =
     ⊎_elim (λ (now : (t ≤ length earlier) × Leaves moment.1.items moment.0.items image).
     let no = now.0 in absurd (omega arith))
-    (λ (before : HadLeft t earlier image). none_left t earlier image (omega arith) before) had
+    (λ (before : HadCrashImage t earlier image). none_crashed t earlier image
+    (omega arith) before) had
 
 -- the fronts that numbers name are among those that a cut may leave
-pub torn_left : (tears : List ℕ) (writes : List Write) (from : Image)
+pub torn_crashed : (tears : List ℕ) (writes : List Write) (from : DiskImage)
     → Leaves writes from (torn_by tears writes from)
-torn_left tears [] from = refl
-torn_left [] (write ∷ writes) from =
-    (512, omega arith, torn_left [] writes (with_front from write.sector 512 write.bytes))
-torn_left (tear ∷ tears) (write ∷ writes) from = (
+torn_crashed tears [] from = refl
+torn_crashed [] (write ∷ writes) from =
+    (512, omega arith, torn_crashed [] writes (with_front from write.sector 512 write.bytes))
+torn_crashed (tear ∷ tears) (write ∷ writes) from = (
   min tear 512,
   omega arith,
-  torn_left tears writes (with_front from write.sector (min tear 512) write.bytes),
+  torn_crashed tears writes (with_front from write.sector (min tear 512) write.bytes),
 )
 
 -- and each that a cut may leave is named by some
-pub torn_by_some : (writes : List Write) (from image : Image) → Leaves writes from image
+pub torn_by_some : (writes : List Write) (from image : DiskImage) → Leaves writes from image
     → (tears : List ℕ) × All (λ tear. tear ≤ 512) tears × (image ≡ torn_by tears writes from)
-torn_by_some [] from image left = ([], All-nil (λ tear. tear ≤ 512), left)
-torn_by_some (write ∷ writes) from image left =
-    let rest = torn_by_some writes (with_front from write.sector left.0 write.bytes) image left.2 in
-    let same : left.0 ≡ min left.0 512 = let le = left.1 in omega arith in (
-      left.0 ∷ rest.0,
-      All-cons (λ tear. tear ≤ 512) left.0 rest.0 left.1 rest.1,
+torn_by_some [] from image crashed = ([], All-nil (λ tear. tear ≤ 512), crashed)
+torn_by_some (write ∷ writes) from image crashed =
+    let rest = torn_by_some writes (with_front from write.sector crashed.0 write.bytes)
+    image crashed.2 in
+    let same : crashed.0 ≡ min crashed.0 512 = let le = crashed.1 in omega arith in (
+      crashed.0 ∷ rest.0,
+      All-cons (λ tear. tear ≤ 512) crashed.0 rest.0 crashed.1 rest.1,
       rest.2 ∙ ap (λ (front : ℕ).
           torn_by rest.0 writes (with_front from write.sector front write.bytes)) same,
     )
 
-pub length-replayed : (writes : List Write) (from : Image)
+pub length-replayed : (writes : List Write) (from : DiskImage)
     → length (replayed writes from) ≡ length from
 length-replayed [] from = refl
 length-replayed (write ∷ writes) from = length-replayed writes _
     ∙ length-set from write.sector write.bytes
 
 -- one write on
-pub torn_step : (tears : List ℕ) (i : ℕ) (writes : List Write) (d : Write) (image : Image)
+pub torn_step : (tears : List ℕ) (i : ℕ) (writes : List Write) (d : Write) (image : DiskImage)
     → i < length writes
     → torn_by (drop i tears) (drop i writes) image
     ≡ torn_by (drop (i + 1) tears) (drop (i + 1) writes)
@@ -206,19 +211,21 @@ torn_step tears i writes d image lt =
     (first_front (drop i tears)) (get_or writes i d).bytes)) (drop-drop 1 i tears)
 
 -- one moment more
-pub had_more : (t : ℕ) (settled : Vec (List ℕ) Global) (writes : Vec Write Global)
-    (past moments : List (Vec (List ℕ) Global × Vec Write Global)) (image : Image)
-    → moments ≡ (settled, writes) ∷ past → t ≤ length past
-    → Leaves writes.items settled.items image ⊎ HadLeft t past image → HadLeft t moments image
-had_more t settled writes past moments image e le left =
-    subst (λ (l : List (Vec (List ℕ) Global × Vec Write Global)). HadLeft t l image) (sym e)
-    (⊎_elim (λ now. inl (le, now)) (λ had. inr had) left)
+pub had_more : (t : ℕ) (durable : Vec (List ℕ) Global) (writes : Vec Write Global)
+    (past moments : List (Vec (List ℕ) Global × Vec Write Global)) (image : DiskImage)
+    → moments ≡ (durable, writes) ∷ past → t ≤ length past
+    → Leaves writes.items durable.items image ⊎ HadCrashImage t past image
+    → HadCrashImage t moments image
+had_more t durable writes past moments image e le crashed =
+    subst (λ (l : List (Vec (List ℕ) Global × Vec Write Global)). HadCrashImage t l image) (sym e)
+    (⊎_elim (λ now. inl (le, now)) (λ had. inr had) crashed)
 
-pub had_less : (t : ℕ) (settled : Vec (List ℕ) Global) (writes : Vec Write Global)
-    (past moments : List (Vec (List ℕ) Global × Vec Write Global)) (image : Image)
-    → moments ≡ (settled, writes) ∷ past
-    → HadLeft t moments image → Leaves writes.items settled.items image ⊎ HadLeft t past image
-had_less t settled writes past moments image e had =
-    let here : HadLeft t ((settled, writes) ∷ past) image =
-    subst (λ (l : List (Vec (List ℕ) Global × Vec Write Global)). HadLeft t l image) e had in
+pub had_less : (t : ℕ) (durable : Vec (List ℕ) Global) (writes : Vec Write Global)
+    (past moments : List (Vec (List ℕ) Global × Vec Write Global)) (image : DiskImage)
+    → moments ≡ (durable, writes) ∷ past
+    → HadCrashImage t moments image → Leaves writes.items durable.items image
+    ⊎ HadCrashImage t past image
+had_less t durable writes past moments image e had =
+    let here : HadCrashImage t ((durable, writes) ∷ past) image =
+    subst (λ (l : List (Vec (List ℕ) Global × Vec Write Global)). HadCrashImage t l image) e had in
     ⊎_elim (λ now. inl now.1) (λ before. inr before) here

@@ -1,7 +1,8 @@
 -- What the answers of a file tell, if it is a disk that obeys the model.
 use Rattle.std.specs.Prelude.{◌≡◌, ◌⊎◌, ◌≤◌, ◌+◌, ℕ, Bool, true, false, if◌then◌else◌, IsFalse}
 use Rattle.std.specs.Prelude.{List, [], ◌∷◌, length, Result, Ok, Err}
-use Rattle.sector_disk.specs.rules.Image.{Image, sector_at, with_sector, with_front, IsImage}
+use Rattle.sector_disk.specs.rules.DiskImage.{DiskImage, sector_at, with_sector, with_front}
+use Rattle.sector_disk.specs.rules.DiskImage.{IsDiskImage}
 use Rattle.sector_disk.specs.declared.file_call.TheConstants.{NO_BYTES}
 use Rattle.sector_disk.specs.declared.disk_call.DiskCall.{DiskCall}
 use Rattle.sector_disk.specs.declared.disk_call.DiskCall.TheVariants.{WriteOf, Sync}
@@ -17,44 +18,47 @@ use Rattle.sector_disk.specs.declared.sector.TheConstants.{SECTOR_SIZE}
 abbrev pub AnsweredCalls : Type 0
 AnsweredCalls = List (FileCall × List ℕ)
 
--- One call on: `shown` is what reads give, and `left` what a cut may leave. Before it they were as
--- `before` says.
-abbrev pub OneOn : FileCall → List ℕ → (Image → Image → Type 0) → Image → Image → Type 0
-OneOn (Read k) bytes before shown left = before shown left × (sector_at shown k ≡ bytes)
-OneOn (Wrote k) bytes before shown left =
-    (was_shown : Image) × (was_left : Image) × (front : ℕ) × before was_shown was_left
+-- One call on: `shown` is what reads give, and `crashed` what a cut may leave. Before it they were
+-- as `before` says.
+abbrev pub OneOn : FileCall → List ℕ → (DiskImage → DiskImage → Type 0) → DiskImage
+    → DiskImage → Type 0
+OneOn (Read k) bytes before shown crashed = before shown crashed × (sector_at shown k ≡ bytes)
+OneOn (Wrote k) bytes before shown crashed =
+    (was_shown : DiskImage) × (was_crashed : DiskImage) × (front : ℕ) × before was_shown was_crashed
     × (front ≤ SECTOR_SIZE) × (length bytes ≡ SECTOR_SIZE)
-    × (shown ≡ with_sector was_shown k bytes) × (left ≡ with_front was_left k front bytes)
-OneOn (Tore k) bytes before shown left =
-    (was_shown : Image) × (was_left : Image) × (most : ℕ) × (front : ℕ) × before was_shown was_left
-    × (most ≤ SECTOR_SIZE) × (front ≤ most) × (length bytes ≡ SECTOR_SIZE)
-    × (shown ≡ with_front was_shown k most bytes) × (left ≡ with_front was_left k front bytes)
-OneOn Synced bytes before shown left = (was_left : Image) × before shown was_left × (left ≡ shown)
-OneOn (Failed which) bytes before shown left = before shown left
+    × (shown ≡ with_sector was_shown k bytes) × (crashed ≡ with_front was_crashed k front bytes)
+OneOn (Tore k) bytes before shown crashed =
+    (was_shown : DiskImage) × (was_crashed : DiskImage) × (most : ℕ) × (front : ℕ)
+    × before was_shown was_crashed × (most ≤ SECTOR_SIZE) × (front ≤ most)
+    × (length bytes ≡ SECTOR_SIZE) × (shown ≡ with_front was_shown k most bytes)
+    × (crashed ≡ with_front was_crashed k front bytes)
+OneOn Synced bytes before shown crashed = (was_crashed : DiskImage) × before shown was_crashed
+    × (crashed ≡ shown)
+OneOn (Failed which) bytes before shown crashed = before shown crashed
 
--- the file gave these answers: reads may now give `shown`, and then a cut may leave `left`
-abbrev pub Explains : ℕ → AnsweredCalls → Image → Image → Type 0
-Explains sectors [] shown left = IsImage sectors shown × IsImage sectors left
-Explains sectors (answer ∷ answers) shown left =
-    OneOn answer.0 answer.1 (Explains sectors answers) shown left
+-- the file gave these answers: reads may now give `shown`, and then a cut may leave `crashed`
+abbrev pub Explains : ℕ → AnsweredCalls → DiskImage → DiskImage → Type 0
+Explains sectors [] shown crashed = IsDiskImage sectors shown × IsDiskImage sectors crashed
+Explains sectors (answer ∷ answers) shown crashed =
+    OneOn answer.0 answer.1 (Explains sectors answers) shown crashed
 
 -- what reads give, one call on
-abbrev pub ShowsOn : FileCall → List ℕ → (Image → Type 0) → Image → Type 0
+abbrev pub ShowsOn : FileCall → List ℕ → (DiskImage → Type 0) → DiskImage → Type 0
 ShowsOn (Read k) bytes before shown = before shown × (sector_at shown k ≡ bytes)
-ShowsOn (Wrote k) bytes before shown = (was : Image) × before was × (length bytes ≡ SECTOR_SIZE)
+ShowsOn (Wrote k) bytes before shown = (was : DiskImage) × before was × (length bytes ≡ SECTOR_SIZE)
     × (shown ≡ with_sector was k bytes)
-ShowsOn (Tore k) bytes before shown = (was : Image) × (front : ℕ) × before was
+ShowsOn (Tore k) bytes before shown = (was : DiskImage) × (front : ℕ) × before was
     × (front ≤ SECTOR_SIZE) × (length bytes ≡ SECTOR_SIZE) × (shown ≡ with_front was k front bytes)
 ShowsOn Synced bytes before shown = before shown
 ShowsOn (Failed which) bytes before shown = before shown
 
 -- the file gave these answers, reads may now give `shown`, and a cut at a moment from t on may have
--- left `left`
-abbrev pub ExplainsSince : ℕ → ℕ → AnsweredCalls → Image → Image → Type 0
-ExplainsSince sectors t [] left shown = (t ≤ 0) × Explains sectors [] shown left
-ExplainsSince sectors t (answer ∷ answers) left shown =
-    ((t ≤ length answers + 1) × Explains sectors (answer ∷ answers) shown left)
-    ⊎ ShowsOn answer.0 answer.1 (ExplainsSince sectors t answers left) shown
+-- left `crashed`
+abbrev pub ExplainsSince : ℕ → ℕ → AnsweredCalls → DiskImage → DiskImage → Type 0
+ExplainsSince sectors t [] crashed shown = (t ≤ 0) × Explains sectors [] shown crashed
+ExplainsSince sectors t (answer ∷ answers) crashed shown =
+    ((t ≤ length answers + 1) × Explains sectors (answer ∷ answers) shown crashed)
+    ⊎ ShowsOn answer.0 answer.1 (ExplainsSince sectors t answers crashed) shown
 
 -- 1 for a call of a file that failed, else 0
 abbrev pub is_fault : FileCall → ℕ

@@ -27,5 +27,5 @@ module _ {D : Type 0} where
   trouble_of f = trouble_at f.stop f.fail (call_number (call_counts_of f))
 
   -- whether it stopped at a write of which the disk below took a front
-  abbrev pub left_front_of : FaultDisk D → Bool
-  left_front_of f = f.has_left_front
+  abbrev pub torn_front_of : FaultDisk D → Bool
+  torn_front_of f = f.has_torn_front

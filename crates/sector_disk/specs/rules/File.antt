@@ -1,13 +1,15 @@
 -- A disk in a file, as the contracts see it: a disk that obeys the model and gave these answers.
 use Rattle.std.specs.Prelude.{◌<◌, ◌^◌, ℕ, [], length}
-use Rattle.std.proofs.Common.{arith}
-use Rattle.sector_disk.specs.rules.Image.{Image}
+use Rattle.sector_disk.specs.rules.DiskImage.{DiskImage}
 use Rattle.sector_disk.specs.rules.Medium.{Medium}
 use Rattle.sector_disk.specs.rules.Answered.{AnsweredCalls, Explains, ExplainsSince, faults_of}
 use Rattle.sector_disk.specs.rules.Answered.{unsynced_of, file_calls}
-use Rattle.sector_disk.specs.rules.Counts.{AnsweredCount, answered_now, answered_only}
-use Rattle.sector_disk.specs.laws.Answered.{images, stays, keeps_more_of, since_now, since_only}
+use Rattle.sector_disk.specs.rules.Counts.{AnsweredCount}
+use Rattle.sector_disk.specs.laws.Answered.{disk_images, stays, keeps_more_of, since_now}
+use Rattle.sector_disk.specs.laws.Answered.{since_only}
 use Rattle.sector_disk.specs.laws.Answered.{since_shows}
+use Rattle.sector_disk.specs.laws.Counts.{answered_now, answered_only}
+use Rattle.sector_disk.specs.laws.File.{count_fits}
 use Rattle.sector_disk.specs.declared.file.FileDisk.{FileDisk}
 
 -- A disk of so many sectors that gave these answers. Only a failure keeps a file from taking a
@@ -15,13 +17,13 @@ use Rattle.sector_disk.specs.declared.file.FileDisk.{FileDisk}
 abbrev pub answered_medium : (sectors : ℕ) → sectors < 2 ^ 64 → AnsweredCalls → Medium
 answered_medium n fits answers = record {
   sectors = n;
-  told = [];
-  shows = λ image. (left : Image) × Explains n answers image left;
-  may_leave = λ image. (shown : Image) × Explains n answers shown image;
-  may = λ shown image. Explains n answers shown image;
+  fault_plan = [];
+  shows = λ image. (crashed : DiskImage) × Explains n answers image crashed;
+  crash_images = λ image. (shown : DiskImage) × Explains n answers shown image;
+  crash_pairs = λ shown image. Explains n answers shown image;
   moment = length answers;
-  left_since = λ t image. (shown : Image) × ExplainsSince n t answers image shown;
-  may_since = λ t shown image. ExplainsSince n t answers image shown;
+  crash_images_since = λ t image. (shown : DiskImage) × ExplainsSince n t answers image shown;
+  crash_pairs_since = λ t shown image. ExplainsSince n t answers image shown;
   faults = faults_of answers;
   unsynced = unsynced_of answers;
   room = 2 ^ 64;
@@ -30,21 +32,26 @@ answered_medium n fits answers = record {
   counted = 0;
   fits = fits;
   of_shows = λ image both. both;
-  of_left = λ image both. both;
-  of_may = λ shown image both. ((image, both), (shown, both));
+  of_crash = λ image both. both;
+  of_pair = λ shown image both. ((image, both), (shown, both));
   of_since = λ t image since. since;
-  of_may_since = λ t shown image since. (
+  of_pair_since = λ t shown image since. (
     since_shows n t answers image shown since,
     (shown, since),
   );
-  counts_now = λ t image le left. (left.0, since_now n t answers image left.0 le left.1);
+  counts_now = λ t image le crashed. (
+    crashed.0,
+    since_now n t answers image crashed.0
+        le crashed.1,
+  );
   only_now = λ image since. (since.0, since_only n answers image since.0 since.1);
-  only_may = λ shown image since. since_only n answers image shown since;
+  only_pair = λ shown image since. since_only n answers image shown since;
   count_now = λ t le. answered_now t answers le;
   only_count = λ count since. answered_only answers count since;
   may_stay = λ shown image both. stays n answers shown image both;
   may_keep = λ shown image both k front le. keeps_more_of n answers shown image both k front le;
-  is_image = λ image left. let both = images n answers left.0 image left.1 in both.1;
+  is_disk_image = λ image crashed. let both = disk_images n answers crashed.0 image
+      crashed.1 in both.1;
 }
 
 module _ {F : Type 0} where
@@ -55,9 +62,6 @@ module _ {F : Type 0} where
   -- the file, which nothing but the disk has
   abbrev pub file_of : FileDisk F → F
   file_of d = d.file
-
-  pub count_fits : (d : FileDisk F) → d.count < 2 ^ 64
-  count_fits d = let small = d.small in omega arith
 
   -- a disk in a file, by its log
   abbrev pub file_medium : FileDisk F → Medium

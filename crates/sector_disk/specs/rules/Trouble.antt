@@ -2,7 +2,7 @@
 use Rattle.std.specs.Prelude.{◌≡◌, ◌<◌, ◌≤◌, IsTrue, ◌+◌, ◌-◌, ◌^◌, ◌++◌, ◌==◌, ◌||◌, ℕ, min, Bool}
 use Rattle.std.specs.Prelude.{false, nat_lt, nat_le, List, [], ◌∷◌, Option, Some, None}
 use Rattle.std.specs.Prelude.{if◌then◌else◌}
-use Rattle.sector_disk.specs.rules.Image.{IsFront, IsTornWithin}
+use Rattle.sector_disk.specs.rules.DiskImage.{IsFront, IsTornWithin}
 use Rattle.sector_disk.specs.rules.Medium.{Medium, BothFollow, BeginsCalls, spare}
 use Rattle.sector_disk.specs.declared.disk_call.DiskCall.TheVariants.{WriteOf}
 use Rattle.sector_disk.specs.declared.fault.DiskFault.{DiskFault}
@@ -63,12 +63,12 @@ place_numbers (Some place) = 1 ∷ place.call ∷ place.front ∷ []
 abbrev pub troubled : Medium → Option Place → Option Place → ℕ → CallCounts → Medium
 troubled below stop fail n begun =
     record below {
-      told = place_numbers stop ++ place_numbers fail ++ below.told;
+      fault_plan = place_numbers stop ++ place_numbers fail ++ below.fault_plan;
       faults = below.faults + n;
       counted = call_number begun;
     }
 
--- The told front of a write is left, and a cut may leave a front of that. A disk that fails may
+-- The given prefix of a write is left, and a cut may leave a prefix of that. A disk that fails may
 -- leave less.
 pub record LeavesFront (front k : ℕ) (bytes : List ℕ) (is_taken : Bool) (old new : Medium) :
     Type 0 where

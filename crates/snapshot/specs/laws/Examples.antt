@@ -1,6 +1,6 @@
 -- Worked examples of heads, and of what a commit may change. After a commit the next can follow.
 use Rattle.std.specs.Prelude.{◌≡◌, ℕ, ◌+◌, true, false, Err, List, [], ◌∷◌, ◌++◌, replicate}
-use Rattle.sector_disk.specs.rules.Image.{Image}
+use Rattle.sector_disk.specs.rules.DiskImage.{DiskImage}
 use Rattle.sector_disk.specs.declared.disk_call.DiskCall.{DiskCall}
 use Rattle.sector_disk.specs.declared.disk_call.DiskCall.TheVariants.{WriteOf, Sync}
 use Rattle.disk_layout.specs.declared.geometry.Geometry.{Geometry}
@@ -9,7 +9,7 @@ use Rattle.disk_layout.specs.rules.Sectors.{head_bytes}
 use Rattle.snapshot.specs.declared.writing.Writing.TheVariants.{Whole, Changes}
 use Rattle.snapshot.specs.rules.Calls.{AreStores, with_head}
 use Rattle.snapshot.specs.rules.Heads.{HasNone, heads_to, IsReadyForHead}
-use Rattle.snapshot.specs.rules.Newest.{ReadsImage}
+use Rattle.snapshot.specs.rules.Newest.{ReadsProcessImage}
 use Rattle.snapshot.specs.rules.Snapshots.{is_failed, is_idle, length_of, sectors_of, filled_by}
 use Rattle.snapshot.specs.declared.fault.SnapshotFault.TheVariants.{TooBig}
 use Rattle.snapshot.specs.declared.snapshots.Snapshots.{Snapshots}
@@ -22,7 +22,7 @@ use Rattle.snapshot.specs.rules.Steps.{Replaces}
 -- once an image is the newest one, a disk is ready for the next
 abbrev pub NextCanFollow : Type 0
 NextCanFollow =
-    (geometry : Geometry) (g version : ℕ) (bytes : List ℕ) (image : Image)
+    (geometry : Geometry) (g version : ℕ) (bytes : List ℕ) (image : DiskImage)
     → HasNew geometry g version bytes image → IsReadyForHead (g + 1) image
 
 -- ---- heads
@@ -36,10 +36,10 @@ plain_head g = record {
   generation = g;
 }
 
-abbrev pub with_heads : ℕ → ℕ → Image
+abbrev pub with_heads : ℕ → ℕ → DiskImage
 with_heads g h = [] ∷ head_bytes (plain_head g) ∷ head_bytes (plain_head h) ∷ []
 
-abbrev pub headless : Image
+abbrev pub headless : DiskImage
 headless = [] ∷ [] ∷ [] ∷ []
 
 pub record ReadyExamples : Type 0 where
@@ -77,19 +77,19 @@ pub record CommitCallExamples : Type 0 where
 
 -- ---- areas
 
--- two areas of two sectors, from sector 3 and from sector 5 on, and nothing behind them
+-- two areas of two sectors, from sector 3 and from sector 5 on, and nothing after them
 abbrev pub areas : Geometry
 areas = record { config = 0; wasm = 0; module_sectors = 0; area_sectors = 2; journal_sectors = 0 }
 
 -- a disk without heads, and these four sectors in its areas
-abbrev pub area_disk : List ℕ → List ℕ → List ℕ → List ℕ → Image
+abbrev pub area_disk : List ℕ → List ℕ → List ℕ → List ℕ → DiskImage
 area_disk a b c d = [] ∷ [] ∷ [] ∷ a ∷ b ∷ c ∷ d ∷ []
 
 abbrev pub seven_sector : List ℕ
 seven_sector = 7 ∷ replicate 511 0
 
 -- no step of generation 3 on this disk comes to that one
-pub record NoStep (new : Image) : Type 0 where
+pub record NoStep (new : DiskImage) : Type 0 where
   pub fills : Fills areas 3 (area_disk [] [] [] []) new → ⊥
   pub commits : (bytes : List ℕ) → Commits areas 3 1 bytes (area_disk [] [] [] []) new → ⊥
   pub replaces : (bytes : List ℕ) → Replaces areas 3 1 bytes (area_disk [] [] [] []) new → ⊥
@@ -117,7 +117,7 @@ pub record AreaExamples : Type 0 where
 abbrev pub in_state : State → Snapshots
 in_state s = record { state = s }
 
--- a writer of three sectors, and a hundred bytes behind them
+-- a writer of three sectors, and a hundred bytes after them
 abbrev pub HasThree : AreaWriter → Type 0
 HasThree w = (w.sectors ≡ 3) × (w.filled ≡ 100)
 
@@ -134,5 +134,5 @@ pub record StateExamples : Type 0 where
   pub one_filled : (w : AreaWriter) → HasThree w → filled_by (in_state (state.Begun w)) 412 ≡ 1
   pub two_filled : (w : AreaWriter) → HasThree w → filled_by (in_state (state.Begun w)) 924 ≡ 2
   -- an image that is read is never too big
-  pub read_too_big : (geometry : Geometry) (image : Image) (h : Head)
-      → ReadsImage geometry image h (Err TooBig) → ⊥
+  pub read_too_big : (geometry : Geometry) (image : DiskImage) (h : Head)
+      → ReadsProcessImage geometry image h (Err TooBig) → ⊥

@@ -1,6 +1,6 @@
 -- What a commit asks the disk for (this project's own). The newest call is the first.
 use Rattle.std.specs.Prelude.{◌≡◌, ◌⊎◌, ◌≤◌, ◌*◌, ℕ, zero, suc, ◌+◌, List, [], ◌∷◌, Result}
-use Rattle.sector_disk.specs.rules.Medium.{Medium, MakesCalls}
+use Rattle.sector_disk.specs.rules.Medium.{Medium, PerformsCalls}
 use Rattle.sector_disk.specs.rules.Calls.{rising_writes}
 use Rattle.sector_disk.specs.declared.disk_call.DiskCall.{DiskCall}
 use Rattle.sector_disk.specs.declared.disk_call.DiskCall.TheVariants.{WriteOf, Sync}
@@ -26,20 +26,20 @@ pub record AreaStores : Type 0 where
   pub count : ℕ
 
 -- these sectors are stored
-abbrev pub MakesStores : {T E : Type 0} → AreaStores → Result T E → Medium → Medium → Type 0
-MakesStores stores result old new = (calls : List DiskCall)
-    × AreStores stores.writing stores.first stores.count calls × MakesCalls calls result old new
+abbrev pub PerformsStores : {T E : Type 0} → AreaStores → Result T E → Medium → Medium → Type 0
+PerformsStores stores result old new = (calls : List DiskCall)
+    × AreStores stores.writing stores.first stores.count calls × PerformsCalls calls result old new
 
--- behind these calls the head of generation g is written, between two syncs
+-- after these calls the head of generation g is written, between two syncs
 abbrev pub with_head : ℕ → List DiskCall → List DiskCall
 with_head g calls = Sync ∷ WriteOf (head_place g) ∷ Sync ∷ calls
 
 -- these sectors are stored, and then the head of generation g
-abbrev pub MakesStoresAndHead : {T E : Type 0} → AreaStores → ℕ → Result T E → Medium → Medium
+abbrev pub PerformsStoresAndHead : {T E : Type 0} → AreaStores → ℕ → Result T E → Medium → Medium
     → Type 0
-MakesStoresAndHead stores g result old new = (calls : List DiskCall)
+PerformsStoresAndHead stores g result old new = (calls : List DiskCall)
     × AreStores stores.writing stores.first stores.count calls
-    × MakesCalls (with_head g calls) result old new
+    × PerformsCalls (with_head g calls) result old new
 
 -- where so many sectors of an area were stored, and now are, each of them took two calls at most: a
 -- read and a write

@@ -96,7 +96,7 @@ abbrev pub filled_by : Snapshots → ℕ → ℕ
 filled_by s count = (length_of s + count) / SECTOR_SIZE - sectors_of s
 
 -- the same image is in the middle of being written
-pub record IsSameImage (old new : Snapshots) : Type 0 where
+pub record IsSameProcessImage (old new : Snapshots) : Type 0 where
   pub begun : is_idle new ≡ false
   pub generation : generation_of new ≡ generation_of old
   pub version : version_of new ≡ version_of old
@@ -125,6 +125,6 @@ IsGivenIn geometry m state.Idle bytes = ⊥
 IsGivenIn geometry m state.Failed bytes = ⊥
 
 -- an image is begun, these bytes of it were pushed, and reads give them in its area, but for those
--- behind the last whole sector
+-- after the last whole sector
 abbrev pub HasPushed : Geometry → Medium → Snapshots → List ℕ → Type 0
 HasPushed geometry m s bytes = IsGivenIn geometry m s.state bytes

@@ -13,13 +13,15 @@ use Rattle.file_tree.proofs.SameNames.{heads}
 use Rattle.state_image.specs.restoring.Named.{Held, Entries, Bytes, NamedNode, held_of, named}
 use Rattle.state_image.specs.restoring.Named.{AreNamedNodes}
 use Rattle.state_image.specs.declared.restoring.whole_node.WholeNode.{WholeNode}
-use Rattle.state_image.specs.restoring.Told.{lent_whole, told_number, told_content, content_of_told}
-use Rattle.state_image.specs.restoring.Told.{told_entries, entries_in_found, AreAs, IsToldOf}
-use Rattle.state_image.specs.restoring.Told.{MayStay, MayAllStay}
+use Rattle.state_image.specs.restoring.SavedNodes.{lent_whole, saved_number, saved_content}
+use Rattle.state_image.specs.restoring.SavedNodes.{content_of_saved}
+use Rattle.state_image.specs.restoring.SavedNodes.{saved_entries, entries_in_found, AreAs}
+use Rattle.state_image.specs.restoring.SavedNodes.{IsSavedFiles}
+use Rattle.state_image.specs.restoring.SavedNodes.{MayStay, MayAllStay}
 use Rattle.state_image.specs.restoring.Hanging.{IsHung}
 use Rattle.state_image.proofs.Among.{IsAmong, among_all, all_among, found_own}
 use Rattle.state_image.proofs.Named.{same_named}
-use Rattle.state_image.proofs.RestoreLemmas.Told.{one_directory, told_as, told_listed}
+use Rattle.state_image.proofs.RestoreLemmas.SavedNodes.{one_directory, told_as, told_listed}
 
 -- ---- what is told of a node is found by its number
 
@@ -28,11 +30,11 @@ AreRisingTold least [] = Unit {0}
 AreRisingTold least (n ∷ ns) = (least ≤ n.number) × AreRisingTold (n.number + 1) ns
 
 rising_told : (least : ℕ) (ms : List FileNode) (next : ℕ) (ns : List NamedNode)
-    → AreRising least ms next → map node_number ms ≡ map told_number ns → AreRisingTold least ns
+    → AreRising least ms next → map node_number ms ≡ map saved_number ns → AreRisingTold least ns
 rising_told least ms next [] h e = tt
 rising_told least [] next (n ∷ ns) h e = absurd cc
 rising_told least (m ∷ ms) next (n ∷ ns) h e =
-    let both = heads m.number n.number (map node_number ms) (map told_number ns) e in (
+    let both = heads m.number n.number (map node_number ms) (map saved_number ns) e in (
       subst (λ (k : ℕ). least ≤ k) both.0 h.0,
       subst (λ (k : ℕ). AreRisingTold (k + 1) ns) both.0
           (rising_told (m.number + 1) ms next ns h.1 both.1),
@@ -61,14 +63,14 @@ own_found least (m ∷ ns) n h (inr k) =
 
 -- the entries that are told of a directory are its own
 abbrev Fits : Files → NamedNode → Type 0
-Fits fs n = is_directory fs n.number ≡ true → entries_of fs n.number ≡ told_entries n.held
+Fits fs n = is_directory fs n.number ≡ true → entries_of fs n.number ≡ saved_entries n.held
 
 -- its number leads to the node
 abbrev IsOwn : Files → FileNode → Type 0
 IsOwn fs m = is_directory fs m.number ≡ is_directory_content m.content
 
-held_same : (fs : Files) (k j : ℕ) (c : Content) (h : Held) → k ≡ j → c ≡ told_content h
-    → (is_directory_content c ≡ true → entries_of fs j ≡ told_entries h) → held_of fs k c ≡ h
+held_same : (fs : Files) (k j : ℕ) (c : Content) (h : Held) → k ≡ j → c ≡ saved_content h
+    → (is_directory_content c ≡ true → entries_of fs j ≡ saved_entries h) → held_of fs k c ≡ h
 held_same fs k j c (Entries es) same is fits =
     ap (held_of fs k) is
     ∙ ap (λ (xs : List Entry). Entries xs)
@@ -76,22 +78,22 @@ held_same fs k j c (Entries es) same is fits =
 held_same fs k j c (Bytes bytes) same is fits = ap (held_of fs k) is
 
 named_pair : (fs : Files) (m : FileNode) (n : NamedNode) → m.number ≡ n.number
-    → m.content ≡ told_content n.held → IsOwn fs m → Fits fs n → named fs m ≡ n
+    → m.content ≡ saved_content n.held → IsOwn fs m → Fits fs n → named fs m ≡ n
 named_pair fs m n same content own fits =
     same_named (named fs m) n same
     (held_same fs m.number n.number m.content n.held same content
     (λ is. fits (sym (ap (is_directory fs) same) ∙ own ∙ is)))
 
 named_pairs : (fs : Files) (ms : List FileNode) (ns : List NamedNode)
-    → map node_number ms ≡ map told_number ns → map content_of ms ≡ map content_of_told ns
+    → map node_number ms ≡ map saved_number ns → map content_of ms ≡ map content_of_saved ns
     → AllByRecursion (IsOwn fs) ms → AllByRecursion (Fits fs) ns → map (named fs) ms ≡ ns
 named_pairs fs [] [] e f own fits = refl
 named_pairs fs [] (n ∷ ns) e f own fits = absurd cc
 named_pairs fs (m ∷ ms) [] e f own fits = absurd cc
 named_pairs fs (m ∷ ms) (n ∷ ns) e f own fits =
-    let numbers = heads m.number n.number (map node_number ms) (map told_number ns) e in
-    let contents = heads m.content (told_content n.held) (map content_of ms)
-    (map content_of_told ns) f in
+    let numbers = heads m.number n.number (map node_number ms) (map saved_number ns) e in
+    let contents = heads m.content (saved_content n.held) (map content_of ms)
+    (map content_of_saved ns) f in
     ap (λ (x : NamedNode). x ∷ map (named fs) ms)
     (named_pair fs m n numbers.0 contents.0 own.0 fits.0)
     ∙ ap (λ (xs : List NamedNode). n ∷ xs)
@@ -106,7 +108,7 @@ fits_told : (fs : Files) (ns : List NamedNode) (n : NamedNode) → IsHung ns fs 
     → MayStay fs n → Fits fs n
 fits_told fs ns n h among stay directory = by (is_some (path_of fs n.number)) refl where
   by : (b : Bool) → is_some (path_of fs n.number) ≡ b
-      → entries_of fs n.number ≡ told_entries n.held
+      → entries_of fs n.number ≡ saved_entries n.held
   by true path =
       h.entries n.number directory path
       ∙ ap entries_in_found
@@ -137,8 +139,8 @@ named_again fs next nodes h is stay =
 -- ---- files that are told are these
 
 pub all_stay : (fs gs : Files) (next : ℕ) (nodes : List WholeNode)
-    → IsHung (map lent_whole nodes) fs → fs.next ≡ next → IsToldOf gs next (map lent_whole nodes)
-    → MayAllStay fs nodes
+    → IsHung (map lent_whole nodes) fs → fs.next ≡ next → IsSavedFiles gs next
+    (map lent_whole nodes) → MayAllStay fs nodes
 all_stay fs gs next nodes h is t = each gs.nodes nodes t.told.nodes where
   alike : AreAs gs (map lent_whole nodes)
   alike = told_as gs next (map lent_whole nodes) t.told
@@ -157,7 +159,7 @@ all_stay fs gs next nodes h is t = each gs.nodes nodes t.told.nodes where
   })
 
   stays : (k : ℕ) (c : Content) → is_some (path_of fs k) ≡ false
-      → told_entries (held_of gs k c) ≡ []
+      → saved_entries (held_of gs k c) ≡ []
   stays k Directory path = no_entries gs (path_of gs k)
       (ap (λ (x : Files). is_some (path_of x k)) same ∙ path)
   stays k (File bytes) path = refl

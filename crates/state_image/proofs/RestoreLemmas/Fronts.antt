@@ -1,4 +1,4 @@
--- What stands at the front of bytes is what functions on lists read there.
+-- What is at the front of bytes is what functions on lists read there.
 use Rattle.std.proofs.Common.{◌≡◌, ℕ, zero, suc, ◌<◌, ◌^◌, Bool, true, false, cond, eqb, List, []}
 use Rattle.std.proofs.Common.{◌∷◌, ◌++◌, length, Option, Some, None, refl, sym, ap, subst, ◌∙◌}
 use Rattle.std.proofs.Common.{append_assoc, map, arith}
@@ -13,7 +13,7 @@ use Rattle.wasm_syntax.proofs.Grammar.Vectors.{Reads-part_at}
 use Rattle.wasi_abi.specs.rules.Layouts.{u16_bytes, u32_bytes, u64_bytes}
 use Rattle.wasi_abi.specs.rules.Answers.{AreBytes}
 use Rattle.file_tree.specs.rules.Files.{Files, Entry, IsFiles}
-use Rattle.state_image.specs.rules.Image.{items_bytes, entry_bytes, files_bytes}
+use Rattle.state_image.specs.rules.ProcessImage.{items_bytes, entry_bytes, files_bytes}
 use Rattle.state_image.specs.rules.Ranges.{IsIn, AreFew, IsEntryIn}
 use Rattle.state_image.specs.rules.Fronts.{ContentFront, EntryCount, FileBytes, NodeFront}
 use Rattle.state_image.specs.rules.Fronts.{content_front_bytes, IsContentFrontIn, front_bytes}
@@ -22,13 +22,13 @@ use Rattle.state_image.specs.restoring.ListReaders.{integer_at, text_at}
 use Rattle.state_image.specs.restoring.ListReaders.{content_front_at, node_front_at, entry_at}
 use Rattle.state_image.specs.restoring.Named.{Held, Entries, Bytes, NamedNode, named}
 use Rattle.state_image.specs.restoring.Named.{AreNamedNodes, held_bytes, named_bytes}
-use Rattle.state_image.specs.restoring.Told.{IsToldOf}
+use Rattle.state_image.specs.restoring.SavedNodes.{IsSavedFiles}
 use Rattle.state_image.specs.restoring.Parts.{held_at, whole_node_at, wholes_at}
 use Rattle.state_image.proofs.Named.{IsHeldIn, IsNamedIn, files_named}
 use Rattle.state_image.proofs.FilesWithin.{files_within}
 use Rattle.state_image.proofs.Among.{entry_with}
 
--- what stands in front is read, and nothing else
+-- what is in front is read, and nothing else
 pub record ReadsFront (X : Type 0) (P : X → Type 0) (spell : X → List ℕ) (item_at : List ℕ
     → Option (X × List ℕ)) : Type 0 where
   pub front : (x : X) (rest : List ℕ) → P x → item_at (spell x ++ rest) ≡ Some (x, rest)
@@ -145,7 +145,7 @@ module _ (X : Type 0) (P : X → Type 0) (spell : X → List ℕ) (item_at : Lis
     items_front n xs rest (omega (arith, e)) h.1,
   ) refl
 
-  -- so many that stand there
+  -- so many that are there
   pub record AreItems (count : ℕ) (bytes : List ℕ) (xs : List X) (rest : List ℕ) : Type 0 where
     pub is : bytes ≡ flat_map spell xs ++ rest
     pub many : length xs ≡ count
@@ -278,7 +278,7 @@ held_front (Entries es) rest p = rw
     refl
 held_front (Bytes bytes) rest p = refl
 
--- what is held, behind its front
+-- what is held, after its front
 record IsHeldAt (c : ContentFront) (bytes : List ℕ) (h : Held) (rest : List ℕ) : Type 0 where
   front : content_of_held h ≡ c
   is : bytes ≡ behind h ++ rest
@@ -376,7 +376,7 @@ files_made fs next ns bytes mid rest low number nodes told =
     (sym told.nodes)
     ∙ sym (files_named fs rest)
 
--- what is read where these files stand in front
+-- what is read where these files are in front
 pub record ReadsFiles (fs : Files) (bytes rest : List ℕ) : Type 0 where
   pub mid : List ℕ
   pub number : integer_at 8 bytes ≡ Some (fs.next, mid)
@@ -397,7 +397,7 @@ files_read fs bytes rest are next is =
 
 -- ---- what is refused
 
--- no number stands there
+-- no number is there
 pub no_number : (bytes : List ℕ) → integer_at 8 bytes ≡ None → (fs : Files) (rest : List ℕ)
     → IsFiles fs → fs.next < 2 ^ 64 → bytes ≡ files_bytes fs ++ rest → ⊥
 no_number bytes none fs rest are next is =
@@ -407,7 +407,7 @@ no_number bytes none fs rest are next is =
     never : (x : ℕ × List ℕ) → None ≡ Some x → ⊥
     never x e = absurd cc
 
--- no nodes stand behind it
+-- no nodes are after it
 pub no_nodes : (bytes mid : List ℕ) (number : ℕ) → integer_at 8 bytes ≡ Some (number, mid)
     → wholes_at mid ≡ None → (fs : Files) (rest : List ℕ) → IsFiles fs → fs.next < 2 ^ 64
     → bytes ≡ files_bytes fs ++ rest → ⊥
@@ -419,11 +419,11 @@ no_nodes bytes mid number there none fs rest are next is =
     never : (x : List NamedNode × List ℕ) → None ≡ Some x → ⊥
     never x e = absurd cc
 
--- these stand there
+-- these are there
 pub files_told : (bytes mid behind : List ℕ) (number : ℕ) (ns : List NamedNode)
     → integer_at 8 bytes ≡ Some (number, mid) → wholes_at mid ≡ Some (ns, behind)
     → (fs : Files) (rest : List ℕ) → IsFiles fs → fs.next < 2 ^ 64
-    → bytes ≡ files_bytes fs ++ rest → IsToldOf fs number ns
+    → bytes ≡ files_bytes fs ++ rest → IsSavedFiles fs number ns
 files_told bytes mid behind number ns there nodes fs rest are next is =
     let r = files_read fs bytes rest are next is in
     let same = parts number fs.next mid r.mid (sym there ∙ r.number) in

@@ -11,15 +11,15 @@ use Rattle.file_tree.specs.rules.Changes.{path_at, CanHang}
 use Rattle.file_tree.specs.laws.Rebuilding.{HasHung}
 use Rattle.file_tree.proofs.OneEntryMore.{hanging_adds_an_entry}
 use Rattle.state_image.specs.restoring.Named.{NamedNode}
-use Rattle.state_image.specs.restoring.Told.{listed_node, AreAs, CanTake}
+use Rattle.state_image.specs.restoring.SavedNodes.{listed_node, AreAs, CanTake}
 use Rattle.state_image.specs.restoring.Hanging.{directory_alone, HangsUpTo}
 use Rattle.state_image.proofs.PushedItems.{front_more}
-use Rattle.state_image.proofs.RestoreLemmas.Told.{one_directory, still_as}
+use Rattle.state_image.proofs.RestoreLemmas.SavedNodes.{one_directory, still_as}
 use Rattle.machine_frame.proofs.TranslationLemmas.Placed.{get_last}
 
 -- ---- places of lists
 
--- at a place of two lists stands what one of them has
+-- at a place of two lists is what one of them has
 pub at_either : {X : Type 0} (xs ys : List X) (j : ℕ) (x : X) → slice_get (xs ++ ys) j ≡ Some x
     → (slice_get xs j ≡ Some x) ⊎ ((k : ℕ) × (j ≡ length xs + k) × (slice_get ys k ≡ Some x))
 at_either [] ys j x e = inr (j, omega arith, e)
@@ -88,12 +88,12 @@ module _ (ns : List NamedNode) (fs gs : Files) (ws : List ℕ) (at i d : ℕ) (e
     ns fs ws at i) (here : slice_get ws at ≡ Some d) (told : slice_get (listed_node ns d) i
     ≡ Some e)
     (can : CanTake fs d e) (m : HasHung fs gs e.number d e.name) (b : Bool)
-    (kind : is_directory gs e.number ≡ b) where
+    (type_is : is_directory gs e.number ≡ b) where
   same : AreAs gs ns
   same = still_as fs gs ns m.nodes h.same
 
-  kinds : (k : ℕ) → is_directory fs k ≡ is_directory gs k
-  kinds k = one_directory fs gs ns h.same same k
+  same_types : (k : ℕ) → is_directory fs k ≡ is_directory gs k
+  same_types k = one_directory fs gs ns h.same same k
 
   -- what had a path is another node
   another : (k : ℕ) → is_some (path_of fs k) ≡ true → k ≢ e.number
@@ -154,10 +154,10 @@ module _ (ns : List NamedNode) (fs gs : Files) (ws : List ℕ) (at i d : ℕ) (e
         → (is_directory gs x ≡ true) × (is_some (path_of gs x) ≡ true)
     by (inl old) =
         let was = h.hung j x old in
-        (sym (kinds x) ∙ was.0, paths x (another x was.1) ∙ was.1)
+        (sym (same_types x) ∙ was.0, paths x (another x was.1) ∙ was.1)
     by (inr new) =
         let is = alone_at b e.number new.0 x new.2 in (
-          ap (is_directory gs) is.1 ∙ kind ∙ is.2,
+          ap (is_directory gs) is.1 ∙ type_is ∙ is.2,
           ap (λ (y : ℕ). is_some (path_of gs y)) is.1
               ∙ own_path,
         )
@@ -195,9 +195,9 @@ module _ (ns : List NamedNode) (fs gs : Files) (ws : List ℕ) (at i d : ℕ) (e
 
     by : (x ≡ e.number) ⊎ (x ≢ e.number)
         → (j : ℕ) × (slice_get (ws ++ directory_alone b e.number) j ≡ Some x)
-    by (inl same) = new b refl (sym kind ∙ sym (ap (is_directory gs) same) ∙ directory) same
+    by (inl same) = new b refl (sym type_is ∙ sym (ap (is_directory gs) same) ∙ directory) same
     by (inr ne) =
-        let old = h.all x (kinds x ∙ directory) (sym (paths x ne) ∙ path) in
+        let old = h.all x (same_types x ∙ directory) (sym (paths x ne) ∙ path) in
         (old.0, at_front ws (directory_alone b e.number) old.0 x old.1)
 
   pub hung_more : HangsUpTo ns gs (ws ++ directory_alone b e.number) at (i + 1)

@@ -8,7 +8,7 @@ use Rattle.wasm_syntax.specs.laws.ReadingItems.{◌>>=◌, part_at}
 use Rattle.wasm_syntax.proofs.Grammar.Exact.{bind_some, parts, carry}
 use Rattle.wasm_syntax.proofs.Grammar.Vectors.{Reads-part_at}
 use Rattle.file_tree.specs.rules.Files.{Entry}
-use Rattle.state_image.specs.rules.Image.{entry_bytes}
+use Rattle.state_image.specs.rules.ProcessImage.{entry_bytes}
 use Rattle.state_image.specs.rules.Ranges.{IsIn, IsEntryIn}
 use Rattle.state_image.specs.rules.Fronts.{ContentFront, EntryCount, FileBytes, NodeFront}
 use Rattle.state_image.specs.rules.Fronts.{IsContentFrontIn, front_bytes, IsFrontIn}

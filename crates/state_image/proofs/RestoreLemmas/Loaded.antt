@@ -18,7 +18,7 @@ use Rattle.machine.specs.rules.Loading.{with_frames, with_frame, with_global, Is
 use Rattle.machine.specs.rules.Values.{MachineValue}
 use Rattle.state_image.specs.declared.restoring.fault.RestoreFault.{RestoreFault}
 use Rattle.state_image.specs.declared.restoring.fault.RestoreFault.TheVariants as fault
-use Rattle.state_image.specs.rules.Image.{items_bytes, place_bytes}
+use Rattle.state_image.specs.rules.ProcessImage.{items_bytes, place_bytes}
 use Rattle.state_image.specs.rules.Ranges.{IsIn, AreFew, IsPlaceIn}
 use Rattle.state_image.specs.rules.Reading.{HasField, LacksField}
 use Rattle.state_image.specs.restoring.Machines.{restore_fault, PutsField, with_globals_behind}
@@ -26,7 +26,7 @@ use Rattle.state_image.specs.restoring.Machines.{with_frame_inside, with_frames_
 use Rattle.state_image.specs.restoring.Machines.{slots_behind, with_slots_behind}
 use Rattle.state_image.specs.restoring.Machines.{AreSoManyPlaces, HaveStackRoom}
 use Rattle.state_image.proofs.Fields.{Tells, cut, number_field}
-use Rattle.state_image.proofs.ImageGiven.{item_more, items_read}
+use Rattle.state_image.proofs.ProcessImageGiven.{item_more, items_read}
 use Rattle.state_image.proofs.Machines.{all_behind, place_field}
 use Rattle.state_image.proofs.ReadLemmas.{is_that}
 
@@ -68,7 +68,7 @@ no_more_slots v = ap (λ (fs : List ShownFrame). with_frames fs v) (whole v.stat
 some_are : (place : ShownFrame) (places : List ShownFrame) → place ∷ places ≢ []
 some_are place places e = cc
 
--- a slot was pushed into the innermost frame, and others come behind it
+-- a slot was pushed into the innermost frame, and others come after it
 pub slot_more : (word : ℕ) (words : List ℕ) (v w : MachineValue) → v.state.frames ≢ []
     → IsSlotPushed word v w
     → (w.state.frames ≢ []) × (with_slots_behind words w ≡ with_slots_behind (word ∷ words) v)
@@ -99,9 +99,9 @@ pub slots_over : (word : ℕ) (rest now words : List ℕ) (v w : MachineValue)
     → with_slots_behind now w ≡ with_slots_behind words v
     → now ≡ word ∷ rest → (w.state.frames ≡ []) ⊎ (slots_held w.state.frames ≡ SLOTS)
     → SLOTS < slots_held v.state.frames + length words
-slots_over word rest now words v w some others is left (inl none) = absurd (others none)
-slots_over word rest now words v w some others is left (inr full) =
-    let one : length now ≡ length (word ∷ rest) = ap length left in
+slots_over word rest now words v w some others is those_left (inl none) = absurd (others none)
+slots_over word rest now words v w some others is those_left (inr full) =
+    let one : length now ≡ length (word ∷ rest) = ap length those_left in
     let counts : slots_held (slots_behind now w.state.frames)
     ≡ slots_held (slots_behind words v.state.frames) =
     ap (λ (x : MachineValue). slots_held x.state.frames) is in
@@ -188,8 +188,8 @@ place_more i v a b old mid new so_far one =
           (sym (reverse-append places (place ∷ [])));
     }
 
--- what is left of items behind the first ones
-record AreLeft {X : Type 0} (P : X → Type 0) (bytes : X → List ℕ) (first all : List X)
+-- what is left of items after the first ones
+record AreItemsLeft {X : Type 0} (P : X → Type 0) (bytes : X → List ℕ) (first all : List X)
     (mid rest : List ℕ) : Type 0 where
   pub next : X
   pub more : List X
@@ -201,7 +201,7 @@ items_left : (X : Type 0) (P : X → Type 0) (bytes : X → List ℕ) → Tells 
     → (first all : List X) (mid rest : List ℕ)
     → AllByRecursion P first → AllByRecursion P all → length first < length all
     → flat_map bytes first ++ mid ≡ flat_map bytes all ++ rest
-    → AreLeft P bytes first all mid rest
+    → AreItemsLeft P bytes first all mid rest
 items_left X P bytes tells [] [] mid rest p q lt e = absurd (omega (arith, lt))
 items_left X P bytes tells [] (y ∷ all) mid rest p q lt e = record {
   next = y;
@@ -238,7 +238,7 @@ places_refused i count v a old mid lt so_far refuses places rest may e =
     let outer = v.state.frames in
     let number = so_far.has.in_range.number in
     let all = may.0.number in
-    let left = items_left ShownFrame IsPlaceIn place_bytes place_field first places mid rest
+    let those_left = items_left ShownFrame IsPlaceIn place_bytes place_field first places mid rest
     so_far.has.in_range.each may.0.each (omega (arith, lt, number, all)) (sym so_far.has.is ∙ e) in
     let here : a.state.frames ≡ reverse first ++ outer =
     ap (λ (x : MachineValue). x.state.frames) so_far.is in
@@ -249,17 +249,17 @@ places_refused i count v a old mid lt so_far refuses places rest may e =
     ap slots_held here ∙ held_append (reverse first) outer
     ∙ ap (λ (n : ℕ). n + slots_held outer) (held_reversed first) in
     let total : slots_held places
-    ≡ slots_held first + (length left.next.slots + slots_held left.more) =
-    ap slots_held left.are ∙ held_append first (left.next ∷ left.more) in
+    ≡ slots_held first + (length those_left.next.slots + slots_held those_left.more) =
+    ap slots_held those_left.are ∙ held_append first (those_left.next ∷ those_left.more) in
     let few = may.1.few in
     let slots = may.1.slots in
-    refuses left.next (flat_map place_bytes left.more ++ rest) (
-      left.within,
+    refuses those_left.next (flat_map place_bytes those_left.more ++ rest) (
+      those_left.within,
       record {
         few = omega (arith, deep, number, all, few, lt);
         slots = omega (arith, held, total, slots);
       },
-    ) left.is
+    ) those_left.is
 
 -- ---- frames behind their number
 

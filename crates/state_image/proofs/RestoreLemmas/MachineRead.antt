@@ -24,7 +24,8 @@ use Rattle.state_image.specs.declared.reading.progress.ReadPhase.{ReadPhase}
 use Rattle.state_image.specs.declared.reading.progress.ReadPhase.TheVariants as read
 use Rattle.state_image.specs.declared.restoring.fault.RestoreFault.{RestoreFault}
 use Rattle.state_image.specs.declared.restoring.fault.RestoreFault.TheVariants as fault
-use Rattle.state_image.specs.rules.Image.{items_bytes, place_bytes, memory_bytes, machine_bytes}
+use Rattle.state_image.specs.rules.ProcessImage.{items_bytes, place_bytes, memory_bytes}
+use Rattle.state_image.specs.rules.ProcessImage.{machine_bytes}
 use Rattle.state_image.specs.rules.Ranges.{AreFew, AreWords, IsPlaceIn, IsWhole, HasMachine}
 use Rattle.state_image.specs.rules.Reading.{HasField, LacksField}
 use Rattle.state_image.specs.rules.WellTyped.{slots_in}
@@ -33,7 +34,7 @@ use Rattle.state_image.specs.restoring.Machines.{with_globals_behind, with_frame
 use Rattle.state_image.specs.restoring.Machines.{with_bytes_in, HaveStackRoom, IsMemoryWithin}
 use Rattle.state_image.proofs.Fields.{Tells, items_field}
 use Rattle.state_image.proofs.FieldsGiven.{memory_field}
-use Rattle.state_image.proofs.ImageGiven.{machine_in_order}
+use Rattle.state_image.proofs.ProcessImageGiven.{machine_in_order}
 use Rattle.state_image.proofs.Machines.{all_reversed, place_field, same_machine, words_field}
 use Rattle.state_image.proofs.ReadLemmas.{is_that}
 use Rattle.state_image.proofs.RestoreLemmas.Loaded.{held_reversed}
@@ -60,7 +61,7 @@ pub when_done : {P Q : Type 0} (r : Result (Unit {0}) RestoreFault) → OnOk r P
 when_done (Ok x) h f = f h
 when_done (Err e) h f = tt
 
--- want of memory refuses nothing
+-- out of memory refuses nothing
 pub never_refused : (r : Result (Unit {0}) RestoreFault) → IfErr r (λ e. e ≡ fault.Memory)
     → r ≡ Err fault.NotAnImage → ⊥
 never_refused (Ok x) h e = absurd cc
@@ -276,7 +277,7 @@ pub few_slots_in : (n : ℕ) (fs : List ShownFrame) → n ≡ slots_held fs → 
     → slots_in fs ≤ SLOTS
 few_slots_in n fs is few = (let same = slots_are fs in omega (arith, is, few, same))
 
--- frames and memory, and what is behind them
+-- frames and memory, and what is after them
 abbrev from_frames : MachineState → List ℕ → List ℕ
 from_frames m rest = items_bytes place_bytes (reverse m.frames) ++ (memory_bytes m.memory ++ rest)
 

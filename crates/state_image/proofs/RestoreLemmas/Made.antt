@@ -8,7 +8,7 @@ use Rattle.std.proofs.lemmas.Bool.{eqb-true, eq-eqb, ne_eqb}
 use Rattle.std.proofs.lemmas.List.{length-map, map-append, length-take-le}
 use Rattle.std.proofs.lemmas.List.{length-replicate, drop_all, append-nil}
 use Rattle.std.proofs.lemmas.Option.{same_Some}
-use Rattle.file_tree.specs.declared.kind.NodeKind.TheVariants as kind
+use Rattle.file_tree.specs.declared.node_type.NodeType.TheVariants as node_types
 use Rattle.file_tree.specs.rules.Files.{FileNode, Files, Content, Directory, File, IsFiles}
 use Rattle.file_tree.specs.rules.Files.{AreRising, IsSmallContent, node_of, path_of, is_directory}
 use Rattle.file_tree.specs.rules.Files.{entries_of, fresh, created_removed, with_file_bytes}
@@ -22,15 +22,17 @@ use Rattle.file_tree.proofs.Filled.{filled_files}
 use Rattle.file_tree.proofs.SameNames.{heads}
 use Rattle.file_tree.proofs.Rebuilt.{numbers_below, numbers_from}
 use Rattle.state_image.specs.restoring.Named.{NamedNode}
-use Rattle.state_image.specs.restoring.Told.{told_number, told_content, content_of_told, AreAs}
-use Rattle.state_image.specs.restoring.Told.{IsToldOf, CanCreate, BeginsWithRoot, next_behind}
-use Rattle.state_image.specs.restoring.Told.{IsMadeOf}
+use Rattle.state_image.specs.restoring.SavedNodes.{saved_number, saved_content, content_of_saved}
+use Rattle.state_image.specs.restoring.SavedNodes.{AreAs}
+use Rattle.state_image.specs.restoring.SavedNodes.{IsSavedFiles, CanCreate, BeginsWithRoot}
+use Rattle.state_image.specs.restoring.SavedNodes.{next_behind}
+use Rattle.state_image.specs.restoring.SavedNodes.{IsMadeOf}
 use Rattle.state_image.specs.restoring.Hanging.{HangsUpTo}
 use Rattle.state_image.proofs.Among.{all_among, found_among}
 use Rattle.state_image.proofs.PushedItems.{front_more}
-use Rattle.state_image.proofs.RestoreLemmas.Told.{told_as}
+use Rattle.state_image.proofs.RestoreLemmas.SavedNodes.{told_as}
 use Rattle.state_image.proofs.NodesAt.{directory_content}
-use Rattle.wasi_calls_rules.proofs.FirstHosts.{fresh_is_files}
+use Rattle.wasi_calls_rules.proofs.FirstWasiStates.{fresh_is_files}
 
 -- ---- a new node is found
 
@@ -131,9 +133,9 @@ same_then fs gs hs a b = record {
 created_keeps : (fs : Files) (k : ℕ) (c : Content) → IsFiles fs → fs.next ≤ k
     → length fs.nodes < NODES → IsSmallContent c → HaveSameEntries fs (created_removed k c fs)
 created_keeps fs k Directory are le room small =
-    others_keep_entries.created fs k kind.Directory are le room
+    others_keep_entries.created fs k node_types.Directory are le room
 created_keeps fs k (File bytes) are le room small =
-    let new = others_keep_entries.created fs k kind.File are le room in
+    let new = others_keep_entries.created fs k node_types.File are le room in
     let full = others_keep_entries.bytes (created_removed k (File []) fs) k bytes new.are
     (ap is_some (new_found fs k (File []) are le)) (no_directory fs k [] are le) small in
     same_then fs (created_removed k (File []) fs) (created_removed k (File bytes) fs) new
@@ -148,29 +150,30 @@ behind_more least [] n = refl
 behind_more least (m ∷ ns) n = behind_more (m.number + 1) ns n
 
 made_more : (ns : List NamedNode) (fs : Files) (n : NamedNode) → IsMadeOf ns fs → CanCreate fs n
-    → IsMadeOf (ns ++ n ∷ []) (created_removed n.number (told_content n.held) fs)
+    → IsMadeOf (ns ++ n ∷ []) (created_removed n.number (saved_content n.held) fs)
 made_more ns fs n h can =
-    let keeps = created_keeps fs n.number (told_content n.held) h.are can.next can.room can.small in
+    let keeps = created_keeps fs n.number (saved_content n.held) h.are can.next
+    can.room can.small in
     record {
       are = keeps.are;
       same = record {
         numbers =
-            map-append node_number fs.nodes (new_node n.number (told_content n.held) ∷ [])
+            map-append node_number fs.nodes (new_node n.number (saved_content n.held) ∷ [])
             ∙ ap (λ (xs : List ℕ). xs ++ n.number ∷ []) h.same.numbers
-            ∙ sym (map-append told_number ns (n ∷ []));
+            ∙ sym (map-append saved_number ns (n ∷ []));
         contents =
-            map-append content_of fs.nodes (new_node n.number (told_content n.held) ∷ [])
-            ∙ ap (λ (xs : List Content). xs ++ told_content n.held ∷ []) h.same.contents
-            ∙ sym (map-append content_of_told ns (n ∷ []));
+            map-append content_of fs.nodes (new_node n.number (saved_content n.held) ∷ [])
+            ∙ ap (λ (xs : List Content). xs ++ saved_content n.held ∷ []) h.same.contents
+            ∙ sym (map-append content_of_saved ns (n ∷ []));
       };
-      bare = same_then fresh fs (created_removed n.number (told_content n.held) fs) h.bare keeps;
+      bare = same_then fresh fs (created_removed n.number (saved_content n.held) fs) h.bare keeps;
       next = sym (behind_more 1 ns n);
     }
 
--- the node at a place, behind those before it
+-- the node at a place, after those before it
 pub node_made : (ns : List NamedNode) (fs gs : Files) (place : ℕ) (n : NamedNode)
     → IsMadeOf (take place ns) fs → slice_get ns place ≡ Some n → CanCreate fs n
-    → gs ≡ created_removed n.number (told_content n.held) fs → IsMadeOf (take (place + 1) ns) gs
+    → gs ≡ created_removed n.number (saved_content n.held) fs → IsMadeOf (take (place + 1) ns) gs
 node_made ns fs gs place n h at can is =
     subst (λ (xs : List NamedNode). IsMadeOf xs gs) (sym (front_more ns place n at))
     (subst (IsMadeOf (take place ns ++ n ∷ [])) (sym is) (made_more (take place ns) fs n h can))
@@ -194,45 +197,45 @@ root_made (n ∷ ns) fs is h = subst (IsMadeOf (n ∷ [])) (sym is) (record {
 
 rising_behind : (least : ℕ) (ms : List FileNode) (next : ℕ) (ns : List NamedNode) (n : NamedNode)
     (more : List NamedNode) → AreRising least ms next
-    → map node_number ms ≡ map told_number (ns ++ n ∷ more)
+    → map node_number ms ≡ map saved_number (ns ++ n ∷ more)
     → (next_behind least ns ≤ n.number) × (n.number + 1 ≤ next)
 rising_behind least [] next [] n more h e = absurd cc
 rising_behind least [] next (a ∷ ns) n more h e = absurd cc
 rising_behind least (m ∷ ms) next [] n more h e =
-    let same = (heads m.number n.number (map node_number ms) (map told_number more) e).0 in
+    let same = (heads m.number n.number (map node_number ms) (map saved_number more) e).0 in
     let below = (numbers_below (m.number + 1) ms next h.1).0 in
     (omega (arith, same, h.0), omega (arith, same, below))
 rising_behind least (m ∷ ms) next (a ∷ ns) n more h e =
     let both = heads m.number a.number (map node_number ms)
-    (map told_number (ns ++ n ∷ more)) e in
+    (map saved_number (ns ++ n ∷ more)) e in
     let later = rising_behind (m.number + 1) ms next ns n more h.1 both.1 in
     (subst (λ (k : ℕ). next_behind (k + 1) ns ≤ n.number) both.0 later.0, later.1)
 
 all_behind_told : (least : ℕ) (ms : List FileNode) (next : ℕ) (ns : List NamedNode)
-    → AreRising least ms next → map node_number ms ≡ map told_number ns
+    → AreRising least ms next → map node_number ms ≡ map saved_number ns
     → next_behind least ns ≤ next
 all_behind_told least [] next [] h e = h
 all_behind_told least [] next (a ∷ ns) h e = absurd cc
 all_behind_told least (m ∷ ms) next [] h e = absurd cc
 all_behind_told least (m ∷ ms) next (a ∷ ns) h e =
-    let both = heads m.number a.number (map node_number ms) (map told_number ns) e in
+    let both = heads m.number a.number (map node_number ms) (map saved_number ns) e in
     subst (λ (k : ℕ). next_behind (k + 1) ns ≤ next) both.0
     (all_behind_told (m.number + 1) ms next ns h.1 both.1)
 
 small_told : (ms : List FileNode) (ns : List NamedNode) (n : NamedNode) (more : List NamedNode)
     → AllByRecursion (λ (m : FileNode). IsSmallContent m.content) ms
-    → map content_of ms ≡ map content_of_told (ns ++ n ∷ more)
-    → IsSmallContent (told_content n.held)
+    → map content_of ms ≡ map content_of_saved (ns ++ n ∷ more)
+    → IsSmallContent (saved_content n.held)
 small_told [] [] n more h e = absurd cc
 small_told [] (a ∷ ns) n more h e = absurd cc
 small_told (m ∷ ms) [] n more h e =
     subst IsSmallContent
-    (heads m.content (told_content n.held) (map content_of ms)
-    (map content_of_told more) e).0 h.0
+    (heads m.content (saved_content n.held) (map content_of ms)
+    (map content_of_saved more) e).0 h.0
 small_told (m ∷ ms) (a ∷ ns) n more h e =
     small_told ms ns n more h.1
-    (heads m.content (told_content a.held) (map content_of ms)
-    (map content_of_told (ns ++ n ∷ more)) e).1
+    (heads m.content (saved_content a.held) (map content_of ms)
+    (map content_of_saved (ns ++ n ∷ more)) e).1
 
 split_at : (ns : List NamedNode) (i : ℕ) (n : NamedNode) → slice_get ns i ≡ Some n
     → ns ≡ take i ns ++ n ∷ drop (suc i) ns
@@ -242,27 +245,27 @@ split_at (m ∷ ns) (suc i) n e = ap (λ (xs : List NamedNode). m ∷ xs) (split
 
 -- the node at a place can be made, if files are told so
 pub can_be_created : (ns : List NamedNode) (fs gs : Files) (next place : ℕ) (n : NamedNode)
-    → IsMadeOf (take place ns) fs → slice_get ns place ≡ Some n → IsToldOf gs next ns
+    → IsMadeOf (take place ns) fs → slice_get ns place ≡ Some n → IsSavedFiles gs next ns
     → CanCreate fs n
 can_be_created ns fs gs next place n h at t =
     let front = take place ns in
     let more = drop (suc place) ns in
     let alike = told_as gs next ns t.told in
     let split = split_at ns place n at in
-    let numbers : map node_number gs.nodes ≡ map told_number (front ++ n ∷ more) =
-    alike.numbers ∙ ap (map told_number) split in
-    let contents : map content_of gs.nodes ≡ map content_of_told (front ++ n ∷ more) =
-    alike.contents ∙ ap (map content_of_told) split in
+    let numbers : map node_number gs.nodes ≡ map saved_number (front ++ n ∷ more) =
+    alike.numbers ∙ ap (map saved_number) split in
+    let contents : map content_of gs.nodes ≡ map content_of_saved (front ++ n ∷ more) =
+    alike.contents ∙ ap (map content_of_saved) split in
     let bounds = rising_behind 1 gs.nodes gs.next front n more t.are.rising numbers in
     let here = h.next in
     let within = t.within in
     let few : length gs.nodes ≤ NODES = t.are.few in
     let longer : length gs.nodes ≡ length front + suc (length more) =
     sym (length-map gs.nodes node_number) ∙ ap length numbers
-    ∙ length-map (front ++ n ∷ more) told_number ∙ length-append front (n ∷ more) in
+    ∙ length-map (front ++ n ∷ more) saved_number ∙ length-append front (n ∷ more) in
     let now : length fs.nodes ≡ length front =
     sym (length-map fs.nodes node_number) ∙ ap length h.same.numbers
-    ∙ length-map front told_number in
+    ∙ length-map front saved_number in
     record {
       next = omega (arith, here, bounds.0);
       number = omega (arith, within, bounds.1);
@@ -299,7 +302,7 @@ holds_some None e = absurd cc
 holds_some (Some n) e = refl
 
 -- files that are told begin with the root
-pub told_begins : (ns : List NamedNode) (gs : Files) (next : ℕ) → IsToldOf gs next ns
+pub told_begins : (ns : List NamedNode) (gs : Files) (next : ℕ) → IsSavedFiles gs next ns
     → BeginsWithRoot ns
 told_begins ns gs next t = by gs.nodes ns t.are.rising t.are.root_is_directory alike.numbers
     alike.contents where
@@ -308,23 +311,23 @@ told_begins ns gs next t = by gs.nodes ns t.are.rising t.are.root_is_directory a
 
       by : (ms : List FileNode) (ns : List NamedNode) → AreRising 1 ms gs.next
           → holds_directory (find (λ (m : FileNode). eqb m.number 1) ms) ≡ true
-          → map node_number ms ≡ map told_number ns → map content_of ms ≡ map content_of_told ns
+          → map node_number ms ≡ map saved_number ns → map content_of ms ≡ map content_of_saved ns
           → BeginsWithRoot ns
       by [] ns h d e f = absurd cc
       by (m ∷ ms) [] h d e f = absurd cc
       by (m ∷ ms) (n ∷ ns) h d e f =
           let first = root_first m ms gs.next (find (λ (x : FileNode). eqb x.number 1) (m ∷ ms)) h
           refl (holds_some (find (λ (x : FileNode). eqb x.number 1) (m ∷ ms)) d) in
-          let numbers = heads m.number n.number (map node_number ms) (map told_number ns) e
+          let numbers = heads m.number n.number (map node_number ms) (map saved_number ns) e
           in
-          let contents = heads m.content (told_content n.held) (map content_of ms)
-          (map content_of_told ns) f in (
+          let contents = heads m.content (saved_content n.held) (map content_of ms)
+          (map content_of_saved ns) f in (
             sym numbers.0 ∙ first.0,
             sym contents.0 ∙ directory_content m.content (sym (ap holds_directory first.1) ∙ d),
           )
 
 pub next_told : (ns : List NamedNode) (fs gs : Files) (next : ℕ) → IsMadeOf ns fs
-    → IsToldOf gs next ns → fs.next ≤ next
+    → IsSavedFiles gs next ns → fs.next ≤ next
 next_told ns fs gs next h t =
     let behind = all_behind_told 1 gs.nodes gs.next ns t.are.rising
     (told_as gs next ns t.told).numbers in

@@ -1,4 +1,4 @@
--- Descriptors that are opened again, one behind the other.
+-- Descriptors that are opened again, one after the other.
 use Rattle.std.proofs.Common.{◌≡◌, ℕ, zero, suc, ◌+◌, ◌-◌, ◌^◌, ◌<◌, ◌≤◌}
 use Rattle.std.proofs.Common.{List, [], ◌∷◌, ◌++◌}
 use Rattle.std.proofs.Common.{length, replicate, Option, Some, None, refl, sym, ap, subst, ◌∙◌}
@@ -9,20 +9,21 @@ use Rattle.std.proofs.lemmas.List.{append-nil, length-replicate, replicate_more}
 use Rattle.std.proofs.lemmas.Grind.{flat_map-append}
 use Rattle.wasi_abi.specs.rules.Layouts.{u32_bytes}
 use Rattle.file_tree.specs.rules.Files.{Files}
-use Rattle.wasi_calls_rules.specs.Hosts.{Target, Stream, Node, Descriptor}
+use Rattle.wasi_calls_rules.specs.WasiStates.{Target, Stream, Node, Descriptor}
 use Rattle.state_image.specs.declared.reading.descriptors.ReadDescriptor.{ReadDescriptor}
-use Rattle.state_image.specs.rules.Image.{items_bytes, Numbered, open_from, descriptor_bytes}
+use Rattle.state_image.specs.rules.ProcessImage.{items_bytes, Numbered, open_from, descriptor_bytes}
 use Rattle.state_image.specs.rules.Ranges.{IsIn}
-use Rattle.state_image.specs.rules.RawDescriptors.{raw_bytes, IsRawIn, raw_kind, raw_node, raw_of}
+use Rattle.state_image.specs.rules.RawDescriptors.{raw_bytes, IsRawIn, raw_target_type, raw_node}
+use Rattle.state_image.specs.rules.RawDescriptors.{raw_of}
 use Rattle.state_image.specs.rules.Reading.{HasField, LacksField}
 use Rattle.state_image.specs.restoring.Opened.{IsTargetOf, IsReadAs}
 use Rattle.state_image.specs.restoring.Descriptors.{IsTargetIn, IsRestorable, AreAllRestorable}
 use Rattle.state_image.specs.restoring.Descriptors.{AreRestorable, behind_last, closed_up_to}
-use Rattle.state_image.specs.restoring.Descriptors.{AreOpened, CanStandBehind, IsReadBehind}
+use Rattle.state_image.specs.restoring.Descriptors.{AreOpened, CanComeBehind, IsReadBehind}
 use Rattle.state_image.proofs.Fields.{Tells, cut, number_field}
 use Rattle.state_image.proofs.FieldsGiven.{raw_field, raw}
-use Rattle.state_image.proofs.HostWithin.{rights_within}
-use Rattle.state_image.proofs.ImageGiven.{raw_within}
+use Rattle.state_image.proofs.WasiStateWithin.{rights_within}
+use Rattle.state_image.proofs.ProcessImageGiven.{raw_within}
 use Rattle.state_image.proofs.Opened.{open_from-append}
 use Rattle.state_image.proofs.Places.{IsDescriptorIn, IsNumberedIn, descriptor_field, few_open}
 use Rattle.state_image.proofs.ReadLemmas.{is_that}
@@ -69,7 +70,7 @@ open_field fs = record {
 
 -- ---- the next one
 
--- of more items than these, the next one is in front of what stands behind these
+-- of more items than these, the next one is in front of what is after these
 record IsNextOf (X : Type 0) (spell : X → List ℕ) (xs ys : List X) (rest other : List ℕ) : Type 0
   where
     next : X
@@ -130,18 +131,18 @@ of_next : (P : Numbered → Type 0) (xs : List Numbered) (x : Numbered) (more : 
 of_next P [] x more h = h.0
 of_next P (y ∷ xs) x more h = of_next P xs x more h.1
 
--- one more stands in front, and can stand behind those that were opened
-pub record StandsNext (fs : Files) (ds : List (Option Descriptor)) (bytes : List ℕ) : Type 0 where
+-- one more is in front, and can be after those that were opened
+pub record ComesNext (fs : Files) (ds : List (Option Descriptor)) (bytes : List ℕ) : Type 0 where
   pub next : Numbered
-  pub can : CanStandBehind ds next
+  pub can : CanComeBehind ds next
   pub rest : List ℕ
   pub is : bytes ≡ descriptor_bytes fs next ++ rest
 
-pub one_more_stands : (fs : Files) (i : ℕ) (ds es : List (Option Descriptor))
+pub one_more_comes : (fs : Files) (i : ℕ) (ds es : List (Option Descriptor))
     (old now rest : List ℕ) → AreOpened fs i ds old now → AreRestorable es
     → i < length (open_from 0 es)
-    → old ≡ flat_map (descriptor_bytes fs) (open_from 0 es) ++ rest → StandsNext fs ds now
-one_more_stands fs i ds es old now rest opened all lt is =
+    → old ≡ flat_map (descriptor_bytes fs) (open_from 0 es) ++ rest → ComesNext fs ds now
+one_more_comes fs i ds es old now rest opened all lt is =
     let within : length ds ≤ 64 = opened.within in
     let places : length es ≡ 64 = all.places in
     let mine = all_open_below 64 0 ds opened.each (omega (arith, within)) in
@@ -298,7 +299,7 @@ few_places ds all =
     let places : length ds ≡ 64 = all.places in
     omega (arith, few_open 0 ds, places)
 
--- no count stands in front
+-- no count is in front
 pub no_count : (fs : Files) (old new : List ℕ) → LacksField u32_bytes (IsIn 4) old new
     → (ds : List (Option Descriptor)) (rest : List ℕ) → AreRestorable ds
     → old ≡ items_bytes (descriptor_bytes fs) (open_from 0 ds) ++ rest → ⊥
@@ -307,7 +308,7 @@ no_count fs old new lacks ds rest all is =
     lacks.none (length (open_from 0 ds)) (spelled ++ rest) (few_places ds all)
     (is ∙ append_assoc (u32_bytes (length (open_from 0 ds))) spelled rest)
 
--- so many stand behind the count
+-- so many are after the count
 pub so_many : (fs : Files) (count : ℕ) (old mid : List ℕ)
     → HasField u32_bytes (IsIn 4) count old mid
     → (ds : List (Option Descriptor)) (rest : List ℕ) → AreRestorable ds
@@ -323,7 +324,7 @@ so_many fs count old mid has ds rest all is =
 
 -- ---- one of them
 
-raw_in : (fs : Files) (ds : List (Option Descriptor)) (x : Numbered) → CanStandBehind ds x
+raw_in : (fs : Files) (ds : List (Option Descriptor)) (x : Numbered) → CanComeBehind ds x
     → IsRawIn (raw_of fs x)
 raw_in fs ds x can =
     raw_within fs x (open_numbered x
@@ -336,14 +337,14 @@ in_raw fs x bytes rest is =
     is ∙ ap (λ (xs : List ℕ). xs ++ rest) (descriptor_read_in_steps fs x)
 
 raw_is : (fs : Files) (r : ReadDescriptor) (old new : List ℕ) → HasField raw_bytes IsRawIn r old new
-    → (ds : List (Option Descriptor)) (x : Numbered) (rest : List ℕ) → CanStandBehind ds x
+    → (ds : List (Option Descriptor)) (x : Numbered) (rest : List ℕ) → CanComeBehind ds x
     → old ≡ descriptor_bytes fs x ++ rest → r ≡ raw_of fs x
 raw_is fs r old new has ds x rest can is =
     (is_that raw_field has (raw_of fs x) rest (raw_in fs ds x can) (in_raw fs x old rest is)).0
 
--- none stands in front
+-- none is in front
 pub no_descriptor : (fs : Files) (old new : List ℕ) → LacksField raw_bytes IsRawIn old new
-    → (ds : List (Option Descriptor)) (x : Numbered) (rest : List ℕ) → CanStandBehind ds x
+    → (ds : List (Option Descriptor)) (x : Numbered) (rest : List ℕ) → CanComeBehind ds x
     → old ≡ descriptor_bytes fs x ++ rest → ⊥
 no_descriptor fs old new lacks ds x rest can is =
     lacks.none (raw_of fs x) rest (raw_in fs ds x can) (in_raw fs x old rest is)
@@ -352,7 +353,7 @@ no_descriptor fs old new lacks ds x rest can is =
 pub not_next : (fs : Files) (r : ReadDescriptor) (old new : List ℕ)
     → HasField raw_bytes IsRawIn r old new → (ds : List (Option Descriptor))
     → ((length ds ≤ r.number) × (r.number < 64) → ⊥)
-    → (x : Numbered) (rest : List ℕ) → CanStandBehind ds x
+    → (x : Numbered) (rest : List ℕ) → CanComeBehind ds x
     → old ≡ descriptor_bytes fs x ++ rest → ⊥
 not_next fs r old new has ds other x rest can is =
     let same : r.number ≡ x.number =
@@ -361,7 +362,7 @@ not_next fs r old new has ds other x rest can is =
     other (omega (arith, same, can.behind), omega (arith, same, below))
 
 target_own : (fs : Files) (t : Target) → IsTargetIn t
-    → IsTargetOf fs (raw_kind fs t) (raw_node t) t
+    → IsTargetOf fs (raw_target_type fs t) (raw_node t) t
 target_own fs (Stream s) h = (h, refl, refl)
 target_own fs (Node k) h = (refl, refl)
 
@@ -369,7 +370,7 @@ target_own fs (Node k) h = (refl, refl)
 pub not_descriptor : (fs : Files) (r : ReadDescriptor) (old new : List ℕ)
     → HasField raw_bytes IsRawIn r old new → (ds : List (Option Descriptor))
     → ((d : Descriptor) → IsReadAs fs r d → ⊥)
-    → (x : Numbered) (rest : List ℕ) → CanStandBehind ds x
+    → (x : Numbered) (rest : List ℕ) → CanComeBehind ds x
     → old ≡ descriptor_bytes fs x ++ rest → ⊥
 not_descriptor fs r old new has ds none x rest can is =
     none x.descriptor
@@ -383,29 +384,29 @@ not_descriptor fs r old new has ds none x rest can is =
       bounded = can.restorable.bounded;
     }))
 
-target_read : (fs : Files) (kind node : ℕ) (t : Target) → IsIn 8 node → IsTargetOf fs kind node t
-    → IsTargetIn t
-target_read fs kind node (Stream s) within h = h.0
-target_read fs kind node (Node k) within h = subst (IsIn 8) h.0 within
+target_read : (fs : Files) (target_type node : ℕ) (t : Target) → IsIn 8 node
+    → IsTargetOf fs target_type node t → IsTargetIn t
+target_read fs target_type node (Stream s) within h = h.0
+target_read fs target_type node (Node k) within h = subst (IsIn 8) h.0 within
 
-kind_read : (fs : Files) (kind node : ℕ) (t : Target) → IsTargetOf fs kind node t
-    → (kind ≡ raw_kind fs t) × (node ≡ raw_node t)
-kind_read fs kind node (Stream s) h = (h.1, h.2)
-kind_read fs kind node (Node k) h = (h.1, h.0)
+target_type_read : (fs : Files) (target_type node : ℕ) (t : Target)
+    → IsTargetOf fs target_type node t → (target_type ≡ raw_target_type fs t) × (node ≡ raw_node t)
+target_type_read fs target_type node (Stream s) h = (h.1, h.2)
+target_type_read fs target_type node (Node k) h = (h.1, h.0)
 
 raw_again : (fs : Files) (r : ReadDescriptor) (d : Descriptor) → IsReadAs fs r d
     → r ≡ raw_of fs (record { number = r.number; descriptor = d })
 unfolding raw
 raw_again fs r d read =
-    let target = kind_read fs r.kind r.node d.target read.target in
-    let kind = target.0 in let node = target.1 in let offset = read.offset in
+    let target = target_type_read fs r.target_type r.node d.target read.target in
+    let target_type = target.0 in let node = target.1 in let offset = read.offset in
     let flags = read.flags in let base = read.base in let inheriting = read.inheriting in
-    let whole : raw r.number r.kind r.node r.offset r.flags r.base r.inheriting
-    ≡ raw r.number (raw_kind fs d.target) (raw_node d.target) d.offset d.flags d.base
-    d.inheriting = rw (kind, node, offset, flags, base, inheriting) refl in
+    let whole : raw r.number r.target_type r.node r.offset r.flags r.base r.inheriting
+    ≡ raw r.number (raw_target_type fs d.target) (raw_node d.target) d.offset d.flags d.base
+    d.inheriting = rw (target_type, node, offset, flags, base, inheriting) refl in
     whole
 
--- it is opened behind the others
+-- it is opened after the others
 pub one_opened : (fs : Files) (r : ReadDescriptor) (d : Descriptor)
     (ds es : List (Option Descriptor)) (old new : List ℕ) → HasField raw_bytes IsRawIn r old new
     → (length ds ≤ r.number) × (r.number < 64) → IsReadAs fs r d
@@ -418,7 +419,7 @@ one_opened fs r d ds es old new has next read list =
         behind = next.0;
         within = next.1;
         restorable = record {
-          target = target_read fs r.kind r.node d.target has.in_range.node read.target;
+          target = target_read fs r.target_type r.node d.target has.in_range.node read.target;
           bounded = read.bounded;
         };
       };

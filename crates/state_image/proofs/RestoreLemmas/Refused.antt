@@ -17,10 +17,11 @@ use Rattle.file_tree.proofs.EntriesTell.{entries_tell_paths}
 use Rattle.file_tree.proofs.EntriesDiffer.{children_are_listed, entries_differ}
 use Rattle.file_tree.proofs.KeptEntries.{entries_come_in_order}
 use Rattle.state_image.specs.restoring.Named.{NamedNode}
-use Rattle.state_image.specs.restoring.Told.{listed_node, AreAs, IsToldOf, CanTake}
+use Rattle.state_image.specs.restoring.SavedNodes.{listed_node, AreAs, IsSavedFiles, CanTake}
 use Rattle.state_image.specs.restoring.Hanging.{HangsUpTo, IsHung}
 use Rattle.state_image.proofs.PushedItems.{front_more}
-use Rattle.state_image.proofs.RestoreLemmas.Told.{one_directory, one_there, told_as, told_listed}
+use Rattle.state_image.proofs.RestoreLemmas.SavedNodes.{one_directory, one_there, told_as}
+use Rattle.state_image.proofs.RestoreLemmas.SavedNodes.{told_listed}
 
 -- ---- fronts of lists
 
@@ -63,7 +64,7 @@ node_there (Some n) p e = refl
 
 module _ (ns : List NamedNode) (fs gs : Files) (next : ℕ) (ws : List ℕ) (at i d : ℕ) (e : Entry)
     (h : HangsUpTo ns fs ws at i) (here : slice_get ws at ≡ Some d)
-    (is : slice_get (listed_node ns d) i ≡ Some e) (t : IsToldOf gs next ns) where
+    (is : slice_get (listed_node ns d) i ≡ Some e) (t : IsSavedFiles gs next ns) where
   alike : AreAs gs ns
   alike = told_as gs next ns t.told
 
@@ -87,7 +88,7 @@ module _ (ns : List NamedNode) (fs gs : Files) (next : ℕ) (ws : List ℕ) (at 
   below : (e.number ≢ 1) × IsNodeName e.name
   below = entries_tell_paths.below gs d e.number e.name t.are lists
 
-  -- what hangs in the directory stands before the entry
+  -- what hangs in the directory is before the entry
   before : (p : ℕ) (x : Entry) → slice_get (entries_of fs d) p ≡ Some x
       → (p < i) × (slice_get (entries_of gs d) p ≡ Some x)
   before p x at_p =

@@ -2,8 +2,8 @@
 use Rattle.std.specs.Prelude.{◌≡◌, ℕ, List, [], ◌∷◌, length, false, None}
 use Rattle.wasi_abi.specs.declared.version.Version.TheVariants.{One}
 use Rattle.file_tree.specs.rules.Files.{fresh}
-use Rattle.wasi_calls_rules.specs.Hosts.{first_descriptors}
-use Rattle.state_image.specs.rules.Image.{Saved, image}
+use Rattle.wasi_calls_rules.specs.WasiStates.{first_descriptors}
+use Rattle.state_image.specs.rules.ProcessImage.{Saved, process_image}
 
 -- one frame without locals, at its first instruction, and one page
 abbrev pub fresh_process : List ℕ → Saved
@@ -29,6 +29,6 @@ fresh_process memory = record {
   ended = None;
 }
 
-abbrev pub FreshImageSize : Type 0
-FreshImageSize = (memory : List ℕ) → length memory ≡ 65536
-    → length (image (fresh_process memory)) ≡ 65811
+abbrev pub FreshProcessImageSize : Type 0
+FreshProcessImageSize = (memory : List ℕ) → length memory ≡ 65536
+    → length (process_image (fresh_process memory)) ≡ 65811

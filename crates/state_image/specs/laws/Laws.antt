@@ -12,28 +12,28 @@ use Rattle.process_rules.specs.Processes.{ProcessState, Guest, HasLineNumbers, h
 use Rattle.process_rules.specs.Runs.{Kept, Reaches}
 use Rattle.machine.specs.rules.Offers.{offer}
 use Rattle.process.specs.rules.Values.{ProcessValue, ShowsProcess, IsProcess}
-use Rattle.state_image.specs.rules.Image.{Saved, SavedShowsProcess, image}
+use Rattle.state_image.specs.rules.ProcessImage.{Saved, SavedShowsProcess, process_image}
 use Rattle.state_image.specs.rules.Restored.{IsRestored}
 use Rattle.state_image.specs.rules.Saving.{saved_of}
 use Rattle.state_image.specs.rules.WellTyped.{IsWellTyped}
 
 -- The image of a well-typed process is that of no other one.
-abbrev pub ImagesTellProcessesApart : Type 0
-ImagesTellProcessesApart =
+abbrev pub ProcessImagesAreDistinct : Type 0
+ProcessImagesAreDistinct =
     (m : Module) (config : Settings) (s t : Saved)
-    → IsWellTyped m config s → IsWellTyped m config t → image s ≡ image t → s ≡ t
+    → IsWellTyped m config s → IsWellTyped m config t → process_image s ≡ process_image t → s ≡ t
 
 -- The image of a well-typed process has a mebibyte at most, and what memory and files may have.
-abbrev pub ImagesHaveRoom : Type 0
-ImagesHaveRoom =
+abbrev pub ProcessImagesHaveRoom : Type 0
+ProcessImagesHaveRoom =
     (m : Module) (config : Settings) (s : Saved) → IsWellTyped m config s
-    → length (image s) ≤ 1048576 + 65536 * (config.pages + config.files)
+    → length (process_image s) ≤ 1048576 + 65536 * (config.pages + config.files)
 
 -- It is of bytes.
-abbrev pub ImagesAreBytes : Type 0
-ImagesAreBytes =
+abbrev pub ProcessImagesAreBytes : Type 0
+ProcessImagesAreBytes =
     (m : Module) (config : Settings) (s : Saved) → IsWellTyped m config s
-    → AllByRecursion IsByte (image s)
+    → AllByRecursion IsByte (process_image s)
 
 -- What is saved of a process shows every process of the rules that it shows, in the program of its
 -- module. (It shows the lines that wait by their number alone.)
@@ -76,5 +76,5 @@ RestoredShowsReached =
     → (reached : Reaches m config kept n p) → n < 2 ^ 63 → HasLineNumbers p.host
     → AreFunctionTypes m functions
     → SavedShowsProcess (module_context m functions) reached.guest.program table s p
-    → IsRestored m config (image s) v
+    → IsRestored m config (process_image s) v
     → (saved_of v ≡ s) × ShowsProcess v reached.guest p

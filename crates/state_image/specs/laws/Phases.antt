@@ -3,7 +3,7 @@ use Rattle.std.specs.Prelude.{◌≡◌, ◌≢◌, ℕ, List, Option, Some, Non
 use Rattle.wasm_syntax.specs.declared.value.Trap.{Trap}
 use Rattle.process_rules.specs.Processes.{Ending}
 use Rattle.state_image.specs.declared.reading.progress.ReadPhase.{ReadPhase}
-use Rattle.state_image.specs.rules.Image.{trap_number, phase_of, ending_code}
+use Rattle.state_image.specs.rules.ProcessImage.{trap_number, phase_of, ending_code}
 use Rattle.state_image.specs.rules.Parts.{read_phase}
 
 -- the trap with this number, or nothing where there is none

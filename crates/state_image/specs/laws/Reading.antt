@@ -4,13 +4,13 @@ use Rattle.std.specs.List.{flat_map}
 use Rattle.file_tree.specs.rules.Files.{Files, FileNode}
 use Rattle.state_image.specs.declared.reading.progress.ReadCounts.{ReadCounts}
 use Rattle.state_image.specs.declared.reading.progress.ReadEnd.{ReadEnd}
-use Rattle.state_image.specs.rules.Image.{Saved, entry_bytes, node_bytes, Numbered}
-use Rattle.state_image.specs.rules.Image.{descriptor_bytes}
+use Rattle.state_image.specs.rules.ProcessImage.{Saved, entry_bytes, node_bytes, Numbered}
+use Rattle.state_image.specs.rules.ProcessImage.{descriptor_bytes}
 use Rattle.state_image.specs.rules.Parts.{counts_of, read_end_of, StreamTexts, streams_of}
 use Rattle.state_image.specs.rules.Fronts.{node_front_of, front_bytes, entries_after_front}
 use Rattle.state_image.specs.rules.RawDescriptors.{raw_of, raw_bytes}
 
--- The bytes of a node are those of its front, and of the entries behind it.
+-- The bytes of a node are those of its front, and of the entries after it.
 abbrev pub NodesAreRead : Type 0
 NodesAreRead =
     (fs : Files) (n : FileNode)

@@ -8,9 +8,9 @@ use Rattle.wasm_semantics.specs.Instantiation.{least_pages_of}
 use Rattle.wasi_abi.specs.declared.version.Version.TheVariants.{One, Two}
 use Rattle.wasi_abi.specs.rules.Configs.{Settings}
 use Rattle.file_tree.specs.rules.Files.{Content, Directory, File, FileNode}
-use Rattle.wasi_calls_rules.specs.Hosts.{Descriptor, Stream, Node}
+use Rattle.wasi_calls_rules.specs.WasiStates.{Descriptor, Stream, Node}
 use Rattle.process_rules.specs.Processes.{Exited}
-use Rattle.state_image.specs.rules.Image.{Saved}
+use Rattle.state_image.specs.rules.ProcessImage.{Saved}
 use Rattle.state_image.specs.rules.WellTyped.{IsWellTyped, slots_in}
 
 -- no process under this configuration is well typed that has this
@@ -43,11 +43,11 @@ below_a = record { number = 2; path = Some ((97 ∷ []) ∷ (98 ∷ []) ∷ []);
 abbrev pub removed_node : FileNode
 removed_node = record { number = 2; path = None; content = Directory }
 
--- this descriptor stands at this number
+-- this descriptor is at this number
 abbrev pub IsOpenAt : Saved → ℕ → Descriptor → Type 0
 IsOpenAt s n d = slice_get s.descriptors n ≡ Some (Some d)
 
--- one of these stands at some number
+-- one of these is at some number
 abbrev pub HasOpen : (Descriptor → Type 0) → Saved → Type 0
 HasOpen P s = (n : ℕ) × (d : Descriptor) × IsOpenAt s n d × P d
 

@@ -5,7 +5,7 @@ use Rattle.wasm_syntax.specs.laws.Examples.{hello}
 use Rattle.guest_memory.specs.rules.Bytes.{IsByte}
 use Rattle.wasi_abi.specs.declared.version.Version.TheVariants.{Two}
 use Rattle.wasi_abi.specs.rules.Configs.{Settings}
-use Rattle.state_image.specs.rules.Image.{Saved}
+use Rattle.state_image.specs.rules.ProcessImage.{Saved}
 use Rattle.state_image.specs.rules.WellTyped.{IsWellTyped}
 use Rattle.state_image.specs.laws.Examples.{fresh_process}
 

@@ -3,10 +3,10 @@ use Rattle.std.specs.Prelude.{◌≡◌, ℕ, ◌+◌, ◌-◌, ◌<◌, ◌≤�
 use Rattle.std.specs.Prelude.{Option, Some, None, IfSome}
 use Rattle.std.specs.List.{AllByRecursion, flat_map}
 use Rattle.file_tree.specs.rules.Files.{Files}
-use Rattle.wasi_calls_rules.specs.Hosts.{Target, Stream, Node, Descriptor}
+use Rattle.wasi_calls_rules.specs.WasiStates.{Target, Stream, Node, Descriptor}
 use Rattle.wasi_calls_rules.specs.declared.limits.TheConstants.{DESCRIPTORS}
 use Rattle.wasi_calls.specs.rules.Restored.{IsBoundedDescriptor}
-use Rattle.state_image.specs.rules.Image.{Numbered, open_from, descriptor_bytes}
+use Rattle.state_image.specs.rules.ProcessImage.{Numbered, open_from, descriptor_bytes}
 use Rattle.state_image.specs.rules.Ranges.{IsIn}
 
 -- a stream is one of three, and a node's number has 64 bits
@@ -28,7 +28,7 @@ pub record AreRestorable (ds : List (Option Descriptor)) : Type 0 where
   pub places : length ds ≡ DESCRIPTORS
   pub each : AreAllRestorable ds
 
--- the number behind the last one
+-- the number after the last one
 abbrev pub behind_last : ℕ → List Numbered → ℕ
 behind_last n [] = n
 behind_last n (x ∷ xs) = behind_last (x.number + 1) xs
@@ -47,16 +47,16 @@ pub record AreOpened (fs : Files) (count : ℕ) (ds : List (Option Descriptor)) 
   pub each : AreAllRestorable ds
   pub last : length ds ≡ behind_last 0 (open_from 0 ds)
 
--- This descriptor can stand behind those of a list.
-pub record CanStandBehind (ds : List (Option Descriptor)) (d : Numbered) : Type 0 where
+-- This descriptor can be after those of a list.
+pub record CanComeBehind (ds : List (Option Descriptor)) (d : Numbered) : Type 0 where
   pub behind : length ds ≤ d.number
   pub within : d.number < DESCRIPTORS
   pub restorable : IsRestorable d.descriptor
 
--- One descriptor was read, and stands behind those of a list under its number.
+-- One descriptor was read, and is after those of a list under its number.
 pub record IsReadBehind (fs : Files) (ds es : List (Option Descriptor)) (old new : List ℕ) : Type 0
   where
     pub opened : Numbered
-    pub can : CanStandBehind ds opened
+    pub can : CanComeBehind ds opened
     pub is : old ≡ descriptor_bytes fs opened ++ new
     pub list : es ≡ closed_up_to opened.number ds ++ Some opened.descriptor ∷ []

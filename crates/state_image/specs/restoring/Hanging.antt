@@ -3,15 +3,15 @@ use Rattle.std.specs.Prelude.{◌≡◌, ℕ, ◌<◌, List, [], ◌∷◌, take
 use Rattle.std.specs.Prelude.{is_some}
 use Rattle.file_tree.specs.rules.Files.{Files, IsFiles, is_directory, path_of, entries_of}
 use Rattle.state_image.specs.restoring.Named.{NamedNode}
-use Rattle.state_image.specs.restoring.Told.{AreAs, listed_node}
+use Rattle.state_image.specs.restoring.SavedNodes.{AreAs, listed_node}
 
 -- this number alone where it is a directory's, or else none
 abbrev pub directory_alone : Bool → ℕ → List ℕ
 directory_alone true k = k ∷ []
 directory_alone false k = []
 
--- The directories that have a path stand in a list. Those before a place of it have all the entries
--- that are told of them, the one there has so many, and those behind it have none.
+-- The directories that have a path are in a list. Those before a place of it have all the entries
+-- that are told of them, the one there has so many, and those after it have none.
 pub record HangsUpTo (ns : List NamedNode) (fs : Files) (waiting : List ℕ) (at count : ℕ) : Type 0
   where
     pub are : IsFiles fs

@@ -16,7 +16,7 @@ use Rattle.state_image.specs.declared.reading.progress.ReadPhase.{ReadPhase}
 use Rattle.state_image.specs.declared.reading.progress.ReadPhase.TheVariants as read
 use Rattle.state_image.specs.declared.restoring.fault.RestoreFault.{RestoreFault}
 use Rattle.state_image.specs.declared.restoring.fault.RestoreFault.TheVariants as fault
-use Rattle.state_image.specs.rules.Image.{machine_bytes}
+use Rattle.state_image.specs.rules.ProcessImage.{machine_bytes}
 use Rattle.state_image.specs.rules.Ranges.{HasMachine, IsPlaceIn, IsWhole}
 use Rattle.state_image.specs.rules.Reading.{HasField}
 
@@ -30,7 +30,7 @@ AreToCome m (read.Exited code) later = later ≡ []
 AreToCome m (read.Trapped why) later = later ≡ []
 
 -- This machine has the module, table and limits of the linked one, and in this phase the calls to
--- come. Its fields are in front of these bytes, and those behind them are left.
+-- come. Its fields are in front of these bytes, and those after them are left.
 pub record IsReadMachine (linked : MachineValue) (phase : ReadPhase) (old new : List ℕ)
     (v : MachineValue) : Type 0 where
   pub same : IsSameMachine linked v
@@ -68,7 +68,7 @@ pub record PutsCalls (phase : ReadPhase) (before after : MachineValue) : Type 0 
     state = record before.state { later = calls ++ before.state.later };
   }
 
--- the same with these words behind its globals
+-- the same with these words after its globals
 abbrev pub with_globals_behind : List ℕ → MachineValue → MachineValue
 with_globals_behind words v =
     record v { state = record v.state { globals = v.state.globals ++ words } }
@@ -81,7 +81,7 @@ with_frame_inside place v = with_frames (place ∷ v.state.frames) v
 abbrev pub with_frames_inside : List ShownFrame → MachineValue → MachineValue
 with_frames_inside places v = with_frames (reverse places ++ v.state.frames) v
 
--- frames with these words behind the slots of the innermost one
+-- frames with these words after the slots of the innermost one
 abbrev pub slots_behind : List ℕ → List ShownFrame → List ShownFrame
 slots_behind words [] = []
 slots_behind words (place ∷ places) = record place { slots = place.slots ++ words } ∷ places

@@ -4,7 +4,7 @@ use Rattle.wasi_abi.specs.rules.Layouts.{u64_bytes}
 use Rattle.wasi_abi.specs.rules.Numbers.{directory_type, regular_file}
 use Rattle.file_tree.specs.rules.Files.{Files, FileNode, Content, Directory, File, Entry}
 use Rattle.file_tree.specs.rules.Files.{entries_of}
-use Rattle.state_image.specs.rules.Image.{items_bytes, entry_bytes}
+use Rattle.state_image.specs.rules.ProcessImage.{items_bytes, entry_bytes}
 
 -- the entries of a directory, or the bytes of a file
 pub data Held : Type 0 where
@@ -25,7 +25,7 @@ held_of fs k (File bytes) = Bytes bytes
 abbrev pub named : Files → FileNode → NamedNode
 named fs n = record { number = n.number; held = held_of fs n.number n.content }
 
--- the kind, and the entries or the bytes
+-- the type, and the entries or the bytes
 abbrev pub held_bytes : Held → List ℕ
 held_bytes (Entries es) = directory_type ∷ items_bytes entry_bytes es
 held_bytes (Bytes bytes) = regular_file ∷ (u64_bytes (length bytes) ++ bytes)

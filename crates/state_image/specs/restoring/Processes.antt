@@ -5,8 +5,8 @@ use Rattle.wasm_syntax.specs.declared.module.Module.{Module}
 use Rattle.wasm_semantics.specs.Linking.{HasEntry}
 use Rattle.wasi_abi.specs.rules.Configs.{Settings}
 use Rattle.wasi_abi.specs.rules.Versions.{text_limit}
-use Rattle.wasi_calls_rules.specs.Hosts.{IsHost}
-use Rattle.wasi_calls.specs.rules.Held.{HeldHost}
+use Rattle.wasi_calls_rules.specs.WasiStates.{IsWasiState}
+use Rattle.wasi_calls.specs.rules.Held.{HeldWasiState}
 use Rattle.machine.specs.declared.instance.fault.LinkFault.{LinkFault}
 use Rattle.machine.specs.declared.instance.fault.LinkFault.TheVariants as link
 use Rattle.machine.specs.rules.Loading.{ShowsSome}
@@ -19,15 +19,16 @@ use Rattle.state_image.specs.declared.reading.progress.ReadPhase.TheVariants as 
 use Rattle.state_image.specs.declared.restoring.progress.Progress.{Progress}
 use Rattle.state_image.specs.declared.restoring.fault.RestoreFault.{RestoreFault}
 use Rattle.state_image.specs.declared.restoring.fault.RestoreFault.TheVariants as fault
-use Rattle.state_image.specs.rules.Image.{Saved, image_mark, counts_bytes, phase_bytes}
-use Rattle.state_image.specs.rules.Image.{streams_bytes, image}
+use Rattle.state_image.specs.rules.ProcessImage.{Saved, process_image_mark, counts_bytes}
+use Rattle.state_image.specs.rules.ProcessImage.{phase_bytes}
+use Rattle.state_image.specs.rules.ProcessImage.{streams_bytes, process_image}
 use Rattle.state_image.specs.rules.Parts.{counts_of, read_phase, read_end_of, streams_of, texts_of}
 use Rattle.state_image.specs.rules.Ranges.{FitsCounts, FitsCode, FitsStreams, HasMachine}
 use Rattle.state_image.specs.rules.Saving.{saved_of}
 use Rattle.state_image.specs.rules.WellTyped.{IsOutermost, IsAlive, IsConfigured, IsWithinBounds}
 use Rattle.state_image.specs.restoring.Machines.{AreToCome}
 
--- ---- what stands before the machine
+-- ---- what is before the machine
 
 -- the version, the counts, the end and the streams are those of this process
 pub record IsProgressOf (p : Progress) (s : Saved) : Type 0 where
@@ -45,7 +46,7 @@ pub record FitsProgress (s : Saved) : Type 0 where
 -- the mark and these of a process, before other bytes
 abbrev pub progress_before : Saved → List ℕ → List ℕ
 progress_before s rest =
-    image_mark s.version ++ (counts_bytes s ++ (phase_bytes s ++ (streams_bytes s ++ rest)))
+    process_image_mark s.version ++ (counts_bytes s ++ (phase_bytes s ++ (streams_bytes s ++ rest)))
 
 -- Each process with these has them in front, and no process that has other ones.
 pub record HasProgress (p : Progress) (old new : List ℕ) : Type 0 where
@@ -70,7 +71,7 @@ end_in (read.Exited code) = Some (end.Exited code)
 end_in (read.Trapped why) = Some (end.Trapped why)
 
 -- the process with this machine, this host and these counts
-abbrev pub process_behind : Progress → MachineValue → HeldHost → ProcessValue
+abbrev pub process_behind : Progress → MachineValue → HeldWasiState → ProcessValue
 process_behind p machine host =
     process_of machine host p.counts.steps p.counts.answers p.counts.requests (end_in p.end.phase)
 
@@ -87,11 +88,11 @@ pub record IsReadProcess (linked : MachineValue) (config : Settings) (old new : 
       v.machine.state.later
   pub progress : FitsProgress (saved_of v)
   pub machine : HasMachine v.machine.state
-  pub host : IsHost v.host.host
+  pub host : IsWasiState v.host.host
   pub next : v.host.host.files.next < 2 ^ 64
   pub configured : IsConfigured config v.host.host
   pub none_waits : waiting_in v ≡ []
-  pub is : old ≡ image (saved_of v) ++ new
+  pub is : old ≡ process_image (saved_of v) ++ new
 
 -- what is left to be asked of a process as its image has it, where this function is `_start`
 pub record MayBeAccepted (m : Module) (entry : ℕ) (s : Saved) : Type 0 where

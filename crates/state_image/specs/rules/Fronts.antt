@@ -11,7 +11,7 @@ use Rattle.state_image.specs.declared.reading.files.ReadNode.{ReadNode}
 use Rattle.state_image.specs.declared.reading.files.ReadEntry.{ReadEntry}
 use Rattle.state_image.specs.rules.Ranges.{IsIn}
 
--- the bytes of a file, or how many entries of a directory stand behind
+-- the bytes of a file, or how many entries of a directory are behind
 pub data ContentFront : Type 0 where
   EntryCount : ℕ → ContentFront
   FileBytes : List ℕ → ContentFront
@@ -34,7 +34,7 @@ lent_node n = record { number = n.number; content = lent_content n.content }
 abbrev pub lent_entry : ReadEntry → Entry
 lent_entry e = record { name = e.name.now; number = e.number }
 
--- the front of a node, and the entries behind it
+-- the front of a node, and the entries after it
 abbrev pub content_front : Files → ℕ → Content → ContentFront
 content_front fs k Directory = EntryCount (length (entries_of fs k))
 content_front fs k (File bytes) = FileBytes bytes
@@ -43,12 +43,12 @@ content_front fs k (File bytes) = FileBytes bytes
 abbrev pub node_front_of : Files → FileNode → NodeFront
 node_front_of fs n = record { number = n.number; content = content_front fs n.number n.content }
 
--- the entries that stand behind a node's front: those of a directory
+-- the entries that are after a node's front: those of a directory
 abbrev pub entries_after_front : Files → ℕ → Content → List Entry
 entries_after_front fs k Directory = entries_of fs k
 entries_after_front fs k (File bytes) = []
 
--- its bytes: the number, the kind, and the number of entries or the bytes of a file
+-- its bytes: the number, the type, and the number of entries or the bytes of a file
 abbrev pub content_front_bytes : ContentFront → List ℕ
 content_front_bytes (EntryCount count) = directory_type ∷ u32_bytes count
 content_front_bytes (FileBytes bytes) = regular_file ∷ (u64_bytes (length bytes) ++ bytes)

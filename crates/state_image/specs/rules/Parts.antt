@@ -7,7 +7,7 @@ use Rattle.state_image.specs.declared.reading.progress.ReadPhase.{ReadPhase}
 use Rattle.state_image.specs.declared.reading.progress.ReadPhase.TheVariants as read
 use Rattle.state_image.specs.declared.reading.progress.ReadEnd.{ReadEnd}
 use Rattle.state_image.specs.declared.reading.progress.ReadStreams.{ReadStreams}
-use Rattle.state_image.specs.rules.Image.{Saved}
+use Rattle.state_image.specs.rules.ProcessImage.{Saved}
 
 -- what an image counts
 abbrev pub counts_of : Saved → ReadCounts

@@ -5,7 +5,7 @@ use Rattle.std.specs.List.{AllByRecursion}
 use Rattle.guest_memory.specs.rules.Bytes.{page_size}
 use Rattle.file_tree.specs.rules.Files.{Entry}
 use Rattle.machine_slots.specs.rules.Places.{ShownFrame, MachineState}
-use Rattle.state_image.specs.rules.Image.{Saved, ending_code}
+use Rattle.state_image.specs.rules.ProcessImage.{Saved, ending_code}
 
 -- a number in so many bytes
 abbrev pub IsIn : ℕ → ℕ → Type 0

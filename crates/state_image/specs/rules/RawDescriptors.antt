@@ -1,33 +1,33 @@
--- A descriptor as its bytes have it, of whatever kind (this project's own).
+-- A descriptor as its bytes have it, of whatever type (this project's own).
 use Rattle.std.specs.Prelude.{ℕ, List, ◌∷◌, ◌++◌, if◌then◌else◌}
 use Rattle.wasi_abi.specs.rules.Layouts.{u16_bytes, u32_bytes, u64_bytes}
 use Rattle.wasi_abi.specs.rules.Numbers.{directory_type, regular_file}
 use Rattle.file_tree.specs.rules.Files.{Files, is_directory}
-use Rattle.wasi_calls_rules.specs.Hosts.{Target, Stream, Node}
+use Rattle.wasi_calls_rules.specs.WasiStates.{Target, Stream, Node}
 use Rattle.state_image.specs.declared.reading.descriptors.ReadDescriptor.{ReadDescriptor}
-use Rattle.state_image.specs.rules.Image.{Numbered}
+use Rattle.state_image.specs.rules.ProcessImage.{Numbered}
 use Rattle.state_image.specs.rules.Ranges.{IsIn}
 
--- a descriptor of any kind as bytes
+-- a descriptor of any type as bytes
 abbrev pub raw_bytes : ReadDescriptor → List ℕ
 raw_bytes d =
-    u32_bytes d.number ++ ((d.kind ∷ u64_bytes d.node) ++ (u64_bytes d.offset ++ (u16_bytes d.flags
-    ++ (u64_bytes d.base ++ u64_bytes d.inheriting))))
+    u32_bytes d.number ++ ((d.target_type ∷ u64_bytes d.node)
+    ++ (u64_bytes d.offset ++ (u16_bytes d.flags ++ (u64_bytes d.base ++ u64_bytes d.inheriting))))
 
 -- within the fields
 pub record IsRawIn (d : ReadDescriptor) : Type 0 where
   pub number : IsIn 4 d.number
-  pub kind : IsIn 1 d.kind
+  pub target_type : IsIn 1 d.target_type
   pub node : IsIn 8 d.node
   pub offset : IsIn 8 d.offset
   pub flags : IsIn 2 d.flags
   pub base : IsIn 8 d.base
   pub inheriting : IsIn 8 d.inheriting
 
--- a stream's number, or the kind of a node
-abbrev pub raw_kind : Files → Target → ℕ
-raw_kind fs (Stream s) = s
-raw_kind fs (Node k) = if is_directory fs k then directory_type else regular_file
+-- a stream's number, or the type of a node
+abbrev pub raw_target_type : Files → Target → ℕ
+raw_target_type fs (Stream s) = s
+raw_target_type fs (Node k) = if is_directory fs k then directory_type else regular_file
 
 -- no node, or a node's number
 abbrev pub raw_node : Target → ℕ
@@ -38,7 +38,7 @@ raw_node (Node k) = k
 abbrev pub raw_of : Files → Numbered → ReadDescriptor
 raw_of fs d = record {
   number = d.number;
-  kind = raw_kind fs d.descriptor.target;
+  target_type = raw_target_type fs d.descriptor.target;
   node = raw_node d.descriptor.target;
   offset = d.descriptor.offset;
   flags = d.descriptor.flags;

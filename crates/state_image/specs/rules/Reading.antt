@@ -1,8 +1,8 @@
 -- What readers of an image's fields give (this project's own): the field whose bytes are in front.
 use Rattle.std.specs.Prelude.{◌≡◌, ◌≢◌, ℕ, List, ◌++◌, Option, Some, None}
-use Rattle.state_image.specs.rules.Image.{Saved}
+use Rattle.state_image.specs.rules.ProcessImage.{Saved}
 
--- This field is in range, its bytes are in front, and those behind it are left.
+-- This field is in range, its bytes are in front, and those after it are left.
 pub record HasField {X : Type 0} (bytes : X → List ℕ) (InRange : X → Type 0) (x : X)
     (old new : List ℕ) : Type 0 where
   pub in_range : InRange x

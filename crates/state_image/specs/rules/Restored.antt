@@ -6,7 +6,7 @@ use Rattle.wasm_semantics.specs.Validity.{AreFunctionTypes, module_context}
 use Rattle.wasi_abi.specs.rules.Configs.{Settings}
 use Rattle.process_rules.specs.Processes.{ProcessState, Guest, IsStart}
 use Rattle.process.specs.rules.Values.{ProcessValue, ShowsProcess, waiting_in}
-use Rattle.state_image.specs.rules.Image.{Saved, SavedShowsProcess, image}
+use Rattle.state_image.specs.rules.ProcessImage.{Saved, SavedShowsProcess, process_image}
 use Rattle.state_image.specs.rules.Saving.{saved_of}
 use Rattle.state_image.specs.rules.WellTyped.{IsConfigured, IsWellTyped}
 
@@ -26,7 +26,7 @@ pub record SavedShowsIn (m : Module) (config : Settings) (s : Saved) (guest : Gu
 pub record IsRestored (m : Module) (config : Settings) (bytes : List ℕ) (v : ProcessValue) :
     Type 0 where
   pub guest : v.machine.guest ≡ m
-  pub is : bytes ≡ image (saved_of v)
+  pub is : bytes ≡ process_image (saved_of v)
   pub well_typed : IsWellTyped m config (saved_of v)
   pub none_waits : waiting_in v ≡ []
   pub shows : (guest : Guest) (p : ProcessState) → SavedShowsIn m config (saved_of v) guest p

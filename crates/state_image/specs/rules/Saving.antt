@@ -1,6 +1,6 @@
 -- The process that an image is of, as the code keeps it (this project's own).
 use Rattle.process.specs.rules.Values.{ProcessValue, lines_in}
-use Rattle.state_image.specs.rules.Image.{Saved}
+use Rattle.state_image.specs.rules.ProcessImage.{Saved}
 
 -- All of it but the lines that wait, of which the image keeps only the number.
 abbrev pub saved_of : ProcessValue → Saved

@@ -21,22 +21,22 @@ TakesPieces {S} takes before (piece ∷ pieces) after =
 -- nothing was pushed after it.
 abbrev pub StopsWith : {S F : Type 0} → TakingPieces S F → S → List ℕ → Result (Unit {0}) F → S
     → Type 0
-StopsWith takes between left (Ok done) after = (left ≡ []) × (after ≡ between)
-StopsWith takes between left (Err fault) after =
-    (piece : List ℕ) × (behind : List ℕ) × (left ≡ piece ++ behind)
+StopsWith takes between bytes_left (Ok done) after = (bytes_left ≡ []) × (after ≡ between)
+StopsWith takes between bytes_left (Err fault) after =
+    (piece : List ℕ) × (behind : List ℕ) × (bytes_left ≡ piece ++ behind)
     × takes between piece (Err fault) after
 
 -- These bytes were pushed, in some pieces, up to the first one that was refused.
 pub record Pushes {S F : Type 0} (takes : TakingPieces S F) (before : S) (bytes : List ℕ)
     (said : Result (Unit {0}) F) (after : S) : Type 0 where
   pub taken : List (List ℕ)
-  pub left : List ℕ
-  pub is : bytes ≡ joined taken ++ left
+  pub bytes_left : List ℕ
+  pub is : bytes ≡ joined taken ++ bytes_left
   pub between : S
   pub all : TakesPieces takes before taken between
-  pub stops : StopsWith takes between left said after
+  pub stops : StopsWith takes between bytes_left said after
 
--- what a sink of bytes has taken: these behind the others, or after a refusal what it had
+-- what a sink of bytes has taken: these after the others, or after a refusal what it had
 abbrev pub KeepsBytes : {F : Type 0} → List ℕ → List ℕ → Result (Unit {0}) F → List ℕ → Type 0
 KeepsBytes old piece (Ok done) new = new ≡ old ++ piece
 KeepsBytes old piece (Err fault) new = new ≡ old

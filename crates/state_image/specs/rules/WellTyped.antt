@@ -8,13 +8,13 @@ use Rattle.wasm_syntax.specs.declared.module.Module.{Module}
 use Rattle.wasm_semantics.specs.Validity.{AreFunctionTypes, module_context, IsValid}
 use Rattle.wasi_abi.specs.rules.Configs.{Settings}
 use Rattle.wasi_abi.specs.rules.Versions.{text_limit, widenings}
-use Rattle.wasi_calls_rules.specs.Hosts.{Host, IsHost}
+use Rattle.wasi_calls_rules.specs.WasiStates.{WasiState, IsWasiState}
 use Rattle.process_rules.specs.Processes.{Ending, ProcessState, Guest, host_of, IsStart}
 use Rattle.process_rules.specs.Processes.{HasLineNumbers}
 use Rattle.wasm_syntax.specs.declared.limits.TheConstants.{FUNCTIONS, INSTRUCTIONS, GLOBALS}
 use Rattle.machine_slots.specs.declared.slots.TheConstants.{SLOTS}
 use Rattle.machine_slots.specs.rules.Places.{ShownFrame}
-use Rattle.state_image.specs.rules.Image.{Saved, SavedShowsProcess, ending_code}
+use Rattle.state_image.specs.rules.ProcessImage.{Saved, SavedShowsProcess, ending_code}
 
 -- what a module begins with: its start function, if it has one, and `_start`
 pub record EntryPoints : Type 0 where
@@ -41,7 +41,7 @@ IsAlive (Some why) s = (s.machine.frames ≡ []) × (s.machine.later ≡ []) × 
     × (s.second ≡ [])
 
 -- what no call changes is as the configuration has it
-pub record IsConfigured (config : Settings) (h : Host) : Type 0 where
+pub record IsConfigured (config : Settings) (h : WasiState) : Type 0 where
   pub room : h.room ≡ (host_of config).room
   pub arguments : h.arguments ≡ config.arguments
   pub environment : h.environment ≡ config.environment
@@ -76,7 +76,7 @@ pub record IsWellTyped (m : Module) (config : Settings) (s : Saved) : Type 0 whe
   pub process : ProcessState
   pub shown : SavedShowsProcess (module_context m functions) guest.program
       begins.begins.store.table s process
-  pub host : IsHost process.host
+  pub host : IsWasiState process.host
   pub configured : IsConfigured config process.host
   pub outermost : IsOutermost (record { start = m.start; entry = begins.entry })
       s.machine.later s.machine.frames

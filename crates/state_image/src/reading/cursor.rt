@@ -5,7 +5,7 @@ ghost use Rattle.std.specs.List.{AllByRecursion};
 ghost use Rattle.std.specs.Option.{option_map};
 ghost use Rattle.guest_memory.specs.rules.Bytes.{IsByte};
 ghost use Rattle.wasi_abi.specs.rules.Layouts.{u16_bytes, u32_bytes, u64_bytes};
-ghost use Rattle.state_image.specs.rules.Image.{flag_of, text_bytes};
+ghost use Rattle.state_image.specs.rules.ProcessImage.{flag_of, text_bytes};
 ghost use Rattle.state_image.specs.rules.Ranges.{IsIn, IsShort};
 ghost use Rattle.state_image.specs.rules.Reading.{ReadsField};
 
@@ -14,14 +14,14 @@ use guest_memory::laws::are_bytes;
 use std::marker::Model;
 
 /// The bytes that are left, which is what contracts see. Each method gives the field whose bytes
-/// are in front, and leaves those behind it. Where there is no such field, it gives nothing. Then
-/// an end of the bytes is left, and nothing further is to be read.
+/// are in front, and leaves those after it. Where there is no such field, it gives nothing. Then an
+/// end of the bytes is left, and nothing further is to be read.
 #[derive(Drop)]
-pub struct ImageReader<'a> {
+pub struct ProcessImageReader<'a> {
     rest: &'a [u8],
 }
 
-impl<'a> Model for ImageReader<'a> {
+impl<'a> Model for ProcessImageReader<'a> {
     ghost use Rattle.std.specs.Prelude.{ℕ, List};
 
     ghost Value = { List ℕ };
@@ -29,11 +29,11 @@ impl<'a> Model for ImageReader<'a> {
     ghost view = { λ r. r.rest.now };
 }
 
-impl<'a> ImageReader<'a> {
+impl<'a> ProcessImageReader<'a> {
     pub fn new(bytes: &'a [u8]) -> Self
         ensures { result ≡ bytes.now }
     {
-        ImageReader { rest: bytes }
+        ProcessImageReader { rest: bytes }
     }
 
     pub fn is_empty(&self) -> bool
@@ -95,7 +95,7 @@ impl<'a> ImageReader<'a> {
         Some(u64_in(bytes))
     }
 
-    /// How many items stand behind, in 32 bits.
+    /// How many items are after, in 32 bits.
     pub fn count(&mut self) -> Option<u32>
         ensures { ReadsField u32_bytes (IsIn 4) result self.old self.new }
     {

@@ -1,12 +1,12 @@
 //! The machine of a process.
 
 ghost use Rattle.std.specs.Option.{option_map};
-ghost use Rattle.state_image.specs.rules.Image.{place_bytes, memory_bytes};
+ghost use Rattle.state_image.specs.rules.ProcessImage.{place_bytes, memory_bytes};
 ghost use Rattle.state_image.specs.rules.Ranges.{IsPlaceIn, IsWhole};
 ghost use Rattle.state_image.specs.rules.LentFrames.{frame_of};
 ghost use Rattle.state_image.specs.rules.Reading.{ReadsField};
 
-use crate::reading::cursor::ImageReader;
+use crate::reading::cursor::ProcessImageReader;
 use crate::reading::words::{Words, read_words};
 use guest_memory::PAGE_SIZE;
 
@@ -18,7 +18,7 @@ pub struct ReadFrame<'a> {
     pub slots: Words<'a>,
 }
 
-pub fn read_frame<'a>(reader: &mut ImageReader<'a>) -> Option<ReadFrame<'a>>
+pub fn read_frame<'a>(reader: &mut ProcessImageReader<'a>) -> Option<ReadFrame<'a>>
     ensures { ReadsField place_bytes IsPlaceIn (option_map frame_of result) reader.old reader.new }
 {
     let function = reader.u32()?;
@@ -32,7 +32,7 @@ pub fn read_frame<'a>(reader: &mut ImageReader<'a>) -> Option<ReadFrame<'a>>
 }
 
 /// How many pages there are, and their bytes.
-pub fn read_memory<'a>(reader: &mut ImageReader<'a>) -> Option<&'a [u8]>
+pub fn read_memory<'a>(reader: &mut ProcessImageReader<'a>) -> Option<&'a [u8]>
     ensures { ReadsField memory_bytes IsWhole (option_map (λ memory. memory.now) result)
         reader.old reader.new }
 {

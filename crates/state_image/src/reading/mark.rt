@@ -1,27 +1,27 @@
 //! The mark of an image.
 
 ghost use Rattle.std.specs.Prelude.{◌≡◌, ◌↔◌, IsTrue};
-ghost use Rattle.state_image.specs.rules.Image.{image_mark, IsMarkedOtherwise};
+ghost use Rattle.state_image.specs.rules.ProcessImage.{process_image_mark, IsMarkedOtherwise};
 ghost use Rattle.state_image.specs.rules.Reading.{ReadsField};
 ghost use Rattle.state_image.specs.laws.Marks.{IsVersionOf};
 
-use crate::reading::cursor::ImageReader;
-use crate::writing::{MARK_BYTES, image_mark};
+use crate::reading::cursor::ProcessImageReader;
+use crate::writing::{MARK_BYTES, process_image_mark};
 use wasi_abi::Version;
 
 /// The version of which an image begins with the mark.
-pub fn read_mark(reader: &mut ImageReader) -> Option<Version>
-    ensures { ReadsField image_mark (λ version. Unit {0}) result reader.old reader.new }
+pub fn read_mark(reader: &mut ProcessImageReader) -> Option<Version>
+    ensures { ReadsField process_image_mark (λ version. Unit {0}) result reader.old reader.new }
 {
     let mark = reader.bytes(MARK_BYTES)?;
     version_of(mark)
 }
 
 /// Whether an image begins with the mark of another version than this one.
-pub fn is_marked_otherwise(version: Version, image: &[u8]) -> bool
-    ensures { IsTrue result ↔ IsMarkedOtherwise version image.now }
+pub fn is_marked_otherwise(version: Version, process_image: &[u8]) -> bool
+    ensures { IsTrue result ↔ IsMarkedOtherwise version process_image.now }
 {
-    let mut reader = ImageReader::new(image);
+    let mut reader = ProcessImageReader::new(process_image);
     match read_mark(&mut reader) {
         Some(marked) => marked != version,
         None => false,
@@ -43,7 +43,7 @@ fn version_of(mark: &[u8]) -> Option<Version>
 
 /// Whether these bytes are the mark of this version.
 fn is_mark_of(version: Version, mark: &[u8]) -> bool
-    ensures { IsTrue result ↔ (mark.now ≡ image_mark version) }
+    ensures { IsTrue result ↔ (mark.now ≡ process_image_mark version) }
 {
-    mark == image_mark(version).as_slice()
+    mark == process_image_mark(version).as_slice()
 }

@@ -8,7 +8,7 @@ mod mark;
 mod progress;
 mod words;
 
-pub use cursor::ImageReader;
+pub use cursor::ProcessImageReader;
 pub use descriptors::{ReadDescriptor, read_descriptor};
 pub use files::{ReadContent, ReadEntry, ReadNode, read_entry, read_node};
 pub use machine_state::{ReadFrame, read_frame, read_memory};

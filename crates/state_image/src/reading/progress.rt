@@ -1,13 +1,13 @@
 //! How far a process has come, how it ended, and its streams.
 
 ghost use Rattle.std.specs.Option.{option_map};
-ghost use Rattle.state_image.specs.rules.Image.{counts_bytes, phase_bytes, streams_bytes};
+ghost use Rattle.state_image.specs.rules.ProcessImage.{counts_bytes, phase_bytes, streams_bytes};
 ghost use Rattle.state_image.specs.rules.Ranges.{FitsCounts, FitsCode, FitsStreams};
 ghost use Rattle.state_image.specs.rules.Parts.{counts_of, read_end_of, streams_of, texts_of};
 ghost use Rattle.state_image.specs.rules.Reading.{ReadsPart};
 ghost use Rattle.state_image.specs.laws.Phases.{IsTrapFrom, IsPhaseFrom};
 
-use crate::reading::cursor::ImageReader;
+use crate::reading::cursor::ProcessImageReader;
 use crate::writing::{EXITED, RUNNING, STARTING, TRAPPED};
 use wasm_syntax::Trap;
 
@@ -37,7 +37,7 @@ pub struct ReadEnd {
     pub input_ended: bool,
 }
 
-/// The unread bytes, and the unfinished lines of streams 1 and 2.
+/// The unread bytes, and the unfinished lines of stdout and stderr.
 #[derive(Clone, Copy, Debug)]
 pub struct ReadStreams<'a> {
     pub unread: &'a [u8],
@@ -45,7 +45,7 @@ pub struct ReadStreams<'a> {
     pub second: &'a [u8],
 }
 
-pub fn read_counts(reader: &mut ImageReader) -> Option<ReadCounts>
+pub fn read_counts(reader: &mut ProcessImageReader) -> Option<ReadCounts>
     ensures { ReadsPart counts_of counts_bytes FitsCounts result reader.old reader.new }
 {
     let steps = reader.u64()?;
@@ -63,7 +63,7 @@ pub fn read_counts(reader: &mut ImageReader) -> Option<ReadCounts>
 }
 
 /// The phase with its code, and whether input has ended. A phase with no code has the code 0.
-pub fn read_end(reader: &mut ImageReader) -> Option<ReadEnd>
+pub fn read_end(reader: &mut ProcessImageReader) -> Option<ReadEnd>
     ensures { ReadsPart read_end_of phase_bytes FitsCode result reader.old reader.new }
 {
     let number = reader.u8()?;
@@ -102,7 +102,7 @@ fn trap_from(number: u32) -> Option<Trap>
     }
 }
 
-pub fn read_streams<'a>(reader: &mut ImageReader<'a>) -> Option<ReadStreams<'a>>
+pub fn read_streams<'a>(reader: &mut ProcessImageReader<'a>) -> Option<ReadStreams<'a>>
     ensures { ReadsPart streams_of streams_bytes FitsStreams (option_map texts_of result)
         reader.old reader.new }
 {

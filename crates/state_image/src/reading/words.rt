@@ -3,11 +3,11 @@
 ghost use Rattle.std.specs.Prelude.{◌≡◌, ◌*◌, ◌∷◌, [], length, MatchOption};
 ghost use Rattle.std.specs.List.{flat_map};
 ghost use Rattle.wasi_abi.specs.rules.Layouts.{u64_bytes};
-ghost use Rattle.state_image.specs.rules.Image.{items_bytes};
+ghost use Rattle.state_image.specs.rules.ProcessImage.{items_bytes};
 ghost use Rattle.state_image.specs.rules.Ranges.{AreWords};
 ghost use Rattle.state_image.specs.rules.Reading.{ReadsField};
 
-use crate::reading::cursor::ImageReader;
+use crate::reading::cursor::ProcessImageReader;
 use byteorder::{ByteOrder, LittleEndian};
 use std::marker::Model;
 
@@ -52,7 +52,7 @@ impl<'a> Words<'a> {
 }
 
 /// How many words there are, and the words.
-pub fn read_words<'a>(reader: &mut ImageReader<'a>) -> Option<Words<'a>>
+pub fn read_words<'a>(reader: &mut ProcessImageReader<'a>) -> Option<Words<'a>>
     ensures { ReadsField (items_bytes u64_bytes) AreWords result reader.old reader.new }
 {
     let count = reader.count()?;

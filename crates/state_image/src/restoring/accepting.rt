@@ -8,7 +8,7 @@ ghost use Rattle.wasi_abi.specs.rules.Versions.{text_limit};
 ghost use Rattle.machine.specs.rules.LentFrames.{lent_frame};
 ghost use Rattle.machine.specs.rules.Loading.{ShowsSome};
 ghost use Rattle.process.specs.rules.Values.{ending_of};
-ghost use Rattle.state_image.specs.rules.Image.{ending_code};
+ghost use Rattle.state_image.specs.rules.ProcessImage.{ending_code};
 ghost use Rattle.state_image.specs.rules.Saving.{saved_of};
 ghost use Rattle.state_image.specs.rules.WellTyped.{IsOutermost, IsCalled, IsAlive};
 ghost use Rattle.state_image.specs.rules.WellTyped.{IsWithinBounds, IsPlaceWithin};

@@ -6,18 +6,19 @@ ghost use Rattle.file_tree.specs.declared.limits.TheConstants.{NODES};
 ghost use Rattle.file_tree.specs.rules.Files.{Directory, File, IsSmallContent, created_removed};
 ghost use Rattle.file_tree.specs.rules.Files.{fresh};
 ghost use Rattle.state_image.specs.declared.restoring.fault.RestoreFault.TheVariants as fault;
-ghost use Rattle.state_image.specs.restoring.Told.{lent_held, lent_whole, told_content, CanCreate};
-ghost use Rattle.state_image.specs.restoring.Told.{BeginsWithRoot, IsMadeOf, RefusesTold};
+ghost use Rattle.state_image.specs.restoring.SavedNodes.{lent_held, lent_whole, saved_content};
+ghost use Rattle.state_image.specs.restoring.SavedNodes.{CanCreate};
+ghost use Rattle.state_image.specs.restoring.SavedNodes.{BeginsWithRoot, IsMadeOf, RefusesSaved};
 
 use crate::restoring::fault::RestoreFault;
 use crate::restoring::whole_node::{WholeContent, WholeNode};
 use file_tree::limits::{FILE_BYTES, NODES};
-use file_tree::{NodeKind, Tree};
+use file_tree::{NodeType, Tree};
 use guest_memory::laws::are_bytes;
 use std::alloc::{AllocError, Global};
 use wasi_calls::ROOT;
 
-/// Makes the nodes behind the root of a fresh tree.
+/// Makes the nodes after the root of a fresh tree.
 pub(crate) fn create_nodes(
     alloc: Global,
     tree: &mut Tree,
@@ -25,7 +26,7 @@ pub(crate) fn create_nodes(
 ) -> Result<(), RestoreFault>
     requires { tree.old ≡ fresh }
     ensures made { OnOk result (IsMadeOf (map lent_whole nodes.now) tree.new) }
-    ensures refused { (next : ℕ) → RefusesTold result next (map lent_whole nodes.now) }
+    ensures refused { (next : ℕ) → RefusesSaved result next (map lent_whole nodes.now) }
 {
     if !begins_with_root(nodes) {
         return Err(RestoreFault::NotAnImage);
@@ -53,7 +54,7 @@ fn is_root(node: &WholeNode) -> bool
 }
 
 fn is_directory(content: &WholeContent) -> bool
-    ensures { IsTrue result ↔ (told_content (lent_held content.now) ≡ Directory) }
+    ensures { IsTrue result ↔ (saved_content (lent_held content.now) ≡ Directory) }
 {
     match content {
         WholeContent::Directory(_) => true,
@@ -61,11 +62,11 @@ fn is_directory(content: &WholeContent) -> bool
     }
 }
 
-/// Makes a node behind the others, without a path.
+/// Makes a node after the others, without a path.
 fn create_node(alloc: Global, tree: &mut Tree, node: &WholeNode) -> Result<(), RestoreFault>
     ensures can { OnOk result (CanCreate tree.old (lent_whole node.now)) }
     ensures created { OnOk result (tree.new ≡ created_removed (lent_whole node.now).number
-        (told_content (lent_whole node.now).held) tree.old) }
+        (saved_content (lent_whole node.now).held) tree.old) }
     ensures refused { result ≡ Err fault.NotAnImage
         → ¬ CanCreate tree.old (lent_whole node.now) }
 {
@@ -74,14 +75,14 @@ fn create_node(alloc: Global, tree: &mut Tree, node: &WholeNode) -> Result<(), R
     }
     match &node.content {
         WholeContent::Directory(_) => {
-            tree.create_removed(alloc, node.number, NodeKind::Directory)?;
+            tree.create_removed(alloc, node.number, NodeType::Directory)?;
         }
         WholeContent::File(bytes) => create_file(alloc, tree, node.number, bytes)?,
     }
     Ok(())
 }
 
-/// Whether a node can be made behind the others.
+/// Whether a node can be made after the others.
 fn can_create(tree: &Tree, node: &WholeNode) -> bool
     ensures { IsTrue result ↔ CanCreate tree.now (lent_whole node.now) }
 {
@@ -93,7 +94,7 @@ fn can_create(tree: &Tree, node: &WholeNode) -> bool
 
 /// Whether a node may hold so much.
 fn is_small(content: &WholeContent) -> bool
-    ensures { IsTrue result ↔ IsSmallContent (told_content (lent_held content.now)) }
+    ensures { IsTrue result ↔ IsSmallContent (saved_content (lent_held content.now)) }
 {
     match content {
         WholeContent::Directory(_) => true,
@@ -117,7 +118,7 @@ fn create_file(alloc: Global, tree: &mut Tree, number: u64, bytes: &[u8]) -> Res
     ensures { OnOk result (tree.new ≡ created_removed number (File bytes.now) tree.old) }
 {
     let _nodes = tree.len();
-    tree.create_removed(alloc, number, NodeKind::File)?;
+    tree.create_removed(alloc, number, NodeType::File)?;
     tree.resize(number, bytes.len() as u64)?;
     tree.write(number, 0, bytes);
     Ok(())

@@ -3,15 +3,15 @@
 ghost use Rattle.std.specs.Prelude.{◌≡◌, ◌≢◌, ◌↔◌, ◌<◌, ◌≤◌, ◌++◌, ◌∷◌, [], ℕ, List};
 ghost use Rattle.std.specs.Prelude.{IsTrue, IfOk, OnOk, length, Option, Some, Err};
 ghost use Rattle.std.specs.List.{flat_map};
-ghost use Rattle.wasi_calls_rules.specs.Hosts.{Descriptor as Opened};
+ghost use Rattle.wasi_calls_rules.specs.WasiStates.{Descriptor as Opened};
 ghost use Rattle.state_image.specs.declared.restoring.fault.RestoreFault.TheVariants as fault;
-ghost use Rattle.state_image.specs.rules.Image.{Numbered, items_bytes, open_from};
-ghost use Rattle.state_image.specs.rules.Image.{descriptor_bytes};
+ghost use Rattle.state_image.specs.rules.ProcessImage.{Numbered, items_bytes, open_from};
+ghost use Rattle.state_image.specs.rules.ProcessImage.{descriptor_bytes};
 ghost use Rattle.state_image.specs.restoring.Descriptors.{AreRestorable, AreOpened};
-ghost use Rattle.state_image.specs.restoring.Descriptors.{CanStandBehind, IsReadBehind};
+ghost use Rattle.state_image.specs.restoring.Descriptors.{CanComeBehind, IsReadBehind};
 ghost use Rattle.state_image.specs.restoring.Descriptors.{closed_up_to};
 
-use crate::reading::{ImageReader, read_descriptor};
+use crate::reading::{ProcessImageReader, read_descriptor};
 use crate::restoring::fault::RestoreFault;
 use crate::restoring::opened::descriptor_of;
 use file_tree::Tree;
@@ -19,12 +19,12 @@ use std::alloc::{AllocError, Global};
 use wasi_calls::Descriptor;
 use wasi_calls_rules::limits::DESCRIPTORS;
 
-/// What is open under each number, by the descriptors that stand next in an image. It reads each
-/// byte once, and takes no more memory than that of all places.
+/// What is open under each number, by the descriptors that are next in an image. It reads each byte
+/// once, and takes no more memory than that of all places.
 pub(crate) fn restore_descriptors(
     alloc: Global,
     tree: &Tree,
-    reader: &mut ImageReader,
+    reader: &mut ProcessImageReader,
 ) -> Result<Vec<Option<Descriptor>>, RestoreFault>
     ensures made { IfOk result (λ v. reader.old
         ≡ items_bytes (descriptor_bytes tree.now) (open_from 0 v.items) ++ reader.new) }
@@ -46,7 +46,7 @@ pub(crate) fn restore_descriptors(
 fn open_descriptors(
     tree: &Tree,
     count: u32,
-    reader: &mut ImageReader,
+    reader: &mut ProcessImageReader,
     descriptors: &mut Vec<Option<Descriptor>>,
 ) -> Result<(), RestoreFault>
     requires { descriptors.old.items ≡ [] }
@@ -62,16 +62,16 @@ fn open_descriptors(
     Ok(())
 }
 
-/// Opens a descriptor under its number, which stands behind those of the others.
+/// Opens a descriptor under its number, which is after those of the others.
 fn open_descriptor(
     tree: &Tree,
-    reader: &mut ImageReader,
+    reader: &mut ProcessImageReader,
     descriptors: &mut Vec<Option<Descriptor>>,
 ) -> Result<(), RestoreFault>
     ensures made { OnOk result (IsReadBehind tree.now descriptors.old.items descriptors.new.items
         reader.old reader.new) }
     ensures refused { result ≡ Err fault.NotAnImage → (d : Numbered) (rest : List ℕ)
-        → CanStandBehind descriptors.old.items d
+        → CanComeBehind descriptors.old.items d
         → reader.old ≢ descriptor_bytes tree.now d ++ rest }
 {
     let Some(read) = read_descriptor(reader) else {
@@ -88,14 +88,14 @@ fn open_descriptor(
     Ok(())
 }
 
-/// Whether a number is behind those of a list, and one of a place.
+/// Whether a number is after those of a list, and one of a place.
 fn is_next(descriptors: &[Option<Descriptor>], number: usize) -> bool
     ensures { IsTrue result ↔ ((length descriptors.now ≤ number) × (number < DESCRIPTORS)) }
 {
     descriptors.len() <= number && number < DESCRIPTORS
 }
 
-/// Opens a descriptor under a number that is behind those of a list.
+/// Opens a descriptor under a number that is after those of a list.
 fn open_under(
     descriptors: &mut Vec<Option<Descriptor>>,
     number: usize,

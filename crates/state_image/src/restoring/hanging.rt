@@ -8,9 +8,9 @@ ghost use Rattle.file_tree.specs.rules.Changes.{path_at};
 ghost use Rattle.file_tree.specs.rules.Listings.{number_after};
 ghost use Rattle.state_image.specs.rules.Fronts.{lent_entry};
 ghost use Rattle.state_image.specs.declared.restoring.fault.RestoreFault.TheVariants as fault;
-ghost use Rattle.state_image.specs.restoring.Told.{lent_held, lent_whole, told_entries};
-ghost use Rattle.state_image.specs.restoring.Told.{listed_node};
-ghost use Rattle.state_image.specs.restoring.Told.{CanTake, RefusesTold};
+ghost use Rattle.state_image.specs.restoring.SavedNodes.{lent_held, lent_whole, saved_entries};
+ghost use Rattle.state_image.specs.restoring.SavedNodes.{listed_node};
+ghost use Rattle.state_image.specs.restoring.SavedNodes.{CanTake, RefusesSaved};
 ghost use Rattle.state_image.specs.restoring.Hanging.{directory_alone, HangsUpTo, IsHung};
 
 use crate::reading::ReadEntry;
@@ -29,7 +29,7 @@ pub(crate) fn hang_all(
     requires { HangsUpTo (map lent_whole nodes.now) tree.old (1 ∷ []) 0 0 }
     ensures hung { OnOk result (IsHung (map lent_whole nodes.now) tree.new) }
     ensures next { OnOk result (tree.new.next ≡ tree.old.next) }
-    ensures refused { (next : ℕ) → RefusesTold result next (map lent_whole nodes.now) }
+    ensures refused { (next : ℕ) → RefusesSaved result next (map lent_whole nodes.now) }
 {
     let mut waiting = root_alone(alloc)?;
     let mut done = 0;
@@ -50,7 +50,7 @@ fn root_alone(alloc: Global) -> Result<Vec<u64>, AllocError>
 }
 
 /// Hangs the entries that are told of the directory at a place of those that wait. Directories
-/// among them are put behind these.
+/// among them are put after these.
 fn hang_entries(
     alloc: Global,
     tree: &mut Tree,
@@ -63,7 +63,7 @@ fn hang_entries(
     ensures hung { OnOk result
         (HangsUpTo (map lent_whole nodes.now) tree.new waiting.new.items (place + 1) 0) }
     ensures next { OnOk result (tree.new.next ≡ tree.old.next) }
-    ensures refused { (next : ℕ) → RefusesTold result next (map lent_whole nodes.now) }
+    ensures refused { (next : ℕ) → RefusesSaved result next (map lent_whole nodes.now) }
 {
     let directory = waiting[place];
     for entry in listed_node(nodes, directory) {
@@ -87,7 +87,7 @@ fn listed_node<'a, 'b>(nodes: &'a [WholeNode<'b>], number: u64) -> &'a [ReadEntr
 
 /// The entries that are told of a node.
 pub(crate) fn entries_of<'a, 'b>(content: &'a WholeContent<'b>) -> &'a [ReadEntry<'b>]
-    ensures { map lent_entry result.now ≡ told_entries (lent_held content.now) }
+    ensures { map lent_entry result.now ≡ saved_entries (lent_held content.now) }
 {
     match content {
         WholeContent::Directory(entries) => entries.as_slice(),
@@ -95,7 +95,7 @@ pub(crate) fn entries_of<'a, 'b>(content: &'a WholeContent<'b>) -> &'a [ReadEntr
     }
 }
 
-/// Hangs a node under the name of an entry, behind all that hang in the directory.
+/// Hangs a node under the name of an entry, after all that hang in the directory.
 fn hang_entry(
     alloc: Global,
     tree: &mut Tree,
@@ -119,7 +119,7 @@ fn hang_entry(
     Ok(())
 }
 
-/// Puts a number behind those of directories that wait, if it is one's.
+/// Puts a number after those of directories that wait, if it is one's.
 fn note_directory(tree: &Tree, number: u64, waiting: &mut Vec<u64>) -> Result<(), AllocError>
     ensures { OnOk result (waiting.new.items
         ≡ waiting.old.items ++ directory_alone (is_directory tree.now number) number) }
@@ -138,7 +138,7 @@ fn is_loose(tree: &Tree, number: u64) -> bool
     tree.has_node(number) && !tree.has_path(number)
 }
 
-/// Whether a name is free in a directory, and stands behind all that are there.
+/// Whether a name is free in a directory, and is after all that are there.
 fn is_last_name(tree: &Tree, directory: u64, name: &[u8]) -> bool
     ensures { IsTrue result ↔ ((child tree.now directory name.now ≡ None)
         × (number_after tree.now directory name.now ≡ None)) }
@@ -146,7 +146,7 @@ fn is_last_name(tree: &Tree, directory: u64, name: &[u8]) -> bool
     tree.child(directory, name).is_none() && tree.entry_after(directory, name).is_none()
 }
 
-/// Whether a node can be hung in a directory as an entry that stands behind all that are there.
+/// Whether a node can be hung in a directory as an entry that is after all that are there.
 fn can_take(tree: &Tree, directory: u64, entry: &ReadEntry) -> bool
     ensures { IsTrue result ↔ CanTake tree.now directory (lent_entry entry.now) }
 {

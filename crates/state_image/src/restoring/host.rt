@@ -2,13 +2,14 @@
 
 ghost use Rattle.std.specs.Prelude.{◌≡◌, ◌≢◌, ◌<◌, ◌^◌, ◌++◌, ℕ, List, IfOk, Err};
 ghost use Rattle.file_tree.specs.rules.Files.{IsFiles};
-ghost use Rattle.wasi_calls_rules.specs.Hosts.{Host as TheHost, IsHost};
+ghost use Rattle.wasi_calls_rules.specs.WasiStates.{WasiState as TheWasiState, IsWasiState};
 ghost use Rattle.state_image.specs.declared.restoring.fault.RestoreFault.TheVariants as fault;
-ghost use Rattle.state_image.specs.restoring.ToldHosts.{IsRestoredHost, IsToldHost, host_bytes};
-ghost use Rattle.state_image.specs.restoring.ToldHosts.{AreReadParts};
-ghost use Rattle.state_image.specs.restoring.ToldHosts.{fault_of_parts};
+ghost use Rattle.state_image.specs.restoring.SavedHosts.{IsRestoredWasiState, IsSavedHost};
+ghost use Rattle.state_image.specs.restoring.SavedHosts.{host_bytes};
+ghost use Rattle.state_image.specs.restoring.SavedHosts.{AreReadParts};
+ghost use Rattle.state_image.specs.restoring.SavedHosts.{fault_of_parts};
 
-use crate::reading::ImageReader;
+use crate::reading::ProcessImageReader;
 use crate::restoring::descriptors::restore_descriptors;
 use crate::restoring::fault::RestoreFault;
 use crate::restoring::files::restore_files;
@@ -16,41 +17,41 @@ use crate::restoring::progress::Progress;
 use file_tree::Tree;
 use std::alloc::Global;
 use wasi_abi::Config;
-use wasi_calls::{Host, HostParts, PartsFault};
+use wasi_calls::{PartsFault, WasiState, WasiStateParts};
 
-/// The host of this configuration of which this was told, and whose files and descriptors stand
+/// The host of this configuration of which this was told, and whose files and descriptors are
 /// next in an image. It reads each byte once. No line waits.
 pub fn restore_host(
     alloc: Global,
     config: Config,
     progress: Progress,
-    reader: &mut ImageReader,
-) -> Result<Host, RestoreFault>
-    ensures made { IfOk result (λ held. IsRestoredHost config progress.entry held reader.old
+    reader: &mut ProcessImageReader,
+) -> Result<WasiState, RestoreFault>
+    ensures made { IfOk result (λ held. IsRestoredWasiState config progress.entry held reader.old
         reader.new) }
-    ensures refused { result ≡ Err fault.NotAnImage → (h : TheHost) (rest : List ℕ) → IsHost h
-        → h.files.next < 2 ^ 64 → IsToldHost config progress.entry h
+    ensures refused { result ≡ Err fault.NotAnImage → (h : TheWasiState) (rest : List ℕ)
+        → IsWasiState h → h.files.next < 2 ^ 64 → IsSavedHost config progress.entry h
         → reader.old ≢ host_bytes h ++ rest }
 {
     let parts = read_parts(alloc, progress, reader)?;
-    Ok(Host::from_parts(alloc, config, progress.version, parts)?)
+    Ok(WasiState::from_parts(alloc, config, progress.version, parts)?)
 }
 
-/// The parts of a host of which this was told, and whose files and descriptors stand next in an
+/// The parts of a host of which this was told, and whose files and descriptors are next in an
 /// image.
 fn read_parts(
     alloc: Global,
     progress: Progress,
-    reader: &mut ImageReader,
-) -> Result<HostParts, RestoreFault>
+    reader: &mut ProcessImageReader,
+) -> Result<WasiStateParts, RestoreFault>
     ensures made { IfOk result (λ p. AreReadParts progress.entry p reader.old reader.new) }
-    ensures refused { result ≡ Err fault.NotAnImage → (h : TheHost) (rest : List ℕ) → IsHost h
-        → h.files.next < 2 ^ 64 → reader.old ≢ host_bytes h ++ rest }
+    ensures refused { result ≡ Err fault.NotAnImage → (h : TheWasiState) (rest : List ℕ)
+        → IsWasiState h → h.files.next < 2 ^ 64 → reader.old ≢ host_bytes h ++ rest }
 {
     let tree = restore_files(alloc, reader)?;
     are_within(&tree);
     let descriptors = restore_descriptors(alloc, &tree, reader)?;
-    Ok(HostParts {
+    Ok(WasiStateParts {
         tree,
         descriptors,
         unread: Vec::from_slice(alloc, progress.streams.unread)?,
@@ -77,7 +78,7 @@ impl From<PartsFault> for RestoreFault {
 
     fn from(fault: PartsFault) -> RestoreFault {
         match fault {
-            PartsFault::NoHost => RestoreFault::NotAnImage,
+            PartsFault::NoWasiState => RestoreFault::NotAnImage,
             PartsFault::Memory => RestoreFault::Memory,
         }
     }

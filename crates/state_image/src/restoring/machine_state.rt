@@ -11,7 +11,7 @@ ghost use Rattle.machine_frame.specs.rules.Fitting.{slots_held};
 ghost use Rattle.machine.specs.rules.Loading.{emptied, ShowsSome};
 ghost use Rattle.machine.specs.rules.Values.{MachineValue, HoldsMemory, least_of};
 ghost use Rattle.state_image.specs.declared.restoring.fault.RestoreFault.TheVariants as fault;
-ghost use Rattle.state_image.specs.rules.Image.{items_bytes, place_bytes, memory_bytes};
+ghost use Rattle.state_image.specs.rules.ProcessImage.{items_bytes, place_bytes, memory_bytes};
 ghost use Rattle.state_image.specs.rules.LentFrames.{frame_of};
 ghost use Rattle.state_image.specs.rules.Ranges.{AreFew, AreWords, IsPlaceIn, IsWhole};
 ghost use Rattle.state_image.specs.rules.WellTyped.{slots_in};
@@ -23,7 +23,7 @@ ghost use Rattle.state_image.specs.restoring.Machines.{with_bytes_in, AreSoManyP
 ghost use Rattle.state_image.specs.restoring.Machines.{HaveStackRoom, IsMemoryWithin};
 
 use crate::reading::{
-    ImageReader, ReadFrame, ReadPhase, Words, read_frame, read_memory, read_words,
+    ProcessImageReader, ReadFrame, ReadPhase, Words, read_frame, read_memory, read_words,
 };
 use crate::restoring::fault::RestoreFault;
 use machine::{LoadFault, Loading, Machine};
@@ -40,14 +40,14 @@ impl From<LoadFault> for RestoreFault {
     }
 }
 
-/// The linked machine with the globals, frames and memory that stand next in an image, and in this
+/// The linked machine with the globals, frames and memory that are next in an image, and in this
 /// phase the calls to come. It reads each byte once, and takes no more memory than what was read
 /// wants.
 pub fn restore_machine(
     alloc: Global,
     machine: Machine,
     phase: ReadPhase,
-    reader: &mut ImageReader,
+    reader: &mut ProcessImageReader,
 ) -> Result<Machine, RestoreFault>
     requires holds { HoldsMemory machine }
     requires valid { IsValid machine.guest }
@@ -65,12 +65,12 @@ pub fn restore_machine(
     Ok(restored)
 }
 
-/// Puts the parts that stand next in an image into a machine that has none.
+/// Puts the parts that are next in an image into a machine that has none.
 fn load_parts(
     alloc: Global,
     machine: &mut Loading,
     phase: ReadPhase,
-    reader: &mut ImageReader,
+    reader: &mut ProcessImageReader,
 ) -> Result<(), RestoreFault>
     requires { machine.old ≡ emptied machine.old }
     ensures made { OnOk result
@@ -100,8 +100,8 @@ fn load_calls(machine: &mut Loading, phase: ReadPhase) -> Result<(), RestoreFaul
     }
 }
 
-/// Puts the globals that stand next behind the others.
-fn load_globals(machine: &mut Loading, reader: &mut ImageReader) -> Result<(), RestoreFault>
+/// Puts the globals that are next after the others.
+fn load_globals(machine: &mut Loading, reader: &mut ProcessImageReader) -> Result<(), RestoreFault>
     ensures made { OnOk result (PutsField (items_bytes u64_bytes) AreWords with_globals_behind
         machine.old machine.new reader.old reader.new) }
     ensures refused { RefusesField result (items_bytes u64_bytes) AreWords reader.old }
@@ -112,7 +112,7 @@ fn load_globals(machine: &mut Loading, reader: &mut ImageReader) -> Result<(), R
     push_globals(machine, words)
 }
 
-/// Puts these words behind the globals. Only want of memory makes it fail.
+/// Puts these words after the globals. It fails only when out of memory.
 fn push_globals(machine: &mut Loading, mut words: Words) -> Result<(), RestoreFault>
     ensures pushed { OnOk result (machine.new ≡ with_globals_behind words.entry machine.old) }
     ensures memory { IfErr result (λ e. e ≡ fault.Memory) }
@@ -123,8 +123,8 @@ fn push_globals(machine: &mut Loading, mut words: Words) -> Result<(), RestoreFa
     Ok(())
 }
 
-/// Puts the frames that stand next inside all others.
-fn load_frames(machine: &mut Loading, reader: &mut ImageReader) -> Result<(), RestoreFault>
+/// Puts the frames that are next inside all others.
+fn load_frames(machine: &mut Loading, reader: &mut ProcessImageReader) -> Result<(), RestoreFault>
     ensures made { OnOk result (PutsField (items_bytes place_bytes) (AreFew ShownFrame IsPlaceIn)
         with_frames_inside machine.old machine.new reader.old reader.new) }
     ensures refused { RefusesField result (items_bytes place_bytes)
@@ -141,7 +141,7 @@ fn load_frames(machine: &mut Loading, reader: &mut ImageReader) -> Result<(), Re
 fn load_places(
     machine: &mut Loading,
     count: u32,
-    reader: &mut ImageReader,
+    reader: &mut ProcessImageReader,
 ) -> Result<(), RestoreFault>
     ensures made { OnOk result (PutsField (flat_map place_bytes) (AreSoManyPlaces count)
         with_frames_inside machine.old machine.new reader.old reader.new) }
@@ -155,8 +155,8 @@ fn load_places(
     Ok(())
 }
 
-/// Puts the frame that stands next inside all others.
-fn load_place(machine: &mut Loading, reader: &mut ImageReader) -> Result<(), RestoreFault>
+/// Puts the frame that is next inside all others.
+fn load_place(machine: &mut Loading, reader: &mut ProcessImageReader) -> Result<(), RestoreFault>
     ensures made { OnOk result (PutsField place_bytes IsPlaceIn with_frame_inside
         machine.old machine.new reader.old reader.new) }
     ensures refused { RefusesField result place_bytes
@@ -180,7 +180,7 @@ fn push_place(machine: &mut Loading, frame: ReadFrame) -> Result<(), RestoreFaul
     push_slots(machine, frame.slots)
 }
 
-/// Puts these words behind the slots of the innermost frame.
+/// Puts these words after the slots of the innermost frame.
 fn push_slots(machine: &mut Loading, mut words: Words) -> Result<(), RestoreFault>
     requires { machine.old.state.frames ≢ [] }
     ensures pushed { OnOk result (machine.new ≡ with_slots_behind words.entry machine.old) }
@@ -193,11 +193,11 @@ fn push_slots(machine: &mut Loading, mut words: Words) -> Result<(), RestoreFaul
     Ok(())
 }
 
-/// Gives memory the bytes that stand next, in one copy.
+/// Gives memory the bytes that are next, in one copy.
 fn load_memory(
     alloc: Global,
     machine: &mut Loading,
-    reader: &mut ImageReader,
+    reader: &mut ProcessImageReader,
 ) -> Result<(), RestoreFault>
     ensures made { OnOk result (PutsField memory_bytes IsWhole with_bytes_in
         machine.old machine.new reader.old reader.new) }

@@ -1,4 +1,4 @@
-//! Nodes that are read with all that stands behind them.
+//! Nodes that are read with all that is after them.
 
 ghost use Rattle.std.specs.Prelude.{◌≡◌, ◌++◌, ◌∷◌, [], map, OnOk};
 ghost use Rattle.wasm_syntax.specs.laws.ReadingItems.{items_at};
@@ -6,9 +6,9 @@ ghost use Rattle.state_image.specs.rules.Fronts.{lent_content, lent_entry};
 ghost use Rattle.state_image.specs.restoring.ListReaders.{entry_at};
 ghost use Rattle.state_image.specs.restoring.Parts.{RestoresField, held_at};
 ghost use Rattle.state_image.specs.restoring.Parts.{whole_node_at, wholes_at};
-ghost use Rattle.state_image.specs.restoring.Told.{lent_held, lent_whole};
+ghost use Rattle.state_image.specs.restoring.SavedNodes.{lent_held, lent_whole};
 
-use crate::reading::{ImageReader, ReadContent, ReadEntry};
+use crate::reading::{ProcessImageReader, ReadContent, ReadEntry};
 use crate::restoring::fault::RestoreFault;
 use crate::restoring::list_readers::{next_count, next_entry, next_front};
 use crate::restoring::whole_node::{WholeContent, WholeNode};
@@ -18,7 +18,7 @@ use std::alloc::{AllocError, Global};
 #[tactic(auto, unfolding(crate::specs::restoring::Parts::wholes_at))]
 pub(crate) fn read_wholes<'a>(
     alloc: Global,
-    reader: &mut ImageReader<'a>,
+    reader: &mut ProcessImageReader<'a>,
 ) -> Result<Vec<WholeNode<'a>>, RestoreFault>
     ensures { RestoresField (λ v. map lent_whole v.items) result reader.new
         (wholes_at reader.old) }
@@ -33,7 +33,7 @@ pub(crate) fn read_wholes<'a>(
 fn read_nodes<'a>(
     alloc: Global,
     count: u32,
-    reader: &mut ImageReader<'a>,
+    reader: &mut ProcessImageReader<'a>,
 ) -> Result<Vec<WholeNode<'a>>, RestoreFault>
     ensures { RestoresField (λ v. map lent_whole v.items) result reader.new
         (items_at whole_node_at count reader.old) }
@@ -53,11 +53,11 @@ fn keep_node<'a>(nodes: &mut Vec<WholeNode<'a>>, node: WholeNode<'a>) -> Result<
     Ok(())
 }
 
-/// A node, and the entries behind it.
+/// A node, and the entries after it.
 #[tactic(auto, unfolding(crate::specs::restoring::Parts::whole_node_at))]
 fn read_whole<'a>(
     alloc: Global,
-    reader: &mut ImageReader<'a>,
+    reader: &mut ProcessImageReader<'a>,
 ) -> Result<WholeNode<'a>, RestoreFault>
     ensures { RestoresField lent_whole result reader.new (whole_node_at reader.old) }
 {
@@ -71,12 +71,12 @@ fn read_whole<'a>(
     })
 }
 
-/// What stands behind the front of a node.
+/// What is after the front of a node.
 #[tactic(auto, unfolding(crate::specs::restoring::Parts::held_at))]
 fn read_held<'a>(
     alloc: Global,
     content: ReadContent<'a>,
-    reader: &mut ImageReader<'a>,
+    reader: &mut ProcessImageReader<'a>,
 ) -> Result<WholeContent<'a>, RestoreFault>
     ensures { RestoresField lent_held result reader.new
         (held_at (lent_content content.entry) reader.old) }
@@ -94,7 +94,7 @@ fn read_held<'a>(
 fn read_entries<'a>(
     alloc: Global,
     count: u32,
-    reader: &mut ImageReader<'a>,
+    reader: &mut ProcessImageReader<'a>,
 ) -> Result<Vec<ReadEntry<'a>>, RestoreFault>
     ensures { RestoresField (λ v. map lent_entry v.items) result reader.new
         (items_at entry_at count reader.old) }

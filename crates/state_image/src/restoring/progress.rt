@@ -3,7 +3,8 @@
 ghost use Rattle.state_image.specs.restoring.Processes.{ReadsProgress};
 
 use crate::reading::{
-    ImageReader, ReadCounts, ReadEnd, ReadStreams, read_counts, read_end, read_mark, read_streams,
+    ProcessImageReader, ReadCounts, ReadEnd, ReadStreams, read_counts, read_end, read_mark,
+    read_streams,
 };
 use wasi_abi::Version;
 
@@ -16,8 +17,8 @@ pub struct Progress<'a> {
     pub streams: ReadStreams<'a>,
 }
 
-/// The mark with which an image begins, and what stands behind it.
-pub fn read_progress<'a>(reader: &mut ImageReader<'a>) -> Option<Progress<'a>>
+/// The mark with which an image begins, and what is after it.
+pub fn read_progress<'a>(reader: &mut ProcessImageReader<'a>) -> Option<Progress<'a>>
     ensures { ReadsProgress result reader.old reader.new }
 {
     let version = read_mark(reader)?;

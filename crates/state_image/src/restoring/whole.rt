@@ -9,14 +9,14 @@ ghost use Rattle.machine.specs.rules.Runs.{HasBegun};
 ghost use Rattle.process.specs.rules.Restored.{HasLinkableGuest};
 ghost use Rattle.process.specs.rules.Values.{IsProcess};
 ghost use Rattle.state_image.specs.declared.restoring.fault.RestoreFault.TheVariants as fault;
-ghost use Rattle.state_image.specs.rules.Image.{Saved, image};
+ghost use Rattle.state_image.specs.rules.ProcessImage.{Saved, process_image};
 ghost use Rattle.state_image.specs.rules.Restored.{IsRestored};
 ghost use Rattle.state_image.specs.rules.Saving.{saved_of};
 ghost use Rattle.state_image.specs.rules.WellTyped.{IsWellTyped};
 ghost use Rattle.state_image.specs.restoring.Processes.{IsReadProcess, process_behind, end_in};
 ghost use Rattle.state_image.specs.restoring.Processes.{MayCome, MayBeAccepted, fault_of_link};
 
-use crate::reading::{ImageReader, ReadPhase};
+use crate::reading::{ProcessImageReader, ReadPhase};
 use crate::restoring::accepting::may_be_accepted;
 use crate::restoring::fault::RestoreFault;
 use crate::restoring::host::restore_host;
@@ -26,7 +26,7 @@ use machine::{LinkFault, Machine, link};
 use process::{Process, ProcessEnd, ProcessParts};
 use std::alloc::Global;
 use wasi_abi::Config;
-use wasi_calls::Host;
+use wasi_calls::WasiState;
 use wasm_validate::ValidModule;
 
 /// The process of which these bytes are the image, of this module under this configuration.
@@ -39,7 +39,7 @@ pub fn restore(
 ) -> Result<Process, RestoreFault>
     ensures restored { IfOk result (IsRestored «module» config bytes.now) }
     ensures refused { result ≡ Err fault.NotAnImage → IsLinkable offer config.pages «module»
-        → (s : Saved) → IsWellTyped «module» config s → bytes.now ≢ image s }
+        → (s : Saved) → IsWellTyped «module» config s → bytes.now ≢ process_image s }
 {
     let machine = link(alloc, module, config.pages())?;
     restore_into(alloc, machine, config, bytes)
@@ -57,10 +57,10 @@ pub fn restore_into(
     requires { HasBegun config.pages machine.guest machine }
     ensures restored { IfOk result (IsRestored machine.guest config bytes.now) }
     ensures refused { result ≡ Err fault.NotAnImage → (s : Saved)
-        → IsWellTyped machine.guest config s → bytes.now ≢ image s }
+        → IsWellTyped machine.guest config s → bytes.now ≢ process_image s }
 {
     is_valid(&machine);
-    let mut reader = ImageReader::new(bytes);
+    let mut reader = ProcessImageReader::new(bytes);
     let process = read_process(alloc, machine, config, &mut reader)?;
     if is_accepted(&process, &reader) {
         Ok(process)
@@ -69,8 +69,8 @@ pub fn restore_into(
     }
 }
 
-/// Whether nothing is left behind a process that was read, and it is one whose image is accepted.
-fn is_accepted(process: &Process, reader: &ImageReader) -> bool
+/// Whether nothing is left after a process that was read, and it is one whose image is accepted.
+fn is_accepted(process: &Process, reader: &ProcessImageReader) -> bool
     requires shows { ShowsSome process.now.machine }
     requires later { MayCome process.now.machine.guest process.now.machine.state.later }
     ensures is { IsProcess process.now }
@@ -92,18 +92,18 @@ fn is_valid(machine: &Machine)
     let _module = machine.module().module();
 }
 
-/// The process whose image stands next, in the place of what the machine shows.
+/// The process whose image is next, in the place of what the machine shows.
 fn read_process(
     alloc: Global,
     machine: Machine,
     config: Config,
-    reader: &mut ImageReader,
+    reader: &mut ProcessImageReader,
 ) -> Result<Process, RestoreFault>
     requires begun { HasBegun config.pages machine.guest machine }
     requires valid { IsValid machine.guest }
     ensures read { IfOk result (IsReadProcess machine config reader.old reader.new) }
     ensures refused { result ≡ Err fault.NotAnImage → (s : Saved)
-        → IsWellTyped machine.guest config s → reader.old ≢ image s }
+        → IsWellTyped machine.guest config s → reader.old ≢ process_image s }
 {
     let Some(progress) = read_progress(reader) else {
         return Err(RestoreFault::NotAnImage);
@@ -117,7 +117,7 @@ fn read_process(
 fn put_together(
     alloc: Global,
     machine: Machine,
-    host: Host,
+    host: WasiState,
     progress: &Progress,
 ) -> Result<Process, RestoreFault>
     requires shows { ShowsSome machine }

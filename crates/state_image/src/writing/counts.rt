@@ -2,15 +2,15 @@
 
 ghost use Rattle.std.specs.Prelude.{◌≡◌, option_map};
 ghost use Rattle.process.specs.rules.Values.{ending_of};
-ghost use Rattle.state_image.specs.rules.Image.{trap_number, phase_of, ending_code, flag_of};
-ghost use Rattle.state_image.specs.rules.Image.{counts_bytes, phase_bytes, streams_bytes};
+ghost use Rattle.state_image.specs.rules.ProcessImage.{trap_number, phase_of, ending_code, flag_of};
+ghost use Rattle.state_image.specs.rules.ProcessImage.{counts_bytes, phase_bytes, streams_bytes};
 ghost use Rattle.state_image.specs.rules.Saving.{saved_of};
 ghost use Rattle.state_image.specs.rules.Sinks.{Pushes};
 
 use crate::sink::Sink;
 use crate::writing::numbers::{push_text, push_u8, push_u32, push_u64};
 use process::{Process, ProcessEnd};
-use wasi_calls::Host;
+use wasi_calls::WasiState;
 use wasm_syntax::Trap;
 
 /// The phase of a process in its start function.
@@ -45,7 +45,7 @@ pub(crate) fn push_phase<S: Sink>(process: &Process, sink: &mut S) -> Result<(),
     push_u8(flag_of(process.host().has_input_ended()), sink)
 }
 
-/// The unread bytes, and the unfinished lines of streams 1 and 2.
+/// The unread bytes, and the unfinished lines of stdout and stderr.
 pub(crate) fn push_streams<S: Sink>(process: &Process, sink: &mut S) -> Result<(), S::Fault>
     ensures { Pushes S.takes sink.old (streams_bytes (saved_of process.now)) result sink.new }
 {

@@ -4,18 +4,18 @@ ghost use Rattle.std.specs.Prelude.{◌≡◌, ◌≤◌, [], ◌∷◌, length}
 ghost use Rattle.std.specs.List.{flat_map};
 ghost use Rattle.wasi_abi.specs.rules.Layouts.{u64_bytes};
 ghost use Rattle.wasi_calls.specs.Views.{target_of};
-ghost use Rattle.state_image.specs.rules.Image.{items_bytes, open_from, target_bytes};
-ghost use Rattle.state_image.specs.rules.Image.{descriptor_bytes};
+ghost use Rattle.state_image.specs.rules.ProcessImage.{items_bytes, open_from, target_bytes};
+ghost use Rattle.state_image.specs.rules.ProcessImage.{descriptor_bytes};
 ghost use Rattle.state_image.specs.rules.Sinks.{Pushes};
 
 use crate::sink::Sink;
-use crate::writing::files::kind_of;
+use crate::writing::files::type_number_of;
 use crate::writing::numbers::{push_count, push_u8, push_u16, push_u64};
 use file_tree::Tree;
-use wasi_calls::{Descriptor, Host, Names};
+use wasi_calls::{Descriptor, Names, WasiState};
 
 /// How many descriptors are open, and each of them, by rising number.
-pub(crate) fn push_descriptors<S: Sink>(host: &Host, sink: &mut S) -> Result<(), S::Fault>
+pub(crate) fn push_descriptors<S: Sink>(host: &WasiState, sink: &mut S) -> Result<(), S::Fault>
     ensures { Pushes S.takes sink.old
         (items_bytes (descriptor_bytes host.now.host.files)
         (open_from 0 host.now.host.descriptors)) result sink.new }
@@ -85,19 +85,19 @@ fn push_descriptor<S: Sink>(
     push_u64(descriptor.inheriting_rights().number(), sink)
 }
 
-/// A stream by its number and no node, or a node by its kind and number.
+/// A stream by its number and no node, or a node by its type and number.
 fn push_target<S: Sink>(tree: &Tree, names: Names, sink: &mut S) -> Result<(), S::Fault>
     ensures { Pushes S.takes sink.old (target_bytes tree.now (target_of names)) result sink.new }
 {
     match names {
         Names::Stream(stream) => push_named(stream, 0, sink),
-        Names::Node(node) => push_named(kind_of(tree, node), node, sink),
+        Names::Node(node) => push_named(type_number_of(tree, node), node, sink),
     }
 }
 
-fn push_named<S: Sink>(kind: u8, node: u64, sink: &mut S) -> Result<(), S::Fault>
-    ensures { Pushes S.takes sink.old (kind ∷ u64_bytes node) result sink.new }
+fn push_named<S: Sink>(target_type: u8, node: u64, sink: &mut S) -> Result<(), S::Fault>
+    ensures { Pushes S.takes sink.old (target_type ∷ u64_bytes node) result sink.new }
 {
-    push_u8(kind, sink)?;
+    push_u8(target_type, sink)?;
     push_u64(node, sink)
 }

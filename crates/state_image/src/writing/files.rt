@@ -7,8 +7,8 @@ ghost use Rattle.wasi_abi.specs.rules.Numbers.{directory_type, regular_file};
 ghost use Rattle.file_tree.specs.rules.Files.{FileNode, Entry, node_of, is_directory};
 ghost use Rattle.file_tree.specs.rules.Files.{bytes_of_node, entries_of};
 ghost use Rattle.file_tree.specs.rules.Chunks.{chunks_for};
-ghost use Rattle.state_image.specs.rules.Image.{items_bytes, entry_bytes, content_bytes};
-ghost use Rattle.state_image.specs.rules.Image.{node_bytes, files_bytes};
+ghost use Rattle.state_image.specs.rules.ProcessImage.{items_bytes, entry_bytes, content_bytes};
+ghost use Rattle.state_image.specs.rules.ProcessImage.{node_bytes, files_bytes};
 ghost use Rattle.state_image.specs.rules.Sinks.{Pushes};
 
 use crate::sink::Sink;
@@ -25,8 +25,8 @@ pub(crate) fn push_files<S: Sink>(tree: &Tree, sink: &mut S) -> Result<(), S::Fa
     push_nodes(tree, sink)
 }
 
-/// The number that stands for the kind of a node.
-pub(crate) fn kind_of(tree: &Tree, number: u64) -> u8
+/// The number that stands for the type of a node.
+pub(crate) fn type_number_of(tree: &Tree, number: u64) -> u8
     ensures { result ≡ (if is_directory tree.now number then directory_type else regular_file) }
 {
     if tree.is_directory(number) {
@@ -57,7 +57,7 @@ fn push_node<S: Sink>(tree: &Tree, number: u64, sink: &mut S) -> Result<(), S::F
     push_content(tree, number, sink)
 }
 
-/// The kind, and the bytes of a file or the entries of a directory.
+/// The type, and the bytes of a file or the entries of a directory.
 fn push_content<S: Sink>(tree: &Tree, number: u64, sink: &mut S) -> Result<(), S::Fault>
     ensures { (n : FileNode) → node_of tree.now number ≡ Some n
         → Pushes S.takes sink.old (content_bytes tree.now number n.content) result sink.new }

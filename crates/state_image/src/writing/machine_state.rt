@@ -1,8 +1,8 @@
 //! The machine of a process.
 
 ghost use Rattle.std.specs.Prelude.{reverse};
-ghost use Rattle.state_image.specs.rules.Image.{place_bytes, items_bytes, memory_bytes};
-ghost use Rattle.state_image.specs.rules.Image.{machine_bytes};
+ghost use Rattle.state_image.specs.rules.ProcessImage.{place_bytes, items_bytes, memory_bytes};
+ghost use Rattle.state_image.specs.rules.ProcessImage.{machine_bytes};
 ghost use Rattle.state_image.specs.rules.Sinks.{Pushes};
 
 use crate::sink::Sink;

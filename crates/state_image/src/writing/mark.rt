@@ -1,7 +1,7 @@
 //! The mark of an image.
 
 ghost use Rattle.std.specs.Prelude.{◌≡◌};
-ghost use Rattle.state_image.specs.rules.Image.{image_mark};
+ghost use Rattle.state_image.specs.rules.ProcessImage.{process_image_mark};
 ghost use Rattle.state_image.specs.rules.Saving.{saved_of};
 ghost use Rattle.state_image.specs.rules.Sinks.{Pushes};
 
@@ -14,8 +14,8 @@ use wasi_abi::Version;
 pub(crate) const MARK_BYTES: usize = 8;
 
 /// With it the images of a version begin.
-pub fn image_mark(version: Version) -> [u8; MARK_BYTES]
-    ensures { result ≡ image_mark version }
+pub fn process_image_mark(version: Version) -> [u8; MARK_BYTES]
+    ensures { result ≡ process_image_mark version }
 {
     match version {
         Version::One => *b"DWIMAGE1",
@@ -25,8 +25,8 @@ pub fn image_mark(version: Version) -> [u8; MARK_BYTES]
 
 /// The mark of the version of a process.
 pub(crate) fn push_mark<S: Sink>(process: &Process, sink: &mut S) -> Result<(), S::Fault>
-    ensures { Pushes S.takes sink.old (image_mark (saved_of process.now).version) result
+    ensures { Pushes S.takes sink.old (process_image_mark (saved_of process.now).version) result
         sink.new }
 {
-    push_bytes(&image_mark(process.host().version()), sink)
+    push_bytes(&process_image_mark(process.host().version()), sink)
 }

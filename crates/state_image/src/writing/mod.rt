@@ -8,7 +8,7 @@ mod mark;
 mod numbers;
 
 ghost use Rattle.std.specs.Prelude.{◌≡◌, IfOk};
-ghost use Rattle.state_image.specs.rules.Image.{image};
+ghost use Rattle.state_image.specs.rules.ProcessImage.{process_image};
 ghost use Rattle.state_image.specs.rules.Saving.{saved_of};
 ghost use Rattle.state_image.specs.rules.Sinks.{Pushes};
 
@@ -17,11 +17,11 @@ use crate::sink::Sink;
 pub(crate) use crate::writing::counts::{EXITED, RUNNING, STARTING, TRAPPED};
 use crate::writing::counts::{push_counts, push_phase, push_streams};
 use crate::writing::descriptors::push_descriptors;
-pub(crate) use crate::writing::files::kind_of;
 use crate::writing::files::push_files;
+pub(crate) use crate::writing::files::type_number_of;
 use crate::writing::machine_state::push_machine;
 pub(crate) use crate::writing::mark::MARK_BYTES;
-pub use crate::writing::mark::image_mark;
+pub use crate::writing::mark::process_image_mark;
 use crate::writing::mark::push_mark;
 use process::Process;
 use std::alloc::{AllocError, Global};
@@ -30,8 +30,8 @@ use std::alloc::{AllocError, Global};
 /// No memory is taken. Where the sink refuses a piece, nothing is pushed after it, and its fault
 /// is the one that is given. Lines that wait are told by their number alone: the caller has
 /// released them.
-pub fn write_image_to<S: Sink>(process: &Process, sink: &mut S) -> Result<(), S::Fault>
-    ensures { Pushes S.takes sink.old (image (saved_of process.now)) result sink.new }
+pub fn write_process_image_to<S: Sink>(process: &Process, sink: &mut S) -> Result<(), S::Fault>
+    ensures { Pushes S.takes sink.old (process_image (saved_of process.now)) result sink.new }
 {
     push_mark(process, sink)?;
     push_counts(process, sink)?;
@@ -42,12 +42,12 @@ pub fn write_image_to<S: Sink>(process: &Process, sink: &mut S) -> Result<(), S:
     push_descriptors(process.host(), sink)
 }
 
-/// The image of a process, whole. Only want of memory makes it fail. As with `write_image_to`, the
-/// caller has released the lines that waited.
-pub fn write_image(alloc: Global, process: &Process) -> Result<Vec<u8>, AllocError>
-    ensures { IfOk result (λ bytes. bytes.items ≡ image (saved_of process.now)) }
+/// The image of a process, whole. It fails only when out of memory. As with
+/// `write_process_image_to`, the caller has released the lines that waited.
+pub fn write_process_image(alloc: Global, process: &Process) -> Result<Vec<u8>, AllocError>
+    ensures { IfOk result (λ bytes. bytes.items ≡ process_image (saved_of process.now)) }
 {
     let mut sink = ByteSink::new(alloc);
-    write_image_to(process, &mut sink)?;
+    write_process_image_to(process, &mut sink)?;
     Ok(sink.into_bytes())
 }

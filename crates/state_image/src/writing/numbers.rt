@@ -2,7 +2,7 @@
 
 ghost use Rattle.std.specs.Prelude.{[], ◌∷◌};
 ghost use Rattle.wasi_abi.specs.rules.Layouts.{u16_bytes, u32_bytes, u64_bytes};
-ghost use Rattle.state_image.specs.rules.Image.{text_bytes, items_bytes};
+ghost use Rattle.state_image.specs.rules.ProcessImage.{text_bytes, items_bytes};
 ghost use Rattle.state_image.specs.rules.Sinks.{Pushes};
 
 use crate::sink::Sink;

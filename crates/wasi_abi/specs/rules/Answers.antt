@@ -2,8 +2,8 @@
 use Rattle.std.specs.Prelude.{◌≡◌, ◌≢◌, ℕ, ◌<◌, ◌≤◌, ◌^◌, List, length}
 use Rattle.std.specs.List.{AllByRecursion}
 use Rattle.guest_memory.specs.rules.Bytes.{IsByte}
-use Rattle.wasi_abi.specs.declared.answer.Kind.{Kind}
-use Rattle.wasi_abi.specs.declared.answer.Kind.TheVariants as kind
+use Rattle.wasi_abi.specs.declared.answer.Question.{Question}
+use Rattle.wasi_abi.specs.declared.answer.Question.TheVariants as question
 use Rattle.wasi_abi.specs.declared.answer.Answer.{Answer}
 use Rattle.wasi_abi.specs.declared.answer.Answer.TheVariants as answer
 
@@ -34,12 +34,12 @@ pub record AreSoManyBytes (n : ℕ) (bytes : List ℕ) : Type 0 where
   pub count : length bytes ≡ n
   pub are_bytes : AreBytes bytes
 
--- A request is answered by a text or by the end of input, a clock by its value, a wish for random
--- bytes by as many.
-abbrev pub Fits : ℕ → Kind → Answer → Type 0
-Fits limit kind.Request (answer.Request text) = IsRequestText limit text
-Fits limit kind.Request answer.End = Unit {0}
-Fits limit kind.Realtime (answer.Realtime n) = IsTime n
-Fits limit kind.Monotonic (answer.Monotonic n) = IsTime n
-Fits limit (kind.Random n) (answer.Random bytes) = AreSoManyBytes n bytes
+-- A request is answered by a text or by the end of input, a clock by its value, a question for
+-- random bytes by as many.
+abbrev pub Fits : ℕ → Question → Answer → Type 0
+Fits limit question.Request (answer.Request text) = IsRequestText limit text
+Fits limit question.Request answer.End = Unit {0}
+Fits limit question.Realtime (answer.Realtime n) = IsTime n
+Fits limit question.Monotonic (answer.Monotonic n) = IsTime n
+Fits limit (question.Random n) (answer.Random bytes) = AreSoManyBytes n bytes
 Fits limit _ _ = ⊥

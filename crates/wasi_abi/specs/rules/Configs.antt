@@ -48,7 +48,7 @@ abbrev pub HasEquals : List ℕ → Type 0
 HasEquals [] = ⊥
 HasEquals (b ∷ text) = (b ≡ 61) ⊎ HasEquals text
 
--- a name stands before the first `=`
+-- a name is before the first `=`
 abbrev pub IsNamed : List ℕ → Type 0
 IsNamed [] = ⊥
 IsNamed (b ∷ text) = (b ≢ 61) × HasEquals text

@@ -211,7 +211,7 @@ file_type_number file_type.RegularFile = regular_file
 abbrev pub whence_set : ℕ
 whence_set = 0
 
--- it is counted from where the descriptor stands
+-- it is counted from where the descriptor is
 abbrev pub whence_current : ℕ
 whence_current = 1
 

@@ -5,30 +5,30 @@ use Rattle.wasi_abi.specs.declared.version.Version.TheVariants.{Two}
 use Rattle.wasi_abi.specs.rules.Configs.{Settings}
 use Rattle.file_tree.specs.rules.Files.{Files}
 use Rattle.file_tree.specs.declared.limits.TheConstants.{UNIT_BYTES}
-use Rattle.wasi_calls_rules.specs.Hosts.{Line, Descriptor, Host}
+use Rattle.wasi_calls_rules.specs.WasiStates.{Line, Descriptor, WasiState}
 use Rattle.wasi_calls_rules.specs.Checks.{Ruling}
 use Rattle.wasi_calls_rules.specs.Lines.{lines_ended}
 use Rattle.wasi_calls.specs.rules.Outputs.{Output}
 
 -- A host whose lines are those that wait alone, and how many lines were released before them.
-pub record HeldHost : Type 0 where
+pub record HeldWasiState : Type 0 where
   pub released : ℕ
-  pub host : Host
+  pub host : WasiState
 
 -- the host with other lines in front of its own
-abbrev pub behind_lines : List Line → Host → Host
+abbrev pub behind_lines : List Line → WasiState → WasiState
 behind_lines before h = record h { lines = before ++ h.lines }
 
 -- It shows a host that has emitted as many lines as were released, and then those that wait.
 -- Nothing is kept of the texts of the released ones, so it shows one host for each choice of them.
-pub record ShowsHost (held : HeldHost) (h : Host) : Type 0 where
+pub record ShowsWasiState (held : HeldWasiState) (h : WasiState) : Type 0 where
   pub before : List Line
   pub count : length before ≡ held.released
   pub is : h ≡ behind_lines before held.host
 
 -- of its parts
 abbrev pub held_host_of : Settings → Version → Files → List (Option Descriptor) → List ℕ → Bool → ℕ
-    → Output → HeldHost
+    → Output → HeldWasiState
 held_host_of config version files descriptors unread input_ended last_monotonic o = record {
   released = o.released;
   host = record {
@@ -48,22 +48,22 @@ held_host_of config version files descriptors unread input_ended last_monotonic 
 }
 
 -- the process ends
-abbrev pub held_ended : HeldHost → HeldHost
+abbrev pub held_ended : HeldWasiState → HeldWasiState
 held_ended held = record held { host = lines_ended held.host }
 
 -- what a rule leads to, with other lines in front of the host's own
-abbrev pub behind_lines_of_row : List Line → Ruling → Ruling
-behind_lines_of_row before (Ok done) =
+abbrev pub behind_lines_of_call_rule : List Line → Ruling → Ruling
+behind_lines_of_call_rule before (Ok done) =
     Ok (record { memory = done.memory; host = behind_lines before done.host })
-behind_lines_of_row before (Err halt) = Err halt
+behind_lines_of_call_rule before (Err halt) = Err halt
 
 -- the first so many lines that wait are released
-abbrev pub held_released : ℕ → HeldHost → HeldHost
+abbrev pub held_released : ℕ → HeldWasiState → HeldWasiState
 held_released count held = record {
   released = held.released + count;
   host = record held.host { lines = drop count held.host.lines };
 }
 
 -- the same in version 2
-abbrev pub held_widened : HeldHost → HeldHost
+abbrev pub held_widened : HeldWasiState → HeldWasiState
 held_widened held = record held { host = record held.host { version = Two } }

@@ -3,8 +3,9 @@
 ghost use Rattle.std.specs.Prelude.{◌≡◌, ◌≢◌, ◌<◌, ◌≤◌, ◌^◌, true, false, Some, None, Ok, IfOk};
 ghost use Rattle.std.specs.Prelude.{slice_get, slice_set};
 ghost use Rattle.file_tree.specs.rules.Files.{is_directory};
-ghost use Rattle.wasi_calls_rules.specs.Hosts.{Node, Descriptor as Opened, IsThere, IsDescriptor};
-ghost use Rattle.wasi_calls_rules.specs.Hosts.{IsHost};
+ghost use Rattle.wasi_calls_rules.specs.WasiStates.{Node, Descriptor as Opened, IsThere};
+ghost use Rattle.wasi_calls_rules.specs.WasiStates.{IsDescriptor};
+ghost use Rattle.wasi_calls_rules.specs.WasiStates.{IsWasiState};
 ghost use Rattle.wasi_calls_rules.specs.Checks.{open_descriptor, names_directory};
 ghost use Rattle.wasi_calls_rules.specs.Checks.{no_directory, a_file, a_directory};
 ghost use Rattle.std.specs.List.{list_any};
@@ -15,11 +16,11 @@ ghost use Rattle.wasi_calls.specs.Steps.{GivesValue};
 ghost use Rattle.wasi_calls.specs.Views.{target_of};
 
 use crate::descriptor::{Descriptor, Names};
-use crate::host::Host;
+use crate::host::WasiState;
 use file_tree::Tree;
 use wasi_abi::{DescriptorFlags, Errno};
 
-impl Host {
+impl WasiState {
     /// What is open under this number, or `Badf`.
     pub(crate) fn descriptor(&self, fd: u32) -> Result<&Descriptor, Errno>
         ensures gives { GivesValue (λ d. d.now) result (open_descriptor self.now.host fd) }
@@ -31,7 +32,7 @@ impl Host {
 
     fn find_descriptor(&self, fd: u32) -> Result<&Descriptor, Errno>
         ensures gives { GivesValue (λ d. d.now) result (open_descriptor self.now.host fd) }
-        ensures shape { IsHost self.now.host }
+        ensures shape { IsWasiState self.now.host }
     {
         match self.descriptors.get(fd as usize) {
             Some(Some(descriptor)) => Ok(descriptor),

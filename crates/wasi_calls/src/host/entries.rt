@@ -7,10 +7,10 @@ ghost use Rattle.file_tree.specs.rules.Listings.{number_at_place, HasNameAtPlace
 ghost use Rattle.wasi_calls_rules.specs.Entries.{node_type};
 
 use crate::descriptor::Names;
-use crate::host::Host;
+use crate::host::WasiState;
 use wasi_abi::Dirent;
 
-impl Host {
+impl WasiState {
     /// The node at a place of a directory, by the order of names.
     pub(crate) fn entry(&self, directory: u64, place: u64) -> Option<u64>
         ensures entry { result ≡ number_at_place self.now.host.files directory place }
@@ -19,7 +19,7 @@ impl Host {
         self.tree.entry(directory, place as usize)
     }
 
-    /// The node right behind the entry of this name.
+    /// The node right after the entry of this name.
     pub(crate) fn entry_after(&self, directory: u64, name: &[u8]) -> Option<u64>
         ensures { (i : ℕ) → HasNameAtPlace self.now.host.files directory i name.now
             → result ≡ number_at_place self.now.host.files directory (i + 1) }
@@ -35,7 +35,7 @@ impl Host {
         self.tree.name(node)
     }
 
-    /// What stands before the name of an entry. The next cookie is the place behind it.
+    /// What is before the name of an entry. The next cookie is the place after it.
     pub(crate) fn dirent(&self, place: u64, node: u64, name: &[u8]) -> Dirent
         requires next { place + 1 < 2 ^ 64 }
         requires short { length name.now < 2 ^ 32 }

@@ -5,19 +5,19 @@ ghost use Rattle.wasi_abi.specs.rules.Layouts.{filestat_layout};
 ghost use Rattle.file_tree.specs.rules.Bytes.{resized};
 ghost use Rattle.file_tree.specs.rules.Files.{is_directory, bytes_of_node, used, with_file_bytes};
 ghost use Rattle.file_tree.specs.declared.limits.TheConstants.{FILE_BYTES};
-ghost use Rattle.wasi_calls_rules.specs.Hosts.{Node, IsThere};
+ghost use Rattle.wasi_calls_rules.specs.WasiStates.{Node, IsThere};
 ghost use Rattle.wasi_calls_rules.specs.Small.{roomy, file_type_of, filestat_bytes_of};
 ghost use Rattle.wasi_abi.specs.rules.Numbers.{file_type_number};
 ghost use Rattle.wasi_calls.specs.Steps.{GivesValue};
 ghost use Rattle.wasi_calls.specs.Views.{target_of};
 
 use crate::descriptor::Names;
-use crate::host::Host;
+use crate::host::WasiState;
 use file_tree::limits::{FILE_BYTES, UNIT_BYTES};
 use std::alloc::AllocError;
 use wasi_abi::{Errno, FileType, Filestat};
 
-impl Host {
+impl WasiState {
     /// How many bytes all files may have.
     fn room(&self) -> u64
         ensures room { result ≡ self.now.host.room }
@@ -50,8 +50,8 @@ impl Host {
         Ok(())
     }
 
-    /// Cuts a file to a size, or puts zeros behind its bytes. The caller has tested that there is
-    /// room. It fails for want of memory alone, and changes nothing then.
+    /// Cuts a file to a size, or puts zeros after its bytes. The caller has tested that there is
+    /// room. It fails only when out of memory, and changes nothing then.
     pub(crate) fn resize(&mut self, node: u64, size: u64) -> Result<(), AllocError>
         requires there { IsThere self.old.host.files (Node node) }
         requires file { is_directory self.old.host.files node ≡ false }

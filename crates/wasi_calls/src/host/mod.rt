@@ -14,8 +14,8 @@ mod texts;
 
 ghost use Rattle.std.specs.Prelude.{◌≡◌, ◌+◌, ◌*◌, ◌<◌, ◌≤◌, ◌^◌, ◌++◌, length, IfOk, OnOk, OnErr};
 ghost use Rattle.file_tree.specs.declared.limits.TheConstants.{UNIT_BYTES};
-ghost use Rattle.wasi_calls_rules.specs.Hosts.{Host as TheHost, IsHost};
-ghost use Rattle.wasi_calls_rules.specs.Hosts.{first_descriptors, first_host};
+ghost use Rattle.wasi_calls_rules.specs.WasiStates.{WasiState as TheWasiState, IsWasiState};
+ghost use Rattle.wasi_calls_rules.specs.WasiStates.{first_descriptors, first_host};
 ghost use Rattle.wasi_calls_rules.specs.Checks.{gathered};
 ghost use Rattle.wasi_calls_rules.specs.Lines.{stream_written, rest_of, lines_ended};
 ghost use Rattle.wasi_calls.specs.Moves.{AreInside};
@@ -28,10 +28,11 @@ use crate::streams::Streams;
 use file_tree::Tree;
 use guest_memory::Memory;
 use guest_memory::laws::are_bytes;
-pub use restoring::{HostParts, PartsFault};
+pub use restoring::{PartsFault, WasiStateParts};
 use std::alloc::{AllocError, Global};
 use std::marker::Model;
 use wasi_abi::{Config, Rights, Version};
+use wasi_calls_rules::OutputStream;
 use wasi_calls_rules::limits::DESCRIPTORS;
 
 /// The number of the root.
@@ -43,7 +44,7 @@ const OPENED: usize = 4;
 /// Files, descriptors and streams of a process, and what it was configured with. Contracts see the
 /// host of the rules, whose lines are those that wait, and how many were released before.
 #[derive(Drop)]
-pub struct Host {
+pub struct WasiState {
     config: Config,
     version: Version,
     tree: Tree,
@@ -54,32 +55,33 @@ pub struct Host {
     streams: Streams,
 }
 
-impl Model for Host {
-    ghost use Rattle.wasi_calls_rules.specs.Hosts.{IsHost};
-    ghost use Rattle.wasi_calls.specs.rules.Held.{HeldHost, held_host_of};
+impl Model for WasiState {
+    ghost use Rattle.wasi_calls_rules.specs.WasiStates.{IsWasiState};
+    ghost use Rattle.wasi_calls.specs.rules.Held.{HeldWasiState, held_host_of};
 
-    ghost Value = { HeldHost };
+    ghost Value = { HeldWasiState };
 
     ghost view = { λ h. held_host_of h.config h.version h.tree h.descriptors.items h.unread.items
         h.input_ended h.last_monotonic h.streams };
 
-    ghost invariant = { λ h. IsHost (held_host_of h.config h.version h.tree h.descriptors.items
+    ghost invariant = { λ h. IsWasiState (held_host_of h.config h.version h.tree h.descriptors.items
         h.unread.items h.input_ended h.last_monotonic h.streams).host };
 }
 
-impl Host {
-    ghost use Rattle.wasi_calls.specs.rules.Held.{HeldHost, ShowsHost, held_ended, held_released};
+impl WasiState {
+    ghost use Rattle.wasi_calls.specs.rules.Held.{HeldWasiState, ShowsWasiState, held_ended};
+    ghost use Rattle.wasi_calls.specs.rules.Held.{held_released};
     ghost use Rattle.wasi_calls.specs.rules.Held.{held_widened};
     ghost use Rattle.wasi_abi.specs.declared.version.Version.TheVariants.{Two};
 
-    /// The host of a process that begins. It fails for want of memory alone.
-    pub fn new(alloc: Global, config: Config, version: Version) -> Result<Host, AllocError>
+    /// The host of a process that begins. It fails only when out of memory.
+    pub fn new(alloc: Global, config: Config, version: Version) -> Result<WasiState, AllocError>
         ensures { IfOk result (λ h. h ≡ record {
           released = 0;
           host = first_host (config.files * UNIT_BYTES) version config.arguments config.environment;
         }) }
     {
-        Ok(Host {
+        Ok(WasiState {
             config,
             version,
             tree: Tree::new(alloc)?,
@@ -91,13 +93,12 @@ impl Host {
         })
     }
 
-    /// Writes the bytes of buffers to stream 1, or else to 2. It fails for want of memory alone,
-    /// and
-    /// changes nothing then.
+    /// Writes the bytes of buffers to a stream. It fails only when out of memory, and changes
+    /// nothing then.
     pub(crate) fn write(
         &mut self,
         alloc: Global,
-        stream: u8,
+        stream: OutputStream,
         memory: &Memory,
         buffers: &Buffers,
     ) -> Result<(), AllocError>
@@ -113,8 +114,8 @@ impl Host {
         Ok(())
     }
 
-    /// The unfinished line of stream 1, or else of 2.
-    pub(crate) fn unfinished_line(&self, stream: u8) -> &[u8]
+    /// The unfinished line of a stream.
+    pub(crate) fn unfinished_line(&self, stream: OutputStream) -> &[u8]
         ensures { result.now ≡ unfinished_of stream self.now.host }
     {
         self.streams.unfinished_line(stream)
@@ -164,18 +165,18 @@ impl Host {
         self.last_monotonic
     }
 
-    /// The unfinished line of stream 1.
+    /// The unfinished line of stdout.
     pub fn first(&self) -> &[u8]
         ensures { result.now ≡ self.now.host.first }
     {
-        self.streams.unfinished_line(1)
+        self.streams.unfinished_line(OutputStream::Stdout)
     }
 
-    /// The unfinished line of stream 2.
+    /// The unfinished line of stderr.
     pub fn second(&self) -> &[u8]
         ensures { result.now ≡ self.now.host.second }
     {
-        self.streams.unfinished_line(2)
+        self.streams.unfinished_line(OutputStream::Stderr)
     }
 
     /// The version, which says how long a request's text and the random bytes of a call may be.
@@ -188,8 +189,8 @@ impl Host {
     /// It is of version 2 from now on.
     pub fn widen(&mut self)
         ensures changed { self.new ≡ held_widened self.old }
-        ensures shown { (h : TheHost) → ShowsHost self.old h
-            → ShowsHost self.new (record h { version = Two }) }
+        ensures shown { (h : TheWasiState) → ShowsWasiState self.old h
+            → ShowsWasiState self.new (record h { version = Two }) }
     {
         self.version = Version::Two;
     }
@@ -197,7 +198,7 @@ impl Host {
     /// The lines that wait to be released, in the order in which they were emitted.
     pub fn waiting_lines(&self) -> &[Line]
         ensures lines { result.now ≡ self.now.host.lines }
-        ensures shape { IsHost self.now.host }
+        ensures shape { IsWasiState self.now.host }
     {
         self.streams.waiting_lines()
     }
@@ -215,7 +216,7 @@ impl Host {
         requires there { count ≤ length self.old.host.lines }
         requires counted { self.old.released + count < 2 ^ 64 }
         ensures changed { self.new ≡ held_released count self.old }
-        ensures shown { (h : TheHost) → ShowsHost self.old h → ShowsHost self.new h }
+        ensures shown { (h : TheWasiState) → ShowsWasiState self.old h → ShowsWasiState self.new h }
     {
         self.streams.release(count);
     }
@@ -223,7 +224,8 @@ impl Host {
     /// Emits what is not finished, as the end of a process does. It takes no memory.
     pub fn end(&mut self, alloc: Global)
         ensures changed { self.new ≡ held_ended self.old }
-        ensures shown { (h : TheHost) → ShowsHost self.old h → ShowsHost self.new (lines_ended h) }
+        ensures shown { (h : TheWasiState) → ShowsWasiState self.old h
+            → ShowsWasiState self.new (lines_ended h) }
     {
         self.streams.end(alloc);
     }

@@ -7,9 +7,10 @@ ghost use Rattle.wasi_abi.specs.rules.Answers.{newline, Fits};
 ghost use Rattle.file_tree.specs.rules.Bytes.{written};
 ghost use Rattle.file_tree.specs.rules.Files.{is_directory, bytes_of_node, with_file_bytes};
 ghost use Rattle.file_tree.specs.declared.limits.TheConstants.{FILE_BYTES};
-ghost use Rattle.wasi_abi.specs.declared.answer.Kind.TheVariants.{Request};
+ghost use Rattle.wasi_abi.specs.declared.answer.Question.TheVariants.{Request};
 ghost use Rattle.wasi_abi.specs.rules.Versions.{text_limit};
-ghost use Rattle.wasi_calls_rules.specs.Hosts.{Node, Descriptor as Opened, IsThere, IsDescriptor};
+ghost use Rattle.wasi_calls_rules.specs.WasiStates.{Node, Descriptor as Opened, IsThere};
+ghost use Rattle.wasi_calls_rules.specs.WasiStates.{IsDescriptor};
 ghost use Rattle.wasi_calls_rules.specs.Checks.{gathered, scattered, open_descriptor};
 ghost use Rattle.wasi_calls_rules.specs.Checks.{names_directory};
 ghost use Rattle.wasi_calls_rules.specs.Moving.{file_read, file_written, write_offset};
@@ -22,16 +23,17 @@ ghost use Rattle.wasi_calls.specs.rules.Calls.{IsAsLarge};
 
 use crate::buffers::Buffers;
 use crate::descriptor::{Descriptor, Names};
-use crate::host::Host;
+use crate::host::WasiState;
 use crate::stop::CallStop;
+use crate::streams::output_stream;
 use file_tree::Tree;
 use file_tree::limits::FILE_BYTES;
 use guest_memory::Memory;
 use guest_memory::laws::are_bytes;
 use std::alloc::{AllocError, Global};
-use wasi_abi::{Answer, DescriptorFlags, Errno, Kind, fits};
+use wasi_abi::{Answer, DescriptorFlags, Errno, Question, fits};
 
-impl Host {
+impl WasiState {
     /// Where a write to a file begins: at the descriptor's offset, or with `append` at the end.
     fn write_offset(&self, descriptor: &Descriptor, node: u64) -> u64
         ensures { result ≡ write_offset self.now.host node descriptor.now }
@@ -43,9 +45,8 @@ impl Host {
         }
     }
 
-    /// Writes the bytes of buffers to a file from a place on, with zeros in a gap before them.
-    /// No bytes
-    /// change nothing.
+    /// Writes the bytes of buffers to a file from a place on, with zeros in a gap before them. No
+    /// bytes change nothing.
     pub(crate) fn write_file(
         &mut self,
         node: u64,
@@ -120,8 +121,8 @@ impl Host {
     {
         let descriptor = self.descriptor(fd).unwrap();
         match descriptor.names() {
-            Names::Stream(stream) => {
-                self.write(alloc, stream, memory, buffers)?;
+            Names::Stream(number) => {
+                self.write(alloc, output_stream(number), memory, buffers)?;
                 Ok(())
             }
             Names::Node(node) => {
@@ -133,8 +134,7 @@ impl Host {
         }
     }
 
-    /// Moves an open file's next read or write behind the bytes of buffers that were written
-    /// from an
+    /// Moves an open file's next read or write after the bytes of buffers that were written from an
     /// offset on. It stays where there are none.
     fn move_behind(&mut self, fd: u32, from: u64, buffers: &Buffers)
         requires open { (d : Opened) × (open_descriptor self.old.host fd ≡ Ok d) }
@@ -170,9 +170,8 @@ impl Host {
         read_pieces(&self.tree, node, from, memory, buffers)
     }
 
-    /// Reads what is open under a number into buffers, and says how many bytes it gave. `answer`
-    /// is a
-    /// line that was asked for before, where one is there.
+    /// Reads what is open under a number into buffers, and says how many bytes it gave. `answer` is
+    /// a line that was asked for before, where one is there.
     pub(crate) fn take(
         &mut self,
         fd: u32,
@@ -233,9 +232,8 @@ impl Host {
         Ok(self.take_unread(memory, buffers))
     }
 
-    /// Takes a line where none is there to read and input hasn't ended. It asks for one where
-    /// none is
-    /// given that fits.
+    /// Takes a line where none is there to read and input hasn't ended. It asks for one where none
+    /// is given that fits.
     fn supply(&mut self, answer: Option<&Answer>) -> Result<(), CallStop>
         ensures done { OnOk result (supplied (option_copied answer.entry) self.old.host
             ≡ Ok self.new.host) }
@@ -248,18 +246,17 @@ impl Host {
             return Ok(());
         }
         let Some(answer) = answer else {
-            return Err(CallStop::Asks(Kind::Request));
+            return Err(CallStop::Asks(Question::Request));
         };
-        if !fits(self.version.text_limit(), Kind::Request, answer) {
-            return Err(CallStop::Asks(Kind::Request));
+        if !fits(self.version.text_limit(), Question::Request, answer) {
+            return Err(CallStop::Asks(Question::Request));
         }
         self.take_answer(answer)?;
         Ok(())
     }
 
-    /// Takes an answer to a wish for a line, where none is there to read. It fails for want of
-    /// memory
-    /// alone, and changes nothing then.
+    /// Takes an answer to a question for a line, where none is there to read. It fails only when
+    /// out of memory, and changes nothing then.
     fn take_answer(&mut self, answer: &Answer) -> Result<(), AllocError>
         requires fits { Fits (text_limit self.old.host.version) Request answer.now }
         requires none { self.old.host.unread ≡ [] }
@@ -277,8 +274,7 @@ impl Host {
         }
     }
 
-    /// Puts a line and a newline behind what is there to read. It fails for want of memory
-    /// alone, and
+    /// Puts a line and a newline after what is there to read. It fails only when out of memory, and
     /// changes nothing then.
     fn take_line(&mut self, text: &[u8]) -> Result<(), AllocError>
         ensures taken { OnOk result (self.new ≡ record self.old {
@@ -301,7 +297,7 @@ impl Host {
             (take (total_len buffers.now) self.old.host.unread) }
         ensures count { result ≡ length (take (total_len buffers.now) self.old.host.unread) }
         ensures few { result ≤ MOVED_BYTES }
-        ensures left { self.new ≡ record self.old {
+        ensures drained { self.new ≡ record self.old {
           host = record self.old.host {
             unread = drop (total_len buffers.now) self.old.host.unread;
           };

@@ -5,7 +5,7 @@ ghost use Rattle.std.specs.Prelude.{IfOk, OnOk, OnErr};
 ghost use Rattle.file_tree.specs.rules.Files.{Name, child, is_directory, path_of, created};
 ghost use Rattle.file_tree.specs.rules.Changes.{IsFree, empty, path_at};
 ghost use Rattle.file_tree.specs.declared.limits.TheConstants.{NODES};
-ghost use Rattle.wasi_calls_rules.specs.Hosts.{IsHost};
+ghost use Rattle.wasi_calls_rules.specs.WasiStates.{IsWasiState};
 ghost use Rattle.wasi_calls_rules.specs.Entries.{a_free_node, is_directory_empty, whole_path};
 ghost use Rattle.wasi_calls_rules.specs.Entries.{without};
 ghost use Rattle.wasi_calls_rules.specs.Paths.{directory_entered, node_at};
@@ -13,15 +13,15 @@ ghost use Rattle.wasi_calls.specs.Places.{walk_end_of};
 ghost use Rattle.wasi_calls.specs.Steps.{GivesValue};
 
 use crate::descriptor::Names;
-use crate::host::Host;
+use crate::host::WasiState;
 use crate::host::descriptors::sweep;
 use crate::paths::Place;
-use file_tree::NodeKind;
+use file_tree::NodeType;
 use file_tree::limits::NODES;
 use std::alloc::{AllocError, Global};
 use wasi_abi::Errno;
 
-impl Host {
+impl WasiState {
     /// The node under a name in a directory.
     pub(crate) fn child(&self, directory: u64, name: &[u8]) -> Option<u64>
         ensures { result ≡ child self.now.host.files directory name.now }
@@ -55,7 +55,7 @@ impl Host {
             (directory_entered self.now.host.files (child self.now.host.files directory name.now)) }
         ensures child { IfOk result (λ k. child self.now.host.files directory name.now ≡ Some k) }
         ensures directory { IfOk result (λ k. is_directory self.now.host.files k ≡ true) }
-        ensures shape { IfOk result (λ _. IsHost self.now.host) }
+        ensures shape { IfOk result (λ _. IsWasiState self.now.host) }
     {
         let node = self.child(directory, name).ok_or(Errno::Noent)?;
         if !self.tree.is_directory(node) {
@@ -96,22 +96,22 @@ impl Host {
         Ok(())
     }
 
-    /// Makes a node under a free name in a directory, and gives its number. It fails for want of
-    /// memory alone, and changes nothing then. So it does where all numbers below 2^64 were given,
+    /// Makes a node under a free name in a directory, and gives its number. It fails only when out
+    /// of memory, and changes nothing then. So it does where all numbers below 2^64 were given,
     /// though no process lives that long.
     pub(crate) fn create(
         &mut self,
         alloc: Global,
         directory: u64,
         name: &[u8],
-        kind: NodeKind,
+        node_type: NodeType,
     ) -> Result<u64, AllocError>
         requires free { IsFree self.old.host.files directory name.now }
         requires room { length self.old.host.files.nodes < NODES }
         ensures number { IfOk result (λ number. number ≡ self.old.host.files.next) }
         ensures created { OnOk result (self.new ≡ record self.old {
           host = record self.old.host {
-            files = created (path_at self.old.host.files directory ++ name.now ∷ []) (empty kind)
+            files = created (path_at self.old.host.files directory ++ name.now ∷ []) (empty node_type)
                 self.old.host.files;
           };
         }) }
@@ -120,7 +120,7 @@ impl Host {
         if self.tree.next() == u64::MAX {
             return Err(AllocError);
         }
-        self.tree.create(alloc, directory, name, kind)
+        self.tree.create(alloc, directory, name, node_type)
     }
 
     /// Takes a node's path away. It is forgotten if no descriptor names it.

@@ -2,7 +2,7 @@
 
 ghost use Rattle.std.specs.Prelude.{◌≡◌, ◌<◌, length, [], Ok, IfSome, OnOk, OnErr, false};
 ghost use Rattle.file_tree.specs.rules.Files.{is_directory, with_file_bytes};
-ghost use Rattle.wasi_calls_rules.specs.Hosts.{Node, IsThere, IsDescriptor, IsHost};
+ghost use Rattle.wasi_calls_rules.specs.WasiStates.{Node, IsThere, IsDescriptor, IsWasiState};
 ghost use Rattle.wasi_calls_rules.specs.Checks.{node_named};
 ghost use Rattle.wasi_calls_rules.specs.Entries.{free_from, free_number};
 ghost use Rattle.wasi_calls_rules.specs.Paths.{node_at};
@@ -12,7 +12,7 @@ ghost use Rattle.wasi_calls.specs.Places.{IsWellPlaced, walk_end_of};
 ghost use Rattle.wasi_calls.specs.Steps.{GivesValue};
 
 use crate::descriptor::Descriptor;
-use crate::host::Host;
+use crate::host::WasiState;
 use crate::paths::Place;
 use std::alloc::AllocError;
 use wasi_abi::Errno;
@@ -20,13 +20,13 @@ use wasi_abi::Errno;
 /// Numbers below are those of the streams, and are not given again.
 const FIRST_FREE: usize = 3;
 
-impl Host {
+impl WasiState {
     /// The node at a place, which is there.
     pub(crate) fn node_there(&self, place: Place<'_>) -> Option<u64>
         requires well { IsWellPlaced self.now.host.files (walk_end_of place) }
         ensures node { result ≡ node_at self.now.host.files (walk_end_of place.entry) }
         ensures there { IfSome result (λ k. IsThere self.now.host.files (Node k)) }
-        ensures shape { IsHost self.now.host }
+        ensures shape { IsWasiState self.now.host }
     {
         // The tree is read, so that what it is is known.
         let _nodes = self.tree.len();
@@ -55,7 +55,7 @@ impl Host {
         self.descriptors[number as usize] = Some(descriptor);
     }
 
-    /// Cuts a file to nothing. It fails for want of memory alone, and changes nothing then.
+    /// Cuts a file to nothing. It fails only when out of memory, and changes nothing then.
     pub(crate) fn truncate(&mut self, node: u64) -> Result<(), AllocError>
         requires there { IsThere self.old.host.files (Node node) }
         requires file { is_directory self.old.host.files node ≡ false }
@@ -72,7 +72,7 @@ impl Host {
     }
 }
 
-/// The place of the first that is free, behind those of the streams.
+/// The place of the first that is free, after those of the streams.
 fn first_free(descriptors: &[Option<Descriptor>]) -> Option<usize>
     ensures first { result ≡ free_from 0 descriptors.now }
     ensures within { IfSome result (λ n. n < length descriptors.now) }

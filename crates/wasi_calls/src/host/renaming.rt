@@ -5,10 +5,10 @@ ghost use Rattle.file_tree.specs.rules.Files.{renamed};
 ghost use Rattle.file_tree.specs.rules.Changes.{CanMove, path_at};
 ghost use Rattle.wasi_calls_rules.specs.Entries.{is_within_node};
 
-use crate::host::Host;
+use crate::host::WasiState;
 use file_tree::ByteList;
 
-impl Host {
+impl WasiState {
     /// Whether a directory is a node, or lies below it.
     pub(crate) fn is_within(&self, node: u64, directory: u64) -> bool
         ensures { result ≡ is_within_node self.now.host.files node directory }

@@ -5,7 +5,8 @@ ghost use Rattle.file_tree.specs.declared.limits.TheConstants.{UNIT_BYTES};
 ghost use Rattle.file_tree.specs.rules.Files.{IsFiles, used};
 ghost use Rattle.wasi_abi.specs.declared.version.Version.{Version};
 ghost use Rattle.wasi_abi.specs.rules.Answers.{IsTime};
-ghost use Rattle.wasi_calls_rules.specs.Hosts.{IsThere, IsDescriptor, IsUnfinished, IsHost};
+ghost use Rattle.wasi_calls_rules.specs.WasiStates.{IsThere, IsDescriptor, IsUnfinished};
+ghost use Rattle.wasi_calls_rules.specs.WasiStates.{IsWasiState};
 ghost use Rattle.wasi_calls.specs.declared.host.restoring.PartsFault.TheVariants as fault;
 ghost use Rattle.wasi_calls.specs.Restoring.{MayBeOpen, MayAllBeOpen, HasRoot};
 ghost use Rattle.wasi_calls.specs.Restoring.{is_kept, AreRemovedNamed};
@@ -15,7 +16,7 @@ ghost use Rattle.wasi_calls.specs.Views.{target_of};
 
 use crate::descriptor::{Descriptor, Names, PREOPENED};
 use crate::host::descriptors::{is_named, names_node};
-use crate::host::{Host, ROOT};
+use crate::host::{ROOT, WasiState};
 use crate::streams::{Streams, is_without_newline};
 use file_tree::Tree;
 use file_tree::limits::UNIT_BYTES;
@@ -27,7 +28,7 @@ use wasi_calls_rules::limits::{DESCRIPTORS, LINE_BYTES};
 /// What an image has of the host's side of a process. No line waits: all that were emitted were
 /// released.
 #[derive(Drop)]
-pub struct HostParts {
+pub struct WasiStateParts {
     /// The files and directories.
     pub tree: Tree,
     /// What is open under each number, from 0 on.
@@ -38,9 +39,9 @@ pub struct HostParts {
     pub input_ended: bool,
     /// The last monotonic time that a guest saw, in nanoseconds.
     pub last_monotonic: u64,
-    /// The unfinished line of stream 1.
+    /// The unfinished line of stdout.
     pub first: Vec<u8>,
-    /// The unfinished line of stream 2.
+    /// The unfinished line of stderr.
     pub second: Vec<u8>,
     /// How many lines were released.
     pub released: u64,
@@ -50,7 +51,7 @@ pub struct HostParts {
 #[derive(Clone, Copy, Debug, PartialEq, Eq)]
 pub enum PartsFault {
     /// No host has these parts.
-    NoHost,
+    NoWasiState,
     /// Memory ran out.
     Memory,
 }
@@ -161,9 +162,9 @@ fn is_time(time: u64)
 }
 
 /// Whether a host has these parts.
-fn is_host(config: &Config, parts: &HostParts) -> bool
+fn is_host(config: &Config, parts: &WasiStateParts) -> bool
     ensures { (version : Version) → IsTrue result
-        ↔ IsHost (held_host_from config.now version parts.now).host }
+        ↔ IsWasiState (held_host_from config.now version parts.now).host }
 {
     are_bytes(parts.unread.as_slice());
     is_time(parts.last_monotonic);
@@ -173,26 +174,26 @@ fn is_host(config: &Config, parts: &HostParts) -> bool
         && is_unfinished(parts.second.as_slice())
 }
 
-impl Host {
+impl WasiState {
     /// The host that has these parts. It takes memory for the two lines that an end may
     /// emit, after all tests.
     pub fn from_parts(
         alloc: Global,
         config: Config,
         version: Version,
-        parts: HostParts,
-    ) -> Result<Host, PartsFault>
+        parts: WasiStateParts,
+    ) -> Result<WasiState, PartsFault>
         ensures made { IfOk result (λ h. h ≡ held_host_from config version parts) }
-        ensures is { result ≢ Err PartsFault.NoHost
-            → IsHost (held_host_from config version parts).host }
-        ensures refused { result ≡ Err PartsFault.NoHost
-            → ¬ IsHost (held_host_from config version parts).host }
+        ensures is { result ≢ Err PartsFault.NoWasiState
+            → IsWasiState (held_host_from config version parts).host }
+        ensures refused { result ≡ Err PartsFault.NoWasiState
+            → ¬ IsWasiState (held_host_from config version parts).host }
     {
         if !is_host(&config, &parts) {
-            return Err(PartsFault::NoHost);
+            return Err(PartsFault::NoWasiState);
         }
         let streams = Streams::of_unfinished(alloc, parts.first, parts.second, parts.released)?;
-        Ok(Host {
+        Ok(WasiState {
             config,
             version,
             tree: parts.tree,

@@ -3,12 +3,12 @@
 ghost use Rattle.std.specs.Prelude.{◌≡◌};
 ghost use Rattle.wasi_calls.specs.FewTexts.{AreFewTexts};
 
-use crate::host::Host;
-use wasm_syntax::Row;
+use crate::host::WasiState;
+use wasm_syntax::ItemList;
 
-impl Host {
+impl WasiState {
     /// What the guest is called with.
-    pub(crate) fn arguments(&self) -> &[Row<u8>]
+    pub(crate) fn arguments(&self) -> &[ItemList<u8>]
         ensures texts { result.now ≡ self.now.host.arguments }
         ensures few { AreFewTexts result.now }
     {
@@ -16,7 +16,7 @@ impl Host {
     }
 
     /// The entries of its environment.
-    pub(crate) fn environment(&self) -> &[Row<u8>]
+    pub(crate) fn environment(&self) -> &[ItemList<u8>]
         ensures texts { result.now ≡ self.now.host.environment }
         ensures few { AreFewTexts result.now }
     {

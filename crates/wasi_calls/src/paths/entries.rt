@@ -9,12 +9,12 @@ ghost use Rattle.wasi_calls.specs.Steps.{StopsStep};
 ghost use Rattle.wasi_calls.specs.rules.Calls.{IsAsLarge};
 
 use crate::descriptor::Names;
-use crate::host::Host;
+use crate::host::WasiState;
 use crate::memory::in_range;
 use crate::paths::{PathNames, Place, find_place, path_bytes};
 use crate::status::put_filestat;
 use crate::stop::CallStop;
-use file_tree::NodeKind;
+use file_tree::NodeType;
 use guest_memory::Memory;
 use std::alloc::Global;
 use wasi_abi::{ALL_LOOKUP_FLAGS, Errno, FILESTAT_BYTES, Rights};
@@ -32,7 +32,7 @@ pub struct PathFilestatArguments {
 
 /// `path_filestat_get`.
 pub fn get_path_filestat(
-    host: &Host,
+    host: &WasiState,
     memory: &mut Memory,
     arguments: PathFilestatArguments,
 ) -> Result<(), Errno>
@@ -63,7 +63,7 @@ pub fn get_path_filestat(
 /// `path_create_directory`.
 pub fn create_directory(
     alloc: Global,
-    host: &mut Host,
+    host: &mut WasiState,
     memory: &Memory,
     fd: u32,
     path: u32,
@@ -89,13 +89,13 @@ pub fn create_directory(
     }
     host.check_path(directory)?;
     host.check_free_node()?;
-    host.create(alloc, directory, name, NodeKind::Directory)?;
+    host.create(alloc, directory, name, NodeType::Directory)?;
     Ok(())
 }
 
 /// `path_remove_directory`.
 pub fn remove_directory(
-    host: &mut Host,
+    host: &mut WasiState,
     memory: &Memory,
     fd: u32,
     path: u32,
@@ -129,7 +129,7 @@ pub fn remove_directory(
 
 /// `path_unlink_file`.
 pub fn unlink_file(
-    host: &mut Host,
+    host: &mut WasiState,
     memory: &Memory,
     fd: u32,
     path: u32,

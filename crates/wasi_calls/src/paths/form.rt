@@ -139,7 +139,7 @@ fn is_dropped(part: &[u8]) -> bool
     }
 }
 
-/// The part before the first slash, and what is behind it. Where there is no slash nothing is.
+/// The part before the first slash, and what is after it. Where there is no slash nothing is.
 fn split(bytes: &[u8]) -> (&[u8], &[u8])
     ensures names { names_of bytes.now ≡ (if is_dropped result.0.now then names_of result.1.now
         else result.0.now ∷ names_of result.1.now) }

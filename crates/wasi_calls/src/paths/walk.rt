@@ -9,7 +9,7 @@ ghost use Rattle.wasi_calls.specs.Places.{AreWalked, IsWellPlaced, walk_end_of};
 ghost use Rattle.wasi_calls.specs.Steps.{GivesValue};
 
 use crate::descriptor::{Descriptor, Names};
-use crate::host::Host;
+use crate::host::WasiState;
 use crate::paths::form::PathNames;
 use wasi_abi::Errno;
 
@@ -23,7 +23,7 @@ pub enum Place<'a> {
 /// Where the names lead from an open directory. `Notcapable` where they leave it, `Noent` where one
 /// but the last isn't there, and `Notdir` where it is no directory.
 pub fn find_place<'a>(
-    host: &Host,
+    host: &WasiState,
     descriptor: &Descriptor,
     names: PathNames<'a>,
 ) -> Result<Place<'a>, Errno>
@@ -40,7 +40,7 @@ pub fn find_place<'a>(
 }
 
 /// Where the names lead from a directory. They may lead back no further than there.
-fn walk<'a>(host: &Host, start: u64, names: PathNames<'a>) -> Result<Place<'a>, Errno>
+fn walk<'a>(host: &WasiState, start: u64, names: PathNames<'a>) -> Result<Place<'a>, Errno>
     requires directory { is_directory host.now.host.files start ≡ true }
     requires walked { AreWalked names }
     ensures gives { GivesValue walk_end_of result (walk host.now.host.files start [] names.entry) }

@@ -1,6 +1,6 @@
 -- The limits of the calls, as numbers.
 use Rattle.std.specs.Prelude.{◌≡◌, length}
-use Rattle.wasi_calls_rules.specs.Hosts.{first_descriptors}
+use Rattle.wasi_calls_rules.specs.WasiStates.{first_descriptors}
 use Rattle.wasi_calls_rules.specs.declared.limits.TheConstants.{DESCRIPTORS, IOVECS, MOVED_BYTES}
 use Rattle.wasi_calls_rules.specs.declared.limits.TheConstants.{LINE_BYTES, TEXT_BYTES}
 

@@ -1,6 +1,5 @@
 -- Worked examples of the calls on single descriptors. Where one has several faults, the first in
--- the order of the checks
--- is told.
+-- the order of the checks is told.
 use Rattle.std.specs.Prelude.{◌≡◌, ℕ, ◌-◌, ◌^◌, [], ◌∷◌, ◌++◌, take, drop, replicate, codes, Some}
 use Rattle.std.specs.Prelude.{None}
 use Rattle.wasi_abi.specs.declared.errno.Errno.TheVariants.{Badf, Fault, Fbig, Inval, Isdir}
@@ -9,7 +8,7 @@ use Rattle.wasi_abi.specs.declared.call.Call.TheVariants as call
 use Rattle.wasi_abi.specs.rules.Numbers.{file_rights}
 use Rattle.wasi_abi.specs.rules.Layouts.{padding}
 use Rattle.file_tree.specs.rules.Files.{Files, FileNode, File}
-use Rattle.wasi_calls_rules.specs.Hosts.{Host, first_descriptors}
+use Rattle.wasi_calls_rules.specs.WasiStates.{WasiState, first_descriptors}
 use Rattle.wasi_calls_rules.specs.Checks.{Bytes}
 use Rattle.wasi_calls_rules.specs.Small.{with_descriptor, call_done}
 use Rattle.wasi_calls_rules.specs.laws.Examples.{bare_host}
@@ -20,7 +19,7 @@ use Rattle.wasi_calls_rules.specs.laws.Scenes.{node_descriptor, a_open}
 -- ---- closing
 
 -- `a`, which holds `xyz`, is open as descriptor 4 with every right of a file
-abbrev pub xyz_open : Host
+abbrev pub xyz_open : WasiState
 xyz_open = a_open (codes "xyz") file_rights 0
 
 -- the root, and node 2, which was removed
@@ -31,13 +30,13 @@ abbrev pub tree_without_a : Files
 tree_without_a = record { nodes = root_node ∷ removed_a ∷ []; next = 3 }
 
 -- a removed file that is open as 4 and as 5
-abbrev pub open_twice : Host
+abbrev pub open_twice : WasiState
 open_twice =
     with_descriptor 5 (node_descriptor 2 file_rights 0 0)
     (record xyz_open { files = tree_without_a })
 
 -- the same without 4
-abbrev pub open_once : Host
+abbrev pub open_once : WasiState
 open_once = record open_twice {
   descriptors = take 4 first_descriptors
       ++ (None ∷ Some (node_descriptor 2 file_rights 0 0) ∷ replicate 58 None);
@@ -62,7 +61,7 @@ pub record CloseExamples : Type 0 where
 -- ---- guest syncs
 
 -- the file `a`, open as descriptor 4 with these rights
-abbrev pub xyz_with : ℕ → Host
+abbrev pub xyz_with : ℕ → WasiState
 xyz_with base = a_open (codes "xyz") base 0
 
 pub record SyncExamples : Type 0 where
@@ -82,7 +81,7 @@ pub record SyncExamples : Type 0 where
 -- ---- what a descriptor is
 
 -- `a` is open with the flags `append` and `nonblock`, and inheriting rights
-abbrev pub with_flags : ℕ → Host
+abbrev pub with_flags : ℕ → WasiState
 with_flags flags = with_descriptor 4 (node_descriptor 2 file_rights 2 flags) xyz_open
 
 pub record StatusExamples : Type 0 where
@@ -152,7 +151,7 @@ file_b = record { number = 3; path = Some (codes "b" ∷ []); content = File (co
 
 -- `a` holds these bytes and is open as descriptor 4, at offset 3, with bit 22. All files may have
 -- 8 bytes, of which `b` has 3
-abbrev pub eight_in_all : Bytes → Host
+abbrev pub eight_in_all : Bytes → WasiState
 eight_in_all bytes = record (a_open bytes (2 ^ 22) 3) {
   room = 8;
   files = record { nodes = root_node ∷ file_a bytes ∷ file_b ∷ []; next = 4 };
@@ -211,7 +210,7 @@ pub record PrestatExamples : Type 0 where
 -- ---- offsets
 
 -- `a` is open with these rights, at this offset
-abbrev pub at_offset : ℕ → ℕ → Host
+abbrev pub at_offset : ℕ → ℕ → WasiState
 at_offset base offset = a_open (codes "xyz") base offset
 
 -- so many back, as a number of 64 bits

@@ -8,7 +8,7 @@ use Rattle.wasi_abi.specs.declared.errno.Errno.TheVariants.{Notcapable}
 use Rattle.wasi_abi.specs.declared.call.Call.TheVariants as call
 use Rattle.wasi_abi.specs.rules.Numbers.{file_rights, directory_rights, all_rights}
 use Rattle.file_tree.specs.rules.Files.{File}
-use Rattle.wasi_calls_rules.specs.Hosts.{Descriptor, Host, first_descriptors}
+use Rattle.wasi_calls_rules.specs.WasiStates.{Descriptor, WasiState, first_descriptors}
 use Rattle.wasi_calls_rules.specs.Checks.{Bytes, Ruling}
 use Rattle.wasi_calls_rules.specs.Small.{call_done, with_descriptor}
 use Rattle.wasi_calls_rules.specs.laws.Examples.{bare_host}
@@ -20,22 +20,22 @@ use Rattle.wasi_calls_rules.specs.laws.Trees.{directory_d_e, directory_f, before
 use Rattle.wasi_calls_rules.specs.laws.Trees.{in_removed, opens_from_root}
 
 -- the tree, of which nothing is open but the root, as descriptor 3
-abbrev pub closed_grove : Host
+abbrev pub closed_grove : WasiState
 closed_grove = record bare_host { files = grove }
 
 -- the path is opened as this number, with this descriptor, and leaves the host otherwise
-abbrev pub is_opened_as : ℕ → Descriptor → Bytes → Host → Ruling
+abbrev pub is_opened_as : ℕ → Descriptor → Bytes → WasiState → Ruling
 is_opened_as n d path h = call_done (path ++ small_u32 n) (with_descriptor n d h)
 
 -- the tree with other bytes in `a`
-abbrev pub grove_with_a : Bytes → Host
+abbrev pub grove_with_a : Bytes → WasiState
 grove_with_a bytes = record bare_host {
   files = before_seven (root_node ∷ file_a bytes ∷ directory_d ∷ file_d_b ∷ directory_d_e
       ∷ directory_f ∷ []);
 }
 
 -- the tree with a new, empty file `d/c`, node 7
-abbrev pub grove_with_c : Host
+abbrev pub grove_with_c : WasiState
 grove_with_c = record bare_host {
   files = record {
     nodes = grove.nodes ++ placed_node 7 (codes "d" ∷ codes "c" ∷ []) (File []) ∷ [];
@@ -115,14 +115,14 @@ pub record OpenRefusedExamples : Type 0 where
 -- ---- rights
 
 -- descriptor 4 is the root of the tree, with rights of its own and to hand on
-abbrev pub root_with : ℕ → ℕ → Host
+abbrev pub root_with : ℕ → ℕ → WasiState
 root_with base inheriting =
     with_descriptor 4 (record (node_descriptor 1 base 0 0) { inheriting = inheriting })
     closed_grove
 
 -- `a` is opened from descriptor 4, with open flags, and rights to have and to hand on; the flags
 -- for lookup are 2
-abbrev pub badly_opens : ℕ → ℕ → ℕ → Host → Ruling
+abbrev pub badly_opens : ℕ → ℕ → ℕ → WasiState → Ruling
 badly_opens oflags base inheriting h =
     bare_call call.PathOpen (4 ∷ 2 ∷ 0 ∷ 9 ∷ oflags ∷ base ∷ inheriting ∷ 0 ∷ 9 ∷ [])
     (codes "a" ++ old_bytes 4) h
@@ -151,20 +151,20 @@ pub record OpenRightExamples : Type 0 where
 -- ---- numbers and nodes
 
 -- so many descriptors from 4 on are open
-abbrev pub many_open : ℕ → Host → Host
+abbrev pub many_open : ℕ → WasiState → WasiState
 many_open n h = record h {
   descriptors = take 4 first_descriptors ++ replicate n (Some (node_descriptor 1 0 0 0))
       ++ replicate (60 - n) None;
 }
 
 -- no stream is open
-abbrev pub no_streams : Host
+abbrev pub no_streams : WasiState
 no_streams = record closed_grove {
   descriptors = None ∷ None ∷ None ∷ Some (directory_descriptor 1) ∷ replicate 60 None;
 }
 
 -- the root, and so many nodes that were removed
-abbrev pub full_of_nodes : ℕ → Host
+abbrev pub full_of_nodes : ℕ → WasiState
 full_of_nodes n = record bare_host {
   files = record {
     nodes = root_node ∷ lost_nodes n 2;
@@ -188,7 +188,7 @@ pub record OpenLimitExamples : Type 0 where
       ≡ is_opened_as 63 (node_descriptor 2 2 0 0) (codes "a") (many_open 59 closed_grove)
   pub no_number : opens_from_root (codes "a") 8 2 0 0 (many_open 60 closed_grove)
       ≡ refused_by Mfile
-  -- what stands at the path is told before that, and that before there is no node
+  -- what is at the path is told before that, and that before there is no node
   pub directory_first : opens_from_root (codes "a") 2 2 0 0 (many_open 60 closed_grove)
       ≡ refused_by Notdir
   pub missing_first : opens_from_root (codes "x") 0 2 0 0 (many_open 60 closed_grove)

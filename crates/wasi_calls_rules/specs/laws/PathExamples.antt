@@ -9,7 +9,7 @@ use Rattle.wasi_abi.specs.declared.call.Call.TheVariants as call
 use Rattle.wasi_abi.specs.rules.Numbers.{directory_rights}
 use Rattle.wasi_abi.specs.rules.Layouts.{padding}
 use Rattle.file_tree.specs.rules.Files.{Path, Directory, File, FileNode, Files}
-use Rattle.wasi_calls_rules.specs.Hosts.{Host}
+use Rattle.wasi_calls_rules.specs.WasiStates.{WasiState}
 use Rattle.wasi_calls_rules.specs.Checks.{Bytes, Refuses, Ruling}
 use Rattle.wasi_calls_rules.specs.Small.{call_done, with_descriptor}
 use Rattle.wasi_calls_rules.specs.Paths.{formed}
@@ -25,7 +25,7 @@ use Rattle.wasi_calls_rules.specs.laws.Trees.{no_directory_open, with_path, stat
 
 -- ---- listing
 
--- an entry: the place behind it, a node, a length and a file type, and then a name
+-- an entry: the place after it, a node, a length and a file type, and then a name
 abbrev pub directory_entry : ℕ → ℕ → ℕ → Bytes → Bytes
 directory_entry next node type name =
     small_u64 next ++ (small_u64 node ++ (small_u32 (length name) ++ (small_u32 type ++ name)))
@@ -37,7 +37,7 @@ root_entries =
     3 (codes "f"))
 
 -- the root is open with bit 14, and in it are the files `b`, `ab` and `a`, made in this order
-abbrev pub two_files : Host
+abbrev pub two_files : WasiState
 two_files = root_open (2 ^ 14) (record {
   nodes = root_node ∷ placed_node 2 (codes "b" ∷ []) (File []) ∷ placed_node 3 (codes "ab" ∷ [])
       (File []) ∷ placed_node 4 (codes "a" ∷ []) (File []) ∷ [];
@@ -109,11 +109,11 @@ pub record FormExamples : Type 0 where
 -- ---- the walk, seen through the status of the node at its end
 
 -- the status is told
-abbrev pub has_status : ℕ → ℕ → ℕ → ℕ → Bytes → Host → Ruling
+abbrev pub has_status : ℕ → ℕ → ℕ → ℕ → Bytes → WasiState → Ruling
 has_status node type links size path h = call_done (path ++ status node type links size) h
 
 -- bit 18 is the right that is needed
-abbrev pub looking : Host
+abbrev pub looking : WasiState
 looking = in_grove (2 ^ 18)
 
 pub record WalkExamples : Type 0 where
@@ -168,11 +168,11 @@ pub record PathStatusExamples : Type 0 where
 -- ---- making a directory
 
 -- the call from descriptor 4
-abbrev pub makes_directory : Bytes → Host → Ruling
+abbrev pub makes_directory : Bytes → WasiState → Ruling
 makes_directory path h = with_path call.PathCreateDirectory path h
 
 -- bit 9 is the right that is needed
-abbrev pub making : Host
+abbrev pub making : WasiState
 making = in_grove (2 ^ 9)
 
 -- the tree with one more directory
@@ -180,7 +180,7 @@ abbrev pub grove_with : Path → Files
 grove_with p = record { nodes = grove.nodes ++ placed_node 7 p Directory ∷ []; next = 8 }
 
 -- a tree of so many nodes beside the root
-abbrev pub crowded : ℕ → ℕ → Host
+abbrev pub crowded : ℕ → ℕ → WasiState
 crowded base n = root_open base (record { nodes = root_node ∷ lost_nodes n 2; next = n + 2 })
 
 pub record MakingExamples : Type 0 where
@@ -214,17 +214,17 @@ pub record MakingExamples : Type 0 where
 -- ---- removing
 
 -- the calls from descriptor 4
-abbrev pub removes_directory : Bytes → Host → Ruling
+abbrev pub removes_directory : Bytes → WasiState → Ruling
 removes_directory path h = with_path call.PathRemoveDirectory path h
 
-abbrev pub unlinks : Bytes → Host → Ruling
+abbrev pub unlinks : Bytes → WasiState → Ruling
 unlinks path h = with_path call.PathUnlinkFile path h
 
 -- bit 25 is the right that removes a directory, and bit 26 the one that unlinks a file
-abbrev pub removing : Host
+abbrev pub removing : WasiState
 removing = in_grove (2 ^ 25)
 
-abbrev pub unlinking : Host
+abbrev pub unlinking : WasiState
 unlinking = in_grove (2 ^ 26)
 
 pub record RemovalExamples : Type 0 where
@@ -271,7 +271,7 @@ pub record RemovalExamples : Type 0 where
 -- ---- renaming
 
 -- bits 16 and 17 are the rights of source and target
-abbrev pub moving : Host
+abbrev pub moving : WasiState
 moving = in_grove (2 ^ 16 + 2 ^ 17)
 
 -- after a rename of one path to another the root is open in these nodes
@@ -279,7 +279,7 @@ abbrev pub has_moved : Bytes → Bytes → List FileNode → Ruling
 has_moved old new nodes = call_done (old ++ new) (in_other (2 ^ 16 + 2 ^ 17) nodes)
 
 -- descriptor 4 has the right of a source alone, and 5, which names `d`, that of a target
-abbrev pub from_root_to_d : Files → Host
+abbrev pub from_root_to_d : Files → WasiState
 from_root_to_d files =
     with_descriptor 5 (node_descriptor 3 (2 ^ 17) 0 0) (root_open (2 ^ 16) files)
 
@@ -312,7 +312,7 @@ pub record RenameExamples : Type 0 where
   pub not_empty : renames (codes "f") (codes "d") moving ≡ refused_by Notempty
   pub into_itself : renames (codes "d") (codes "d/g") moving ≡ refused_by Inval
   pub below_itself : renames (codes "d") (codes "d/e/g") moving ≡ refused_by Inval
-  -- the source is no part of its own target also where something stands there
+  -- the source is no part of its own target also where something is there
   pub onto_own_file : renames (codes "d") (codes "d/b") moving ≡ refused_by Inval
   pub missing : renames (codes "x") (codes "y") moving ≡ refused_by Noent
   pub self_source : renames (codes ".") (codes "y") moving ≡ refused_by Inval

@@ -4,13 +4,13 @@ use Rattle.wasi_abi.specs.declared.errno.Errno.TheVariants.{Badf, Exist, Fault, 
 use Rattle.wasi_abi.specs.declared.errno.Errno.TheVariants.{Inval, Isdir, Mfile, Nametoolong}
 use Rattle.wasi_abi.specs.declared.errno.Errno.TheVariants.{Noent, Nospc, Notdir, Notempty, Spipe}
 use Rattle.wasi_abi.specs.declared.errno.Errno.TheVariants.{Notcapable}
-use Rattle.wasi_abi.specs.declared.answer.Kind.TheVariants as kind
+use Rattle.wasi_abi.specs.declared.answer.Question.TheVariants as question
 use Rattle.wasi_abi.specs.declared.answer.Answer.TheVariants as answer
 use Rattle.wasi_abi.specs.declared.call.Call.TheVariants as call
 use Rattle.wasi_abi.specs.rules.Numbers.{errno_number}
 use Rattle.wasi_abi.specs.rules.Layouts.{padding}
 use Rattle.wasi_abi.specs.declared.version.Version.TheVariants.{One, Two}
-use Rattle.wasi_calls_rules.specs.Hosts.{Host, first_host}
+use Rattle.wasi_calls_rules.specs.WasiStates.{WasiState, first_host}
 use Rattle.wasi_calls_rules.specs.Checks.{Asks, Ends}
 use Rattle.wasi_calls_rules.specs.Small.{call_done}
 use Rattle.wasi_calls_rules.specs.laws.Examples.{bare_host}
@@ -27,7 +27,7 @@ pub record ErrorNumbers : Type 0 where
 -- ---- arguments and environment
 
 -- two arguments, and one entry of the environment
-abbrev pub with_texts : Host
+abbrev pub with_texts : WasiState
 with_texts = first_host 65536 One (codes "ab" ∷ codes "c" ∷ []) (codes "X=1" ∷ [])
 
 pub record TextExamples : Type 0 where
@@ -63,7 +63,7 @@ pub record TextExamples : Type 0 where
 -- ---- clocks
 
 -- the guest has seen the time 50
-abbrev pub seen_fifty : Host
+abbrev pub seen_fifty : WasiState
 seen_fifty = record bare_host { last_monotonic = 50 }
 
 pub record ClockExamples : Type 0 where
@@ -77,9 +77,9 @@ pub record ClockExamples : Type 0 where
       ≡ refused_by Fault
   -- the precision, 7, has no effect
   pub asks_real : bare_call call.ClockTimeGet (0 ∷ 7 ∷ 2 ∷ []) (old_bytes 10) bare_host
-      ≡ Err (Asks kind.Realtime)
+      ≡ Err (Asks question.Realtime)
   pub asks_monotonic : bare_call call.ClockTimeGet (1 ∷ 7 ∷ 2 ∷ []) (old_bytes 10) bare_host
-      ≡ Err (Asks kind.Monotonic)
+      ≡ Err (Asks question.Monotonic)
   pub time_of_none : bare_call call.ClockTimeGet (2 ∷ 7 ∷ 3 ∷ []) (old_bytes 10) bare_host
       ≡ refused_by Inval
   pub time_beyond : bare_call call.ClockTimeGet (1 ∷ 7 ∷ 3 ∷ []) (old_bytes 10) bare_host
@@ -95,17 +95,17 @@ pub record ClockExamples : Type 0 where
   pub first_seen : answered_call (answer.Monotonic 50) call.ClockTimeGet (1 ∷ 7 ∷ 0 ∷ [])
       (old_bytes 8) bare_host ≡ call_done (small_u64 50) seen_fifty
   pub other_clock : answered_call (answer.Monotonic 40) call.ClockTimeGet (0 ∷ 7 ∷ 0 ∷ [])
-      (old_bytes 8) bare_host ≡ Err (Asks kind.Realtime)
+      (old_bytes 8) bare_host ≡ Err (Asks question.Realtime)
   -- the last number of 64 bits, and the first that is none
   pub latest : answered_call (answer.Realtime (2 ^ 64 - 1)) call.ClockTimeGet (0 ∷ 7 ∷ 0 ∷ [])
       (old_bytes 8) bare_host ≡ call_done (old_bytes 8) bare_host
   pub too_late : answered_call (answer.Realtime (2 ^ 64)) call.ClockTimeGet (0 ∷ 7 ∷ 0 ∷ [])
-      (old_bytes 8) bare_host ≡ Err (Asks kind.Realtime)
+      (old_bytes 8) bare_host ≡ Err (Asks question.Realtime)
   pub latest_seen : answered_call (answer.Monotonic (2 ^ 64 - 1)) call.ClockTimeGet
       (1 ∷ 7 ∷ 0 ∷ []) (old_bytes 8) bare_host
       ≡ call_done (old_bytes 8) (record bare_host { last_monotonic = 2 ^ 64 - 1 })
   pub too_late_seen : answered_call (answer.Monotonic (2 ^ 64)) call.ClockTimeGet
-      (1 ∷ 7 ∷ 0 ∷ []) (old_bytes 8) bare_host ≡ Err (Asks kind.Monotonic)
+      (1 ∷ 7 ∷ 0 ∷ []) (old_bytes 8) bare_host ≡ Err (Asks question.Monotonic)
 
 -- ---- random bytes
 
@@ -113,7 +113,7 @@ pub record RandomExamples : Type 0 where
   pub none_wanted : bare_call call.RandomGet (8 ∷ 0 ∷ []) (old_bytes 8) bare_host
       ≡ call_done (old_bytes 8) bare_host
   pub asks : bare_call call.RandomGet (5 ∷ 3 ∷ []) (old_bytes 8) bare_host
-      ≡ Err (Asks (kind.Random 3))
+      ≡ Err (Asks (question.Random 3))
   pub beyond_memory : bare_call call.RandomGet (6 ∷ 3 ∷ []) (old_bytes 8) bare_host
       ≡ refused_by Fault
   pub most : bare_call call.RandomGet (0 ∷ 4096 ∷ []) (old_bytes 8) bare_host ≡ refused_by Fault
@@ -127,11 +127,11 @@ pub record RandomExamples : Type 0 where
       (old_bytes 8) bare_host ≡ call_done (old_bytes 4 ++ (1 ∷ 2 ∷ 3 ∷ 255 ∷ [])) bare_host
   -- an answer that is too short, or too long, is as none
   pub too_short : answered_call (answer.Random (1 ∷ 2 ∷ [])) call.RandomGet (4 ∷ 3 ∷ [])
-      (old_bytes 8) bare_host ≡ Err (Asks (kind.Random 3))
+      (old_bytes 8) bare_host ≡ Err (Asks (question.Random 3))
   pub too_long : answered_call (answer.Random (1 ∷ 2 ∷ 3 ∷ 4 ∷ [])) call.RandomGet (4 ∷ 3 ∷ [])
-      (old_bytes 8) bare_host ≡ Err (Asks (kind.Random 3))
+      (old_bytes 8) bare_host ≡ Err (Asks (question.Random 3))
   pub no_byte : answered_call (answer.Random (1 ∷ 256 ∷ 3 ∷ [])) call.RandomGet (4 ∷ 3 ∷ [])
-      (old_bytes 8) bare_host ≡ Err (Asks (kind.Random 3))
+      (old_bytes 8) bare_host ≡ Err (Asks (question.Random 3))
 
 -- ---- the process
 

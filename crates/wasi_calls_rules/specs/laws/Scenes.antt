@@ -5,21 +5,21 @@ use Rattle.wasi_abi.specs.declared.answer.Answer.{Answer}
 use Rattle.wasi_abi.specs.declared.call.Call.{Call}
 use Rattle.wasi_abi.specs.rules.Layouts.{iovec_bytes, padding}
 use Rattle.file_tree.specs.rules.Files.{Files, FileNode, Directory, File}
-use Rattle.wasi_calls_rules.specs.Hosts.{Node, Descriptor, Host}
+use Rattle.wasi_calls_rules.specs.WasiStates.{Node, Descriptor, WasiState}
 use Rattle.wasi_calls_rules.specs.Checks.{Bytes, Refuses, Ruling}
 use Rattle.wasi_calls_rules.specs.Small.{with_descriptor}
-use Rattle.wasi_calls_rules.specs.Rows.{row}
+use Rattle.wasi_calls_rules.specs.CallRules.{call_rule}
 use Rattle.wasi_calls_rules.specs.laws.Examples.{bare_host}
 
 -- ---- calls and what they come to
 
 -- a call that has no outside answer
-abbrev pub bare_call : Call → List ℕ → Bytes → Host → Ruling
-bare_call c arguments m h = row c arguments None m h
+abbrev pub bare_call : Call → List ℕ → Bytes → WasiState → Ruling
+bare_call c arguments m h = call_rule c arguments None m h
 
 -- a call that has this outside answer
-abbrev pub answered_call : Answer → Call → List ℕ → Bytes → Host → Ruling
-answered_call a c arguments m h = row c arguments (Some a) m h
+abbrev pub answered_call : Answer → Call → List ℕ → Bytes → WasiState → Ruling
+answered_call a c arguments m h = call_rule c arguments (Some a) m h
 
 abbrev pub refused_by : Errno → Ruling
 refused_by e = Err (Refuses e)
@@ -37,7 +37,7 @@ small_u32 n = n ∷ padding 3
 abbrev pub small_u64 : ℕ → Bytes
 small_u64 n = n ∷ padding 7
 
--- an iovec at 0, a cell for the count at 8, and the buffer behind it
+-- an iovec at 0, a cell for the count at 8, and the buffer after it
 abbrev pub one_buffer : Bytes → Bytes → Bytes
 one_buffer cell bytes = iovec_bytes 12 (length bytes) ++ (cell ++ bytes)
 
@@ -61,12 +61,12 @@ node_descriptor k base offset flags =
     record { target = Node k; offset = offset; flags = flags; base = base; inheriting = 0 }
 
 -- `a`, which holds these bytes, is open as descriptor 4 with these rights, at this offset
-abbrev pub a_open : Bytes → ℕ → ℕ → Host
+abbrev pub a_open : Bytes → ℕ → ℕ → WasiState
 a_open bytes base offset =
     with_descriptor 4 (node_descriptor 2 base offset 0)
     (record bare_host { files = tree_of_a bytes })
 
 -- the root is open as descriptor 4 with these rights
-abbrev pub root_open : ℕ → Files → Host
+abbrev pub root_open : ℕ → Files → WasiState
 root_open base files =
     with_descriptor 4 (node_descriptor 1 base 0 0) (record bare_host { files = files })

@@ -9,10 +9,11 @@ use Rattle.wasi_abi.specs.declared.call.Call.TheVariants as call
 use Rattle.wasi_abi.specs.rules.Numbers.{file_rights}
 use Rattle.wasi_abi.specs.rules.Layouts.{iovec_bytes, padding}
 use Rattle.file_tree.specs.rules.Files.{Directory, File}
-use Rattle.wasi_calls_rules.specs.Hosts.{Host}
+use Rattle.wasi_calls_rules.specs.WasiStates.{WasiState}
 use Rattle.wasi_calls_rules.specs.Checks.{Bytes, Ruling}
+use Rattle.wasi_calls_rules.specs.declared.output_stream.OutputStream.TheVariants.{Stdout}
 use Rattle.wasi_calls_rules.specs.Small.{call_done, with_descriptor}
-use Rattle.wasi_calls_rules.specs.Rows.{row}
+use Rattle.wasi_calls_rules.specs.CallRules.{call_rule}
 use Rattle.wasi_calls_rules.specs.laws.Examples.{bare_host}
 use Rattle.wasi_calls_rules.specs.laws.Scenes.{bare_call, answered_call, refused_by, old_bytes}
 use Rattle.wasi_calls_rules.specs.laws.Scenes.{small_u32, small_u64, one_buffer, root_node}
@@ -28,16 +29,16 @@ pub record GuestCall : Type 0 where
   pub memory : Bytes
   pub answer : Option Answer
 
-abbrev pub ruling_of : GuestCall → Host → Ruling
-ruling_of g h = row g.call g.arguments g.answer g.memory h
+abbrev pub ruling_of : GuestCall → WasiState → Ruling
+ruling_of g h = call_rule g.call g.arguments g.answer g.memory h
 
 -- the host after a call; one that isn't done leaves it
-abbrev pub host_behind : Ruling → Host → Host
+abbrev pub host_behind : Ruling → WasiState → WasiState
 host_behind (Ok done) h = done.host
 host_behind (Err halt) h = h
 
 -- the host after calls, one after another
-abbrev pub after_calls : List GuestCall → Host → Host
+abbrev pub after_calls : List GuestCall → WasiState → WasiState
 after_calls [] h = h
 after_calls (g ∷ calls) h = after_calls calls (host_behind (ruling_of g h) h)
 
@@ -93,13 +94,13 @@ moving_bytes c bytes = record {
 -- ---- a file moves into a directory
 
 -- `a` is made as descriptor 4, which is closed; `d` is made, and `a` goes to `d/a`
-abbrev pub moved_in : Host
+abbrev pub moved_in : WasiState
 moved_in =
     after_calls (opening (codes "a") 1 0 ∷ plain call.FdClose (4 ∷ []) ∷ on_path
     call.PathCreateDirectory (codes "d") ∷ renaming (codes "a") (codes "d/a") ∷ []) bare_host
 
 -- `d/a` is unlinked, and then `d` is removed
-abbrev pub moved_out : Host
+abbrev pub moved_out : WasiState
 moved_out =
     after_calls (on_path call.PathUnlinkFile (codes "d/a") ∷ on_path call.PathRemoveDirectory
     (codes "d") ∷ []) moved_in
@@ -131,7 +132,7 @@ pub record RenameStory : Type 0 where
 -- ---- a file that is open is unlinked
 
 -- `a`, which holds `abc`, is open as descriptor 4, and is unlinked
-abbrev pub unlinked_abc : Host
+abbrev pub unlinked_abc : WasiState
 unlinked_abc =
     after_calls (on_path call.PathUnlinkFile (codes "a") ∷ [])
     (a_open (codes "abc") file_rights 0)
@@ -185,11 +186,11 @@ reading_input n a = record {
 }
 
 -- a request `hello` of which three bytes were read
-abbrev pub lo_unread : Host
+abbrev pub lo_unread : WasiState
 lo_unread = after_calls (reading_input 3 (Some (answer.Request (codes "hello"))) ∷ []) bare_host
 
 -- the rest was read too, and then the end came
-abbrev pub all_read : Host
+abbrev pub all_read : WasiState
 all_read = after_calls (reading_input 3 None ∷ reading_input 3 (Some answer.End) ∷ []) lo_unread
 
 pub record AnswerStory : Type 0 where
@@ -226,11 +227,11 @@ pub record PageStory : Type 0 where
   pub long_line : bare_call call.FdWrite (1 ∷ 0 ∷ 1 ∷ 8 ∷ [])
       (one_buffer (old_bytes 4) (a_line 4097 ++ 10 ∷ [])) bare_host
       ≡ call_done (one_buffer (2 ∷ 16 ∷ 0 ∷ 0 ∷ []) (a_line 4097 ++ 10 ∷ []))
-      (record bare_host { lines = line_of 1 (a_line 4096) ∷ line_of 1 (codes "a") ∷ [] })
+      (record bare_host { lines = line_of Stdout (a_line 4096) ∷ line_of Stdout (codes "a") ∷ [] })
   pub full_line : bare_call call.FdWrite (1 ∷ 0 ∷ 1 ∷ 8 ∷ [])
       (one_buffer (old_bytes 4) (a_line 4096 ++ 10 ∷ [])) bare_host
       ≡ call_done (one_buffer (1 ∷ 16 ∷ 0 ∷ 0 ∷ []) (a_line 4096 ++ 10 ∷ []))
-      (record bare_host { lines = line_of 1 (a_line 4096) ∷ [] })
+      (record bare_host { lines = line_of Stdout (a_line 4096) ∷ [] })
   -- of 65,537 bytes in two buffers 65,536 are moved, as many as there is room for
   pub most_moved : bare_call call.FdPwrite (4 ∷ 0 ∷ 2 ∷ 0 ∷ 16 ∷ []) page_twice
       (a_open [] file_rights 0)

@@ -4,14 +4,16 @@ use Rattle.std.specs.Prelude.{◌≡◌, ℕ, ◌-◌, ◌^◌, true, List, [], 
 use Rattle.wasi_abi.specs.declared.errno.Errno.TheVariants.{Badf, Fault, Fbig, Inval, Isdir}
 use Rattle.wasi_abi.specs.declared.errno.Errno.TheVariants.{Nospc, Spipe, Notcapable}
 use Rattle.wasi_abi.specs.declared.version.Version.TheVariants.{Two}
-use Rattle.wasi_abi.specs.declared.answer.Kind.TheVariants as kind
+use Rattle.wasi_abi.specs.declared.answer.Question.TheVariants as question
 use Rattle.wasi_abi.specs.declared.answer.Answer.TheVariants as answer
 use Rattle.wasi_abi.specs.declared.call.Call.TheVariants as call
 use Rattle.wasi_abi.specs.rules.Numbers.{file_rights}
 use Rattle.wasi_abi.specs.rules.Layouts.{iovec_bytes, padding}
-use Rattle.wasi_calls_rules.specs.Hosts.{Line, Host}
+use Rattle.wasi_calls_rules.specs.WasiStates.{Line, WasiState}
 use Rattle.wasi_calls_rules.specs.Checks.{Bytes, Asks, Ruling, movable}
 use Rattle.wasi_calls_rules.specs.Lines.{lines_ended}
+use Rattle.wasi_calls_rules.specs.declared.output_stream.OutputStream.{OutputStream}
+use Rattle.wasi_calls_rules.specs.declared.output_stream.OutputStream.TheVariants.{Stdout, Stderr}
 use Rattle.wasi_calls_rules.specs.Small.{with_descriptor, call_done}
 use Rattle.wasi_calls_rules.specs.laws.Examples.{bare_host}
 use Rattle.wasi_calls_rules.specs.laws.Scenes.{bare_call, answered_call, refused_by, old_bytes}
@@ -25,19 +27,19 @@ abbrev pub a_line : ℕ → Bytes
 a_line n = replicate n 97
 
 -- a host that has these bytes of requests unread
-abbrev pub with_unread : Bytes → Host
+abbrev pub with_unread : Bytes → WasiState
 with_unread bytes = record bare_host { unread = bytes }
 
 -- a read of descriptor 0 into one buffer
-abbrev pub reads_input : Bytes → Host → Ruling
+abbrev pub reads_input : Bytes → WasiState → Ruling
 reads_input m h = bare_call call.FdRead (0 ∷ 0 ∷ 1 ∷ 8 ∷ []) m h
 
 -- the same, answered by a request's text
-abbrev pub reads_request : Bytes → Bytes → Host → Ruling
+abbrev pub reads_request : Bytes → Bytes → WasiState → Ruling
 reads_request text m h = answered_call (answer.Request text) call.FdRead (0 ∷ 0 ∷ 1 ∷ 8 ∷ []) m h
 
 -- input has ended
-abbrev pub ended_input : Host
+abbrev pub ended_input : WasiState
 ended_input = record bare_host { input_ended = true }
 
 pub record InputExamples : Type 0 where
@@ -50,8 +52,8 @@ pub record InputExamples : Type 0 where
   pub unread_before_answer : reads_request (codes "zz") (one_buffer (old_bytes 4) (old_bytes 3))
       (with_unread (codes "de"))
       ≡ call_done (one_buffer (small_u32 2) (codes "de" ++ old_bytes 1)) bare_host
-  pub wish : reads_input (one_buffer (old_bytes 4) (old_bytes 1)) bare_host
-      ≡ Err (Asks kind.Request)
+  pub asks_for_input : reads_input (one_buffer (old_bytes 4) (old_bytes 1)) bare_host
+      ≡ Err (Asks question.Request)
   -- a request's text and a newline
   pub hello : reads_request (codes "hello") (one_buffer (old_bytes 4) (old_bytes 8)) bare_host
       ≡ call_done (one_buffer (small_u32 6) (codes "hello" ++ (10 ∷ old_bytes 2))) bare_host
@@ -76,22 +78,22 @@ pub record InputExamples : Type 0 where
   pub longest : reads_request (a_line 4096) (one_buffer (old_bytes 4) (old_bytes 8)) bare_host
       ≡ call_done (one_buffer (small_u32 8) (a_line 8)) (with_unread (a_line 4088 ++ 10 ∷ []))
   pub too_long : reads_request (a_line 4097) (one_buffer (old_bytes 4) (old_bytes 8)) bare_host
-      ≡ Err (Asks kind.Request)
+      ≡ Err (Asks question.Request)
   pub longer_in_two : reads_request (a_line 4097) (one_buffer (old_bytes 4) (old_bytes 8))
       (record bare_host { version = Two })
       ≡ call_done (one_buffer (small_u32 8) (a_line 8))
       (record (with_unread (a_line 4089 ++ 10 ∷ [])) { version = Two })
   pub two_lines : reads_request (97 ∷ 10 ∷ []) (one_buffer (old_bytes 4) (old_bytes 8)) bare_host
-      ≡ Err (Asks kind.Request)
+      ≡ Err (Asks question.Request)
   pub no_byte : reads_request (97 ∷ 256 ∷ []) (one_buffer (old_bytes 4) (old_bytes 8)) bare_host
-      ≡ Err (Asks kind.Request)
+      ≡ Err (Asks question.Request)
   pub no_request : answered_call (answer.Realtime 5) call.FdRead (0 ∷ 0 ∷ 1 ∷ 8 ∷ [])
-      (one_buffer (old_bytes 4) (old_bytes 8)) bare_host ≡ Err (Asks kind.Request)
+      (one_buffer (old_bytes 4) (old_bytes 8)) bare_host ≡ Err (Asks question.Request)
 
 -- ---- reads of a file
 
 -- `a` holds `abcde` and is open with these rights, at this offset
-abbrev pub abcde_open : ℕ → ℕ → Host
+abbrev pub abcde_open : ℕ → ℕ → WasiState
 abcde_open base offset = a_open (codes "abcde") base offset
 
 -- two buffers, of 2 and 1 bytes, the later one in memory first
@@ -175,17 +177,17 @@ pub record PlaceReadExamples : Type 0 where
 
 -- `a` holds these bytes and is open with these rights, at this offset, with these flags. All
 -- files may have 8 bytes
-abbrev pub writing_a : Bytes → ℕ → ℕ → ℕ → Host
+abbrev pub writing_a : Bytes → ℕ → ℕ → ℕ → WasiState
 writing_a bytes base offset flags =
     with_descriptor 4 (node_descriptor 2 base offset flags)
     (record bare_host { files = tree_of_a bytes; room = 8 })
 
 -- a write of this text to descriptor 4
-abbrev pub writes_to_a : Bytes → Host → Ruling
+abbrev pub writes_to_a : Bytes → WasiState → Ruling
 writes_to_a text h = bare_call call.FdWrite (4 ∷ 0 ∷ 1 ∷ 8 ∷ []) (one_buffer (old_bytes 4) text) h
 
 -- memory after it
-abbrev pub has_written : ℕ → Bytes → Host → Ruling
+abbrev pub has_written : ℕ → Bytes → WasiState → Ruling
 has_written n text after = call_done (one_buffer (small_u32 n) text) after
 
 pub record FileWriteExamples : Type 0 where
@@ -214,7 +216,7 @@ pub record FileWriteExamples : Type 0 where
   pub most : writes_to_a (codes "XY") (writing_a (codes "abc") 64 1048574 0) ≡ refused_by Nospc
   pub too_large : writes_to_a (codes "XY") (writing_a (codes "abc") 64 1048575 0)
       ≡ refused_by Fbig
-  -- what is read from two buffers stands in the file in their order
+  -- what is read from two buffers is in the file in their order
   pub from_two : bare_call call.FdWrite (4 ∷ 0 ∷ 2 ∷ 16 ∷ [])
       (two_places (old_bytes 4) (codes "Z") (codes "XY")) (writing_a [] 64 0 0)
       ≡ call_done (two_places (small_u32 3) (codes "Z") (codes "XY"))
@@ -235,7 +237,7 @@ pub record FileWriteExamples : Type 0 where
       (writing_a [] 64 0 0) ≡ refused_by Fault
 
 -- a write of this text to descriptor 4 from a place on
-abbrev pub writes_at : ℕ → Bytes → Host → Ruling
+abbrev pub writes_at : ℕ → Bytes → WasiState → Ruling
 writes_at place text h =
     bare_call call.FdPwrite (4 ∷ 0 ∷ 1 ∷ place ∷ 8 ∷ []) (one_buffer (old_bytes 4) text) h
 
@@ -283,16 +285,16 @@ pub record MovedExamples : Type 0 where
 
 -- ---- lines
 
--- a line of stream 1 or 2
-abbrev pub line_of : ℕ → Bytes → Line
+-- a line of a stream
+abbrev pub line_of : OutputStream → Bytes → Line
 line_of stream text = record { stream = stream; text = text }
 
 -- a host with these lines, and these unfinished ones
-abbrev pub with_lines : List Line → Bytes → Bytes → Host
+abbrev pub with_lines : List Line → Bytes → Bytes → WasiState
 with_lines lines first second = record bare_host { lines = lines; first = first; second = second }
 
--- a write of this text to a stream
-abbrev pub writes_to : ℕ → Bytes → Host → Ruling
+-- a write of this text to a descriptor
+abbrev pub writes_to : ℕ → Bytes → WasiState → Ruling
 writes_to fd text h =
     bare_call call.FdWrite (fd ∷ 0 ∷ 1 ∷ 8 ∷ []) (one_buffer (old_bytes 4) text) h
 
@@ -300,24 +302,25 @@ pub record LineExamples : Type 0 where
   pub unfinished : writes_to 1 (codes "hi") (with_lines [] (codes "oh, ") (codes "no"))
       ≡ has_written 2 (codes "hi") (with_lines [] (codes "oh, hi") (codes "no"))
   pub finished : writes_to 1 (10 ∷ codes "hi")
-      (with_lines (line_of 2 [] ∷ []) (codes "oh") (codes "no"))
-      ≡ has_written 3 (10 ∷ codes "hi") (with_lines (line_of 2 [] ∷ line_of 1 (codes "oh") ∷ [])
-      (codes "hi") (codes "no"))
-  pub second_stream : writes_to 2 (codes "!" ++ 10 ∷ []) (with_lines [] (codes "oh") (codes "no"))
+      (with_lines (line_of Stderr [] ∷ []) (codes "oh") (codes "no"))
+      ≡ has_written 3 (10 ∷ codes "hi")
+      (with_lines (line_of Stderr [] ∷ line_of Stdout (codes "oh") ∷ []) (codes "hi") (codes "no"))
+  pub to_stderr : writes_to 2 (codes "!" ++ 10 ∷ []) (with_lines [] (codes "oh") (codes "no"))
       ≡ has_written 2 (codes "!" ++ 10 ∷ [])
-      (with_lines (line_of 2 (codes "no!") ∷ []) (codes "oh") [])
+      (with_lines (line_of Stderr (codes "no!") ∷ []) (codes "oh") [])
   pub empty_lines : writes_to 1 (10 ∷ 10 ∷ []) bare_host
-      ≡ has_written 2 (10 ∷ 10 ∷ []) (with_lines (line_of 1 [] ∷ line_of 1 [] ∷ []) [] [])
+      ≡ has_written 2 (10 ∷ 10 ∷ []) (with_lines (line_of Stdout [] ∷ line_of Stdout [] ∷ []) [] [])
   pub nothing : writes_to 1 [] (with_lines [] (codes "oh") [])
       ≡ has_written 0 [] (with_lines [] (codes "oh") [])
   -- the 4,096th byte is in the line, and a newline then ends it; the 4,097th begins the next one
   pub full : writes_to 1 (97 ∷ 10 ∷ []) (with_lines [] (a_line 4095) [])
-      ≡ has_written 2 (97 ∷ 10 ∷ []) (with_lines (line_of 1 (a_line 4096) ∷ []) [] [])
+      ≡ has_written 2 (97 ∷ 10 ∷ []) (with_lines (line_of Stdout (a_line 4096) ∷ []) [] [])
   pub more_than_full : writes_to 1 (97 ∷ 97 ∷ 10 ∷ []) (with_lines [] (a_line 4095) [])
       ≡ has_written 3 (97 ∷ 97 ∷ 10 ∷ [])
-      (with_lines (line_of 1 (a_line 4096) ∷ line_of 1 (codes "a") ∷ []) [] [])
-  -- at the end of the process the unfinished lines are emitted, that of stream 1 first; one
+      (with_lines (line_of Stdout (a_line 4096) ∷ line_of Stdout (codes "a") ∷ []) [] [])
+  -- at the end of the process the unfinished lines are emitted, that of stdout first; one
   -- without a byte isn't
-  pub ended : lines_ended (with_lines (line_of 1 [] ∷ []) (codes "oh") (codes "no"))
-      ≡ with_lines (line_of 1 [] ∷ line_of 1 (codes "oh") ∷ line_of 2 (codes "no") ∷ []) [] []
+  pub ended : lines_ended (with_lines (line_of Stdout [] ∷ []) (codes "oh") (codes "no"))
+      ≡ with_lines
+      (line_of Stdout [] ∷ line_of Stdout (codes "oh") ∷ line_of Stderr (codes "no") ∷ []) [] []
   pub none_unfinished : lines_ended bare_host ≡ bare_host

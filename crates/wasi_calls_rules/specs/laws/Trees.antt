@@ -4,7 +4,7 @@ use Rattle.wasi_abi.specs.declared.call.Call.{Call}
 use Rattle.wasi_abi.specs.declared.call.Call.TheVariants as call
 use Rattle.wasi_abi.specs.rules.Numbers.{directory_rights}
 use Rattle.file_tree.specs.rules.Files.{Path, Content, Directory, File, FileNode, Files}
-use Rattle.wasi_calls_rules.specs.Hosts.{Host}
+use Rattle.wasi_calls_rules.specs.WasiStates.{WasiState}
 use Rattle.wasi_calls_rules.specs.Checks.{Bytes, Ruling}
 use Rattle.wasi_calls_rules.specs.Small.{with_descriptor}
 use Rattle.wasi_calls_rules.specs.laws.Examples.{bare_host}
@@ -53,19 +53,19 @@ lost_nodes (suc n) k = lost_node k Directory ∷ lost_nodes n (k + 1)
 -- ---- hosts
 
 -- the root of the tree is open as descriptor 4 with these rights
-abbrev pub in_grove : ℕ → Host
+abbrev pub in_grove : ℕ → WasiState
 in_grove base = root_open base grove
 
 -- the same with these nodes
-abbrev pub in_other : ℕ → List FileNode → Host
+abbrev pub in_other : ℕ → List FileNode → WasiState
 in_other base nodes = root_open base (before_seven nodes)
 
 -- another node is open as descriptor 5 with the rights of a directory
-abbrev pub and_open : ℕ → Host → Host
+abbrev pub and_open : ℕ → WasiState → WasiState
 and_open k h = with_descriptor 5 (node_descriptor k directory_rights 0 0) h
 
 -- descriptor 4 names node 7, a directory that was removed
-abbrev pub in_removed : ℕ → Host
+abbrev pub in_removed : ℕ → WasiState
 in_removed base = with_descriptor 4 (node_descriptor 7 base 0 0) (record bare_host {
   files = record {
     nodes = root_node ∷ lost_node 7 Directory ∷ [];
@@ -74,30 +74,30 @@ in_removed base = with_descriptor 4 (node_descriptor 7 base 0 0) (record bare_ho
 })
 
 -- descriptor 4 is a file that is open with no rights
-abbrev pub no_directory_open : Host
+abbrev pub no_directory_open : WasiState
 no_directory_open = with_descriptor 4 (node_descriptor 2 0 0 0) (in_grove 0)
 
 -- ---- calls
 
 -- a call with a path, at the front of memory, from descriptor 4
-abbrev pub with_path : Call → Bytes → Host → Ruling
+abbrev pub with_path : Call → Bytes → WasiState → Ruling
 with_path c path h = bare_call c (4 ∷ 0 ∷ length path ∷ []) path h
 
--- the status of the node at a path, put behind it
-abbrev pub status_at : Bytes → Host → Ruling
+-- the status of the node at a path, put after it
+abbrev pub status_at : Bytes → WasiState → Ruling
 status_at path h =
     bare_call call.PathFilestatGet (4 ∷ 1 ∷ 0 ∷ length path ∷ length path ∷ [])
     (path ++ old_bytes 64) h
 
 -- a rename of one path to another, both from descriptor 4
-abbrev pub renames : Bytes → Bytes → Host → Ruling
+abbrev pub renames : Bytes → Bytes → WasiState → Ruling
 renames old new h =
     bare_call call.PathRename (4 ∷ 0 ∷ length old ∷ 4 ∷ length old ∷ length new ∷ []) (old ++ new)
     h
 
 -- a call of `path_open` from descriptor 3, with open flags, rights to inherit and to have, and
--- flags; the cell is behind the path
-abbrev pub opens_from_root : Bytes → ℕ → ℕ → ℕ → ℕ → Host → Ruling
+-- flags; the cell is after the path
+abbrev pub opens_from_root : Bytes → ℕ → ℕ → ℕ → ℕ → WasiState → Ruling
 opens_from_root path oflags base inheriting fdflags h =
     bare_call call.PathOpen (3 ∷ 1 ∷ 0 ∷ length path ∷ oflags ∷ base ∷ inheriting ∷ fdflags
     ∷ length path ∷ []) (path ++ old_bytes 4) h

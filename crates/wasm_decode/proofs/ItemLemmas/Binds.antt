@@ -13,7 +13,7 @@ pub bind_none : {A B : Type 0} (o : Option A) (f : A → Option B) → ((x : A) 
 bind_none (Some x) f h = h x
 bind_none None f h = refl
 
--- two steps that don't stand on one another
+-- two steps that don't be on one another
 pub bind_swap : {A B C : Type 0} (o : Option A) (p : Option B) (f : A → B → Option C)
     → (o >>= λ x. p >>= λ y. f x y) ≡ (p >>= λ y. o >>= λ x. f x y)
 bind_swap (Some x) p f = refl

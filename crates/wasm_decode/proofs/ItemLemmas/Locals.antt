@@ -49,7 +49,7 @@ module _ (locals : List ValueType) (count i : ℕ) (bytes : List ℕ) (total : O
 
 -- ---- the same as a vector of runs
 
--- the locals of runs, behind those that were declared before
+-- the locals of runs, after those that were declared before
 abbrev all_of : List ValueType → List LocalRun × List ℕ → Option (List ValueType × List ℕ)
 all_of locals runs = check (leb (length locals + locals_count runs.0) LOCALS)
     >>= λ _. Some (locals ++ locals_of runs.0, runs.1)

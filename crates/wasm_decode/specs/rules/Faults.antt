@@ -2,8 +2,8 @@
 use Rattle.std.specs.Prelude.{ℕ, Option, Some, None}
 use Rattle.wasm_decode.specs.declared.items.fault.ReadRefusal.TheVariants as refusal
 use Rattle.wasm_decode.specs.declared.items.limit.PassedLimit.{PassedLimit}
-use Rattle.wasm_decode.specs.declared.items.fault.ReadError.{ReadError}
-use Rattle.wasm_decode.specs.declared.items.fault.ReadError.TheVariants as read
+use Rattle.wasm_decode.specs.declared.items.fault.ItemFault.{ItemFault}
+use Rattle.wasm_decode.specs.declared.items.fault.ItemFault.TheVariants as read
 use Rattle.wasm_decode.specs.declared.fault.DecodeFault.{DecodeFault}
 use Rattle.wasm_decode.specs.declared.fault.DecodeFault.TheVariants as fault
 
@@ -22,7 +22,7 @@ passed_of (fault.Float at) = None
 passed_of fault.Memory = None
 
 -- what callers are told of a reader's fault
-abbrev pub decode_fault : ReadError → DecodeFault
+abbrev pub decode_fault : ItemFault → DecodeFault
 decode_fault (read.Refused (refusal.Malformed at)) = fault.Malformed at
 decode_fault (read.Refused (refusal.Float at)) = fault.Float at
 decode_fault (read.Refused (refusal.Limit passed)) = fault.Limit passed

@@ -8,17 +8,17 @@ ghost use Rattle.wasm_syntax.specs.laws.ReadingWithin.{code_within_at};
 
 use crate::items::decoder::Decoder;
 use crate::items::expressions::expression;
-use crate::items::fault::{ReadError, ReadRefusal};
+use crate::items::fault::{ItemFault, ReadRefusal};
 use crate::items::limit::ModuleLimit;
 use crate::items::types::value_type;
 use crate::items::vectors::take_sized;
 use std::alloc::{AllocFailed, Global};
 use wasm_syntax::limits::LOCALS;
-use wasm_syntax::{Code, Row, ValueType};
+use wasm_syntax::{Code, ItemList, ValueType};
 
 /// Declares so many more locals of one type.
 fn declare(
-    locals: &mut Row<ValueType>,
+    locals: &mut ItemList<ValueType>,
     count: u32,
     value_type: ValueType,
 ) -> Result<(), AllocFailed<ValueType>>
@@ -30,10 +30,10 @@ fn declare(
     Ok(())
 }
 
-/// A run of locals, behind the locals that were declared before. One local too many is told before
+/// A run of locals, after the locals that were declared before. One local too many is told before
 /// the type is read.
 #[tactic(auto, unfolding(crate::specs::Items::Entries::run_onto_at))]
-fn run(decoder: &mut Decoder, locals: Row<ValueType>) -> Result<Row<ValueType>, ReadError>
+fn run(decoder: &mut Decoder, locals: ItemList<ValueType>) -> Result<ItemList<ValueType>, ItemFault>
     requires { length locals ≤ LOCALS }
     ensures gives { GivesItem result decoder.new (run_onto_at locals decoder.old) }
     ensures few { IfOk result (λ all. length all ≤ LOCALS) }
@@ -42,7 +42,7 @@ fn run(decoder: &mut Decoder, locals: Row<ValueType>) -> Result<Row<ValueType>, 
     let count = decoder.u32()?;
     if count as usize > LOCALS - locals.len() {
         let refusal = ReadRefusal::past(ModuleLimit::Locals, start);
-        return Err(ReadError::Refused(refusal));
+        return Err(ItemFault::Refused(refusal));
     }
     let value_type = value_type(decoder)?;
     let mut locals = locals;
@@ -51,10 +51,10 @@ fn run(decoder: &mut Decoder, locals: Row<ValueType>) -> Result<Row<ValueType>, 
 }
 
 /// So many runs of locals.
-fn runs(alloc: Global, decoder: &mut Decoder, count: u32) -> Result<Row<ValueType>, ReadError>
+fn runs(alloc: Global, decoder: &mut Decoder, count: u32) -> Result<ItemList<ValueType>, ItemFault>
     ensures { GivesItem result decoder.new (runs_onto_at count [] decoder.old) }
 {
-    let mut locals = Row::new(alloc);
+    let mut locals = ItemList::new(alloc);
     for _ in 0..count {
         locals = run(decoder, locals)?;
     }
@@ -62,14 +62,14 @@ fn runs(alloc: Global, decoder: &mut Decoder, count: u32) -> Result<Row<ValueTyp
 }
 
 /// The types of the declared locals, one by one.
-fn locals(alloc: Global, decoder: &mut Decoder) -> Result<Row<ValueType>, ReadError>
+fn locals(alloc: Global, decoder: &mut Decoder) -> Result<ItemList<ValueType>, ItemFault>
     ensures { GivesItem result decoder.new (locals_within_at decoder.old) }
 {
     let count = decoder.u32()?;
     runs(alloc, decoder, count)
 }
 
-fn content(alloc: Global, decoder: &mut Decoder) -> Result<Code, ReadError>
+fn content(alloc: Global, decoder: &mut Decoder) -> Result<Code, ItemFault>
     ensures { GivesItem result decoder.new (code_within_at decoder.old) }
 {
     let locals = locals(alloc, decoder)?;
@@ -79,7 +79,7 @@ fn content(alloc: Global, decoder: &mut Decoder) -> Result<Code, ReadError>
 
 /// A size, and so many bytes that are declared locals and a body, all of them.
 #[tactic(auto, unfolding(wasm_syntax::specs::laws::ReadingItems::sized_at))]
-pub fn code(alloc: Global, decoder: &mut Decoder) -> Result<Code, ReadError>
+pub fn code(alloc: Global, decoder: &mut Decoder) -> Result<Code, ItemFault>
     ensures { GivesItem result decoder.new (sized_at code_within_at decoder.old) }
 {
     let mut entry = take_sized(decoder)?;

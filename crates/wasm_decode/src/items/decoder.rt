@@ -42,7 +42,7 @@ fn last_signed(byte: u8, bits: u8) -> Option<u64>
 }
 
 /// The bytes that are left, which is what contracts see, and the offset of the first of them in all
-/// bytes. Behind an error it stands anywhere: nothing further is to be read.
+/// bytes. Behind an error it is anywhere: nothing further is to be read.
 #[derive(Drop)]
 pub struct Decoder<'a> {
     rest: &'a [u8],
@@ -188,7 +188,7 @@ impl<'a> Decoder<'a> {
         self.into_span().bytes
     }
 
-    /// All bytes that are left, and where they stand.
+    /// All bytes that are left, and where they are.
     pub fn into_span(self) -> Span<'a>
         ensures { result.bytes.now ≡ self.entry }
     {

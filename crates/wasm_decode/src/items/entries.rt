@@ -9,7 +9,7 @@ ghost use Rattle.wasm_syntax.specs.laws.ReadingWithin.{data_within_at};
 
 use crate::items::decoder::Decoder;
 use crate::items::expressions::expression;
-use crate::items::fault::{ReadError, ReadRefusal};
+use crate::items::fault::{ItemFault, ReadRefusal};
 use crate::items::item::Item;
 use crate::items::limit::ModuleLimit;
 use crate::items::types::{global_type, memory_type, table_type};
@@ -41,7 +41,7 @@ fn import_item(decoder: &mut Decoder, functions: usize) -> Result<ImportItem, Re
 
 /// An import, where so many functions were imported before.
 #[tactic(auto, unfolding(crate::specs::Items::Entries::import_up_to_at))]
-pub fn import(alloc: Global, decoder: &mut Decoder, functions: usize) -> Result<Import, ReadError>
+pub fn import(alloc: Global, decoder: &mut Decoder, functions: usize) -> Result<Import, ItemFault>
     ensures { GivesItem result decoder.new (import_up_to_at functions decoder.old) }
 {
     let module_name = name(alloc, decoder)?;
@@ -58,7 +58,7 @@ impl Item for GlobalVariable {
     ghost at = { global_within_at };
 
     #[tactic(auto, unfolding(wasm_syntax::specs::laws::ReadingWithin::global_within_at))]
-    fn read(alloc: Global, decoder: &mut Decoder) -> Result<GlobalVariable, ReadError> {
+    fn read(alloc: Global, decoder: &mut Decoder) -> Result<GlobalVariable, ItemFault> {
         let global_type = global_type(decoder)?;
         let initial = expression(alloc, decoder)?;
         Ok(GlobalVariable {
@@ -86,7 +86,7 @@ impl Item for Export {
     ghost at = { export_at };
 
     #[tactic(auto, unfolding(wasm_syntax::specs::laws::ReadingModules::export_at))]
-    fn read(alloc: Global, decoder: &mut Decoder) -> Result<Export, ReadError> {
+    fn read(alloc: Global, decoder: &mut Decoder) -> Result<Export, ItemFault> {
         let name = name(alloc, decoder)?;
         let item = export_item(decoder)?;
         Ok(Export { name, item })
@@ -97,7 +97,7 @@ impl Item for Element {
     ghost at = { element_within_at };
 
     #[tactic(auto, unfolding(wasm_syntax::specs::laws::ReadingWithin::element_within_at))]
-    fn read(alloc: Global, decoder: &mut Decoder) -> Result<Element, ReadError> {
+    fn read(alloc: Global, decoder: &mut Decoder) -> Result<Element, ItemFault> {
         let table = decoder.u32()?;
         let offset = expression(alloc, decoder)?;
         let functions = vector(alloc, decoder)?;
@@ -113,7 +113,7 @@ impl Item for Data {
     ghost at = { data_within_at };
 
     #[tactic(auto, unfolding(wasm_syntax::specs::laws::ReadingWithin::data_within_at))]
-    fn read(alloc: Global, decoder: &mut Decoder) -> Result<Data, ReadError> {
+    fn read(alloc: Global, decoder: &mut Decoder) -> Result<Data, ItemFault> {
         let memory = decoder.u32()?;
         let offset = expression(alloc, decoder)?;
         let bytes = bytes(alloc, decoder)?;

@@ -7,15 +7,15 @@ ghost use Rattle.wasm_decode.specs.Items.Answers.{GivesItem};
 ghost use Rattle.wasm_decode.specs.Items.Steps.{Nests};
 
 use crate::items::decoder::Decoder;
-use crate::items::fault::{ReadError, ReadRefusal};
+use crate::items::fault::{ItemFault, ReadRefusal};
 use crate::items::item::Item;
 use crate::items::limit::ModuleLimit;
 use crate::items::step::BodyStep;
 use std::alloc::{AllocFailed, Global};
 use wasm_syntax::limits::INSTRUCTIONS;
-use wasm_syntax::{Instruction, Opener, Row};
+use wasm_syntax::{Instruction, ItemList, Opener};
 
-/// Opens, turns or closes what the instruction does. The openers stand outermost first.
+/// Opens, turns or closes what the instruction does. The openers are outermost first.
 fn nest(
     openers: &mut Vec<Opener>,
     instruction: &Instruction,
@@ -24,10 +24,12 @@ fn nest(
         (nesting_after instruction.now (reverse openers.old.items))) }
 {
     match instruction {
-        Instruction::Block { .. } | Instruction::Loop { .. } => openers.push(Opener::Straight)?,
+        Instruction::Block { .. } | Instruction::Loop { .. } => openers.push(
+            Opener::Unconditional,
+        )?,
         Instruction::If { .. } => openers.push(Opener::Conditional)?,
         Instruction::Else => match openers.pop() {
-            Some(Opener::Conditional) => openers.push(Opener::Straight)?,
+            Some(Opener::Conditional) => openers.push(Opener::Unconditional)?,
             _ => return Ok(BodyStep::Misplaced),
         },
         Instruction::End => {
@@ -40,7 +42,7 @@ fn nest(
     Ok(BodyStep::GoesOn)
 }
 
-/// Why no further instruction is read behind the last that a limit allows.
+/// Why no further instruction is read after the last that a limit allows.
 fn past_last(decoder: &Decoder) -> ReadRefusal {
     if decoder.is_empty() {
         ReadRefusal::Malformed(decoder.at())
@@ -51,10 +53,10 @@ fn past_last(decoder: &Decoder) -> ReadRefusal {
 
 /// Instructions up to the one that closes the expression, at most `INSTRUCTIONS`. An opcode past
 /// them is over the limit whatever it is, while bytes that end there are malformed.
-pub fn expression(alloc: Global, decoder: &mut Decoder) -> Result<Row<Instruction>, ReadError>
+pub fn expression(alloc: Global, decoder: &mut Decoder) -> Result<ItemList<Instruction>, ItemFault>
     ensures { GivesItem result decoder.new (expression_within_at decoder.old) }
 {
-    let mut items = Row::new(alloc);
+    let mut items = ItemList::new(alloc);
     let mut openers = Vec::new(alloc);
     for _ in 0..INSTRUCTIONS {
         let start = decoder.at();
@@ -64,8 +66,8 @@ pub fn expression(alloc: Global, decoder: &mut Decoder) -> Result<Row<Instructio
         match step {
             BodyStep::GoesOn => {}
             BodyStep::Closes => return Ok(items),
-            BodyStep::Misplaced => return Err(ReadError::Refused(ReadRefusal::Malformed(start))),
+            BodyStep::Misplaced => return Err(ItemFault::Refused(ReadRefusal::Malformed(start))),
         }
     }
-    Err(ReadError::Refused(past_last(decoder)))
+    Err(ItemFault::Refused(past_last(decoder)))
 }

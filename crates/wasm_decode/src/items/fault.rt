@@ -1,7 +1,7 @@
 //! Why bytes are no module.
 
 ghost use Rattle.std.specs.Prelude.{◌≡◌};
-ghost use Rattle.wasm_decode.specs.declared.items.fault.ReadError.TheVariants.{Refused, Memory};
+ghost use Rattle.wasm_decode.specs.declared.items.fault.ItemFault.TheVariants.{Refused, Memory};
 
 use crate::items::limit::{ModuleLimit, PassedLimit};
 use std::alloc::{AllocError, AllocFailed};
@@ -10,9 +10,9 @@ use std::alloc::{AllocError, AllocFailed};
 /// first of all bytes, and name the first byte of the item at fault.
 #[derive(Clone, Copy, Debug, PartialEq, Eq)]
 pub enum ReadRefusal {
-    /// An item can't stand at this offset.
+    /// An item can't be at this offset.
     Malformed(usize),
-    /// A float type or instruction stands at this offset.
+    /// A float type or instruction is at this offset.
     Float(usize),
     /// A limit is passed.
     Limit(PassedLimit),
@@ -27,31 +27,31 @@ impl ReadRefusal {
 
 /// Why nothing was read.
 #[derive(Debug, Drop)]
-pub enum ReadError {
+pub enum ItemFault {
     Refused(ReadRefusal),
     Memory,
 }
 
-impl From<ReadRefusal> for ReadError {
+impl From<ReadRefusal> for ItemFault {
     ghost from_gives = { λ refusal e. e ≡ Refused refusal };
 
-    fn from(refusal: ReadRefusal) -> ReadError {
-        ReadError::Refused(refusal)
+    fn from(refusal: ReadRefusal) -> ItemFault {
+        ItemFault::Refused(refusal)
     }
 }
 
-impl From<AllocError> for ReadError {
+impl From<AllocError> for ItemFault {
     ghost from_gives = { λ _ e. e ≡ Memory };
 
-    fn from(_error: AllocError) -> ReadError {
-        ReadError::Memory
+    fn from(_error: AllocError) -> ItemFault {
+        ItemFault::Memory
     }
 }
 
-impl<T: Drop> From<AllocFailed<T>> for ReadError {
+impl<T: Drop> From<AllocFailed<T>> for ItemFault {
     ghost from_gives = { λ _ e. e ≡ Memory };
 
-    fn from(_error: AllocFailed<T>) -> ReadError {
-        ReadError::Memory
+    fn from(_error: AllocFailed<T>) -> ItemFault {
+        ItemFault::Memory
     }
 }

@@ -9,7 +9,7 @@ ghost use Rattle.wasm_syntax.specs.laws.ReadingInstructions.{prefixed_at, higher
 ghost use Rattle.wasm_decode.specs.Items.Answers.{GivesItem, TakesItem};
 
 use crate::items::decoder::Decoder;
-use crate::items::fault::{ReadError, ReadRefusal};
+use crate::items::fault::{ItemFault, ReadRefusal};
 use crate::items::item::Item;
 use crate::items::operators::{comparison, load_operator, operation, store_operator};
 use crate::items::vectors::vector;
@@ -45,7 +45,7 @@ fn control(
     decoder: &mut Decoder,
     opcode: u8,
     start: usize,
-) -> Result<Instruction, ReadError>
+) -> Result<Instruction, ItemFault>
     ensures { GivesItem result decoder.new (control_at opcode decoder.old) }
 {
     match opcode {
@@ -82,7 +82,7 @@ fn control(
             decoder.expect_byte(0x00)?;
             Ok(Instruction::CallIndirect { function_type })
         }
-        _ => Err(ReadError::Refused(no_instruction(opcode, start))),
+        _ => Err(ItemFault::Refused(no_instruction(opcode, start))),
     }
 }
 
@@ -173,7 +173,7 @@ fn numeric(decoder: &mut Decoder, opcode: u8, start: usize) -> Result<Instructio
     }
 }
 
-/// Copies and fills of memory: the number behind the prefix 0xfc, and then zero bytes.
+/// Copies and fills of memory: the number after the prefix 0xfc, and then zero bytes.
 #[tactic(auto, unfolding(wasm_syntax::specs::laws::ReadingInstructions::prefixed_at))]
 fn prefixed(decoder: &mut Decoder) -> Result<Instruction, ReadRefusal>
     ensures { TakesItem result decoder.new (prefixed_at decoder.old) }
@@ -204,14 +204,14 @@ fn higher(decoder: &mut Decoder, opcode: u8, start: usize) -> Result<Instruction
     numeric(decoder, opcode, start)
 }
 
-/// What stands behind an opcode that was read at `start`.
+/// What is after an opcode that was read at `start`.
 #[tactic(auto, unfolding(wasm_syntax::specs::laws::ReadingInstructions::behind_opcode))]
 fn finish_instruction(
     alloc: Global,
     decoder: &mut Decoder,
     opcode: u8,
     start: usize,
-) -> Result<Instruction, ReadError>
+) -> Result<Instruction, ItemFault>
     ensures { GivesItem result decoder.new (behind_opcode opcode decoder.old) }
 {
     if opcode < 0x1a {
@@ -230,10 +230,10 @@ impl Item for Instruction {
     ghost at = { instruction_at };
 
     #[tactic(auto, unfolding(wasm_syntax::specs::laws::ReadingInstructions::instruction_at))]
-    fn read(alloc: Global, decoder: &mut Decoder) -> Result<Instruction, ReadError> {
+    fn read(alloc: Global, decoder: &mut Decoder) -> Result<Instruction, ItemFault> {
         let start = decoder.at();
         let Some(opcode) = decoder.byte() else {
-            return Err(ReadError::Refused(ReadRefusal::Malformed(start)));
+            return Err(ItemFault::Refused(ReadRefusal::Malformed(start)));
         };
         finish_instruction(alloc, decoder, opcode, start)
     }

@@ -24,6 +24,6 @@ pub enum ModuleLimit {
 pub struct PassedLimit {
     pub limit: ModuleLimit,
     /// The offset in bytes, from the first of all bytes, of what is too many: of the count that is
-    /// too great, or of the item or byte behind the last that the limit allows.
+    /// too great, or of the item or byte after the last that the limit allows.
     pub at: usize,
 }

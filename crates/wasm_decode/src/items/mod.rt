@@ -1,6 +1,6 @@
 //! Reading the binary format from the front (Core Specification 1.0, chapter 5): bytes, integers,
 //! vectors, names, types, instructions, expressions and what sections hold. The readers keep to
-//! this project's limits, and say where the first fault stands.
+//! this project's limits, and say where the first fault is.
 
 mod codes;
 mod decoder;
@@ -20,7 +20,7 @@ pub use codes::code;
 pub use decoder::Decoder;
 pub use entries::import;
 pub use expressions::expression;
-pub use fault::{ReadError, ReadRefusal};
+pub use fault::{ItemFault, ReadRefusal};
 pub use item::Item;
 pub use limit::{ModuleLimit, PassedLimit};
 pub use span::Span;

@@ -1,4 +1,4 @@
-//! Where bytes stand.
+//! Where bytes are.
 
 ghost use Rattle.std.specs.Prelude.{◌+◌, ◌^◌, ◌<◌, length};
 

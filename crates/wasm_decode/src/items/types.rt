@@ -9,7 +9,7 @@ ghost use Rattle.wasm_syntax.specs.laws.ReadingWithin.{function_type_within_at};
 ghost use Rattle.wasm_syntax.specs.laws.ReadingWithin.{table_type_within_at};
 
 use crate::items::decoder::Decoder;
-use crate::items::fault::{ReadError, ReadRefusal};
+use crate::items::fault::{ItemFault, ReadRefusal};
 use crate::items::item::Item;
 use crate::items::limit::ModuleLimit;
 use crate::items::vectors::{vector, vector_up_to};
@@ -33,7 +33,7 @@ pub fn value_type(decoder: &mut Decoder) -> Result<ValueType, ReadRefusal>
 impl Item for ValueType {
     ghost at = { value_type_at };
 
-    fn read(_alloc: Global, decoder: &mut Decoder) -> Result<ValueType, ReadError> {
+    fn read(_alloc: Global, decoder: &mut Decoder) -> Result<ValueType, ItemFault> {
         Ok(value_type(decoder)?)
     }
 }
@@ -42,7 +42,7 @@ impl Item for FunctionType {
     ghost at = { function_type_within_at };
 
     #[tactic(auto, unfolding(wasm_syntax::specs::laws::ReadingWithin::function_type_within_at))]
-    fn read(alloc: Global, decoder: &mut Decoder) -> Result<FunctionType, ReadError> {
+    fn read(alloc: Global, decoder: &mut Decoder) -> Result<FunctionType, ItemFault> {
         decoder.expect_byte(0x60)?;
         let parameters = vector_up_to(alloc, decoder, PARAMETERS, ModuleLimit::Parameters)?;
         let results = vector(alloc, decoder)?;
@@ -92,7 +92,7 @@ pub fn table_type(decoder: &mut Decoder) -> Result<TableType, ReadRefusal>
 impl Item for TableType {
     ghost at = { table_type_within_at };
 
-    fn read(_alloc: Global, decoder: &mut Decoder) -> Result<TableType, ReadError> {
+    fn read(_alloc: Global, decoder: &mut Decoder) -> Result<TableType, ItemFault> {
         Ok(table_type(decoder)?)
     }
 }
@@ -108,7 +108,7 @@ pub fn memory_type(decoder: &mut Decoder) -> Result<MemoryType, ReadRefusal>
 impl Item for MemoryType {
     ghost at = { memory_type_at };
 
-    fn read(_alloc: Global, decoder: &mut Decoder) -> Result<MemoryType, ReadError> {
+    fn read(_alloc: Global, decoder: &mut Decoder) -> Result<MemoryType, ItemFault> {
         Ok(memory_type(decoder)?)
     }
 }
@@ -143,7 +143,7 @@ impl Item for u32 {
 
     ghost at = { leb_u32_at };
 
-    fn read(_alloc: Global, decoder: &mut Decoder) -> Result<u32, ReadError> {
+    fn read(_alloc: Global, decoder: &mut Decoder) -> Result<u32, ItemFault> {
         Ok(decoder.u32()?)
     }
 }

@@ -1,4 +1,4 @@
-//! Items behind a count (sections 5.1.3 and 5.2.4).
+//! Items after a count (sections 5.1.3 and 5.2.4).
 
 ghost use Rattle.std.specs.Prelude.{◌≡◌, is_some};
 ghost use Rattle.std.specs.Str.{is_utf8};
@@ -7,17 +7,21 @@ ghost use Rattle.wasm_syntax.specs.laws.ReadingItems.{items_at, vector_at, vecto
 ghost use Rattle.wasm_syntax.specs.laws.ReadingItems.{name_at, bytes_at};
 
 use crate::items::decoder::Decoder;
-use crate::items::fault::{ReadError, ReadRefusal};
+use crate::items::fault::{ItemFault, ReadRefusal};
 use crate::items::item::Item;
 use crate::items::limit::ModuleLimit;
 use std::alloc::Global;
-use wasm_syntax::Row;
+use wasm_syntax::ItemList;
 
 /// So many items.
-fn items<T: Item>(alloc: Global, decoder: &mut Decoder, count: u32) -> Result<Row<T>, ReadError>
+fn items<T: Item>(
+    alloc: Global,
+    decoder: &mut Decoder,
+    count: u32,
+) -> Result<ItemList<T>, ItemFault>
     ensures { GivesItem result decoder.new (items_at T.at count decoder.old) }
 {
-    let mut items = Row::new(alloc);
+    let mut items = ItemList::new(alloc);
     for _ in 0..count {
         let item = T::read(alloc, decoder)?;
         items.push(item)?;
@@ -27,7 +31,7 @@ fn items<T: Item>(alloc: Global, decoder: &mut Decoder, count: u32) -> Result<Ro
 
 /// A count, and so many items. Room is taken item by item, whatever the count says.
 #[tactic(auto, unfolding(wasm_syntax::specs::laws::ReadingItems::vector_at))]
-pub fn vector<T: Item>(alloc: Global, decoder: &mut Decoder) -> Result<Row<T>, ReadError>
+pub fn vector<T: Item>(alloc: Global, decoder: &mut Decoder) -> Result<ItemList<T>, ItemFault>
     ensures { GivesItem result decoder.new (vector_at T.at decoder.old) }
 {
     let count = decoder.u32()?;
@@ -41,13 +45,13 @@ pub fn vector_up_to<T: Item>(
     decoder: &mut Decoder,
     most: usize,
     limit: ModuleLimit,
-) -> Result<Row<T>, ReadError>
+) -> Result<ItemList<T>, ItemFault>
     ensures { GivesItem result decoder.new (vector_up_to_at T.at most decoder.old) }
 {
     let start = decoder.at();
     let count = decoder.u32()?;
     if count as usize > most {
-        return Err(ReadError::Refused(ReadRefusal::past(limit, start)));
+        return Err(ItemFault::Refused(ReadRefusal::past(limit, start)));
     }
     items(alloc, decoder, count)
 }
@@ -70,7 +74,7 @@ pub fn take_sized<'a>(decoder: &mut Decoder<'a>) -> Result<Decoder<'a>, ReadRefu
     decoder.part(len as usize, start)
 }
 
-/// Whether a name stands at the front.
+/// Whether a name is at the front.
 #[tactic(auto, unfolding(wasm_syntax::specs::laws::ReadingItems::name_at))]
 pub fn skip_name(decoder: &mut Decoder) -> bool
     ensures { result ≡ is_some (name_at decoder.old) }
@@ -82,22 +86,22 @@ pub fn skip_name(decoder: &mut Decoder) -> bool
 }
 
 /// A length, and so many bytes, which are copied.
-pub fn bytes(alloc: Global, decoder: &mut Decoder) -> Result<Row<u8>, ReadError>
+pub fn bytes(alloc: Global, decoder: &mut Decoder) -> Result<ItemList<u8>, ItemFault>
     ensures { GivesItem result decoder.new (bytes_at decoder.old) }
 {
     let part = take_sized(decoder)?;
-    Ok(Row::from_vec(Vec::from_slice(alloc, part.into_bytes())?))
+    Ok(ItemList::from_vec(Vec::from_slice(alloc, part.into_bytes())?))
 }
 
 /// A length, and so many bytes of UTF-8, which are copied.
 #[tactic(auto, unfolding(wasm_syntax::specs::laws::ReadingItems::name_at))]
-pub fn name(alloc: Global, decoder: &mut Decoder) -> Result<Row<u8>, ReadError>
+pub fn name(alloc: Global, decoder: &mut Decoder) -> Result<ItemList<u8>, ItemFault>
     ensures { GivesItem result decoder.new (name_at decoder.old) }
 {
     let start = decoder.at();
     let bytes = take_sized(decoder)?.into_bytes();
     if !is_text(bytes) {
-        return Err(ReadError::Refused(ReadRefusal::Malformed(start)));
+        return Err(ItemFault::Refused(ReadRefusal::Malformed(start)));
     }
-    Ok(Row::from_vec(Vec::from_slice(alloc, bytes)?))
+    Ok(ItemList::from_vec(Vec::from_slice(alloc, bytes)?))
 }

@@ -32,8 +32,8 @@ use Rattle.wasm_semantics.specs.Validity.{AreFunctionTypes, tables_of, memories_
 use Rattle.wasm_semantics.specs.Validity.{module_context, IsFunctionValid, IsGlobalValid}
 use Rattle.wasm_semantics.specs.Validity.{IsIndex, IsElementValid, IsDataValid, IsStartValid}
 use Rattle.wasm_semantics.specs.Validity.{IsValid}
-use Rattle.wasm_semantics.specs.Configuration.{Callee, Host, Own, Program, Store}
-use Rattle.wasm_semantics.specs.Steps.{kind_of}
+use Rattle.wasm_semantics.specs.Configuration.{Callee, Imported, Own, Program, Store}
+use Rattle.wasm_semantics.specs.Steps.{signature_of}
 use Rattle.wasm_semantics.specs.Instantiation.{AreCallees, IsProgram, constant_of}
 use Rattle.wasm_semantics.specs.Instantiation.{least_pages_of, most_pages_of}
 use Rattle.wasm_semantics.specs.Instantiation.{AreInitial, offset_of, with_entries, with_segment}
@@ -44,8 +44,8 @@ use Rattle.wasm_semantics.specs.Typed.{IsTypedCallee, IsTypedProgram, IsTypedMem
 use Rattle.wasm_semantics.specs.Typed.{IsTypedEntry, IsTypedStore, IsEntry, IsTyped}
 use Rattle.wasm_semantics.specs.Typed.{OffersNoEntry, ProgramsTyped, BeginsTyped}
 use Rattle.wasm_semantics.proofs.Soundness.MemoryBytes.{memory_with_part}
-use Rattle.wasm_semantics.proofs.Soundness.RuleSound.{callee_at}
-use Rattle.wasm_semantics.proofs.Soundness.LeaveSound.{settles_typed}
+use Rattle.wasm_semantics.proofs.Soundness.CountedSound.{callee_at}
+use Rattle.wasm_semantics.proofs.Soundness.AdministrativeSound.{reduces_typed}
 use Rattle.wasm_semantics.proofs.OneSequence.{one_sequence}
 use Rattle.wasm_semantics.proofs.OneProgram.{one_list}
 use Rattle.guest_memory.proofs.Lists.{all_both, all_take, all_drop, all_replicate}
@@ -53,70 +53,71 @@ use Rattle.guest_memory.proofs.Lists.{all_both, all_take, all_drop, all_replicat
 -- ---- functions
 
 -- the types of the callees are those of the module's functions
-callee_kinds : (m : Module) (imported : List ℕ) (own : List Function) (callees : List Callee)
+callee_signatures : (m : Module) (imported : List ℕ) (own : List Function) (callees : List Callee)
     (fs : List FunctionType) → AreCallees m imported own callees
-    → AreTypesAt m.types (imported ++ map function_type_of own) fs → fs ≡ map kind_of callees
-callee_kinds m (x ∷ imported) own [] fs h k = absurd h
-callee_kinds m (x ∷ imported) own (Own kind declared body ∷ callees) fs h k = absurd h
-callee_kinds m (x ∷ imported) own (Host kind ∷ callees) [] h k = absurd k
-callee_kinds m (x ∷ imported) own (Host kind ∷ callees) (f ∷ fs) h k =
-    let p = h.0 in let q = k.0 in let same : f ≡ kind = cc in
-    let others = callee_kinds m imported own callees fs h.1 k.1 in cc
-callee_kinds m [] [] (Host kind ∷ callees) fs h k = absurd h
-callee_kinds m [] [] (Own kind declared body ∷ callees) fs h k = absurd h
-callee_kinds m [] [] [] [] h k = refl
-callee_kinds m [] [] [] (f ∷ fs) h k = absurd k
-callee_kinds m [] (g ∷ own) [] fs h k = absurd h
-callee_kinds m [] (g ∷ own) (Host kind ∷ callees) fs h k = absurd h
-callee_kinds m [] (g ∷ own) (Own kind declared body ∷ callees) [] h k = absurd k
-callee_kinds m [] (g ∷ own) (Own kind declared body ∷ callees) (f ∷ fs) h k =
-    let p = h.0 in let q = k.0 in let same : f ≡ kind = cc in
-    let others = callee_kinds m [] own callees fs h.3 k.1 in cc
+    → AreTypesAt m.types (imported ++ map function_type_of own) fs → fs ≡ map signature_of callees
+callee_signatures m (x ∷ imported) own [] fs h k = absurd h
+callee_signatures m (x ∷ imported) own (Own signature declared body ∷ callees) fs h k = absurd h
+callee_signatures m (x ∷ imported) own (Imported signature ∷ callees) [] h k = absurd k
+callee_signatures m (x ∷ imported) own (Imported signature ∷ callees) (f ∷ fs) h k =
+    let p = h.0 in let q = k.0 in let same : f ≡ signature = cc in
+    let others = callee_signatures m imported own callees fs h.1 k.1 in cc
+callee_signatures m [] [] (Imported signature ∷ callees) fs h k = absurd h
+callee_signatures m [] [] (Own signature declared body ∷ callees) fs h k = absurd h
+callee_signatures m [] [] [] [] h k = refl
+callee_signatures m [] [] [] (f ∷ fs) h k = absurd k
+callee_signatures m [] (g ∷ own) [] fs h k = absurd h
+callee_signatures m [] (g ∷ own) (Imported signature ∷ callees) fs h k = absurd h
+callee_signatures m [] (g ∷ own) (Own signature declared body ∷ callees) [] h k = absurd k
+callee_signatures m [] (g ∷ own) (Own signature declared body ∷ callees) (f ∷ fs) h k =
+    let p = h.0 in let q = k.0 in let same : f ≡ signature = cc in
+    let others = callee_signatures m [] own callees fs h.3 k.1 in cc
 
 -- a function of the module's own is typed, since its body spells one sequence
-own_typed : (m : Module) (functions : List FunctionType) (g : Function) (kind : FunctionType)
+own_typed : (m : Module) (functions : List FunctionType) (g : Function) (signature : FunctionType)
     (declared : List ValueType) (body : Sequence) (own : List Function) (callees : List Callee)
-    → AreCallees m [] (g ∷ own) (Own kind declared body ∷ callees) → IsFunctionValid m functions g
-    → IsTypedCallee (module_context m functions) (Own kind declared body)
-own_typed m functions g kind declared body own callees h v =
+    → AreCallees m [] (g ∷ own) (Own signature declared body ∷ callees)
+    → IsFunctionValid m functions g → IsTypedCallee (module_context m functions)
+    (Own signature declared body)
+own_typed m functions g signature declared body own callees h v =
     let p = h.0 in let q = v.2 in
-    let same_kind : kind ≡ v.0 = cc in
+    let same_signature : signature ≡ v.0 = cc in
     let same_body : body ≡ v.1 = one_sequence g.code.body body v.1 h.2 v.3 in
-    rw (same_kind, h.1, same_body) v.4
+    rw (same_signature, h.1, same_body) v.4
 
 callees_typed : (m : Module) (functions : List FunctionType) (imported : List ℕ)
     (own : List Function) (callees : List Callee) → AreCallees m imported own callees
     → AllByRecursion (IsFunctionValid m functions) own → (f : ℕ) (callee : Callee)
     → slice_get callees f ≡ Some callee → IsTypedCallee (module_context m functions) callee
 callees_typed m functions (x ∷ imported) own [] h v f callee e = absurd h
-callees_typed m functions (x ∷ imported) own (Own kind declared body ∷ callees) h v f callee e =
-    absurd h
-callees_typed m functions (x ∷ imported) own (Host kind ∷ callees) h v zero callee e =
-    let same : callee ≡ Host kind = cc in rw same tt
-callees_typed m functions (x ∷ imported) own (Host kind ∷ callees) h v (suc f) callee e =
+callees_typed m functions (x ∷ imported) own (Own signature declared body
+    ∷ callees) h v f callee e = absurd h
+callees_typed m functions (x ∷ imported) own (Imported signature ∷ callees) h v zero callee e =
+    let same : callee ≡ Imported signature = cc in rw same tt
+callees_typed m functions (x ∷ imported) own (Imported signature ∷ callees) h v (suc f) callee e =
     callees_typed m functions imported own callees h.1 v f callee e
 callees_typed m functions [] [] [] h v f callee e = absurd (cc)
-callees_typed m functions [] [] (Host kind ∷ callees) h v f callee e = absurd h
-callees_typed m functions [] [] (Own kind declared body ∷ callees) h v f callee e = absurd h
+callees_typed m functions [] [] (Imported signature ∷ callees) h v f callee e = absurd h
+callees_typed m functions [] [] (Own signature declared body ∷ callees) h v f callee e = absurd h
 callees_typed m functions [] (g ∷ own) [] h v f callee e = absurd h
-callees_typed m functions [] (g ∷ own) (Host kind ∷ callees) h v f callee e = absurd h
-callees_typed m functions [] (g ∷ own) (Own kind declared body ∷ callees) h v zero callee e =
-    let same : callee ≡ Own kind declared body = cc in
-    rw same (own_typed m functions g kind declared body own callees h v.0)
-callees_typed m functions [] (g ∷ own) (Own kind declared body ∷ callees) h v (suc f) callee e =
-    callees_typed m functions [] own callees h.3 v.1 f callee e
+callees_typed m functions [] (g ∷ own) (Imported signature ∷ callees) h v f callee e = absurd h
+callees_typed m functions [] (g ∷ own) (Own signature declared body ∷ callees) h v zero callee e =
+    let same : callee ≡ Own signature declared body = cc in
+    rw same (own_typed m functions g signature declared body own callees h v.0)
+callees_typed m functions [] (g ∷ own) (Own signature declared body
+    ∷ callees) h v (suc f) callee e = callees_typed m functions [] own callees h.3 v.1 f callee e
 
 -- ---- imports
 
 -- what is imported is a function
 function_item : (o : Option FunctionType) (types : List FunctionType) (item : ImportItem)
-    → IsItemOffered o types item → (x : ℕ) × (kind : FunctionType) × (item ≡ import.Function x)
-    × (o ≡ Some kind) × (slice_get types x ≡ Some kind)
+    → IsItemOffered o types item → (x : ℕ) × (signature : FunctionType) × (item ≡ import.Function x)
+    × (o ≡ Some signature) × (slice_get types x ≡ Some signature)
 function_item None types item h = absurd h
-function_item (Some kind) types (import.Function x) h = (x, kind, refl, refl, h)
-function_item (Some kind) types (import.Table t) h = absurd h
-function_item (Some kind) types (import.Memory t) h = absurd h
-function_item (Some kind) types (import.Global t) h = absurd h
+function_item (Some signature) types (import.Function x) h = (x, signature, refl, refl, h)
+function_item (Some signature) types (import.Table t) h = absurd h
+function_item (Some signature) types (import.Memory t) h = absurd h
+function_item (Some signature) types (import.Global t) h = absurd h
 
 no_globals : (offer : Offer) (types : List FunctionType) (imports : List Import)
     → AllByRecursion (IsOffered offer types) imports → imported_globals imports ≡ []
@@ -125,24 +126,26 @@ no_globals offer types (i ∷ imports) h =
     let f = function_item (offer i.module_name i.name) types i.item h.0 in
     rw f.2 (no_globals offer types imports h.1)
 
-own_alone : (m : Module) (own : List Function) (callees : List Callee) (f : ℕ) (kind : FunctionType)
-    → AreCallees m [] own callees → slice_get callees f ≡ Some (Host kind) → ⊥
-own_alone m [] [] f kind h e = absurd (cc)
-own_alone m [] (Host k ∷ callees) f kind h e = absurd h
-own_alone m [] (Own k declared body ∷ callees) f kind h e = absurd h
-own_alone m (g ∷ own) [] f kind h e = absurd h
-own_alone m (g ∷ own) (Host k ∷ callees) f kind h e = absurd h
-own_alone m (g ∷ own) (Own k declared body ∷ callees) zero kind h e = absurd (cc)
-own_alone m (g ∷ own) (Own k declared body ∷ callees) (suc f) kind h e =
-    own_alone m own callees f kind h.3 e
+own_alone : (m : Module) (own : List Function) (callees : List Callee) (f : ℕ)
+    (signature : FunctionType) → AreCallees m [] own callees → slice_get callees f
+    ≡ Some (Imported signature) → ⊥
+own_alone m [] [] f signature h e = absurd (cc)
+own_alone m [] (Imported k ∷ callees) f signature h e = absurd h
+own_alone m [] (Own k declared body ∷ callees) f signature h e = absurd h
+own_alone m (g ∷ own) [] f signature h e = absurd h
+own_alone m (g ∷ own) (Imported k ∷ callees) f signature h e = absurd h
+own_alone m (g ∷ own) (Own k declared body ∷ callees) zero signature h e = absurd (cc)
+own_alone m (g ∷ own) (Own k declared body ∷ callees) (suc f) signature h e =
+    own_alone m own callees f signature h.3 e
 
 first_callee : (m : Module) (x : ℕ) (imported : List ℕ) (own : List Function)
-    (callees : List Callee) → AreCallees m (x ∷ imported) own callees → (kind : FunctionType)
-    × (others : List Callee) × (callees ≡ Host kind ∷ others) × (slice_get m.types x ≡ Some kind)
-    × AreCallees m imported own others
+    (callees : List Callee) → AreCallees m (x ∷ imported) own callees → (signature : FunctionType)
+    × (others : List Callee) × (callees ≡ Imported signature ∷ others)
+    × (slice_get m.types x ≡ Some signature) × AreCallees m imported own others
 first_callee m x imported own [] a = absurd a
-first_callee m x imported own (Own kind declared body ∷ callees) a = absurd a
-first_callee m x imported own (Host kind ∷ callees) a = (kind, callees, refl, a.0, a.1)
+first_callee m x imported own (Own signature declared body ∷ callees) a = absurd a
+first_callee m x imported own (Imported signature ∷ callees) a =
+    (signature, callees, refl, a.0, a.1)
 
 first_or_later : (y z : Callee) (ys : List Callee) (f : ℕ) → slice_get (y ∷ ys) f ≡ Some z
     → (y ≡ z) ⊎ ((k : ℕ) × (slice_get ys k ≡ Some z))
@@ -150,25 +153,27 @@ first_or_later y z ys zero e = inl (cc)
 first_or_later y z ys (suc f) e = inr (f, e)
 
 -- a function of the host's is one that it offers
-host_offered : (offer : Offer) (m : Module) (imports : List Import) (own : List Function)
-    (callees : List Callee) (f : ℕ) (kind : FunctionType)
+import_offered : (offer : Offer) (m : Module) (imports : List Import) (own : List Function)
+    (callees : List Callee) (f : ℕ) (signature : FunctionType)
     → AllByRecursion (IsOffered offer m.types) imports
-    → AreCallees m (imported_functions imports) own callees → slice_get callees f ≡ Some (Host kind)
-    → (from : List ℕ) × (name : List ℕ) × (offer from name ≡ Some kind)
-host_offered offer m [] own callees f kind h a e = absurd (own_alone m own callees f kind a e)
-host_offered offer m (i ∷ imports) own callees f kind h a e =
+    → AreCallees m (imported_functions imports) own callees → slice_get callees f
+    ≡ Some (Imported signature) → (from : List ℕ) × (name : List ℕ)
+    × (offer from name ≡ Some signature)
+import_offered offer m [] own callees f signature h a e = absurd
+    (own_alone m own callees f signature a e)
+import_offered offer m (i ∷ imports) own callees f signature h a e =
     let g = function_item (offer i.module_name i.name) m.types i.item h.0 in
     let c = first_callee m g.0 (imported_functions imports) own callees (rw g.2 at a) in
     let p = g.4 in let q = c.3 in
     let same : g.1 ≡ c.0 = cc in
-    either g.1 c.0 same g.3 c.1 (first_or_later (Host c.0) (Host kind) c.1 f (rw c.2 at e)) (λ k e.
-    host_offered offer m imports own c.1 k kind h.1 c.4 e)
+    either g.1 c.0 same g.3 c.1 (first_or_later (Imported c.0) (Imported signature) c.1 f
+    (rw c.2 at e)) (λ k e. import_offered offer m imports own c.1 k signature h.1 c.4 e)
   where
     either : (k l : FunctionType) → k ≡ l → offer i.module_name i.name ≡ Some k → (ys : List Callee)
-        → (Host l ≡ Host kind) ⊎ ((k : ℕ) × (slice_get ys k ≡ Some (Host kind)))
-        → ((k : ℕ) → slice_get ys k ≡ Some (Host kind) → (from : List ℕ) × (name : List ℕ)
-        × (offer from name ≡ Some kind)) → (from : List ℕ) × (name : List ℕ)
-        × (offer from name ≡ Some kind)
+        → (Imported l ≡ Imported signature) ⊎ ((k : ℕ) × (slice_get ys k
+        ≡ Some (Imported signature))) → ((k : ℕ) → slice_get ys k ≡ Some (Imported signature)
+        → (from : List ℕ) × (name : List ℕ) × (offer from name ≡ Some signature)) → (from : List ℕ)
+        × (name : List ℕ) × (offer from name ≡ Some signature)
     either k l same o ys (inl e) next = (i.module_name, i.name, cc)
     either k l same o ys (inr r) next = next r.0 r.1
 
@@ -188,7 +193,7 @@ program_typed : (m : Module) (pages : ℕ) (program : Program) (v : IsValid m)
     → IsTypedProgram (module_context m v.functions) program
 program_typed m pages program v p h = record {
   types = sym p.types;
-  functions = callee_kinds m (imported_functions m.imports) m.functions program.functions
+  functions = callee_signatures m (imported_functions m.imports) m.functions program.functions
       v.functions p.functions v.function_types;
   bodies = callees_typed m v.functions (imported_functions m.imports) m.functions program.functions
       p.functions v.bodies;
@@ -326,24 +331,24 @@ globals_typed m (g ∷ globals) (x ∷ values) n v h = (
 
 -- ---- the beginning
 
-length_map : (callees : List Callee) → length (map kind_of callees) ≡ length callees
+length_map : (callees : List Callee) → length (map signature_of callees) ≡ length callees
 length_map [] = refl
 length_map (x ∷ callees) = ap suc (length_map callees)
 
 -- a function without parameters and results is one of the module's own
-entry_of : (offer : Offer) (m : Module) (program : Program) (x : ℕ) (kind : FunctionType)
+entry_of : (offer : Offer) (m : Module) (program : Program) (x : ℕ) (signature : FunctionType)
     → OffersNoEntry offer → AllByRecursion (IsOffered offer m.types) m.imports
     → AreCallees m (imported_functions m.imports) m.functions program.functions
-    → slice_get (map kind_of program.functions) x ≡ Some kind → kind.parameters ≡ []
-    → kind.results ≡ [] → IsEntry program x
-entry_of offer m program x kind none h a e p r =
-    let callee = callee_at program.functions x kind e in
+    → slice_get (map signature_of program.functions) x ≡ Some signature → signature.parameters ≡ []
+    → signature.results ≡ [] → IsEntry program x
+entry_of offer m program x signature none h a e p r =
+    let callee = callee_at program.functions x signature e in
     own_one callee.0 callee.1 callee.2
   where
     own_one : (callee : Callee) → slice_get program.functions x ≡ Some callee
-        → kind_of callee ≡ kind → IsEntry program x
-    own_one (Host k) at same =
-        let o = host_offered offer m m.imports m.functions program.functions x k h a at in
+        → signature_of callee ≡ signature → IsEntry program x
+    own_one (Imported k) at same =
+        let o = import_offered offer m m.imports m.functions program.functions x k h a at in
         absurd (none o.0 o.1 k o.2 (rw same p) (rw same r))
     own_one (Own k declared body) at same = (k, declared, body, at, rw same p)
 
@@ -351,7 +356,7 @@ calls_typed : (offer : Offer) (m : Module) (program : Program) (fs : List Functi
     (start : Option ℕ) (entry : ℕ) → OffersNoEntry offer
     → AllByRecursion (IsOffered offer m.types) m.imports
     → AreCallees m (imported_functions m.imports) m.functions program.functions
-    → fs ≡ map kind_of program.functions → IsStartValid fs start → IsEntry program entry
+    → fs ≡ map signature_of program.functions → IsStartValid fs start → IsEntry program entry
     → AllByRecursion (IsEntry program) (calls_of start entry)
 calls_typed offer m program fs None entry none h a e v last = (last, tt)
 calls_typed offer m program fs (Some x) entry none h a e v last =
@@ -362,10 +367,10 @@ store_typed : (offer : Offer) (pages : ℕ) (m : Module) (program : Program) (v 
     → IsInitialStore m store → IsTypedStore (module_context m v.functions) program store
 store_typed offer pages m program v link b store s =
     let alone = no_globals offer m.types m.imports link.imports in
-    let kinds = callee_kinds m (imported_functions m.imports) m.functions program.functions
-    v.functions b.functions v.function_types in
+    let signatures = callee_signatures m (imported_functions m.imports) m.functions
+    program.functions v.functions b.functions v.function_types in
     let count : length v.functions ≡ length program.functions =
-    ap length kinds ∙ length_map program.functions in
+    ap length signatures ∙ length_map program.functions in
     record {
       memory = memory_filled m program store.globals m.data_segments
           (empty_memory (memories_of m)) store.memory v.data_segments
@@ -399,15 +404,15 @@ pub first_typed : (offer : Offer) (pages : ℕ) (m : Module) (functions : List F
       later = calls_of m.start link.entry;
     })
 first_typed offer pages m functions program store none v h link b is_store =
-    let kinds = callee_kinds m (imported_functions m.imports) m.functions program.functions
-    v.functions b.functions v.function_types in
+    let signatures = callee_signatures m (imported_functions m.imports) m.functions
+    program.functions v.functions b.functions v.function_types in
     let same = one_list m.types (imported_functions m.imports
     ++ map function_type_of m.functions) link.has_entry.functions v.functions
     link.has_entry.function_types v.function_types in
-    let at : slice_get (map kind_of program.functions) link.entry ≡ Some link.has_entry.kind =
-    (rw (same, kinds) at link.has_entry.is) in
-    let last = entry_of offer m program link.entry link.has_entry.kind none link.imports b.functions
-    at link.has_entry.no_parameters link.has_entry.no_results in
+    let at : slice_get (map signature_of program.functions) link.entry
+    ≡ Some link.has_entry.signature = (rw (same, signatures) at link.has_entry.is) in
+    let last = entry_of offer m program link.entry link.has_entry.signature none
+    link.imports b.functions at link.has_entry.no_parameters link.has_entry.no_results in
     let begun : IsTyped (module_context m v.functions) program (record {
       store = store;
       thread = [];
@@ -416,7 +421,7 @@ first_typed offer pages m functions program store none v h link b is_store =
       store = store_typed offer pages m program v link b store is_store;
       thread = tt;
       later = calls_typed offer m program v.functions m.start link.entry none link.imports
-          b.functions kinds v.start last;
+          b.functions signatures v.start last;
     } in
     let P : List FunctionType → Type 0 =
     λ fs. IsTyped (module_context m fs) program (record {
@@ -431,9 +436,9 @@ begins_typed offer pages m functions program d none few v h link b =
     let typed = programs_typed pages m functions program few v h b.is_program in
     let begun = first_typed offer pages m functions program b.store none v h link b.is_program
     b.is_store in
-    let settled = settles_typed (module_context m functions) program (record {
+    let reduced = reduces_typed (module_context m functions) program (record {
       store = b.store;
       thread = [];
       later = calls_of m.start link.entry;
-    }) d typed begun b.settles in
-    (typed, settled.0, settled.1)
+    }) d typed begun b.reduces in
+    (typed, reduced.0, reduced.1)

@@ -13,10 +13,10 @@ use Rattle.wasm_syntax.specs.rules.Sequence.{Sequence, Stop}
 use Rattle.wasm_semantics.specs.Types.{AreOf, takes_of, gives_of, is_same_type, are_same_types}
 use Rattle.wasm_semantics.specs.Types.{is_same_function_type}
 use Rattle.wasm_semantics.specs.Typing.{Context, body_context, IsLabel}
-use Rattle.wasm_semantics.specs.Configuration.{Callee, Host, Own, Program, Part, Main, Label}
+use Rattle.wasm_semantics.specs.Configuration.{Callee, Imported, Own, Program, Part, Main, Label}
 use Rattle.wasm_semantics.specs.Configuration.{LabelOf, Frame, FrameOf, Thread, Configuration}
 use Rattle.wasm_semantics.specs.Configuration.{Goes, Traps}
-use Rattle.wasm_semantics.specs.Steps.{branch, returned, called, kind_of, zero_of}
+use Rattle.wasm_semantics.specs.Steps.{branch, returned, called, signature_of, zero_of}
 use Rattle.wasm_semantics.specs.Typed.{IsTypedCallee, IsTypedProgram, AreTypedLabels}
 use Rattle.wasm_semantics.specs.Typed.{IsTypedFrame, IsTypedThread, IsTyped, IsSound}
 use Rattle.wasm_semantics.proofs.Soundness.Values.{are_both, topmost_are, zeros_are, reverse_are}
@@ -100,29 +100,29 @@ returned_typed base program ts results (FrameOf f ls labels vs rest ∷ frames) 
 -- ---- calls
 
 -- the frame of a function that is entered
-pub entered_typed : (base : Context) (f : ℕ) (kind : FunctionType) (declared : List ValueType)
-    (body : Sequence) (arguments : List Value) → AreOf (takes_of kind) arguments
-    → IsTypedCallee base (Own kind declared body)
-    → IsTypedFrame (body_context base kind declared) [] (reverse arguments
-    ++ map zero_of declared) (LabelOf (length (gives_of kind)) Stop [] Stop Main ∷ []) [] body
-entered_typed base f kind declared body arguments o h =
-    let taken : AreOf kind.parameters (reverse arguments) =
-    (rw reverse-reverse at (reverse_are (takes_of kind) arguments o)) in
+pub entered_typed : (base : Context) (f : ℕ) (signature : FunctionType) (declared : List ValueType)
+    (body : Sequence) (arguments : List Value) → AreOf (takes_of signature) arguments
+    → IsTypedCallee base (Own signature declared body)
+    → IsTypedFrame (body_context base signature declared) [] (reverse arguments
+    ++ map zero_of declared) (LabelOf (length (gives_of signature)) Stop [] Stop Main ∷ []) [] body
+entered_typed base f signature declared body arguments o h =
+    let taken : AreOf signature.parameters (reverse arguments) =
+    (rw reverse-reverse at (reverse_are (takes_of signature) arguments o)) in
     record {
-      branches = gives_of kind ∷ [];
+      branches = gives_of signature ∷ [];
       types = [];
-      out = gives_of kind;
-      locals = are_both kind.parameters declared (reverse arguments) (map zero_of declared) taken
-          (zeros_are declared);
+      out = gives_of signature;
+      locals = are_both signature.parameters declared (reverse arguments)
+          (map zero_of declared) taken (zeros_are declared);
       values = tt;
       typed_rest = h;
       typed_labels = (
         [],
-        gives_of kind,
+        gives_of signature,
         refl,
         tt,
-        append-nil (gives_of kind),
-        append-nil (gives_of kind),
+        append-nil (gives_of signature),
+        append-nil (gives_of signature),
         refl,
       );
     }
@@ -140,27 +140,27 @@ module _ (base : Context) (program : Program) (typed : IsTypedProgram base progr
   exhausted_sound true thread h = tt
   exhausted_sound false thread h = with_thread thread h
 
-  -- the call of a function whose arguments stand on top
+  -- the call of a function whose arguments are on top
   pub called_sound : (f : ℕ) (callee : Callee) (caller : List Value
       → Frame) (below : List ValueType) (vs : List Value) (frames : Thread)
-      → slice_get program.functions f ≡ Some callee → AreOf (takes_of (kind_of callee) ++ below) vs
-      → ((others : List Value) → AreOf below others
-      → IsTypedThread base program (gives_of (kind_of callee)) (caller others ∷ frames))
+      → slice_get program.functions f ≡ Some callee → AreOf
+      (takes_of (signature_of callee) ++ below) vs → ((others : List Value) → AreOf below others
+      → IsTypedThread base program (gives_of (signature_of callee)) (caller others ∷ frames))
       → IsSound base program (called f callee c caller vs frames)
-  called_sound f (Host kind) caller below vs frames is o back =
-      let r = topmost_are (takes_of kind) below vs o in
-      rw r.1 (kind, is, r.2, back (drop (length (takes_of kind)) vs) r.3)
-  called_sound f (Own kind declared body) caller below vs frames is o back =
-      let r = topmost_are (takes_of kind) below vs o in
-      let frame = entered_typed base f kind declared body r.0 r.2
-      (typed.bodies f (Own kind declared body) is) in
+  called_sound f (Imported signature) caller below vs frames is o back =
+      let r = topmost_are (takes_of signature) below vs o in
+      rw r.1 (signature, is, r.2, back (drop (length (takes_of signature)) vs) r.3)
+  called_sound f (Own signature declared body) caller below vs frames is o back =
+      let r = topmost_are (takes_of signature) below vs o in
+      let frame = entered_typed base f signature declared body r.0 r.2
+      (typed.bodies f (Own signature declared body) is) in
       rw r.1 (exhausted_sound _ _ (
-        kind,
+        signature,
         declared,
         body,
         is,
         frame,
-        back (drop (length (takes_of kind)) vs) r.3,
+        back (drop (length (takes_of signature)) vs) r.3,
       ))
 
 -- ---- equal types

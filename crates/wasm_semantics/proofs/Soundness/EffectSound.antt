@@ -35,7 +35,7 @@ use Rattle.guest_memory.proofs.ByteLemmas.{length-bytes_of}
 use Rattle.wasm_semantics.specs.Types.{width_of, value_of, IsOf, AreOf, conversion_takes}
 use Rattle.wasm_semantics.specs.Types.{conversion_gives, loaded_type, loaded_width, stored_type}
 use Rattle.wasm_semantics.specs.Types.{stored_width, bytes_in, value_type_of}
-use Rattle.wasm_semantics.specs.Typing.{Context, HasRule}
+use Rattle.wasm_semantics.specs.Typing.{Context, HasInstructionType}
 use Rattle.wasm_semantics.specs.Configuration.{Program, Store}
 use Rattle.wasm_semantics.specs.Effects.{Effect, Gives, Fails, Wrong, with_top, effect_of_some}
 use Rattle.wasm_semantics.specs.Effects.{with_result, loaded, load_at, store_at, pages_of, grown}
@@ -337,7 +337,7 @@ module _ (c : Context) (program : Program) (few : program.most_pages ≤ 2 ^ 16)
   -- ---- each instruction
 
   pub effect_has : (labels : List (List ValueType)) (i : Instruction) (p q below : List ValueType)
-      (s : Store) (ls vs : List Value) → IsEffect i → HasRule c labels i p q
+      (s : Store) (ls vs : List Value) → IsEffect i → HasInstructionType c labels i p q
       → IsTypedStore c program s → AreOf c.locals ls → AreOf (p ++ below) vs
       → EffectHas (q ++ below) (effect program i s ls vs)
   effect_has labels instr.Unreachable p q below s ls vs is r h l o = tt

@@ -22,7 +22,7 @@ memory_with_part program memory from bytes h k inside = record {
       (all_both IsByte _ _ k (all_drop IsByte (from + length bytes) memory h.bytes));
 }
 
--- pages of zeros behind it
+-- pages of zeros after it
 pub memory_grown : (program : Program) (memory : List ℕ) (n pages : ℕ)
     → IsTypedMemory program memory → length memory ≡ pages * page_size
     → pages + n ≤ program.most_pages → IsTypedMemory program (memory ++ replicate (n * page_size) 0)

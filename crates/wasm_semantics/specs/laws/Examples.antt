@@ -13,9 +13,10 @@ use Rattle.wasm_syntax.specs.declared.instruction.Instruction.TheVariants as ins
 use Rattle.wasm_syntax.specs.rules.Sequence.{Sequence, Stop, Plain, InBlock, InIf, InIfElse}
 use Rattle.wasm_syntax.specs.laws.Examples.{no_type, transfer_type, exit_type}
 use Rattle.wasm_semantics.specs.Typing.{Context, HasType}
-use Rattle.wasm_semantics.specs.Configuration.{Host, Own, Program, Store, Main, LabelOf, FrameOf}
+use Rattle.wasm_semantics.specs.Configuration.{Imported, Own, Program, Store, Main, LabelOf}
+use Rattle.wasm_semantics.specs.Configuration.{FrameOf}
 use Rattle.wasm_semantics.specs.Configuration.{Configuration, Outcome, Goes, Traps, Asks}
-use Rattle.wasm_semantics.specs.Steps.{rule, leave}
+use Rattle.wasm_semantics.specs.Steps.{counted_step, administrative_step}
 
 -- ---- typing
 
@@ -86,7 +87,7 @@ hello_sequence =
 abbrev pub program_of_hello : Program
 program_of_hello = record {
   types = no_type ∷ transfer_type ∷ exit_type ∷ [];
-  functions = Host transfer_type ∷ Host exit_type ∷ Own no_type [] hello_sequence ∷ [];
+  functions = Imported transfer_type ∷ Imported exit_type ∷ Own no_type [] hello_sequence ∷ [];
   least_pages = 1;
   most_pages = 1;
 }
@@ -110,21 +111,21 @@ v n = value.I32 n
 -- the last one first. Its answer is dropped, a constant follows, and the eighth step asks the host
 -- to exit.
 pub record HelloRuns (store : Store) : Type 0 where
-  pub begins : leave program_of_hello (record { store = store; thread = []; later = 2 ∷ [] })
-      ≡ Some (in_hello store [] hello_sequence)
-  pub settled : leave program_of_hello (in_hello store [] hello_sequence) ≡ None
-  pub first : rule program_of_hello (in_hello store [] hello_sequence)
+  pub begins : administrative_step program_of_hello (record
+      { store = store; thread = []; later = 2 ∷ [] }) ≡ Some (in_hello store [] hello_sequence)
+  pub reduced : administrative_step program_of_hello (in_hello store [] hello_sequence) ≡ None
+  pub first : counted_step program_of_hello (in_hello store [] hello_sequence)
       ≡ Goes (in_hello store (v 1
       ∷ []) (Plain (const_32 0)
       (Plain (const_32 1) (Plain (const_32 16) (Plain (instr.Call 0) rest_behind_call)))))
-  pub fifth : rule program_of_hello (in_hello store (v 16 ∷ v 1 ∷ v 0 ∷ v 1
+  pub fifth : counted_step program_of_hello (in_hello store (v 16 ∷ v 1 ∷ v 0 ∷ v 1
       ∷ []) (Plain (instr.Call 0) rest_behind_call))
       ≡ Asks 0 (v 16 ∷ v 1 ∷ v 0 ∷ v 1 ∷ []) (in_hello store [] rest_behind_call).thread
-  pub sixth : rule program_of_hello (in_hello store (v 0 ∷ []) rest_behind_call)
+  pub sixth : counted_step program_of_hello (in_hello store (v 0 ∷ []) rest_behind_call)
       ≡ Goes (in_hello store [] (Plain (const_32 7) (Plain (instr.Call 1) Stop)))
-  pub eighth : rule program_of_hello (in_hello store (v 7 ∷ []) (Plain (instr.Call 1) Stop))
+  pub eighth : counted_step program_of_hello (in_hello store (v 7 ∷ []) (Plain (instr.Call 1) Stop))
       ≡ Asks 1 (v 7 ∷ []) (in_hello store [] Stop).thread
-  pub ends : leave program_of_hello (in_hello store [] Stop) ≡ Some (record {
+  pub ends : administrative_step program_of_hello (in_hello store [] Stop) ≡ Some (record {
     store = store;
     thread = FrameOf 2 [] [] [] Stop ∷ [];
     later = [];
@@ -159,32 +160,32 @@ goes_with store values = Goes (record {
 
 pub record StepExamples : Type 0 where
   -- the least number divided by -1 has no quotient, and by 2 ^ 32 - 1 read without a sign it has
-  pub overflows : rule endless (executing four_bytes (instr.Binary I32 DivS) (v 0xffffffff
+  pub overflows : counted_step endless (executing four_bytes (instr.Binary I32 DivS) (v 0xffffffff
       ∷ v 0x80000000 ∷ [])) ≡ Traps trap.IntegerOverflow
-  pub divides : rule endless (executing four_bytes (instr.Binary I32 DivU) (v 0xffffffff
+  pub divides : counted_step endless (executing four_bytes (instr.Binary I32 DivU) (v 0xffffffff
       ∷ v 0x80000000 ∷ [])) ≡ goes_with four_bytes (v 0 ∷ [])
   -- four bytes are there, and of three bytes four can't be read
-  pub loads : rule endless (executing four_bytes (instr.Load load.I32 (record {
+  pub loads : counted_step endless (executing four_bytes (instr.Load load.I32 (record {
     align = 2;
     offset = 0;
   })) (v 0 ∷ [])) ≡ goes_with four_bytes (v 0x80030201 ∷ [])
-  pub extends : rule endless (executing four_bytes (instr.Load load.I32Bits8S (record {
+  pub extends : counted_step endless (executing four_bytes (instr.Load load.I32Bits8S (record {
     align = 0;
     offset = 1;
   })) (v 2 ∷ [])) ≡ goes_with four_bytes (v 0xffffff80 ∷ [])
-  pub is_outside : rule endless (executing one_byte_short (instr.Load load.I32 (record {
+  pub is_outside : counted_step endless (executing one_byte_short (instr.Load load.I32 (record {
     align = 2;
     offset = 0;
   })) (v 0 ∷ [])) ≡ Traps trap.MemoryOutOfBounds
   -- the sum of address and offset doesn't wrap
-  pub wraps_not : rule endless (executing four_bytes (instr.Load load.I32Bits8U (record {
+  pub wraps_not : counted_step endless (executing four_bytes (instr.Load load.I32Bits8U (record {
     align = 0;
     offset = 1;
   })) (v 0xffffffff ∷ [])) ≡ Traps trap.MemoryOutOfBounds
-  pub selects : rule endless (executing four_bytes instr.Select (v 1 ∷ v 20 ∷ v 10 ∷ []))
+  pub selects : counted_step endless (executing four_bytes instr.Select (v 1 ∷ v 20 ∷ v 10 ∷ []))
       ≡ goes_with four_bytes (v 10 ∷ [])
-  pub grows_not : rule endless (executing four_bytes instr.MemoryGrow (v 2 ∷ []))
+  pub grows_not : counted_step endless (executing four_bytes instr.MemoryGrow (v 2 ∷ []))
       ≡ goes_with four_bytes (v 0xffffffff ∷ [])
   -- no table, so no entry
-  pub undefined_element : rule endless (executing four_bytes (instr.CallIndirect 0) (v 0 ∷ []))
-      ≡ Traps trap.UndefinedElement
+  pub undefined_element : counted_step endless (executing four_bytes
+      (instr.CallIndirect 0) (v 0 ∷ [])) ≡ Traps trap.UndefinedElement

@@ -14,7 +14,7 @@ abbrev pub OneSequence : Type 0
 OneSequence = (opcodes : List Instruction) (s t : Sequence) → Spells opcodes s → Spells opcodes t
     → s ≡ t
 
--- so many counted steps lead to one configuration at most, each with the rules that settle it
+-- so many counted steps lead to one configuration at most, each with the steps that reduce it
 abbrev pub OneRun : Type 0
 OneRun = (program : Program) (n : ℕ) (c d e : Configuration) → Steps program n c d
     → Steps program n c e → d ≡ e

@@ -1,4 +1,4 @@
--- Worked examples: calls at the limits of the stack, branches that leave values behind, calls
+-- Worked examples: calls at the limits of the stack, branches that leave values after, calls
 -- through the table, memory that grows up to its limit, and copies and fills up to its end.
 use Rattle.std.specs.Prelude.{◌≡◌, ℕ, ◌^◌, ◌-◌, List, [], ◌∷◌, ◌++◌, length, replicate, Some, None}
 use Rattle.wasm_syntax.specs.declared.types.ValueType.TheVariants.{I32, I64}
@@ -11,7 +11,7 @@ use Rattle.wasm_syntax.specs.laws.Examples.{no_type}
 use Rattle.wasm_semantics.specs.Configuration.{Own, Program, Store, Main, Label, LabelOf, Frame}
 use Rattle.wasm_semantics.specs.Configuration.{FrameOf, Thread, Configuration, Outcome, Goes}
 use Rattle.wasm_semantics.specs.Configuration.{Traps}
-use Rattle.wasm_semantics.specs.Steps.{rule}
+use Rattle.wasm_semantics.specs.Steps.{counted_step}
 use Rattle.wasm_semantics.specs.laws.Examples.{v, endless, four_bytes, executing}
 use Rattle.wasm_semantics.specs.laws.Examples.{goes_with}
 
@@ -40,17 +40,17 @@ first_frame count body =
 
 pub record StackExamples : Type 0 where
   -- frame 512 is entered, and frame 513 isn't
-  pub last_frame : rule endless (with_thread (caller_above [] ∷ empty_frames 510))
+  pub last_frame : counted_step endless (with_thread (caller_above [] ∷ empty_frames 510))
       ≡ Goes (with_thread (first_frame 0 (Plain (instr.Call 0) Stop)
       ∷ FrameOf 0 [] [] [] Stop ∷ empty_frames 510))
-  pub one_frame_more : rule endless (with_thread (caller_above [] ∷ empty_frames 511))
+  pub one_frame_more : counted_step endless (with_thread (caller_above [] ∷ empty_frames 511))
       ≡ Traps trap.StackExhausted
   -- value 65,536 is held, and value 65,537 isn't
-  pub last_value : rule spacious (with_thread (caller_above (replicate 65280 (v 7)) ∷ []))
+  pub last_value : counted_step spacious (with_thread (caller_above (replicate 65280 (v 7)) ∷ []))
       ≡ Goes (with_thread (first_frame 256 Stop ∷ FrameOf 0 [] [] (replicate 65280 (v 7)) Stop
       ∷ []))
-  pub one_value_more : rule spacious (with_thread (caller_above (replicate 65281 (v 7)) ∷ []))
-      ≡ Traps trap.StackExhausted
+  pub one_value_more : counted_step spacious (with_thread (caller_above
+      (replicate 65281 (v 7)) ∷ [])) ≡ Traps trap.StackExhausted
 
 -- ---- branches
 
@@ -80,18 +80,18 @@ going_on values = Goes (with_thread (FrameOf 0 [] two_labels values nop ∷ []))
 
 pub record BranchExamples : Type 0 where
   -- all values of the blocks that are left are gone, but for those that the label keeps
-  pub inner : rule endless (inside_two (instr.Br 0) (v 9 ∷ v 8 ∷ [])) ≡ at_inner
-  pub outer : rule endless (inside_two (instr.Br 1) (v 9 ∷ v 8 ∷ [])) ≡ at_outer 9
-  pub taken : rule endless (inside_two (instr.BrIf 1) (v 3 ∷ v 9 ∷ v 8 ∷ [])) ≡ at_outer 9
-  pub not_taken : rule endless (inside_two (instr.BrIf 1) (v 0 ∷ v 9 ∷ v 8 ∷ []))
+  pub inner : counted_step endless (inside_two (instr.Br 0) (v 9 ∷ v 8 ∷ [])) ≡ at_inner
+  pub outer : counted_step endless (inside_two (instr.Br 1) (v 9 ∷ v 8 ∷ [])) ≡ at_outer 9
+  pub taken : counted_step endless (inside_two (instr.BrIf 1) (v 3 ∷ v 9 ∷ v 8 ∷ [])) ≡ at_outer 9
+  pub not_taken : counted_step endless (inside_two (instr.BrIf 1) (v 0 ∷ v 9 ∷ v 8 ∷ []))
       ≡ going_on (v 9 ∷ v 8 ∷ [])
-  -- the last entry of a table, and the default behind it
-  pub last_entry : rule endless (inside_two (instr.BrTable (0 ∷ 1 ∷ []) 0) (v 1 ∷ v 9 ∷ v 8 ∷ []))
-      ≡ at_outer 9
-  pub default : rule endless (inside_two (instr.BrTable (0 ∷ 0 ∷ []) 1) (v 2 ∷ v 9 ∷ v 8 ∷ []))
-      ≡ at_outer 9
+  -- the last entry of a table, and the default after it
+  pub last_entry : counted_step endless (inside_two (instr.BrTable (0 ∷ 1 ∷ []) 0) (v 1
+      ∷ v 9 ∷ v 8 ∷ [])) ≡ at_outer 9
+  pub default : counted_step endless (inside_two (instr.BrTable (0 ∷ 0 ∷ []) 1) (v 2
+      ∷ v 9 ∷ v 8 ∷ [])) ≡ at_outer 9
   -- a loop begins anew inside of no label of its own, and keeps no value
-  pub again : rule endless (with_thread (FrameOf 0 []
+  pub again : counted_step endless (with_thread (FrameOf 0 []
       (LabelOf 0 (InLoop None nop Stop) (v 5 ∷ []) Stop Main ∷ []) (v 9 ∷ [])
       (Plain (instr.Br 0) Stop) ∷ []))
       ≡ Goes (with_thread (FrameOf 0 [] [] (v 5 ∷ []) (InLoop None nop Stop) ∷ []))
@@ -113,7 +113,7 @@ three_entries = record { memory = []; globals = []; table = Some 0 ∷ None ∷ 
 
 -- a call of type 0 through this entry
 abbrev pub through : ℕ → Outcome
-through i = rule two_functions (executing three_entries (instr.CallIndirect 0) (v i ∷ []))
+through i = counted_step two_functions (executing three_entries (instr.CallIndirect 0) (v i ∷ []))
 
 pub record TableExamples : Type 0 where
   pub called : through 0
@@ -135,15 +135,15 @@ of_bytes memory = record { memory = memory; globals = []; table = [] }
 
 -- what growth by so many pages leads to
 abbrev pub grows : List ℕ → ℕ → Outcome
-grows memory n = rule two_pages (executing (of_bytes memory) instr.MemoryGrow (v n ∷ []))
+grows memory n = counted_step two_pages (executing (of_bytes memory) instr.MemoryGrow (v n ∷ []))
 
--- the one page, and behind it another
+-- the one page, and after it another
 pub record GrowthExamples (page : List ℕ) : Type 0 where
   pub by_none : grows page 0 ≡ goes_with (of_bytes (page ++ [])) (v 1 ∷ [])
   pub by_one : grows page 1 ≡ goes_with (of_bytes (page ++ replicate 65536 0)) (v 1 ∷ [])
   pub by_two : grows page 2 ≡ goes_with (of_bytes page) (v (2 ^ 32 - 1) ∷ [])
   pub by_many : grows page (2 ^ 32 - 1) ≡ goes_with (of_bytes page) (v (2 ^ 32 - 1) ∷ [])
-  pub size : rule two_pages (executing (of_bytes page) instr.MemorySize [])
+  pub size : counted_step two_pages (executing (of_bytes page) instr.MemorySize [])
       ≡ goes_with (of_bytes page) (v 1 ∷ [])
 
 -- whatever the page holds
@@ -159,7 +159,7 @@ eight_bytes = 1 ∷ 2 ∷ 3 ∷ 4 ∷ 5 ∷ 6 ∷ 7 ∷ 8 ∷ []
 -- what an instruction leads to that takes a destination, a source or a value, and a length
 abbrev pub of_three : Instruction → ℕ → ℕ → ℕ → Outcome
 of_three i to second n =
-    rule two_pages (executing (of_bytes eight_bytes) i (v n ∷ v second ∷ v to ∷ []))
+    counted_step two_pages (executing (of_bytes eight_bytes) i (v n ∷ v second ∷ v to ∷ []))
 
 abbrev pub leaves_bytes : List ℕ → Outcome
 leaves_bytes bytes = goes_with (of_bytes bytes) []

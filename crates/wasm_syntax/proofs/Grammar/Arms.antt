@@ -384,44 +384,44 @@ store_complete store.I64Bits8 m bytes rest e = rw e refl
 store_complete store.I64Bits16 m bytes rest e = rw e refl
 store_complete store.I64Bits32 m bytes rest e = rw e refl
 
--- where every operator stands in its table
+-- where every operator is in its table
 
-comparison_stands : (operator : Comparison)
+comparison_listed : (operator : Comparison)
     → slice_get comparisons (compare_place operator) ≡ Some operator
-comparison_stands Eq = refl
-comparison_stands Ne = refl
-comparison_stands LtS = refl
-comparison_stands LtU = refl
-comparison_stands GtS = refl
-comparison_stands GtU = refl
-comparison_stands LeS = refl
-comparison_stands LeU = refl
-comparison_stands GeS = refl
-comparison_stands GeU = refl
+comparison_listed Eq = refl
+comparison_listed Ne = refl
+comparison_listed LtS = refl
+comparison_listed LtU = refl
+comparison_listed GtS = refl
+comparison_listed GtU = refl
+comparison_listed LeS = refl
+comparison_listed LeU = refl
+comparison_listed GeS = refl
+comparison_listed GeU = refl
 
-unary_stands : (operator : UnaryOperator)
+unary_listed : (operator : UnaryOperator)
     → slice_get unary_operators (unary_place operator) ≡ Some operator
-unary_stands Clz = refl
-unary_stands Ctz = refl
-unary_stands Popcnt = refl
+unary_listed Clz = refl
+unary_listed Ctz = refl
+unary_listed Popcnt = refl
 
-binary_stands : (operator : BinaryOperator)
+binary_listed : (operator : BinaryOperator)
     → slice_get binary_operators (binary_place operator) ≡ Some operator
-binary_stands Add = refl
-binary_stands Sub = refl
-binary_stands Mul = refl
-binary_stands DivS = refl
-binary_stands DivU = refl
-binary_stands RemS = refl
-binary_stands RemU = refl
-binary_stands And = refl
-binary_stands Or = refl
-binary_stands Xor = refl
-binary_stands Shl = refl
-binary_stands ShrS = refl
-binary_stands ShrU = refl
-binary_stands Rotl = refl
-binary_stands Rotr = refl
+binary_listed Add = refl
+binary_listed Sub = refl
+binary_listed Mul = refl
+binary_listed DivS = refl
+binary_listed DivU = refl
+binary_listed RemS = refl
+binary_listed RemU = refl
+binary_listed And = refl
+binary_listed Or = refl
+binary_listed Xor = refl
+binary_listed Shl = refl
+binary_listed ShrS = refl
+binary_listed ShrU = refl
+binary_listed Rotl = refl
+binary_listed Rotr = refl
 
 -- what holds of each item of a list holds of the one at a place
 agree_at : {X Y : Type 0} (f g : X → Y) (xs : List X) (k : ℕ) (x : X) → map f xs ≡ map g xs
@@ -438,11 +438,11 @@ unfolding behind_opcode higher_at
 compare_complete I32 operator bytes =
     agree_at (λ (x : Comparison). behind_opcode (compare_opcode I32 x) bytes) (λ (x : Comparison).
     found (instr.Compare I32 x) bytes) comparisons (compare_place operator) operator refl
-    (comparison_stands operator)
+    (comparison_listed operator)
 compare_complete I64 operator bytes =
     agree_at (λ (x : Comparison). behind_opcode (compare_opcode I64 x) bytes) (λ (x : Comparison).
     found (instr.Compare I64 x) bytes) comparisons (compare_place operator) operator refl
-    (comparison_stands operator)
+    (comparison_listed operator)
 
 unary_complete : (t : ValueType) (operator : UnaryOperator) (bytes : List ℕ)
     → behind_opcode (unary_opcode t operator) bytes ≡ Some (instr.Unary t operator, bytes)
@@ -450,11 +450,11 @@ unfolding behind_opcode higher_at
 unary_complete I32 operator bytes =
     agree_at (λ (x : UnaryOperator). behind_opcode (unary_opcode I32 x) bytes)
     (λ (x : UnaryOperator). found (instr.Unary I32 x) bytes) unary_operators
-    (unary_place operator) operator refl (unary_stands operator)
+    (unary_place operator) operator refl (unary_listed operator)
 unary_complete I64 operator bytes =
     agree_at (λ (x : UnaryOperator). behind_opcode (unary_opcode I64 x) bytes)
     (λ (x : UnaryOperator). found (instr.Unary I64 x) bytes) unary_operators
-    (unary_place operator) operator refl (unary_stands operator)
+    (unary_place operator) operator refl (unary_listed operator)
 
 binary_complete : (t : ValueType) (operator : BinaryOperator) (bytes : List ℕ)
     → behind_opcode (binary_opcode t operator) bytes ≡ Some (instr.Binary t operator, bytes)
@@ -462,11 +462,11 @@ unfolding behind_opcode higher_at
 binary_complete I32 operator bytes =
     agree_at (λ (x : BinaryOperator). behind_opcode (binary_opcode I32 x) bytes)
     (λ (x : BinaryOperator). found (instr.Binary I32 x) bytes) binary_operators
-    (binary_place operator) operator refl (binary_stands operator)
+    (binary_place operator) operator refl (binary_listed operator)
 binary_complete I64 operator bytes =
     agree_at (λ (x : BinaryOperator). behind_opcode (binary_opcode I64 x) bytes)
     (λ (x : BinaryOperator). found (instr.Binary I64 x) bytes) binary_operators
-    (binary_place operator) operator refl (binary_stands operator)
+    (binary_place operator) operator refl (binary_listed operator)
 
 eqz_complete : (t : ValueType) (bytes : List ℕ)
     → behind_opcode (eqz_opcode t) bytes ≡ Some (instr.Eqz t, bytes)

@@ -29,7 +29,7 @@ pub with_some : {A B P : Type 0} (r : Option A) (f : A → Option B) (y : B) →
 with_some (Some x) f y e go = go x refl e
 with_some None f y e go = absurd cc
 
--- one step behind two, and two behind one
+-- one step after two, and two after one
 pub bind_bind : {A B C : Type 0} (o : Option A) (f : A → Option B) (g : B → Option C)
     → ((o >>= f) >>= g) ≡ (o >>= λ x. f x >>= g)
 bind_bind (Some x) f g = refl

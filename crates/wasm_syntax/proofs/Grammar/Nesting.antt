@@ -7,7 +7,7 @@ use Rattle.wasm_syntax.specs.declared.instruction.Instruction.TheVariants as ins
 use Rattle.wasm_syntax.specs.rules.Sequence.{Sequence, Stop, Plain, InBlock, InLoop, InIf, InIfElse}
 use Rattle.wasm_syntax.specs.rules.Sequence.{spelled, IsPlain, IsNested, Spells}
 use Rattle.wasm_syntax.specs.declared.opener.Opener.{Opener}
-use Rattle.wasm_syntax.specs.declared.opener.Opener.TheVariants.{Straight, Conditional}
+use Rattle.wasm_syntax.specs.declared.opener.Opener.TheVariants.{Unconditional, Conditional}
 use Rattle.wasm_syntax.specs.laws.ReadingInstructions.{Nesting, Open, Closed, Misplaced}
 use Rattle.wasm_syntax.specs.laws.ReadingInstructions.{nesting_after}
 
@@ -40,18 +40,18 @@ passes Stop openers tail h c = c
 passes (Plain i rest) openers tail h c =
     rw (plain_stays i openers h.0) (passes rest openers tail h.1 c)
 passes (InBlock t body rest) openers tail h c =
-    rw (append_assoc (spelled body) (instr.End ∷ spelled rest) tail) (passes body (Straight
+    rw (append_assoc (spelled body) (instr.End ∷ spelled rest) tail) (passes body (Unconditional
     ∷ openers) (instr.End ∷ (spelled rest ++ tail)) h.0 (passes rest openers tail h.1 c))
 passes (InLoop t body rest) openers tail h c =
-    rw (append_assoc (spelled body) (instr.End ∷ spelled rest) tail) (passes body (Straight
+    rw (append_assoc (spelled body) (instr.End ∷ spelled rest) tail) (passes body (Unconditional
     ∷ openers) (instr.End ∷ (spelled rest ++ tail)) h.0 (passes rest openers tail h.1 c))
 passes (InIf t first rest) openers tail h c =
     rw (append_assoc (spelled first) (instr.End ∷ spelled rest) tail) (passes first (Conditional
     ∷ openers) (instr.End ∷ (spelled rest ++ tail)) h.0 (passes rest openers tail h.1 c))
 passes (InIfElse t first second rest) openers tail h c =
-    let inner : AreClosed (Straight ∷ openers) ((spelled second ++ (instr.End ∷ spelled rest))
+    let inner : AreClosed (Unconditional ∷ openers) ((spelled second ++ (instr.End ∷ spelled rest))
     ++ tail) =
-    rw (append_assoc (spelled second) (instr.End ∷ spelled rest) tail) (passes second (Straight
+    rw (append_assoc (spelled second) (instr.End ∷ spelled rest) tail) (passes second (Unconditional
     ∷ openers) (instr.End ∷ (spelled rest ++ tail)) h.1 (passes rest openers tail h.2 c)) in
     rw (append_assoc (spelled first) (instr.Else ∷ (spelled second
     ++ (instr.End ∷ spelled rest))) tail) (passes first (Conditional ∷ openers) (instr.Else
@@ -74,7 +74,7 @@ record Behind (Ends : List Instruction → Type 0) (is : List Instruction) : Typ
 -- what ends a sequence where these blocks are open
 abbrev EndsIn : List Opener → List Instruction → Type 0
 EndsIn [] tail = tail ≡ instr.End ∷ []
-EndsIn (Straight ∷ openers) tail = (more : List Instruction) × (tail ≡ instr.End ∷ more)
+EndsIn (Unconditional ∷ openers) tail = (more : List Instruction) × (tail ≡ instr.End ∷ more)
     × Behind (EndsIn openers) more
 EndsIn (Conditional ∷ openers) tail =
     ((more : List Instruction) × (tail ≡ instr.End ∷ more) × Behind (EndsIn openers) more)
@@ -100,7 +100,7 @@ behind_plain Ends i is h b = record {
   ends = b.ends;
 }
 
--- behind an instruction that opens a block, which an `end` closes
+-- after an instruction that opens a block, which an `end` closes
 behind_opener : (Ends : List Instruction → Type 0) (i : Instruction) (make : Sequence → Sequence
     → Sequence) → ((body rest : Sequence)
     → spelled (make body rest) ≡ i ∷ (spelled body ++ (instr.End ∷ spelled rest)))
@@ -118,7 +118,7 @@ behind_opener Ends i make spells nests is body t nested e more f b = record {
   ends = b.ends;
 }
 
--- behind an `if` whose second part is written
+-- after an `if` whose second part is written
 behind_else : (Ends : List Instruction
     → Type 0) (t : Option ValueType) (is : List Instruction) (first second : Sequence)
     (u more v last : List Instruction) → IsNested first → IsNested second
@@ -141,13 +141,13 @@ nested_by : (is : List Instruction) (openers : List Opener) → AreClosed opener
     → Behind (EndsIn openers) is
 nested_by [] openers c = absurd c
 nested_by (instr.Block t ∷ is) openers c =
-    let b = nested_by is (Straight ∷ openers) c in
+    let b = nested_by is (Unconditional ∷ openers) c in
     behind_opener (EndsIn openers) (instr.Block t) (InBlock t) (λ x y. refl) (λ x y p q. (
       p,
       q,
     )) is b.first b.tail b.nested b.begun b.ends.0 b.ends.1 b.ends.2
 nested_by (instr.Loop t ∷ is) openers c =
-    let b = nested_by is (Straight ∷ openers) c in
+    let b = nested_by is (Unconditional ∷ openers) c in
     behind_opener (EndsIn openers) (instr.Loop t) (InLoop t) (λ x y. refl) (λ x y p q. (
       p,
       q,
@@ -164,17 +164,17 @@ nested_by (instr.If t ∷ is) openers c =
           d.nested b.begun e.1 d.begun d.ends.1 d.ends.2)
     ]
 nested_by (instr.Else ∷ is) [] c = absurd c
-nested_by (instr.Else ∷ is) (Straight ∷ openers) c = absurd c
+nested_by (instr.Else ∷ is) (Unconditional ∷ openers) c = absurd c
 nested_by (instr.Else ∷ is) (Conditional ∷ openers) c =
     begins (EndsIn (Conditional ∷ openers)) (instr.Else ∷ is) (inr (
       is,
       refl,
-      nested_by is (Straight ∷ openers) c,
+      nested_by is (Unconditional ∷ openers) c,
     ))
 nested_by (instr.End ∷ is) [] c =
     begins (EndsIn []) (instr.End ∷ is) (ap (λ (x : List Instruction). instr.End ∷ x) c)
-nested_by (instr.End ∷ is) (Straight ∷ openers) c =
-    begins (EndsIn (Straight ∷ openers)) (instr.End ∷ is) (is, refl, nested_by is openers c)
+nested_by (instr.End ∷ is) (Unconditional ∷ openers) c =
+    begins (EndsIn (Unconditional ∷ openers)) (instr.End ∷ is) (is, refl, nested_by is openers c)
 nested_by (instr.End ∷ is) (Conditional ∷ openers) c =
     begins (EndsIn (Conditional ∷ openers)) (instr.End ∷ is) (inl (
       is,

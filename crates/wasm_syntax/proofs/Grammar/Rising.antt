@@ -56,7 +56,7 @@ follow_complete last s (inr other) =
     let apart : s.id ≢ 0 = λ e. absurd (omega (arith, other.0, e)) in
     rw (ne_eqb s.id 0 apart, lt-ltb _ _ other.0, lt-ltb _ _ other.1) refl
 
--- a section at the front that may come behind one of id `last`
+-- a section at the front that may come after one of id `last`
 abbrev pub IsNextSection : ℕ → List ℕ → Section → List ℕ → Type 0
 IsNextSection last bytes s rest = IsSection bytes s rest × MayFollow last s
 
@@ -100,10 +100,10 @@ rising_complete most last bytes [] h few = rw h refl
 rising_complete most last [] (s ∷ ss) h few = absurd (nothing s h.0 h.1)
 rising_complete zero last (b ∷ bytes) (s ∷ ss) h few = absurd (omega arith)
 rising_complete (suc most) last (b ∷ bytes) (s ∷ ss) h few =
-    let left : length h.0 ≤ most = omega (arith, section_shorter (b ∷ bytes) s h.0 h.1) in
+    let shorter : length h.0 ≤ most = omega (arith, section_shorter (b ∷ bytes) s h.0 h.1) in
     rw (
       (Reads-next_section_at last).complete (b ∷ bytes) s h.0 (h.1, h.2),
-      rising_complete most (max last s.id) h.0 ss h.3 left,
+      rising_complete most (max last s.id) h.0 ss h.3 shorter,
     ) refl
 
 pub sections_sound : (bytes : List ℕ) (ss : List Section) → sections_at bytes ≡ Some ss

@@ -99,7 +99,7 @@ row_up_to_complete {X} IsItem item_at most reads body xs h few =
     (Reads-vector_up_to_at IsItem item_at most reads) [] body xs (within_field (IsVector IsItem)
     (λ (ys : List X). length ys ≤ most) [] body xs h few)
 
--- items of a row that keep to a limit each
+-- items of a list that keep to a limit each
 row_fits : {X : Type 0} (IsItem : List ℕ → X → List ℕ → Type 0) (Fits : X
     → Type 0) (body : Option (List ℕ)) (xs : List X) → IsRow (Within IsItem Fits) body xs
     → IsRow IsItem body xs × AllByRecursion Fits xs
@@ -150,15 +150,20 @@ pub record Fits (m : Module) : Type 0 where
   pub element_offsets : AllByRecursion FitsElement m.elements
   pub data_offsets : AllByRecursion FitsData m.data_segments
 
-left_sound : (imports : List Import) (left : ℕ) → functions_left imports ≡ Some left
-    → count_by is_function imports + left ≡ FUNCTIONS
-left_sound imports left e =
+count_left_sound : (imports : List Import) (count_left : ℕ) → functions_left imports
+    ≡ Some count_left → count_by is_function imports + count_left ≡ FUNCTIONS
+count_left_sound imports count_left e =
     let few = check_some (leb (count_by is_function imports) FUNCTIONS) _ _ e in
-    omega (arith, leb-true _ _ few.0, some_is (FUNCTIONS - count_by is_function imports) left few.1)
+    omega (
+      arith,
+      leb-true _ _ few.0,
+      some_is (FUNCTIONS - count_by is_function imports)
+          count_left few.1,
+    )
 
-left_complete : (imports : List Import) → count_by is_function imports ≤ FUNCTIONS
+count_left_complete : (imports : List Import) → count_by is_function imports ≤ FUNCTIONS
     → functions_left imports ≡ Some (FUNCTIONS - count_by is_function imports)
-left_complete imports h = rw (le-leb _ _ h) refl
+count_left_complete imports h = rw (le-leb _ _ h) refl
 
 pub contents_within_sound : (body : ℕ → Option (List ℕ)) (m : Module)
     → contents_within_at body ≡ Some m → Holds body m × Fits m
@@ -166,8 +171,8 @@ unfolding contents_within_at
 contents_within_sound body m e =
     with_some (field_at (vector_at function_type_within_at) [] (body 1)) _ _ e (λ types is_types e.
     with_some (field_at (vector_at import_within_at) [] (body 2)) _ _ e (λ imports is_imports e.
-    with_some (functions_left imports) _ _ e (λ left is_left e.
-    with_some (field_at (vector_up_to_at leb_u32_at left) [] (body 3)) _ _ e
+    with_some (functions_left imports) _ _ e (λ count_left is_left e.
+    with_some (field_at (vector_up_to_at leb_u32_at count_left) [] (body 3)) _ _ e
     (λ function_types is_function_types e.
     with_some (field_at (vector_at table_type_within_at) [] (body 4)) _ _ e (λ tables is_tables e.
     with_some (field_at (vector_at memory_type_at) [] (body 5)) _ _ e (λ memories is_memories e.
@@ -198,7 +203,7 @@ contents_within_sound body m e =
     Reads-function_type_within_at (body 1) types is_types in
     let i = row_within_sound IsImport FitsImport import_within_at Reads-import_within_at
     (body 2) imports is_imports in
-    let f = row_up_to_sound IsU32 leb_u32_at left Reads-u32_at
+    let f = row_up_to_sound IsU32 leb_u32_at count_left Reads-u32_at
     (body 3) function_types is_function_types in
     let tb = row_within_sound IsTableType IsSmallTable table_type_within_at
     Reads-table_type_within_at (body 4) tables is_tables in
@@ -211,7 +216,7 @@ contents_within_sound body m e =
     (body 10) codes is_codes in
     let ds = row_within_sound IsData FitsData data_within_at Reads-data_within_at
     (body 11) data_segments is_data_segments in
-    let count : length functions ≤ left =
+    let count : length functions ≤ count_left =
     omega (arith, same_count functions, ap length paired.0, f.1) in
     let held : Holds body made = record {
       types = t.0;
@@ -231,7 +236,7 @@ contents_within_sound body m e =
     let fits : Fits made = record {
       types = t.1;
       imports = i.1;
-      functions = omega (arith, left_sound imports left is_left, count);
+      functions = omega (arith, count_left_sound imports count_left is_left, count);
       bodies = bodies_fit functions (subst (λ (xs : List Code). AllByRecursion FitsCode xs)
           (sym paired.1) cs.1);
       tables = tb.1;
@@ -258,7 +263,7 @@ contents_within_complete body m h fits =
           Reads-function_type_within_at (body 1) m.types h.types fits.types,
       row_within_complete IsImport FitsImport import_within_at Reads-import_within_at
           (body 2) m.imports h.imports fits.imports,
-      left_complete m.imports imported,
+      count_left_complete m.imports imported,
       row_up_to_complete IsU32 leb_u32_at (FUNCTIONS - count_by is_function m.imports) Reads-u32_at
           (body 3) (map function_type_of m.functions) h.function_types room,
       row_within_complete IsTableType IsSmallTable table_type_within_at Reads-table_type_within_at

@@ -87,7 +87,7 @@ idle_exports = 0x07 ∷ 0x13 ∷ 0x02 ∷ 0x06 ∷ 0x5f ∷ 0x73 ∷ 0x74 ∷ 0x
 abbrev pub idle_codes : List ℕ
 idle_codes = 0x0a ∷ 0x04 ∷ 0x01 ∷ 0x02 ∷ 0x00 ∷ 0x0b ∷ []
 
--- the sections behind the one of types
+-- the sections after the one of types
 abbrev pub idle_behind_types : List ℕ
 idle_behind_types = idle_functions ++ idle_memories ++ idle_exports ++ idle_codes
 
@@ -198,7 +198,7 @@ second_else_codes = 0x0a ∷ 0x0b ∷ 0x01 ∷ 0x09 ∷ 0x00 ∷ 0x41 ∷ 0x01 �
 abbrev pub open_codes : List ℕ
 open_codes = 0x0a ∷ 0x07 ∷ 0x01 ∷ 0x05 ∷ 0x00 ∷ 0x02 ∷ 0x40 ∷ 0x01 ∷ 0x0b ∷ []
 
--- `end end`, which goes on behind the body
+-- `end end`, which goes on after the body
 abbrev pub early_end_codes : List ℕ
 early_end_codes = 0x0a ∷ 0x05 ∷ 0x01 ∷ 0x03 ∷ 0x00 ∷ 0x0b ∷ 0x0b ∷ []
 
@@ -235,7 +235,7 @@ if_else_body = i32_const 1 ∷ instr.If None ∷ instr.Nop ∷ instr.Else ∷ in
 abbrev pub extension_body : List Instruction
 extension_body = i32_const 128 ∷ instr.Convert I32Extend8S ∷ instr.Drop ∷ instr.End ∷ []
 
--- an instruction behind three zeros
+-- an instruction after three zeros
 abbrev pub behind_zeros : Instruction → List Instruction
 behind_zeros i = i32_const 0 ∷ i32_const 0 ∷ i32_const 0 ∷ i ∷ instr.End ∷ []
 

@@ -25,7 +25,7 @@ use Rattle.wasm_syntax.specs.declared.instruction.MemoryArgument.{MemoryArgument
 use Rattle.wasm_syntax.specs.declared.instruction.Instruction.{Instruction}
 use Rattle.wasm_syntax.specs.declared.instruction.Instruction.TheVariants as instr
 use Rattle.wasm_syntax.specs.declared.opener.Opener.{Opener}
-use Rattle.wasm_syntax.specs.declared.opener.Opener.TheVariants.{Straight, Conditional}
+use Rattle.wasm_syntax.specs.declared.opener.Opener.TheVariants.{Unconditional, Conditional}
 use Rattle.wasm_syntax.specs.laws.ReadingItems.{◌>>=◌, read_as, byte_at, exactly_at, leb_u32_at}
 use Rattle.wasm_syntax.specs.laws.ReadingItems.{signed_at, vector_at, block_type_at}
 
@@ -165,7 +165,7 @@ abbrev pub copy_at : List ℕ → Option (Instruction × List ℕ)
 copy_at rest = exactly_at 0x00 rest
     >>= λ to. read_as (λ (mark : Unit {0}). instr.MemoryCopy) (exactly_at 0x00) to.1
 
--- the number behind the prefix 0xfc, and its instruction
+-- the number after the prefix 0xfc, and its instruction
 abbrev pub prefixed_by : ℕ → List ℕ → Option (Instruction × List ℕ)
 prefixed_by n rest =
     if n == 10 then copy_at rest
@@ -179,7 +179,7 @@ prefixed_at rest = leb_u32_at rest >>= λ n. prefixed_by n.0 n.1
 unfoldable pub higher_at : ℕ → List ℕ → Option (Instruction × List ℕ)
 higher_at b rest = if b == 0xfc then prefixed_at rest else numeric_at b rest
 
--- what stands behind an opcode. The opcodes of floats stand for nothing
+-- what is after an opcode. The opcodes of floats stand for nothing
 unfoldable pub behind_opcode : ℕ → List ℕ → Option (Instruction × List ℕ)
 behind_opcode b rest =
     if nat_lt b 0x1a then control_at b rest
@@ -192,7 +192,7 @@ instruction_at bytes = byte_at bytes >>= λ b. behind_opcode b.0 b.1
 
 -- ---- expressions
 
--- what is open after an instruction, or that it closes the expression, or that it can't stand there
+-- what is open after an instruction, or that it closes the expression, or that it can't be there
 pub data Nesting : Type 0 where
   Open : (openers : List Opener) → Nesting
   Closed : Nesting
@@ -200,11 +200,11 @@ pub data Nesting : Type 0 where
 
 -- after an instruction where these blocks are open, the innermost first
 abbrev pub nesting_after : Instruction → List Opener → Nesting
-nesting_after (instr.Block t) openers = Open (Straight ∷ openers)
-nesting_after (instr.Loop t) openers = Open (Straight ∷ openers)
+nesting_after (instr.Block t) openers = Open (Unconditional ∷ openers)
+nesting_after (instr.Loop t) openers = Open (Unconditional ∷ openers)
 nesting_after (instr.If t) openers = Open (Conditional ∷ openers)
-nesting_after instr.Else (Conditional ∷ openers) = Open (Straight ∷ openers)
-nesting_after instr.Else (Straight ∷ openers) = Misplaced
+nesting_after instr.Else (Conditional ∷ openers) = Open (Unconditional ∷ openers)
+nesting_after instr.Else (Unconditional ∷ openers) = Misplaced
 nesting_after instr.Else [] = Misplaced
 nesting_after instr.End (opener ∷ openers) = Open openers
 nesting_after instr.End [] = Closed

@@ -1,5 +1,5 @@
 -- Reading from the front: bytes, integers, vectors, names and types (Core Specification 1.0,
--- sections 5.1 to 5.3). A reader answers the item at the front and the bytes behind it, or nothing.
+-- sections 5.1 to 5.3). A reader answers the item at the front and the bytes after it, or nothing.
 use Rattle.std.specs.Prelude.{ℕ, zero, suc, ◌+◌, ◌-◌, ◌*◌, ◌^◌, ◌==◌, nat_lt, nat_le, Bool, true}
 use Rattle.std.specs.Prelude.{false, if◌then◌else◌, List, [], ◌∷◌, length, take, drop, Option, Some}
 use Rattle.std.specs.Prelude.{None}

@@ -104,8 +104,8 @@ unfoldable pub contents_within_at : (ℕ → Option (List ℕ)) → Option Modul
 contents_within_at body =
     field_at (vector_at function_type_within_at) [] (body 1) >>= λ types.
     field_at (vector_at import_within_at) [] (body 2) >>= λ imports.
-    functions_left imports >>= λ left.
-    field_at (vector_up_to_at leb_u32_at left) [] (body 3) >>= λ function_types.
+    functions_left imports >>= λ count_left.
+    field_at (vector_up_to_at leb_u32_at count_left) [] (body 3) >>= λ function_types.
     field_at (vector_at table_type_within_at) [] (body 4) >>= λ tables.
     field_at (vector_at memory_type_at) [] (body 5) >>= λ memories.
     field_at (vector_up_to_at global_within_at GLOBALS) [] (body 6) >>= λ globals.

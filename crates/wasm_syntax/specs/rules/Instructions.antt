@@ -58,7 +58,7 @@ store_opcode store.I64Bits8 = 0x3c
 store_opcode store.I64Bits16 = 0x3d
 store_opcode store.I64Bits32 = 0x3e
 
--- The operators of both types stand in one order, from the opcode of the first one on.
+-- The operators of both types are in one order, from the opcode of the first one on.
 abbrev pub compare_place : Comparison → ℕ
 compare_place Eq = 0
 compare_place Ne = 1
@@ -132,7 +132,7 @@ convert_opcode I64Extend32S = 0xc4
 abbrev pub IsMemoryArgument : List ℕ → MemoryArgument → List ℕ → Type 0
 IsMemoryArgument bytes m rest = (a : List ℕ) × IsU32 bytes m.align a × IsU32 a m.offset rest
 
--- an opcode, and what IsOperand says of the bytes behind it
+-- an opcode, and what IsOperand says of the bytes after it
 abbrev pub IsOpcode : ℕ → (List ℕ → Type 0) → List ℕ → Type 0
 IsOpcode opcode IsOperand bytes = (a : List ℕ) × IsThisByte opcode bytes a × IsOperand a
 

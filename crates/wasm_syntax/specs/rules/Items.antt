@@ -1,5 +1,5 @@
 -- The binary grammar: bytes, integers, vectors, names and types (Core Specification 1.0, sections
--- 5.1 to 5.3). A fact `IsX bytes x rest` says that a spelling of x stands at the front of the bytes
+-- 5.1 to 5.3). A fact `IsX bytes x rest` says that a spelling of x is at the front of the bytes
 -- and that the rest follows it.
 use Rattle.std.specs.Prelude.{◌≡◌, ℕ, ◌+◌, ◌-◌, ◌*◌, ◌^◌, ◌<◌, ◌≤◌, ◌⊎◌, List, [], ◌∷◌, ◌++◌}
 use Rattle.std.specs.Prelude.{length, Option, Some, None}

@@ -86,7 +86,7 @@ IsCode bytes c rest =
 
 -- ---- sections (5.5.2, 5.5.3)
 
--- an id and the bytes behind it
+-- an id and the bytes after it
 pub record Section : Type 0 where
   pub id : ℕ
   pub body : List ℕ
@@ -99,7 +99,7 @@ IsSection bytes s rest = IsOpcode s.id (λ a. IsBytes a s.body rest) bytes
 abbrev pub IsCustom : Section → Type 0
 IsCustom s = (s.id ≡ 0) × (name : List ℕ) × (rest : List ℕ) × IsName s.body name rest
 
--- a section that may come behind one of id `last`: a custom one, or one whose id is greater
+-- a section that may come after one of id `last`: a custom one, or one whose id is greater
 abbrev pub MayFollow : ℕ → Section → Type 0
 MayFollow last s = IsCustom s ⊎ ((last < s.id) × (s.id < 12))
 

@@ -15,7 +15,7 @@ use Rattle.wasm_syntax.specs.declared.instruction.Instruction.{Instruction}
 use Rattle.wasm_syntax.specs.declared.instruction.Instruction.TheVariants as instr
 use Rattle.wasm_semantics.specs.Types.{IsOf, are_same_types, takes_of, gives_of, loaded_width}
 use Rattle.wasm_semantics.specs.Types.{stored_width, bytes_in}
-use Rattle.wasm_semantics.specs.Typing.{Context, HasRule, HasMemory, IsLabel}
+use Rattle.wasm_semantics.specs.Typing.{Context, HasInstructionType, HasMemory, IsLabel}
 use Rattle.wasm_semantics.specs.Shapes.{type_of}
 use Rattle.wasm_validate.specs.laws.Checking.{Arrow, Fixed, Jump, Dropping, Selecting, Refused}
 use Rattle.wasm_validate.specs.laws.Checking.{arrow_of_some, only, has_table, has_memory}
@@ -123,134 +123,136 @@ module _ (c : Context) (labels : List (List ValueType)) (p q : List ValueType) w
       && nat_le (2 ^ align) width) a p q (both (has_memory c) (nat_le (2 ^ align) width)
       (is_there (slice_get c.memories 0) m.0 m.1) (is_le (2 ^ align) width e)) h
 
-  pub rule_of_arrow : (i : Instruction) → Meets (arrow_of c labels i) p q → HasRule c labels i p q
-  rule_of_arrow instr.Unreachable h = tt
-  rule_of_arrow instr.Nop h = h
-  rule_of_arrow (instr.Br l) h = let s = some_of (slice_get labels l) (λ ts. Jump ts) p q h in
+  pub type_of_arrow : (i : Instruction) → Meets (arrow_of c labels i) p q
+      → HasInstructionType c labels i p q
+  type_of_arrow instr.Unreachable h = tt
+  type_of_arrow instr.Nop h = h
+  type_of_arrow (instr.Br l) h = let s = some_of (slice_get labels l) (λ ts. Jump ts) p q h in
       (s.0, s.2.0, s.1, s.2.1)
-  rule_of_arrow (instr.BrIf l) h =
+  type_of_arrow (instr.BrIf l) h =
       let s = some_of (slice_get labels l) (λ ts. Fixed (I32 ∷ ts) ts) p q h in
       (s.0, s.1, s.2.0, s.2.1)
-  rule_of_arrow (instr.BrTable ls l) h =
+  type_of_arrow (instr.BrTable ls l) h =
       let s = some_of (slice_get labels l) (λ ts. only (are_labels labels ts ls) (Jump (I32 ∷ ts)))
       p q h in
       let o = only_of (are_labels labels s.0 ls) (Jump (I32 ∷ s.0)) p q s.2 in
       (s.0, o.1.0, labels_there c labels s.0 ls o.0, s.1, o.1.1)
-  rule_of_arrow instr.Return h = h
-  rule_of_arrow (instr.Call x) h =
+  type_of_arrow instr.Return h = h
+  type_of_arrow (instr.Call x) h =
       let s = some_of (slice_get c.functions x) (λ f. Fixed (takes_of f) (gives_of f)) p q h in
       (s.0, s.1, s.2.0, s.2.1)
-  rule_of_arrow (instr.CallIndirect x) h =
+  type_of_arrow (instr.CallIndirect x) h =
       let s = some_of (slice_get c.types x) (λ f.
       only (has_table c) (Fixed (I32 ∷ takes_of f) (gives_of f))) p q h in
       let o = only_of (has_table c) (Fixed (I32 ∷ takes_of s.0) (gives_of s.0)) p q s.2 in
       (s.0, s.1, there (slice_get c.tables 0) o.0, o.1.0, o.1.1)
-  rule_of_arrow instr.Drop h = h
-  rule_of_arrow instr.Select h = h
-  rule_of_arrow (instr.LocalGet x) h =
+  type_of_arrow instr.Drop h = h
+  type_of_arrow instr.Select h = h
+  type_of_arrow (instr.LocalGet x) h =
       let s = some_of (slice_get c.locals x) (λ t. Fixed [] (t ∷ [])) p q h in
       (s.0, s.1, s.2.0, s.2.1)
-  rule_of_arrow (instr.LocalSet x) h =
+  type_of_arrow (instr.LocalSet x) h =
       let s = some_of (slice_get c.locals x) (λ t. Fixed (t ∷ []) []) p q h in
       (s.0, s.1, s.2.0, s.2.1)
-  rule_of_arrow (instr.LocalTee x) h =
+  type_of_arrow (instr.LocalTee x) h =
       let s = some_of (slice_get c.locals x) (λ t. Fixed (t ∷ []) (t ∷ [])) p q h in
       (s.0, s.1, s.2.0, s.2.1)
-  rule_of_arrow (instr.GlobalGet x) h =
+  type_of_arrow (instr.GlobalGet x) h =
       let s = some_of (slice_get c.globals x) (λ (g : GlobalType). Fixed [] (g.value_type
       ∷ [])) p q h in (s.0, s.1, s.2.0, s.2.1)
-  rule_of_arrow (instr.GlobalSet x) h =
+  type_of_arrow (instr.GlobalSet x) h =
       let s = some_of (slice_get c.globals x) (λ (g : GlobalType).
       only (is_variable g.mutability) (Fixed (g.value_type ∷ []) [])) p q h in
       let g : GlobalType = s.0 in
       let o = only_of (is_variable g.mutability) (Fixed (g.value_type ∷ []) []) p q s.2 in
       (g, s.1, variable_of g.mutability o.0, o.1.0, o.1.1)
-  rule_of_arrow (instr.Load o m) h = let r = memory_argument m.align (bytes_in (loaded_width o)) _ h
+  type_of_arrow (instr.Load o m) h = let r = memory_argument m.align (bytes_in (loaded_width o)) _ h
       in (r.0, r.1, r.2.0, r.2.1)
-  rule_of_arrow (instr.Store o m) h =
+  type_of_arrow (instr.Store o m) h =
       let r = memory_argument m.align (bytes_in (stored_width o)) _ h in (r.0, r.1, r.2.0, r.2.1)
-  rule_of_arrow instr.MemorySize h = let o = only_of (has_memory c) _ p q h in
+  type_of_arrow instr.MemorySize h = let o = only_of (has_memory c) _ p q h in
       (there (slice_get c.memories 0) o.0, o.1.0, o.1.1)
-  rule_of_arrow instr.MemoryGrow h = let o = only_of (has_memory c) _ p q h in
+  type_of_arrow instr.MemoryGrow h = let o = only_of (has_memory c) _ p q h in
       (there (slice_get c.memories 0) o.0, o.1.0, o.1.1)
-  rule_of_arrow instr.MemoryCopy h = let o = only_of (has_memory c) _ p q h in
+  type_of_arrow instr.MemoryCopy h = let o = only_of (has_memory c) _ p q h in
       (there (slice_get c.memories 0) o.0, o.1.0, o.1.1)
-  rule_of_arrow instr.MemoryFill h = let o = only_of (has_memory c) _ p q h in
+  type_of_arrow instr.MemoryFill h = let o = only_of (has_memory c) _ p q h in
       (there (slice_get c.memories 0) o.0, o.1.0, o.1.1)
-  rule_of_arrow (instr.Const v) h = let o = only_of (is_number v) _ p q h in
+  type_of_arrow (instr.Const v) h = let o = only_of (is_number v) _ p q h in
       (type_of v, number_of_type v o.0, o.1.0, o.1.1)
-  rule_of_arrow (instr.Eqz t) h = h
-  rule_of_arrow (instr.Compare t o) h = h
-  rule_of_arrow (instr.Unary t o) h = h
-  rule_of_arrow (instr.Binary t o) h = h
-  rule_of_arrow (instr.Convert o) h = h
-  rule_of_arrow (instr.Block t) h = h
-  rule_of_arrow (instr.Loop t) h = h
-  rule_of_arrow (instr.If t) h = h
-  rule_of_arrow instr.Else h = h
-  rule_of_arrow instr.End h = h
+  type_of_arrow (instr.Eqz t) h = h
+  type_of_arrow (instr.Compare t o) h = h
+  type_of_arrow (instr.Unary t o) h = h
+  type_of_arrow (instr.Binary t o) h = h
+  type_of_arrow (instr.Convert o) h = h
+  type_of_arrow (instr.Block t) h = h
+  type_of_arrow (instr.Loop t) h = h
+  type_of_arrow (instr.If t) h = h
+  type_of_arrow instr.Else h = h
+  type_of_arrow instr.End h = h
 
-  pub arrow_of_rule : (i : Instruction) → HasRule c labels i p q → Meets (arrow_of c labels i) p q
-  arrow_of_rule instr.Unreachable h = (p, refl)
-  arrow_of_rule instr.Nop h = h
-  arrow_of_rule (instr.Br l) h = to_some (slice_get labels l) (λ ts. Jump ts) p q h.0 h.2 (h.1, h.3)
-  arrow_of_rule (instr.BrIf l) h =
+  pub arrow_of_type : (i : Instruction) → HasInstructionType c labels i p q
+      → Meets (arrow_of c labels i) p q
+  arrow_of_type instr.Unreachable h = (p, refl)
+  arrow_of_type instr.Nop h = h
+  arrow_of_type (instr.Br l) h = to_some (slice_get labels l) (λ ts. Jump ts) p q h.0 h.2 (h.1, h.3)
+  arrow_of_type (instr.BrIf l) h =
       to_some (slice_get labels l) (λ ts. Fixed (I32 ∷ ts) ts) p q h.0 h.1 (h.2, h.3)
-  arrow_of_rule (instr.BrTable ls l) h =
+  arrow_of_type (instr.BrTable ls l) h =
       to_some (slice_get labels l) (λ ts. only (are_labels labels ts ls) (Jump (I32 ∷ ts))) p q h.0
       h.3 (to_only (are_labels labels h.0 ls) (Jump (I32 ∷ h.0)) p q
       (labels_are c labels h.0 ls h.2) (h.1, h.4))
-  arrow_of_rule instr.Return h = h
-  arrow_of_rule (instr.Call x) h =
+  arrow_of_type instr.Return h = h
+  arrow_of_type (instr.Call x) h =
       to_some (slice_get c.functions x) (λ f. Fixed (takes_of f) (gives_of f)) p q h.0 h.1 (
         h.2,
         h.3,
       )
-  arrow_of_rule (instr.CallIndirect x) h =
+  arrow_of_type (instr.CallIndirect x) h =
       to_some (slice_get c.types x) (λ f.
       only (has_table c) (Fixed (I32 ∷ takes_of f) (gives_of f))) p q h.0 h.1
       (to_only (has_table c) (Fixed (I32 ∷ takes_of h.0) (gives_of h.0)) p q
       (is_there (slice_get c.tables 0) h.2.0 h.2.1) (h.3, h.4))
-  arrow_of_rule instr.Drop h = h
-  arrow_of_rule instr.Select h = h
-  arrow_of_rule (instr.LocalGet x) h =
+  arrow_of_type instr.Drop h = h
+  arrow_of_type instr.Select h = h
+  arrow_of_type (instr.LocalGet x) h =
       to_some (slice_get c.locals x) (λ t. Fixed [] (t ∷ [])) p q h.0 h.1 (h.2, h.3)
-  arrow_of_rule (instr.LocalSet x) h =
+  arrow_of_type (instr.LocalSet x) h =
       to_some (slice_get c.locals x) (λ t. Fixed (t ∷ []) []) p q h.0 h.1 (h.2, h.3)
-  arrow_of_rule (instr.LocalTee x) h =
+  arrow_of_type (instr.LocalTee x) h =
       to_some (slice_get c.locals x) (λ t. Fixed (t ∷ []) (t ∷ [])) p q h.0 h.1 (h.2, h.3)
-  arrow_of_rule (instr.GlobalGet x) h =
+  arrow_of_type (instr.GlobalGet x) h =
       to_some (slice_get c.globals x) (λ (g : GlobalType). Fixed [] (g.value_type ∷ [])) p q h.0 h.1
       (h.2, h.3)
-  arrow_of_rule (instr.GlobalSet x) h =
+  arrow_of_type (instr.GlobalSet x) h =
       let g : GlobalType = h.0 in
       let v : is_variable g.mutability ≡ true = rw h.2 refl in
       to_some (slice_get c.globals x) (λ (g : GlobalType).
       only (is_variable g.mutability) (Fixed (g.value_type ∷ []) [])) p q g h.1
       (to_only (is_variable g.mutability) (Fixed (g.value_type ∷ []) []) p q v (h.3, h.4))
-  arrow_of_rule (instr.Load o m) h =
+  arrow_of_type (instr.Load o m) h =
       to_memory_argument m.align (bytes_in (loaded_width o)) _ h.0 h.1 (h.2, h.3)
-  arrow_of_rule (instr.Store o m) h =
+  arrow_of_type (instr.Store o m) h =
       to_memory_argument m.align (bytes_in (stored_width o)) _ h.0 h.1 (h.2, h.3)
-  arrow_of_rule instr.MemorySize h =
+  arrow_of_type instr.MemorySize h =
       to_only (has_memory c) _ p q (is_there (slice_get c.memories 0) h.0.0 h.0.1) (h.1, h.2)
-  arrow_of_rule instr.MemoryGrow h =
+  arrow_of_type instr.MemoryGrow h =
       to_only (has_memory c) _ p q (is_there (slice_get c.memories 0) h.0.0 h.0.1) (h.1, h.2)
-  arrow_of_rule instr.MemoryCopy h =
+  arrow_of_type instr.MemoryCopy h =
       to_only (has_memory c) _ p q (is_there (slice_get c.memories 0) h.0.0 h.0.1) (h.1, h.2)
-  arrow_of_rule instr.MemoryFill h =
+  arrow_of_type instr.MemoryFill h =
       to_only (has_memory c) _ p q (is_there (slice_get c.memories 0) h.0.0 h.0.1) (h.1, h.2)
-  arrow_of_rule (instr.Const v) h =
+  arrow_of_type (instr.Const v) h =
       let n = type_of_number h.0 v h.1 in
       let same = n.1 in
       to_only (is_number v) (Fixed [] (type_of v ∷ [])) p q n.0 (h.2, rw same h.3)
-  arrow_of_rule (instr.Eqz t) h = h
-  arrow_of_rule (instr.Compare t o) h = h
-  arrow_of_rule (instr.Unary t o) h = h
-  arrow_of_rule (instr.Binary t o) h = h
-  arrow_of_rule (instr.Convert o) h = h
-  arrow_of_rule (instr.Block t) h = h
-  arrow_of_rule (instr.Loop t) h = h
-  arrow_of_rule (instr.If t) h = h
-  arrow_of_rule instr.Else h = h
-  arrow_of_rule instr.End h = h
+  arrow_of_type (instr.Eqz t) h = h
+  arrow_of_type (instr.Compare t o) h = h
+  arrow_of_type (instr.Unary t o) h = h
+  arrow_of_type (instr.Binary t o) h = h
+  arrow_of_type (instr.Convert o) h = h
+  arrow_of_type (instr.Block t) h = h
+  arrow_of_type (instr.Loop t) h = h
+  arrow_of_type (instr.If t) h = h
+  arrow_of_type instr.Else h = h
+  arrow_of_type instr.End h = h

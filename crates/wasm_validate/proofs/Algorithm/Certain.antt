@@ -1,4 +1,4 @@
--- Where no jump stands before, the types of all operands are known.
+-- Where no jump is before, the types of all operands are known.
 use Rattle.std.proofs.Common.{◌≡◌, ◌⊎◌, inl, inr, Bool, true, false, List, [], ◌∷◌, ◌++◌}
 use Rattle.std.proofs.Common.{Option, Some, None, refl, sym, ap, ◌∙◌, subst}
 use Rattle.std.specs.Prelude.{map, not}
@@ -9,12 +9,13 @@ use Rattle.wasm_syntax.specs.declared.instruction.Instruction.TheVariants as ins
 use Rattle.wasm_syntax.specs.laws.ReadingItems.{◌>>=◌, check}
 use Rattle.wasm_syntax.proofs.Grammar.Exact.{bind_some}
 use Rattle.wasm_semantics.specs.Types.{takes_of, gives_of}
-use Rattle.wasm_semantics.specs.Typing.{Context, HasRule}
+use Rattle.wasm_semantics.specs.Typing.{Context, HasInstructionType}
 use Rattle.wasm_semantics.specs.Shapes.{types_behind}
 use Rattle.wasm_semantics.proofs.TypedShape.{value_type, drop_front}
 use Rattle.wasm_validate.specs.laws.Checking.{Known, Level, popped_of, popped, agrees}
 use Rattle.wasm_validate.specs.laws.Checking.{operand_taken, all_operands_taken, pushed, all_pushed}
-use Rattle.wasm_validate.specs.laws.Checking.{level_left, Arrow, Fixed, Jump, Dropping, Selecting}
+use Rattle.wasm_validate.specs.laws.Checking.{level_unreached, Arrow, Fixed, Jump, Dropping}
+use Rattle.wasm_validate.specs.laws.Checking.{Selecting}
 use Rattle.wasm_validate.specs.laws.Checking.{Refused, only, met, operands_selected, applied}
 use Rattle.wasm_validate.specs.laws.Checking.{arrow_of}
 use Rattle.wasm_validate.specs.laws.Remaining.{FitsOperands}
@@ -29,7 +30,7 @@ abbrev pub AreKnown : List Known → Type 0
 AreKnown [] = Unit {0}
 AreKnown (k ∷ ks) = IsKnown k × AreKnown ks
 
--- all operands are known, if no jump stands before
+-- all operands are known, if no jump is before
 abbrev pub IsSure : Level → Type 0
 IsSure l = l.is_reached ≡ true → AreKnown l.operands
 
@@ -61,7 +62,7 @@ unknown l = (None, l)
 abbrev operand : Known → Level → Known × Level
 operand k l = (k, l)
 
--- what was popped is known, if no jump stands before
+-- what was popped is known, if no jump is before
 abbrev IsSurely : Level → Known → Type 0
 IsSurely l k = IsSure l → l.is_reached ≡ true → IsKnown k
 
@@ -165,49 +166,49 @@ jump_leads true takes ts = refl
 jump_leads false takes ts = tt
 
 module _ (c : Context) (labels : List (List ValueType)) (p q below : List ValueType) where
-  pub rule_leads : (i : Instruction) → HasRule c labels i p q
+  pub typed_leads : (i : Instruction) → HasInstructionType c labels i p q
       → Leads (arrow_of c labels i) (types_behind c i (p ++ below)) (q ++ below)
-  rule_leads instr.Unreachable h = refl
-  rule_leads instr.Nop h = rw (h.0, h.1) refl
-  rule_leads (instr.Br l) h = rw h.2 refl
-  rule_leads (instr.BrIf l) h = rw (h.1, h.2, h.3) refl
-  rule_leads (instr.BrTable ls l) h = rw h.3 (jump_leads _ _ _)
-  rule_leads instr.Return h = refl
-  rule_leads (instr.Call x) h =
+  typed_leads instr.Unreachable h = refl
+  typed_leads instr.Nop h = rw (h.0, h.1) refl
+  typed_leads (instr.Br l) h = rw h.2 refl
+  typed_leads (instr.BrIf l) h = rw (h.1, h.2, h.3) refl
+  typed_leads (instr.BrTable ls l) h = rw h.3 (jump_leads _ _ _)
+  typed_leads instr.Return h = refl
+  typed_leads (instr.Call x) h =
       rw (h.1, h.2, h.3) (ap (λ z. Some (gives_of h.0 ++ z)) (drop_front (takes_of h.0) below))
-  rule_leads (instr.CallIndirect x) h =
+  typed_leads (instr.CallIndirect x) h =
       rw (h.1, h.3, h.4)
       (fixed_leads _ _ _ _ _
       (ap (λ z. Some (gives_of h.0 ++ z)) (drop_front (takes_of h.0) below)))
-  rule_leads instr.Drop h = rw (h.1, h.2) refl
-  rule_leads instr.Select h = rw (h.1, h.2) refl
-  rule_leads (instr.LocalGet x) h = rw (h.1, h.2, h.3) refl
-  rule_leads (instr.LocalSet x) h = rw (h.1, h.2, h.3) refl
-  rule_leads (instr.LocalTee x) h = rw (h.1, h.2, h.3) refl
-  rule_leads (instr.GlobalGet x) h = rw (h.1, h.2, h.3) refl
-  rule_leads (instr.GlobalSet x) h = rw (h.1, h.3, h.4) (fixed_leads _ _ _ _ _ refl)
-  rule_leads (instr.Load o m) h = rw (h.2, h.3) (fixed_leads _ _ _ _ _ refl)
-  rule_leads (instr.Store o m) h = rw (h.2, h.3) (fixed_leads _ _ _ _ _ refl)
-  rule_leads instr.MemorySize h = rw (h.1, h.2) (fixed_leads _ _ _ _ _ refl)
-  rule_leads instr.MemoryGrow h = rw (h.1, h.2) (fixed_leads _ _ _ _ _ refl)
-  rule_leads instr.MemoryCopy h = rw (h.1, h.2) (fixed_leads _ _ _ _ _ refl)
-  rule_leads instr.MemoryFill h = rw (h.1, h.2) (fixed_leads _ _ _ _ _ refl)
-  rule_leads (instr.Const v) h =
+  typed_leads instr.Drop h = rw (h.1, h.2) refl
+  typed_leads instr.Select h = rw (h.1, h.2) refl
+  typed_leads (instr.LocalGet x) h = rw (h.1, h.2, h.3) refl
+  typed_leads (instr.LocalSet x) h = rw (h.1, h.2, h.3) refl
+  typed_leads (instr.LocalTee x) h = rw (h.1, h.2, h.3) refl
+  typed_leads (instr.GlobalGet x) h = rw (h.1, h.2, h.3) refl
+  typed_leads (instr.GlobalSet x) h = rw (h.1, h.3, h.4) (fixed_leads _ _ _ _ _ refl)
+  typed_leads (instr.Load o m) h = rw (h.2, h.3) (fixed_leads _ _ _ _ _ refl)
+  typed_leads (instr.Store o m) h = rw (h.2, h.3) (fixed_leads _ _ _ _ _ refl)
+  typed_leads instr.MemorySize h = rw (h.1, h.2) (fixed_leads _ _ _ _ _ refl)
+  typed_leads instr.MemoryGrow h = rw (h.1, h.2) (fixed_leads _ _ _ _ _ refl)
+  typed_leads instr.MemoryCopy h = rw (h.1, h.2) (fixed_leads _ _ _ _ _ refl)
+  typed_leads instr.MemoryFill h = rw (h.1, h.2) (fixed_leads _ _ _ _ _ refl)
+  typed_leads (instr.Const v) h =
       rw (h.2, h.3)
       (fixed_leads _ _ _ _ _ (ap (λ t. Some (t ∷ below)) (value_type h.0 v h.1)))
-  rule_leads (instr.Eqz t) h = rw (h.0, h.1) refl
-  rule_leads (instr.Compare t o) h = rw (h.0, h.1) refl
-  rule_leads (instr.Unary t o) h = rw (h.0, h.1) refl
-  rule_leads (instr.Binary t o) h = rw (h.0, h.1) refl
-  rule_leads (instr.Convert o) h = rw (h.0, h.1) refl
-  rule_leads (instr.Block t) h = absurd h
-  rule_leads (instr.Loop t) h = absurd h
-  rule_leads (instr.If t) h = absurd h
-  rule_leads instr.Else h = absurd h
-  rule_leads instr.End h = absurd h
+  typed_leads (instr.Eqz t) h = rw (h.0, h.1) refl
+  typed_leads (instr.Compare t o) h = rw (h.0, h.1) refl
+  typed_leads (instr.Unary t o) h = rw (h.0, h.1) refl
+  typed_leads (instr.Binary t o) h = rw (h.0, h.1) refl
+  typed_leads (instr.Convert o) h = rw (h.0, h.1) refl
+  typed_leads (instr.Block t) h = absurd h
+  typed_leads (instr.Loop t) h = absurd h
+  typed_leads (instr.If t) h = absurd h
+  typed_leads instr.Else h = absurd h
+  typed_leads instr.End h = absurd h
 
--- A level behind an instruction: typing goes on with these types, and the level is as reached as
--- before. Or typing goes on nowhere, and a jump stands before.
+-- A level after an instruction: typing goes on with these types, and the level is as reached as
+-- before. Or typing goes on nowhere, and a jump is before.
 abbrev pub IsBehind : Level → Level → Option (List ValueType) → List ValueType → Type 0
 IsBehind l new o ts =
     ((o ≡ Some ts) × (new.is_reached ≡ l.is_reached)) ⊎ ((o ≡ None) × (new.is_reached ≡ false))
@@ -222,8 +223,8 @@ applied_leads (Fixed takes gives) l new o ts h e =
     (all_taken_stays takes l d.0 d.1) (all_pushed_stays gives d.0)) in
     (inl (e, r.reached), r.sure)
 applied_leads (Jump takes) l new o ts h e =
-    let d = bind_some (all_operands_taken takes l) (λ m. Some (level_left m)) new h in
-    let same : level_left d.0 ≡ new = let s = d.2 in cc in
+    let d = bind_some (all_operands_taken takes l) (λ m. Some (level_unreached m)) new h in
+    let same : level_unreached d.0 ≡ new = let s = d.2 in cc in
     (inr (e, ap (λ (z : Level). z.is_reached) (sym same)), λ s. subst IsSure same (λ r. tt))
 applied_leads Dropping l new o ts h e =
     let d = bind_some (popped l) (λ o. Some o.1) new h in

@@ -10,12 +10,12 @@ use Rattle.wasm_syntax.specs.rules.Sequence.{Sequence, Stop, Plain, InBlock, InL
 use Rattle.wasm_syntax.specs.rules.Sequence.{spelled, IsPlain, IsNested}
 use Rattle.wasm_syntax.specs.laws.ReadingItems.{◌>>=◌, check}
 use Rattle.wasm_semantics.specs.Types.{results_of}
-use Rattle.wasm_semantics.specs.Typing.{Context, HasRule, HasType}
+use Rattle.wasm_semantics.specs.Typing.{Context, HasInstructionType, HasType}
 use Rattle.wasm_validate.specs.laws.Checking.{Known, Level, arrow_of, applied, labels_of, new_level}
 use Rattle.wasm_validate.specs.laws.Checking.{has_no_operands, level_closed, may_end}
 use Rattle.wasm_validate.specs.laws.Checking.{result_returned, levels_after, checked}
 use Rattle.wasm_validate.specs.laws.Remaining.{FitsOperands, Closes, Ends, Remains}
-use Rattle.wasm_validate.proofs.Algorithm.Arrows.{arrow_of_rule}
+use Rattle.wasm_validate.proofs.Algorithm.Arrows.{arrow_of_type}
 use Rattle.wasm_validate.proofs.Algorithm.Sound.{in_front, parted, EndsOf}
 use Rattle.wasm_validate.proofs.Algorithm.Fitting.{FitsLevel, Keeps, pushed_fit, taken_on}
 use Rattle.wasm_validate.proofs.Algorithm.Fitting.{all_taken_on, applied_on}
@@ -58,7 +58,7 @@ ends_kept c levels types opcodes l l' k h =
     (subst (λ z. EndsOf c levels types opcodes l.takes z l'.is_first) (sym k.gives)
     (subst (λ z. EndsOf c levels types opcodes l.takes l.gives z) (sym k.is_first) h))
 
--- ---- what stands behind
+-- ---- what is behind
 
 module _ (c : Context) (labels : List (List ValueType)) (is_first : Bool) (gives : Option ValueType)
     (then : List Instruction → Type 0) where
@@ -155,12 +155,12 @@ module _ (c : Context) (l : Level) (levels : List Level) where
 
   plain_passes : (i : Instruction) (types p q below : List ValueType) (opcodes : List Instruction)
       → IsPlain i → FitsLevel l types → types ≡ p ++ below
-      → HasRule c (labels_of (l ∷ levels)) i p q
+      → HasInstructionType c (labels_of (l ∷ levels)) i p q
       → EndsOf c levels (q ++ below) opcodes l.takes l.gives l.is_first
       → Passes c i opcodes (l ∷ levels)
   plain_passes i types p q below opcodes plain f e rule ends =
       let a = applied_on (arrow_of c (labels_of (l ∷ levels)) i) l p q below
-      (arrow_of_rule c (labels_of (l ∷ levels)) p q i rule) (subst (λ z. FitsLevel l z) e f) in (
+      (arrow_of_type c (labels_of (l ∷ levels)) p q i rule) (subst (λ z. FitsLevel l z) e f) in (
         a.0 ∷ levels,
         after_plain i plain ∙ ap (λ z. z >>= λ l'. Some (l' ∷ levels)) a.1,
         (q ++ below, a.2, ends_kept c levels (q ++ below) opcodes l a.0 a.3 ends),

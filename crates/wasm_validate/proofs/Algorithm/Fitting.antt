@@ -9,7 +9,8 @@ use Rattle.wasm_syntax.specs.laws.ReadingItems.{◌>>=◌, check}
 use Rattle.wasm_syntax.proofs.Grammar.Exact.{bind_some}
 use Rattle.wasm_validate.specs.laws.Checking.{Known, Level, popped_of, popped, agrees}
 use Rattle.wasm_validate.specs.laws.Checking.{operand_taken, all_operands_taken, pushed, all_pushed}
-use Rattle.wasm_validate.specs.laws.Checking.{level_left, Arrow, Fixed, Jump, Dropping, Selecting}
+use Rattle.wasm_validate.specs.laws.Checking.{level_unreached, Arrow, Fixed, Jump, Dropping}
+use Rattle.wasm_validate.specs.laws.Checking.{Selecting}
 use Rattle.wasm_validate.specs.laws.Checking.{Refused, met, operands_selected, applied}
 use Rattle.wasm_validate.specs.laws.Remaining.{Matches, FitsOperands}
 use Rattle.wasm_validate.proofs.Algorithm.Arrows.{Meets}
@@ -283,11 +284,11 @@ applied_back (Fixed takes gives) l l' h types f =
       subst (λ z. Keeps l z) same (keeps_on l o.0 (all_pushed gives o.0) r.1 end),
     )
 applied_back (Jump takes) l l' h types f =
-    let o = bind_some (all_operands_taken takes l) (λ m. Some (level_left m)) l' h in
-    let same : level_left o.0 ≡ l' = let s = o.2 in cc in
+    let o = bind_some (all_operands_taken takes l) (λ m. Some (level_unreached m)) l' h in
+    let same : level_unreached o.0 ≡ l' = let s = o.2 in cc in
     let fit = some_fit o.0.is_reached o.0.operands in
     let r = all_taken_back takes l o.0 o.1 fit.0 fit.1 in
-    let end : Keeps o.0 (level_left o.0) =
+    let end : Keeps o.0 (level_unreached o.0) =
     record { takes = refl; gives = refl; is_first = refl } in (
       takes ++ fit.0,
       types,
@@ -295,7 +296,7 @@ applied_back (Jump takes) l l' h types f =
       sym (append-nil types),
       (fit.0, refl),
       rw append-nil r.0,
-      subst (λ z. Keeps l z) same (keeps_on l o.0 (level_left o.0) r.1 end),
+      subst (λ z. Keeps l z) same (keeps_on l o.0 (level_unreached o.0) r.1 end),
     )
 applied_back Dropping l l' h types f =
     let o = bind_some (popped l) (λ o. Some o.1) l' h in
@@ -327,8 +328,17 @@ applied_on (Jump takes) l p q below m f =
     let g : FitsLevel l (takes ++ (m.0 ++ below)) =
     subst (λ z. FitsLevel l z) (ap (λ z. z ++ below) m.1 ∙ append_assoc takes m.0 below) f in
     let r = all_taken_on takes l (m.0 ++ below) g in
-    let end : Keeps r.0 (level_left r.0) = record { takes = refl; gives = refl; is_first = refl } in
-    (level_left r.0, rw r.1 refl, fits_any (q ++ below), keeps_on l r.0 (level_left r.0) r.3 end)
+    let end : Keeps r.0 (level_unreached r.0) = record {
+      takes = refl;
+      gives = refl;
+      is_first = refl;
+    } in (
+      level_unreached r.0,
+      rw r.1 refl,
+      fits_any (q
+          ++ below),
+      keeps_on l r.0 (level_unreached r.0) r.3 end,
+    )
 applied_on Dropping l p q below m f =
     let g : FitsLevel l (m.0 ∷ below) = subst (λ z. FitsLevel l (z ++ below)) m.1 f in
     let r = popped_on l m.0 below g in

@@ -18,18 +18,18 @@ use Rattle.wasm_syntax.specs.laws.ReadingItems.{◌>>=◌, check}
 use Rattle.wasm_syntax.proofs.Grammar.Rising.{both as both_true}
 use Rattle.wasm_semantics.specs.Configuration.{Main, Second}
 use Rattle.wasm_semantics.specs.Types.{results_of}
-use Rattle.wasm_semantics.specs.Typing.{Context, HasRule, HasType}
+use Rattle.wasm_semantics.specs.Typing.{Context, HasInstructionType, HasType}
 use Rattle.wasm_semantics.specs.Shapes.{Shape, LabelShape, ShapeOf, types_behind, shape_at}
 use Rattle.wasm_validate.specs.rules.Operands.{types_below}
 use Rattle.wasm_validate.specs.laws.Checking.{Level, operand_taken, arrow_of, applied, all_pushed}
 use Rattle.wasm_validate.specs.laws.Checking.{labels_of, new_level, level_closed, may_end}
 use Rattle.wasm_validate.specs.laws.Checking.{result_returned, levels_after, checked}
 use Rattle.wasm_validate.specs.laws.Remaining.{FitsOperands}
-use Rattle.wasm_validate.specs.laws.Reached.{are_reached, all_operands, StandFor, PassesTo}
+use Rattle.wasm_validate.specs.laws.Reached.{are_reached, all_operands, LevelsStandFor, PassesTo}
 use Rattle.wasm_validate.specs.laws.Reached.{CheckingFindsShapes}
-use Rattle.wasm_validate.proofs.Algorithm.Arrows.{arrow_of_rule}
+use Rattle.wasm_validate.proofs.Algorithm.Arrows.{arrow_of_type}
 use Rattle.wasm_validate.proofs.Algorithm.Certain.{IsSure, known_types, taken_stays}
-use Rattle.wasm_validate.proofs.Algorithm.Certain.{all_pushed_stays, Leads, rule_leads, IsBehind}
+use Rattle.wasm_validate.proofs.Algorithm.Certain.{all_pushed_stays, Leads, typed_leads, IsBehind}
 use Rattle.wasm_validate.proofs.Algorithm.Certain.{applied_leads}
 use Rattle.wasm_validate.proofs.Algorithm.Complete.{closed_on, after_plain}
 use Rattle.wasm_validate.proofs.Algorithm.Fitting.{FitsLevel, Keeps, keeps_same, keeps_on}
@@ -138,7 +138,7 @@ module _ (c : Context) where
       ∙ ap (λ z. z >>= λ m. checked c [] m) (ended l levels may' fits)
       ∙ ap (λ z. Some (result_returned z levels)) k.gives
 
-  -- with the `else` behind it
+  -- with the `else` after it
   whole_parted : (s : Sequence) (t : Option ValueType) (levels : List Level)
       → Whole c s (new_level t t true) levels (results_of t)
       → checked c (spelled s ++ (instr.Else ∷ [])) (new_level t t true ∷ levels)
@@ -172,13 +172,13 @@ module _ (c : Context) where
   -- an instruction that stays in its sequence
   plain_passes : (i : Instruction) (l : Level) (levels : List Level)
       (ts p q below : List ValueType) → IsPlain i → FitsLevel l ts → ts ≡ p ++ below
-      → HasRule c (labels_of (l ∷ levels)) i p q
+      → HasInstructionType c (labels_of (l ∷ levels)) i p q
       → (new : Level) × (levels_after c i (l ∷ levels) ≡ Some (new ∷ levels))
       × (applied (arrow_of c (labels_of (l ∷ levels)) i) l ≡ Some new)
       × FitsLevel new (q ++ below) × Keeps l new
   plain_passes i l levels ts p q below plain f e rule =
       let a = applied_on (arrow_of c (labels_of (l ∷ levels)) i) l p q below
-      (arrow_of_rule c (labels_of (l ∷ levels)) p q i rule) (subst (λ z. FitsLevel l z) e f) in (
+      (arrow_of_type c (labels_of (l ∷ levels)) p q i rule) (subst (λ z. FitsLevel l z) e f) in (
         a.0,
         after_plain c l levels i plain ∙ ap
             (λ z. z >>= λ m. Some (m ∷ levels)) a.1,
@@ -296,12 +296,12 @@ module _ (c : Context) where
 
 -- ---- what levels stand for
 
--- the open sequences around are those of the labels, if a jump stands before in none
+-- the open sequences around are those of the labels, if a jump is before in none
 abbrev IsAbove : List Level → List LabelShape → Type 0
 IsAbove levels labels = are_reached levels ≡ true
     → all_operands levels ≡ map (λ t. Some t) (types_below labels)
 
--- nothing but the shape, where a jump stands before in none
+-- nothing but the shape, where a jump is before in none
 abbrev shape_if : Bool → Option Shape → Option Shape
 shape_if b o = if b then o else None
 
@@ -321,40 +321,40 @@ with_operands l levels labels ts f sure above r =
 
 stands_here : (l : Level) (levels : List Level) (labels : List LabelShape) (ts : List ValueType)
     (s : Sequence) → FitsLevel l ts → IsSure l → IsAbove levels labels
-    → StandFor (l ∷ levels) (shape_if (are_reached (l ∷ levels))
+    → LevelsStandFor (l ∷ levels) (shape_if (are_reached (l ∷ levels))
     (Some (record { labels = labels; operands = ts; rest = s })))
 stands_here l levels labels ts s f sure above = by_reach (are_reached (l ∷ levels)) refl
   where
     by_reach : (b : Bool) → are_reached (l ∷ levels) ≡ b
-        → StandFor (l ∷ levels)
+        → LevelsStandFor (l ∷ levels)
         (shape_if b (Some (record { labels = labels; operands = ts; rest = s })))
     by_reach true r = (r, with_operands l levels labels ts f sure above r)
     by_reach false r = r
 
 no_shape : (b : Bool) (levels : List Level) → are_reached levels ≡ false
-    → StandFor levels (shape_if b None)
+    → LevelsStandFor levels (shape_if b None)
 no_shape true levels e = e
 no_shape false levels e = e
 
--- behind an instruction that stays in its sequence
+-- after an instruction that stays in its sequence
 plain_stands : (go : List ValueType → Option Shape) (l new : Level) (levels after : List Level)
     (o : Option (List ValueType)) (us : List ValueType) → IsBehind l new o us
-    → StandFor after (shape_if (are_reached (new ∷ levels)) (go us))
-    → StandFor after (shape_if (are_reached (l ∷ levels)) (option_and_then go o))
+    → LevelsStandFor after (shape_if (are_reached (new ∷ levels)) (go us))
+    → LevelsStandFor after (shape_if (are_reached (l ∷ levels)) (option_and_then go o))
 plain_stands go l new levels after o us (inl (e, r)) h =
-    let same : StandFor after (shape_if (l.is_reached && are_reached levels) (go us)) =
-    subst (λ z. StandFor after (shape_if (z && are_reached levels) (go us))) r h in
-    subst (λ z. StandFor after (shape_if (are_reached (l ∷ levels)) (option_and_then go z)))
+    let same : LevelsStandFor after (shape_if (l.is_reached && are_reached levels) (go us)) =
+    subst (λ z. LevelsStandFor after (shape_if (z && are_reached levels) (go us))) r h in
+    subst (λ z. LevelsStandFor after (shape_if (are_reached (l ∷ levels)) (option_and_then go z)))
     (sym e) same
 plain_stands go l new levels after o us (inr (e, r)) h =
     let none : are_reached after ≡ false = subst
-    (λ z. StandFor after (shape_if (z && are_reached levels) (go us))) r h in
-    subst (λ z. StandFor after (shape_if (are_reached (l ∷ levels)) (option_and_then go z)))
+    (λ z. LevelsStandFor after (shape_if (z && are_reached levels) (go us))) r h in
+    subst (λ z. LevelsStandFor after (shape_if (are_reached (l ∷ levels)) (option_and_then go z)))
     (sym e) (no_shape (are_reached (l ∷ levels)) after none)
 
 -- ---- all positions of a sequence
 
--- what stands at a position of a sequence, on top of these levels
+-- what is at a position of a sequence, on top of these levels
 abbrev Comes : Context → Sequence → ℕ → Level → List Level → List LabelShape → List ValueType
     → Type 0
 Comes c s n l levels labels ts = PassesTo c (spelled s) n (l ∷ levels)
@@ -399,7 +399,7 @@ module _ (c : Context) where
   comes (Plain i rest) l levels labels ts out (suc n) typed nested f sure above small =
       let a = plain_passes c i l levels ts typed.0 typed.1 typed.2 nested.0 f typed.3 typed.4 in
       let leads = subst (λ z. Leads (arrow_of c (labels_of (l ∷ levels)) i) (types_behind c i z)
-      (typed.1 ++ typed.2)) (sym typed.3) (rule_leads c
+      (typed.1 ++ typed.2)) (sym typed.3) (typed_leads c
       (labels_of (l ∷ levels)) typed.0 typed.1 typed.2 i typed.4) in
       let b = applied_leads (arrow_of c (labels_of (l ∷ levels)) i) l a.0 (types_behind c i ts)
       (typed.1 ++ typed.2) a.2 leads in

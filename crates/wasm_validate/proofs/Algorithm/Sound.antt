@@ -11,17 +11,17 @@ use Rattle.wasm_syntax.specs.rules.Sequence.{spelled, IsPlain, IsNested}
 use Rattle.wasm_syntax.specs.laws.ReadingItems.{◌>>=◌, check}
 use Rattle.wasm_syntax.proofs.Grammar.Exact.{bind_some}
 use Rattle.wasm_semantics.specs.Types.{results_of}
-use Rattle.wasm_semantics.specs.Typing.{Context, HasRule, HasType}
+use Rattle.wasm_semantics.specs.Typing.{Context, HasInstructionType, HasType}
 use Rattle.wasm_validate.specs.laws.Checking.{Known, Level, operand_taken, all_operands_taken}
 use Rattle.wasm_validate.specs.laws.Checking.{arrow_of, applied, labels_of, new_level}
 use Rattle.wasm_validate.specs.laws.Checking.{has_no_operands, level_closed, may_end}
 use Rattle.wasm_validate.specs.laws.Checking.{result_returned, levels_after, checked}
 use Rattle.wasm_validate.specs.laws.Remaining.{FitsOperands, Closes, Ends, Remains}
-use Rattle.wasm_validate.proofs.Algorithm.Arrows.{rule_of_arrow}
+use Rattle.wasm_validate.proofs.Algorithm.Arrows.{type_of_arrow}
 use Rattle.wasm_validate.proofs.Algorithm.Fitting.{FitsLevel, Keeps, check_true, fits_pushed}
 use Rattle.wasm_validate.proofs.Algorithm.Fitting.{taken_back, all_taken_back, applied_back}
 
--- ---- what stands in front
+-- ---- what is in front
 
 -- an opening opcode, a body and what closes it, and what follows
 pub in_front : (i close : Instruction) (body rest : List Instruction)
@@ -39,7 +39,7 @@ parted i first second rest =
 
 module _ (c : Context) (labels : List (List ValueType)) (is_first : Bool) (gives : Option ValueType)
     (then : List Instruction → Type 0) where
-  -- a sequence behind opcodes that belong to it
+  -- a sequence after opcodes that belong to it
   pub closes_behind : (front : List Instruction) (rest new : Sequence) (opcodes : List Instruction)
       → spelled new ≡ front ++ spelled rest → Closes c labels is_first gives then rest opcodes
       → Closes c labels is_first gives then new (front ++ opcodes)
@@ -66,8 +66,8 @@ module _ (c : Context) (labels : List (List ValueType)) (is_first : Bool) (gives
       })
 
   ends_plain : (i : Instruction) (p q below : List ValueType) (opcodes : List Instruction)
-      → IsPlain i → HasRule c labels i p q → Ends c labels is_first gives then (q ++ below) opcodes
-      → Ends c labels is_first gives then (p ++ below) (i ∷ opcodes)
+      → IsPlain i → HasInstructionType c labels i p q → Ends c labels is_first gives then (q
+      ++ below) opcodes → Ends c labels is_first gives then (p ++ below) (i ∷ opcodes)
   ends_plain i p q below opcodes plain rule h = record {
     rest = Plain i h.rest;
     nested = (plain, h.nested);
@@ -77,7 +77,7 @@ module _ (c : Context) (labels : List (List ValueType)) (is_first : Bool) (gives
 
 -- ---- levels
 
--- what is pushed stands on top
+-- what is pushed is on top
 pub remains_pushed : (c : Context) (t : Option ValueType) (levels : List Level)
     (opcodes : List Instruction) → Remains c [] (result_returned t levels) opcodes
     → Remains c (results_of t) levels opcodes
@@ -151,7 +151,7 @@ module _ (c : Context) (opcodes : List Instruction) (l : Level) (levels levels' 
         a.5,
         ends_plain c (labels_of (l ∷ levels)) l.is_first l.gives (λ next.
             Remains c (results_of l.gives) levels next) i a.0 a.1 a.2 opcodes plain
-            (rule_of_arrow c (labels_of (l ∷ levels)) a.0 a.1 i a.4) ends',
+            (type_of_arrow c (labels_of (l ∷ levels)) a.0 a.1 i a.4) ends',
       )
 
   -- what closes an inner sequence that is no first part
@@ -176,7 +176,7 @@ module _ (c : Context) (opcodes : List Instruction) (l : Level) (levels levels' 
       by_closes (inl h) = (ends.rest, h.next, ends.nested, typed, h.is, h.follows)
       by_closes (inr h) = let no = h.first in absurd (cc)
 
--- the same of a sequence behind an inner one
+-- the same of a sequence after an inner one
 closes_inner : (c : Context) (labels : List (List ValueType)) (is_first : Bool)
     (gives : Option ValueType) (then : List Instruction
     → Type 0) (i : Instruction) (body rest new : Sequence) (opcodes next : List Instruction)
@@ -288,7 +288,7 @@ module _ (c : Context) (opcodes : List Instruction) (l : Level) (levels : List L
       else_parted (check_true l.is_first m.0 m.1) (closed_back l d.0 d.1)
       (subst (λ z. Remains c [] z opcodes) (sym same) r)
 
-  -- an `if` whose parts stand above l', which is l without the condition
+  -- an `if` whose parts are above l', which is l without the condition
   if_typed : (t : Option ValueType) (l' : Level) → operand_taken I32 l ≡ Some l'
       → Remains c [] (new_level t t true ∷ l' ∷ levels) opcodes
       → Remains c [] (l ∷ levels) (instr.If t ∷ opcodes)

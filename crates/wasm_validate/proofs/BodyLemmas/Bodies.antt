@@ -14,15 +14,15 @@ use Rattle.wasm_validate.specs.laws.Remaining.{Closes, Ends, Remains}
 use Rattle.wasm_validate.proofs.Algorithm.Sound.{sound, opened_fits as no_operands}
 use Rattle.wasm_validate.proofs.Algorithm.Complete.{complete}
 
-module _ (c : Context) (kind : FunctionType) (code : Code) (r : Option ValueType) (is : results_of r
-    ≡ gives_of kind) where
-  of_remains : Remains (body_context c kind code.locals) [] (new_level r r false ∷ []) code.body
-      → HasBody c kind code
+module _ (c : Context) (signature : FunctionType) (code : Code) (r : Option ValueType)
+    (is : results_of r ≡ gives_of signature) where
+  of_remains : Remains (body_context c signature code.locals) [] (new_level r r false
+      ∷ []) code.body → HasBody c signature code
   of_remains (types, f, ends) = by_closes ends.closes
     where
-      by_closes : Closes (body_context c kind code.locals) (results_of r ∷ []) false r (λ next.
-          Remains (body_context c kind code.locals) (results_of r) [] next) ends.rest code.body
-          → HasBody c kind code
+      by_closes : Closes (body_context c signature code.locals) (results_of r ∷ []) false r (λ next.
+          Remains (body_context c signature code.locals) (results_of r) [] next) ends.rest code.body
+          → HasBody c signature code
       by_closes (inr h) = let no = h.first in absurd (cc)
       by_closes (inl h) = record {
         sequence = ends.rest;
@@ -30,26 +30,30 @@ module _ (c : Context) (kind : FunctionType) (code : Code) (r : Option ValueType
           is = h.is ∙ ap (λ z. spelled ends.rest ++ (instr.End ∷ z)) h.follows;
           nested = ends.nested;
         };
-        typed = subst (λ z. HasType (body_context c kind code.locals) (z ∷ []) ends.rest [] z) is
-            (subst (λ z. HasType (body_context c kind code.locals) (results_of r
-            ∷ []) ends.rest z (results_of r)) (no_operands types f) ends.typed);
+        typed = subst (λ z. HasType (body_context c signature code.locals) (z
+            ∷ []) ends.rest [] z) is (subst (λ z. HasType (body_context c signature
+            code.locals) (results_of r ∷ []) ends.rest z (results_of r))
+            (no_operands types f) ends.typed);
       }
 
-  pub body_sound : checked (body_context c kind code.locals) code.body (new_level r r false ∷ [])
-      ≡ Some [] → HasBody c kind code
+  pub body_sound : checked (body_context c signature code.locals) code.body
+      (new_level r r false ∷ []) ≡ Some [] → HasBody c signature code
   body_sound e =
-      of_remains (sound (body_context c kind code.locals) code.body (new_level r r false ∷ []) e)
+      of_remains (sound (body_context c signature code.locals) code.body
+      (new_level r r false ∷ []) e)
 
-  pub body_complete : HasBody c kind code
-      → checked (body_context c kind code.locals) code.body (new_level r r false ∷ []) ≡ Some []
+  pub body_complete : HasBody c signature code
+      → checked (body_context c signature code.locals) code.body (new_level r r false
+      ∷ []) ≡ Some []
   body_complete h =
-      let ends : Ends (body_context c kind code.locals) (results_of r ∷ []) false r (λ next.
-      Remains (body_context c kind code.locals) (results_of r) [] next) [] code.body =
+      let ends : Ends (body_context c signature code.locals) (results_of r ∷ []) false r (λ next.
+      Remains (body_context c signature code.locals) (results_of r) [] next) [] code.body =
       record {
         rest = h.sequence;
         nested = h.spells.nested;
-        typed = subst (λ z. HasType (body_context c kind code.locals) (z ∷ []) h.sequence [] z)
+        typed = subst (λ z. HasType (body_context c signature code.locals) (z ∷ []) h.sequence [] z)
             (sym is) h.typed;
         closes = inl (record { next = []; is = h.spells.is; may = refl; follows = refl });
       } in
-      complete (body_context c kind code.locals) code.body (new_level r r false ∷ []) ([], tt, ends)
+      complete (body_context c signature code.locals) code.body (new_level r r false
+      ∷ []) ([], tt, ends)

@@ -10,7 +10,7 @@ use Rattle.wasm_syntax.specs.laws.ReadingItems.{◌>>=◌, check}
 use Rattle.wasm_semantics.specs.Types.{results_of}
 use Rattle.wasm_validate.specs.declared.body.levels.Control.{Control}
 use Rattle.wasm_validate.specs.laws.Checking.{Known, Level, labels_of, has_no_operands}
-use Rattle.wasm_validate.specs.Body.Tops.{top_popped, top_pushed, top_left, top_closed}
+use Rattle.wasm_validate.specs.Body.Tops.{top_popped, top_pushed, top_unreached, top_closed}
 use Rattle.wasm_validate.specs.Body.Views.{level_of, levels_of, AreHeights, IsInnermost}
 
 pub none_open : (controls : List Control) (operands : List Known) → levels_of controls operands ≡ []
@@ -228,15 +228,15 @@ kept_view k controls operands h =
     - k.height) operands in
     bottom_view k controls (drop (length operands - k.height) operands) (omega arith)
 
-pub left_view : (controls : List Control) (operands : List Known) (k : Control)
+pub unreached_view : (controls : List Control) (operands : List Known) (k : Control)
     → slice_get controls 0 ≡ Some k → AreHeights controls (length operands)
     → (levels_of (record k { is_reached = false }
     ∷ drop 1 controls) (drop (length operands - k.height) operands)
-    ≡ top_left (levels_of controls operands))
+    ≡ top_unreached (levels_of controls operands))
     × AreHeights (record k { is_reached = false }
     ∷ drop 1 controls) (length (drop (length operands - k.height) operands))
-left_view [] operands k e heights = absurd (cc)
-left_view (j ∷ controls) operands k e heights =
+unreached_view [] operands k e heights = absurd (cc)
+unreached_view (j ∷ controls) operands k e heights =
     let same : j ≡ k = cc in
     let low : k.height ≤ length operands =
     subst (λ (z : Control). z.height ≤ length operands) same heights.0 in

@@ -14,7 +14,7 @@ use Rattle.wasm_syntax.specs.declared.instruction.Instruction.TheVariants as ins
 use Rattle.wasm_syntax.specs.rules.Sequence.{Sequence, Stop, Plain, InBlock, InLoop, InIf, InIfElse}
 use Rattle.wasm_syntax.specs.rules.Sequence.{spelled, IsPlain, IsNested, Spells}
 use Rattle.wasm_semantics.specs.Types.{gives_of, results_of}
-use Rattle.wasm_semantics.specs.Typing.{Context, HasRule, HasType, IsLabel, body_context}
+use Rattle.wasm_semantics.specs.Typing.{Context, HasInstructionType, HasType, IsLabel, body_context}
 use Rattle.wasm_semantics.specs.laws.Examples.{bare_context}
 use Rattle.wasm_validate.specs.rules.Faults.{HasDefinedIndices, HaveDefinedIndices, IsAligned}
 use Rattle.wasm_validate.specs.rules.Faults.{WouldHaveBody, extended, labels_behind, unaligned}
@@ -30,28 +30,28 @@ labels_within : (labels : List (List ValueType)) (ts : List ValueType) (ls : Lis
 labels_within labels ts [] h = tt
 labels_within labels ts (l ∷ ls) h = (label_within labels ts l h.0, labels_within labels ts ls h.1)
 
-rule_defined : (c : Context) (labels : List (List ValueType)) (i : Instruction)
+typed_defined : (c : Context) (labels : List (List ValueType)) (i : Instruction)
     (p q : List ValueType)
-    → HasRule c labels i p q → HasDefinedIndices c (length labels) i
-rule_defined c labels (instr.Br l) p q h = label_within labels h.0 l h.2
-rule_defined c labels (instr.BrIf l) p q h = label_within labels h.0 l h.1
-rule_defined c labels (instr.BrTable ls l) p q h =
+    → HasInstructionType c labels i p q → HasDefinedIndices c (length labels) i
+typed_defined c labels (instr.Br l) p q h = label_within labels h.0 l h.2
+typed_defined c labels (instr.BrIf l) p q h = label_within labels h.0 l h.1
+typed_defined c labels (instr.BrTable ls l) p q h =
     (label_within labels h.0 l h.3, labels_within labels h.0 ls h.2)
-rule_defined c labels (instr.Call x) p q h = slice_get_within c.functions x h.0 h.1
-rule_defined c labels (instr.CallIndirect x) p q h =
+typed_defined c labels (instr.Call x) p q h = slice_get_within c.functions x h.0 h.1
+typed_defined c labels (instr.CallIndirect x) p q h =
     (slice_get_within c.types x h.0 h.1, slice_get_within c.tables 0 h.2.0 h.2.1)
-rule_defined c labels (instr.LocalGet x) p q h = slice_get_within c.locals x h.0 h.1
-rule_defined c labels (instr.LocalSet x) p q h = slice_get_within c.locals x h.0 h.1
-rule_defined c labels (instr.LocalTee x) p q h = slice_get_within c.locals x h.0 h.1
-rule_defined c labels (instr.GlobalGet x) p q h = slice_get_within c.globals x h.0 h.1
-rule_defined c labels (instr.GlobalSet x) p q h = slice_get_within c.globals x h.0 h.1
-rule_defined c labels (instr.Load o a) p q h = slice_get_within c.memories 0 h.0.0 h.0.1
-rule_defined c labels (instr.Store o a) p q h = slice_get_within c.memories 0 h.0.0 h.0.1
-rule_defined c labels instr.MemorySize p q h = slice_get_within c.memories 0 h.0.0 h.0.1
-rule_defined c labels instr.MemoryGrow p q h = slice_get_within c.memories 0 h.0.0 h.0.1
-rule_defined c labels instr.MemoryCopy p q h = slice_get_within c.memories 0 h.0.0 h.0.1
-rule_defined c labels instr.MemoryFill p q h = slice_get_within c.memories 0 h.0.0 h.0.1
-rule_defined c labels i p q h = tt
+typed_defined c labels (instr.LocalGet x) p q h = slice_get_within c.locals x h.0 h.1
+typed_defined c labels (instr.LocalSet x) p q h = slice_get_within c.locals x h.0 h.1
+typed_defined c labels (instr.LocalTee x) p q h = slice_get_within c.locals x h.0 h.1
+typed_defined c labels (instr.GlobalGet x) p q h = slice_get_within c.globals x h.0 h.1
+typed_defined c labels (instr.GlobalSet x) p q h = slice_get_within c.globals x h.0 h.1
+typed_defined c labels (instr.Load o a) p q h = slice_get_within c.memories 0 h.0.0 h.0.1
+typed_defined c labels (instr.Store o a) p q h = slice_get_within c.memories 0 h.0.0 h.0.1
+typed_defined c labels instr.MemorySize p q h = slice_get_within c.memories 0 h.0.0 h.0.1
+typed_defined c labels instr.MemoryGrow p q h = slice_get_within c.memories 0 h.0.0 h.0.1
+typed_defined c labels instr.MemoryCopy p q h = slice_get_within c.memories 0 h.0.0 h.0.1
+typed_defined c labels instr.MemoryFill p q h = slice_get_within c.memories 0 h.0.0 h.0.1
+typed_defined c labels i p q h = tt
 
 plain_behind : (i : Instruction) (n : ℕ) → IsPlain i → labels_behind i n ≡ n
 plain_behind (instr.Block t) n h = absurd h
@@ -75,7 +75,7 @@ module _ (c : Context) where
       → Defined (length labels) (spelled s ++ rest)
   defined Stop labels a b rest nested h k = k
   defined (Plain i s) labels a b rest nested h k = (
-    rule_defined c labels i h.0 h.1 h.4,
+    typed_defined c labels i h.0 h.1 h.4,
     subst (λ n. Defined n (spelled s ++ rest)) (sym (plain_behind i (length labels) nested.0))
         (defined s labels (h.1 ++ h.2) b rest nested.1 h.5 k),
   )
@@ -115,21 +115,22 @@ module _ (c : Context) where
 
 -- ---- alignments
 
-rule_aligned : (c : Context) (labels : List (List ValueType)) (i : Instruction)
+aligned_typed : (c : Context) (labels : List (List ValueType)) (i : Instruction)
     (p q : List ValueType)
-    → HasRule c labels i p q → IsAligned i
-rule_aligned c labels (instr.Load o a) p q h = h.1
-rule_aligned c labels (instr.Store o a) p q h = h.1
-rule_aligned c labels i p q h = tt
+    → HasInstructionType c labels i p q → IsAligned i
+aligned_typed c labels (instr.Load o a) p q h = h.1
+aligned_typed c labels (instr.Store o a) p q h = h.1
+aligned_typed c labels i p q h = tt
 
 one_is_least : (n w : ℕ) → 2 ^ n ≤ w → 2 ^ 0 ≤ w
 one_is_least n w h = let one = pow_pos n in omega (arith, h, one)
 
-rule_unaligned : (c : Context) (labels : List (List ValueType)) (i : Instruction)
-    (p q : List ValueType) → HasRule c labels i p q → HasRule c labels (unaligned i) p q
-rule_unaligned c labels (instr.Load o a) p q h = (h.0, one_is_least a.align _ h.1, h.2, h.3)
-rule_unaligned c labels (instr.Store o a) p q h = (h.0, one_is_least a.align _ h.1, h.2, h.3)
-rule_unaligned c labels i p q h = h
+unaligned_typed : (c : Context) (labels : List (List ValueType)) (i : Instruction)
+    (p q : List ValueType) → HasInstructionType c labels i p q
+    → HasInstructionType c labels (unaligned i) p q
+unaligned_typed c labels (instr.Load o a) p q h = (h.0, one_is_least a.align _ h.1, h.2, h.3)
+unaligned_typed c labels (instr.Store o a) p q h = (h.0, one_is_least a.align _ h.1, h.2, h.3)
+unaligned_typed c labels i p q h = h
 
 pub plain_still : (i : Instruction) → IsPlain i → IsPlain (unaligned i)
 plain_still (instr.Load o a) h = tt
@@ -202,7 +203,7 @@ module _ (c : Context) where
     h.1,
     h.2,
     h.3,
-    rule_unaligned c labels i h.0 h.1 h.4,
+    unaligned_typed c labels i h.0 h.1 h.4,
     typed_unaligned s labels
         (h.1 ++ h.2) b h.5,
   )
@@ -238,7 +239,7 @@ module _ (c : Context) where
       → HasType c labels s a b → AllByRecursion IsAligned (spelled s)
   aligned Stop labels a b h = tt
   aligned (Plain i s) labels a b h =
-      (rule_aligned c labels i h.0 h.1 h.4, aligned s labels (h.1 ++ h.2) b h.5)
+      (aligned_typed c labels i h.0 h.1 h.4, aligned s labels (h.1 ++ h.2) b h.5)
   aligned (InBlock t body s) labels a b h = (
     tt,
     all_append (spelled body) (instr.End ∷ spelled s)
@@ -280,10 +281,10 @@ same_context c =
       append-nil c.locals,
     ) refl
 
-module _ (c : Context) (kind : FunctionType) (code : Code) (s : Sequence)
-    (spells : Spells code.body s) (typed : HasType (body_context c kind code.locals) (gives_of kind
-    ∷ []) s [] (gives_of kind)) where
-  pub would_have_body : WouldHaveBody c kind code
+module _ (c : Context) (signature : FunctionType) (code : Code) (s : Sequence)
+    (spells : Spells code.body s) (typed : HasType (body_context c signature code.locals)
+    (gives_of signature ∷ []) s [] (gives_of signature)) where
+  pub would_have_body : WouldHaveBody c signature code
   would_have_body = record {
     more = bare_context;
     around = [];
@@ -295,22 +296,22 @@ module _ (c : Context) (kind : FunctionType) (code : Code) (s : Sequence)
       nested = nested_unaligned s spells.nested;
     };
     typed =
-        let P : Context → Type 0 = λ z. HasType z (gives_of kind ∷ []) (all_unaligned s) []
-        (gives_of kind) in
-        subst P (sym (same_context (body_context c kind code.locals)))
-        (typed_unaligned (body_context c kind code.locals) s (gives_of kind ∷ []) []
-        (gives_of kind) typed);
+        let P : Context → Type 0 = λ z. HasType z (gives_of signature ∷ []) (all_unaligned s) []
+        (gives_of signature) in
+        subst P (sym (same_context (body_context c signature code.locals)))
+        (typed_unaligned (body_context c signature code.locals) s (gives_of signature ∷ []) []
+        (gives_of signature) typed);
   }
 
-  pub indices_defined : HaveDefinedIndices (body_context c kind code.locals) 1 code.body
+  pub indices_defined : HaveDefinedIndices (body_context c signature code.locals) 1 code.body
   indices_defined =
-      subst (HaveDefinedIndices (body_context c kind code.locals) 1) (sym spells.is)
-      (defined (body_context c kind code.locals) s (gives_of kind ∷ []) [] (gives_of kind)
-      (instr.End ∷ []) spells.nested typed (tt, tt))
+      subst (HaveDefinedIndices (body_context c signature code.locals) 1) (sym spells.is)
+      (defined (body_context c signature code.locals) s (gives_of signature
+      ∷ []) [] (gives_of signature) (instr.End ∷ []) spells.nested typed (tt, tt))
 
   pub accesses_aligned : AllByRecursion IsAligned code.body
   accesses_aligned =
       subst (AllByRecursion IsAligned) (sym spells.is)
       (all_append (spelled s) (instr.End ∷ [])
-      (aligned (body_context c kind code.locals) s (gives_of kind ∷ []) [] (gives_of kind) typed)
-      (tt, tt))
+      (aligned (body_context c signature code.locals) s (gives_of signature
+      ∷ []) [] (gives_of signature) typed) (tt, tt))

@@ -19,7 +19,7 @@ use Rattle.wasm_validate.specs.declared.parts.fault.ValidFault.TheVariants.{Typi
 use Rattle.wasm_validate.specs.declared.parts.fault.ValidFault.TheVariants.{Memory}
 use Rattle.wasm_validate.specs.rules.Operands.{types_in, types_below}
 use Rattle.wasm_validate.specs.laws.Checking.{Level, all_pushed, new_level, checked}
-use Rattle.wasm_validate.specs.laws.Reached.{are_reached, all_operands, StandFor}
+use Rattle.wasm_validate.specs.laws.Reached.{are_reached, all_operands, LevelsStandFor}
 use Rattle.wasm_validate.specs.Body.Answers.{FailsToCheck, IsReached, TellsReach}
 use Rattle.wasm_validate.specs.Body.Bodies.{HasBody}
 use Rattle.wasm_validate.specs.Body.Known.{types_if_known}
@@ -61,23 +61,23 @@ shape_beyond c n p x h = by_order (nat_le p n) refl
 
 -- ---- what is answered there
 
-stand_leads : (levels : List Level) (o : Option Shape) → StandFor levels o
+stand_leads : (levels : List Level) (o : Option Shape) → LevelsStandFor levels o
     → TellsReach (Ok (are_reached levels)) levels o
 stand_leads levels None h = rw h tt
 stand_leads levels (Some s) h = rw h.0 h.1
 
-only_memory_fails : (e kind : ValidFault) (o : Option (List Level)) (levels : List Level)
-    → o ≡ Some levels → FailsToCheck e kind o → e ≡ Memory
-only_memory_fails Memory kind o levels h f = refl
+only_memory_fails : (e fault : ValidFault) (o : Option (List Level)) (levels : List Level)
+    → o ≡ Some levels → FailsToCheck e fault o → e ≡ Memory
+only_memory_fails Memory fault o levels h f = refl
 only_memory_fails Typing Typing o levels h f = absurd (cc)
 only_memory_fails Index Index o levels h f = absurd (cc)
 only_memory_fails Limits Limits o levels h f = absurd (cc)
-only_memory_fails e kind o levels h f = absurd f
+only_memory_fails e fault o levels h f = absurd f
 
-module _ (c : Context) (kind : FunctionType) (code : Code) (r : Option ValueType)
-    (is : results_of r ≡ gives_of kind) (has : HasBody c kind code) where
+module _ (c : Context) (signature : FunctionType) (code : Code) (r : Option ValueType)
+    (is : results_of r ≡ gives_of signature) (has : HasBody c signature code) where
   abbrev in_body : Context
-  in_body = body_context c kind code.locals
+  in_body = body_context c signature code.locals
 
   abbrev start : List Level
   start = new_level r r false ∷ []
@@ -99,11 +99,11 @@ module _ (c : Context) (kind : FunctionType) (code : Code) (r : Option ValueType
       let o : shape p ≡ Some (end_shape in_body) =
       shape_behind in_body (length (spelled has.sequence)) p _ (at ∙ count) in
       let some = map (λ (t : ValueType). Some t) in
-      let operands : all_operands levels ≡ map (λ t. Some t) (gives_of kind ++ []) =
+      let operands : all_operands levels ≡ map (λ t. Some t) (gives_of signature ++ []) =
       ap all_operands e
       ∙ append-nil (map (λ t. Some t) (results_of r) ++ [])
       ∙ append-nil (map (λ t. Some t) (results_of r))
-      ∙ ap (λ z. map (λ t. Some t) z) (is ∙ sym (append-nil (gives_of kind))) in
+      ∙ ap (λ z. map (λ t. Some t) z) (is ∙ sym (append-nil (gives_of signature))) in
       subst (λ z. TellsReach (Ok true) levels z) (sym o) operands
 
   pub beyond_end : (p : ℕ) (levels : List Level) → length code.body < p
@@ -116,7 +116,7 @@ module _ (c : Context) (kind : FunctionType) (code : Code) (r : Option ValueType
 
   module _ (p : ℕ) (h : p < length code.body) where
     comes_there : (new : List Level) × (checked in_body (take p code.body) start ≡ Some new)
-        × StandFor new (shape p)
+        × LevelsStandFor new (shape p)
     comes_there =
         let n : length code.body ≡ length (spelled has.sequence) + 1 = count in
         let low : p ≤ length (spelled has.sequence) = omega arith in
@@ -132,11 +132,11 @@ module _ (c : Context) (kind : FunctionType) (code : Code) (r : Option ValueType
         let there = comes_there in
         let is' = there.1 in
         let same : there.0 ≡ levels = cc in
-        stand_leads levels (shape p) (subst (λ z. StandFor z (shape p)) same there.2)
+        stand_leads levels (shape p) (subst (λ z. LevelsStandFor z (shape p)) same there.2)
 
-    pub fails_inside : (e kind' : ValidFault) → FailsToCheck e kind'
+    pub fails_inside : (e fault' : ValidFault) → FailsToCheck e fault'
         (checked in_body (take p code.body) start) → e ≡ Memory
-    fails_inside e kind' f = only_memory_fails e kind'
+    fails_inside e fault' f = only_memory_fails e fault'
         (checked in_body (take p code.body) start) comes_there.0 comes_there.1 f
 
 -- ---- the types that are found

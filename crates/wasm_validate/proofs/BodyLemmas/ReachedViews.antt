@@ -138,7 +138,7 @@ bottom_at (j ∷ (i ∷ controls)) k e =
     (ap (λ z. slice_get z 0) inner ∙ sym (first_on (reverse controls) (j ∷ []) i)
     ∙ ap (λ z. slice_get z 0) (sym outer) ∙ e)
 
--- what stands on the stack above that place
+-- what is on the stack above that place
 pub operands_above : (controls : List Control) (operands : List Known) (k : Control)
     → slice_get (reverse controls) 0 ≡ Some k → AreHeights controls (length operands)
     → (k.height ≤ length operands)

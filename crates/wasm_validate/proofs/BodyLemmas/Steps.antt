@@ -9,11 +9,12 @@ use Rattle.wasm_syntax.specs.rules.Sequence.{IsPlain}
 use Rattle.wasm_syntax.specs.laws.ReadingItems.{◌>>=◌, check}
 use Rattle.wasm_semantics.specs.Typing.{Context}
 use Rattle.wasm_validate.specs.laws.Checking.{Known, Level, popped, agrees, operand_taken}
-use Rattle.wasm_validate.specs.laws.Checking.{all_operands_taken, pushed, all_pushed, level_left}
+use Rattle.wasm_validate.specs.laws.Checking.{all_operands_taken, pushed, all_pushed}
+use Rattle.wasm_validate.specs.laws.Checking.{level_unreached}
 use Rattle.wasm_validate.specs.laws.Checking.{Arrow, Fixed, Jump, Dropping, Selecting, Refused, met}
 use Rattle.wasm_validate.specs.laws.Checking.{operands_selected, applied, arrow_of, labels_of}
 use Rattle.wasm_validate.specs.laws.Checking.{levels_after}
-use Rattle.wasm_validate.specs.Body.Tops.{top_popped, top_pushed, top_all_pushed, top_left}
+use Rattle.wasm_validate.specs.Body.Tops.{top_popped, top_pushed, top_all_pushed, top_unreached}
 use Rattle.wasm_validate.specs.Body.Tops.{top_taken, top_all_taken, top_selected, top_applied}
 
 -- a level put on top of the others
@@ -100,9 +101,9 @@ top_applied_is (Fixed takes gives) l levels =
     ∙ taken_onto (all_operands_taken takes l) levels (λ l'. Some (all_pushed gives l')) (λ ls.
     Some (top_all_pushed gives ls)) (λ l'. refl)
 top_applied_is (Jump takes) l levels =
-    ap (λ z. z >>= λ ls. Some (top_left ls)) (top_all_taken_is takes l levels)
-    ∙ taken_onto (all_operands_taken takes l) levels (λ l'. Some (level_left l')) (λ ls.
-    Some (top_left ls)) (λ l'. refl)
+    ap (λ z. z >>= λ ls. Some (top_unreached ls)) (top_all_taken_is takes l levels)
+    ∙ taken_onto (all_operands_taken takes l) levels (λ l'. Some (level_unreached l')) (λ ls.
+    Some (top_unreached ls)) (λ l'. refl)
 top_applied_is Dropping l levels = dropped_onto (popped l) levels
 top_applied_is Selecting l levels = top_selected_is l levels
 top_applied_is Refused l levels = refl

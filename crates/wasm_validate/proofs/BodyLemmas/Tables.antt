@@ -14,39 +14,39 @@ use Rattle.wasm_validate.specs.laws.Checking.{Jump, Level, are_labels, arrow_of,
 use Rattle.wasm_validate.specs.laws.Checking.{only}
 use Rattle.wasm_validate.specs.laws.FirstFault.{fault_at, fault_of, fault_unless, labels_fault}
 use Rattle.wasm_validate.specs.Body.Answers.{FailsToCheck}
-use Rattle.wasm_validate.specs.Body.Tops.{top_all_taken, top_applied, top_left, top_taken}
+use Rattle.wasm_validate.specs.Body.Tops.{top_all_taken, top_applied, top_unreached, top_taken}
 use Rattle.wasm_validate.proofs.BodyLemmas.Fails.{fails_to}
 use Rattle.wasm_validate.proofs.BodyLemmas.Untyped.{labels_are_typed}
 
 -- only a label that isn't there, or of other types, is told
-label_kind : (o : Option (List ValueType)) (test : List ValueType → Bool) (rest : ValidFault)
+label_fault_is : (o : Option (List ValueType)) (test : List ValueType → Bool) (rest : ValidFault)
     → (rest ≡ Typing) ⊎ (rest ≡ Index)
     → (fault_at o (λ us. fault_unless (test us) Typing rest) ≡ Typing)
     ⊎ (fault_at o (λ us. fault_unless (test us) Typing rest) ≡ Index)
-label_kind None test rest h = inr refl
-label_kind (Some us) test rest h = by_test (test us)
+label_fault_is None test rest h = inr refl
+label_fault_is (Some us) test rest h = by_test (test us)
   where
     by_test : (b : Bool) → (fault_unless b Typing rest ≡ Typing)
         ⊎ (fault_unless b Typing rest ≡ Index)
     by_test true = h
     by_test false = inl refl
 
-labels_kind : (labels : List (List ValueType)) (ts : List ValueType) (ls : List ℕ)
+labels_fault_is : (labels : List (List ValueType)) (ts : List ValueType) (ls : List ℕ)
     → (labels_fault labels ts ls ≡ Typing) ⊎ (labels_fault labels ts ls ≡ Index)
-labels_kind labels ts [] = inl refl
-labels_kind labels ts (l ∷ ls) =
-    label_kind (slice_get labels l) (λ us. are_same_types us ts) (labels_fault labels ts ls)
-    (labels_kind labels ts ls)
+labels_fault_is labels ts [] = inl refl
+labels_fault_is labels ts (l ∷ ls) =
+    label_fault_is (slice_get labels l) (λ us. are_same_types us ts) (labels_fault labels ts ls)
+    (labels_fault_is labels ts ls)
 
-told : {X : Type 0} (kind : ValidFault) (o : Option X) → (kind ≡ Typing) ⊎ (kind ≡ Index)
-    → o ≡ None → FailsToCheck kind kind o
-told kind o (inl e) none = subst (λ (z : ValidFault). FailsToCheck z z o) (sym e) none
-told kind o (inr e) none = subst (λ (z : ValidFault). FailsToCheck z z o) (sym e) none
+told : {X : Type 0} (fault : ValidFault) (o : Option X) → (fault ≡ Typing) ⊎ (fault ≡ Index)
+    → o ≡ None → FailsToCheck fault fault o
+told fault o (inl e) none = subst (λ (z : ValidFault). FailsToCheck z z o) (sym e) none
+told fault o (inr e) none = subst (λ (z : ValidFault). FailsToCheck z z o) (sym e) none
 
 module _ (c : Context) (labels : List (List ValueType)) (ls : List ℕ) (l : ℕ) (ts : List ValueType)
     (old : List Level) (there : slice_get labels l ≡ Some ts) where
-  kind_is : fault_of c labels (instr.BrTable ls l) ≡ labels_fault labels ts ls
-  kind_is = ap (λ z. fault_at z (λ ts. labels_fault labels ts ls)) there
+  which_fault : fault_of c labels (instr.BrTable ls l) ≡ labels_fault labels ts ls
+  which_fault = ap (λ z. fault_at z (λ ts. labels_fault labels ts ls)) there
 
   arrow_is : (b : Bool) → are_labels labels ts ls ≡ b
       → top_applied (arrow_of c labels (instr.BrTable ls l)) old
@@ -63,14 +63,14 @@ module _ (c : Context) (labels : List (List ValueType)) (ls : List ℕ) (l : ℕ
       (top_applied (arrow_of c labels (instr.BrTable ls l)) old)
   label_fails e other is =
       subst (λ (z : ValidFault). FailsToCheck e z
-      (top_applied (arrow_of c labels (instr.BrTable ls l)) old)) (sym kind_is)
+      (top_applied (arrow_of c labels (instr.BrTable ls l)) old)) (sym which_fault)
       (subst (λ (z : ValidFault). FailsToCheck z (labels_fault labels ts ls)
       (top_applied (arrow_of c labels (instr.BrTable ls l)) old)) (sym is)
       (told (labels_fault labels ts ls) (top_applied (arrow_of c labels (instr.BrTable ls l)) old)
-      (labels_kind labels ts ls) (arrow_is false other)))
+      (labels_fault_is labels ts ls) (arrow_is false other)))
 
   typing : are_labels labels ts ls ≡ true → Typing ≡ fault_of c labels (instr.BrTable ls l)
-  typing same = sym (kind_is ∙ labels_are_typed labels ts ls same)
+  typing same = sym (which_fault ∙ labels_are_typed labels ts ls same)
 
   -- the number of a label isn't there
   pub number_fails : (e : ValidFault) → are_labels labels ts ls ≡ true
@@ -83,7 +83,7 @@ module _ (c : Context) (labels : List (List ValueType)) (ls : List ℕ) (l : ℕ
       (λ none. (
         arrow_is true same
             ∙ ap (λ z. (z >>= λ levels. top_all_taken ts levels) >>= λ levels. Some
-            (top_left levels)) none,
+            (top_unreached levels)) none,
         typing same,
       )) h
 
@@ -97,6 +97,7 @@ module _ (c : Context) (labels : List (List ValueType)) (ls : List ℕ) (l : ℕ
       (top_applied (arrow_of c labels (instr.BrTable ls l)) old)
       (λ none. (
         arrow_is true same ∙ ap (λ z. (z >>= λ levels. top_all_taken ts levels) >>= λ levels. Some
-            (top_left levels)) taken ∙ ap (λ z. z >>= λ levels. Some (top_left levels)) none,
+            (top_unreached levels)) taken ∙ ap (λ z. z >>= λ levels. Some
+            (top_unreached levels)) none,
         typing same,
       )) h

@@ -34,8 +34,8 @@ use Rattle.wasm_validate.specs.laws.FirstFault.{labels_fault, opcode_fault}
 use Rattle.wasm_validate.specs.laws.Remaining.{Ends, Remains}
 use Rattle.wasm_validate.proofs.Algorithm.Complete.{complete}
 use Rattle.wasm_validate.proofs.BodyLemmas.Steps.{after_plain, onto}
-use Rattle.wasm_validate.proofs.BodyLemmas.FaultKinds.{after_length, here_or_behind}
-use Rattle.wasm_validate.proofs.BodyLemmas.FaultKinds.{opcode_fault_is}
+use Rattle.wasm_validate.proofs.BodyLemmas.FaultMeanings.{after_length, here_or_behind}
+use Rattle.wasm_validate.proofs.BodyLemmas.FaultMeanings.{opcode_fault_is}
 use Rattle.wasm_validate.proofs.BodyLemmas.NoFault.{plain_still}
 use Rattle.wasm_validate.proofs.Algorithm.Arrows.{both}
 
@@ -189,13 +189,13 @@ module _ (c more : Context) (labels around : List (List ValueType)) where
   arrow_kept instr.MemoryFill e = memory_kept _ e
   arrow_kept i e = refl
 
--- ---- an instruction that is performed has no fault of another kind
+-- ---- an instruction that is performed has no other fault
 
-performed_at : {X : Type 0} (o : Option X) (go : X → Arrow) (kind : X → ValidFault) (l l' : Level)
-    → ((x : X) → applied (go x) l ≡ Some l' → kind x ≡ Typing)
-    → applied (arrow_of_some o go) l ≡ Some l' → fault_at o kind ≡ Typing
-performed_at None go kind l l' k e = absurd (cc)
-performed_at (Some x) go kind l l' k e = k x e
+performed_at : {X : Type 0} (o : Option X) (go : X → Arrow) (fault : X → ValidFault) (l l' : Level)
+    → ((x : X) → applied (go x) l ≡ Some l' → fault x ≡ Typing)
+    → applied (arrow_of_some o go) l ≡ Some l' → fault_at o fault ≡ Typing
+performed_at None go fault l l' k e = absurd (cc)
+performed_at (Some x) go fault l l' k e = k x e
 
 performed_only : (b : Bool) (a : Arrow) (l l' : Level) → applied (only b a) l ≡ Some l' → b ≡ true
 performed_only true a l l' e = refl
@@ -440,7 +440,7 @@ closing_unaligned (suc n) (i ∷ opcodes) h =
 
 -- ---- a body within other sequences
 
--- sequences around a body, behind jumps
+-- sequences around a body, after jumps
 abbrev around_level : Option ValueType → Level
 around_level t =
     record { takes = t; gives = None; is_first = false; is_reached = false; operands = [] }
@@ -476,14 +476,14 @@ around_labels : (around : List (Option ValueType))
 around_labels [] = refl
 around_labels (t ∷ around) = ap (λ z. results_of t ∷ z) (around_labels around)
 
-module _ (c : Context) (kind : FunctionType) (code : Code) (r : Option ValueType) (is : results_of r
-    ≡ gives_of kind) where
-  would_pass : (h : WouldHaveBody c kind code)
-      → checked (extended (body_context c kind code.locals) h.more)
+module _ (c : Context) (signature : FunctionType) (code : Code) (r : Option ValueType)
+    (is : results_of r ≡ gives_of signature) where
+  would_pass : (h : WouldHaveBody c signature code)
+      → checked (extended (body_context c signature code.locals) h.more)
       (map unaligned code.body ++ closers h.around)
       (new_level r r false ∷ map around_level h.around) ≡ Some []
   would_pass h =
-      let bc = extended (body_context c kind code.locals) h.more in
+      let bc = extended (body_context c signature code.locals) h.more in
       let levels = map around_level h.around in
       let typed : HasType bc (results_of r ∷ labels_of levels) h.sequence [] (results_of r) =
       subst (λ z. HasType bc (results_of r ∷ z) h.sequence [] (results_of r))
@@ -533,9 +533,9 @@ never_passes c more around (i ∷ opcodes) [] closing passes fails e = closing
 never_passes c more around (i ∷ opcodes) (l ∷ ls) closing passes fails e =
     here_or_behind (opcode_fault c i (l ∷ ls)) Typing (levels_after c i (l ∷ ls))
     (λ levels'. fault_in c opcodes levels') here
-    (λ levels' some kind. behind levels' some
+    (λ levels' some is_typing. behind levels' some
     (subst (λ z. IsClosing z opcodes) (sym (after_length c i (l ∷ ls) levels' some)) closing)
-    (λ k p d. never_passes c more around opcodes levels' k p d kind))
+    (λ k p d. never_passes c more around opcodes levels' k p d is_typing))
     e
   where
     outer : List Level
@@ -545,9 +545,9 @@ never_passes c more around (i ∷ opcodes) (l ∷ ls) closing passes fails e =
     rest z = checked (extended c more) (map unaligned opcodes ++ closers around) z
 
     here : levels_after c i (l ∷ ls) ≡ None → opcode_fault c i (l ∷ ls) ≡ Typing → ⊥
-    here none kind =
+    here none is_typing =
         none_then (levels_after (extended c more) (unaligned i) (l ∷ (ls ++ outer))) rest []
-        (step_none c more outer l ls i (sym (opcode_fault_is c i l ls) ∙ kind) none) passes
+        (step_none c more outer l ls i (sym (opcode_fault_is c i l ls) ∙ is_typing) none) passes
 
     behind : (levels' : List Level) → levels_after c i (l ∷ ls) ≡ Some levels'
         → IsClosing (length levels') opcodes
@@ -564,14 +564,14 @@ never_passes c more around (i ∷ opcodes) (l ∷ ls) closing passes fails e =
         ∙ d))
 
 -- A body that doesn't pass, and whose first fault is one of typing, would have no type.
-pub untyped : (c : Context) (kind : FunctionType) (code : Code) (r : Option ValueType)
-    → results_of r ≡ gives_of kind
-    → checked (body_context c kind code.locals) code.body (new_level r r false ∷ []) ≢ Some []
-    → fault_in (body_context c kind code.locals) code.body (new_level r r false ∷ []) ≡ Typing
-    → WouldHaveBody c kind code → ⊥
-untyped c kind code r is fails e h =
+pub untyped : (c : Context) (signature : FunctionType) (code : Code) (r : Option ValueType)
+    → results_of r ≡ gives_of signature
+    → checked (body_context c signature code.locals) code.body (new_level r r false ∷ []) ≢ Some []
+    → fault_in (body_context c signature code.locals) code.body (new_level r r false ∷ []) ≡ Typing
+    → WouldHaveBody c signature code → ⊥
+untyped c signature code r is fails e h =
     let ending : IsClosing 1 (map unaligned code.body) = subst (IsClosing 1) (sym h.spells.is)
     (closing h.sequence 0 (instr.End ∷ []) h.spells.nested tt) in
-    never_passes (body_context c kind code.locals) h.more h.around code.body
+    never_passes (body_context c signature code.locals) h.more h.around code.body
     (new_level r r false ∷ []) (closing_unaligned 1 code.body ending)
-    (would_pass c kind code r is h) fails e
+    (would_pass c signature code r is h) fails e

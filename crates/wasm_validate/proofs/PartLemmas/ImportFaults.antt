@@ -174,12 +174,12 @@ module _ (m : Module) where
 
   imports_invalid : (e : ValidFault) → IsFirstImportFault m.types nothing_before m.imports e
       → IsValid m → ⊥
-  imports_invalid e first v = by_kind (says m.types own e nothing_before m.imports first)
+  imports_invalid e first v = by_fault (says m.types own e nothing_before m.imports first)
     where
-      by_kind : Says m.types e nothing_before (imported_functions m.imports ++ own)
+      by_fault : Says m.types e nothing_before (imported_functions m.imports ++ own)
           (imported_tables m.imports) (imported_memories m.imports) → ⊥
-      by_kind (inl h) = h.1 v.functions v.function_types
-      by_kind (inr h) = imports_limited v.tables v.memories v.one_table v.one_memory h.1
+      by_fault (inl h) = h.1 v.functions v.function_types
+      by_fault (inr h) = imports_limited v.tables v.memories v.one_table v.one_memory h.1
 
   pub imports_denied : (r : Result Unit ValidFault)
       → IfErr r (IsFirstImportFault m.types nothing_before m.imports)
@@ -189,14 +189,14 @@ module _ (m : Module) where
 
   imports_fault : (e : ValidFault) → IsFirstImportFault m.types nothing_before m.imports e
       → HasFault m e
-  imports_fault e first = by_kind (says m.types own e nothing_before m.imports first)
+  imports_fault e first = by_fault (says m.types own e nothing_before m.imports first)
     where
-      by_kind : Says m.types e nothing_before (imported_functions m.imports ++ own)
+      by_fault : Says m.types e nothing_before (imported_functions m.imports ++ own)
           (imported_tables m.imports) (imported_memories m.imports) → HasFault m e
-      by_kind (inl h) =
+      by_fault (inl h) =
           let F : ValidFault → Type 0 = HasFault m in subst F (sym h.0)
           (λ functions are n. h.1 functions are)
-      by_kind (inr h) =
+      by_fault (inr h) =
           let F : ValidFault → Type 0 = HasFault m in subst F (sym h.0)
           (λ k. imports_limited k.tables k.memories k.one_table k.one_memory h.1)
 

@@ -15,22 +15,22 @@ use Rattle.wasm_validate.specs.laws.Reached.{all_operands}
 use Rattle.wasm_validate.specs.rules.Operands.{types_below}
 use Rattle.wasm_validate.specs.Body.Tops.{top_applied}
 
--- A fault comes only where there is nothing, and is of this kind. Want of memory says nothing of
+-- A fault comes only where there is nothing, and is of this sort. Want of memory says nothing of
 -- it.
 abbrev pub FailsToCheck : {X : Type 0} → ValidFault → ValidFault → Option X → Type 0
-FailsToCheck Memory kind o = Unit {0}
+FailsToCheck Memory fault o = Unit {0}
 FailsToCheck Typing Typing o = o ≡ None
 FailsToCheck Index Index o = o ≡ None
 FailsToCheck Limits Limits o = o ≡ None
-FailsToCheck e kind o = ⊥
+FailsToCheck e fault o = ⊥
 
--- the levels are then these, or the fault is of this kind
+-- the levels are then these, or the fault is of this sort
 abbrev pub LevelsFollow : {X : Type 0} → ValidFault → Result X ValidFault → List Level
     → Option (List Level) → Type 0
-LevelsFollow kind (Ok x) new o = o ≡ Some new
-LevelsFollow kind (Err e) new o = FailsToCheck e kind o
+LevelsFollow fault (Ok x) new o = o ≡ Some new
+LevelsFollow fault (Err e) new o = FailsToCheck e fault o
 
--- the levels are then those behind an instruction that stays in its sequence
+-- the levels are then those after an instruction that stays in its sequence
 abbrev pub Performs : {X : Type 0} → Context → Instruction → Result X ValidFault → List Level
     → List Level → Type 0
 Performs c i r old new =
@@ -47,15 +47,15 @@ abbrev pub FindsLabel : Result (Option ValueType) ValidFault → List (List Valu
 FindsLabel (Ok t) labels l = slice_get labels l ≡ Some (results_of t)
 FindsLabel (Err e) labels l = (e ≡ Index) × (slice_get labels l ≡ None)
 
--- nothing but want of memory
+-- nothing but out of memory
 abbrev pub OnlyMemory : {X : Type 0} → Result X ValidFault → Type 0
 OnlyMemory (Ok x) = Unit {0}
 OnlyMemory (Err e) = e ≡ Memory
 
 -- Ok exactly where the test holds, and elsewhere this fault
 abbrev pub Tests : {X : Type 0} → Result X ValidFault → Bool → ValidFault → Type 0
-Tests (Ok x) b kind = b ≡ true
-Tests (Err e) b kind = (b ≡ false) × (e ≡ kind)
+Tests (Ok x) b fault = b ≡ true
+Tests (Err e) b fault = (b ≡ false) × (e ≡ fault)
 
 -- whether typing reaches a position, whose operands are then in these levels
 abbrev pub IsReached : Bool → List Level → Option Shape → Type 0
@@ -65,7 +65,7 @@ IsReached false levels None = Unit {0}
 IsReached true levels None = ⊥
 IsReached false levels (Some s) = ⊥
 
--- the same of a walk to the position, which fails for nothing but want of memory
+-- the same of a walk to the position, which fails only when out of memory
 abbrev pub TellsReach : Result Bool ValidFault → List Level → Option Shape → Type 0
 TellsReach (Ok reached) levels o = IsReached reached levels o
 TellsReach (Err e) levels o = e ≡ Memory

@@ -13,15 +13,15 @@ use Rattle.wasm_validate.specs.rules.Faults.{IsAligned, HaveDefinedIndices, Woul
 -- what a fault says of a body: it would have no type, an index of it names nothing, or an access is
 -- misaligned
 abbrev pub IsFaultOfBody : Context → FunctionType → Code → ValidFault → Type 0
-IsFaultOfBody c kind code e =
-    DeniesOne e (WouldHaveBody c kind code)
-    (HaveDefinedIndices (body_context c kind code.locals) 1 code.body)
+IsFaultOfBody c signature code e =
+    DeniesOne e (WouldHaveBody c signature code)
+    (HaveDefinedIndices (body_context c signature code.locals) 1 code.body)
     (AllByRecursion IsAligned code.body)
 
 -- The body spells a sequence that gives, from nothing on, what the function gives; a branch out of
 -- it all gives that too (3.4.1).
-pub record HasBody (c : Context) (kind : FunctionType) (code : Code) : Type 0 where
+pub record HasBody (c : Context) (signature : FunctionType) (code : Code) : Type 0 where
   pub sequence : Sequence
   pub spells : Spells code.body sequence
-  pub typed : HasType (body_context c kind code.locals) (gives_of kind
-      ∷ []) sequence [] (gives_of kind)
+  pub typed : HasType (body_context c signature code.locals) (gives_of signature
+      ∷ []) sequence [] (gives_of signature)

@@ -5,7 +5,8 @@ use Rattle.wasm_syntax.specs.declared.types.ValueType.{ValueType}
 use Rattle.wasm_syntax.specs.declared.types.ValueType.TheVariants.{I32}
 use Rattle.wasm_syntax.specs.laws.ReadingItems.{◌>>=◌, check}
 use Rattle.wasm_validate.specs.laws.Checking.{Known, Level, popped, agrees, pushed, all_pushed}
-use Rattle.wasm_validate.specs.laws.Checking.{level_left, Arrow, Fixed, Jump, Dropping, Selecting}
+use Rattle.wasm_validate.specs.laws.Checking.{level_unreached, Arrow, Fixed, Jump, Dropping}
+use Rattle.wasm_validate.specs.laws.Checking.{Selecting}
 use Rattle.wasm_validate.specs.laws.Checking.{Refused, met, has_no_operands}
 
 abbrev pub top_popped : List Level → Option (Known × List Level)
@@ -20,9 +21,9 @@ abbrev pub top_all_pushed : List ValueType → List Level → List Level
 top_all_pushed ts [] = []
 top_all_pushed ts (l ∷ levels) = all_pushed ts l ∷ levels
 
-abbrev pub top_left : List Level → List Level
-top_left [] = []
-top_left (l ∷ levels) = level_left l ∷ levels
+abbrev pub top_unreached : List Level → List Level
+top_unreached [] = []
+top_unreached (l ∷ levels) = level_unreached l ∷ levels
 
 abbrev pub top_taken : ValueType → List Level → Option (List Level)
 top_taken t levels = top_popped levels >>= λ o. check (agrees t o.0) >>= λ _. Some o.1
@@ -39,7 +40,8 @@ top_selected levels =
 abbrev pub top_applied : Arrow → List Level → Option (List Level)
 top_applied (Fixed takes gives) levels = top_all_taken takes levels
     >>= λ levels'. Some (top_all_pushed gives levels')
-top_applied (Jump takes) levels = top_all_taken takes levels >>= λ levels'. Some (top_left levels')
+top_applied (Jump takes) levels = top_all_taken takes levels
+    >>= λ levels'. Some (top_unreached levels')
 top_applied Dropping levels = top_popped levels >>= λ o. Some o.1
 top_applied Selecting levels = top_selected levels
 top_applied Refused levels = None

@@ -50,7 +50,7 @@ abbrev pub IsImportedMemoryValid : ImportItem → Type 0
 IsImportedMemoryValid (import.Memory t) = IsMemoryTypeValid t
 IsImportedMemoryValid _ = Unit {0}
 
--- what is asked of an import behind others: the type of a function exists, limits are in order, and
+-- what is asked of an import after others: the type of a function exists, limits are in order, and
 -- a table or a memory is the first
 abbrev pub IsImportItemValid : List FunctionType → Before → ImportItem → Type 0
 IsImportItemValid types before (import.Function x) = IsIndex types x
@@ -68,7 +68,7 @@ with_import before item = before
 abbrev pub nothing_before : Before
 nothing_before = record { table = false; memory = false }
 
--- each of these imports is valid behind those before
+-- each of these imports is valid after those before
 abbrev pub AreImportsValid : List FunctionType → Before → List Import → Type 0
 AreImportsValid types before [] = Unit {0}
 AreImportsValid types before (i ∷ imports) =
@@ -106,7 +106,7 @@ abbrev pub IsConstantGlobal : List GlobalType → ℕ → ValueType → Type 0
 IsConstantGlobal globals x t = (g : GlobalType) × (slice_get globals x ≡ Some g)
     × (g.mutability ≡ Constant) × (g.value_type ≡ t)
 
--- what a fault says of initial values in which these globals may stand
+-- what a fault says of initial values in which these globals may be
 abbrev pub IsFaultInGlobals : List GlobalType → List Global → ValidFault → Type 0
 IsFaultInGlobals imported globals e =
     DeniesOne e (AllByRecursion

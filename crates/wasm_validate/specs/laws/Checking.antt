@@ -25,7 +25,7 @@ abbrev pub Known : Type 0
 Known = Option ValueType
 
 -- An open sequence: what a branch to its label takes, and what it gives; whether it is the first
--- part of an `if`, to which an `else` may come; whether no jump stands before; and its operands,
+-- part of an `if`, to which an `else` may come; whether no jump is before; and its operands,
 -- the last one first.
 pub record Level : Type 0 where
   pub takes : Option ValueType
@@ -60,15 +60,15 @@ pushed k l = record l { operands = k ∷ l.operands }
 abbrev pub all_pushed : List ValueType → Level → Level
 all_pushed ts l = record l { operands = map (λ t. Some t) ts ++ l.operands }
 
--- behind a jump
-abbrev pub level_left : Level → Level
-level_left l = record l { is_reached = false; operands = [] }
+-- after a jump
+abbrev pub level_unreached : Level → Level
+level_unreached l = record l { is_reached = false; operands = [] }
 
 -- ---- instructions that stay in their sequence
 
 -- What an instruction takes and gives: a fixed list of types each; or what it takes before it
--- jumps; or it drops an operand of any type, or selects one of two of the same type. Or it stands
--- where it may not.
+-- jumps; or it drops an operand of any type, or selects one of two of the same type. Or it is where
+-- it may not.
 pub data Arrow : Type 0 where
   Fixed : (takes gives : List ValueType) → Arrow
   Jump : (takes : List ValueType) → Arrow
@@ -168,7 +168,7 @@ operands_selected l =
 
 abbrev pub applied : Arrow → Level → Option Level
 applied (Fixed takes gives) l = all_operands_taken takes l >>= λ l'. Some (all_pushed gives l')
-applied (Jump takes) l = all_operands_taken takes l >>= λ l'. Some (level_left l')
+applied (Jump takes) l = all_operands_taken takes l >>= λ l'. Some (level_unreached l')
 applied Dropping l = popped l >>= λ o. Some o.1
 applied Selecting l = operands_selected l
 applied Refused l = None

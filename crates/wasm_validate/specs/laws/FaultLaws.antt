@@ -6,7 +6,7 @@ use Rattle.wasm_validate.specs.declared.parts.fault.ValidFault.{ValidFault}
 use Rattle.wasm_validate.specs.declared.parts.fault.ValidFault.TheVariants.{Memory}
 use Rattle.wasm_validate.specs.rules.Faults.{HasFault}
 
--- A valid module has a fault of no kind. Want of memory is none of the module.
+-- A valid module has a fault of no sort. Want of memory is none of the module.
 abbrev pub ValidHasNoFault : Type 0
 ValidHasNoFault = (m : Module) → IsValid m → (fault : ValidFault) → HasFault m fault
     → fault ≡ Memory

@@ -1,4 +1,4 @@
--- Of which kind the first fault is, where checking a body from the front finds one. Nothing here
+-- Of which sort the first fault is, where checking a body from the front finds one. Nothing here
 -- has to be believed: what it says of the body is proved.
 use Rattle.std.specs.Prelude.{ℕ, ◌^◌, nat_le, Bool, true, false, List, [], ◌∷◌, Option, Some, None}
 use Rattle.std.specs.Prelude.{slice_get}
@@ -16,10 +16,10 @@ abbrev pub fault_at : {X : Type 0} → Option X → (X → ValidFault) → Valid
 fault_at None go = Index
 fault_at (Some x) go = go x
 
--- this kind where a test fails
+-- this sort where a test fails
 abbrev pub fault_unless : Bool → ValidFault → ValidFault → ValidFault
-fault_unless true kind other = other
-fault_unless false kind other = kind
+fault_unless true fault other = other
+fault_unless false fault other = fault
 
 -- the first of these labels that isn't there, or that takes other types than the default one
 abbrev pub labels_fault : List (List ValueType) → List ValueType → List ℕ → ValidFault
@@ -64,10 +64,10 @@ opcode_fault c instr.End levels = Typing
 opcode_fault c i [] = Typing
 opcode_fault c i (l ∷ levels) = fault_of c (labels_of (l ∷ levels)) i
 
--- this kind where nothing follows
+-- this sort where nothing follows
 abbrev pub fault_from : ValidFault → Option (List Level) → (List Level → ValidFault) → ValidFault
-fault_from kind None go = kind
-fault_from kind (Some levels) go = go levels
+fault_from fault None go = fault
+fault_from fault (Some levels) go = go levels
 
 -- what is told of the first of these opcodes that can't follow
 abbrev pub fault_in : Context → List Instruction → List Level → ValidFault

@@ -11,7 +11,7 @@ use Rattle.wasm_semantics.specs.Shapes.{Shape, body_shape}
 use Rattle.wasm_validate.specs.rules.Operands.{types_below}
 use Rattle.wasm_validate.specs.laws.Checking.{Known, Level, new_level, checked}
 
--- a jump stands before in none of the open sequences
+-- a jump is before in none of the open sequences
 abbrev pub are_reached : List Level → Bool
 are_reached [] = true
 are_reached (l ∷ levels) = l.is_reached && are_reached levels
@@ -21,11 +21,11 @@ abbrev pub all_operands : List Level → List Known
 all_operands [] = []
 all_operands (l ∷ levels) = l.operands ++ all_operands levels
 
--- the open sequences have operands of this shape's types; or a jump stands before, where there is
+-- the open sequences have operands of this shape's types; or a jump is before, where there is
 -- no shape
-abbrev pub StandFor : List Level → Option Shape → Type 0
-StandFor levels None = are_reached levels ≡ false
-StandFor levels (Some s) =
+abbrev pub LevelsStandFor : List Level → Option Shape → Type 0
+LevelsStandFor levels None = are_reached levels ≡ false
+LevelsStandFor levels (Some s) =
     (are_reached levels ≡ true)
     × (all_operands levels ≡ map (λ t. Some t) (s.operands ++ types_below s.labels))
 
@@ -35,7 +35,7 @@ pub record PassesTo (c : Context) (opcodes : List Instruction) (n : ℕ) (levels
     (o : Option Shape) : Type 0 where
   pub new : List Level
   pub is : checked c (take n opcodes) levels ≡ Some new
-  pub stands : StandFor new o
+  pub stands : LevelsStandFor new o
 
 -- Checking a typed body comes at each of its positions to what typing gives there.
 abbrev pub CheckingFindsShapes : Type 0

@@ -1,4 +1,4 @@
--- What remains of a body where checking stands.
+-- What remains of a body where checking is.
 use Rattle.std.specs.Prelude.{◌≡◌, ◌⊎◌, Bool, true, false, List, [], ◌∷◌, ◌++◌, Option, Some, None}
 use Rattle.wasm_syntax.specs.declared.types.ValueType.{ValueType}
 use Rattle.wasm_syntax.specs.declared.instruction.Instruction.{Instruction}
@@ -13,7 +13,7 @@ abbrev pub Matches : Known → ValueType → Type 0
 Matches None t = Unit {0}
 Matches (Some u) t = u ≡ t
 
--- these are types of all operands, and behind a jump there may be more below
+-- these are types of all operands, and after a jump there may be more below
 abbrev pub FitsOperands : Bool → List Known → List ValueType → Type 0
 FitsOperands reached (k ∷ ks) (t ∷ ts) = Matches k t × FitsOperands reached ks ts
 FitsOperands reached (k ∷ ks) [] = ⊥

@@ -43,7 +43,7 @@ DemandsInTurn (Ok x) first P second Q = Q
 DemandsInTurn (Err e) first P second Q = ((e ≡ first) × (P → ⊥) × (Q → ⊥))
     ⊎ ((e ≡ second) × P × (Q → ⊥))
 
--- The fault is this one and P doesn't hold, or it is want of memory, which says nothing.
+-- The fault is this one and P doesn't hold, or memory has run out, which says nothing.
 abbrev pub IsFor : ValidFault → Type 0 → ValidFault → Type 0
 IsFor fault P Memory = Unit {0}
 IsFor fault P e = (e ≡ fault) × (P → ⊥)

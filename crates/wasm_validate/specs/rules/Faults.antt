@@ -1,4 +1,4 @@
--- What each kind of fault says of a module: a part of validity that doesn't hold.
+-- What each fault says of a module: a part of validity that doesn't hold.
 use Rattle.std.specs.Prelude.{◌≡◌, ◌≤◌, ◌<◌, ◌^◌, ℕ, zero, suc, List, [], ◌∷◌, ◌++◌, length, map}
 use Rattle.std.specs.Prelude.{Option, Some, slice_get, IfSome}
 use Rattle.std.specs.List.{AllByRecursion}
@@ -49,7 +49,7 @@ HasDefinedIndices c n instr.MemoryCopy = IsIndex c.memories 0
 HasDefinedIndices c n instr.MemoryFill = IsIndex c.memories 0
 HasDefinedIndices c n i = Unit {0}
 
--- how many labels are open behind an instruction
+-- how many labels are open after an instruction
 abbrev pub labels_behind : Instruction → ℕ → ℕ
 labels_behind (instr.Block t) n = suc n
 labels_behind (instr.Loop t) n = suc n
@@ -118,7 +118,7 @@ pub record AreLimitsKept (m : Module) : Type 0 where
 
 -- ---- typing (3.3), whatever more were defined, and however accesses were aligned
 
--- what a context has, and more behind it
+-- what a context has, and more after it
 abbrev pub extended : Context → Context → Context
 extended c more = record c {
   types = c.types ++ more.types;
@@ -137,14 +137,14 @@ unaligned i = i
 
 -- The body would have its function's type if more were defined, with labels around it, and if each
 -- access were aligned to one byte.
-pub record WouldHaveBody (c : Context) (kind : FunctionType) (code : Code) : Type 0 where
+pub record WouldHaveBody (c : Context) (signature : FunctionType) (code : Code) : Type 0 where
   pub more : Context
   pub around : List (Option ValueType)
   pub sequence : Sequence
   pub spells : Spells (map unaligned code.body) sequence
   pub typed :
-      HasType (extended (body_context c kind code.locals) more)
-      (gives_of kind ∷ map results_of around) sequence [] (gives_of kind)
+      HasType (extended (body_context c signature code.locals) more)
+      (gives_of signature ∷ map results_of around) sequence [] (gives_of signature)
 
 -- a function's type is defined, and its body would have it
 abbrev pub WouldHaveType : Module → List FunctionType → Function → Type 0
@@ -177,7 +177,7 @@ pub record WouldBeTyped (m : Module) (functions : List FunctionType) : Type 0 wh
 
 -- ---- faults
 
--- The module has a fault of this kind. `Typing`: each function has a type, and something has a
+-- The module has this fault. `Typing`: each function has a type, and something has a
 -- wrong one, which nothing more that were defined would mend. `Index`: an index is not defined.
 -- `Limits`: a limit doesn't hold. `DuplicateExport`: two exports have one name. `Memory` says
 -- nothing of the module.

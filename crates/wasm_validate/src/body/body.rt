@@ -89,7 +89,7 @@ impl BodyChecker {
     /// Checks the body of a function. The fault is the first from the front: `Typing`, `Index`,
     /// `Limits` for an alignment, or `Memory`. Behind all opcodes it is `Typing` where something is
     /// still open. It takes time linear in the opcodes, the labels of tables and the parameters of
-    /// calls. It takes memory for the operands and blocks that stand at a time, which the next body
+    /// calls. It takes memory for the operands and blocks that are at a time, which the next body
     /// uses again.
     pub fn check(
         &mut self,
@@ -176,7 +176,7 @@ impl BodyChecker {
 
     /// The types of all operands of the function at a position of its body. A position is the
     /// number of an opcode, counted from 0 with each `else` and `end`. `None` where typing doesn't
-    /// reach the position: behind a jump, up to the `else` or `end` of its block, and beyond the
+    /// reach the position: after a jump, up to the `else` or `end` of its block, and beyond the
     /// body. Behind the last `end` they are the function's results. Nothing is said of a body that
     /// doesn't have its function's type. It takes time linear in the position, the labels of tables
     /// and the parameters of calls, and memory as a check does. Fails only where memory is refused.

@@ -16,7 +16,7 @@ use crate::body::operators::{
 use crate::body::scope::Scope;
 use crate::parts::ValidFault;
 use wasm_syntax::{
-    Conversion, LoadOperator, MemoryArgument, Mutability, Row, StoreOperator, Value, ValueType,
+    Conversion, ItemList, LoadOperator, MemoryArgument, Mutability, StoreOperator, Value, ValueType,
 };
 
 /// Whether two labels take the same.
@@ -36,7 +36,7 @@ impl Levels {
     {
         let takes = self.label(label)?;
         self.expect_results(takes)?;
-        self.leave();
+        self.set_unreachable();
         Ok(())
     }
 
@@ -63,7 +63,7 @@ impl Levels {
         Ok(())
     }
 
-    pub fn branch_table(&mut self, labels: &Row<u32>, default: u32) -> Result<(), ValidFault>
+    pub fn branch_table(&mut self, labels: &ItemList<u32>, default: u32) -> Result<(), ValidFault>
         ensures { (c : Typing)
             → Performs c (instr.BrTable labels.now default) result self.old self.new }
     {
@@ -71,7 +71,7 @@ impl Levels {
         self.expect_labels(labels.as_slice(), takes)?;
         self.expect(ValueType::I32)?;
         self.expect_results(takes)?;
-        self.leave();
+        self.set_unreachable();
         Ok(())
     }
 
@@ -80,7 +80,7 @@ impl Levels {
             → Performs c instr.Return result self.old self.new }
     {
         self.expect_all(scope.returns)?;
-        self.leave();
+        self.set_unreachable();
         Ok(())
     }
 
@@ -88,24 +88,30 @@ impl Levels {
         ensures { (c : Typing) → IsScopeOf c scope.now
             → Performs c (instr.Call function) result self.old self.new }
     {
-        let Some(kind) = scope.context.function_type(function) else {
+        let Some(signature) = scope.context.function_type(function) else {
             return Err(ValidFault::Index);
         };
-        self.apply(kind.parameters.as_slice(), kind.results.as_slice())
+        self.apply(
+            signature.parameters.as_slice(),
+            signature.results.as_slice(),
+        )
     }
 
-    pub fn call_indirect(&mut self, scope: &Scope, kind: u32) -> Result<(), ValidFault>
+    pub fn call_indirect(&mut self, scope: &Scope, type_index: u32) -> Result<(), ValidFault>
         ensures { (c : Typing) → IsScopeOf c scope.now
-            → Performs c (instr.CallIndirect kind) result self.old self.new }
+            → Performs c (instr.CallIndirect type_index) result self.old self.new }
     {
-        let Some(kind) = scope.context.type_at(kind) else {
+        let Some(signature) = scope.context.type_at(type_index) else {
             return Err(ValidFault::Index);
         };
         if !scope.context.has_table() {
             return Err(ValidFault::Index);
         }
         self.expect(ValueType::I32)?;
-        self.apply(kind.parameters.as_slice(), kind.results.as_slice())
+        self.apply(
+            signature.parameters.as_slice(),
+            signature.results.as_slice(),
+        )
     }
 
     pub fn local_get(&mut self, scope: &Scope, local: u32) -> Result<(), ValidFault>

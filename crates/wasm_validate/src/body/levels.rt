@@ -4,7 +4,7 @@ ghost use Rattle.std.specs.Prelude.{◌≡◌, ◌∷◌, [], reverse, slice_get
 ghost use Rattle.std.specs.Prelude.{Some, option_map};
 ghost use Rattle.wasm_validate.specs.declared.parts.fault.ValidFault.TheVariants as fault;
 ghost use Rattle.wasm_validate.specs.Body.Answers.{Pops, FindsLabel, LevelsFollow, OnlyMemory};
-ghost use Rattle.wasm_validate.specs.Body.Tops.{top_popped, top_pushed, top_left, top_closed};
+ghost use Rattle.wasm_validate.specs.Body.Tops.{top_popped, top_pushed, top_unreached, top_closed};
 ghost use Rattle.wasm_validate.specs.laws.Checking.{new_level, labels_of};
 ghost use Rattle.wasm_validate.specs.laws.Reached.{are_reached, all_operands};
 ghost use Rattle.wasm_validate.specs.Body.Views.{IsInnermost};
@@ -24,14 +24,14 @@ pub struct Control {
     pub results: Option<ValueType>,
     /// Whether it is the first part of an `if`.
     pub is_first: bool,
-    /// Whether no jump stands before.
+    /// Whether no jump is before.
     pub is_reached: bool,
     /// How many operands there were when it was opened.
     pub height: usize,
 }
 
 /// The open sequences with what is known of their operands: a type, or none where any type may
-/// stand, behind a jump.
+/// are, after a jump.
 #[derive(Debug, Drop)]
 pub struct Levels {
     controls: Stack<Control>,
@@ -150,9 +150,9 @@ impl Levels {
         Ok(())
     }
 
-    /// Goes on behind a jump: operands of the innermost sequence are gone, and any may follow.
-    pub fn leave(&mut self)
-        ensures { self.new ≡ top_left self.old }
+    /// Goes on after a jump: operands of the innermost sequence are gone, and any may follow.
+    pub fn set_unreachable(&mut self)
+        ensures { self.new ≡ top_unreached self.old }
     {
         let Some(control) = self.controls.get(0) else {
             return;
@@ -164,7 +164,7 @@ impl Levels {
         });
     }
 
-    /// Whether a jump stands before in no open sequence.
+    /// Whether a jump is before in no open sequence.
     pub fn are_reached(&self) -> bool
         ensures { result ≡ are_reached self.now }
     {

@@ -17,7 +17,7 @@ pub struct Scope<'a, 'm> {
 }
 
 impl Scope<'_, '_> {
-    /// The type of a parameter or of a declared local behind them. `Index` where there is none.
+    /// The type of a parameter or of a declared local after them. `Index` where there is none.
     pub fn local(&self, number: u32) -> Result<ValueType, ValidFault>
         ensures { (c : Typing) → IsScopeOf c self.now → LooksUp result (slice_get c.locals number) }
     {

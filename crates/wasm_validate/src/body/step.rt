@@ -5,7 +5,7 @@ ghost use Rattle.wasm_semantics.specs.Typing.{Context as Typing};
 ghost use Rattle.wasm_validate.specs.Body.Answers.{LevelsFollow, Performs};
 ghost use Rattle.wasm_validate.specs.laws.Checking.{levels_after};
 ghost use Rattle.wasm_validate.specs.laws.FirstFault.{opcode_fault};
-ghost use Rattle.wasm_validate.specs.Body.Kinds.{IsTransfer};
+ghost use Rattle.wasm_validate.specs.Body.Transfers.{IsTransfer};
 ghost use Rattle.wasm_validate.specs.Body.Scopes.{IsScopeOf};
 
 use crate::body::levels::Levels;
@@ -56,7 +56,7 @@ impl Levels {
     {
         match instruction {
             Instruction::Unreachable => {
-                self.leave();
+                self.set_unreachable();
                 Ok(())
             }
             Instruction::Nop => self.apply(&[], &[]),

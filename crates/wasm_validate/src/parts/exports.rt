@@ -3,7 +3,7 @@
 ghost use Rattle.std.specs.Prelude.{◌↔◌, IsTrue, List};
 ghost use Rattle.std.specs.List.{AllByRecursion};
 ghost use Rattle.wasm_syntax.specs.declared.module.Module.{Module as TheModule};
-ghost use Rattle.wasm_syntax.specs.declared.types.FunctionType.{FunctionType as Kind};
+ghost use Rattle.wasm_syntax.specs.declared.types.FunctionType.{FunctionType as Signature};
 ghost use Rattle.wasm_semantics.specs.Validity.{IsExportItemValid, HaveDistinctNames};
 ghost use Rattle.wasm_validate.specs.rules.Answers.{JudgesExports};
 ghost use Rattle.wasm_validate.specs.Parts.Parts.{IsModuleContext};
@@ -17,7 +17,7 @@ use wasm_syntax::{Export, ExportItem};
 
 /// Whether there is what is exported.
 fn exists(context: &ModuleContext, item: ExportItem) -> bool
-    ensures { (m : TheModule) (functions : List Kind) → IsModuleContext m functions context.now
+    ensures { (m : TheModule) (functions : List Signature) → IsModuleContext m functions context.now
         → IsTrue result ↔ IsExportItemValid m functions item }
 {
     match item {
@@ -36,7 +36,7 @@ pub fn check_exports(
     context: &ModuleContext,
     exports: &[Export],
 ) -> Result<(), ValidFault>
-    ensures { (m : TheModule) (functions : List Kind) → IsModuleContext m functions context.now
+    ensures { (m : TheModule) (functions : List Signature) → IsModuleContext m functions context.now
         → JudgesExports result
         (AllByRecursion (λ e. IsExportItemValid m functions e.item) exports.now)
         (HaveDistinctNames exports.now) }

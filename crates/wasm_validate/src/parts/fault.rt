@@ -6,7 +6,7 @@ ghost use Rattle.wasm_validate.specs.declared.parts.fault.ValidFault.TheVariants
 use std::alloc::{AllocError, AllocFailed};
 use thiserror::Error;
 
-/// The first fault, or want of memory. Types are checked first, then imports, functions, tables,
+/// The first fault, or out of memory. Types are checked first, then imports, functions, tables,
 /// memories, globals, exports, the start function, element segments and data segments, and bodies
 /// last.
 #[derive(Clone, Copy, Debug, PartialEq, Eq, Error)]

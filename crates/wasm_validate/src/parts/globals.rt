@@ -14,7 +14,7 @@ use crate::parts::counts::imported_global_count;
 use crate::parts::fault::ValidFault;
 use wasm_syntax::{Global, GlobalType, Module};
 
-/// Each global begins with a constant of its type, in which these may stand, and no others.
+/// Each global begins with a constant of its type, in which these may be, and no others.
 fn check_initial_values(imported: &[GlobalType], globals: &[Global]) -> Result<(), ValidFault>
     ensures valid { Decides result (AllByRecursion
         (λ g. IsConstant imported.now g.initial g.global_type.value_type) globals.now) }
@@ -27,7 +27,7 @@ fn check_initial_values(imported: &[GlobalType], globals: &[Global]) -> Result<(
     Ok(())
 }
 
-/// Each global begins with a constant of its type, in which imported globals may stand. `Index`
+/// Each global begins with a constant of its type, in which imported globals may be. `Index`
 /// where it begins with a global that isn't imported, `Typing` otherwise.
 pub fn check_globals(module: &Module, context: &ModuleContext) -> Result<(), ValidFault>
     requires types { HasFunctionTypes «module».now }

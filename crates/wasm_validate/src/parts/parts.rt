@@ -4,7 +4,7 @@
 
 ghost use Rattle.std.specs.Prelude.{List, IfErr, OnOk};
 ghost use Rattle.std.specs.List.{AllByRecursion};
-ghost use Rattle.wasm_syntax.specs.declared.types.FunctionType.{FunctionType as Kind};
+ghost use Rattle.wasm_syntax.specs.declared.types.FunctionType.{FunctionType as Signature};
 ghost use Rattle.wasm_semantics.specs.Validity.{AreFunctionTypes, IsFunctionTypeValid, IsValid};
 ghost use Rattle.wasm_validate.specs.rules.Answers.{Decides, Denies, Judges};
 ghost use Rattle.wasm_validate.specs.rules.Faults.{HasFault};
@@ -49,7 +49,7 @@ pub fn check_before_data(
     requires sound { AllByRecursion IsFunctionTypeValid «module».now.types }
     requires types { HasFunctionTypes «module».now }
     requires context { IsContextOfModule «module».now context.now }
-    ensures valid { (functions : List Kind) → AreFunctionTypes «module».now functions
+    ensures valid { (functions : List Signature) → AreFunctionTypes «module».now functions
         → Judges result (IsValidBeforeData «module».now functions) }
     ensures fault { IfErr result (HasFault «module».now) }
 {

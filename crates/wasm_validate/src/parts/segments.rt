@@ -3,7 +3,7 @@
 ghost use Rattle.std.specs.Prelude.{List, IfErr};
 ghost use Rattle.std.specs.List.{AllByRecursion};
 ghost use Rattle.wasm_syntax.specs.declared.module.Module.{Module as TheModule};
-ghost use Rattle.wasm_syntax.specs.declared.types.FunctionType.{FunctionType as Kind};
+ghost use Rattle.wasm_syntax.specs.declared.types.FunctionType.{FunctionType as Signature};
 ghost use Rattle.wasm_semantics.specs.Validity.{IsElementValid, IsDataValid};
 ghost use Rattle.wasm_validate.specs.rules.Answers.{Decides};
 ghost use Rattle.wasm_validate.specs.Parts.Parts.{IsFaultInData, IsFaultInElements, IsFaultOfData};
@@ -19,10 +19,10 @@ use wasm_syntax::{Data, Element, ValueType};
 /// `Index` where there is no such table, then `check_constant`'s faults of the offset, then `Index`
 /// where there is no such function.
 fn check_element(context: &ModuleContext, element: &Element) -> Result<(), ValidFault>
-    ensures valid { (m : TheModule) (functions : List Kind)
+    ensures valid { (m : TheModule) (functions : List Signature)
         → IsModuleContext m functions context.now
         → Decides result (IsElementValid m functions element.now) }
-    ensures fault { (m : TheModule) (functions : List Kind)
+    ensures fault { (m : TheModule) (functions : List Signature)
         → IsModuleContext m functions context.now
         → IfErr result (IsFaultOfElement m functions element.now) }
 {
@@ -39,9 +39,9 @@ fn check_element(context: &ModuleContext, element: &Element) -> Result<(), Valid
 
 /// `Index` where there is no such memory, then `check_constant`'s faults of the offset.
 fn check_data_segment(context: &ModuleContext, segment: &Data) -> Result<(), ValidFault>
-    ensures valid { (m : TheModule) (functions : List Kind)
+    ensures valid { (m : TheModule) (functions : List Signature)
         → IsModuleContext m functions context.now → Decides result (IsDataValid m segment.now) }
-    ensures fault { (m : TheModule) (functions : List Kind)
+    ensures fault { (m : TheModule) (functions : List Signature)
         → IsModuleContext m functions context.now → IfErr result (IsFaultOfData m segment.now) }
 {
     if !is_memory(context, segment.memory) {
@@ -53,10 +53,10 @@ fn check_data_segment(context: &ModuleContext, segment: &Data) -> Result<(), Val
 
 /// Each element segment goes to a table, from a constant offset on, and names functions that exist.
 pub fn check_elements(context: &ModuleContext, elements: &[Element]) -> Result<(), ValidFault>
-    ensures valid { (m : TheModule) (functions : List Kind)
+    ensures valid { (m : TheModule) (functions : List Signature)
         → IsModuleContext m functions context.now
         → Decides result (AllByRecursion (IsElementValid m functions) elements.now) }
-    ensures fault { (m : TheModule) (functions : List Kind)
+    ensures fault { (m : TheModule) (functions : List Signature)
         → IsModuleContext m functions context.now
         → IfErr result (IsFaultInElements m functions elements.now) }
 {
@@ -68,10 +68,10 @@ pub fn check_elements(context: &ModuleContext, elements: &[Element]) -> Result<(
 
 /// Each data segment goes to a memory, from a constant offset on.
 pub fn check_data_segments(context: &ModuleContext, segments: &[Data]) -> Result<(), ValidFault>
-    ensures valid { (m : TheModule) (functions : List Kind)
+    ensures valid { (m : TheModule) (functions : List Signature)
         → IsModuleContext m functions context.now
         → Decides result (AllByRecursion (IsDataValid m) segments.now) }
-    ensures fault { (m : TheModule) (functions : List Kind)
+    ensures fault { (m : TheModule) (functions : List Signature)
         → IsModuleContext m functions context.now → IfErr result (IsFaultInData m segments.now) }
 {
     for segment in segments {

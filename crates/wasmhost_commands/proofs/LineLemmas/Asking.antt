@@ -5,8 +5,8 @@ use Rattle.std.specs.Prelude.{Option}
 use Rattle.std.specs.Option.{IsSomeAnd}
 use Rattle.wasi_abi.specs.declared.answer.Answer.{Answer}
 use Rattle.wasi_abi.specs.declared.answer.Answer.TheVariants as answer
-use Rattle.wasi_abi.specs.declared.answer.Kind.{Kind}
-use Rattle.wasi_abi.specs.declared.answer.Kind.TheVariants as kinds
+use Rattle.wasi_abi.specs.declared.answer.Question.{Question}
+use Rattle.wasi_abi.specs.declared.answer.Question.TheVariants as questions
 use Rattle.wasi_abi.specs.rules.Answers.{Fits}
 use Rattle.process_rules.specs.Runs.{Kept, Given}
 use Rattle.record_replay.specs.declared.fault.SourceFault.{SourceFault}
@@ -16,7 +16,7 @@ use Rattle.wasmhost_commands.specs.rules.Outside.{ComesFrom, ComeFrom, request_i
 use Rattle.wasmhost_commands.specs.rules.Outside.{words_in, words_of}
 use Rattle.wasmhost_commands.specs.rules.Requests.{GiveUpTo, BeginsWithOther, BeginsWithNumber}
 use Rattle.wasmhost_commands.specs.Lines.Reads.{AreSome}
-use Rattle.wasmhost_commands.specs.Lines.Answers.{Standing, HandsNext, HandsAnswer, TakesOther}
+use Rattle.wasmhost_commands.specs.Lines.Answers.{SourceState, HandsNext, HandsAnswer, TakesOther}
 use Rattle.wasmhost_commands.specs.Lines.Answers.{Finds}
 use Rattle.wasmhost_commands.specs.Lines.Answers.{IsNext, MissesNext, IsRefusedFor, IsRefusedAt}
 use Rattle.wasmhost_commands.specs.Lines.Answers.{IsClockless, IsWordless, LeavesFault}
@@ -24,20 +24,20 @@ use Rattle.wasmhost_commands.proofs.LineLemmas.Passing.{passed_nothing, up_to_on
 
 -- ---- one answer
 
--- From one standing to another an answer was handed over, of whichever kind.
-pub record HandsOver (s t : Standing) (a : Answer) : Type 0 where
+-- From one state of a source to another an answer was handed over, to whichever question.
+pub record HandsOver (s t : SourceState) (a : Answer) : Type 0 where
   pub counted : t.taken ≡ s.taken + length (request_in a)
   pub drawn : t.place ≡ s.place + words_in a
   pub comes : ComesFrom s.outside s.stream s.place a
   pub given : GiveUpTo s.limit s.taken s.unread (request_in a) (λ rest. t.unread ≡ Some rest)
 
 -- the answer of a request line
-next_hands : (s t : Standing) (a : Answer) → t.place ≡ s.place
+next_hands : (s t : SourceState) (a : Answer) → t.place ≡ s.place
     → IsNext s.limit s.taken s.unread a t.taken t.unread → HandsOver s t a
 next_hands s t a same next = by_answer a next next.fits
   where
     by_answer : (a : Answer) → IsNext s.limit s.taken s.unread a t.taken t.unread
-        → Fits s.limit kinds.Request a → HandsOver s t a
+        → Fits s.limit questions.Request a → HandsOver s t a
     by_answer (answer.Request text) next fits = record {
       counted = next.counted;
       drawn = let e = same in omega (arith, e);
@@ -54,8 +54,9 @@ next_hands s t a same next = by_answer a next next.fits
     by_answer (answer.Monotonic n) next fits = absurd fits
     by_answer (answer.Random bytes) next fits = absurd fits
 
-other_hands : (kind : Kind) (s t : Standing) (a : Answer) → TakesOther kind s a t → HandsOver s t a
-other_hands kind s t a other =
+other_hands : (question : Question) (s t : SourceState) (a : Answer) → TakesOther question s a t
+    → HandsOver s t a
+other_hands question s t a other =
     let none : length (request_in a) ≡ 0 = ap length other.other in
     let taken = other.taken in
     record {
@@ -68,17 +69,17 @@ other_hands kind s t a other =
           (sym other.unread) (passed_nothing s.limit s.taken s.unread));
     }
 
-pub finds_hands : (kind : Kind) (s t : Standing) (a : Answer) → Finds kind s (Some a) t
-    → HandsOver s t a
-finds_hands kinds.Request s t a h = next_hands s t a h.0 h.1
-finds_hands kinds.Realtime s t a h = other_hands kinds.Realtime s t a h
-finds_hands kinds.Monotonic s t a h = other_hands kinds.Monotonic s t a h
-finds_hands (kinds.Random n) s t a h = other_hands (kinds.Random n) s t a h
+pub finds_hands : (question : Question) (s t : SourceState) (a : Answer)
+    → Finds question s (Some a) t → HandsOver s t a
+finds_hands questions.Request s t a h = next_hands s t a h.0 h.1
+finds_hands questions.Realtime s t a h = other_hands questions.Realtime s t a h
+finds_hands questions.Monotonic s t a h = other_hands questions.Monotonic s t a h
+finds_hands (questions.Random n) s t a h = other_hands (questions.Random n) s t a h
 
 -- ---- answers
 
--- From one standing to another, with no fault, these answers were handed over.
-pub record HasAnswered (s t : Standing) (kept : List Kept) : Type 0 where
+-- From one state of a source to another, with no fault, these answers were handed over.
+pub record HasAnswered (s t : SourceState) (kept : List Kept) : Type 0 where
   pub unspoilt : t.fault ≡ None
   pub steady : t.failed ≡ s.failed
   pub same : t.outside ≡ s.outside
@@ -89,7 +90,7 @@ pub record HasAnswered (s t : Standing) (kept : List Kept) : Type 0 where
   pub come : ComeFrom s.outside s.stream s.place kept
   pub given : GiveUpTo s.limit s.taken s.unread (requests_in kept) (λ rest. t.unread ≡ Some rest)
 
-pub answered_nothing : (s : Standing) → s.fault ≡ None → HasAnswered s s []
+pub answered_nothing : (s : SourceState) → s.fault ≡ None → HasAnswered s s []
 answered_nothing s none = record {
   unspoilt = none;
   steady = refl;
@@ -102,10 +103,10 @@ answered_nothing s none = record {
   given = passed_nothing s.limit s.taken s.unread;
 }
 
-pub answered_first : (kind : Kind) (s t u : Standing) (a : Answer) (more : List Kept)
-    → HandsAnswer kind s (Some a) t → HasAnswered t u more → HasAnswered s u (Given a ∷ more)
-answered_first kind s t u a more hands others =
-    let one = finds_hands kind s t a hands.finds in
+pub answered_first : (question : Question) (s t u : SourceState) (a : Answer) (more : List Kept)
+    → HandsAnswer question s (Some a) t → HasAnswered t u more → HasAnswered s u (Given a ∷ more)
+answered_first question s t u a more hands others =
+    let one = finds_hands question s t a hands.finds in
     let count = one.counted in
     let counts = others.counted in
     let place = one.drawn in
@@ -135,8 +136,9 @@ answered_first kind s t u a more hands others =
 
 -- ---- behind them
 
-module _ (s u t : Standing) (kept : List Kept) (before : HasAnswered s u kept) (kind : Kind) where
-  -- what the lines give behind these answers
+module _ (s u t : SourceState) (kept : List Kept) (before : HasAnswered s u kept)
+    (question : Question) where
+  -- what the lines give after these answers
   behind : (P : List ℕ → Type 0) → GiveUpTo u.limit u.taken u.unread [] P
       → GiveUpTo s.limit s.taken s.unread (requests_in kept) P
   behind P back =
@@ -150,20 +152,22 @@ module _ (s u t : Standing) (kept : List Kept) (before : HasAnswered s u kept) (
   AreOver = GiveUpTo u.limit u.taken u.unread [] (λ rest. (rest ≡ []) × (t.unread ≡ Some rest))
 
   -- none is left
-  pub none_left : HandsNext kind u (Ok None) t → (kind ≡ kinds.Request) × (t.failed ≡ s.failed)
-      × GiveUpTo s.limit s.taken s.unread (requests_in kept) (λ rest. rest ≡ [])
+  pub none_left : HandsNext question u (Ok None) t → (question ≡ questions.Request)
+      × (t.failed ≡ s.failed) × GiveUpTo s.limit s.taken s.unread (requests_in kept)
+      (λ rest. rest ≡ [])
   none_left hands =
-      let found = of_request kind hands.finds in (
+      let found = of_request question hands.finds in (
         found.0,
         hands.steady ∙ before.steady,
         behind (λ rest. rest ≡ []) (ends u.limit u.taken u.unread t.unread found.1),
       )
     where
-      of_request : (kind : Kind) → Finds kind u None t → (kind ≡ kinds.Request) × AreOver
-      of_request kinds.Request found = (refl, found.1.1)
-      of_request kinds.Realtime found = absurd found
-      of_request kinds.Monotonic found = absurd found
-      of_request (kinds.Random n) found = absurd found
+      of_request : (question : Question) → Finds question u None t
+          → (question ≡ questions.Request) × AreOver
+      of_request questions.Request found = (refl, found.1.1)
+      of_request questions.Realtime found = absurd found
+      of_request questions.Monotonic found = absurd found
+      of_request (questions.Random n) found = absurd found
 
       ends : (limit n : ℕ) (old new : Option (List ℕ))
           → GiveUpTo limit n old [] (λ rest. (rest ≡ []) × (new ≡ Some rest))
@@ -195,7 +199,7 @@ module _ (s u t : Standing) (kept : List Kept) (before : HasAnswered s u kept) (
   misses_behind line.Clock h = absurd h
   misses_behind line.Words h = absurd h
 
-  -- the words behind those that were taken
+  -- the words after those that were taken
   wordless_behind : (n : ℕ) (why : LineFault) → IsWordless u.place n why
       → IsWordless (s.place + words_of kept) n why
   wordless_behind n why h = subst (λ k. IsWordless k n why) before.drawn h
@@ -203,34 +207,35 @@ module _ (s u t : Standing) (kept : List Kept) (before : HasAnswered s u kept) (
   clockless_behind : (why : LineFault) → IsClockless u.outside why → IsClockless s.outside why
   clockless_behind why h = subst (λ o. IsClockless o why) before.same h
 
-  -- why a question behind them is refused
-  abbrev IsRefused : Kind → LineFault → Type 0
+  -- why a question after them is refused
+  abbrev IsRefused : Question → LineFault → Type 0
   IsRefused k why = IsRefusedFor k s.outside s.limit (s.place + words_of kept) s.taken s.unread
       (requests_in kept) s.failed t.failed why
 
-  refused_behind : (k : Kind) (why : LineFault) → IsRefusedAt k u t.failed why → IsRefused k why
-  refused_behind kinds.Request why h = misses_behind why h
-  refused_behind kinds.Realtime why h = (clockless_behind why h.0, h.1 ∙ before.steady)
-  refused_behind kinds.Monotonic why h = (clockless_behind why h.0, h.1 ∙ before.steady)
-  refused_behind (kinds.Random n) why h = (wordless_behind n why h.0, h.1 ∙ before.steady)
+  refused_behind : (k : Question) (why : LineFault) → IsRefusedAt k u t.failed why → IsRefused k why
+  refused_behind questions.Request why h = misses_behind why h
+  refused_behind questions.Realtime why h = (clockless_behind why h.0, h.1 ∙ before.steady)
+  refused_behind questions.Monotonic why h = (clockless_behind why h.0, h.1 ∙ before.steady)
+  refused_behind (questions.Random n) why h = (wordless_behind n why h.0, h.1 ∙ before.steady)
 
-  left_by : (e : SourceFault) → HandsNext kind u (Err e) t → LeavesFault kind u t None
-  left_by e h = subst (LeavesFault kind u t) before.unspoilt h.5
+  kept_by : (e : SourceFault) → HandsNext question u (Err e) t → LeavesFault question u t None
+  kept_by e h = subst (LeavesFault question u t) before.unspoilt h.5
 
   pub refused_for : (e : SourceFault) (why : LineFault) → t.fault ≡ Some why
-      → HandsNext kind u (Err e) t → IsRefused kind why
-  refused_for e why is h = refused_behind kind why (left_at t.fault is (left_by e h))
+      → HandsNext question u (Err e) t → IsRefused question why
+  refused_for e why is h = refused_behind question why (kept_at t.fault is (kept_by e h))
     where
-      left_at : (left : Option LineFault) → left ≡ Some why
-          → IsSomeAnd left (IsRefusedAt kind u t.failed) → IsRefusedAt kind u t.failed why
-      left_at left is h = let here : IsSomeAnd (Some why) (IsRefusedAt kind u t.failed) =
-          subst (λ f. IsSomeAnd f (IsRefusedAt kind u t.failed)) is h in here
+      kept_at : (kept_fault : Option LineFault) → kept_fault ≡ Some why
+          → IsSomeAnd kept_fault (IsRefusedAt question u t.failed)
+          → IsRefusedAt question u t.failed why
+      kept_at kept_fault is h = let here : IsSomeAnd (Some why) (IsRefusedAt question u t.failed) =
+          subst (λ f. IsSomeAnd f (IsRefusedAt question u t.failed)) is h in here
 
   -- a refusal leaves a fault
-  pub refused_so : (e : SourceFault) → t.fault ≡ None → HandsNext kind u (Err e) t → ⊥
-  refused_so e none h = gone t.fault none (left_by e h)
+  pub refused_so : (e : SourceFault) → t.fault ≡ None → HandsNext question u (Err e) t → ⊥
+  refused_so e none h = gone t.fault none (kept_by e h)
     where
-      gone : (left : Option LineFault) → left ≡ None
-          → IsSomeAnd left (IsRefusedAt kind u t.failed) → ⊥
-      gone left is h = let here : IsSomeAnd None (IsRefusedAt kind u t.failed) =
-          subst (λ f. IsSomeAnd f (IsRefusedAt kind u t.failed)) is h in here
+      gone : (kept_fault : Option LineFault) → kept_fault ≡ None
+          → IsSomeAnd kept_fault (IsRefusedAt question u t.failed) → ⊥
+      gone kept_fault is h = let here : IsSomeAnd None (IsRefusedAt question u t.failed) =
+          subst (λ f. IsSomeAnd f (IsRefusedAt question u t.failed)) is h in here

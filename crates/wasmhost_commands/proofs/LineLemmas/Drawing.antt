@@ -2,21 +2,21 @@
 use Rattle.std.proofs.Common.{◌≡◌, ℕ, ◌+◌, refl, sym, ap, subst, ◌∙◌}
 use Rattle.wasi_abi.specs.declared.answer.Answer.{Answer}
 use Rattle.wasi_abi.specs.declared.answer.Answer.TheVariants as answer
-use Rattle.wasi_abi.specs.declared.answer.Kind.TheVariants as kinds
+use Rattle.wasi_abi.specs.declared.answer.Question.TheVariants as questions
 use Rattle.wasmhost_commands.specs.rules.Seeds.{seeded_bytes, words_for}
-use Rattle.wasmhost_commands.specs.Lines.Answers.{Standing, TakesOther}
+use Rattle.wasmhost_commands.specs.Lines.Answers.{SourceState, TakesOther}
 use Rattle.wasmhost_commands.proofs.SeedLemmas.{seeded_length, seeded_are_bytes}
 
 -- they fit, and take their words
-pub draws : (n : ℕ) (old new : Standing) (a : Answer)
+pub draws : (n : ℕ) (old new : SourceState) (a : Answer)
     → a ≡ answer.Random (seeded_bytes old.outside.seed old.stream old.place n)
     → new.place ≡ old.place + words_for n → new.taken ≡ old.taken → new.unread ≡ old.unread
-    → TakesOther (kinds.Random n) old a new
+    → TakesOther (questions.Random n) old a new
 draws n old new a is place taken unread =
     let seed = old.outside.seed in
     let stream = old.stream in
     let count = seeded_length seed stream old.place n in
-    let here : TakesOther (kinds.Random n) old
+    let here : TakesOther (questions.Random n) old
     (answer.Random (seeded_bytes seed stream old.place n)) new = record {
       comes = ap (seeded_bytes seed stream old.place) (sym count);
       other = refl;
@@ -28,4 +28,4 @@ draws n old new a is place taken unread =
       taken = taken;
       unread = unread;
     } in
-    subst (λ z. TakesOther (kinds.Random n) old z new) (sym is) here
+    subst (λ z. TakesOther (questions.Random n) old z new) (sym is) here

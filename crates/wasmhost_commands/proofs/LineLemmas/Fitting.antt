@@ -7,7 +7,7 @@ use Rattle.std.specs.Fmt.{decimal}
 use Rattle.std.specs.Io.{StopsAt}
 use Rattle.std.specs.List.{AllByRecursion}
 use Rattle.wasi_abi.specs.declared.answer.Answer.{Answer}
-use Rattle.wasi_abi.specs.declared.answer.Kind.TheVariants as kinds
+use Rattle.wasi_abi.specs.declared.answer.Question.TheVariants as questions
 use Rattle.wasi_abi.specs.rules.Answers.{AreBytes, Fits, IsNoNewline, newline}
 use Rattle.wasmhost_commands.specs.declared.lines.fault.LineFault.{LineFault}
 use Rattle.wasmhost_commands.specs.declared.lines.request.Request.{Request}
@@ -49,16 +49,16 @@ HasBytes (request.End number) = Unit {0}
 -- the answer of a line without a newline fits
 answer_fits : (limit : ℕ) (r : Request) (a : Answer) → a ≡ answer_in r → HasBytes r
     → IsShortRequest limit r → AllByRecursion IsNoNewline (request_line r)
-    → Fits limit kinds.Request a
+    → Fits limit questions.Request a
 answer_fits limit (request.Text number text) a is bytes short free =
     let no_newline = free_back (decimal number ++ codes " r ") text.now free in
-    subst (Fits limit kinds.Request) (sym is)
+    subst (Fits limit questions.Request) (sym is)
     (record { short = short; are_bytes = bytes; no_newline = no_newline })
 answer_fits limit (request.End number) a is bytes short free =
-    subst (Fits limit kinds.Request) (sym is) tt
+    subst (Fits limit questions.Request) (sym is) tt
 
 pub told_fits : (limit : ℕ) (r : Request) (told : Result Answer LineFault)
     → IfOk told (λ a. a ≡ answer_in r) → HasBytes r → IsShortRequest limit r
-    → AllByRecursion IsNoNewline (request_line r) → IfOk told (Fits limit kinds.Request)
+    → AllByRecursion IsNoNewline (request_line r) → IfOk told (Fits limit questions.Request)
 told_fits limit r (Ok a) is bytes short free = answer_fits limit r a is bytes short free
 told_fits limit r (Err fault) is bytes short free = tt

@@ -45,7 +45,7 @@ up_to_on limit before (Some bytes) now kept more P front back =
 none_more : (n : ℕ) → n ≡ n + 0
 none_more n = omega arith
 
--- behind taken requests alone
+-- after taken requests alone
 pub behind_passed : (limit before : ℕ) (lines now : Option (List ℕ)) (more : List Kept) (P : List ℕ
     → Type 0)
     → GiveUpTo limit before lines [] (λ rest. now ≡ Some rest) → GiveUpTo limit before now more P

@@ -20,7 +20,7 @@ appends_both (Some xs) (Some ys) None front rest h k = absurd k
 appends_both (Some xs) (Some ys) (Some zs) front rest h k = k ∙ ap (λ v. v ++ rest) h
     ∙ append_assoc xs front rest
 
--- six texts that were printed one behind the other
+-- six texts that were printed one after the other
 pub appends_six : (a b c d e f g : Option (List ℕ)) (p q r s t u : List ℕ) → Appends a b p
     → Appends b c q → Appends c d r → Appends d e s → Appends e f t → Appends f g u
     → Appends a g (p ++ q ++ r ++ s ++ t ++ u)
@@ -30,7 +30,7 @@ appends_six a b c d e f g p q r s t u h i j k l m =
     (appends_both a d e (p ++ q ++ r) s
     (appends_both a c d (p ++ q) r (appends_both a b c p q h i) j) k) l) m
 
--- two that a printer has printed one behind the other
+-- two that a printer has printed one after the other
 pub prints_both : (a b c : PrinterState) (front rest : List ℕ) → IsPrinted a b front
     → IsPrinted b c rest → IsPrinted a c (front ++ rest)
 prints_both a b c front rest h k =

@@ -137,7 +137,7 @@ read_too_long most limit (Some xs) None line within read free grows = absurd rea
 read_too_long most limit (Some xs) (Some ys) line within read free grows =
     subst (BeginsTooLong most) (sym read) (long_line most limit line ys within free grows)
 
--- bytes behind others are bytes
+-- bytes after others are bytes
 some_behind : (line bytes : List ℕ) → AreSome bytes → AreSome (line ++ bytes)
 some_behind line [] some = absurd (some refl)
 some_behind line (y ∷ ys) some = λ none. let e = ap length none in let long =

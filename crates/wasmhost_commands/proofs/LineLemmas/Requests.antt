@@ -1,4 +1,4 @@
--- A request line: digits, a space, and what is said behind it.
+-- A request line: digits, a space, and what is said after it.
 use Rattle.std.proofs.Common.{◌≡◌, ◌≢◌, sym, ap, ◌∙◌, subst, ◌<◌, ◌≤◌, ◌^◌, ℕ, List, ◌∷◌, ◌++◌, ◌+◌}
 use Rattle.std.proofs.Common.{◌-◌, length, slice_index, codes, arith}
 use Rattle.std.specs.Fmt.{decimal}
@@ -54,7 +54,7 @@ module _ (line front back : List ℕ) (is : line ≡ front ++ 32 ∷ back) where
             ∙ take_all _ back (let long = ap length is ∙ length-append front (32 ∷ back) in
             omega (arith, long))
 
--- what is said behind the number: a text of so many bytes at most, or the end
+-- what is said after the number: a text of so many bytes at most, or the end
 pub data IsSaid (limit : ℕ) : List ℕ → Type 0 where
   of_text : (bytes : List ℕ) → length bytes ≤ limit → IsSaid limit (codes "r " ++ bytes)
   of_end : IsSaid limit (codes "e")

@@ -57,7 +57,7 @@ calm_line (said.Refuse number) draft new e calm =
 calm_line (said.Tears fronts) draft new e calm =
     calm_behind (said.Tears fronts) draft new e calm.lives
 
--- one line more, behind which nothing befalls the last life
+-- one line more, after which nothing befalls the last life
 pub calm_text : (text : List ℕ) (draft new : Draft) → put_text text draft ≡ Some new
     → IsCalm new.life → IsCalmDraft draft → IsCalmDraft new
 calm_text text draft new e last calm = record { lives = by (said_by text) e; life = last }

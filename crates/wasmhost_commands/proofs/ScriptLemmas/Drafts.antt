@@ -33,7 +33,7 @@ abbrev pub put_all_in : List ScriptLine → PlannedLife → Option PlannedLife
 put_all_in [] life = Some life
 put_all_in (line ∷ lines) life = option_and_then (put_all_in lines) (put_in line life)
 
--- a life behind another state of it: what these lines say stands behind what was there
+-- a life after another state of it: what these lines say is after what was there
 pub record IsOnto (start : PlannedLife) (lines : List ScriptLine)
     (life : PlannedLife) : Type 0 where
   pub one_life : flat_map life_said lines ≡ []
@@ -207,7 +207,7 @@ put_one (said.Tears (f ∷ fs)) start mid full e = by start.tears refl e
         absurd (none-some _ (sym (cond-false _ _ _ (ne_eqb (length (t ∷ ts)) 0 (λ z. omega
         (arith, z)))) ∙ e))
 
--- ---- and back: what stands in a life can be put
+-- ---- and back: what is in a life can be put
 
 one_at_most : {A : Type 0} (o : Option A) (a b : A) (l : List A) → option_to_list o ≡ a ∷ b ∷ l → ⊥
 one_at_most None a b l e = cc e

@@ -9,7 +9,7 @@ use denote.Ref.{Bor}
 use Rattle.wasmhost_commands.specs.rules.Pieces.{split_once, lines_of, onto_first_piece, pieces_of}
 use Rattle.wasmhost_commands.specs.rules.Scripts.{each_front, fronts_between, front_spelled}
 
--- the rest behind what was cut
+-- the rest after what was cut
 abbrev pub rest_of : Option (List ℕ) → List ℕ
 rest_of after = unwrap_or after []
 
@@ -71,7 +71,7 @@ none_pieced : (s : ℕ) → pieces_of s [] ≡ [] ∷ []
 unfolding pieces_of
 none_pieced s = refl
 
--- a line, and the lines of what is behind it
+-- a line, and the lines of what is after it
 abbrev line_first : List ℕ × Option (List ℕ) → List (List ℕ)
 line_first cut = cut.0 ∷ lines_of (rest_of cut.1)
 
@@ -106,7 +106,7 @@ rest_within s (x ∷ xs) =
     let less = cut_short (x == s) x xs (split_once s xs) (rest_within s xs) in
     omega (arith, e, less)
 
--- what is behind the first separator is shorter
+-- what is after the first separator is shorter
 pub rest_shorter : (s : ℕ) (xs : List ℕ) → xs ≢ []
     → length (rest_of (split_once s xs).1) < length xs
 rest_shorter s [] some = absurd (some refl)

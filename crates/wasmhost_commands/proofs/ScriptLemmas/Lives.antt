@@ -24,7 +24,7 @@ abbrev pub put_all : List ScriptLine → Draft → Option Draft
 put_all [] draft = Some draft
 put_all (line ∷ lines) draft = option_and_then (put_all lines) (put_line line draft)
 
--- lines fall into what goes on with a life and the lives behind it
+-- lines fall into what goes on with a life and the lives after it
 pub record GoesOnWith (lines : List ScriptLine) (before : List PlannedLife) (start : PlannedLife)
     (draft : Draft) : Type 0 where
   pub own : List ScriptLine

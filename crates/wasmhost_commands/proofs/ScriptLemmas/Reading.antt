@@ -22,7 +22,7 @@ none_put : (draft : Draft) → put_texts [] draft ≡ Some draft
 unfolding put_texts
 none_put draft = refl
 
--- one text behind others
+-- one text after others
 put_behind : (texts : List (List ℕ)) (text : List ℕ) (draft : Draft)
     → put_texts (texts ++ text ∷ []) draft
     ≡ option_and_then (put_text text) (put_texts texts draft)
@@ -46,20 +46,20 @@ pub record HasPut (text : List ℕ) (from : Draft) (number : ℕ) (rest : List �
     (now : Draft) : Type 0 where
   pub within : number + length rest ≤ length text
   pub put : put_texts (take number (lines_of text)) from ≡ Some now
-  pub left : drop number (lines_of text) ≡ lines_of rest
+  pub lines_left : drop number (lines_of text) ≡ lines_of rest
 
 pub begun_putting : (text : List ℕ) (from : Draft) → HasPut text from 0 text from
 begun_putting text from = record {
   within = omega arith;
   put = none_put from;
-  left = refl;
+  lines_left = refl;
 }
 
 -- all lines were put
 pub all_put : (text : List ℕ) (from now : Draft) (number : ℕ) (rest : List ℕ)
     → HasPut text from number rest now → rest ≡ [] → put_texts (lines_of text) from ≡ Some now
 all_put text from now number rest has none =
-    let nothing = has.left ∙ ap lines_of none ∙ none_lined in
+    let nothing = has.lines_left ∙ ap lines_of none ∙ none_lined in
     ap (λ l. put_texts l from) (sym (take-append-drop number (lines_of text))
     ∙ ap (λ l. take number (lines_of text) ++ l) nothing ∙ append-nil (take number (lines_of text)))
     ∙ has.put
@@ -69,7 +69,7 @@ module _ (text : List ℕ) (from now : Draft) (number : ℕ) (rest line behind :
     (shorter : length behind < length rest) where
   one : (take (number + 1) (lines_of text) ≡ take number (lines_of text) ++ line ∷ [])
       × (drop (number + 1) (lines_of text) ≡ lines_of behind) × (number < length (lines_of text))
-  one = one_more number (lines_of text) line (lines_of behind) (has.left ∙ cut)
+  one = one_more number (lines_of text) line (lines_of behind) (has.lines_left ∙ cut)
 
   comes : put_texts (take (number + 1) (lines_of text)) from ≡ put_text line now
   comes = ap (λ l. put_texts l from) one.0
@@ -81,7 +81,7 @@ module _ (text : List ℕ) (from now : Draft) (number : ℕ) (rest line behind :
   next_put next is = record {
     within = (let w = has.within in omega (arith, w, shorter));
     put = comes ∙ is;
-    left = one.1;
+    lines_left = one.1;
   }
 
   pub stops_at : put_text line now ≡ None → StopsReading (lines_of text) from (number + 1)

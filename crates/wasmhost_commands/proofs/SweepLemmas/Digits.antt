@@ -13,22 +13,22 @@ pub record HasSpelled (digits : List ℕ) (i : ℕ) (before now : Option (List �
   pub written : Appends before now text
   pub whole : text ++ grouped (drop i digits) ≡ grouped digits
 
--- one digit more, and what comes behind it
-pub digit_more : (digits : List ℕ) (i digit left : ℕ) (before now mid next : Option (List ℕ))
-    → i < length digits → digit ≡ get_or digits i 0 → left + (i + 1) ≡ length digits
+-- one digit more, and what comes after it
+pub digit_more : (digits : List ℕ) (i digit digits_left : ℕ) (before now mid next : Option (List ℕ))
+    → i < length digits → digit ≡ get_or digits i 0 → digits_left + (i + 1) ≡ length digits
     → HasSpelled digits i before now → Appends now mid (digit ∷ [])
-    → Appends mid next (comma_before left) → HasSpelled digits (i + 1) before next
-digit_more digits i digit left before now mid next within is count has first comma =
+    → Appends mid next (comma_before digits_left) → HasSpelled digits (i + 1) before next
+digit_more digits i digit digits_left before now mid next within is count has first comma =
     let rest = drop (i + 1) digits in
-    let one = digit ∷ comma_before left in
-    let behind : left ≡ length rest = omega (arith, count, length-drop (i + 1) digits) in
+    let one = digit ∷ comma_before digits_left in
+    let behind : digits_left ≡ length rest = omega (arith, count, length-drop (i + 1) digits) in
     let whole : drop i digits ≡ digit ∷ rest =
     drop_more digits i 0 within ∙ ap (λ (d : ℕ). d ∷ rest) (sym is) in
     record {
       text = has.text ++ one;
       written =
           appends_both before now next has.text one has.written
-          (appends_both now mid next (digit ∷ []) (comma_before left) first comma);
+          (appends_both now mid next (digit ∷ []) (comma_before digits_left) first comma);
       whole =
           append_assoc has.text one (grouped rest)
           ∙ ap (λ (n : ℕ). has.text ++ ((digit ∷ comma_before n) ++ grouped rest)) behind
@@ -43,7 +43,7 @@ digits_spelled digits i before now past has =
     subst (Appends before now)
     (sym (append-nil has.text) ∙ ap (λ l. has.text ++ l) (sym nothing) ∙ has.whole) has.written
 
--- five texts, one behind the other
+-- five texts, one after the other
 pub appends_five : (a b c d e f : Option (List ℕ)) (p q r s t : List ℕ) → Appends a b p
     → Appends b c q → Appends c d r → Appends d e s → Appends e f t
     → Appends a f (p ++ q ++ r ++ s ++ t)

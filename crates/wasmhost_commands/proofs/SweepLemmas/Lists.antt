@@ -14,7 +14,7 @@ pub taken_more : {X : Type 0} (xs : List X) (i : ℕ) (x : X) → i < length xs 
 taken_more {X} xs i x within is =
     take_more xs i x within ∙ ap (λ (y : X). take i xs ++ y ∷ []) (sym is)
 
--- the same behind other items
+-- the same after other items
 pub pushed_more : {X : Type 0} (old xs : List X) (i : ℕ) (x : X) → i < length xs
     → x ≡ get_or xs i x → (old ++ take i xs) ++ x ∷ [] ≡ old ++ take (i + 1) xs
 pushed_more old xs i x within is =
@@ -46,5 +46,5 @@ pub all_answers : (list : List Answer) (lives : List PlannedLife) (i : ℕ)
     → list ++ answers_not_lost (drop i lives) later ≡ all → list ≡ all
 all_answers list lives i later all past so_far =
     sym (append-nil list)
-    ∙ ap (λ (ls : List PlannedLife). list ++ answers_not_lost ls later) (sym (drop_all i lives past))
-    ∙ so_far
+    ∙ ap (λ (ls : List PlannedLife). list ++ answers_not_lost ls later)
+    (sym (drop_all i lives past)) ∙ so_far

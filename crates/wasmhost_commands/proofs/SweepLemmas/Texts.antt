@@ -7,17 +7,18 @@ use Rattle.std.specs.List.{All, Contains}
 use Rattle.std.proofs.lemmas.List.Elements.{All-nil, All-push, All-weaker, Contains-append_left}
 use Rattle.std.proofs.lemmas.List.Elements.{Contains-push}
 use Rattle.std.proofs.lemmas.Option.{none-some, same_Some}
+use Rattle.wasi_calls_rules.specs.declared.output_stream.OutputStream.{OutputStream}
 use Rattle.record_replay.specs.declared.line_list.NumberedLine.{NumberedLine}
 use Rattle.wasmhost_commands.specs.rules.Sweeps.{AreTextsOf}
 
-abbrev pub line_of : ℕ → ℕ → List ℕ → NumberedLine
+abbrev pub line_of : ℕ → OutputStream → List ℕ → NumberedLine
 line_of number stream text = record { number = number; stream = stream; text = text }
 
 pub same_line : (a b : NumberedLine) → a.number ≡ b.number → a.stream ≡ b.stream
     → a.text ≡ b.text → a ≡ b
 same_line a b number stream text =
     ap (λ (n : ℕ). line_of n a.stream a.text) number
-    ∙ ap (λ (s : ℕ). line_of b.number s a.text) stream
+    ∙ ap (λ (s : OutputStream). line_of b.number s a.text) stream
     ∙ ap (λ (t : List ℕ). line_of b.number b.stream t) text
 
 get_front : {X : Type 0} (xs ys : List X) (k : ℕ) (x : X) → slice_get xs k ≡ Some x

@@ -19,7 +19,7 @@ pub passed_none : (words : List Text) → HasPassed words 0
 passed_none words = record { within = omega arith; front = refl; back = refl }
 
 module _ (words : List Text) (at : ℕ) (passed : HasPassed words at) where
-  -- the next word, and those behind it
+  -- the next word, and those after it
   next : (d : Text) → at < length words → drop at words ≡ get_or words at d ∷ drop (at + 1) words
   next d more = drop_more words at d more
 

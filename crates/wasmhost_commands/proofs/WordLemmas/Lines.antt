@@ -62,7 +62,7 @@ defaults_good (a ∷ c) rows h good =
 unused : (rows : List Row) → Each IsGood rows → Each IsGood rows
 unused rows good = good
 
--- for the flag a no stands
+-- for the flag a no is
 no_rewrite : (rows : List Row) → Each IsGood rows
     → Each IsGood (with_values (codes "rewrite") AsWritten DefaultValue (codes "false" ∷ []) rows)
 no_rewrite rows good =
@@ -149,7 +149,7 @@ two_paths name first second rows good e =
 abbrev app : App
 app = built wasmhost
 
--- what a subcommand that the word names makes of the words behind it
+-- what a subcommand that the word names makes of the words after it
 abbrev Leads : Text → List Text → Shape → Type 0
 Leads name words s = answers_to name (label_of s) ≡ true
     → level_fault s [] nothing_held words false [] ≡ [] → IsTaken (rows_at s words)
@@ -232,7 +232,10 @@ module _ (name : Text) (words : List Text) (no_help : bytes_eq name (codes "help
                         good e,
                   ))))))) e,
               (
-                λ here e. below_taken _ words (keeps_path 1 (codes "DISK") (λ v. tt), (keeps_help, tt))
+                λ here e. below_taken _ words (
+                  keeps_path 1 (codes "DISK") (λ v. tt),
+                  (keeps_help, tt),
+                )
                     (unused, (unused, tt))
                     (λ rows good e. inr (inr (inr (inr (inr (inr (inl (
                       refl,
@@ -274,8 +277,19 @@ module _ (name : Text) (words : List Text) (no_help : bytes_eq name (codes "help
                           ),
                         ),
                       ),
+                    ) (
+                      unused,
+                      (
+                        unused,
+                        (
+                          unused,
+                          (
+                            unused,
+                            (unused, (unused, (unused, (unused, tt)))),
+                          ),
+                        ),
+                      ),
                     )
-                        (unused, (unused, (unused, (unused, (unused, (unused, (unused, (unused, tt))))))))
                         (λ rows good e. inr (inr (inr (inr (inr (inr (inr (inr (two_paths
                         (codes "sweep") (codes "SCRIPT") (codes "MODULE") rows good e))))))))) e,
                     (λ here e. absurd (is_help (or_false (bytes_eq (codes "help") name) here)), tt),
@@ -433,7 +447,8 @@ taken_means arguments name rows taken = elim taken.0 [
                 (sym p.0) (path_means (λ d. files d (first_of (codes "PATH") rows)) (disk_in rows)
                 p.1 (λ path. tt))
             | inr kept ↦ elim kept [
-              | inl p ↦ subst (λ (t : Text). IsSomeAnd (meaning_below arguments (t, rows)) NumbersFit)
+              | inl p ↦ subst (λ (t : Text). IsSomeAnd (meaning_below arguments
+                  (t, rows)) NumbersFit)
                   (sym p.0) (path_means upgrade (disk_in rows) p.1 (λ path. tt))
               | inr scripts ↦ scripts_mean arguments name rows taken.1 scripts
             ]

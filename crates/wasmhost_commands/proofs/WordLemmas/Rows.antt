@@ -85,7 +85,7 @@ more_good source values r good =
       tt,
     )
 
--- a use with one value, behind those before it
+-- a use with one value, after those before it
 pub added_good : (source : ValueSource) (id v : Text) (rows : List Row) → Passes id v
     → Each IsGood rows → Each IsGood (with_values id AsWritten source (v ∷ []) rows)
 added_good source id v rows passes good =

@@ -3,8 +3,8 @@ use Rattle.std.specs.Prelude.{◌≡◌, ℕ, ◌+◌, ◌<◌, ◌≤◌, ◌^�
 use Rattle.std.specs.Prelude.{Some, None, Result, Ok, Err}
 use Rattle.std.specs.Option.{IsSomeAnd}
 use Rattle.wasi_abi.specs.declared.answer.Answer.{Answer}
-use Rattle.wasi_abi.specs.declared.answer.Kind.{Kind}
-use Rattle.wasi_abi.specs.declared.answer.Kind.TheVariants as kinds
+use Rattle.wasi_abi.specs.declared.answer.Question.{Question}
+use Rattle.wasi_abi.specs.declared.answer.Question.TheVariants as questions
 use Rattle.wasi_abi.specs.rules.Answers.{Fits}
 use Rattle.process_rules.specs.Runs.{Kept, Given}
 use Rattle.record_replay.specs.declared.fault.SourceFault.{SourceFault}
@@ -20,7 +20,7 @@ use Rattle.wasmhost_commands.specs.Lines.Reads.{AreSome, IsFaultOfReading}
 pub record IsNext (limit taken : ℕ) (old : Option (List ℕ)) (a : Answer) (taken' : ℕ)
     (new : Option (List ℕ)) : Type 0 where
   pub given : GiveUpTo limit taken old (Given a ∷ []) (λ rest. new ≡ Some rest)
-  pub fits : Fits limit kinds.Request a
+  pub fits : Fits limit questions.Request a
   pub counted : taken' ≡ taken + 1
   pub few : taken' < 2 ^ 63
 
@@ -30,8 +30,8 @@ FindsNext limit taken old (Some a) taken' new = IsNext limit taken old a taken' 
 FindsNext limit taken old None taken' new = (taken' ≡ taken)
     × GiveUpTo limit taken old [] (λ rest. (rest ≡ []) × (new ≡ Some rest))
 
--- Why no answer comes behind these answers. The next line is of a later request than the wanted
--- one; or it is no request line; the reader has failed; or memory is wanting.
+-- Why no answer comes after these answers. The next line is of a later request than the wanted one;
+-- or it is no request line; the reader has failed; or memory is wanting.
 abbrev pub MissesNext : ℕ → ℕ → Option (List ℕ) → List Kept → Bool → Bool → LineFault → Type 0
 MissesNext limit before lines kept failed failed' (fault.Number given wanted) =
     (wanted ≡ before + length kept + 1) × (wanted < given)
@@ -42,10 +42,10 @@ MissesNext limit before lines kept failed failed' why =
 
 -- ---- all that is asked for
 
--- Where a source stands: how many bytes the text of a request may have, which stream of the seed it
+-- Where a source is: how many bytes the text of a request may have, which stream of the seed it
 -- takes words of, how many requests and how many words it took, the bytes that are still to come,
 -- whether a read of them has failed, and why it refuses, if it does.
-pub record Standing : Type 0 where
+pub record SourceState : Type 0 where
   pub outside : Outside
   pub limit : ℕ
   pub stream : ℕ
@@ -55,9 +55,9 @@ pub record Standing : Type 0 where
   pub failed : Bool
   pub fault : Option LineFault
 
-abbrev pub standing : Outside → ℕ → ℕ → ℕ → ℕ → Option (List ℕ) → Bool → Option LineFault
-    → Standing
-standing outside limit stream taken place unread failed fault = record {
+abbrev pub source_state : Outside → ℕ → ℕ → ℕ → ℕ → Option (List ℕ) → Bool → Option LineFault
+    → SourceState
+source_state outside limit stream taken place unread failed fault = record {
   outside = outside;
   limit = limit;
   stream = stream;
@@ -81,57 +81,60 @@ IsWordless place n why = ⊥
 
 -- Why a question is refused, where these requests and so many words were taken: the next request
 -- isn't to be had, or there is no clock, or there are no random bytes.
-abbrev pub IsRefusedFor : Kind → Outside → ℕ → ℕ → ℕ → Option (List ℕ) → List Kept → Bool → Bool
+abbrev pub IsRefusedFor : Question → Outside → ℕ → ℕ → ℕ → Option (List ℕ) → List Kept → Bool → Bool
     → LineFault → Type 0
-IsRefusedFor kinds.Request outside limit place before lines kept failed failed' why =
+IsRefusedFor questions.Request outside limit place before lines kept failed failed' why =
     MissesNext limit before lines kept failed failed' why
-IsRefusedFor kinds.Realtime outside limit place before lines kept failed failed' why =
+IsRefusedFor questions.Realtime outside limit place before lines kept failed failed' why =
     IsClockless outside why × (failed' ≡ failed)
-IsRefusedFor kinds.Monotonic outside limit place before lines kept failed failed' why =
+IsRefusedFor questions.Monotonic outside limit place before lines kept failed failed' why =
     IsClockless outside why × (failed' ≡ failed)
-IsRefusedFor (kinds.Random n) outside limit place before lines kept failed failed' why =
+IsRefusedFor (questions.Random n) outside limit place before lines kept failed failed' why =
     IsWordless place n why × (failed' ≡ failed)
 
--- why one that stands there refuses
-abbrev pub IsRefusedAt : Kind → Standing → Bool → LineFault → Type 0
-IsRefusedAt kind old failed' why =
-    IsRefusedFor kind old.outside old.limit old.place old.taken old.unread [] old.failed failed' why
+-- why one that is there refuses
+abbrev pub IsRefusedAt : Question → SourceState → Bool → LineFault → Type 0
+IsRefusedAt question old failed' why =
+    IsRefusedFor question old.outside old.limit old.place old.taken old.unread []
+    old.failed failed' why
 
 -- the first fault stays, and where there was none there is one now
-abbrev pub LeavesFault : Kind → Standing → Standing → Option LineFault → Type 0
-LeavesFault kind old new (Some first) = (new.fault ≡ Some first) × (new.failed ≡ old.failed)
-LeavesFault kind old new None = IsSomeAnd new.fault (IsRefusedAt kind old new.failed)
+abbrev pub LeavesFault : Question → SourceState → SourceState → Option LineFault → Type 0
+LeavesFault question old new (Some first) = (new.fault ≡ Some first) × (new.failed ≡ old.failed)
+LeavesFault question old new None = IsSomeAnd new.fault (IsRefusedAt question old new.failed)
 
 -- An answer that no request line gives. It fits, and takes its words of the seed.
-pub record TakesOther (kind : Kind) (old : Standing) (a : Answer) (new : Standing) : Type 0 where
+pub record TakesOther (question : Question) (old : SourceState) (a : Answer) (new : SourceState)
+    : Type 0 where
   pub comes : ComesFrom old.outside old.stream old.place a
   pub other : request_in a ≡ []
-  pub fits : (limit : ℕ) → Fits limit kind a
+  pub fits : (limit : ℕ) → Fits limit question a
   pub place : new.place ≡ old.place + words_in a
   pub taken : new.taken ≡ old.taken
   pub unread : new.unread ≡ old.unread
 
 -- Requests are answered one by one, in the order of their numbers. There is always an answer to
 -- another question.
-abbrev pub Finds : Kind → Standing → Option Answer → Standing → Type 0
-Finds kinds.Request old found new =
+abbrev pub Finds : Question → SourceState → Option Answer → SourceState → Type 0
+Finds questions.Request old found new =
     (new.place ≡ old.place) × FindsNext old.limit old.taken old.unread found new.taken new.unread
-Finds kind old (Some a) new = TakesOther kind old a new
-Finds kind old None new = ⊥
+Finds question old (Some a) new = TakesOther question old a new
+Finds question old None new = ⊥
 
-pub record HandsAnswer (kind : Kind) (old : Standing) (answered : Option Answer) (new : Standing) :
-    Type 0 where
+pub record HandsAnswer (question : Question) (old : SourceState) (answered : Option Answer)
+    (new : SourceState) : Type 0 where
   pub same : new.outside ≡ old.outside
   pub same_limit : new.limit ≡ old.limit
   pub same_stream : new.stream ≡ old.stream
   pub unfailed : old.fault ≡ None
   pub unspoilt : new.fault ≡ None
   pub steady : new.failed ≡ old.failed
-  pub finds : Finds kind old answered new
+  pub finds : Finds question old answered new
 
 -- A refusal takes nothing, and leaves its fault. Then all is refused.
-abbrev pub HandsNext : Kind → Standing → Result (Option Answer) SourceFault → Standing → Type 0
-HandsNext kind old (Ok answered) new = HandsAnswer kind old answered new
-HandsNext kind old (Err e) new = (new.outside ≡ old.outside) × (new.stream ≡ old.stream)
+abbrev pub HandsNext : Question → SourceState → Result (Option Answer) SourceFault
+    → SourceState → Type 0
+HandsNext question old (Ok answered) new = HandsAnswer question old answered new
+HandsNext question old (Err e) new = (new.outside ≡ old.outside) × (new.stream ≡ old.stream)
     × (new.taken ≡ old.taken) × (new.place ≡ old.place) × (new.limit ≡ old.limit)
-    × LeavesFault kind old new old.fault
+    × LeavesFault question old new old.fault

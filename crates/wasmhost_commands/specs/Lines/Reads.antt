@@ -29,7 +29,7 @@ pub record MovesPiece (old new : Option (List ℕ)) (line line' : List ℕ) (don
 abbrev pub AreSome : List ℕ → Type 0
 AreSome bytes = bytes ≢ []
 
--- a reader's error is want of memory where it says so, and else a failed read
+-- a reader's error is out of memory where it says so, and else a failed read
 abbrev pub IsFaultOfRead : ErrorKind → LineFault → Type 0
 IsFaultOfRead kind told = ((kind ≡ OutOfMemory) × (told ≡ fault.Memory))
     ⊎ ((kind ≢ OutOfMemory) × (told ≡ fault.Read))
@@ -46,8 +46,8 @@ IsFaultOfReading bad some failed failed' fault.Clock = ⊥
 IsFaultOfReading bad some failed failed' fault.Words = ⊥
 IsFaultOfReading bad some failed failed' (fault.Number given wanted) = ⊥
 
--- Bytes in front of these, with no newline but at their end, bring a line to the limit, behind
--- those that were read of it.
+-- Bytes in front of these, with no newline but at their end, bring a line to the limit, after those
+-- that were read of it.
 pub record GrowsTooLong (limit : ℕ) (line bytes : List ℕ) : Type 0 where
   pub piece : List ℕ
   pub front : StartsWith bytes piece

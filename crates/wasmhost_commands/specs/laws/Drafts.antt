@@ -32,7 +32,7 @@ draft_start = record { lives = []; life = empty_life; is_begun = false }
 abbrev pub lives_so_far : Draft → List PlannedLife
 lives_so_far draft = if draft.is_begun then draft.lives ++ draft.life ∷ [] else draft.lives
 
--- no life is begun behind those so far
+-- no life is begun after those so far
 abbrev pub ended : Draft → Draft
 ended draft = record { lives = lives_so_far draft; life = empty_life; is_begun = false }
 
@@ -41,7 +41,7 @@ pub record IsCalmDraft (draft : Draft) : Type 0 where
   pub lives : All IsCalm draft.lives
   pub life : IsCalm draft.life
 
--- a life with one line more, if that may stand there
+-- a life with one line more, if that may be there
 abbrev pub put_in : ScriptLine → PlannedLife → Option PlannedLife
 put_in said.Life life = None
 put_in (said.Answer answer) life = Some (record {
@@ -102,7 +102,7 @@ abbrev pub put_behind : ScriptLine → Draft → Option Draft
 put_behind line draft =
     if draft.is_begun then option_map (with_life draft) (put_in line draft.life) else None
 
--- a draft with one line more, if that may stand there
+-- a draft with one line more, if that may be there
 abbrev pub put_line : ScriptLine → Draft → Option Draft
 put_line said.Life draft =
     Some (record { lives = lives_so_far draft; life = empty_life; is_begun = true })
@@ -113,7 +113,7 @@ put_line (said.Fail place) draft = put_behind (said.Fail place) draft
 put_line (said.Refuse number) draft = put_behind (said.Refuse number) draft
 put_line (said.Tears fronts) draft = put_behind (said.Tears fronts) draft
 
--- what a line's text puts behind a draft
+-- what a line's text puts after a draft
 abbrev pub put_text : List ℕ → Draft → Option Draft
 put_text text draft = option_and_then (λ line. put_line line draft) (said_by text)
 
@@ -122,7 +122,7 @@ abbrev pub Comes : {A : Type 0} → Bool → Option A → A → Type 0
 Comes true made new = made ≡ Some new
 Comes false made new = made ≡ None
 
--- what these texts put behind a draft, one after another
+-- what these texts put after a draft, one after another
 unfoldable pub put_texts : List (List ℕ) → Draft → Option Draft
 put_texts [] draft = Some draft
 put_texts (text ∷ texts) draft = option_and_then (put_texts texts) (put_text text draft)
@@ -134,7 +134,7 @@ pub record StopsReading (texts : List (List ℕ)) (draft : Draft) (number : ℕ)
   pub before : IsSome (put_texts (take (number - 1) texts) draft)
   pub stops : put_texts (take number texts) draft ≡ None
 
--- a fault names the first line that could not be put, or is want of memory
+-- a fault names the first line that could not be put, or is out of memory
 abbrev pub IsReadingFault : List (List ℕ) → Draft → ScriptFault → Type 0
 IsReadingFault texts draft (fault.Line number) = StopsReading texts draft number
 IsReadingFault texts draft fault.Memory = Unit {0}

@@ -10,7 +10,7 @@ use Rattle.wasmhost_commands.specs.rules.Commands.{StoryMeaning, faults_in_words
 use Rattle.wasmhost_commands.specs.rules.Commands.{own_words, run, show, story}
 use Rattle.wasmhost_commands.specs.rules.Commands.{SweepMeaning, files, inspect, sweep, upgrade}
 
--- the program's name, and words behind it
+-- the program's name, and words after it
 abbrev pub line : List Text → List Text
 line words = codes "wasmhost" ∷ words
 

@@ -1,6 +1,6 @@
--- Where the process of a worker stands when a call of it has failed (this project's own).
+-- Where the process of a worker is when a call of it has failed (this project's own).
 use Rattle.std.specs.Prelude.{◌≡◌, ℕ, suc, ◌+◌, ⊤, List, [], ◌∷◌, ◌++◌, length}
-use Rattle.wasi_calls_rules.specs.Hosts.{Line}
+use Rattle.wasi_calls_rules.specs.WasiStates.{Line}
 use Rattle.process_rules.specs.Processes.{ProcessState, Guest}
 use Rattle.process.specs.rules.Values.{ProcessValue, ShowsProcess}
 use Rattle.record_replay.specs.rules.Calls.{Giving, Taking, Exchange, Exchanges, Releases}
@@ -21,7 +21,7 @@ steps_among (Checkpoint ∷ acts) = steps_among acts
 steps_among (Upgrade ∷ acts) = steps_among acts
 
 -- A slice of this fuel has failed there, as its own clause says. Or it has answered there, when no
--- line waits, and the checkpoint behind it has failed (by what, `CallsInOrder` says).
+-- line waits, and the checkpoint after it has failed (by what, `CallsInOrder` says).
 pub data IsBrokenAt (guest : Guest) (p : ProcessState) (fuel : ℕ) (exchanges : List Exchange)
     (steps : ℕ) (q : ProcessState) (why : WorkFault) : Type 0 where
   in_slice : IsDiskCause guest p fuel exchanges steps q why
@@ -43,7 +43,7 @@ module _ {S O : Type 0} (gives : Giving S) (takes : Taking O) (guest : Guest) (p
     pub shows : ShowsProcess new guest process
 
   -- Slices have led the process to where the last one began, by all of their steps. From there the
-  -- last one has led it to where that slice, or the checkpoint behind it, has failed.
+  -- last one has led it to where that slice, or the checkpoint after it, has failed.
   pub record BreaksOff (fuel all : ℕ) (why : WorkFault) : Type 0 where
     pub front : List Exchange
     pub answered : AreAnswered front
@@ -58,12 +58,24 @@ module _ {S O : Type 0} (gives : Giving S) (takes : Taking O) (guest : Guest) (p
     pub broken : IsBrokenAt guest begun fuel back more process why
     pub counted : steps + fuel ≡ all
 
+  -- so it is, and the last slice itself has failed
+  pub record BreaksInSlice (fuel all : ℕ) (why : WorkFault) : Type 0 where
+    pub broken : BreaksOff fuel all why
+    pub cause : IsDiskCause guest broken.begun fuel broken.back broken.more broken.process why
+
 -- so it is whichever process the worker showed
 abbrev pub BreaksOffFrom : {S O : Type 0} → Giving S → Taking O → ProcessValue → ℕ → ℕ
     → WorkFault → S → S → O → O → Type 0
 BreaksOffFrom gives takes old fuel all why source source' outlet outlet' =
     (guest : Guest) (p : ProcessState) → ShowsProcess old guest p
     → BreaksOff gives takes guest p source source' outlet outlet' fuel all why
+
+-- so it is where the slice itself has failed
+abbrev pub BreaksInSliceFrom : {S O : Type 0} → Giving S → Taking O → ProcessValue → ℕ → ℕ
+    → WorkFault → S → S → O → O → Type 0
+BreaksInSliceFrom gives takes old fuel all why source source' outlet outlet' =
+    (guest : Guest) (p : ProcessState) → ShowsProcess old guest p
+    → BreaksInSlice gives takes guest p source source' outlet outlet' fuel all why
 
 -- ---- lines
 

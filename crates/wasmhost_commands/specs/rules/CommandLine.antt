@@ -15,7 +15,7 @@ use Rattle.clap.specs.declared.builder.value_parser.ValueParser.TheVariants.{Uns
 abbrev pub path_rule : Text → Rule
 path_rule name = record (new_rule name) { required = true; action = Some Set }
 
--- an argument that may be given, behind those that have to be
+-- an argument that may be given, after those that have to be
 abbrev pub last_rule : Text → Rule
 last_rule name = record (new_rule name) { action = Some Set }
 

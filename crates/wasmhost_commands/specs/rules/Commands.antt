@@ -36,7 +36,7 @@ abbrev pub before_dashes : List Text → List Text
 before_dashes [] = []
 before_dashes (word ∷ words) = if bytes_eq word (codes "--") then [] else word ∷ before_dashes words
 
--- and those behind it
+-- and those after it
 abbrev pub behind_dashes : List Text → List Text
 behind_dashes [] = []
 behind_dashes (word ∷ words) = if bytes_eq word (codes "--") then words else behind_dashes words
@@ -168,7 +168,7 @@ meaning_of (Upgrade path) = upgrade path.now
 meaning_of (Story order) = story (story_said order)
 meaning_of (Sweep order) = sweep (sweep_said order)
 
--- ---- what stands behind a command
+-- ---- what is behind a command
 
 -- the number that a text spells in decimal digits
 abbrev pub spelled_number : Text → ℕ
@@ -202,9 +202,8 @@ script_in = first_of (codes "SCRIPT")
 abbrev pub environment_in : List Row → List Text
 environment_in rows = unwrap_or (all_of (codes "env") rows) []
 
--- What a creation means with these paths, the rows of what stands before `--`, and the words
--- behind it. Where no number is given, there are 16 pages, 16 units of files and 256 sectors of the
--- journal.
+-- What a creation means with these paths, the rows of what is before `--`, and the words after it.
+-- Where no number is given, there are 16 pages, 16 units of files and 256 sectors of the journal.
 abbrev pub create_in : List Row → List Text → Text → Text → CreateMeaning
 create_in rows arguments disk wasm = record {
   disk = disk;
@@ -217,8 +216,8 @@ create_in rows arguments disk wasm = record {
   arguments = arguments;
 }
 
--- What a run means with this path and the rows of what stands behind it. Where no number is given,
--- there are 100,000 steps a slice, and a checkpoint after each 100 slices.
+-- What a run means with this path and the rows of what is after it. Where no number is given, there
+-- are 100,000 steps a slice, and a checkpoint after each 100 slices.
 abbrev pub run_in : List Row → Text → RunMeaning
 run_in rows disk = record {
   disk = disk;
@@ -230,8 +229,8 @@ run_in rows disk = record {
   status = first_of (codes "status") rows;
 }
 
--- What a story means with these paths and the rows of what stands behind its word. Where no number
--- is given, there are 1 page, 1 unit of files and 64 sectors of the journal.
+-- What a story means with these paths and the rows of what is after its word. Where no number is
+-- given, there are 1 page, 1 unit of files and 64 sectors of the journal.
 abbrev pub story_in : List Row → Text → Text → StoryMeaning
 story_in rows script wasm = record {
   script = script;
@@ -241,7 +240,7 @@ story_in rows script wasm = record {
   journal = number_or (codes "journal") 64 rows;
 }
 
--- what a sweep means with these paths and the rows of what stands behind its word
+-- what a sweep means with these paths and the rows of what is after its word
 abbrev pub sweep_in : List Row → Text → Text → SweepMeaning
 sweep_in rows script wasm = record {
   script = script;
@@ -268,7 +267,7 @@ abbrev pub sweep_below : List Row → Option Meaning
 sweep_below rows = option_and_then (λ script. option_map (λ wasm.
     sweep (sweep_in rows script wasm)) (module_in rows)) (script_in rows)
 
--- what each command means, with the rows of what stands behind it, and the words behind `--`
+-- what each command means, with the rows of what is after it, and the words after `--`
 abbrev pub meaning_below : List Text → Text × List Row → Option Meaning
 meaning_below arguments met =
     if bytes_eq met.0 (codes "check") then option_map check (module_in met.1)
@@ -291,7 +290,7 @@ meaning_in words = option_and_then (meaning_below (guest_words words))
     (subcommand_of wasmhost (own_words words))
 
 -- a fault of the words that the command reads: a mistake, or a call for help, of a kind that is
--- listed for them; or want of memory
+-- listed for them; or out of memory
 abbrev pub IsFaultOf : List Text → WordsFault → Type 0
 IsFaultOf words (fault.Words told) = IsAmong (kind_of told) (fault_of wasmhost words)
     × (takes wasmhost words ≡ true → ⊥)
@@ -362,12 +361,12 @@ IsTaken met = HasPaths met.0 met.1 × TakesOptions met.1
 abbrev pub IsAskedFor : Error → Type 0
 IsAskedFor told = (kind_of told ≡ kind.DisplayHelp) ⊎ (kind_of told ≡ kind.DisplayVersion)
 
--- want of memory is told apart
+-- out of memory is told apart
 abbrev pub IsWordsFault : Error → WordsFault → Type 0
 IsWordsFault told (fault.Words kept) = (kept ≡ told) × (kind_of told ≢ kind.OutOfMemory)
 IsWordsFault told fault.Memory = kind_of told ≡ kind.OutOfMemory
 
--- help is done, a mistake is 2, and want of memory 5
+-- help is done, a mistake is 2, and out of memory 5
 abbrev pub IsStatusOf : WordsFault → ℕ → Type 0
 IsStatusOf (fault.Words told) status = ((status ≡ 0) × IsAskedFor told)
     ⊎ ((status ≡ 2) × (IsAskedFor told → ⊥))

@@ -5,7 +5,8 @@ use Rattle.std.specs.Fmt.{decimal}
 use Rattle.std.specs.Io.KnownBytes.{Appends}
 use Rattle.wasi_abi.specs.rules.Configs.{Settings, settings, AreSettingsWithinLimits, HasTexts}
 use Rattle.wasi_abi.specs.rules.Configs.{IsInRange}
-use Rattle.machine_loader.specs.rules.Acceptance.{HasAcceptedModule, HasNoAcceptedModule, IsTold}
+use Rattle.machine_loader.specs.rules.Acceptance.{HasAcceptedModule, HasNoAcceptedModule}
+use Rattle.machine_loader.specs.rules.Acceptance.{IsReported}
 use Rattle.machine_loader.specs.rules.Acceptance.{is_want, passed_in}
 use Rattle.wasm_decode.specs.declared.items.limit.PassedLimit.{PassedLimit}
 use Rattle.sector_disk.specs.rules.Medium.{Medium, spare}
@@ -54,7 +55,7 @@ abbrev pub IsUnaccepted : ℕ → List ℕ → Unprepared → Type 0
 IsUnaccepted pages bytes (unprepared.Range bound) = ⊥
 IsUnaccepted pages bytes unprepared.Text = ⊥
 IsUnaccepted pages bytes (unprepared.Module why) =
-    (is_want why ≡ false) × IsTold pages bytes why × HasNoAcceptedModule pages bytes
+    (is_want why ≡ false) × IsReported pages bytes why × HasNoAcceptedModule pages bytes
 IsUnaccepted pages bytes unprepared.Memory = ⊤
 
 -- a configuration with the sectors of its worker, or why there is none
@@ -99,7 +100,7 @@ created_line sectors = codes "created " ++ decimal sectors ++ codes " sectors\n"
 
 -- The worker of these bytes and this configuration is created on the disk, and how many sectors it
 -- has was printed.
-pub record IsCreatedAndTold (bytes : List ℕ) (config : Settings)
+pub record IsCreatedAndPrinted (bytes : List ℕ) (config : Settings)
     (answer : Result DurableValue WorkFault) (disk : Medium) (out out' : Option (List ℕ))
     : Type 0 where
   pub worker : DurableValue
@@ -118,7 +119,7 @@ HasDiskFailed bytes config old new = (spare old ≡ 0)
     ⊎ (old.room < most_unsynced (places_for config bytes)) ⊎ (old.faults < new.faults)
 
 -- 0: the worker is created. 3: it is refused. 4: the disk failed. 5: there is no memory. A refused
--- worker and want of memory leave the disk as it was. 7: a write of a printer has failed, and
+-- worker and out of memory leave the disk as it was. 7: a write of a printer has failed, and
 -- whether the worker was created isn't known. Whatever the status, nothing that was promised of a
 -- disk without a worker is lost, and a cut at any moment leaves no worker on it, or this one.
 pub record CreatesOn {D : Type 0} (medium : D → Medium) (bytes : List ℕ) (config : Settings)
@@ -126,7 +127,7 @@ pub record CreatesOn {D : Type 0} (medium : D → Medium) (bytes : List ℕ) (co
   pub answer : Result DurableValue WorkFault
   pub keeps : CreationKeeps bytes config answer (medium old) (medium new)
   pub made : status ≡ 0
-      → IsCreatedAndTold bytes config answer (medium new) out.contents out'.contents
+      → IsCreatedAndPrinted bytes config answer (medium new) out.contents out'.contents
   pub refused : status ≡ 3 → IsCreationRefused bytes config (medium old) × (new ≡ old)
       × (out' ≡ out)
   pub failed : status ≡ 4 → HasDiskFailed bytes config (medium old) (medium new) × (out' ≡ out)

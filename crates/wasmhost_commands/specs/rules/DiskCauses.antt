@@ -1,8 +1,8 @@
 -- What each exit status of a run on a disk comes from (this project's own).
 use Rattle.std.specs.Prelude.{◌≡◌, ◌≢◌, ◌⊎◌, ℕ, ◌+◌, ◌≤◌, ◌^◌, ⊤, Bool, true, false, List, []}
-use Rattle.std.specs.Prelude.{◌∷◌, ◌++◌, length, Option, Some, None, Result, Ok, Err}
-use Rattle.wasi_abi.specs.declared.answer.Kind.{Kind}
-use Rattle.wasi_abi.specs.declared.answer.Kind.TheVariants as kinds
+use Rattle.std.specs.Prelude.{◌∷◌, ◌++◌, length, Some, None, Result, Ok, Err}
+use Rattle.wasi_abi.specs.declared.answer.Question.{Question}
+use Rattle.wasi_abi.specs.declared.answer.Question.TheVariants as questions
 use Rattle.sector_disk.specs.rules.Medium.{Medium}
 use Rattle.sector_disk.specs.declared.fault.DiskFault.TheVariants as disk
 use Rattle.process_rules.specs.Processes.{ProcessState, Guest}
@@ -23,7 +23,7 @@ use Rattle.worker.specs.rules.Outlets.{IsOutletFault}
 use Rattle.worker.specs.rules.RecoverFaults.{wants_memory}
 use Rattle.wasmhost_commands.specs.declared.lines.fault.LineFault.{LineFault}
 use Rattle.wasmhost_commands.specs.declared.lines.fault.LineFault.TheVariants as line
-use Rattle.wasmhost_commands.specs.Lines.Answers.{Standing, IsRefusedFor}
+use Rattle.wasmhost_commands.specs.Lines.Answers.{SourceState, IsRefusedFor}
 use Rattle.wasmhost_commands.specs.rules.BrokenLives.{BreaksOff, LeavesNoLine, TellsItsLines}
 use Rattle.wasmhost_commands.specs.rules.BrokenLives.{steps_among}
 use Rattle.wasmhost_commands.specs.rules.Outside.{requests_in, words_of}
@@ -31,43 +31,43 @@ use Rattle.wasmhost_commands.specs.rules.Requests.{GiveUpTo, BeginsWithOther, Be
 use Rattle.wasmhost_commands.specs.rules.Printers.{PrinterState, IsPrinted, TellsPerson}
 use Rattle.wasmhost_commands.specs.rules.Seeds.{words_for}
 use Rattle.wasmhost_commands.specs.rules.LastWords.{ended_by, last_words}
-use Rattle.wasmhost_commands.specs.rules.ServedOnDisk.{DiskJob, stands_behind, handing}
+use Rattle.wasmhost_commands.specs.rules.ServedOnDisk.{RunStart, RunEnd, source_behind, handing}
 use Rattle.wasmhost_commands.specs.rules.ServedOnDisk.{IsUnopenedRun, LivesOnDisk, HasOutcome}
 use Rattle.wasmhost_commands.specs.rules.ServedOnDisk.{ServesOnDisk, recovered_line}
 
 -- ---- a source that refuses
 
--- One of these questions was refused, and was of this kind. None behind it was answered.
-pub record IsRefusedAmong (asks : List Ask) (kind : Kind) : Type 0 where
+-- One of these questions was refused, and was this one. None after it was answered.
+pub record IsRefusedAmong (asks : List Ask) (question : Question) : Type 0 where
   pub front : List Ask
   pub back : List Ask
   pub fault : SourceFault
-  pub is : asks ≡ front ++ (record { kind = kind; said = Err fault } ∷ back)
+  pub is : asks ≡ front ++ (record { question = question; said = Err fault } ∷ back)
   pub unanswered : handed back ≡ []
 
--- One of these questions was refused for this, behind all answers of a source that had stood here.
-pub record HasRefused (old : Standing) (asks : List Ask) (failed' : Bool) (why : LineFault)
+-- One of these questions was refused for this, after all answers of a source that had stood here.
+pub record HasRefused (old : SourceState) (asks : List Ask) (failed' : Bool) (why : LineFault)
     : Type 0 where
-  pub kind : Kind
-  pub asked : IsRefusedAmong asks kind
-  pub reason : IsRefusedFor kind old.outside old.limit (old.place + words_of (handed asks))
+  pub question : Question
+  pub asked : IsRefusedAmong asks question
+  pub reason : IsRefusedFor question old.outside old.limit (old.place + words_of (handed asks))
       old.taken old.unread (requests_in (handed asks)) old.failed failed' why
 
 -- Whatever a source of the program was asked: where it had no fault and now has one, one of these
 -- questions was refused for it.
 abbrev pub RefusalsHaveReasons : Type 0
-RefusalsHaveReasons = (asks : List Ask) (source source' : Standing) (why : LineFault)
+RefusalsHaveReasons = (asks : List Ask) (source source' : SourceState) (why : LineFault)
     → AnswersInOrder handing source asks source' → source.fault ≡ None
     → source'.fault ≡ Some why → HasRefused source asks source'.failed why
 
--- One of these questions was refused for want of memory.
-abbrev pub LacksMemoryAt : Standing → List Ask → Bool → Type 0
+-- One of these questions was refused when out of memory.
+abbrev pub LacksMemoryAt : SourceState → List Ask → Bool → Type 0
 LacksMemoryAt old asks failed' = HasRefused old asks failed' line.Memory
 
 -- A request was asked for. Behind the answers to these questions the next line can't be taken: it
 -- is no request line, or that of a request beyond the next one.
-abbrev pub MeetsBadLineAt : Standing → List Ask → Bool → Type 0
-MeetsBadLineAt old asks failed' = IsRefusedAmong asks kinds.Request
+abbrev pub MeetsBadLineAt : SourceState → List Ask → Bool → Type 0
+MeetsBadLineAt old asks failed' = IsRefusedAmong asks questions.Request
     × GiveUpTo old.limit old.taken old.unread (requests_in (handed asks))
     (λ rest. BeginsWithOther old.limit rest
     ⊎ BeginsWithLater old.limit (old.taken + length (requests_in (handed asks))) rest)
@@ -76,27 +76,27 @@ MeetsBadLineAt old asks failed' = IsRefusedAmong asks kinds.Request
 -- A request was asked for, and the reader has failed. Or a time was asked for, where the machine's
 -- clock can't be read and no time is fixed. Or so many random bytes were asked for that the words
 -- of the seed can't be counted as far.
-abbrev pub LacksAnswerAt : Standing → List Ask → Bool → Type 0
-LacksAnswerAt old asks failed' = (IsRefusedAmong asks kinds.Request × (failed' ≡ true))
-    ⊎ ((IsRefusedAmong asks kinds.Realtime ⊎ IsRefusedAmong asks kinds.Monotonic)
+abbrev pub LacksAnswerAt : SourceState → List Ask → Bool → Type 0
+LacksAnswerAt old asks failed' = (IsRefusedAmong asks questions.Request × (failed' ≡ true))
+    ⊎ ((IsRefusedAmong asks questions.Realtime ⊎ IsRefusedAmong asks questions.Monotonic)
     × (old.outside.clock ≡ None))
-    ⊎ ((n : ℕ) × IsRefusedAmong asks (kinds.Random n)
+    ⊎ ((n : ℕ) × IsRefusedAmong asks (questions.Random n)
     × (2 ^ 64 ≤ old.place + words_of (handed asks) + words_for n))
 
 -- ---- lines that were told
 
 -- Whichever process the worker of this life showed when it was recovered, it has come to where a
--- call has failed so. Each line that it had written by then was told, behind those that the
--- recovery had told.
+-- call has failed so. Each line that it had written by then was told, after those that the recovery
+-- had told.
 abbrev pub HasToldItsLines : {D O : Type 0} {medium : D → Medium} {takes : Taking O}
-    {given : DiskJob} {left : Result (List Act) RecoverFault} {found last : D} {outlet outlet' : O}
-    {source' : Standing} → LivesOnDisk medium takes given left found last outlet outlet' source'
+    {undone : Result (List Act) RecoverFault} {before : RunStart D O} {after : RunEnd D O}
+    {source' : SourceState} → LivesOnDisk medium takes undone before after source'
     → WorkFault → Type 0
-HasToldItsLines {takes = takes} {given = given} {outlet' = outlet'} {source' = source'} lives why =
+HasToldItsLines {takes = takes} {before = before} {after = after} {source' = source'} lives why =
     (guest : Guest) (p : ProcessState) → ShowsProcess lives.worker.process guest p
-    → (broken : BreaksOff handing takes guest p (stands_behind given lives.worker) source'
-    lives.retold outlet' given.fuel (steps_among lives.acts) why)
-    × TellsItsLines takes p broken.process lives.retold outlet'
+    → (broken : BreaksOff handing takes guest p (source_behind before.given lives.worker) source'
+    lives.retold after.outlet before.given.fuel (steps_among lives.acts) why)
+    × TellsItsLines takes p broken.process lives.retold after.outlet
 
 -- ---- faults of a call
 
@@ -136,46 +136,47 @@ IsWanting other = wants_memory other ≡ true
 
 -- ---- what each exit status says
 
-module _ {D O : Type 0} (medium : D → Medium) (takes : Taking O) (given : DiskJob)
-    (found last : D) (outlet outlet' : O) (failed' : Bool) where
+module _ {D O : Type 0} (medium : D → Medium) (takes : Taking O) (before : RunStart D O)
+    (after : RunEnd D O) where
   -- The worker was recovered, and a person was told so. Then it has lived until a slice didn't just
   -- spend its fuel, and the last words are those of what that slice has answered.
-  pub record IsOverOnDisk (err err' : PrinterState) : Type 0 where
+  pub record IsOverOnDisk : Type 0 where
     pub now : Now
-    pub source' : Standing
+    pub source' : SourceState
     pub between : PrinterState
     pub done : now ≢ Spent
-    pub lives : LivesOnDisk medium takes given (Ok []) found last outlet outlet' source'
+    pub lives : LivesOnDisk medium takes (Ok []) before after source'
     pub outcome : HasOutcome lives now
-    pub heeded : source'.failed ≡ failed'
-    pub told : TellsPerson (recovered_line lives.worker) err between
-    pub printed : IsPrinted between err' (last_words (ended_by now))
+    pub heeded : source'.failed ≡ after.failed
+    pub told : TellsPerson (recovered_line lives.worker) before.err between
+    pub printed : IsPrinted between after.err (last_words (ended_by now))
 
-  -- The recovery has failed by a fault of this kind, or a call of the life by one of that kind.
+  -- The recovery has failed by a fault of this sort, or a call of the life by one of that sort.
   -- Where that is the source's, it isn't one of a request line. Where no line can wait, each line
   -- that the process had written by then was told.
   pub data FailsOnDisk (IsOfOpening : RecoverFault → Type 0) (IsOfCall : WorkFault → Type 0)
       : Type 0 where
-    opening : (why : RecoverFault) → IsUnopenedRun medium takes why found last outlet outlet'
-        → failed' ≡ given.failed → IsOfOpening why → FailsOnDisk IsOfOpening IsOfCall
-    calling : (why : WorkFault) (source' : Standing)
-        → (lives : LivesOnDisk medium takes given (Err (recover.Worker why)) found last outlet
-        outlet' source')
+    opening : (why : RecoverFault)
+        → IsUnopenedRun medium takes why before.disk after.disk before.outlet after.outlet
+        → after.failed ≡ before.given.failed → IsOfOpening why
+        → FailsOnDisk IsOfOpening IsOfCall
+    calling : (why : WorkFault) (source' : SourceState)
+        → (lives : LivesOnDisk medium takes (Err (recover.Worker why)) before after source')
         → (LeavesNoLine why → HasToldItsLines lives why)
-        → (why ≡ work.Work slice.Source → source'.fault ≡ None) → source'.failed ≡ failed'
+        → (why ≡ work.Work slice.Source → source'.fault ≡ None) → source'.failed ≡ after.failed
         → IsOfCall why → FailsOnDisk IsOfOpening IsOfCall
 
   -- A call of the life has failed since the source refused a question. Each line that the process
-  -- had written by then was told. This holds behind all that the source was asked in the life.
-  pub record AsksInVain (Holds : Standing → List Ask → Bool → Type 0) : Type 0 where
-    pub source' : Standing
-    pub lives : LivesOnDisk medium takes given (Err (recover.Worker (work.Work slice.Source)))
-        found last outlet outlet' source'
+  -- had written by then was told. This holds after all that the source was asked in the life.
+  pub record AsksInVain (Holds : SourceState → List Ask → Bool → Type 0) : Type 0 where
+    pub source' : SourceState
+    pub lives : LivesOnDisk medium takes (Err (recover.Worker (work.Work slice.Source))) before
+        after source'
     pub told : HasToldItsLines lives (work.Work slice.Source)
-    pub heeded : source'.failed ≡ failed'
+    pub heeded : source'.failed ≡ after.failed
     pub asks : List Ask
-    pub led : AnswersInOrder handing (stands_behind given lives.worker) asks source'
-    pub behind : Holds (stands_behind given lives.worker) asks failed'
+    pub led : AnswersInOrder handing (source_behind before.given lives.worker) asks source'
+    pub behind : Holds (source_behind before.given lives.worker) asks after.failed
 
   -- 0: it is over. 3: the disk shows no worker that can go on, or a number is at its end. 4: the
   -- disk or the source has failed. 5: memory was refused. 6: the next line is refused. 7: a line of
@@ -183,8 +184,8 @@ module _ {D O : Type 0} (medium : D → Medium) (takes : Taking O) (given : Disk
   -- or by 5 where it wants memory, unless that can't be printed. Of a worker that was recovered,
   -- each line was told where a number is at its end (3), memory was refused (5), or the source has
   -- failed (4, 5, 6).
-  pub record SaysOnDisk (err err' : PrinterState) (status : ℕ) : Type 0 where
-    pub over : status ≡ 0 → IsOverOnDisk err err'
+  pub record SaysOnDisk (status : ℕ) : Type 0 where
+    pub over : status ≡ 0 → IsOverOnDisk
     pub stuck : status ≡ 3 → FailsOnDisk IsStuck IsAtItsEnd
     pub unanswered : status ≡ 4
         → FailsOnDisk IsFailing IsUnanswering ⊎ AsksInVain LacksAnswerAt
@@ -192,13 +193,12 @@ module _ {D O : Type 0} (medium : D → Medium) (takes : Taking O) (given : Disk
         → FailsOnDisk IsWanting (λ why. why ≡ work.Work slice.Memory) ⊎ AsksInVain LacksMemoryAt
     pub bad_line : status ≡ 6 → AsksInVain MeetsBadLineAt
     pub unprinted : status ≡ 7
-        → FailsOnDisk IsOutletFault (λ why. why ≡ work.Work slice.Outlet) ⊎ (err'.failed ≡ true)
-    pub heeded : (failed' ≡ given.failed) ⊎ (status ≡ 4) ⊎ (status ≡ 5) ⊎ (status ≡ 7)
+        → FailsOnDisk IsOutletFault (λ why. why ≡ work.Work slice.Outlet)
+        ⊎ (after.err.failed ≡ true)
+    pub heeded : (after.failed ≡ before.given.failed) ⊎ (status ≡ 4) ⊎ (status ≡ 5) ⊎ (status ≡ 7)
     pub known : (status ≡ 0) ⊎ ((3 ≤ status) × (status ≤ 7))
 
 -- so it is of each run
 abbrev pub StatusesHaveCauses : {D O : Type 0} → (D → Medium) → Taking O → Type 0
-StatusesHaveCauses {D} {O} medium takes = (given : DiskJob) (found last : D) (outlet outlet' : O)
-    (err err' : PrinterState) (failed' : Bool) (status : ℕ)
-    → ServesOnDisk medium takes given found last outlet outlet' err err' failed' status
-    → SaysOnDisk medium takes given found last outlet outlet' failed' err err' status
+StatusesHaveCauses {D} {O} medium takes = (before : RunStart D O) (after : RunEnd D O) (status : ℕ)
+    → ServesOnDisk medium takes before after status → SaysOnDisk medium takes before after status

@@ -17,19 +17,19 @@ use Rattle.wasmhost_commands.specs.rules.Statuses.{status_of_work, status_of_lin
 
 -- While it is opened, a fault of the disk is told as that, and any other one under the name of the
 -- layer that has found it.
-abbrev pub told_of_opening : RecoverFault → OnDiskFault
-told_of_opening (recover.Worker (work.Disk fault)) = told.Disk fault
-told_of_opening other = told.Recovery other
+abbrev pub opening_fault : RecoverFault → OnDiskFault
+opening_fault (recover.Worker (work.Disk fault)) = told.Disk fault
+opening_fault other = told.Recovery other
 
 -- a fault of a call is told as it is
-abbrev pub told_of_call : WorkFault → OnDiskFault
-told_of_call fault = told.Call fault
+abbrev pub call_fault : WorkFault → OnDiskFault
+call_fault fault = told.Call fault
 
 -- A fault of a call is told as it is; or, where it is the source's, as that of a line, where there
 -- is one.
-abbrev pub IsToldOnDisk : WorkFault → Option LineFault → OnDiskFault → Type 0
-IsToldOnDisk why found is =
-    ((is ≡ told_of_call why) × (why ≡ work.Work slice.Source → found ≡ None))
+abbrev pub IsReportedOnDisk : WorkFault → Option LineFault → OnDiskFault → Type 0
+IsReportedOnDisk why found is =
+    ((is ≡ call_fault why) × (why ≡ work.Work slice.Source → found ≡ None))
     ⊎ ((line : LineFault) × (why ≡ work.Work slice.Source) × (found ≡ Some line)
     × (is ≡ told.Line line))
 
@@ -40,7 +40,7 @@ abbrev pub status_of_disk : DiskFault → ℕ
 status_of_disk disk.Memory = 5
 status_of_disk other = 4
 
--- What a call of a worker on its disk says. What a store refuses is neither want of memory nor a
+-- What a call of a worker on its disk says. What a store refuses is neither out of memory nor a
 -- fault of the disk. An upgrade may be refused before anything is asked of the disk.
 abbrev pub status_of_call : WorkFault → ℕ
 status_of_call (work.Work fault) = status_of_work fault
@@ -48,8 +48,8 @@ status_of_call (work.Disk fault) = 4
 status_of_call (work.Store fault) = 3
 status_of_call (work.Upgrade fault) = 3
 
--- A recovery that fails, but for a fault of the disk. What stands on the disk is refused, or a
--- layer wants memory, or the outlet has refused a line that is told once more.
+-- A recovery that fails, but for a fault of the disk. What is on the disk is refused, or a layer
+-- wants memory, or the outlet has refused a line that is told once more.
 abbrev pub status_of_recovery : RecoverFault → ℕ
 status_of_recovery (recover.Worker fault) = status_of_call fault
 status_of_recovery (recover.Replay replay.Diverged) = 3

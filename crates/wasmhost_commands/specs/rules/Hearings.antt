@@ -22,4 +22,4 @@ pub record AsksUnless {S : Type 0} (gives : Giving S) (Refused : Type 0) (source
 
 -- the error that ended the calls of a life is that of its source
 abbrev pub IsOfSource : Result (List Act) RecoverFault → Type 0
-IsOfSource left = left ≡ Err (recover.Worker (work.Work slice.Source))
+IsOfSource undone = undone ≡ Err (recover.Worker (work.Work slice.Source))

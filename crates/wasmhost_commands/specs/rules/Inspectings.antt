@@ -22,7 +22,7 @@ use Rattle.disk_layout.specs.declared.superblock.TheConstants.{LAYOUT}
 use Rattle.worker.specs.declared.inspection.Inspection.{Inspection}
 use Rattle.worker.specs.declared.recover_fault.RecoverFault.{RecoverFault}
 use Rattle.worker.specs.rules.Inspections.{Inspects}
-use Rattle.wasmhost_commands.specs.rules.DiskStatuses.{told_of_opening, status_on_disk}
+use Rattle.wasmhost_commands.specs.rules.DiskStatuses.{opening_fault, status_on_disk}
 use Rattle.wasmhost_commands.specs.rules.InspectionTexts.{number_fact, text_fact, settings_facts}
 use Rattle.wasmhost_commands.specs.rules.InspectionTexts.{snapshot_facts, host_facts}
 use Rattle.wasmhost_commands.specs.rules.InspectionTexts.{journal_facts}
@@ -52,8 +52,8 @@ contents_facts version contents =
 abbrev pub inspection_text : Inspection → List ℕ
 inspection_text told =
     contents_facts told.process.host.host.version told.contents
-    ++ snapshot_facts told.generation told.image_bytes
-    ++ process_facts told.process told.wish
+    ++ snapshot_facts told.generation told.process_image_bytes
+    ++ process_facts told.process told.question
     ++ host_facts (told.contents.config.files * UNIT_BYTES) told.process.host.host
     ++ journal_facts told.records.items told.journal_left
 
@@ -76,8 +76,8 @@ contents_members version contents =
 abbrev pub inspection_members : Inspection → List Member
 inspection_members told =
     contents_members told.process.host.host.version told.contents
-    ++ snapshot_members told.generation told.image_bytes
-    ++ process_members told.process told.wish
+    ++ snapshot_members told.generation told.process_image_bytes
+    ++ process_members told.process told.question
     ++ host_members (told.contents.config.files * UNIT_BYTES) told.process.host.host
     ++ journal_members told.records.items told.journal_left
 
@@ -110,7 +110,7 @@ abbrev pub SaysOrWants : List ℕ → PrinterState → PrinterState → PrinterS
 SaysOrWants text out out' err err' status =
     (SaysText text 0 out status out' × (err' ≡ err)) ⊎ (IsSaid 5 err status err' × (out' ≡ out))
 
--- 3 for a path that isn't that of a file, and 5 for want of memory
+-- 3 for a path that isn't that of a file, and 5 for out of memory
 abbrev pub status_of_path : PathFault → ℕ
 status_of_path fault.Memory = 5
 status_of_path other = 3
@@ -136,7 +136,7 @@ SaysFiles fs (Some path) out out' err err' status =
 abbrev pub SaysRefusal : RecoverFault → PrinterState → PrinterState → PrinterState → PrinterState
     → ℕ → Type 0
 SaysRefusal why out out' err err' status =
-    IsSaid (status_on_disk (told_of_opening why)) err status err' × (out' ≡ out)
+    IsSaid (status_on_disk (opening_fault why)) err status err' × (out' ≡ out)
 
 -- what is said of a disk that was inspected
 abbrev pub SaysInspected : Bool → Result Inspection RecoverFault → PrinterState → PrinterState

@@ -8,14 +8,14 @@ use Rattle.wasi_abi.specs.declared.answer.Answer.TheVariants as answer
 use Rattle.wasi_abi.specs.rules.Configs.{Settings}
 use Rattle.file_tree.specs.declared.limits.TheConstants.{NODES}
 use Rattle.file_tree.specs.rules.Files.{Files, is_directory, used}
-use Rattle.wasi_calls_rules.specs.Hosts.{Host, Target, Stream, Node, Descriptor}
+use Rattle.wasi_calls_rules.specs.WasiStates.{WasiState, Target, Stream, Node, Descriptor}
 use Rattle.disk_layout.specs.rules.Journal.{Record, payload_of}
 
 -- a name and a number
 abbrev pub number_fact : List ℕ → ℕ → List ℕ
 number_fact name n = name ++ codes " " ++ decimal n ++ codes "\n"
 
--- a number behind others
+-- a number after others
 abbrev pub last_number : ℕ → List ℕ
 last_number n = codes " " ++ decimal n ++ codes "\n"
 
@@ -64,7 +64,7 @@ usage_fact name n limit =
     name ++ codes " " ++ decimal n ++ codes " " ++ decimal limit ++ codes "\n"
 
 -- how many nodes and bytes its files have, and may have, and what is open
-abbrev pub host_facts : ℕ → Host → List ℕ
+abbrev pub host_facts : ℕ → WasiState → List ℕ
 host_facts room h =
     usage_fact (codes "nodes") (length h.files.nodes) NODES
     ++ usage_fact (codes "bytes") (used h.files) room
@@ -88,4 +88,5 @@ record_fact r =
 
 -- all records, one a line, and how many sectors are left
 abbrev pub journal_facts : List Record → ℕ → List ℕ
-journal_facts records left = flat_map record_fact records ++ number_fact (codes "left") left
+journal_facts records sectors_left = flat_map record_fact records
+    ++ number_fact (codes "left") sectors_left

@@ -11,7 +11,7 @@ use Rattle.serde_json.specs.declared.value.Value.{Value}
 use Rattle.wasi_abi.specs.rules.Configs.{Settings}
 use Rattle.file_tree.specs.declared.limits.TheConstants.{NODES}
 use Rattle.file_tree.specs.rules.Files.{Files, is_directory, used}
-use Rattle.wasi_calls_rules.specs.Hosts.{Host, Target, Stream, Node, Descriptor}
+use Rattle.wasi_calls_rules.specs.WasiStates.{WasiState, Target, Stream, Node, Descriptor}
 use Rattle.disk_layout.specs.rules.Journal.{Record, payload_of}
 use Rattle.wasmhost_commands.specs.rules.InspectionTexts.{kind_word}
 
@@ -91,7 +91,7 @@ descriptors_data fs n [] = []
 descriptors_data fs n (d ∷ ds) = opened_data fs n d ++ descriptors_data fs (n + 1) ds
 
 -- how many nodes and bytes its files have, and may have, and what is open
-abbrev pub host_members : ℕ → Host → List Member
+abbrev pub host_members : ℕ → WasiState → List Member
 host_members room h =
     (codes "nodes", usage_data (length h.files.nodes) NODES)
     ∷ (codes "bytes", usage_data (used h.files) room)
@@ -107,5 +107,5 @@ record_data r = object (member (codes "kind") (string (kind_word r.answer))
 
 -- all records, and how many sectors are left
 abbrev pub journal_members : List Record → ℕ → List Member
-journal_members records left =
-    (codes "records", list_data record_data records) ∷ (codes "left", number_data left) ∷ []
+journal_members records sectors_left =
+    (codes "records", list_data record_data records) ∷ (codes "left", number_data sectors_left) ∷ []

@@ -1,30 +1,30 @@
--- What a run says of its input behind its last words (this project's own).
+-- What a run says of its input after its last words (this project's own).
 use Rattle.std.specs.Prelude.{◌≡◌, ◌≢◌, ◌⊎◌, ℕ, ◌<◌, List, ◌++◌, codes}
 use Rattle.wasmhost_commands.specs.rules.Later.{CountsLater}
 use Rattle.wasmhost_commands.specs.rules.Pieces.{lines_of}
 use Rattle.wasmhost_commands.specs.rules.Printers.{PrinterState, SaysText}
 use Rattle.wasmhost_commands.specs.rules.Showings.{named_number}
 
--- where the refused line stands
+-- where the refused line is
 abbrev pub place_line : ℕ → List ℕ
 place_line number = named_number (codes "at input line ") number ++ codes "\n"
 
 -- how many requests nobody took
-abbrev pub left_line : ℕ → List ℕ
-left_line count = named_number (codes "requests not taken: ") count ++ codes "\n"
+abbrev pub untaken_line : ℕ → List ℕ
+untaken_line count = named_number (codes "requests not taken: ") count ++ codes "\n"
 
 -- The requests among the bytes that were read ahead are counted, but for those that were taken
 -- before. A text has so many bytes at most. Their number is said, where there are any.
-abbrev pub SaysLeft : ℕ → ℕ → List ℕ → PrinterState → ℕ → PrinterState → Type 0
-SaysLeft limit taken ahead old answered new =
+abbrev pub SaysUntaken : ℕ → ℕ → List ℕ → PrinterState → ℕ → PrinterState → Type 0
+SaysUntaken limit taken ahead old answered new =
     (count : ℕ) × CountsLater limit taken (lines_of ahead) count
     × (((count ≡ 0) × (answered ≡ 0) × (new ≡ old))
-    ⊎ ((0 < count) × SaysText (left_line count) 0 old answered new))
+    ⊎ ((0 < count) × SaysText (untaken_line count) 0 old answered new))
 
 -- 6: a line was refused, and its number is told. 0: the worker is over or waits, and the requests
 -- that are left are counted. Of another status nothing more is said.
 pub record SaysOfInput (limit taken : ℕ) (ahead : List ℕ) (line status : ℕ) (old : PrinterState)
     (answered : ℕ) (new : PrinterState) : Type 0 where
   pub refused : status ≡ 6 → SaysText (place_line line) 6 old answered new
-  pub over : status ≡ 0 → SaysLeft limit taken ahead old answered new
+  pub over : status ≡ 0 → SaysUntaken limit taken ahead old answered new
   pub others : status ≢ 6 → status ≢ 0 → (answered ≡ status) × (new ≡ old)

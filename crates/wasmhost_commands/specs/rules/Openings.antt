@@ -13,7 +13,7 @@ use Rattle.sector_disk.specs.rules.Medium.{IsAllSynced}
 use Rattle.sector_disk.specs.rules.Open.{open_cause}
 use Rattle.sector_disk.specs.rules.Rewrite.{AddsNothing}
 use Rattle.wasmhost_commands.specs.rules.Printers.{PrinterState}
-use Rattle.wasmhost_commands.specs.rules.Reports.{SaysLine, words_told}
+use Rattle.wasmhost_commands.specs.rules.Reports.{SaysLine, obstacle_words}
 use Rattle.wasmhost_commands.specs.declared.telling.Obstacle.TheVariants.{Memory, Unread}
 use Rattle.wasmhost_commands.specs.rules.Showings.{ShowsDisk}
 
@@ -43,7 +43,7 @@ open_words path (opening.Io cause) =
 -- error by the path and the cause.
 abbrev pub SaysUnread : List ℕ → ErrorKind → PrinterState → ℕ → PrinterState → Type 0
 SaysUnread path kind old status new =
-    ((kind ≡ OutOfMemory) × SaysLine (words_told Memory) 5 old status new)
+    ((kind ≡ OutOfMemory) × SaysLine (obstacle_words Memory) 5 old status new)
     ⊎ ((kind ≢ OutOfMemory)
     × SaysLine (open_words path (opening.Io (open_cause kind))) 4 old status new)
 
@@ -54,7 +54,7 @@ SaysUnread path kind old status new =
 abbrev pub SaysUnopened : List ℕ → PrinterState → ℕ → PrinterState → Type 0
 SaysUnopened path old status new =
     ((why : OpenFault) × SaysLine (open_words path why) 4 old status new)
-    ⊎ SaysLine (words_told Unread) 4 old status new
+    ⊎ SaysLine (obstacle_words Unread) 4 old status new
 
 module _ {F : Type 0} where
   -- no call of its file was made since it was opened
@@ -66,7 +66,7 @@ module _ {F : Type 0} where
   pub record IsWrittenBack (opened disk : FileDisk F) : Type 0 where
     pub untouched : IsUntouched opened
     pub adds_nothing : AddsNothing (file_medium opened) (file_medium disk)
-    pub settled : IsAllSynced (file_medium disk)
+    pub all_synced : IsAllSynced (file_medium disk)
     pub calls : (file_medium disk).calls ≡ synced_writes 0 (file_medium disk).sectors
 
   -- It is written back where that was asked for, and untouched where it wasn't.

@@ -7,7 +7,7 @@ use Rattle.process_rules.specs.Runs.{Kept, Given, Wider}
 use Rattle.wasmhost_commands.specs.declared.lines.outside.Outside.{Outside}
 use Rattle.wasmhost_commands.specs.rules.Seeds.{seeded_bytes, words_for}
 
--- the stream of a seed's words at which a source begins, before it goes on behind a worker
+-- the stream of a seed's words at which a source begins, before it goes on after a worker
 abbrev pub random_stream : ℕ
 random_stream = 1
 

@@ -6,8 +6,8 @@ use Rattle.worker.specs.rules.LifeWords.{Act, Slice, Checkpoint}
 abbrev pub round_of : ℕ → ℕ → List Act
 round_of fuel count = replicate count (Slice fuel) ++ Checkpoint ∷ []
 
--- Slices of this fuel, and a checkpoint behind each so many of them. The last ones, which are at
--- least one and at most as many, have a checkpoint behind them too.
+-- Slices of this fuel, and a checkpoint after each so many of them. The last ones, which are at
+-- least one and at most as many, have a checkpoint after them too.
 pub data IsPaced (fuel every : ℕ) : List Act → Type 0 where
   last : (count : ℕ) → 1 ≤ count → count ≤ every → IsPaced fuel every (round_of fuel count)
   more : (acts : List Act) → IsPaced fuel every acts

@@ -1,7 +1,7 @@
 -- Bytes cut at a separator.
 use Rattle.std.specs.Prelude.{ℕ, ◌==◌, if◌then◌else◌, List, [], ◌∷◌, Option, Some, None}
 
--- the bytes before the first separator, and those behind it if there is one
+-- the bytes before the first separator, and those after it if there is one
 unfoldable pub split_once : ℕ → List ℕ → List ℕ × Option (List ℕ)
 split_once separator [] = ([], None)
 split_once separator (byte ∷ bytes) =
@@ -13,7 +13,7 @@ abbrev pub onto_first_piece : ℕ → List (List ℕ) → List (List ℕ)
 onto_first_piece byte [] = (byte ∷ []) ∷ []
 onto_first_piece byte (piece ∷ pieces) = (byte ∷ piece) ∷ pieces
 
--- The pieces between the separators. A separator at the end has an empty piece behind it.
+-- The pieces between the separators. A separator at the end has an empty piece after it.
 unfoldable pub pieces_of : ℕ → List ℕ → List (List ℕ)
 pieces_of separator [] = [] ∷ []
 pieces_of separator (byte ∷ bytes) =

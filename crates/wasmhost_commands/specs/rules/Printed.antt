@@ -1,6 +1,6 @@
 -- What a printer has printed of a list of lines.
 use Rattle.std.specs.Prelude.{◌≡◌, ℕ, ◌+◌, true, false, List, [], ◌∷◌, ◌++◌}
-use Rattle.wasi_calls_rules.specs.Hosts.{Line}
+use Rattle.wasi_calls_rules.specs.WasiStates.{Line}
 use Rattle.record_replay.specs.rules.Calls.{Exchange, Releases, all_taken, releases_of}
 use Rattle.worker.specs.laws.OneLife.{released_in, taken_in}
 use Rattle.worker.specs.laws.Uncut.{AreTrue}
@@ -15,7 +15,7 @@ abbrev pub all_printed : ℕ → List Line → List ℕ
 all_printed first [] = []
 all_printed first (line ∷ lines) = printed first line ++ all_printed (first + 1) lines
 
--- Where all lines were taken, they are printed, each once and in order, behind what was there.
+-- Where all lines were taken, they are printed, each once and in order, after what was there.
 abbrev pub TakenLinesArePrinted : Type 0
 TakenLinesArePrinted = (first : ℕ) (lines : List Line) (old new : PrinterState)
     → Releases printing old (all_taken first lines) new

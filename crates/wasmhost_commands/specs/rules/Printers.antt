@@ -17,17 +17,17 @@ printer_state contents on_terminal failed = record {
   failed = failed;
 }
 
--- The text is written behind what was there, and no write has failed.
+-- The text is written after what was there, and no write has failed.
 abbrev pub IsPrinted : PrinterState → PrinterState → List ℕ → Type 0
 IsPrinted old new text =
     Appends old.contents new.contents text × (new.failed ≡ old.failed)
 
--- known bytes grow by a front of these: none of them, some, or all
+-- known bytes grow by a prefix of these: none of them, some, or all
 abbrev pub GrowsByFront : Option (List ℕ) → Option (List ℕ) → List ℕ → Type 0
 GrowsByFront old new text = (front : List ℕ) × (rest : List ℕ) × (text ≡ front ++ rest)
     × Appends old new front
 
--- A write has failed. At most a front of the text is written behind what was there.
+-- A write has failed. At most a prefix of the text is written after what was there.
 abbrev pub StopsPrinting : PrinterState → PrinterState → List ℕ → Type 0
 StopsPrinting old new text =
     GrowsByFront old.contents new.contents text × (new.failed ≡ true)

@@ -1,6 +1,6 @@
 -- What a printer does with a line.
 use Rattle.std.specs.Prelude.{ℕ, List, Result, Ok, Err}
-use Rattle.wasi_calls_rules.specs.Hosts.{Line}
+use Rattle.wasi_calls_rules.specs.WasiStates.{Line}
 use Rattle.record_replay.specs.rules.Calls.{Taking}
 use Rattle.wasmhost_commands.specs.rules.Printers.{PrinterState, IsPrinted, StopsPrinting}
 use Rattle.wasmhost_commands.specs.rules.Texts.{printed}

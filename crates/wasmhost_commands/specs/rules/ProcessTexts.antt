@@ -3,8 +3,8 @@ use Rattle.std.specs.Prelude.{ℕ, ◌/◌, List, ◌++◌, length, reverse, cod
 use Rattle.std.specs.List.{flat_map}
 use Rattle.std.specs.Fmt.{decimal}
 use Rattle.guest_memory.specs.rules.Bytes.{page_size}
-use Rattle.wasi_abi.specs.declared.answer.Kind.{Kind}
-use Rattle.wasi_abi.specs.declared.answer.Kind.TheVariants as kind
+use Rattle.wasi_abi.specs.declared.answer.Question.{Question}
+use Rattle.wasi_abi.specs.declared.answer.Question.TheVariants as questions
 use Rattle.machine_slots.specs.rules.Places.{ShownFrame, MachineState}
 use Rattle.process_rules.specs.Processes.{Ending, Exited, Trapped}
 use Rattle.process.specs.rules.Values.{ProcessValue, lines_in}
@@ -19,12 +19,12 @@ progress_facts v =
     ++ number_fact (codes "monotonic") v.host.host.last_monotonic
 
 -- what it waits for
-abbrev pub wish_fact : Option Kind → List ℕ
-wish_fact None = codes "waits nothing\n"
-wish_fact (Some kind.Request) = codes "waits request\n"
-wish_fact (Some kind.Realtime) = codes "waits realtime\n"
-wish_fact (Some kind.Monotonic) = codes "waits monotonic\n"
-wish_fact (Some (kind.Random count)) = number_fact (codes "waits random") count
+abbrev pub question_fact : Option Question → List ℕ
+question_fact None = codes "waits nothing\n"
+question_fact (Some questions.Request) = codes "waits request\n"
+question_fact (Some questions.Realtime) = codes "waits realtime\n"
+question_fact (Some questions.Monotonic) = codes "waits monotonic\n"
+question_fact (Some (questions.Random count)) = number_fact (codes "waits random") count
 
 -- whether it runs, or how it has ended
 abbrev pub state_fact : Option Ending → List ℕ
@@ -45,6 +45,7 @@ machine_facts m =
     ++ number_fact (codes "memory") (length m.memory / page_size)
 
 -- all of these
-abbrev pub process_facts : ProcessValue → Option Kind → List ℕ
-process_facts v wish =
-    progress_facts v ++ wish_fact wish ++ state_fact v.ended ++ machine_facts v.machine.state
+abbrev pub process_facts : ProcessValue → Option Question → List ℕ
+process_facts v question =
+    progress_facts v ++ question_fact question ++ state_fact v.ended
+    ++ machine_facts v.machine.state

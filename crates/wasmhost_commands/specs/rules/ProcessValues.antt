@@ -3,8 +3,8 @@ use Rattle.std.specs.Prelude.{◌/◌, List, [], ◌∷◌, ◌++◌, length, re
 use Rattle.std.specs.Prelude.{None}
 use Rattle.guest_memory.specs.rules.Bytes.{page_size}
 use Rattle.serde_json.specs.Data.{Data, string, object, member, no_members}
-use Rattle.wasi_abi.specs.declared.answer.Kind.{Kind}
-use Rattle.wasi_abi.specs.declared.answer.Kind.TheVariants as kind
+use Rattle.wasi_abi.specs.declared.answer.Question.{Question}
+use Rattle.wasi_abi.specs.declared.answer.Question.TheVariants as questions
 use Rattle.machine_slots.specs.rules.Places.{ShownFrame, MachineState}
 use Rattle.process_rules.specs.Processes.{Ending, Exited, Trapped}
 use Rattle.process.specs.rules.Values.{ProcessValue, lines_in}
@@ -19,12 +19,12 @@ progress_members v =
     ∷ (codes "monotonic", number_data v.host.host.last_monotonic) ∷ []
 
 -- what it waits for
-abbrev pub wish_data : Option Kind → Data
-wish_data None = string (codes "nothing")
-wish_data (Some kind.Request) = string (codes "request")
-wish_data (Some kind.Realtime) = string (codes "realtime")
-wish_data (Some kind.Monotonic) = string (codes "monotonic")
-wish_data (Some (kind.Random count)) =
+abbrev pub question_data : Option Question → Data
+question_data None = string (codes "nothing")
+question_data (Some questions.Request) = string (codes "request")
+question_data (Some questions.Realtime) = string (codes "realtime")
+question_data (Some questions.Monotonic) = string (codes "monotonic")
+question_data (Some (questions.Random count)) =
     object (member (codes "random") (number_data count) no_members)
 
 -- whether it runs, or how it has ended
@@ -47,8 +47,8 @@ machine_members m =
     ∷ (codes "memory", number_data (length m.memory / page_size)) ∷ []
 
 -- all of these
-abbrev pub process_members : ProcessValue → Option Kind → List Member
-process_members v wish =
+abbrev pub process_members : ProcessValue → Option Question → List Member
+process_members v question =
     progress_members v
-    ++ ((codes "waits", wish_data wish) ∷ (codes "state", state_data v.ended) ∷ [])
+    ++ ((codes "waits", question_data question) ∷ (codes "state", state_data v.ended) ∷ [])
     ++ machine_members v.machine.state

@@ -167,7 +167,7 @@ abbrev pub at_most_one : List ℕ → List (List ℕ)
 at_most_one [] = []
 at_most_one (front ∷ fronts) = (front ∷ fronts) ∷ []
 
--- The lines behind a `life`, up to the next one, are those of this life: its answers and acts are
+-- The lines after a `life`, up to the next one, are those of this life: its answers and acts are
 -- all that they say, in order. They say one stop or none, one call that fails or none, one refused
 -- release or none, and one list of tears or none.
 pub record SpellsLife (lines : List ScriptLine) (life : PlannedLife) : Type 0 where
@@ -179,7 +179,7 @@ pub record SpellsLife (lines : List ScriptLine) (life : PlannedLife) : Type 0 wh
   pub refuse : option_to_list life.refuse ≡ flat_map refusal_said lines
   pub tears : at_most_one life.tears ≡ flat_map tears_said lines
 
--- the lines fall into lives: each is `life`, and what stands behind it up to the next one
+-- the lines fall into lives: each is `life`, and what is after it up to the next one
 abbrev pub AreLivesOf : List ScriptLine → List PlannedLife → Type 0
 AreLivesOf lines [] = lines ≡ []
 AreLivesOf lines (life ∷ lives) = (own rest : List ScriptLine)
@@ -190,14 +190,14 @@ abbrev pub IsScript : List (List ℕ) → List PlannedLife → Type 0
 IsScript texts lives = (lines : List ScriptLine) × (map said_by texts ≡ map Some lines)
     × AreLivesOf lines lives
 
--- The line of this number, from 1, is the first one behind which the lines are no script.
+-- The line of this number, from 1, is the first one after which the lines are no script.
 pub record IsFaultAt (texts : List (List ℕ)) (number : ℕ) : Type 0 where
   pub from_one : 1 ≤ number
   pub inside : number ≤ length texts
   pub before : (lives : List PlannedLife) × IsScript (take (number - 1) texts) lives
   pub no_script : (lives : List PlannedLife) → IsScript (take number texts) lives → ⊥
 
--- want of memory says nothing of the script
+-- out of memory says nothing of the script
 abbrev pub IsScriptFault : List (List ℕ) → ScriptFault → Type 0
 IsScriptFault texts (fault.Line number) = IsFaultAt texts number
 IsScriptFault texts fault.Memory = Unit {0}

@@ -3,7 +3,7 @@ use Rattle.std.specs.Prelude.{◌≡◌, ◌≢◌, ℕ, Bool, List, [], ◌++�
 use Rattle.std.specs.Prelude.{Result, Ok, Err}
 use Rattle.wasi_abi.specs.rules.Configs.{Settings}
 use Rattle.wasi_abi.specs.rules.Versions.{text_limit}
-use Rattle.sector_disk.specs.rules.Image.{Image}
+use Rattle.sector_disk.specs.rules.DiskImage.{DiskImage}
 use Rattle.sector_disk.specs.rules.Medium.{Medium}
 use Rattle.disk_layout.specs.rules.Stored.{OnlyReads}
 use Rattle.record_replay.specs.rules.Calls.{Giving, Taking}
@@ -15,13 +15,13 @@ use Rattle.worker.specs.declared.recover_fault.RecoverFault.TheVariants as recov
 use Rattle.worker.specs.rules.DurableValues.{DurableValue}
 use Rattle.worker.specs.rules.LifeWords.{Act, by_recovery}
 use Rattle.worker.specs.rules.Outlets.{HeedsOutlet, IsOutletFault, SaysOutletFault}
-use Rattle.worker.specs.rules.Recoveries.{IsNoWorker, IsSettledBy, RecoveryCarries}
+use Rattle.worker.specs.rules.Recoveries.{IsNoWorker, IsJustSynced, RecoveryCarries}
 use Rattle.worker.specs.laws.OneLife.{IsOneLife}
 use Rattle.wasmhost_commands.specs.declared.lines.outside.Outside.{Outside}
 use Rattle.wasmhost_commands.specs.declared.on_disk.fault.OnDiskFault.{OnDiskFault}
-use Rattle.wasmhost_commands.specs.Lines.Answers.{Standing, standing, HandsNext}
+use Rattle.wasmhost_commands.specs.Lines.Answers.{SourceState, source_state, HandsNext}
 use Rattle.wasmhost_commands.specs.rules.BrokenLives.{BreaksOffFrom, steps_among}
-use Rattle.wasmhost_commands.specs.rules.DiskStatuses.{IsToldOnDisk, told_of_opening}
+use Rattle.wasmhost_commands.specs.rules.DiskStatuses.{IsReportedOnDisk, opening_fault}
 use Rattle.wasmhost_commands.specs.rules.DiskStatuses.{status_on_disk}
 use Rattle.worker.specs.laws.Outcomes.{life_outcome}
 use Rattle.wasmhost_commands.specs.rules.Hearings.{AsksUnless, IsOfSource}
@@ -49,24 +49,57 @@ disk_job fuel every lines outside failed = record {
   failed = failed;
 }
 
--- Where the source of a worker stands that was just opened: behind the requests that the worker
--- has taken, and before the first word of the seed's stream of its generation. The text of a
--- request may be as long as the worker's version has it.
-abbrev pub stands_behind : DiskJob → DurableValue → Standing
-stands_behind given w =
-    standing given.outside (text_limit w.process.host.host.version) w.store.journal.generation
+-- before such a run: what it is given, the disk, the outlet of its lines, and the printer of its
+-- last words
+pub record RunStart (D O : Type 0) : Type 0 where
+  pub given : DiskJob
+  pub disk : D
+  pub outlet : O
+  pub err : PrinterState
+
+-- a start of these parts
+abbrev pub run_start : {D O : Type 0} → DiskJob → D → O → PrinterState → RunStart D O
+run_start given disk outlet err = record {
+  given = given;
+  disk = disk;
+  outlet = outlet;
+  err = err;
+}
+
+-- after it: the same, and whether a read of the reader has failed
+pub record RunEnd (D O : Type 0) : Type 0 where
+  pub disk : D
+  pub outlet : O
+  pub err : PrinterState
+  pub failed : Bool
+
+-- an end of these parts
+abbrev pub run_end : {D O : Type 0} → D → O → PrinterState → Bool → RunEnd D O
+run_end disk outlet err failed = record {
+  disk = disk;
+  outlet = outlet;
+  err = err;
+  failed = failed;
+}
+
+-- Where the source of a worker is that was just opened: after the requests that the worker has
+-- taken, and before the first word of the seed's stream of its generation. The text of a request
+-- may be as long as the worker's version has it.
+abbrev pub source_behind : DiskJob → DurableValue → SourceState
+source_behind given w =
+    source_state given.outside (text_limit w.process.host.host.version) w.store.journal.generation
     w.process.requests 0 given.lines given.failed None
 
 -- what the source gives
-abbrev pub handing : Giving Standing
-handing old kind said new = HandsNext kind old said new
+abbrev pub handing : Giving SourceState
+handing old question said new = HandsNext question old said new
 
--- The disk was settled by one sync and then only read, and nothing was released.
-pub record IsLeftAlone {D O : Type 0} (medium : D → Medium) (found last : D)
+-- The disk was synced once and then only read, and nothing was released.
+pub record IsOnlySynced {D O : Type 0} (medium : D → Medium) (found last : D)
     (outlet outlet' : O) : Type 0 where
-  pub settled : D
-  pub synced : IsSettledBy (medium found) (medium settled)
-  pub read : OnlyReads (medium settled) (medium last)
+  pub synced_disk : D
+  pub synced : IsJustSynced (medium found) (medium synced_disk)
+  pub read : OnlyReads (medium synced_disk) (medium last)
   pub same : outlet' ≡ outlet
 
 -- The worker isn't opened. Where there is none, that is all. Else all that was done is a life that
@@ -74,9 +107,9 @@ pub record IsLeftAlone {D O : Type 0} (medium : D → Medium) (found last : D)
 -- unless that fault is the outlet's.
 pub record IsUnopenedRun {D O : Type 0} (medium : D → Medium) (takes : Taking O)
     (why : RecoverFault) (found last : D) (outlet outlet' : O) : Type 0 where
-  pub none : IsNoWorker why → IsLeftAlone medium found last outlet outlet'
-  pub life : (IsNoWorker why → ⊥) → (image : Image) → (medium last).may_leave image
-      → (bytes : List ℕ) (config : Settings) (acts : List Act) (source : Standing)
+  pub none : IsNoWorker why → IsOnlySynced medium found last outlet outlet'
+  pub life : (IsNoWorker why → ⊥) → (image : DiskImage) → (medium last).crash_images image
+      → (bytes : List ℕ) (config : Settings) (acts : List Act) (source : SourceState)
       → IsOneLife medium handing takes bytes config acts found source outlet by_recovery None
       (Err why) last source outlet'
   pub heeded : HeedsOutlet takes (IsOutletFault why) outlet outlet'
@@ -85,43 +118,44 @@ pub record IsUnopenedRun {D O : Type 0} (medium : D → Medium) (takes : Taking 
 -- once more. All that was done is one life, at this pace, if the answers of that disk fit an image.
 -- No question was refused in it, unless its error is that of the source. The outlet took each line,
 -- unless its error is the outlet's.
-pub record LivesOnDisk {D O : Type 0} (medium : D → Medium) (takes : Taking O) (given : DiskJob)
-    (left : Result (List Act) RecoverFault) (found last : D) (outlet outlet' : O)
-    (source' : Standing) : Type 0 where
+pub record LivesOnDisk {D O : Type 0} (medium : D → Medium) (takes : Taking O)
+    (undone : Result (List Act) RecoverFault) (before : RunStart D O) (after : RunEnd D O)
+    (source' : SourceState) : Type 0 where
   pub worker : DurableValue
   pub opening : D
   pub retold : O
-  pub recovers : RecoveryCarries takes (Ok worker) (medium found) (medium opening) outlet retold
+  pub recovers : RecoveryCarries takes (Ok worker) (medium before.disk) (medium opening)
+      before.outlet retold
   pub acts : List Act
-  pub paced : IsPaced given.fuel given.every acts
-  pub heard : AsksUnless handing (IsOfSource left) (stands_behind given worker) source'
-  pub heeded : HeedsOutlet takes (SaysOutletFault left) outlet outlet'
-  pub life : (image : Image) → (medium opening).may_leave image
+  pub paced : IsPaced before.given.fuel before.given.every acts
+  pub heard : AsksUnless handing (IsOfSource undone) (source_behind before.given worker) source'
+  pub heeded : HeedsOutlet takes (SaysOutletFault undone) before.outlet after.outlet
+  pub life : (image : DiskImage) → (medium opening).crash_images image
       → (bytes : List ℕ) (config : Settings)
-      → IsOneLife medium handing takes bytes config acts found (stands_behind given worker) outlet
-      by_recovery (Some worker) left last source' outlet'
+      → IsOneLife medium handing takes bytes config acts before.disk
+      (source_behind before.given worker) before.outlet by_recovery (Some worker) undone after.disk
+      source' after.outlet
 
 -- The last slice of that life has answered this.
-abbrev pub HasOutcome : {D O : Type 0} {medium : D → Medium} {takes : Taking O} {given : DiskJob}
-    {left : Result (List Act) RecoverFault} {found last : D} {outlet outlet' : O}
-    {source' : Standing} → LivesOnDisk medium takes given left found last outlet outlet' source'
-    → Now → Type 0
+abbrev pub HasOutcome : {D O : Type 0} {medium : D → Medium} {takes : Taking O}
+    {undone : Result (List Act) RecoverFault} {before : RunStart D O} {after : RunEnd D O}
+    {source' : SourceState} → LivesOnDisk medium takes undone before after source' → Now → Type 0
 HasOutcome {medium = medium} lives now =
-    (image : Image) (leaves : (medium lives.opening).may_leave image) (bytes : List ℕ)
+    (image : DiskImage) (leaves : (medium lives.opening).crash_images image) (bytes : List ℕ)
     (config : Settings) → life_outcome (lives.life image leaves bytes config) ≡ now
 
 -- A call of that life has failed so, whichever process its worker showed when it was recovered.
-abbrev pub HasBrokenOff : {D O : Type 0} {medium : D → Medium} {takes : Taking O} {given : DiskJob}
-    {left : Result (List Act) RecoverFault} {found last : D} {outlet outlet' : O}
-    {source' : Standing} → LivesOnDisk medium takes given left found last outlet outlet' source'
+abbrev pub HasBrokenOff : {D O : Type 0} {medium : D → Medium} {takes : Taking O}
+    {undone : Result (List Act) RecoverFault} {before : RunStart D O} {after : RunEnd D O}
+    {source' : SourceState} → LivesOnDisk medium takes undone before after source'
     → WorkFault → Type 0
-HasBrokenOff {takes = takes} {given = given} {outlet' = outlet'} {source' = source'} lives why =
-    BreaksOffFrom handing takes lives.worker.process given.fuel (steps_among lives.acts) why
-    (stands_behind given lives.worker) source' lives.retold outlet'
+HasBrokenOff {takes = takes} {before = before} {after = after} {source' = source'} lives why =
+    BreaksOffFrom handing takes lives.worker.process before.given.fuel (steps_among lives.acts) why
+    (source_behind before.given lives.worker) source' lives.retold after.outlet
 
 -- ---- what a person is told
 
--- the line once a worker is recovered: its generation, where it stands, and how far it was replayed
+-- the line once a worker is recovered: its generation, where it is, and how far it was replayed
 abbrev pub recovered_line : DurableValue → List ℕ
 recovered_line w =
     named_number (codes "recovered generation ") w.store.journal.generation
@@ -135,23 +169,22 @@ recovered_line w =
 -- The last words are those of what that slice has answered. Or a call of it fails, and the status
 -- says why: a fault of the source is told as that of a request line, where there is one. Lines wait
 -- then only where that call's own clause says so.
-pub data ServesOnDisk {D O : Type 0} (medium : D → Medium) (takes : Taking O) (given : DiskJob)
-    (found last : D) (outlet outlet' : O) (err err' : PrinterState) (failed' : Bool) (status : ℕ)
-    : Type 0 where
-  unopened : (why : RecoverFault) → IsUnopenedRun medium takes why found last outlet outlet'
-      → failed' ≡ given.failed
-      → IsSaid (status_on_disk (told_of_opening why)) err status err'
-      → ServesOnDisk medium takes given found last outlet outlet' err err' failed' status
-  over : (now : Now) (source' : Standing) (between : PrinterState) → now ≢ Spent
-      → (lives : LivesOnDisk medium takes given (Ok []) found last outlet outlet' source')
-      → HasOutcome lives now → source'.failed ≡ failed'
-      → TellsPerson (recovered_line lives.worker) err between
-      → SaysText (last_words (ended_by now)) 0 between status err'
-      → ServesOnDisk medium takes given found last outlet outlet' err err' failed' status
-  broken : (why : WorkFault) (told : OnDiskFault) (source' : Standing) (between : PrinterState)
-      → (lives : LivesOnDisk medium takes given (Err (recover.Worker why)) found last outlet
-      outlet' source')
-      → HasBrokenOff lives why → source'.failed ≡ failed' → IsToldOnDisk why source'.fault told
-      → TellsPerson (recovered_line lives.worker) err between
-      → IsSaid (status_on_disk told) between status err'
-      → ServesOnDisk medium takes given found last outlet outlet' err err' failed' status
+pub data ServesOnDisk {D O : Type 0} (medium : D → Medium) (takes : Taking O)
+    (before : RunStart D O) (after : RunEnd D O) (status : ℕ) : Type 0 where
+  unopened : (why : RecoverFault)
+      → IsUnopenedRun medium takes why before.disk after.disk before.outlet after.outlet
+      → after.failed ≡ before.given.failed
+      → IsSaid (status_on_disk (opening_fault why)) before.err status after.err
+      → ServesOnDisk medium takes before after status
+  over : (now : Now) (source' : SourceState) (between : PrinterState) → now ≢ Spent
+      → (lives : LivesOnDisk medium takes (Ok []) before after source')
+      → HasOutcome lives now → source'.failed ≡ after.failed
+      → TellsPerson (recovered_line lives.worker) before.err between
+      → SaysText (last_words (ended_by now)) 0 between status after.err
+      → ServesOnDisk medium takes before after status
+  broken : (why : WorkFault) (told : OnDiskFault) (source' : SourceState) (between : PrinterState)
+      → (lives : LivesOnDisk medium takes (Err (recover.Worker why)) before after source')
+      → HasBrokenOff lives why → source'.failed ≡ after.failed
+      → IsReportedOnDisk why source'.fault told → TellsPerson (recovered_line lives.worker)
+      before.err between → IsSaid (status_on_disk told) between status after.err
+      → ServesOnDisk medium takes before after status

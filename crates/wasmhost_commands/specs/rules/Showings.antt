@@ -6,7 +6,7 @@ use Rattle.sector_disk.specs.rules.Medium.{Medium}
 use Rattle.worker.specs.declared.recover_fault.RecoverFault.{RecoverFault}
 use Rattle.worker.specs.declared.surveyed.Survey.{Survey}
 use Rattle.worker.specs.rules.Surveys.{Surveys}
-use Rattle.wasmhost_commands.specs.rules.DiskStatuses.{told_of_opening, status_on_disk}
+use Rattle.wasmhost_commands.specs.rules.DiskStatuses.{opening_fault, status_on_disk}
 use Rattle.wasmhost_commands.specs.rules.Printers.{PrinterState, IsSaid, SaysText}
 
 -- a name, and the digits of a number
@@ -34,7 +34,7 @@ abbrev pub SaysResult : Result Survey RecoverFault → PrinterState → PrinterS
 SaysResult (Ok survey) out out' err err' status =
     SaysSurvey survey out status out' × (err' ≡ err)
 SaysResult (Err why) out out' err err' status =
-    IsSaid (status_on_disk (told_of_opening why)) err status err' × (out' ≡ out)
+    IsSaid (status_on_disk (opening_fault why)) err status err' × (out' ≡ out)
 
 -- The disk was surveyed, and the result is said.
 pub record ShowsDisk (disk disk' : Medium) (out out' err err' : PrinterState) (status : ℕ)

@@ -1,8 +1,8 @@
 -- What the commands find, and the exit status that says it.
 use Rattle.std.specs.Prelude.{ℕ, List, Result, Ok, Err, ⊤, if◌then◌else◌}
-use Rattle.machine_loader.specs.declared.fault.FrontFault.{FrontFault}
+use Rattle.machine_loader.specs.declared.fault.ModuleFault.{ModuleFault}
 use Rattle.machine_loader.specs.rules.Acceptance.{HasAcceptedModule, HasNoAcceptedModule}
-use Rattle.machine_loader.specs.rules.Acceptance.{FrontDenies, is_want}
+use Rattle.machine_loader.specs.rules.Acceptance.{ModuleFaultDenies, is_want}
 use Rattle.ephemeral_worker.specs.declared.fault.SliceFault.{SliceFault}
 use Rattle.ephemeral_worker.specs.declared.fault.SliceFault.TheVariants as fault
 use Rattle.wasmhost_commands.specs.declared.lines.fault.LineFault.{LineFault}
@@ -10,12 +10,12 @@ use Rattle.wasmhost_commands.specs.declared.lines.fault.LineFault.TheVariants as
 
 -- The bytes spell an accepted module, or none for the fault to be told. Want of memory says nothing
 -- of them.
-abbrev pub IsRight : ℕ → List ℕ → Result ⊤ FrontFault → Type 0
+abbrev pub IsRight : ℕ → List ℕ → Result ⊤ ModuleFault → Type 0
 IsRight pages bytes (Ok done) = HasAcceptedModule pages bytes
-IsRight pages bytes (Err fault) = FrontDenies fault (HasNoAcceptedModule pages bytes)
+IsRight pages bytes (Err fault) = ModuleFaultDenies fault (HasNoAcceptedModule pages bytes)
 
 -- the exit status of a verdict whose line is printed
-abbrev pub status_by : Result ⊤ FrontFault → ℕ
+abbrev pub status_by : Result ⊤ ModuleFault → ℕ
 status_by (Ok done) = 0
 status_by (Err fault) = if is_want fault then 5 else 3
 

@@ -33,19 +33,21 @@ use Rattle.wasmhost_commands.specs.rules.Texts.{printed}
 -- ---- the text
 
 -- the SHA-256 of an image, in hexadecimal digits, at the end of a line
-abbrev pub image_text : List ℕ → List ℕ
-image_text image = codes " image " ++ encode_lower (sha256 image) ++ codes "\n"
+abbrev pub process_image_text : List ℕ → List ℕ
+process_image_text process_image = codes " image " ++ encode_lower
+    (sha256 process_image) ++ codes "\n"
 
 -- how a life was opened, as it is printed: of a recovered one its numbers and its image
 abbrev pub opening_line : ℕ → Opening → List ℕ
-opening_line number (Created image) = named_number (codes "life ") number ++ codes " created\n"
-opening_line number (Recovered generation steps answers lines image) =
+opening_line number (Created process_image) = named_number (codes "life ") number
+    ++ codes " created\n"
+opening_line number (Recovered generation steps answers lines process_image) =
     named_number (codes "life ") number
     ++ named_number (codes " recovered generation ") generation
     ++ named_number (codes " steps ") steps
     ++ named_number (codes " answers ") answers
     ++ named_number (codes " lines ") lines
-    ++ image_text image
+    ++ process_image_text process_image
 opening_line number Unopened = named_number (codes "life ") number ++ codes " not opened\n"
 
 -- a released line, as a run prints it
@@ -100,7 +102,7 @@ script_line number = named_number (codes "failed script line ") number ++ codes 
 
 -- The script spells lives, the module is accepted, and the text of what the worker's lives were is
 -- printed whole.
-pub record IsStoryTold (script wasm : List ℕ) (sizes : Sizes) (out out' : Option (List ℕ))
+pub record IsStoryPrinted (script wasm : List ℕ) (sizes : Sizes) (out out' : Option (List ℕ))
     : Type 0 where
   pub lives : List PlannedLife
   pub spelled : IsScript (lines_of script) lives
@@ -119,7 +121,7 @@ SaysLives reports out out' err err' status =
     ⊎ ((status ≡ 7) × HasOneFailed out' err')
 
 -- A line of the script is faulty, and its number is told.
-pub record IsLineTold (script : List ℕ) (err err' : Option (List ℕ)) : Type 0 where
+pub record IsLineReported (script : List ℕ) (err err' : Option (List ℕ)) : Type 0 where
   pub number : ℕ
   pub faulty : IsFaultAt (lines_of script) number
   pub said : Appends err err' (script_line number)
@@ -137,8 +139,8 @@ pub record IsStoryRefused (script wasm : List ℕ) (sizes : Sizes) : Type 0 wher
 -- and nothing on the error output beside one.
 pub record TellsStory (script wasm : List ℕ) (sizes : Sizes) (out out' err err' : PrinterState)
     (status : ℕ) : Type 0 where
-  pub told : status ≡ 0 → IsStoryTold script wasm sizes out.contents out'.contents × (err' ≡ err)
-  pub faulty : status ≡ 2 → IsLineTold script err.contents err'.contents × (out' ≡ out)
+  pub told : status ≡ 0 → IsStoryPrinted script wasm sizes out.contents out'.contents × (err' ≡ err)
+  pub faulty : status ≡ 2 → IsLineReported script err.contents err'.contents × (out' ≡ out)
   pub refused : status ≡ 3 → IsStoryRefused script wasm sizes × (out' ≡ out)
   pub starved : status ≡ 5 → out' ≡ out
   pub heeded : HeedsBoth out out' err err' status

@@ -16,8 +16,8 @@ use Rattle.wasmhost_commands.specs.rules.Sweeps.{AreSweptLives, IsSwept}
 
 -- a comma, where so many digits are left, and they are groups of three
 abbrev pub comma_before : ℕ → List ℕ
-comma_before left =
-    if nat_lt 0 left then (if left % 3 == 0 then codes "," else []) else []
+comma_before digits_left =
+    if nat_lt 0 digits_left then (if digits_left % 3 == 0 then codes "," else []) else []
 
 -- digits with such commas
 abbrev pub grouped : List ℕ → List ℕ

@@ -45,8 +45,8 @@ AreSweptLives texts number lives place =
 
 -- how many answers a worker has taken when a life has opened it, if it is opened
 abbrev pub answers_when_opened : Opening → Option ℕ
-answers_when_opened (Created image) = Some 0
-answers_when_opened (Recovered generation steps answers lines image) = Some answers
+answers_when_opened (Created process_image) = Some 0
+answers_when_opened (Recovered generation steps answers lines process_image) = Some answers
 answers_when_opened Unopened = None
 
 -- the same, or 0

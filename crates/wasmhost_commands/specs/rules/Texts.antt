@@ -1,12 +1,13 @@
 -- The lines that a worker's reader and writer see (this project's own).
-use Rattle.std.specs.Prelude.{ℕ, ◌≡◌, ◌≤◌, ◌==◌, if◌then◌else◌, List, [], ◌∷◌, ◌++◌, length, map}
-use Rattle.std.specs.Prelude.{codes}
+use Rattle.std.specs.Prelude.{ℕ, ◌≡◌, ◌≤◌, List, [], ◌∷◌, ◌++◌, length, map, codes}
 use Rattle.std.specs.Borrow.{Bor}
 use Rattle.std.specs.Fmt.{decimal}
 use Rattle.wasm_syntax.specs.declared.value.Trap.{Trap}
 use Rattle.wasm_syntax.specs.declared.value.Trap.TheVariants as trap
 use Rattle.wasi_abi.specs.rules.Answers.{newline}
-use Rattle.wasi_calls_rules.specs.Hosts.{Line}
+use Rattle.wasi_calls_rules.specs.WasiStates.{Line}
+use Rattle.wasi_calls_rules.specs.declared.output_stream.OutputStream.{OutputStream}
+use Rattle.wasi_calls_rules.specs.declared.output_stream.OutputStream.TheVariants.{Stdout, Stderr}
 use Rattle.wasmhost_commands.specs.declared.lines.request.Request.{Request}
 use Rattle.wasmhost_commands.specs.declared.lines.request.Request.TheVariants as request
 use Rattle.wasmhost_commands.specs.rules.Numbers.{IsNumberedRequest}
@@ -15,9 +16,10 @@ use Rattle.wasmhost_commands.specs.rules.Numbers.{IsNumberedRequest}
 abbrev pub texts_in : List (Bor (List ℕ)) → List (List ℕ)
 texts_in = map (λ text. text.now)
 
--- stream 1 is the output, and stream 2 the error output
-abbrev pub letter_of : ℕ → List ℕ
-letter_of stream = if stream == 2 then codes " e " else codes " o "
+-- the letter of a stream: `o` of the output, and `e` of the error output
+abbrev pub letter_of : OutputStream → List ℕ
+letter_of Stdout = codes " o "
+letter_of Stderr = codes " e "
 
 -- a line as it is printed: its number, the letter of its stream, its text and a newline
 abbrev pub printed : ℕ → Line → List ℕ

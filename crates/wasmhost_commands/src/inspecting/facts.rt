@@ -9,7 +9,7 @@ ghost use Rattle.wasmhost_commands.specs.rules.InspectionTexts.{snapshot_facts};
 
 use std::io::{self, Write};
 use wasi_abi::Config;
-use wasm_syntax::Row;
+use wasm_syntax::ItemList;
 
 /// Spells a name and a number, on a line.
 pub(super) fn spell_number<W: Write>(out: &mut W, name: &str, number: u64) -> io::Result<()>
@@ -29,8 +29,8 @@ pub(super) fn spell_text<W: Write>(out: &mut W, name: &str, text: &[u8]) -> io::
     out.write_all(b"\n")
 }
 
-/// Spells texts, each on a line behind the same name.
-fn spell_texts<W: Write>(out: &mut W, name: &str, texts: &[Row<u8>]) -> io::Result<()>
+/// Spells texts, each on a line after the same name.
+fn spell_texts<W: Write>(out: &mut W, name: &str, texts: &[ItemList<u8>]) -> io::Result<()>
     ensures { OnOk result (Appends (W.contents out.old) (W.contents out.new)
         (flat_map (text_fact name.now) texts.now)) }
 {

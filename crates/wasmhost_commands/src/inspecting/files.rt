@@ -130,7 +130,7 @@ fn say_files<W: Write + Drop, E: Write + Drop>(
 /// Lists the files of the process that was saved last on a worker's disk, or writes the one under a
 /// path. Nothing is changed on the disk, but that it is synced. Answers the exit status: 0 where
 /// they are listed or written, 3 for a disk that is refused or a path that isn't that of a file, 4
-/// where the disk fails, 5 for want of memory, 7 where a write of a printer has failed.
+/// where the disk fails, 5 for out of memory, 7 where a write of a printer has failed.
 pub fn list_files<D: Disk, W: Write + Drop, E: Write + Drop>(
     alloc: Global,
     disk: &mut D,

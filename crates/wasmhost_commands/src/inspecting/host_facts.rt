@@ -11,7 +11,7 @@ ghost use Rattle.wasmhost_commands.specs.rules.InspectionTexts.{usage_fact};
 use file_tree::Tree;
 use file_tree::limits::NODES;
 use std::io::{self, Write};
-use wasi_calls::{Descriptor, Host, Names};
+use wasi_calls::{Descriptor, Names, WasiState};
 
 /// Spells what a descriptor names.
 fn spell_target<W: Write>(out: &mut W, tree: &Tree, names: Names) -> io::Result<()>
@@ -96,7 +96,7 @@ fn spell_usage<W: Write>(out: &mut W, name: &str, used: u64, limit: u64) -> io::
 }
 
 /// Spells the files of a host, which may have so many bytes, and what is open.
-pub(super) fn spell_host<W: Write>(out: &mut W, host: &Host, room: u64) -> io::Result<()>
+pub(super) fn spell_host<W: Write>(out: &mut W, host: &WasiState, room: u64) -> io::Result<()>
     ensures { OnOk result (Appends (W.contents out.old) (W.contents out.new)
         (host_facts room host.now.host)) }
 {

@@ -14,7 +14,7 @@ use file_tree::Tree;
 use file_tree::limits::NODES;
 use serde_json::{Value, json, push, put};
 use std::alloc::{AllocError, Global};
-use wasi_calls::{Descriptor, Host, Names};
+use wasi_calls::{Descriptor, Names, WasiState};
 
 /// The word for what a descriptor names.
 fn target_word(tree: &Tree, names: Names) -> &'static str
@@ -48,13 +48,13 @@ fn descriptor_value(
         ≡ descriptor_data tree.now number descriptor.now) }
 {
     let names = descriptor.names();
-    let kind = target_word(tree, names);
+    let target_type = target_word(tree, names);
     let offset = descriptor.offset();
     let target = target_number(names);
-    json!(in alloc; {"kind": kind, "number": number, "offset": offset, "target": target})
+    json!(in alloc; {"kind": target_type, "number": number, "offset": offset, "target": target})
 }
 
-/// Puts what is open under a number behind others, if anything is.
+/// Puts what is open under a number after others, if anything is.
 fn push_opened(
     list: &mut Vec<Value>,
     alloc: Global,
@@ -94,7 +94,7 @@ fn descriptors_value(
 pub(super) fn put_host(
     members: &mut Members,
     alloc: Global,
-    host: &Host,
+    host: &WasiState,
     room: u64,
 ) -> Result<(), AllocError>
     ensures { OnOk result (Puts members.old.entries members.new.entries

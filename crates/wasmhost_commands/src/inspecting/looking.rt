@@ -30,10 +30,10 @@ fn say_inspection<W: Write + Drop, E: Write + Drop>(
     }
 }
 
-/// Prints all that stands on a worker's disk, as one JSON value or one fact a line. Nothing is
-/// changed on the disk, but that it is synced. Answers the exit status: 0 where the facts are
-/// printed, 3 for a disk that is refused, 4 where it fails, 5 for want of memory, 7 where a write of
-/// a printer has failed.
+/// Prints all that is on a worker's disk, as one JSON value or one fact a line. Nothing is changed
+/// on the disk, but that it is synced. Answers the exit status: 0 where the facts are printed, 3
+/// for a disk that is refused, 4 where it fails, 5 for out of memory, 7 where a write of a printer
+/// has failed.
 pub fn inspect_disk<D: Disk, W: Write + Drop, E: Write + Drop>(
     alloc: Global,
     disk: &mut D,

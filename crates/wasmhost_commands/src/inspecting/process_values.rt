@@ -6,7 +6,7 @@ ghost use Rattle.process.specs.rules.Values.{ending_of};
 ghost use Rattle.wasmhost_commands.specs.rules.InspectionValues.{Puts, list_data};
 ghost use Rattle.wasmhost_commands.specs.rules.ProcessValues.{frame_data, machine_members};
 ghost use Rattle.wasmhost_commands.specs.rules.ProcessValues.{process_members, progress_members};
-ghost use Rattle.wasmhost_commands.specs.rules.ProcessValues.{state_data, wish_data};
+ghost use Rattle.wasmhost_commands.specs.rules.ProcessValues.{state_data, question_data};
 
 use crate::inspecting::values::{Members, put_number};
 use crate::lines::trap_name;
@@ -14,7 +14,7 @@ use machine::Machine;
 use process::{Process, ProcessEnd};
 use serde_json::{Value, json, push, put};
 use std::alloc::{AllocError, Global};
-use wasi_abi::Kind;
+use wasi_abi::Question;
 
 /// Puts how far a process has come.
 fn put_progress(members: &mut Members, alloc: Global, process: &Process) -> Result<(), AllocError>
@@ -29,15 +29,15 @@ fn put_progress(members: &mut Members, alloc: Global, process: &Process) -> Resu
 }
 
 /// What a process waits for.
-fn wish_value(alloc: Global, wish: Option<Kind>) -> Result<Value, AllocError>
-    ensures { IfOk result (λ value. view value ≡ wish_data wish) }
+fn question_value(alloc: Global, question: Option<Question>) -> Result<Value, AllocError>
+    ensures { IfOk result (λ value. view value ≡ question_data question) }
 {
-    match wish {
+    match question {
         None => Value::try_from_str(alloc, "nothing"),
-        Some(Kind::Request) => Value::try_from_str(alloc, "request"),
-        Some(Kind::Realtime) => Value::try_from_str(alloc, "realtime"),
-        Some(Kind::Monotonic) => Value::try_from_str(alloc, "monotonic"),
-        Some(Kind::Random { length }) => json!(in alloc; {"random": length}),
+        Some(Question::Request) => Value::try_from_str(alloc, "request"),
+        Some(Question::Realtime) => Value::try_from_str(alloc, "realtime"),
+        Some(Question::Monotonic) => Value::try_from_str(alloc, "monotonic"),
+        Some(Question::Random { length }) => json!(in alloc; {"random": length}),
     }
 }
 
@@ -56,14 +56,14 @@ fn state_value(alloc: Global, end: Option<ProcessEnd>) -> Result<Value, AllocErr
 fn put_state(
     members: &mut Members,
     alloc: Global,
-    wish: Option<Kind>,
+    question: Option<Question>,
     end: Option<ProcessEnd>,
 ) -> Result<(), AllocError>
     ensures { OnOk result (Puts members.old.entries members.new.entries
-        ((codes "waits", wish_data wish)
+        ((codes "waits", question_data question)
         ∷ (codes "state", state_data (option_map ending_of end)) ∷ [])) }
 {
-    let waits = wish_value(alloc, wish)?;
+    let waits = question_value(alloc, question)?;
     put(members, alloc, "waits", waits)?;
     let state = state_value(alloc, end)?;
     put(members, alloc, "state", state)
@@ -113,17 +113,17 @@ fn put_machine(members: &mut Members, alloc: Global, machine: &Machine) -> Resul
     )
 }
 
-/// Puts where a process stands, and that it waits for this.
+/// Puts where a process is, and that it waits for this.
 pub(super) fn put_process(
     members: &mut Members,
     alloc: Global,
     process: &Process,
-    wish: Option<Kind>,
+    question: Option<Question>,
 ) -> Result<(), AllocError>
     ensures { OnOk result (Puts members.old.entries members.new.entries
-        (process_members process.now wish)) }
+        (process_members process.now question)) }
 {
     put_progress(members, alloc, process)?;
-    put_state(members, alloc, wish, process.reached_end())?;
+    put_state(members, alloc, question, process.reached_end())?;
     put_machine(members, alloc, process.machine())
 }

@@ -1,11 +1,12 @@
-//! Facts of a process: how far it has come, and where it stands.
+//! Facts of a process: how far it has come, and where it is.
 
 ghost use Rattle.std.specs.Prelude.{◌≡◌, OnOk, Some, option_map, reverse};
 ghost use Rattle.std.specs.Io.KnownBytes.{Appends};
 ghost use Rattle.std.specs.List.{flat_map};
 ghost use Rattle.process.specs.rules.Values.{ending_of};
-ghost use Rattle.wasi_abi.specs.declared.answer.Kind.TheVariants.{Random};
-ghost use Rattle.wasmhost_commands.specs.rules.ProcessTexts.{progress_facts, wish_fact, frame_fact};
+ghost use Rattle.wasi_abi.specs.declared.answer.Question.TheVariants.{Random};
+ghost use Rattle.wasmhost_commands.specs.rules.ProcessTexts.{progress_facts, question_fact};
+ghost use Rattle.wasmhost_commands.specs.rules.ProcessTexts.{frame_fact};
 ghost use Rattle.wasmhost_commands.specs.rules.ProcessTexts.{machine_facts, process_facts};
 ghost use Rattle.wasmhost_commands.specs.rules.ProcessTexts.{state_fact};
 
@@ -14,7 +15,7 @@ use crate::lines::trap_name;
 use machine::Machine;
 use process::{Process, ProcessEnd};
 use std::io::{self, Write};
-use wasi_abi::Kind;
+use wasi_abi::Question;
 
 /// Spells how far a process has come.
 fn spell_progress<W: Write>(out: &mut W, process: &Process) -> io::Result<()>
@@ -31,21 +32,22 @@ fn spell_progress<W: Write>(out: &mut W, process: &Process) -> io::Result<()>
 /// Spells that a process waits for so many random bytes.
 fn spell_random<W: Write>(out: &mut W, length: u32) -> io::Result<()>
     ensures { OnOk result (Appends (W.contents out.old) (W.contents out.new)
-        (wish_fact (Some (Random length)))) }
+        (question_fact (Some (Random length)))) }
 {
     writeln!(out, "waits random {length}")
 }
 
 /// Spells what a process waits for.
-fn spell_wish<W: Write>(out: &mut W, wish: Option<Kind>) -> io::Result<()>
-    ensures { OnOk result (Appends (W.contents out.old) (W.contents out.new) (wish_fact wish)) }
+fn spell_question<W: Write>(out: &mut W, question: Option<Question>) -> io::Result<()>
+    ensures { OnOk result (Appends (W.contents out.old) (W.contents out.new)
+        (question_fact question)) }
 {
-    match wish {
+    match question {
         None => out.write_all(b"waits nothing\n"),
-        Some(Kind::Request) => out.write_all(b"waits request\n"),
-        Some(Kind::Realtime) => out.write_all(b"waits realtime\n"),
-        Some(Kind::Monotonic) => out.write_all(b"waits monotonic\n"),
-        Some(Kind::Random { length }) => spell_random(out, length),
+        Some(Question::Request) => out.write_all(b"waits request\n"),
+        Some(Question::Realtime) => out.write_all(b"waits realtime\n"),
+        Some(Question::Monotonic) => out.write_all(b"waits monotonic\n"),
+        Some(Question::Random { length }) => spell_random(out, length),
     }
 }
 
@@ -97,17 +99,17 @@ fn spell_machine<W: Write>(out: &mut W, machine: &Machine) -> io::Result<()>
     spell_number(out, "memory", u64::from(machine.memory().pages()))
 }
 
-/// Spells where a process stands, and that it waits for this.
+/// Spells where a process is, and that it waits for this.
 pub(super) fn spell_process<W: Write>(
     out: &mut W,
     process: &Process,
-    wish: Option<Kind>,
+    question: Option<Question>,
 ) -> io::Result<()>
     ensures { OnOk result (Appends (W.contents out.old) (W.contents out.new)
-        (process_facts process.now wish)) }
+        (process_facts process.now question)) }
 {
     spell_progress(out, process)?;
-    spell_wish(out, wish)?;
+    spell_question(out, question)?;
     spell_state(out, process.reached_end())?;
     spell_machine(out, process.machine())
 }

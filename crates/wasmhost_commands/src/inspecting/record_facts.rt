@@ -63,10 +63,14 @@ fn spell_records<W: Write>(out: &mut W, records: &[Record]) -> io::Result<()>
 }
 
 /// Spells the records of a journal, and how many of its sectors are left.
-pub(super) fn spell_journal<W: Write>(out: &mut W, records: &[Record], left: u64) -> io::Result<()>
+pub(super) fn spell_journal<W: Write>(
+    out: &mut W,
+    records: &[Record],
+    sectors_left: u64,
+) -> io::Result<()>
     ensures { OnOk result (Appends (W.contents out.old) (W.contents out.new)
-        (journal_facts records.now left)) }
+        (journal_facts records.now sectors_left)) }
 {
     spell_records(out, records)?;
-    spell_number(out, "left", left)
+    spell_number(out, "left", sectors_left)
 }

@@ -38,12 +38,12 @@ pub(super) fn put_journal(
     members: &mut Members,
     alloc: Global,
     records: &[Record],
-    left: u64,
+    sectors_left: u64,
 ) -> Result<(), AllocError>
     ensures { OnOk result (Puts members.old.entries members.new.entries
-        (journal_members records.now left)) }
+        (journal_members records.now sectors_left)) }
 {
     let list = records_value(alloc, records)?;
     put(members, alloc, "records", list)?;
-    put_number(members, alloc, "left", left)
+    put_number(members, alloc, "left", sectors_left)
 }

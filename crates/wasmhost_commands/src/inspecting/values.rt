@@ -8,7 +8,7 @@ ghost use Rattle.wasmhost_commands.specs.rules.InspectionValues.{text_data, usag
 use serde_json::{Map, Value, json, push, put};
 use std::alloc::{AllocError, Global};
 use std::str;
-use wasm_syntax::Row;
+use wasm_syntax::ItemList;
 
 /// The members of an object, by their names.
 pub(super) type Members = Map<String, Value>;
@@ -48,7 +48,7 @@ fn text_value(alloc: Global, text: &[u8]) -> Result<Value, AllocError>
 }
 
 /// A list of texts.
-fn texts_value(alloc: Global, texts: &[Row<u8>]) -> Result<Value, AllocError>
+fn texts_value(alloc: Global, texts: &[ItemList<u8>]) -> Result<Value, AllocError>
     ensures { IfOk result (λ value. view value ≡ list_data text_data texts.now) }
 {
     let mut list = Vec::new(alloc);
@@ -63,7 +63,7 @@ pub(super) fn put_texts(
     members: &mut Members,
     alloc: Global,
     name: &str,
-    texts: &[Row<u8>],
+    texts: &[ItemList<u8>],
 ) -> Result<(), AllocError>
     ensures { OnOk result (Puts members.old.entries members.new.entries
         ((name.now, list_data text_data texts.now) ∷ [])) }

@@ -49,8 +49,8 @@ fn spell_inspection<W: Write>(out: &mut W, told: &Inspection) -> io::Result<()>
 {
     let room = u64::from(told.contents.config.files()) * UNIT_BYTES;
     spell_contents(out, told.process.version(), &told.contents)?;
-    spell_snapshot(out, told.generation, told.image_bytes)?;
-    spell_process(out, &told.process, told.wish)?;
+    spell_snapshot(out, told.generation, told.process_image_bytes)?;
+    spell_process(out, &told.process, told.question)?;
     spell_host(out, told.process.host(), room)?;
     spell_journal(out, told.records.as_slice(), told.journal_left)
 }

@@ -40,8 +40,8 @@ fn put_inspection(members: &mut Members, alloc: Global, told: &Inspection) -> Re
 {
     let room = u64::from(told.contents.config.files()) * UNIT_BYTES;
     put_contents(members, alloc, told.process.version(), &told.contents)?;
-    put_snapshot(members, alloc, told.generation, told.image_bytes)?;
-    put_process(members, alloc, &told.process, told.wish)?;
+    put_snapshot(members, alloc, told.generation, told.process_image_bytes)?;
+    put_process(members, alloc, &told.process, told.question)?;
     put_host(members, alloc, told.process.host(), room)?;
     put_journal(members, alloc, told.records.as_slice(), told.journal_left)
 }

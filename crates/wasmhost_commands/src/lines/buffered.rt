@@ -79,7 +79,7 @@ fn take_piece<R: BufRead>(
     Ok(is_done)
 }
 
-/// The pieces of a buffered reader. It fails where that one does, and behind 2^64 - 1 pieces.
+/// The pieces of a buffered reader. It fails where that one does, and after 2^64 - 1 pieces.
 #[derive(Drop)]
 pub struct BufferedLines<R: BufRead + Drop> {
     reader: R,
@@ -89,7 +89,7 @@ pub struct BufferedLines<R: BufRead + Drop> {
     begun: u64,
 }
 
-/// So many lines are begun behind a piece, which may be the first one of its line.
+/// So many lines are begun after a piece, which may be the first one of its line.
 fn begun_with(begun: u64, is_first: bool) -> u64 {
     if is_first {
         begun.saturating_add(1)

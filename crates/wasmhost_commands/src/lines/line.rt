@@ -51,7 +51,7 @@ fn cut_newline(line: &mut Vec<u8>)
 }
 
 /// Reads the next line, without its newline. There is none at the end. A line that is too long for
-/// a text of `limit` bytes is refused, and the reader stands within it then.
+/// a text of `limit` bytes is refused, and the reader is within it then.
 pub fn read_line<R: LineReader>(
     reader: &mut R,
     limit: usize,

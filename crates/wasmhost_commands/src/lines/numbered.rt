@@ -2,7 +2,7 @@
 
 ghost use Rattle.std.specs.Prelude.{◌≡◌, ◌<◌, ◌^◌, ℕ, [], IfOk, IfErr, OnOk, OnErr};
 ghost use Rattle.std.specs.List.{AllByRecursion};
-ghost use Rattle.wasi_abi.specs.declared.answer.Kind.TheVariants as kinds;
+ghost use Rattle.wasi_abi.specs.declared.answer.Question.TheVariants as questions;
 ghost use Rattle.wasi_abi.specs.declared.answer.Answer.TheVariants as answers;
 ghost use Rattle.wasi_abi.specs.rules.Answers.{AreBytes, Fits, IsNoNewline};
 ghost use Rattle.wasi_abi.specs.declared.version.Version.TheVariants.{One};
@@ -18,7 +18,7 @@ use crate::lines::reader::LineReader;
 use crate::lines::request::{Request, read_request};
 use std::alloc::Global;
 use wasi_abi::{Answer, Version};
-use wasm_syntax::Row;
+use wasm_syntax::ItemList;
 
 /// The requests that the lines of a reader give: the next number's text or end. A line with a
 /// number that was taken is passed over, and a later one is refused.
@@ -42,7 +42,7 @@ fn text_answer(alloc: Global, text: &[u8]) -> Result<Answer, LineFault>
     let Ok(text) = text.to_vec(alloc) else {
         return Err(LineFault::Memory);
     };
-    let text = Row::from_vec(text);
+    let text = ItemList::from_vec(text);
     Ok(Answer::Request { text })
 }
 
@@ -98,7 +98,7 @@ impl<R: LineReader + Drop> NumberedRequests<R> {
         ensures is { IfOk result (λ answer. answer ≡ answer_in request.entry) }
         ensures fits { (limit : ℕ) → IsShortRequest limit request.entry
             → AllByRecursion IsNoNewline (request_line request.entry)
-            → IfOk result (Fits limit kinds.Request) }
+            → IfOk result (Fits limit questions.Request) }
         ensures failed { IfErr result (λ fault. fault ≡ Memory) }
     {
         let Request::Text { text, .. } = request else {

@@ -9,15 +9,16 @@ use record_replay::{Outlet, OutletFault};
 use std::alloc::{AllocError, Global};
 use std::io::Write;
 use std::marker::Model;
+use wasi_calls_rules::OutputStream;
 use wasi_calls_rules::limits::LINE_BYTES;
 
 /// Room for a worker's longest line: its number, a letter, two spaces and a newline beside the
 /// text.
 const LINE_ROOM: usize = LINE_BYTES + 24;
 
-/// Prints each line as `N o text`, or `N e text` where it was written to stream 2, with its
-/// newline, by one write, and flushes the writer behind it. It refuses a line only since a write of
-/// it has failed. Contracts see its printer.
+/// Prints each line as `N o text`, or `N e text` where it was written to stderr, with its newline,
+/// by one write, and flushes the writer after it. It refuses a line only since a write of it has
+/// failed. Contracts see its printer.
 #[derive(Drop)]
 pub struct LineOutlet<W: Write + Drop> {
     out: Printer<W>,
@@ -58,7 +59,12 @@ impl<W: Write + Drop> Outlet for LineOutlet<W> {
 
     ghost takes = { λ old number line said new. printing old number line said new };
 
-    fn release(&mut self, number: u64, stream: u8, text: &[u8]) -> Result<(), OutletFault> {
+    fn release(
+        &mut self,
+        number: u64,
+        stream: OutputStream,
+        text: &[u8],
+    ) -> Result<(), OutletFault> {
         match print_line(&mut self.out, &mut self.line, number, stream, text) {
             Ok(()) => Ok(()),
             Err(_) => Err(OutletFault),

@@ -13,9 +13,9 @@ use crate::lines::real_time::{RealTime, real_time};
 use crate::seed::seeded;
 use std::alloc::Global;
 use wasi_abi::Answer;
-use wasm_syntax::Row;
+use wasm_syntax::ItemList;
 
-/// The stream of a seed's words at which a source begins, before it goes on behind a worker.
+/// The stream of a seed's words at which a source begins, before it goes on after a worker.
 pub(crate) const STREAM: u64 = 1;
 
 /// Where times and random bytes come from.
@@ -58,6 +58,6 @@ pub(crate) fn random_answer(
     let Ok(bytes) = seeded(alloc, seed, stream, place, length as usize) else {
         return Err(LineFault::Memory);
     };
-    let bytes = Row::from_vec(bytes);
+    let bytes = ItemList::from_vec(bytes);
     Ok(Answer::Random { bytes })
 }

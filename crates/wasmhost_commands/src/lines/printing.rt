@@ -8,19 +8,23 @@ ghost use Rattle.wasmhost_commands.specs.rules.Texts.{letter_of, printed};
 use crate::printer::Printer;
 use itoa::Buffer;
 use std::io::{self, Write};
+use wasi_calls_rules::OutputStream;
 
-/// The letter of a stream, between two spaces: `o`, or `e` for stream 2.
-fn letter(stream: u8) -> &'static [u8]
+/// The letter of a stream, between two spaces.
+fn letter(stream: OutputStream) -> &'static [u8]
     ensures { result.now ≡ letter_of stream }
 {
-    if stream == 2 { b" e " } else { b" o " }
+    match stream {
+        OutputStream::Stdout => b" o ",
+        OutputStream::Stderr => b" e ",
+    }
 }
 
 /// Spells a line: its number, the letter of its stream, its text and a newline.
 pub(crate) fn spell_line<W: Write>(
     out: &mut W,
     number: u64,
-    stream: u8,
+    stream: OutputStream,
     text: &[u8],
 ) -> io::Result<()>
     ensures { OnOk result (Appends (W.contents out.old) (W.contents out.new)
@@ -36,7 +40,7 @@ pub(crate) fn spell_line<W: Write>(
 fn write_parts<W: Write + Drop>(
     out: &mut Printer<W>,
     number: u64,
-    stream: u8,
+    stream: OutputStream,
     text: &[u8],
 ) -> io::Result<()>
     ensures { PrintsOneLine out.old number (record { stream = stream; text = text.now }) result
@@ -54,7 +58,7 @@ fn write_line<W: Write + Drop>(
     out: &mut Printer<W>,
     line: &mut Vec<u8>,
     number: u64,
-    stream: u8,
+    stream: OutputStream,
     text: &[u8],
 ) -> io::Result<()>
     ensures { PrintsOneLine out.old number (record { stream = stream; text = text.now }) result
@@ -72,7 +76,7 @@ pub fn print_line<W: Write + Drop>(
     out: &mut Printer<W>,
     line: &mut Vec<u8>,
     number: u64,
-    stream: u8,
+    stream: OutputStream,
     text: &[u8],
 ) -> io::Result<()>
     ensures { PrintsOneLine out.old number (record { stream = stream; text = text.now }) result

@@ -60,7 +60,7 @@ fn first_space(line: &[u8]) -> Option<usize>
     line.iter().position(|byte| *byte == b' ')
 }
 
-/// What stands before the first space, and what behind it.
+/// What is before the first space, and what after it.
 fn split_at_space(line: &[u8]) -> Option<(&[u8], &[u8])>
     ensures parts { IfSome result (λ r. line.now ≡ r.0.now ++ 32 ∷ r.1.now) }
     ensures found { (front back : List ℕ) → line.now ≡ front ++ 32 ∷ back
@@ -71,7 +71,7 @@ fn split_at_space(line: &[u8]) -> Option<(&[u8], &[u8])>
     Some((&line[..space], &line[space + 1..]))
 }
 
-/// What is said behind the number and its space: `r text`, with a text of at most `limit` bytes, or
+/// What is said after the number and its space: `r text`, with a text of at most `limit` bytes, or
 /// `e`.
 fn read_said<'a>(limit: usize, number: u64, said: &'a [u8]) -> Option<Request<'a>>
     ensures spelled { IfSome result (λ read. decimal number ++ 32 ∷ said.entry.now

@@ -1,11 +1,12 @@
 //! A source of answers: request lines, clocks and the words of a seed.
 
 ghost use Rattle.std.specs.Prelude.{◌≡◌, ◌+◌, None, IfOk, IfErr, OnOk, OnErr};
-ghost use Rattle.wasi_abi.specs.declared.answer.Kind.TheVariants as kinds;
+ghost use Rattle.wasi_abi.specs.declared.answer.Question.TheVariants as questions;
 ghost use Rattle.wasi_abi.specs.declared.answer.Answer.TheVariants as answers;
 ghost use Rattle.wasi_abi.specs.declared.version.Version.TheVariants.{One};
 ghost use Rattle.wasi_abi.specs.rules.Versions.{text_limit};
-ghost use Rattle.wasmhost_commands.specs.Lines.Answers.{Finds, IsRefusedAt, IsWordless, standing};
+ghost use Rattle.wasmhost_commands.specs.Lines.Answers.{Finds, IsRefusedAt, IsWordless};
+ghost use Rattle.wasmhost_commands.specs.Lines.Answers.{source_state};
 ghost use Rattle.wasmhost_commands.specs.rules.Outside.{random_stream, ShowsRealTime};
 ghost use Rattle.wasmhost_commands.specs.rules.Seeds.{seeded_bytes, words_for};
 
@@ -16,12 +17,12 @@ use crate::lines::reader::LineReader;
 use crate::lines::real_time::RealTime;
 use record_replay::{Source, SourceFault};
 use std::alloc::Global;
-use wasi_abi::{Answer, Kind, Version};
+use wasi_abi::{Answer, Question, Version};
 
 /// Answers requests with the lines of a reader, clocks with a fixed time or the machine's, and
-/// wishes for random bytes with the next words of a seed. No answer is there where a request is
+/// questions for random bytes with the next words of a seed. No answer is there where a request is
 /// asked for and the lines have come to their end. After a fault all is refused, since the reader
-/// may stand within a line.
+/// may be within a line.
 #[derive(Drop)]
 pub struct RequestSource<R: LineReader + Drop, C: RealTime + Drop> {
     alloc: Global,
@@ -110,21 +111,21 @@ impl<R: LineReader + Drop, C: RealTime + Drop> RequestSource<R, C> {
     }
 
     /// The answer to a question, or none where the lines have come to their end.
-    fn find(&mut self, kind: Kind) -> Result<Option<Answer>, LineFault>
-        ensures found { IfOk result (λ found. Finds kind
-            (standing self.old.outside (text_limit self.old.requests.version) self.old.stream
+    fn find(&mut self, question: Question) -> Result<Option<Answer>, LineFault>
+        ensures found { IfOk result (λ found. Finds question
+            (source_state self.old.outside (text_limit self.old.requests.version) self.old.stream
             self.old.requests.taken self.old.place (R.unread self.old.requests.reader)
             (R.has_failed self.old.requests.reader) None)
             found
-            (standing self.new.outside (text_limit self.new.requests.version) self.new.stream
+            (source_state self.new.outside (text_limit self.new.requests.version) self.new.stream
             self.new.requests.taken self.new.place (R.unread self.new.requests.reader)
             (R.has_failed self.new.requests.reader) None)) }
         ensures real { self.old.outside.clock ≡ None → IfOk result
             (ShowsRealTime (C.gives_time self.old.clock)) }
         ensures steady { OnOk result
             (R.has_failed self.new.requests.reader ≡ R.has_failed self.old.requests.reader) }
-        ensures failed { IfErr result (IsRefusedAt kind
-            (standing self.old.outside (text_limit self.old.requests.version) self.old.stream
+        ensures failed { IfErr result (IsRefusedAt question
+            (source_state self.old.outside (text_limit self.old.requests.version) self.old.stream
             self.old.requests.taken self.old.place (R.unread self.old.requests.reader)
             (R.has_failed self.old.requests.reader) None)
             (R.has_failed self.new.requests.reader)) }
@@ -136,17 +137,17 @@ impl<R: LineReader + Drop, C: RealTime + Drop> RequestSource<R, C> {
             ≡ text_limit self.old.requests.version }
         ensures fault { self.new.fault ≡ self.old.fault }
     {
-        match kind {
-            Kind::Request => self.requests.next_request(),
-            Kind::Realtime => {
+        match question {
+            Question::Request => self.requests.next_request(),
+            Question::Realtime => {
                 let nanoseconds = time_of(self.outside, &self.clock)?;
                 Ok(Some(Answer::Realtime { nanoseconds }))
             }
-            Kind::Monotonic => {
+            Question::Monotonic => {
                 let nanoseconds = time_of(self.outside, &self.clock)?;
                 Ok(Some(Answer::Monotonic { nanoseconds }))
             }
-            Kind::Random { length } => {
+            Question::Random { length } => {
                 let answer = self.draw(length)?;
                 Ok(Some(answer))
             }
@@ -156,20 +157,20 @@ impl<R: LineReader + Drop, C: RealTime + Drop> RequestSource<R, C> {
 
 impl<R: LineReader + Drop, C: RealTime + Drop> Source for RequestSource<R, C> {
     ghost use Rattle.wasi_abi.specs.rules.Versions.{text_limit};
-    ghost use Rattle.wasmhost_commands.specs.Lines.Answers.{HandsNext, standing};
+    ghost use Rattle.wasmhost_commands.specs.Lines.Answers.{HandsNext, source_state};
 
-    ghost gives = { λ old kind said new. HandsNext kind
-        (standing old.outside (text_limit old.requests.version) old.stream old.requests.taken
+    ghost gives = { λ old question said new. HandsNext question
+        (source_state old.outside (text_limit old.requests.version) old.stream old.requests.taken
         old.place (R.unread old.requests.reader) (R.has_failed old.requests.reader) old.fault)
         said
-        (standing new.outside (text_limit new.requests.version) new.stream new.requests.taken
+        (source_state new.outside (text_limit new.requests.version) new.stream new.requests.taken
         new.place (R.unread new.requests.reader) (R.has_failed new.requests.reader) new.fault) };
 
-    fn answer(&mut self, kind: Kind) -> Result<Option<Answer>, SourceFault> {
+    fn answer(&mut self, question: Question) -> Result<Option<Answer>, SourceFault> {
         if self.fault.is_some() {
             return Err(SourceFault);
         }
-        match self.find(kind) {
+        match self.find(question) {
             Ok(answer) => Ok(answer),
             Err(fault) => {
                 self.fault = Some(fault);

@@ -35,7 +35,7 @@ fn say_created<W: Write + Drop>(out: &mut Printer<W>, sectors: u64) -> u8
 
 /// Creates a worker of the module that the bytes spell, on this disk, and says how many sectors it
 /// has. Answers the exit status: 0 where it is created, 3 for a module that isn't accepted and a
-/// disk with too few sectors, 4 where the disk fails, 5 for want of memory, 7 where a write of a
+/// disk with too few sectors, 4 where the disk fails, 5 for out of memory, 7 where a write of a
 /// printer has failed.
 pub fn create_on<D: Disk, W: Write + Drop, E: Write + Drop>(
     alloc: Global,

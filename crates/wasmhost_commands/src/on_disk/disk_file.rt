@@ -3,7 +3,7 @@
 ghost use Rattle.std.specs.Prelude.{◌≡◌, ◌≤◌, false, IfErr, IfOk, OnOk, option_map};
 ghost use Rattle.wasmhost_commands.specs.rules.Openings.{IsOpenedFor, SaysUnopened, ShowsFile};
 ghost use Rattle.wasmhost_commands.specs.rules.LookedFiles.{TellsFile, TellsFilesOf};
-ghost use Rattle.wasmhost_commands.specs.rules.Reports.{SaysLine, words_told};
+ghost use Rattle.wasmhost_commands.specs.rules.Reports.{SaysLine, obstacle_words};
 
 use crate::inspecting::{inspect_disk, list_files};
 use crate::on_disk::opening::report_open;
@@ -27,7 +27,7 @@ fn written_back<F: OpenFile + FileExt + LockFile + SizeFile + Drop, E: Write + D
     ensures opened { IfOk result (IsOpenedFor rewrites) }
     ensures quiet { OnOk result (err.new ≡ err.old) }
     ensures said { IfErr result (λ status.
-        SaysLine (words_told Obstacle.Unread) 4 err.old status err.new) }
+        SaysLine (obstacle_words Obstacle.Unread) 4 err.old status err.new) }
     ensures known { IfErr result (λ status. status ≤ 7) }
 {
     if !rewrites {

@@ -1,7 +1,7 @@
 //! Why a worker on its disk isn't opened, or doesn't go on, and the exit status that says it.
 
 ghost use Rattle.std.specs.Prelude.{◌≡◌};
-ghost use Rattle.wasmhost_commands.specs.rules.DiskStatuses.{told_of_opening, told_of_call};
+ghost use Rattle.wasmhost_commands.specs.rules.DiskStatuses.{opening_fault, call_fault};
 ghost use Rattle.wasmhost_commands.specs.rules.DiskStatuses.{status_of_disk, status_of_call};
 ghost use Rattle.wasmhost_commands.specs.rules.DiskStatuses.{status_of_recovery};
 ghost use Rattle.wasmhost_commands.specs.rules.DiskStatuses.{status_on_disk};
@@ -34,7 +34,7 @@ pub(crate) enum OnDiskFault {
 }
 
 impl From<RecoverFault> for OnDiskFault {
-    ghost from_gives = { λ fault told. told ≡ told_of_opening fault };
+    ghost from_gives = { λ fault told. told ≡ opening_fault fault };
 
     fn from(fault: RecoverFault) -> Self {
         match fault {
@@ -45,7 +45,7 @@ impl From<RecoverFault> for OnDiskFault {
 }
 
 impl From<WorkFault> for OnDiskFault {
-    ghost from_gives = { λ fault told. told ≡ told_of_call fault };
+    ghost from_gives = { λ fault told. told ≡ call_fault fault };
 
     fn from(fault: WorkFault) -> Self {
         OnDiskFault::Call(fault)

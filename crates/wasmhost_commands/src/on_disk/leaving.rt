@@ -1,9 +1,9 @@
-//! What a run says of its input behind its last words.
+//! What a run says of its input after its last words.
 
 ghost use Rattle.std.specs.Prelude.{◌≡◌, ◌≤◌};
 ghost use Rattle.std.specs.Io.Buffered.{reader_buffer};
 ghost use Rattle.wasi_abi.specs.rules.Versions.{text_limit};
-ghost use Rattle.wasmhost_commands.specs.rules.Leavings.{SaysLeft, SaysOfInput, left_line};
+ghost use Rattle.wasmhost_commands.specs.rules.Leavings.{SaysUntaken, SaysOfInput, untaken_line};
 ghost use Rattle.wasmhost_commands.specs.rules.Leavings.{place_line};
 ghost use Rattle.wasmhost_commands.specs.rules.Printers.{SaysText};
 
@@ -25,7 +25,7 @@ fn say_place<E: Write + Drop>(err: &mut Printer<E>, number: u64) -> u8
 
 /// Says how many requests nobody took, and answers the exit status.
 fn say_count<E: Write + Drop>(err: &mut Printer<E>, count: usize) -> u8
-    ensures said { SaysText (left_line count) 0 err.old result err.new }
+    ensures said { SaysText (untaken_line count) 0 err.old result err.new }
     ensures known { result ≤ 7 }
 {
     match writeln!(err, "requests not taken: {count}") {
@@ -36,8 +36,8 @@ fn say_count<E: Write + Drop>(err: &mut Printer<E>, count: usize) -> u8
 
 /// Says that of the lines which were read ahead, if there are any, and answers the exit status.
 /// Their texts may have `limit` bytes.
-fn say_left<E: Write + Drop>(err: &mut Printer<E>, limit: usize, ahead: &[u8], taken: u64) -> u8
-    ensures said { SaysLeft limit taken ahead.now err.old result err.new }
+fn say_untaken<E: Write + Drop>(err: &mut Printer<E>, limit: usize, ahead: &[u8], taken: u64) -> u8
+    ensures said { SaysUntaken limit taken ahead.now err.old result err.new }
     ensures known { result ≤ 7 }
 {
     let count = count_later(limit, ahead, taken);
@@ -47,8 +47,8 @@ fn say_left<E: Write + Drop>(err: &mut Printer<E>, limit: usize, ahead: &[u8], t
     say_count(err, count)
 }
 
-/// Says behind a run that ended with this status what else is known of its input: at which line a
-/// refused one stands, and how many requests were read ahead that a worker which is over doesn't
+/// Says after a run that ended with this status what else is known of its input: at which line a
+/// refused one is, and how many requests were read ahead that a worker which is over doesn't
 /// take. Reads nothing more. Answers the exit status, or 7 where a write has failed.
 pub fn report_input<R: Read + Drop, C: RealTime + Drop, E: Write + Drop>(
     source: &RequestSource<BufferedLines<BufReader<R>>, C>,
@@ -66,7 +66,7 @@ pub fn report_input<R: Read + Drop, C: RealTime + Drop, E: Write + Drop>(
     }
     if status == 0 {
         let ahead = requests.reader().read_ahead();
-        return say_left(err, requests.text_limit(), ahead, requests.taken());
+        return say_untaken(err, requests.text_limit(), ahead, requests.taken());
     }
     status
 }

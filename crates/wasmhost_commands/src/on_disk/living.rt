@@ -41,7 +41,7 @@ fn is_spent(now: Now) -> bool
     }
 }
 
-/// Saves a worker behind a slice that has answered this, and tells the watcher. No line waits, and
+/// Saves a worker after a slice that has answered this, and tells the watcher. No line waits, and
 /// none is released.
 fn rest_on<D: Disk, O: Outlet, T: Watcher>(
     worker: &mut Worker,
@@ -55,7 +55,7 @@ fn rest_on<D: Disk, O: Outlet, T: Watcher>(
         (D.medium disk.new) }
     ensures room { total_sectors worker.new.store.geometry ≤ (D.medium disk.new).sectors }
     ensures quiet { outlet.new ≡ outlet.old }
-    ensures told { OnOk result (IsTrue (T.is_told watcher.now worker.new now)) }
+    ensures told { OnOk result (IsTrue (T.is_notified watcher.now worker.new now)) }
 {
     match worker.checkpoint(disk, outlet) {
         Ok(()) => {
@@ -89,7 +89,7 @@ fn round<D: Disk, S: Source, O: Outlet, T: Watcher>(
         disk.new source.new outlet.new) }
     ensures room { IfOk result (λ _.
         total_sectors worker.new.store.geometry ≤ (D.medium disk.new).sectors) }
-    ensures told { IfOk result (λ now. IsTrue (T.is_told watcher.now worker.new now)) }
+    ensures told { IfOk result (λ now. IsTrue (T.is_notified watcher.now worker.new now)) }
 {
     let every = pace.every.get();
     let mut taken = 0;
@@ -121,7 +121,7 @@ pub(crate) fn live<D: Disk, S: Source, O: Outlet, T: Watcher>(
         (scene worker.old disk.old source.old outlet.old) result
         disk.new source.new outlet.new }
     ensures over { IfOk result (λ now. now ≢ Spent) }
-    ensures told { IfOk result (λ now. IsTrue (T.is_told watcher.now worker.new now)) }
+    ensures told { IfOk result (λ now. IsTrue (T.is_notified watcher.now worker.new now)) }
 {
     loop {
         match round(worker, disk, pace, source, outlet, watcher) {

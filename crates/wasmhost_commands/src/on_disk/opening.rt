@@ -32,7 +32,7 @@ fn words_of_cause(cause: OpenCause) -> &'static str
     }
 }
 
-/// Whether an error is want of memory.
+/// Whether an error is out of memory.
 fn is_want(error: &Error) -> bool
     ensures { IsTrue result ↔ (error_kind error.now ≡ ErrorKind.OutOfMemory) }
 {

@@ -4,11 +4,11 @@ ghost use Rattle.std.specs.Prelude.{◌≡◌, ◌≢◌, ◌≤◌, true, IfOk,
 ghost use Rattle.std.specs.Int.NonZero.{non_zero_u64_get};
 ghost use Rattle.disk_layout.specs.rules.Places.{total_sectors};
 ghost use Rattle.ephemeral_worker.specs.declared.now.Now.TheVariants.{Spent};
-ghost use Rattle.wasmhost_commands.specs.rules.DiskStatuses.{IsToldOnDisk};
+ghost use Rattle.wasmhost_commands.specs.rules.DiskStatuses.{IsReportedOnDisk};
 ghost use Rattle.wasmhost_commands.specs.rules.Printers.{IsPrinted, TellsPerson};
 ghost use Rattle.wasmhost_commands.specs.rules.Refusals.{HeedsRefusal};
-ghost use Rattle.wasmhost_commands.specs.rules.ServedOnDisk.{ServesOnDisk, disk_job};
-ghost use Rattle.wasmhost_commands.specs.rules.ServedOnDisk.{recovered_line};
+ghost use Rattle.wasmhost_commands.specs.rules.ServedOnDisk.{ServesOnDisk, disk_job, run_start};
+ghost use Rattle.wasmhost_commands.specs.rules.ServedOnDisk.{run_end, recovered_line};
 ghost use Rattle.wasmhost_commands.specs.rules.Watchings.{WatchesEnd};
 ghost use Rattle.wasmhost_commands.specs.Livings.{HasGoneOn};
 
@@ -28,7 +28,7 @@ use worker::{WorkFault, Worker};
 
 /// A fault of the source is that of a request line, where there is one.
 fn call_fault_of(fault: WorkFault, line: Option<LineFault>) -> OnDiskFault
-    ensures { IsToldOnDisk fault line result }
+    ensures { IsReportedOnDisk fault line result }
 {
     match line {
         Some(line) if fault == WorkFault::Work(SliceFault::Source) => OnDiskFault::Line(line),
@@ -43,7 +43,7 @@ pub struct Drive<'a, T> {
     pub watcher: &'a T,
 }
 
-/// Runs a worker that is open on its disk: request lines behind those that it has taken, texts as
+/// Runs a worker that is open on its disk: request lines after those that it has taken, texts as
 /// long as its version has them, random bytes of its generation.
 fn go_on<D: Disk, R: LineReader + Drop, C: RealTime + Drop, O: Outlet, T: Watcher>(
     worker: &mut Worker,
@@ -59,7 +59,7 @@ fn go_on<D: Disk, R: LineReader + Drop, C: RealTime + Drop, O: Outlet, T: Watche
         (R.has_failed source.old.requests.reader)) worker.old disk.old disk.new
         outlet.old outlet.new (R.has_failed source.new.requests.reader) result }
     ensures told { IfOk result (λ now. (now ≢ Spent)
-        × IsTrue (T.is_told watcher.now worker.new now)) }
+        × IsTrue (T.is_notified watcher.now worker.new now)) }
 {
     let version = worker.process().host().version();
     let taken = worker.process().requests();
@@ -91,15 +91,15 @@ pub(super) fn tell_recovered<E: Write + Drop>(err: &mut Printer<E>, worker: &Wor
 }
 
 /// The worker on a disk goes on: it is recovered, and then runs slices at this pace until it is
-/// over, with a checkpoint behind the last one. Its lines go to the outlet, last words to `err`.
+/// over, with a checkpoint after the last one. Its lines go to the outlet, last words to `err`.
 /// Where that is a terminal, a line before the first slice says how it was recovered. The watcher
-/// is told where the worker stands: then, behind each checkpoint, and at its end.
-/// Request lines that it has taken are passed over. Their texts may be as long as its version has
-/// them. Random bytes are those of the seed's stream of its generation. Answers the exit status: 0
-/// where the worker has ended, trapped or waits at the end of the lines, 3 for a disk that shows no
-/// worker that can go on and where a number is at its end, 4 where the disk, the reader or the
-/// clock fails, 5 for want of memory, 6 for a refused request line, 7 where the outlet has refused
-/// a line or a write has failed.
+/// is told where the worker is: then, after each checkpoint, and at its end. Request lines that
+/// it has taken are passed over. Their texts may be as long as its version has them. Random bytes
+/// are those of the seed's stream of its generation. Answers the exit status: 0 where the worker
+/// has ended, trapped or waits at the end of the lines, 3 for a disk that shows no worker that can
+/// go on and where a number is at its end, 4 where the disk, the reader or the clock fails, 5 for
+/// out of memory, 6 for a refused request line, 7 where the outlet has refused a line or a write
+/// has failed.
 pub fn serve<D, R, C, O, E, T>(
     alloc: Global,
     disk: &mut D,
@@ -116,18 +116,17 @@ where
     E: Write + Drop,
     T: Watcher,
     ensures serves { ServesOnDisk D.medium O.takes
-        (disk_job (non_zero_u64_get drive.entry.pace.fuel)
+        (run_start (disk_job (non_zero_u64_get drive.entry.pace.fuel)
         (non_zero_u64_get drive.entry.pace.every)
         (R.unread source.old.requests.reader) source.old.outside
-        (R.has_failed source.old.requests.reader)) disk.old disk.new
-        outlet.old outlet.new err.old err.new
-        (R.has_failed source.new.requests.reader) result }
+        (R.has_failed source.old.requests.reader)) disk.old outlet.old err.old)
+        (run_end disk.new outlet.new err.new (R.has_failed source.new.requests.reader)) result }
 
     // The status is 7 just where the outlet has refused a line, or a write of `err` has failed.
     ensures refusal { HeedsRefusal O.takes outlet.old outlet.new err.new result }
 
     // Where it is 0, the watcher was told of that end.
-    ensures watched { WatchesEnd (T.is_told drive.entry.watcher.now) err.new result }
+    ensures watched { WatchesEnd (T.is_notified drive.entry.watcher.now) err.new result }
     ensures known { result ≤ 7 }
 {
     let mut worker = match Worker::recover(alloc, disk, outlet) {

@@ -1,7 +1,7 @@
 //! `wasmhost show`.
 
 ghost use Rattle.std.specs.Prelude.{◌≡◌, ◌≤◌, true, OnErr, OnOk};
-ghost use Rattle.sector_disk.specs.rules.Image.{Image};
+ghost use Rattle.sector_disk.specs.rules.DiskImage.{DiskImage};
 ghost use Rattle.worker.specs.rules.Surveys.{EachSurvey};
 ghost use Rattle.wasmhost_commands.specs.rules.Printers.{IsPrinted};
 ghost use Rattle.wasmhost_commands.specs.rules.Showings.{named_number, survey_line};
@@ -60,10 +60,10 @@ fn say_survey<W: Write + Drop>(out: &mut Printer<W>, survey: &Survey) -> u8
     }
 }
 
-/// Prints what stands on a worker's disk: the numbers of the process that was saved last, how many
-/// records lie behind it, and its version. Nothing is changed on the disk, but that it is synced. Answers the
-/// exit status: 0 where the line is printed, 3 for a disk that is refused, 4 where it fails, 5 for
-/// want of memory, 7 where a write of a printer has failed.
+/// Prints what is on a worker's disk: the numbers of the process that was saved last, how many
+/// records lie after it, and its version. Nothing is changed on the disk, but that it is synced.
+/// Answers the exit status: 0 where the line is printed, 3 for a disk that is refused, 4 where it
+/// fails, 5 for out of memory, 7 where a write of a printer has failed.
 pub fn survey<D: Disk, W: Write + Drop, E: Write + Drop>(
     alloc: Global,
     disk: &mut D,
@@ -75,7 +75,7 @@ pub fn survey<D: Disk, W: Write + Drop, E: Write + Drop>(
         err.new result }
 
     // Of whatever worker the disk stands for, that is the line of its survey.
-    ensures stands { (image : Image) → (D.medium disk.new).shows image
+    ensures stands { (image : DiskImage) → (D.medium disk.new).shows image
         → EachSurvey (D.medium disk.old).sectors image (ShowsSurvey (D.medium disk.old)
         (D.medium disk.new) out.old out.new err.new result) }
     ensures known { result ≤ 7 }

@@ -6,8 +6,9 @@ ghost use Rattle.ephemeral_worker.specs.declared.now.Now.TheVariants.{Spent};
 ghost use Rattle.wasmhost_commands.specs.Livings.{scene};
 ghost use Rattle.wasmhost_commands.specs.ComingUp.{ComesUp, IsUpgradedFrom};
 ghost use Rattle.wasmhost_commands.specs.rules.Printers.{IsPrinted, SaysText};
+ghost use Rattle.wasmhost_commands.specs.rules.Refusals.{HeedsRefusal};
 ghost use Rattle.wasmhost_commands.specs.rules.Upgradings.{UpgradesOnDisk, from_list};
-ghost use Rattle.wasmhost_commands.specs.rules.Upgradings.{upgraded_words};
+ghost use Rattle.wasmhost_commands.specs.rules.Upgradings.{status_so_far, upgraded_words};
 
 use crate::on_disk::fault::{OnDiskFault, say_disk_fault};
 use crate::on_disk::living::is_process;
@@ -84,7 +85,7 @@ fn upgrade_open<D: Disk, O: Outlet>(
 /// an answer to its next question or to its end, and is saved in version 2. Its lines go to the
 /// outlet. Where `err` is a terminal, a line says how it was recovered. An error is the exit
 /// status: 3 for a disk that shows no worker that can go on, for a journal that is too small, and
-/// where a number is at its end, 4 where the disk fails, 5 for want of memory, 7 where the outlet
+/// where a number is at its end, 4 where the disk fails, 5 for out of memory, 7 where the outlet
 /// has refused a line or a write has failed.
 pub fn upgrade_worker<D: Disk, O: Outlet, E: Write + Drop>(
     alloc: Global,
@@ -94,6 +95,9 @@ pub fn upgrade_worker<D: Disk, O: Outlet, E: Write + Drop>(
 ) -> Result<Upgraded, u8>
     ensures upgrades { UpgradesOnDisk D.medium O.takes result disk.old disk.new outlet.old
         outlet.new err.old err.new }
+
+    // The status is 7 just where the outlet has refused a line, or a write of `err` has failed.
+    ensures refusal { HeedsRefusal O.takes outlet.old outlet.new err.new (status_so_far result) }
     ensures known { IfErr result (λ status. status ≤ 7) }
 {
     let mut worker = match Worker::recover(alloc, disk, outlet) {

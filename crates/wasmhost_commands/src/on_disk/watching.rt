@@ -1,8 +1,8 @@
-//! Where a worker on a disk stands, for whoever watches it.
+//! Where a worker on a disk is, for whoever watches it.
 
 ghost use Rattle.std.specs.Prelude.{◌≡◌, true, OnErr, OnOk};
 ghost use Rattle.wasmhost_commands.specs.rules.Printers.{IsPrinted};
-ghost use Rattle.wasmhost_commands.specs.rules.Watchings.{standing_line, standing_words};
+ghost use Rattle.wasmhost_commands.specs.rules.Watchings.{watch_line, watch_words};
 
 use crate::on_disk::ending::print_last_words;
 use crate::on_disk::showing::print_number;
@@ -14,23 +14,23 @@ use std::io::{self, Write};
 use std::rt::Files;
 use worker::Worker;
 
-/// Whoever is told where a worker on a disk stands.
+/// Whoever is told where a worker on a disk is.
 pub trait Watcher {
     ghost use Rattle.std.specs.Prelude.{Bool, IsTrue};
     ghost use Rattle.ephemeral_worker.specs.declared.now.Now.{Now};
     ghost use Rattle.worker.specs.rules.DurableValues.{DurableValue};
 
     // Whether it was told of this worker, whose last slice has answered this.
-    ghost is_told: { Self → DurableValue → Now → Bool };
+    ghost is_notified: { Self → DurableValue → Now → Bool };
 
-    /// Tells where a worker stands that was just saved, and what its last slice has answered.
+    /// Tells where a worker is that was just saved, and what its last slice has answered.
     fn tell(&self, worker: &Worker, now: Now)
-        ensures { IsTrue (is_told self.now worker.now now) };
+        ensures { IsTrue (is_notified self.now worker.now now) };
 }
 
 /// Writes that a worker runs on, or how it is over.
-fn print_standing<W: Write + Drop>(out: &mut Printer<W>, now: Now) -> io::Result<()>
-    ensures printed { OnOk result (IsPrinted out.old out.new (standing_words now)) }
+fn print_watch_words<W: Write + Drop>(out: &mut Printer<W>, now: Now) -> io::Result<()>
+    ensures printed { OnOk result (IsPrinted out.old out.new (watch_words now)) }
     ensures failed { OnErr result (out.new.failed ≡ true) }
 {
     match now {
@@ -40,9 +40,9 @@ fn print_standing<W: Write + Drop>(out: &mut Printer<W>, now: Now) -> io::Result
     }
 }
 
-/// Writes where a worker stands.
+/// Writes where a worker is.
 fn print_status<W: Write + Drop>(out: &mut Printer<W>, worker: &Worker, now: Now) -> io::Result<()>
-    ensures printed { OnOk result (IsPrinted out.old out.new (standing_line worker.now now)) }
+    ensures printed { OnOk result (IsPrinted out.old out.new (watch_line worker.now now)) }
     ensures failed { OnErr result (out.new.failed ≡ true) }
 {
     print_number(out, "generation ", worker.generation())?;
@@ -50,7 +50,7 @@ fn print_status<W: Write + Drop>(out: &mut Printer<W>, worker: &Worker, now: Now
     print_number(out, " answers ", worker.process().answers())?;
     print_number(out, " lines ", worker.process().lines())?;
     out.write_all(b" ")?;
-    print_standing(out, now)
+    print_watch_words(out, now)
 }
 
 // Where there is none, nobody has to be told.
@@ -58,7 +58,8 @@ impl<T: Watcher> Watcher for Option<T> {
     ghost use Rattle.std.specs.Prelude.{true};
     ghost use Rattle.std.specs.Option.{option_map_or};
 
-    ghost is_told = { λ watcher w now. option_map_or (λ t. T.is_told t w now) watcher true };
+    ghost is_notified = { λ watcher w now. option_map_or (λ t. T.is_notified t w now)
+        watcher true };
 
     fn tell(&self, worker: &Worker, now: Now) {
         if let Some(watcher) = self {
@@ -67,7 +68,7 @@ impl<T: Watcher> Watcher for Option<T> {
     }
 }
 
-/// A small file with one line, where a worker stands. It is written beside its path, and then
+/// A small file with one line, where a worker is. It is written beside its path, and then
 /// renamed, so that whoever reads it finds a whole line. A worker runs on though it can't be
 /// written.
 #[derive(Drop)]
@@ -103,7 +104,7 @@ impl<'a, R: Files> StatusFile<'a, R> {
 impl<R: Files> Watcher for StatusFile<'_, R> {
     ghost use Rattle.std.specs.Prelude.{true};
 
-    ghost is_told = { λ _ _ _. true };
+    ghost is_notified = { λ _ _ _. true };
 
     fn tell(&self, worker: &Worker, now: Now) {
         let _ = self.replace(worker, now);

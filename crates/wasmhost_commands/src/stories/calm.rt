@@ -10,7 +10,7 @@ use crate::stories::fault::ScriptFault;
 use crate::stories::lives::{close, new_draft, put_text};
 use crate::stories::script::cut_line;
 use std::alloc::{AllocError, Global};
-use wasm_syntax::Row;
+use wasm_syntax::ItemList;
 use worker::story::PlannedLife;
 
 /// Whether nothing befalls a life.
@@ -20,8 +20,8 @@ fn is_calm(life: &PlannedLife) -> bool
     life.stop.is_none() && life.fail.is_none() && life.refuse.is_none() && life.tears.is_empty()
 }
 
-/// Reads a line, and puts what it says behind a draft, if it may stand there and nothing befalls
-/// its life by then.
+/// Reads a line, and puts what it says after a draft, if it may be there and nothing befalls its
+/// life by then.
 fn put_calm(alloc: Global, draft: &mut Draft, text: &[u8]) -> Result<bool, AllocError>
     ensures { IfOk result (λ is_put. is_put ≡ true
         → (put_text text.now draft.old ≡ Some draft.new) × IsCalm draft.new.life) }
@@ -32,7 +32,7 @@ fn put_calm(alloc: Global, draft: &mut Draft, text: &[u8]) -> Result<bool, Alloc
     Ok(is_calm(&draft.life))
 }
 
-/// Puts what the lines say behind a draft, up to the first one that may not stand there.
+/// Puts what the lines say after a draft, up to the first one that may not be there.
 fn put_calm_lines(alloc: Global, draft: &mut Draft, text: &[u8]) -> Result<(), ScriptFault>
     ensures { OnOk result ((put_texts (lines_of text.now) draft.old ≡ Some draft.new)
         × (IsCalmDraft draft.old → IsCalmDraft draft.new)) }
@@ -50,9 +50,12 @@ fn put_calm_lines(alloc: Global, draft: &mut Draft, text: &[u8]) -> Result<(), S
     Ok(())
 }
 
-/// The lives that a script spells, if nothing befalls them. A fault names the first line behind
-/// which the lines are no such script, or it is want of memory.
-pub(crate) fn read_calm_script(alloc: Global, text: &[u8]) -> Result<Row<PlannedLife>, ScriptFault>
+/// The lives that a script spells, if nothing befalls them. A fault names the first line after
+/// which the lines are no such script, or memory has run out.
+pub(crate) fn read_calm_script(
+    alloc: Global,
+    text: &[u8],
+) -> Result<ItemList<PlannedLife>, ScriptFault>
     ensures { IfOk result (IsCalmScript (lines_of text.now)) }
 {
     let mut draft = new_draft(alloc);

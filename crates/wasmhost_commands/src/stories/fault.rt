@@ -8,7 +8,7 @@ use thiserror::Error;
 
 #[derive(Clone, Copy, Debug, PartialEq, Eq, Error)]
 pub enum ScriptFault {
-    /// This line, counted from 1, has another form, or may not stand where it stands.
+    /// This line, counted from 1, has another form, or may not be where it is.
     #[error("failed script line {number}")]
     Line { number: u64 },
     #[error("failed N4 Memory")]

@@ -2,16 +2,16 @@
 
 use sector_disk::Place;
 use wasi_abi::Answer;
-use wasm_syntax::Row;
+use wasm_syntax::ItemList;
 use worker::story::PlannedAct;
 
 #[derive(Debug, Drop)]
 pub enum ScriptLine {
     /// Another life begins.
     Life,
-    /// The source has this answer, behind those before.
+    /// The source has this answer, after those before.
     Answer { answer: Answer },
-    /// The worker is told to do this, behind what it was told before.
+    /// The worker is told to do this, after what it was told before.
     Act { act: PlannedAct },
     /// The power is cut at this call.
     Stop { place: Place },
@@ -20,5 +20,5 @@ pub enum ScriptLine {
     /// The outlet refuses the release of this number, from 1 on.
     Refuse { number: u64 },
     /// So much the cut keeps of the earlier writes, in bytes. There is at least one number.
-    Tears { fronts: Row<u16> },
+    Tears { fronts: ItemList<u16> },
 }

@@ -13,7 +13,7 @@ use sector_disk::Place;
 use std::alloc::{AllocError, Global};
 use std::mem;
 use wasi_abi::Answer;
-use wasm_syntax::Row;
+use wasm_syntax::ItemList;
 use worker::story::{PlannedAct, PlannedLife};
 
 /// A life into which nothing is put.
@@ -21,12 +21,12 @@ fn empty_life(alloc: Global) -> PlannedLife
     ensures { result ≡ empty_life }
 {
     PlannedLife {
-        answers: Row::new(alloc),
-        acts: Row::new(alloc),
+        answers: ItemList::new(alloc),
+        acts: ItemList::new(alloc),
         stop: None,
         fail: None,
         refuse: None,
-        tears: Row::new(alloc),
+        tears: ItemList::new(alloc),
     }
 }
 
@@ -34,13 +34,13 @@ pub(super) fn new_draft(alloc: Global) -> Draft
     ensures { result ≡ draft_start }
 {
     Draft {
-        lives: Row::new(alloc),
+        lives: ItemList::new(alloc),
         life: empty_life(alloc),
         is_begun: false,
     }
 }
 
-/// Puts the life that is begun behind the others.
+/// Puts the life that is begun after the others.
 pub(super) fn close(alloc: Global, draft: &mut Draft) -> Result<(), AllocError>
     ensures { OnOk result (draft.new ≡ ended draft.old) }
 {
@@ -82,7 +82,7 @@ fn put_refusal(life: &mut PlannedLife, number: u64) -> bool
     true
 }
 
-fn put_tears(life: &mut PlannedLife, fronts: Row<u16>) -> bool
+fn put_tears(life: &mut PlannedLife, fronts: ItemList<u16>) -> bool
     ensures { Comes result (put_in (said.Tears fronts) life.old) life.new }
 {
     if life.tears.len() > 0 {
@@ -106,7 +106,7 @@ fn put_act(life: &mut PlannedLife, act: PlannedAct) -> Result<bool, AllocError>
     Ok(true)
 }
 
-/// Puts what a line says that isn't `life` into a life, if it may stand there.
+/// Puts what a line says that isn't `life` into a life, if it may be there.
 fn put_into(life: &mut PlannedLife, line: ScriptLine) -> Result<bool, AllocError>
     ensures { IfOk result (λ is_put. Comes is_put (put_in line life.old) life.new) }
 {
@@ -139,7 +139,7 @@ fn put_behind(draft: &mut Draft, line: ScriptLine) -> Result<bool, AllocError>
     put_into(&mut draft.life, line)
 }
 
-/// Puts what a line says behind a draft, if it may stand there.
+/// Puts what a line says after a draft, if it may be there.
 fn put(alloc: Global, draft: &mut Draft, line: ScriptLine) -> Result<bool, AllocError>
     ensures { IfOk result (λ is_put. Comes is_put (put_line line draft.old) draft.new) }
 {
@@ -149,7 +149,7 @@ fn put(alloc: Global, draft: &mut Draft, line: ScriptLine) -> Result<bool, Alloc
     }
 }
 
-/// Reads a line, and puts what it says behind a draft, if it may stand there.
+/// Reads a line, and puts what it says after a draft, if it may be there.
 pub(super) fn put_text(alloc: Global, draft: &mut Draft, text: &[u8]) -> Result<bool, AllocError>
     ensures { IfOk result (λ is_put. Comes is_put (put_text text.now draft.old) draft.new) }
 {

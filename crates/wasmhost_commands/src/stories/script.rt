@@ -10,10 +10,10 @@ use crate::stories::fault::ScriptFault;
 use crate::stories::lives::{close, new_draft, put_text};
 use crate::stories::pieces::split_once;
 use std::alloc::Global;
-use wasm_syntax::Row;
+use wasm_syntax::ItemList;
 use worker::story::PlannedLife;
 
-/// The line in front, and what stands behind its newline.
+/// The line in front, and what is after its newline.
 pub(crate) fn cut_line(text: &[u8]) -> (&[u8], &[u8])
     requires { text.now ≢ [] }
     ensures line { lines_of text.now ≡ result.0.now ∷ lines_of result.1.now }
@@ -23,7 +23,7 @@ pub(crate) fn cut_line(text: &[u8]) -> (&[u8], &[u8])
     (line, behind.unwrap_or(b""))
 }
 
-/// Puts what the lines say behind a draft, up to the first one that may not stand there.
+/// Puts what the lines say after a draft, up to the first one that may not be there.
 fn put_lines(alloc: Global, draft: &mut Draft, text: &[u8]) -> Result<(), ScriptFault>
     ensures put { OnOk result (put_texts (lines_of text.now) draft.old ≡ Some draft.new) }
     ensures fault { IfErr result (IsReadingFault (lines_of text.now) draft.old) }
@@ -41,9 +41,9 @@ fn put_lines(alloc: Global, draft: &mut Draft, text: &[u8]) -> Result<(), Script
     Ok(())
 }
 
-/// The lives that a script spells. A fault names the first line behind which the lines are no
-/// script, or it is want of memory.
-pub fn read_script(alloc: Global, text: &[u8]) -> Result<Row<PlannedLife>, ScriptFault>
+/// The lives that a script spells. A fault names the first line after which the lines are no
+/// script, or memory has run out.
+pub fn read_script(alloc: Global, text: &[u8]) -> Result<ItemList<PlannedLife>, ScriptFault>
     ensures read { IfOk result (IsScript (lines_of text.now)) }
     ensures fault { IfErr result (IsScriptFault (lines_of text.now)) }
 {

@@ -5,7 +5,8 @@ ghost use Rattle.std.specs.Io.KnownBytes.{Appends};
 ghost use Rattle.hex.specs.Hex.{encode_lower};
 ghost use Rattle.sha2.specs.Sha256.{sha256};
 ghost use Rattle.wasmhost_commands.specs.rules.Showings.{named_number};
-ghost use Rattle.wasmhost_commands.specs.rules.Stories.{image_text, life_text, opening_line};
+ghost use Rattle.wasmhost_commands.specs.rules.Stories.{process_image_text, life_text};
+ghost use Rattle.wasmhost_commands.specs.rules.Stories.{opening_line};
 ghost use Rattle.wasmhost_commands.specs.rules.Stories.{releases_text, story_text, error_name};
 ghost use Rattle.wasmhost_commands.specs.rules.Stories.{end_line};
 
@@ -40,11 +41,11 @@ fn spell_number<W: Write>(out: &mut W, name: &str, number: u64) -> io::Result<()
 }
 
 /// Spells the digest of an image, and ends the line.
-fn spell_image<W: Write>(out: &mut W, image: &[u8]) -> io::Result<()>
+fn spell_process_image<W: Write>(out: &mut W, process_image: &[u8]) -> io::Result<()>
     ensures { OnOk result (Appends (W.contents out.old) (W.contents out.new)
-        (image_text image.now)) }
+        (process_image_text process_image.now)) }
 {
-    let digits = digest_digits(image);
+    let digits = digest_digits(process_image);
     out.write_all(b" image ")?;
     out.write_all(&digits)?;
     out.write_all(b"\n")
@@ -63,13 +64,13 @@ fn spell_opening<W: Write>(out: &mut W, number: u64, opened: &Opening) -> io::Re
             steps,
             answers,
             lines,
-            image,
+            process_image,
         } => {
             spell_number(out, " recovered generation ", *generation)?;
             spell_number(out, " steps ", *steps)?;
             spell_number(out, " answers ", *answers)?;
             spell_number(out, " lines ", *lines)?;
-            spell_image(out, image.as_slice())
+            spell_process_image(out, process_image.as_slice())
         }
         Opening::Unopened => out.write_all(b" not opened\n"),
     }

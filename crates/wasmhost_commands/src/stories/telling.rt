@@ -100,10 +100,10 @@ fn say_lives<W: Write + Drop, E: Write + Drop>(
 
 /// Tells the lives that a script spells, of a worker of the module that the bytes spell. It is of
 /// these sizes, and its name is its one argument. Each life's line on the output says how it was
-/// opened, and behind that are its lines as a run prints them. Nothing is printed there before the
+/// opened, and after that are its lines as a run prints them. Nothing is printed there before the
 /// last life is over. Answers the exit status: 0 where the story is told, 2 for a faulty line of
-/// the script, 3 for a refused configuration or module, 5 for want of memory, 7 where a write of
-/// a printer has failed.
+/// the script, 3 for a refused configuration or module, 5 for out of memory, 7 where a write of a
+/// printer has failed.
 #[tactic(auto, using(crate::proofs::TellingLemmas::line_told, crate::proofs::TellingLemmas::refused_told, crate::proofs::TellingLemmas::lives_told, crate::proofs::TellingLemmas::memory_told, crate::proofs::TellingLemmas::starved_told))]
 pub fn tell<W: Write + Drop, E: Write + Drop>(
     alloc: Global,

@@ -12,15 +12,15 @@ use crate::stories::pieces::split_once;
 use hex::FromHexError;
 use std::alloc::{AllocError, Global};
 use wasi_abi::Answer;
-use wasm_syntax::Row;
+use wasm_syntax::ItemList;
 use worker::story::PlannedAct;
 
 /// The bytes that hexadecimal digits of either case spell, two for each.
-fn read_bytes(alloc: Global, digits: &[u8]) -> Result<Option<Row<u8>>, AllocError>
+fn read_bytes(alloc: Global, digits: &[u8]) -> Result<Option<ItemList<u8>>, AllocError>
     ensures { IfOk result (λ read. read ≡ hex_bytes digits.now) }
 {
     match hex::decode(alloc, digits) {
-        Ok(bytes) => Ok(Some(Row::from_vec(bytes))),
+        Ok(bytes) => Ok(Some(ItemList::from_vec(bytes))),
         Err(FromHexError::OutOfMemory) => Err(AllocError),
         Err(_) => Ok(None),
     }
@@ -31,10 +31,10 @@ pub(crate) fn read_fronts(
     alloc: Global,
     text: &[u8],
     separator: u8,
-) -> Result<Option<Row<u16>>, AllocError>
+) -> Result<Option<ItemList<u16>>, AllocError>
     ensures { IfOk result (λ read. read ≡ fronts_between separator text.now) }
 {
-    let mut fronts = Row::new(alloc);
+    let mut fronts = ItemList::new(alloc);
     let mut rest = text;
     loop {
         let (digits, behind) = split_once(rest, separator);
@@ -49,7 +49,7 @@ pub(crate) fn read_fronts(
     }
 }
 
-/// What a word says behind which no space stands.
+/// What a word says after which no space is.
 fn read_alone(alloc: Global, word: &[u8]) -> Option<ScriptLine>
     ensures { result ≡ said_alone word.now }
 {
@@ -62,7 +62,7 @@ fn read_alone(alloc: Global, word: &[u8]) -> Option<ScriptLine>
         });
     }
     if word == b"random".as_slice() {
-        let bytes = Row::new(alloc);
+        let bytes = ItemList::new(alloc);
         return Some(ScriptLine::Answer {
             answer: Answer::Random { bytes },
         });
@@ -104,12 +104,12 @@ fn say_number(word: &[u8], number: u64) -> Option<ScriptLine>
     None
 }
 
-/// What a word and what stands behind its space say.
+/// What a word and what is after its space say.
 fn read_with(alloc: Global, word: &[u8], rest: &[u8]) -> Result<Option<ScriptLine>, AllocError>
     ensures { IfOk result (λ said. said ≡ said_with word.now rest.now) }
 {
     if word == b"request".as_slice() {
-        let text = Row::from_vec(rest.to_vec(alloc)?);
+        let text = ItemList::from_vec(rest.to_vec(alloc)?);
         return Ok(Some(ScriptLine::Answer {
             answer: Answer::Request { text },
         }));

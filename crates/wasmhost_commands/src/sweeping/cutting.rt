@@ -12,7 +12,7 @@ use record_replay::NumberedLine;
 use sector_disk::Place;
 use std::alloc::Global;
 use wasi_abi::Config;
-use wasm_syntax::Row;
+use wasm_syntax::ItemList;
 use worker::story::{LifeReport, PlannedLife, story};
 
 /// What is swept: lives of a worker, and what was told of them without a cut.
@@ -33,8 +33,8 @@ pub(super) struct Sweep<'a> {
 /// Lives that were run, and what was told of them.
 #[derive(Drop)]
 pub(super) struct RunLives {
-    pub(super) lives: Row<PlannedLife>,
-    pub(super) reports: Row<LifeReport>,
+    pub(super) lives: ItemList<PlannedLife>,
+    pub(super) reports: ItemList<LifeReport>,
 }
 
 /// Runs the lives of a cut, whose last one is of a worker that has taken so many answers.

@@ -5,7 +5,7 @@ ghost use Rattle.wasmhost_commands.specs.declared.sweeping.fault.SweepFault.TheV
 
 use record_replay::OutletFault;
 use std::alloc::AllocError;
-use wasm_syntax::Row;
+use wasm_syntax::ItemList;
 use worker::story::{PlannedLife, StoryFault};
 
 #[derive(Debug, Drop)]
@@ -14,7 +14,7 @@ pub(crate) enum SweepFault {
     Memory,
     /// The last of these lives wasn't opened, or a line of them is missing or has two texts, or
     /// their lines aren't those of the run without a cut.
-    Differs { lives: Row<PlannedLife> },
+    Differs { lives: ItemList<PlannedLife> },
 }
 
 impl From<AllocError> for SweepFault {

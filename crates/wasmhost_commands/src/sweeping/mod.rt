@@ -6,11 +6,11 @@ mod cutting;
 mod fault;
 mod planning;
 mod reading;
-mod running;
 mod spelling;
 mod starving;
 mod telling;
 mod texts;
+mod whole_sweep;
 
 pub use choosing::fronts_of;
 pub use reading::{SweepScriptFault, SweptLives, read_sweep, report_sweep_script};

@@ -12,7 +12,7 @@ use record_replay::copy_answer;
 use sector_disk::Place;
 use std::alloc::{AllocError, Global};
 use wasi_abi::Answer;
-use wasm_syntax::Row;
+use wasm_syntax::ItemList;
 use worker::story::{LifeReport, Opening, PlannedAct, PlannedLife};
 
 /// How many answers a worker has taken when a life has opened it, if it is opened.
@@ -73,7 +73,11 @@ fn without_first(told: &[LifeReport]) -> &[LifeReport]
 }
 
 /// Copies answers behind those of a list.
-fn push_answers(alloc: Global, list: &mut Row<Answer>, answers: &[Answer]) -> Result<(), AllocError>
+fn push_answers(
+    alloc: Global,
+    list: &mut ItemList<Answer>,
+    answers: &[Answer],
+) -> Result<(), AllocError>
     ensures { OnOk result (list.new ≡ list.old ++ answers.now) }
 {
     for answer in answers {
@@ -88,10 +92,10 @@ fn answers_not_lost(
     alloc: Global,
     lives: &[PlannedLife],
     told: &[LifeReport],
-) -> Result<Row<Answer>, AllocError>
+) -> Result<ItemList<Answer>, AllocError>
     ensures { IfOk result (λ answers. answers ≡ answers_not_lost lives.now told.now) }
 {
-    let mut list = Row::new(alloc);
+    let mut list = ItemList::new(alloc);
     let mut later = told;
     for life in lives {
         push_answers(alloc, &mut list, kept_in(later, life.answers.as_slice()))?;
@@ -106,25 +110,25 @@ fn answers_left(
     lives: &[PlannedLife],
     told: &[LifeReport],
     taken: u64,
-) -> Result<Row<Answer>, AllocError>
+) -> Result<ItemList<Answer>, AllocError>
     ensures { IfOk result (λ answers. answers
         ≡ drop (taken - answers_at_first told.now) (answers_not_lost lives.now told.now)) }
 {
     let mut answers = answers_not_lost(alloc, lives, told)?.into_vec();
     let kept = taken.saturating_sub(answers_at_first(told));
     let count = (kept as usize).min(answers.len());
-    Ok(Row::from_vec(answers.split_off(count)?))
+    Ok(ItemList::from_vec(answers.split_off(count)?))
 }
 
 /// All that these lives were told to do.
-fn acts_of(alloc: Global, lives: &[PlannedLife]) -> Result<Row<PlannedAct>, AllocError>
+fn acts_of(alloc: Global, lives: &[PlannedLife]) -> Result<ItemList<PlannedAct>, AllocError>
     ensures { IfOk result (λ acts. acts ≡ flat_map acts_of lives.now) }
 {
     let mut acts = Vec::new(alloc);
     for life in lives {
         acts.extend_from_slice(life.acts.as_slice())?;
     }
-    Ok(Row::from_vec(acts))
+    Ok(ItemList::from_vec(acts))
 }
 
 /// The life after a cut of the first of these lives, of a worker that has taken so many answers.
@@ -142,14 +146,14 @@ fn life_after(
         stop: None,
         fail: None,
         refuse: None,
-        tears: Row::new(alloc),
+        tears: ItemList::new(alloc),
     })
 }
 
-fn copy_answers(alloc: Global, answers: &[Answer]) -> Result<Row<Answer>, AllocError>
+fn copy_answers(alloc: Global, answers: &[Answer]) -> Result<ItemList<Answer>, AllocError>
     ensures { IfOk result (λ copies. copies ≡ answers.now) }
 {
-    let mut copies = Row::new(alloc);
+    let mut copies = ItemList::new(alloc);
     push_answers(alloc, &mut copies, answers)?;
     Ok(copies)
 }
@@ -160,11 +164,11 @@ fn copy_life(alloc: Global, life: &PlannedLife) -> Result<PlannedLife, AllocErro
 {
     Ok(PlannedLife {
         answers: copy_answers(alloc, life.answers.as_slice())?,
-        acts: Row::from_vec(Vec::from_slice(alloc, life.acts.as_slice())?),
+        acts: ItemList::from_vec(Vec::from_slice(alloc, life.acts.as_slice())?),
         stop: life.stop,
         fail: life.fail,
         refuse: life.refuse,
-        tears: Row::from_vec(Vec::from_slice(alloc, life.tears.as_slice())?),
+        tears: ItemList::from_vec(Vec::from_slice(alloc, life.tears.as_slice())?),
     })
 }
 
@@ -181,10 +185,10 @@ fn stopped_at(alloc: Global, life: &PlannedLife, place: Place) -> Result<Planned
 pub(super) fn copy_lives(
     alloc: Global,
     lives: &[PlannedLife],
-) -> Result<Row<PlannedLife>, AllocError>
+) -> Result<ItemList<PlannedLife>, AllocError>
     ensures { IfOk result (λ copies. copies ≡ lives.now) }
 {
-    let mut copies = Row::new(alloc);
+    let mut copies = ItemList::new(alloc);
     for life in lives {
         let copy = copy_life(alloc, life)?;
         copies.push(copy)?;
@@ -192,10 +196,10 @@ pub(super) fn copy_lives(
     Ok(copies)
 }
 
-/// Puts the first of these lives behind a list, with the power cut at this place.
+/// Puts the first of these lives after a list, with the power cut at this place.
 fn push_stopped(
     alloc: Global,
-    list: &mut Row<PlannedLife>,
+    list: &mut ItemList<PlannedLife>,
     lives: &[PlannedLife],
     place: Place,
 ) -> Result<(), AllocError>
@@ -216,7 +220,7 @@ pub(super) fn plan_cut(
     told: &[LifeReport],
     place: Place,
     taken: u64,
-) -> Result<Row<PlannedLife>, AllocError>
+) -> Result<ItemList<PlannedLife>, AllocError>
     ensures { IfOk result (λ lives. lives
         ≡ cut_at before.now swept.now told.now place taken) }
 {

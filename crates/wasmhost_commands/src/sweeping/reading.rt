@@ -11,13 +11,13 @@ use crate::sweeping::choosing::swept_place;
 use crate::telling::{Obstacle, report};
 use std::alloc::Global;
 use std::io::Write;
-use wasm_syntax::Row;
+use wasm_syntax::ItemList;
 use worker::story::PlannedLife;
 
 /// Lives of which one is swept.
 #[derive(Debug, Drop)]
 pub struct SweptLives {
-    pub lives: Row<PlannedLife>,
+    pub lives: ItemList<PlannedLife>,
     /// The place of that one, from 0 on.
     pub place: usize,
 }

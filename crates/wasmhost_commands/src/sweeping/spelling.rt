@@ -11,13 +11,13 @@ use wasi_abi::Answer;
 use worker::story::{PlannedAct, PlannedLife};
 
 /// A comma, where so many digits are left, and they are groups of three.
-fn comma_before(left: usize) -> &'static [u8]
-    ensures { result.now ≡ comma_before left }
+fn comma_before(digits_left: usize) -> &'static [u8]
+    ensures { result.now ≡ comma_before digits_left }
 {
-    if left == 0 {
+    if digits_left == 0 {
         return b"";
     }
-    if left % 3 == 0 { b"," } else { b"" }
+    if digits_left % 3 == 0 { b"," } else { b"" }
 }
 
 /// Spells digits, with a comma before each three that are left.
@@ -25,11 +25,11 @@ fn spell_grouped<W: Write>(out: &mut W, digits: &[u8]) -> io::Result<()>
     ensures { OnOk result (Appends (W.contents out.old) (W.contents out.new)
         (grouped digits.now)) }
 {
-    let mut left = digits.len();
+    let mut digits_left = digits.len();
     for digit in digits {
         out.write_all(&[*digit])?;
-        left -= 1;
-        out.write_all(comma_before(left))?;
+        digits_left -= 1;
+        out.write_all(comma_before(digits_left))?;
     }
     Ok(())
 }

@@ -5,7 +5,7 @@ use sector_disk::DiskFault;
 use worker::story::{LifeEnd, LifeReport};
 use worker::{RecoverFault, WorkFault};
 
-/// Whether an error is want of memory.
+/// Whether an error is out of memory.
 fn is_want(why: RecoverFault) -> bool {
     match why {
         RecoverFault::Worker(WorkFault::Work(SliceFault::Memory)) => true,
@@ -14,7 +14,7 @@ fn is_want(why: RecoverFault) -> bool {
     }
 }
 
-/// Whether one of these lives has ended for want of memory.
+/// Whether one of these lives has ended out of memory.
 pub(super) fn are_starved(reports: &[LifeReport]) -> bool {
     for report in reports {
         if let LifeEnd::Failed(why) = report.ended {

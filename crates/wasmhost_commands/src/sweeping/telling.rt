@@ -11,8 +11,8 @@ use crate::status::{DIFFERENT, UNWRITTEN};
 use crate::stories::say_text;
 use crate::sweeping::fault::SweepFault;
 use crate::sweeping::reading::{SweptLives, read_sweep, report_sweep_script};
-use crate::sweeping::running::{SweepJob, Swept, sweep_lives};
 use crate::sweeping::spelling::{spell_script, spell_swept};
+use crate::sweeping::whole_sweep::{SweepJob, Swept, sweep_lives};
 use crate::telling::{Obstacle, report, say_line};
 use std::alloc::Global;
 use std::io::{self, Write};
@@ -83,7 +83,7 @@ fn say_difference<W: Write + Drop, E: Write + Drop>(
 /// these sizes, and its name is its one argument. They are run without a cut, and then with the
 /// power cut at each call of the disk in one of them, for each of these fronts. Answers the exit
 /// status: 0 where all cuts agree with the run without one, 1 where one differs, 2 for a script
-/// that can't be swept, 3 for a refused configuration or module, 5 for want of memory, 7 where a
+/// that can't be swept, 3 for a refused configuration or module, 5 for out of memory, 7 where a
 /// write of a printer has failed.
 #[tactic(auto, using(crate::proofs::SweepLemmas::Statuses::unread_now, crate::proofs::SweepLemmas::Statuses::refused_now, crate::proofs::SweepLemmas::Statuses::unshown, crate::proofs::SweepLemmas::Statuses::said_five, crate::proofs::SweepLemmas::Statuses::differs))]
 pub fn tell_sweep<W: Write + Drop, E: Write + Drop>(

@@ -44,7 +44,7 @@ fn path_argument<'a>(alloc: Global, name: &'a str, help: &'a str) -> Arg<'a>
         .action(ArgAction::Set)
 }
 
-/// A path, which may be given behind others.
+/// A path, which may be given after others.
 fn last_argument<'a>(alloc: Global, name: &'a str, help: &'a str) -> Arg<'a>
     ensures { IsArgument (last_rule name.entry.now) result }
 {

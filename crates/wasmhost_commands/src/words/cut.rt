@@ -26,7 +26,7 @@ fn is_dashes<S: AsStr>(word: &S) -> bool
     word.as_str() == "--"
 }
 
-/// What stands in front of the first `--`, and what behind it.
+/// What is in front of the first `--`, and what after it.
 fn cut_at_dashes<'a, S: AsStr>(words: &'a [S]) -> (&'a [S], &'a [S])
     ensures front { map S.text result.0.now ≡ before_dashes (map S.text words.entry.now) }
     ensures back { map S.text result.1.now ≡ behind_dashes (map S.text words.entry.now) }

@@ -33,7 +33,7 @@ const STORY_FILES: u64 = 1;
 /// Sectors of its journal, where no number is given.
 const STORY_JOURNAL: u64 = 64;
 
-/// The path that stands at an argument which has to be given.
+/// The path that is at an argument which has to be given.
 fn path_of<'a>(matches: &ArgMatches<'a>, name: &str) -> &'a str
     requires { IsSome (first_of name.now (rows_of (found_of matches.now))) }
     ensures { first_of name.now (rows_of (found_of matches.now)) ≡ Some result.now }
@@ -133,7 +133,7 @@ fn environment_of<'a>(alloc: Global, matches: &ArgMatches<'a>) -> Result<Vec<&'a
     }
 }
 
-/// The order of a creation, from what was read in front of `--`, and with the words behind it.
+/// The order of a creation, from what was read in front of `--`, and with the words after it.
 fn create_of<'a>(
     alloc: Global,
     matches: &ArgMatches<'a>,
@@ -205,7 +205,7 @@ fn sweep_of<'a>(matches: &ArgMatches<'a>, script: &'a str, module: &'a str) -> S
     }
 }
 
-/// The order of a command, from what was read in front of `--`, and with the words behind it.
+/// The order of a command, from what was read in front of `--`, and with the words after it.
 pub(crate) fn order_of<'a>(
     alloc: Global,
     name: &str,

@@ -37,7 +37,7 @@ pub struct CreateOrder<'a> {
     pub environment: Vec<&'a str>,
     /// Whether the disk is a block device that is there.
     pub on_device: bool,
-    /// The guest's arguments behind its name.
+    /// The guest's arguments after its name.
     pub arguments: Vec<&'a str>,
 }
 
@@ -56,7 +56,7 @@ pub struct RunOrder<'a> {
     pub clock: Option<u64>,
     /// Whether every sector of the disk is written back first.
     pub rewrites: bool,
-    /// The file that says where the worker stands.
+    /// The file that says where the worker is.
     pub status: Option<&'a str>,
 }
 
@@ -105,11 +105,11 @@ pub enum Order<'a> {
     Create(CreateOrder<'a>),
     /// Runs the worker of a disk, so many steps at a time.
     Run(RunOrder<'a>),
-    /// Says where the worker of the disk in this file stands.
+    /// Says where the worker of the disk in this file is.
     Show {
         path: &'a str,
     },
-    /// Says all that stands on the disk in this file, one fact a line or as one JSON value.
+    /// Says all that is on the disk in this file, one fact a line or as one JSON value.
     Inspect {
         path: &'a str,
         as_json: bool,
@@ -140,7 +140,7 @@ pub enum WordsFault {
 }
 
 impl WordsFault {
-    /// The exit status: 0 for help, `USAGE` for a mistake, `NO_MEMORY` for want of memory.
+    /// The exit status: 0 for help, `USAGE` for a mistake, `NO_MEMORY` for out of memory.
     pub fn status(&self) -> u8
         ensures { IsStatusOf self.now result }
     {
@@ -179,7 +179,7 @@ fn matches_of<'a, S: AsStr>(alloc: Global, words: &'a [S]) -> Result<ArgMatches<
     Ok(matches)
 }
 
-/// Reads the words of a command line, of which the first is the program's name. Words behind the
+/// Reads the words of a command line, of which the first is the program's name. Words after the
 /// first `--` of a creation are its guest's. Fails with `Words` where they are a mistake or ask for
 /// help, and with `Memory` where memory runs out.
 pub fn read_words<'a, S: AsStr>(alloc: Global, words: &'a [S]) -> Result<Order<'a>, WordsFault>

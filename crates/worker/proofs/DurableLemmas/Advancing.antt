@@ -3,7 +3,7 @@ use Rattle.std.proofs.Common.{◌≡◌, ℕ, ◌+◌, ◌-◌, ◌<◌, ◌≤�
 use Rattle.std.proofs.Common.{◌∙◌, subst, inl, ⊎_elim, arith, Some, None, Ok, Err, true}
 use Rattle.std.specs.Prelude.{◌≢◌}
 use Rattle.std.proofs.Math.Nat.{le-max_right}
-use Rattle.wasi_abi.specs.declared.answer.Kind.{Kind}
+use Rattle.wasi_abi.specs.declared.answer.Question.{Question}
 use Rattle.process_rules.specs.Processes.{ProcessState, Ending}
 use Rattle.process_rules.specs.Runs.{Runs}
 use Rattle.process_rules.proofs.Growing.{runs_count, move_counts}
@@ -29,7 +29,7 @@ use Rattle.worker_store.proofs.LawLemmas.AtHand.{shown_is_saved}
 use Rattle.worker_store.proofs.LawLemmas.CallEnds.{spent_slices_end, ended_slices_end}
 use Rattle.worker_store.proofs.LawLemmas.Underway.{steps_go_on}
 use Rattle.worker.specs.declared.fault.WorkFault.TheVariants.{Work}
-use Rattle.worker.specs.declared.running.Running.{Running}
+use Rattle.worker.specs.declared.running_worker.RunningWorker.{RunningWorker}
 use Rattle.ephemeral_worker.specs.rules.Refusals.{slice_fault}
 use Rattle.worker.specs.rules.OpenWorkers.{IsAbreast}
 use Rattle.worker.specs.DurableTurns.{Course, IsBetweenTurns, IsOwingTurn}
@@ -45,17 +45,17 @@ use Rattle.worker.proofs.DurableLemmas.Ends.{done_nothing, ends_on, failed_end, 
 use Rattle.worker.proofs.DurableLemmas.Ends.{open_again, stays_on, not_open}
 
 -- the same worker with its process further on
-abbrev pub with_process : Running → ProcessValue → Running
+abbrev pub with_process : RunningWorker → ProcessValue → RunningWorker
 with_process w v = record w { process = v }
 
 -- the same, that says that no line is beyond its process
-abbrev pub says_abreast : Running → Running
+abbrev pub says_abreast : RunningWorker → RunningWorker
 says_abreast w = record w { is_abreast = true }
 
 -- ---- the end of a slice
 
 module _ {D : Type 0} (medium : D → Medium) (c : Course) (promise : Promise) (stage : Stage)
-    (p : ProcessState) (w : Running) (disk : D)
+    (p : ProcessState) (w : RunningWorker) (disk : D)
     (running : IsBetweenTurns c promise stage p w (medium disk)) where
   told_steps : w.process.steps ≡ p.steps
   told_steps = let shows = running.shows in shows.steps
@@ -151,13 +151,13 @@ module _ {D : Type 0} (medium : D → Medium) (c : Course) (promise : Promise) (
 -- ---- steps
 
 module _ {D : Type 0} (medium : D → Medium) (c : Course) (promise : Promise) (stage : Stage)
-    (p : ProcessState) (w : Running) (v : ProcessValue) (disk : D)
+    (p : ProcessState) (w : RunningWorker) (v : ProcessValue) (disk : D)
     (running : IsBetweenTurns c promise stage p w (medium disk))
-    (left : ℕ) (left_is : left ≡ c.fuel - (w.process.steps - c.first))
+    (fuel_left : ℕ) (fuel_left_is : fuel_left ≡ c.fuel - (w.process.steps - c.first))
     (same : v.host.released ≡ w.process.host.released)
     (same_guest : v.machine.guest ≡ w.process.machine.guest) where
   -- what was taken of the fuel, and what is left of it
-  in_time : (n : ℕ) → n ≤ left → p.steps + n ≤ stage.step + c.fuel
+  in_time : (n : ℕ) → n ≤ fuel_left → p.steps + n ≤ stage.step + c.fuel
   in_time n few =
       let shows = running.shows in
       let told : w.process.steps ≡ p.steps = shows.steps in
@@ -166,9 +166,9 @@ module _ {D : Type 0} (medium : D → Medium) (c : Course) (promise : Promise) (
       let begun : stage.step ≤ p.steps = slice.begun in
       let within : p.steps ≤ stage.step + c.fuel = slice.in_time in
       let began = running.began in
-      omega (arith, few, left_is, told, begun, within, began)
+      omega (arith, few, fuel_left_is, told, begun, within, began)
 
-  way_on : (q : ProcessState) (n : ℕ) → Runs c.guest p [] n q → n ≤ left
+  way_on : (q : ProcessState) (n : ℕ) → Runs c.guest p [] n q → n ≤ fuel_left
       → IsUnderWay c.code c.config c.guest promise stage c.fuel v.host.released q
   way_on q n runs few =
       subst (λ k. IsUnderWay c.code c.config c.guest promise stage c.fuel k q) (sym same)
@@ -184,7 +184,7 @@ module _ {D : Type 0} (medium : D → Medium) (c : Course) (promise : Promise) (
       running.abreast
 
   -- steps after which nothing is owed
-  pub quiet_on : (come : ComesQuietly v c.guest p) → come.steps ≤ left
+  pub quiet_on : (come : ComesQuietly v c.guest p) → come.steps ≤ fuel_left
       → IsBetweenTurns c promise stage come.process (with_process w v) (medium disk)
   quiet_on come few =
       let is = running.on_disk in
@@ -208,7 +208,7 @@ module _ {D : Type 0} (medium : D → Medium) (c : Course) (promise : Promise) (
       }
 
   -- and one more, after which something is owed
-  pub owing_on : (come : ComesOwing v c.guest p) → come.steps < left
+  pub owing_on : (come : ComesOwing v c.guest p) → come.steps < fuel_left
       → IsOwingTurn c promise stage come.process (with_process w v) (medium disk)
   owing_on come few =
       let is = running.on_disk in
@@ -244,7 +244,7 @@ module _ {D : Type 0} (medium : D → Medium) (c : Course) (promise : Promise) (
     pub process : ProcessState
     pub owing : IsOwingTurn c promise stage process (with_process w v) (medium disk)
 
-  pub advance_owes : AdvancesProcess w.process left (Ok stops.Owes) v → OwesThere
+  pub advance_owes : AdvancesProcess w.process fuel_left (Ok stops.Owes) v → OwesThere
   advance_owes advances = ⊎_elim
       (λ (waits : (waiting_in w.process ≢ []) × (v ≡ w.process)).
       let is = running.on_disk in
@@ -265,22 +265,22 @@ module _ {D : Type 0} (medium : D → Medium) (c : Course) (promise : Promise) (
         };
       })
       (λ (k : (waiting_in w.process ≡ []) × (come : ComesOwing v c.guest p)
-      × (come.steps < left)). record { process = k.1.process; owing = owing_on k.1 k.2 })
+      × (come.steps < fuel_left)). record { process = k.1.process; owing = owing_on k.1 k.2 })
       (advances c.guest p running.shows)
 
   -- an answer is wanted
-  pub record AsksThere (kind : Kind) : Type 0 where
+  pub record AsksThere (question : Question) : Type 0 where
     pub process : ProcessState
-    pub asking : IsAskingOn c promise stage process kind promise.events (with_process w v)
+    pub asking : IsAskingOn c promise stage process question promise.events (with_process w v)
         (medium disk)
 
-  pub advance_asks : (kind : Kind) → AdvancesProcess w.process left (Ok (stops.Asks kind)) v
-      → AsksThere kind
-  advance_asks kind advances =
+  pub advance_asks : (question : Question) → AdvancesProcess w.process fuel_left
+      (Ok (stops.Asks question)) v → AsksThere question
+  advance_asks question advances =
       let k = advances c.guest p running.shows in
       let come = k.1 in
-      let less : come.steps < left = k.2 in
-      let few : come.steps ≤ left = omega (arith, less) in
+      let less : come.steps < fuel_left = k.2 in
+      let few : come.steps ≤ fuel_left = omega (arith, less) in
       let runs = quiet_runs v c.guest p come in
       let count : come.process.steps ≡ p.steps + come.steps =
       runs_count c.guest p come.process [] come.steps runs in
@@ -298,13 +298,13 @@ module _ {D : Type 0} (medium : D → Medium) (c : Course) (promise : Promise) (
       }
 
   -- its fuel is spent
-  pub advance_spent : AdvancesProcess w.process left (Ok stops.Spent) v
+  pub advance_spent : AdvancesProcess w.process fuel_left (Ok stops.Spent) v
       → TurnEnds c promise stage Spent [] (with_process w v) (medium disk) (medium disk)
   advance_spent advances =
       let k = advances c.guest p running.shows in
       let come = k.1 in
-      let all : come.steps ≡ left = k.2 in
-      let few : come.steps ≤ left = omega (arith, all) in
+      let all : come.steps ≡ fuel_left = k.2 in
+      let few : come.steps ≤ fuel_left = omega (arith, all) in
       let runs = quiet_runs v c.guest p come in
       let count : come.process.steps ≡ p.steps + come.steps =
       runs_count c.guest p come.process [] come.steps runs in
@@ -316,10 +316,10 @@ module _ {D : Type 0} (medium : D → Medium) (c : Course) (promise : Promise) (
       let within : p.steps ≤ stage.step + c.fuel = slice.in_time in
       let began = running.began in
       spent_ends medium c promise stage come.process (with_process w v) disk (quiet_on come few)
-      come.none_waits (omega (arith, all, count, left_is, told, begun, within, began)) k.3
+      come.none_waits (omega (arith, all, count, fuel_left_is, told, begun, within, began)) k.3
 
   -- it has ended, and says that no line is beyond it
-  said_abreast : (come : ComesQuietly v c.guest p) → come.steps ≤ left → (why : Ending)
+  said_abreast : (come : ComesQuietly v c.guest p) → come.steps ≤ fuel_left → (why : Ending)
       → come.process.ended ≡ Some why
       → IsBetweenTurns c promise stage come.process (says_abreast (with_process w v))
       (medium disk)
@@ -340,9 +340,9 @@ module _ {D : Type 0} (medium : D → Medium) (c : Course) (promise : Promise) (
             (ended_is_still c.guest come.process why ended));
       }
 
-  pub advance_over : (how : ProcessEnd) → AdvancesProcess w.process left (Ok (stops.Ended how)) v
-      → TurnEnds c promise stage (Over (ending_of how)) [] (says_abreast (with_process w v))
-      (medium disk) (medium disk)
+  pub advance_over : (how : ProcessEnd) → AdvancesProcess w.process fuel_left
+      (Ok (stops.Ended how)) v → TurnEnds c promise stage (Over (ending_of how)) []
+      (says_abreast (with_process w v)) (medium disk) (medium disk)
   advance_over how advances =
       let k = advances c.guest p running.shows in
       let come = k.1 in
@@ -350,15 +350,15 @@ module _ {D : Type 0} (medium : D → Medium) (c : Course) (promise : Promise) (
       (said_abreast come k.2 (ending_of how) k.3) come.none_waits (ending_of how) k.3 refl
 
   -- it can't go on
-  pub advance_fails : (why : ProcessFault) → AdvancesProcess w.process left (Err why) v
+  pub advance_fails : (why : ProcessFault) → AdvancesProcess w.process fuel_left (Err why) v
       → TurnFails c promise stage (Work (slice_fault why)) [] (with_process w v) (medium disk)
       (medium disk)
   advance_fails stop.WrongAnswer advances = absurd (advances c.guest p running.shows)
   advance_fails stop.Memory advances =
       let k = advances c.guest p running.shows in
       let come = k.1 in
-      let less : come.steps < left = k.2 in
-      let few : come.steps ≤ left = omega (arith, less) in (
+      let less : come.steps < fuel_left = k.2 in
+      let few : come.steps ≤ fuel_left = omega (arith, less) in (
         OfMemory,
         refl,
         record { process = come.process; shows = come.shows; needs = inl k.4 },
@@ -368,8 +368,8 @@ module _ {D : Type 0} (medium : D → Medium) (c : Course) (promise : Promise) (
   advance_fails stop.StepsSpent advances =
       let k = advances c.guest p running.shows in
       let come = k.1 in
-      let less : come.steps < left = k.2 in
-      let few : come.steps ≤ left = omega (arith, less) in (
+      let less : come.steps < fuel_left = k.2 in
+      let few : come.steps ≤ fuel_left = omega (arith, less) in (
         OfBounds,
         refl,
         tt,

@@ -2,7 +2,7 @@
 use Rattle.std.proofs.Common.{◌≡◌, ◌⊎◌, ℕ, ◌+◌, ◌≤◌, List, [], refl, sym, ap, ◌∙◌, subst, inl}
 use Rattle.std.proofs.Common.{⊎_elim, arith, Bool, true, false, Some, None, Ok, Err}
 use Rattle.std.specs.Prelude.{Result}
-use Rattle.wasi_abi.specs.declared.answer.Kind.{Kind}
+use Rattle.wasi_abi.specs.declared.answer.Question.{Question}
 use Rattle.wasi_abi.specs.declared.answer.Answer.{Answer}
 use Rattle.sector_disk.specs.rules.Medium.{Medium}
 use Rattle.record_replay.specs.declared.fault.SourceFault.{SourceFault}
@@ -18,7 +18,7 @@ use Rattle.ephemeral_worker.specs.declared.fault.SliceFault.{SliceFault}
 use Rattle.ephemeral_worker.specs.declared.fault.SliceFault.TheVariants as slice
 use Rattle.worker.specs.declared.fault.WorkFault.{WorkFault}
 use Rattle.worker.specs.declared.fault.WorkFault.TheVariants.{Work}
-use Rattle.worker.specs.declared.running.Running.{Running}
+use Rattle.worker.specs.declared.running_worker.RunningWorker.{RunningWorker}
 use Rattle.ephemeral_worker.specs.Turns.{AsksOnce, AnswersBy}
 use Rattle.worker.specs.DurableTurns.{Course, TurnGoes, TurnEnds, TurnFails}
 use Rattle.worker.specs.DurableTurns.{slice_end}
@@ -38,7 +38,7 @@ use Rattle.worker.proofs.DurableLemmas.Hearing.{not_taken, taken}
 -- ---- behind a part without exchanges
 
 module _ {D : Type 0} (medium : D → Medium) (c : Course) (promise : Promise) (stage : Stage)
-    (exchanges : List Exchange) (w : Running) (disk mid disk' : D)
+    (exchanges : List Exchange) (w : RunningWorker) (disk mid disk' : D)
     (goes : GoesOnFrom c.code c.config promise promise (medium disk) (medium mid))
     (bounded : StaysWithin (promise.events + 1) (medium disk) (medium mid)) where
   goes_behind : (turn : TurnGoes c promise stage exchanges w (medium mid) (medium disk'))
@@ -97,11 +97,11 @@ module _ {D : Type 0} (medium : D → Medium) (c : Course) (promise : Promise) (
 
 module _ {D : Type 0} (medium : D → Medium) where
   -- so the worker may say it
-  said_asking : (c : Course) (promise : Promise) (stage : Stage) (p : ProcessState) (kind : Kind)
-      (latest : ℕ) (w : Running) (disk : D)
-      → IsAskingOn c promise stage p kind latest w (medium disk)
-      → IsAskingOn c promise stage p kind latest (says_abreast w) (medium disk)
-  said_asking c promise stage p kind latest w disk asking =
+  said_asking : (c : Course) (promise : Promise) (stage : Stage) (p : ProcessState)
+      (question : Question) (latest : ℕ) (w : RunningWorker) (disk : D)
+      → IsAskingOn c promise stage p question latest w (medium disk)
+      → IsAskingOn c promise stage p question latest (says_abreast w) (medium disk)
+  said_asking c promise stage p question latest w disk asking =
       let there = asking.running in
       record {
         running = record {
@@ -115,7 +115,7 @@ module _ {D : Type 0} (medium : D → Medium) where
           synced = there.synced;
           abreast = abreast_now promise stage p
               (none_beyond medium c.code c.config c.guest promise p p.steps latest w.store disk
-              there.on_disk (asking_is_still c.guest p kind asking.wants));
+              there.on_disk (asking_is_still c.guest p question asking.wants));
         };
         none_waits = asking.none_waits;
         unended = asking.unended;
@@ -123,12 +123,12 @@ module _ {D : Type 0} (medium : D → Medium) where
         room = asking.room;
       }
 
-  pub room_said : (old mid : Running) (disk disk' : D)
+  pub room_said : (old mid : RunningWorker) (disk disk' : D)
       → MakesRoom old mid (medium disk) (medium disk')
       → MakesRoom old (says_abreast mid) (medium disk) (medium disk')
-  room_said old mid disk disk' makes c promise stage p kind asking =
-      let made = makes c promise stage p kind asking in (
-        said_asking c promise stage p kind (promise.events + 1) mid disk' made.0,
+  room_said old mid disk disk' makes c promise stage p question asking =
+      let made = makes c promise stage p question asking in (
+        said_asking c promise stage p question (promise.events + 1) mid disk' made.0,
         made.1,
         made.2,
         made.3,
@@ -136,115 +136,115 @@ module _ {D : Type 0} (medium : D → Medium) where
 
 -- ---- the source is asked
 
-module _ {D S : Type 0} (medium : D → Medium) (gives : Giving S) (old mid new : Running)
-    (kind : Kind) (step : ℕ) (disk disk' : D) (source source' : S)
+module _ {D S : Type 0} (medium : D → Medium) (gives : Giving S) (old mid new : RunningWorker)
+    (question : Question) (step : ℕ) (disk disk' : D) (source source' : S)
     (makes : MakesRoom old mid (medium disk) (medium disk')) (same : mid.process ≡ old.process)
     (says : mid.is_abreast ≡ true) (step_is : step ≡ old.process.steps + 1) where
-  fails_so : (e : SourceFault) → gives source kind (Err e) source' → new ≡ mid
-      → AsksTurn gives old kind (Err (Work slice.Source)) new (medium disk) (medium disk') source
-      source'
+  fails_so : (e : SourceFault) → gives source question (Err e) source' → new ≡ mid
+      → AsksTurn gives old question (Err (Work slice.Source)) new (medium disk)
+      (medium disk') source source'
   fails_so e asked still = (
-    asks_once kind (Err e),
+    asks_once question (Err e),
     (refl, asked),
     λ c promise stage p asking foretold.
-        let made = makes c promise stage p kind asking in
-        fails_behind medium c promise stage (asks_once kind (Err e)) new disk disk' disk' made.2
+        let made = makes c promise stage p question asking in
+        fails_behind medium c promise stage (asks_once question (Err e)) new disk disk' disk' made.2
         made.3 (Work slice.Source) (
           OfSource,
           inl refl,
           tt,
-          subst (λ w. TurnEnds c promise stage (Fails OfSource) (asks_once kind (Err e)) w
+          subst (λ w. TurnEnds c promise stage (Fails OfSource) (asks_once question (Err e)) w
               (medium disk') (medium disk')) (sym still)
-              (source_fails medium c promise stage p kind mid disk' made.0 says e foretold),
+              (source_fails medium c promise stage p question mid disk' made.0 says e foretold),
         ),
   )
 
-  waits_so : gives source kind (Ok None) source' → new ≡ mid
-      → AsksTurn gives old kind (Ok false) new (medium disk) (medium disk') source source'
+  waits_so : gives source question (Ok None) source' → new ≡ mid
+      → AsksTurn gives old question (Ok false) new (medium disk) (medium disk') source source'
   waits_so asked still = (
-    asks_once kind (Ok None),
+    asks_once question (Ok None),
     (refl, asked),
     λ c promise stage p asking foretold.
-        let made = makes c promise stage p kind asking in
-        ends_behind medium c promise stage (asks_once kind (Ok None)) new disk disk' disk' made.2
-        made.3 Waits
-        (subst (λ w. TurnEnds c promise stage Waits (asks_once kind (Ok None)) w (medium disk')
+        let made = makes c promise stage p question asking in
+        ends_behind medium c promise stage (asks_once question (Ok None)) new disk
+        disk' disk' made.2 made.3 Waits
+        (subst (λ w. TurnEnds c promise stage Waits (asks_once question (Ok None)) w (medium disk')
         (medium disk')) (sym still)
-        (waits_once medium c promise stage p kind mid disk' made.0 says foretold)),
+        (waits_once medium c promise stage p question mid disk' made.0 says foretold)),
     refl,
   )
 
-  takes_so : (a : Answer) → gives source kind (Ok (Some a)) source'
-      → TakesOnRecord mid kind (record { step = step; answer = a }) new
-      → AsksTurn gives old kind (Ok true) new (medium disk) (medium disk') source source'
+  takes_so : (a : Answer) → gives source question (Ok (Some a)) source'
+      → TakesOnRecord mid question (record { step = step; answer = a }) new
+      → AsksTurn gives old question (Ok true) new (medium disk) (medium disk') source source'
   takes_so a asked takes = (
-    asks_once kind (Ok (Some a)),
+    asks_once question (Ok (Some a)),
     (refl, asked),
     λ c promise stage p asking foretold.
-        let made = makes c promise stage p kind asking in
+        let made = makes c promise stage p question asking in
         let running = asking.running in
         let shows = running.shows in
         let steps : old.process.steps ≡ p.steps = shows.steps in
-        let turn = taken medium c promise stage p kind mid disk' made.0 says a foretold step new
+        let turn = taken medium c promise stage p question mid disk' made.0 says a foretold step new
         (step_is ∙ ap (λ n. n + 1) steps) takes in
-        goes_behind medium c promise stage (asks_once kind (Ok (Some a))) new disk disk' disk'
+        goes_behind medium c promise stage (asks_once question (Ok (Some a))) new disk disk' disk'
         made.2 made.3 turn
         (question_counts c.code c.config promise turn.promise' stage turn.stage'
-        (record { kind = kind; said = Ok (Some a) }) turn.done),
+        (record { question = question; said = Ok (Some a) }) turn.done),
     refl,
   )
 
-  takes_none : (a : Answer) (why : WorkFault) → gives source kind (Ok (Some a)) source'
-      → TakesNone mid kind (record { step = step; answer = a }) why new
-      → AsksTurn gives old kind (Err why) new (medium disk) (medium disk') source source'
+  takes_none : (a : Answer) (why : WorkFault) → gives source question (Ok (Some a)) source'
+      → TakesNone mid question (record { step = step; answer = a }) why new
+      → AsksTurn gives old question (Err why) new (medium disk) (medium disk') source source'
   takes_none a why asked none = (
-    asks_once kind (Ok (Some a)),
+    asks_once question (Ok (Some a)),
     (refl, asked),
     λ c promise stage p asking foretold.
-        let made = makes c promise stage p kind asking in
-        fails_behind medium c promise stage (asks_once kind (Ok (Some a))) new disk disk' disk'
+        let made = makes c promise stage p question asking in
+        fails_behind medium c promise stage (asks_once question (Ok (Some a))) new disk disk' disk'
         made.2 made.3 why (⊎_elim
-        (λ (h : IsMisfit mid kind (record { step = step; answer = a }) why new).
-        misfits medium c promise stage p kind mid disk' made.0 says a foretold step why new h)
-        (λ (rest : LacksRecord mid kind (record { step = step; answer = a }) why new
-        ⊎ IsNotTaken mid kind (record { step = step; answer = a }) why new).
+        (λ (h : IsMisfit mid question (record { step = step; answer = a }) why new).
+        misfits medium c promise stage p question mid disk' made.0 says a foretold step why new h)
+        (λ (rest : LacksRecord mid question (record { step = step; answer = a }) why new
+        ⊎ IsNotTaken mid question (record { step = step; answer = a }) why new).
         ⊎_elim
-        (λ (h : LacksRecord mid kind (record { step = step; answer = a }) why new).
-        lacks_record medium c promise stage p kind mid disk' made.0 says a foretold step why new made.1
-        h)
-        (λ (h : IsNotTaken mid kind (record { step = step; answer = a }) why new).
-        not_taken medium c promise stage p kind mid disk' made.0 says a foretold step why new h)
+        (λ (h : LacksRecord mid question (record { step = step; answer = a }) why new).
+        lacks_record medium c promise stage p question mid disk' made.0 says a foretold step
+        why new made.1 h)
+        (λ (h : IsNotTaken mid question (record { step = step; answer = a }) why new).
+        not_taken medium c promise stage p question mid disk' made.0 says a foretold step why new h)
         rest) none),
   )
 
   hears_so : (said : SourceSaid) (result : Result Bool WorkFault)
-      → gives source kind said source' → HearsBy mid kind step said result new
-      → AsksTurn gives old kind result new (medium disk) (medium disk') source source'
+      → gives source question said source' → HearsBy mid question step said result new
+      → AsksTurn gives old question result new (medium disk) (medium disk') source source'
   hears_so (Err e) result asked h =
-      subst (λ r. AsksTurn gives old kind r new (medium disk) (medium disk') source source')
+      subst (λ r. AsksTurn gives old question r new (medium disk) (medium disk') source source')
       (sym h.0) (fails_so e asked h.1)
   hears_so (Ok None) result asked h =
-      subst (λ r. AsksTurn gives old kind r new (medium disk) (medium disk') source source')
+      subst (λ r. AsksTurn gives old question r new (medium disk) (medium disk') source source')
       (sym h.0) (waits_so asked h.1)
   hears_so (Ok (Some a)) (Ok is_there) asked h =
-      subst (λ b. AsksTurn gives old kind (Ok b) new (medium disk) (medium disk') source source')
-      (sym h.0) (takes_so a asked h.1)
+      subst (λ b. AsksTurn gives old question (Ok b) new (medium disk) (medium disk')
+      source source') (sym h.0) (takes_so a asked h.1)
   hears_so (Ok (Some a)) (Err why) asked h = takes_none a why asked h
 
   pub asks_turn : (result : Result Bool WorkFault)
-      → Hears gives mid kind step result new source source'
-      → AsksTurn gives old kind result new (medium disk) (medium disk') source source'
+      → Hears gives mid question step result new source source'
+      → AsksTurn gives old question result new (medium disk) (medium disk') source source'
   asks_turn result h = hears_so h.said result h.asked h.hears
 
 -- no room was made
-pub asks_nothing : {D S : Type 0} (medium : D → Medium) (gives : Giving S) (old new : Running)
-    (kind : Kind) (why : WorkFault) (disk disk' : D) (source : S)
+pub asks_nothing : {D S : Type 0} (medium : D → Medium) (gives : Giving S) (old new : RunningWorker)
+    (question : Question) (why : WorkFault) (disk disk' : D) (source : S)
     → MakesNoRoom old why new (medium disk) (medium disk')
-    → AsksTurn gives old kind (Err why) new (medium disk) (medium disk') source source
-asks_nothing medium gives old new kind why disk disk' source none = (
+    → AsksTurn gives old question (Err why) new (medium disk) (medium disk') source source
+asks_nothing medium gives old new question why disk disk' source none = (
   [],
   refl,
-  λ c promise stage p asking foretold. none c promise stage p kind asking,
+  λ c promise stage p asking foretold. none c promise stage p question asking,
 )
 
 -- ---- as it is without a disk
@@ -253,22 +253,22 @@ false_there : (b : Bool) → ◌≡◌ {A = Result Bool WorkFault} (Ok b) (Ok fa
     → ◌≡◌ {A = Result Bool SliceFault} (Ok b) (Ok false)
 false_there b e = let is : b ≡ false = cc in ap (λ z. Ok z) is
 
-once_by : {S : Type 0} (gives : Giving S) (old new : Running) (kind : Kind) (step : ℕ)
-    (is_there : Bool) (said : SourceSaid) → HearsBy old kind step said (Ok is_there) new
+once_by : {S : Type 0} (gives : Giving S) (old new : RunningWorker) (question : Question) (step : ℕ)
+    (is_there : Bool) (said : SourceSaid) → HearsBy old question step said (Ok is_there) new
     → AnswersBy old.process said (Ok is_there) new.process
-once_by gives old new kind step is_there (Err e) h = absurd (let same = h.0 in cc)
-once_by gives old new kind step is_there (Ok None) h =
-    (false_there is_there h.0, ap (λ (w : Running). w.process) h.1)
-once_by gives old new kind step is_there (Ok (Some a)) h =
+once_by gives old new question step is_there (Err e) h = absurd (let same = h.0 in cc)
+once_by gives old new question step is_there (Ok None) h =
+    (false_there is_there h.0, ap (λ (w : RunningWorker). w.process) h.1)
+once_by gives old new question step is_there (Ok (Some a)) h =
     let takes = h.1 in (Ok tt, takes.given, ap (λ b. Ok b) h.0)
 
-pub asks_once_of : {S : Type 0} (gives : Giving S) (old mid new : Running) (kind : Kind) (step : ℕ)
-    (is_there : Bool) (source source' : S) → mid.process ≡ old.process
-    → Hears gives mid kind step (Ok is_there) new source source'
-    → AsksOnce gives kind old.process (Ok is_there) new.process source source'
-asks_once_of gives old mid new kind step is_there source source' same h =
-    subst (λ v. AsksOnce gives kind v (Ok is_there) new.process source source') same (record {
+pub asks_once_of : {S : Type 0} (gives : Giving S) (old mid new : RunningWorker)
+    (question : Question) (step : ℕ) (is_there : Bool) (source source' : S)
+    → mid.process ≡ old.process → Hears gives mid question step (Ok is_there) new source source'
+    → AsksOnce gives question old.process (Ok is_there) new.process source source'
+asks_once_of gives old mid new question step is_there source source' same h =
+    subst (λ v. AsksOnce gives question v (Ok is_there) new.process source source') same (record {
       said = h.said;
       asked = h.asked;
-      answers = once_by gives mid new kind step is_there h.said h.hears;
+      answers = once_by gives mid new question step is_there h.said h.hears;
     })

@@ -5,7 +5,7 @@ use Rattle.wasm_syntax.specs.declared.module.Module.{Module}
 use Rattle.wasi_abi.specs.rules.Configs.{Settings}
 use Rattle.process_rules.specs.Processes.{ProcessState, Guest}
 use Rattle.process_rules.specs.Runs.{Kept}
-use Rattle.sector_disk.specs.rules.Image.{Image}
+use Rattle.sector_disk.specs.rules.DiskImage.{DiskImage}
 use Rattle.sector_disk.specs.rules.Medium.{Medium, LeavesOnly}
 use Rattle.sector_disk.proofs.Moments.{started, goes_on, weaker, leaves_only, leaves_weaker}
 use Rattle.disk_layout.specs.rules.Places.{geometry_of, total_sectors}
@@ -18,10 +18,10 @@ use Rattle.restart_theorem.specs.Promises.{Promise, promised}
 use Rattle.restart_theorem.specs.Exchanges.{AreEvents, none, asked}
 use Rattle.restart_theorem.specs.Holds.{IsBounded, KeepsBounds, StaysWithin}
 use Rattle.restart_theorem.proofs.Disks.{stands_within}
-use Rattle.worker_store.specs.laws.Savepoints.{Savepoint, places, StandsAtPoint}
-use Rattle.worker_store.specs.laws.Barriers.{StandsAtFront}
+use Rattle.worker_store.specs.laws.Savepoints.{Savepoint, places, IsAtSavepoint}
+use Rattle.worker_store.specs.laws.Barriers.{IsAtFront}
 use Rattle.worker_store.specs.laws.Commits.{IsNextPoint, BeginsAtPoint}
-use Rattle.worker_store.specs.laws.Saves.{StandsAtFrontOrNext}
+use Rattle.worker_store.specs.laws.Saves.{IsAtFrontOrNext}
 use Rattle.worker_store.specs.laws.Pieces.{AreDone}
 use Rattle.worker_store.proofs.LawLemmas.Points.{point_stands}
 use Rattle.worker_store.specs.declared.store.WorkerStore.{WorkerStore}
@@ -30,10 +30,10 @@ use Rattle.worker.specs.rules.OpenWorkers.{IsOnDisk}
 
 -- ---- an image
 
--- One that stands at a savepoint stands by its generation and its places.
+-- One that is at a savepoint stands by its generation and its places.
 pub point_within : (m : Module) (config : Settings) (point : Savepoint m config)
-    (records : List Record) (last : ProcessState) (disk : Image) (latest sectors : ℕ)
-    → StandsAtPoint point records last disk → point.generation ≤ latest
+    (records : List Record) (last : ProcessState) (disk : DiskImage) (latest sectors : ℕ)
+    → IsAtSavepoint point records last disk → point.generation ≤ latest
     → total_sectors (places point) ≤ sectors → IsBounded latest sectors disk
 point_within m config point records last disk latest sectors at early room =
     let kept : List Kept = point.front ++ map given_in records in
@@ -44,7 +44,7 @@ point_within m config point records last disk latest sectors at early room =
     (sym by.wasm) room)
 
 -- the same for a later generation
-pub within_later : (latest later sectors : ℕ) (disk : Image) → latest ≤ later
+pub within_later : (latest later sectors : ℕ) (disk : DiskImage) → latest ≤ later
     → IsBounded latest sectors disk → IsBounded later sectors disk
 within_later latest later sectors disk le is m config kept n stands =
     let bounds = is m config kept n stands in (up_to stands.generation bounds.0, bounds.1)
@@ -54,26 +54,26 @@ within_later latest later sectors disk le is m config kept n stands =
 
 module _ (m : Module) (config : Settings) (point : Savepoint m config) (latest : ℕ)
     (old new : Medium) (room : total_sectors (places point) ≤ old.sectors) where
-  -- a cut leaves a front of the pending records
+  -- a cut leaves a prefix of the pending records
   pub fronts_within : (records pending : List Record) (last : ProcessState)
       → point.generation ≤ latest
-      → LeavesOnly old new (StandsAtFront point records last pending)
+      → LeavesOnly old new (IsAtFront point records last pending)
       → StaysWithin latest old new
   fronts_within records pending last early leaves =
-      leaves_weaker old new (StandsAtFront point records last pending)
+      leaves_weaker old new (IsAtFront point records last pending)
       (IsBounded latest old.sectors) leaves
       (λ disk at. point_within m config point _ at.process disk latest old.sectors at.at early room)
 
   -- or the next savepoint
   pub saves_within : (next : Savepoint m config) (records pending : List Record)
       (last : ProcessState) → IsNextPoint point next → point.generation + 1 ≤ latest
-      → LeavesOnly old new (StandsAtFrontOrNext point next records last pending)
+      → LeavesOnly old new (IsAtFrontOrNext point next records last pending)
       → StaysWithin latest old new
   saves_within next records pending last comes early leaves =
-      leaves_weaker old new (StandsAtFrontOrNext point next records last pending)
+      leaves_weaker old new (IsAtFrontOrNext point next records last pending)
       (IsBounded latest old.sectors) leaves
       (λ disk at. ⊎_elim
-      (λ (front : StandsAtFront point records last pending disk).
+      (λ (front : IsAtFront point records last pending disk).
       point_within m config point _ front.process disk latest old.sectors front.at
       (omega (arith, early)) room)
       (λ (begins : BeginsAtPoint next disk).
@@ -110,26 +110,27 @@ bounds_join first last old mid new le one two =
     let x = one.passes in
     let y = two.passes in
     record {
-      each = λ image left. ⊎_elim
+      each = λ image crashed. ⊎_elim
           (λ past. within_later first last old.sectors image le (one.each image past))
           (λ now. there image now)
-          (y.nothing_else old.moment image x.later left);
+          (y.nothing_else old.moment image x.later crashed);
       passes = goes_on old mid new (IsBounded last old.sectors) (IsBounded last mid.sectors)
           (weaker old mid (IsBounded first old.sectors) (IsBounded last old.sectors) x
           (λ image is. within_later first last old.sectors image le is)) y there;
     }
   where
-    there : (image : Image) → IsBounded last mid.sectors image → IsBounded last old.sectors image
+    there : (image : DiskImage) → IsBounded last mid.sectors image
+        → IsBounded last old.sectors image
     there image is = let x = one.passes in
         subst (λ n. IsBounded last n image) x.sectors is
 
 module _ {D : Type 0} (medium : D → Medium) where
   -- at any moment, and so in the end
   pub staying_keeps_bounds : StayingKeepsBounds medium
-  staying_keeps_bounds latest old new stays image left =
+  staying_keeps_bounds latest old new stays image crashed =
       let passes = stays.passes in
       subst (λ n. IsBounded latest n image) (sym passes.sectors)
-      (stays.each image ((medium new).counts_now (medium old).moment image passes.later left))
+      (stays.each image ((medium new).counts_now (medium old).moment image passes.later crashed))
 
   -- ---- a worker on its disk
 
@@ -137,11 +138,11 @@ module _ {D : Type 0} (medium : D → Medium) where
       (p : ProcessState) (step latest : ℕ) (store : WorkerStore) (disk : D)
       (is : IsOnDisk m config guest promise p step latest store (medium disk)) where
     pub on_disk_within : KeepsBounds latest (medium disk)
-    on_disk_within image left =
+    on_disk_within image crashed =
         let stores = is.stores in
         let journaled = stores.journaled in
         point_within m config is.point is.records is.last image latest (medium disk).sectors
-        (journaled.stands image left) is.early stores.sectors
+        (journaled.at_savepoint image crashed) is.early stores.sectors
 
     -- so it is where it is left alone
     pub on_disk_still : (later : ℕ) → latest ≤ later

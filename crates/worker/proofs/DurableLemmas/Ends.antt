@@ -41,7 +41,7 @@ use Rattle.worker_store.specs.declared.store.WorkerStore.{WorkerStore}
 use Rattle.ephemeral_worker.specs.declared.fault.SliceFault.TheVariants as sliced
 use Rattle.worker.specs.declared.fault.WorkFault.{WorkFault}
 use Rattle.worker.specs.declared.fault.WorkFault.TheVariants.{Work, Disk, Store, Upgrade}
-use Rattle.worker.specs.declared.running.Running.{Running}
+use Rattle.worker.specs.declared.running_worker.RunningWorker.{RunningWorker}
 use Rattle.worker.specs.rules.DurableCalls.{HasCauseAt}
 use Rattle.worker.specs.rules.Savings.{IsSaveFault}
 use Rattle.worker.specs.rules.DurableValues.{durable_of}
@@ -131,7 +131,7 @@ module _ {D : Type 0} (medium : D → Medium) (c : Course) where
   }
 
   module _ (promise between : Promise) (stage inside : Stage) (exchanges : List Exchange)
-      (w : Running) (disk disk' : D) (reply : Reply) (held : ℕ)
+      (w : RunningWorker) (disk disk' : D) (reply : Reply) (held : ℕ)
       (done : AreDone c.code c.config promise stage exchanges between inside)
       (ending : IsEnding c.code c.config between inside (record {
         act = Slice c.fuel;
@@ -139,7 +139,7 @@ module _ {D : Type 0} (medium : D → Medium) (c : Course) where
         held = held;
         shown = saved_of w.process;
       })) where
-    -- The end comes behind a part that has gone on, where the disk holds the syncs that it tells.
+    -- The end comes after a part that has gone on, where the disk holds the syncs that it tells.
     pub ends_on : GoesOnFrom c.code c.config promise between (medium disk) (medium disk')
         → StaysWithin (between.events + 1) (medium disk) (medium disk')
         → (point : Savepoint c.code c.config) (journal : JournalState)
@@ -178,7 +178,7 @@ module _ {D : Type 0} (medium : D → Medium) (c : Course) where
         }
 
   -- A call of the disk has failed before any exchange. What is promised at the end was carried.
-  pub fails_at_call : (promise : Promise) (stage : Stage) (w : Running) (disk disk' : D)
+  pub fails_at_call : (promise : Promise) (stage : Stage) (w : RunningWorker) (disk disk' : D)
       (cause : Cause) (held : ℕ) → promise.has_opened ≡ true
       → IsEnding c.code c.config promise stage (record {
         act = Slice c.fuel;
@@ -213,8 +213,8 @@ module _ {D : Type 0} (medium : D → Medium) (c : Course) where
 -- ---- the end as an event
 
 -- an error where the process has come to p
-pub failed_end : (c : Course) (promise : Promise) (stage : Stage) (p : ProcessState) (w : Running)
-    (phase : Phase) (held : ℕ) (cause : Cause)
+pub failed_end : (c : Course) (promise : Promise) (stage : Stage) (p : ProcessState)
+    (w : RunningWorker) (phase : Phase) (held : ℕ) (cause : Cause)
     → IsBroken c.code c.config c.guest promise stage c.fuel held p phase
     → ShowsProcess w.process c.guest p → w.process.machine.guest ≡ c.code → MayFail phase cause
     → HasBound c.code c.config c.guest promise p cause
@@ -230,7 +230,7 @@ failed_end c promise stage p w phase held cause broken shows module_is may bound
 
 -- what is under way is where it was
 pub broken_open : (c : Course) (promise : Promise) (stage : Stage) (p : ProcessState)
-    (step latest : ℕ) (w : Running) (disk : Medium)
+    (step latest : ℕ) (w : RunningWorker) (disk : Medium)
     → IsRunningOn c promise stage p step latest w disk
     → IsBroken c.code c.config c.guest promise stage c.fuel (length promise.kept) p Open
 broken_open c promise stage p step latest w disk running = record {
@@ -243,7 +243,7 @@ broken_open c promise stage p step latest w disk running = record {
 
 -- A slice that is over without an error leaves the worker open.
 pub open_again : {D : Type 0} (medium : D → Medium) (c : Course) (promise : Promise)
-    (stage : Stage) (p : ProcessState) (latest : ℕ) (w : Running) (disk : D) (reply : Reply)
+    (stage : Stage) (p : ProcessState) (latest : ℕ) (w : RunningWorker) (disk : D) (reply : Reply)
     (held replayed : ℕ) → promise.has_opened ≡ true → IsOfBytes (host_of c.config)
     → ShowsProcess w.process c.guest p → w.process.machine.guest ≡ c.code
     → waiting_in w.process ≡ []

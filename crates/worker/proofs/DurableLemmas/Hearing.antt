@@ -3,11 +3,11 @@ use Rattle.std.proofs.Common.{◌≡◌, ◌⊎◌, ℕ, ◌+◌, ◌-◌, ◌<�
 use Rattle.std.proofs.Common.{sym, ap, ◌∙◌, subst, inl, inr, arith, Bool, true, false, Some}
 use Rattle.std.proofs.Common.{None, Ok, Err}
 use Rattle.std.proofs.lemmas.List.{append-nil}
-use Rattle.wasi_abi.specs.declared.answer.Kind.{Kind}
+use Rattle.wasi_abi.specs.declared.answer.Question.{Question}
 use Rattle.wasi_abi.specs.declared.answer.Answer.{Answer}
 use Rattle.wasi_abi.specs.rules.Answers.{Fits}
 use Rattle.wasi_abi.specs.rules.Versions.{text_limit}
-use Rattle.wasi_calls_rules.specs.Hosts.{Host}
+use Rattle.wasi_calls_rules.specs.WasiStates.{WasiState}
 use Rattle.process_rules.specs.Processes.{ProcessState, Guest}
 use Rattle.process_rules.specs.Runs.{Given, Moves, Wants, next_of, none, take as takes_one}
 use Rattle.process_rules.proofs.Growing.{move_counts}
@@ -26,7 +26,8 @@ use Rattle.record_replay.specs.declared.fault.SourceFault.{SourceFault}
 use Rattle.record_replay.proofs.Emitted.{released_whole}
 use Rattle.restart_theorem.specs.Lives.{Fails, Waits, Cause, SourceSaid, Asked, kept_of_said}
 use Rattle.restart_theorem.specs.Lives.{OfSource, OfAnswer, OfMemory, OfBounds}
-use Rattle.restart_theorem.specs.Courses.{Stage, Phase, Open, Broken, NoneThere, MayFail, next_stage}
+use Rattle.restart_theorem.specs.Courses.{Stage, Phase, Open, Broken, NoneThere, MayFail}
+use Rattle.restart_theorem.specs.Courses.{next_stage}
 use Rattle.restart_theorem.specs.Courses.{first_said}
 use Rattle.restart_theorem.specs.Promises.{Promise, after, IsFitting, IsInquiring}
 use Rattle.restart_theorem.specs.Holds.{StaysWithin}
@@ -57,7 +58,7 @@ use Rattle.worker_store.specs.rules.Calls.{AppendFails}
 use Rattle.worker_store.proofs.StoreLemmas.{append_stores}
 use Rattle.worker.specs.declared.fault.WorkFault.{WorkFault}
 use Rattle.worker.specs.declared.fault.WorkFault.TheVariants.{Work}
-use Rattle.worker.specs.declared.running.Running.{Running}
+use Rattle.worker.specs.declared.running_worker.RunningWorker.{RunningWorker}
 use Rattle.worker.specs.rules.WorkFaults.{fault_of_store}
 use Rattle.ephemeral_worker.specs.rules.Refusals.{slice_fault}
 use Rattle.worker.specs.rules.DurableCalls.{ComesOf, NeedsMemory, HasCauseAt}
@@ -75,11 +76,11 @@ use Rattle.worker.proofs.DurableLemmas.Bounds.{on_disk_still}
 use Rattle.worker.proofs.DurableLemmas.Ends.{ends_on, failed_end, open_again, not_open}
 
 -- where a question leads
-abbrev pub promise_once : Promise → ProcessState → Kind → SourceSaid → Bool → Promise
-promise_once promise p kind said fits = after promise (Asked p.steps kind said fits)
+abbrev pub promise_once : Promise → ProcessState → Question → SourceSaid → Bool → Promise
+promise_once promise p question said fits = after promise (Asked p.steps question said fits)
 
-abbrev pub stage_once : Stage → ProcessState → Kind → SourceSaid → Bool → Stage
-stage_once stage p kind said fits = next_stage stage (Asked p.steps kind said fits)
+abbrev pub stage_once : Stage → ProcessState → Question → SourceSaid → Bool → Stage
+stage_once stage p question said fits = next_stage stage (Asked p.steps question said fits)
 
 too_full : (v : Version) (payload free long : ℕ) → payload ≤ text_limit v
     → longest_record v ≤ free → free < long → long ≡ record_head_bytes v + payload → ⊥
@@ -89,15 +90,15 @@ too_long : (v : Version) (payload : ℕ) → payload ≤ text_limit v → text_l
 too_long v payload few long = omega (arith, few, long)
 
 module _ {D : Type 0} (medium : D → Medium) (c : Course) (promise : Promise) (stage : Stage)
-    (p : ProcessState) (kind : Kind) (w : Running) (disk : D)
-    (asking : IsAskingOn c promise stage p kind (promise.events + 1) w (medium disk))
+    (p : ProcessState) (question : Question) (w : RunningWorker) (disk : D)
+    (asking : IsAskingOn c promise stage p question (promise.events + 1) w (medium disk))
     (says : w.is_abreast ≡ true) where
   all_told : w.process.host.released ≡ length p.host.lines
   all_told = let running = asking.running in
       released_whole w.process c.guest p running.shows asking.none_waits
 
-  question : IsAtQuestion c.code c.config c.guest promise stage c.fuel p kind
-  question = let running = asking.running in record {
+  at_question : IsAtQuestion c.code c.config c.guest promise stage c.fuel p question
+  at_question = let running = asking.running in record {
     way = subst (λ n. IsUnderWay c.code c.config c.guest promise stage c.fuel n p) all_told
         running.way;
     running = asking.unended;
@@ -110,8 +111,8 @@ module _ {D : Type 0} (medium : D → Medium) (c : Course) (promise : Promise) (
       reached_now medium c.code c.config c.guest promise p p.steps (promise.events + 1) w.store disk
       running.on_disk
 
-  wants_there : next_of by_answers.reached.guest p None ≡ Wants kind
-  wants_there = subst (λ (g : Guest). next_of g p None ≡ Wants kind) (sym by_answers.guest_is)
+  wants_there : next_of by_answers.reached.guest p None ≡ Wants question
+  wants_there = subst (λ (g : Guest). next_of g p None ≡ Wants question) (sym by_answers.guest_is)
       asking.wants
 
   same_limit : text_limit p.host.version ≡ text_limit w.process.host.host.version
@@ -119,7 +120,7 @@ module _ {D : Type 0} (medium : D → Medium) (c : Course) (promise : Promise) (
       let running = asking.running in
       let shows = running.shows in
       let host = shows.host in
-      ap (λ (h : Host). text_limit h.version) host.is
+      ap (λ (h : WasiState). text_limit h.version) host.is
 
   -- the disk is left alone
   bounds_still : (later : ℕ) → promise.events + 1 ≤ later
@@ -131,23 +132,23 @@ module _ {D : Type 0} (medium : D → Medium) (c : Course) (promise : Promise) (
   -- ---- what was said
 
   module _ (said : SourceSaid) (fits : Bool) where
-    done_once : IsFitting (text_limit p.host.version) kind said fits
-        → IsForetold stage (asks_once kind said)
-        → AreDone c.code c.config promise stage (asks_once kind said)
-        (promise_once promise p kind said fits) (stage_once stage p kind said fits)
+    done_once : IsFitting (text_limit p.host.version) question said fits
+        → IsForetold stage (asks_once question said)
+        → AreDone c.code c.config promise stage (asks_once question said)
+        (promise_once promise p question said fits) (stage_once stage p question said fits)
     done_once fitting foretold =
         let is_first : said ≡ first_said stage.says = foretold.0 in
-        let there : IsFitting (text_limit p.host.version) kind (first_said stage.says) fits =
-        subst (λ s. IsFitting (text_limit p.host.version) kind s fits) is_first fitting in
-        let inquiring = questions_are_asked c.code c.config c.guest promise stage c.fuel p kind fits
-        question there in
+        let there : IsFitting (text_limit p.host.version) question (first_said stage.says) fits =
+        subst (λ s. IsFitting (text_limit p.host.version) question s fits) is_first fitting in
+        let inquiring = questions_are_asked c.code c.config c.guest promise stage c.fuel
+        p question fits at_question there in
         let here : IsInquiring c.code c.config promise stage
-        (record { steps = p.steps; kind = kind; said = said; fits = fits }) =
+        (record { steps = p.steps; question = question; said = said; fits = fits }) =
         subst (λ s. IsInquiring c.code c.config promise stage
-        (record { steps = p.steps; kind = kind; said = s; fits = fits })) (sym is_first) inquiring
-        in
+        (record { steps = p.steps; question = question; said = s; fits = fits }))
+        (sym is_first) inquiring in
         record {
-          events = Asked p.steps kind said fits ∷ [];
+          events = Asked p.steps question said fits ∷ [];
           are = asked no_exchange;
           kept = (here, tt);
           promised_is = refl;
@@ -164,37 +165,38 @@ module _ {D : Type 0} (medium : D → Medium) (c : Course) (promise : Promise) (
         disk is) by_answers.reached (said_widens_none said fits p.steps)
         (count_at is.point is.records) is.syncs
 
-    carried_once : IsCarried (promise_once promise p kind said fits) asking.running.on_disk.point
-        w.store.journal asking.running.on_disk.records asking.running.on_disk.pending
-        asking.running.on_disk.last asking.running.on_disk.now (medium disk)
+    carried_once : IsCarried (promise_once promise p question said fits)
+        asking.running.on_disk.point w.store.journal asking.running.on_disk.records
+        asking.running.on_disk.pending asking.running.on_disk.last
+        asking.running.on_disk.now (medium disk)
     carried_once =
         let running = asking.running in
         let is = running.on_disk in
         asked_carries medium c.code c.config promise is.point w.store.journal is.records is.pending
-        is.last is.now p.steps kind said fits disk is.carried running.synced syncs_once
+        is.last is.now p.steps question said fits disk is.carried running.synced syncs_once
 
-    goes_once : IsFitting (text_limit p.host.version) kind said fits
-        → IsForetold stage (asks_once kind said)
-        → GoesOnFrom c.code c.config promise (promise_once promise p kind said fits) (medium disk)
-        (medium disk)
+    goes_once : IsFitting (text_limit p.host.version) question said fits
+        → IsForetold stage (asks_once question said)
+        → GoesOnFrom c.code c.config promise (promise_once promise p question said
+        fits) (medium disk) (medium disk)
     goes_once fitting foretold =
         let running = asking.running in
         let is = running.on_disk in
         let begun = parts_leave_begun c.code c.config promise
-        (promise_once promise p kind said fits) stage (stage_once stage p kind said fits)
-        (asks_once kind said) (done_once fitting foretold) in
-        rests_go_on medium c.code c.config promise (promise_once promise p kind said fits) disk
+        (promise_once promise p question said fits) stage (stage_once stage p question said fits)
+        (asks_once question said) (done_once fitting foretold) in
+        rests_go_on medium c.code c.config promise (promise_once promise p question said fits) disk
         running.opened running.opened begun.no_more
-        (asked_still_holds c.code c.config promise p kind said fits
+        (asked_still_holds c.code c.config promise p question said fits
         (valid_module medium c.code c.config c.guest promise p p.steps (promise.events + 1) w.store
         disk is) by_answers.reached running.synced)
-        (carried_keeps medium c.code c.config (promise_once promise p kind said fits) is.point
+        (carried_keeps medium c.code c.config (promise_once promise p question said fits) is.point
         w.store.journal is.records is.pending is.last is.now disk carried_once)
 
     -- the process is as it was
-    module _ (w' : Running) (same : w'.process ≡ w.process)
-        (fitting : IsFitting (text_limit p.host.version) kind said fits)
-        (foretold : IsForetold stage (asks_once kind said)) where
+    module _ (w' : RunningWorker) (same : w'.process ≡ w.process)
+        (fitting : IsFitting (text_limit p.host.version) question said fits)
+        (foretold : IsForetold stage (asks_once question said)) where
       shows_still : ShowsProcess w'.process c.guest p
       shows_still = let running = asking.running in
           subst (λ v. ShowsProcess v c.guest p) (sym same) running.shows
@@ -213,40 +215,40 @@ module _ {D : Type 0} (medium : D → Medium) (c : Course) (promise : Promise) (
 
       -- the slice fails
       fails_once : (phase : Phase) (cause : Cause)
-          → IsBroken c.code c.config c.guest (promise_once promise p kind said fits)
-          (stage_once stage p kind said fits) c.fuel (length promise.kept) p phase
+          → IsBroken c.code c.config c.guest (promise_once promise p question said fits)
+          (stage_once stage p question said fits) c.fuel (length promise.kept) p phase
           → MayFail phase cause
-          → HasBound c.code c.config c.guest (promise_once promise p kind said fits) p cause
-          → TurnEnds c promise stage (Fails cause) (asks_once kind said) w' (medium disk)
+          → HasBound c.code c.config c.guest (promise_once promise p question said fits) p cause
+          → TurnEnds c promise stage (Fails cause) (asks_once question said) w' (medium disk)
           (medium disk)
       fails_once phase cause broken may bound =
           let running = asking.running in
           let is = running.on_disk in
           let told : w'.process.steps ≡ p.steps = (let shows = shows_still in shows.steps) in
-          ends_on medium c promise (promise_once promise p kind said fits) stage
-          (stage_once stage p kind said fits) (asks_once kind said) w' disk disk (Fails cause)
-          (length promise.kept) (done_once fitting foretold)
-          (failed_end c (promise_once promise p kind said fits) (stage_once stage p kind said fits)
-          p w' phase (length promise.kept) cause broken shows_still module_still may bound)
-          (goes_once fitting foretold) (bounds_still (promise.events + 1 + 1) (omega arith))
-          is.point w.store.journal is.records is.pending is.last is.now
-          carried_once (syncs_until (w'.process.steps - 1) (omega (arith, told)))
-          (λ e. absurd (not_open cause e))
+          ends_on medium c promise (promise_once promise p question said fits) stage
+          (stage_once stage p question said fits) (asks_once question said) w' disk
+          disk (Fails cause) (length promise.kept) (done_once fitting foretold)
+          (failed_end c (promise_once promise p question said fits)
+          (stage_once stage p question said fits) p w' phase (length promise.kept) cause broken
+          shows_still module_still may bound) (goes_once fitting foretold)
+          (bounds_still (promise.events + 1 + 1) (omega arith)) is.point w.store.journal is.records
+          is.pending is.last is.now carried_once (syncs_until (w'.process.steps
+          - 1) (omega (arith, told))) (λ e. absurd (not_open cause e))
 
   -- ---- no answer
 
   -- there is none yet
-  pub waits_once : IsForetold stage (asks_once kind (Ok None))
-      → TurnEnds c promise stage Waits (asks_once kind (Ok None)) w (medium disk) (medium disk)
+  pub waits_once : IsForetold stage (asks_once question (Ok None))
+      → TurnEnds c promise stage Waits (asks_once question (Ok None)) w (medium disk) (medium disk)
   waits_once foretold =
       let running = asking.running in
       let is = running.on_disk in
-      let way = question.way in
-      let more : Promise = promise_once promise p kind (Ok None) false in
-      let inside : Stage = stage_once stage p kind (Ok None) false in
+      let way = at_question.way in
+      let more : Promise = promise_once promise p question (Ok None) false in
+      let inside : Stage = stage_once stage p question (Ok None) false in
       let none_more : more.kept ≡ promise.kept = append-nil promise.kept in
-      let others = other_answers_break c.code c.config c.guest promise stage c.fuel p kind question
-      in
+      let others = other_answers_break c.code c.config c.guest promise stage c.fuel p
+      question at_question in
       let broken : IsBroken c.code c.config c.guest more inside c.fuel (length more.kept) p
       (NoneThere p.steps) =
       subst (λ n. IsBroken c.code c.config c.guest more inside c.fuel n p (NoneThere p.steps))
@@ -269,7 +271,7 @@ module _ {D : Type 0} (medium : D → Medium) (c : Course) (promise : Promise) (
         syncs = syncs_once (Ok None) false;
         early = is.early;
       } in
-      ends_on medium c promise more stage inside (asks_once kind (Ok None)) w disk disk Waits
+      ends_on medium c promise more stage inside (asks_once question (Ok None)) w disk disk Waits
       (length more.kept) (done_once (Ok None) false tt foretold)
       (waiting_slices_end c.code c.config c.guest more inside c.fuel p (saved_of w.process) broken
       (shown_is_saved c.code c.config c.guest w.process p running.shows running.module_is) way.line
@@ -289,49 +291,49 @@ module _ {D : Type 0} (medium : D → Medium) (c : Course) (promise : Promise) (
       ))
 
   -- the source fails
-  pub source_fails : (e : SourceFault) → IsForetold stage (asks_once kind (Err e))
-      → TurnEnds c promise stage (Fails OfSource) (asks_once kind (Err e)) w (medium disk)
+  pub source_fails : (e : SourceFault) → IsForetold stage (asks_once question (Err e))
+      → TurnEnds c promise stage (Fails OfSource) (asks_once question (Err e)) w (medium disk)
       (medium disk)
   source_fails e foretold =
-      let others = other_answers_break c.code c.config c.guest promise stage c.fuel p kind question
-      in
+      let others = other_answers_break c.code c.config c.guest promise stage c.fuel p
+      question at_question in
       fails_once (Err e) false w refl tt foretold (Broken OfSource) OfSource (others.fault e false)
       refl tt
 
   -- ---- an answer
 
-  module _ (a : Answer) (foretold : IsForetold stage (asks_once kind (Ok (Some a)))) where
+  module _ (a : Answer) (foretold : IsForetold stage (asks_once question (Ok (Some a)))) where
     -- it doesn't fit
-    pub misfits : (step : ℕ) (why : WorkFault) (w' : Running)
-        → IsMisfit w kind (record_of step a) why w'
-        → TurnFails c promise stage why (asks_once kind (Ok (Some a))) w' (medium disk)
+    pub misfits : (step : ℕ) (why : WorkFault) (w' : RunningWorker)
+        → IsMisfit w question (record_of step a) why w'
+        → TurnFails c promise stage why (asks_once question (Ok (Some a))) w' (medium disk)
         (medium disk)
     misfits step why w' h =
-        let others = other_answers_break c.code c.config c.guest promise stage c.fuel p kind
-        question in (
+        let others = other_answers_break c.code c.config c.guest promise stage c.fuel p question
+        at_question in (
           OfAnswer,
           subst (λ z. ComesOf z OfAnswer) (sym h.is) (inr refl),
           subst (λ z. HasCauseAt z c.guest c.config w'.process (medium disk) (medium disk))
               (sym h.is) tt,
-          fails_once (Ok (Some a)) false w' (ap (λ (r : Running). r.process) h.same)
-              (λ fits. h.misfits (subst (λ n. Fits n kind a) same_limit fits)) foretold
+          fails_once (Ok (Some a)) false w' (ap (λ (r : RunningWorker). r.process) h.same)
+              (λ fits. h.misfits (subst (λ n. Fits n question a) same_limit fits)) foretold
               (Broken OfAnswer) OfAnswer (others.misfit a) refl tt,
         )
 
-    module _ (fits : Fits (text_limit p.host.version) kind a) (w' : Running) where
+    module _ (fits : Fits (text_limit p.host.version) question a) (w' : RunningWorker) where
       -- it is kept, and not taken
       kept_once : (same : w'.process ≡ w.process) (cause : Cause) → MayFail Open cause
           → HasBound c.code c.config c.guest
-          (promise_once promise p kind (Ok (Some a)) true) p cause
-          → TurnEnds c promise stage (Fails cause) (asks_once kind (Ok (Some a))) w' (medium disk)
-          (medium disk)
+          (promise_once promise p question (Ok (Some a)) true) p cause
+          → TurnEnds c promise stage (Fails cause) (asks_once question (Ok (Some a)))
+          w' (medium disk) (medium disk)
       kept_once same cause may bound =
           fails_once (Ok (Some a)) true w' same fits foretold Open cause
-          (answers_are_kept c.code c.config c.guest promise stage c.fuel p kind a question) may
-          bound
+          (answers_are_kept c.code c.config c.guest promise stage c.fuel p question a
+          at_question) may bound
 
       needs_memory : w'.process ≡ w.process
-          → CallsHost c.guest p ⊎ ((k : Kind) × (next_of c.guest p None ≡ Wants k))
+          → CallsHost c.guest p ⊎ ((k : Question) × (next_of c.guest p None ≡ Wants k))
           → NeedsMemory c.guest w'.process
       needs_memory same needs = let running = asking.running in record {
         process = p;
@@ -346,12 +348,12 @@ module _ {D : Type 0} (medium : D → Medium) (c : Course) (promise : Promise) (
           subst (λ v. length (payload_of a) ≤ text_limit v)
           (sym (one_version c.code c.config c.guest promise p p.steps (promise.events + 1)
           w.store (medium disk) running.on_disk))
-          (short_payload c.guest p kind a asking.wants fits)
+          (short_payload c.guest p question a asking.wants fits)
 
       -- no record is wanting but for memory
       lacks_by : (step : ℕ) (fault : StoreFault) → HasRoom w
           → AppendFails w.store (record_of step a) fault → w'.process ≡ w.process
-          → TurnFails c promise stage (fault_of_store fault) (asks_once kind (Ok (Some a))) w'
+          → TurnFails c promise stage (fault_of_store fault) (asks_once question (Ok (Some a))) w'
           (medium disk) (medium disk)
       lacks_by step store.Full room h same =
           let v : Version = w.store.journal.version in
@@ -363,7 +365,7 @@ module _ {D : Type 0} (medium : D → Medium) (c : Course) (promise : Promise) (
       lacks_by step store.Memory room h same = (
         OfMemory,
         refl,
-        needs_memory same (inr (kind, asking.wants)),
+        needs_memory same (inr (question, asking.wants)),
         kept_once same OfMemory tt tt,
       )
       lacks_by step store.Failed room (inl failed) same =
@@ -385,12 +387,12 @@ module _ {D : Type 0} (medium : D → Medium) (c : Course) (promise : Promise) (
 
       -- the process doesn't take it
       not_taken_by : (fault : ProcessFault) → GivesAnswer w.process a (Err fault) w'.process
-          → TurnFails c promise stage (Work (slice_fault fault)) (asks_once kind (Ok (Some a))) w'
-          (medium disk) (medium disk)
+          → TurnFails c promise stage (Work (slice_fault fault))
+          (asks_once question (Ok (Some a))) w' (medium disk) (medium disk)
       not_taken_by stop.WrongAnswer given =
           let running = asking.running in
           let h = given c.guest p running.shows in
-          absurd (h.1 asking.none_waits asking.unended (kind, asking.wants, fits))
+          absurd (h.1 asking.none_waits asking.unended (question, asking.wants, fits))
       not_taken_by stop.Memory given =
           let running = asking.running in
           let h = given c.guest p running.shows in
@@ -400,32 +402,32 @@ module _ {D : Type 0} (medium : D → Medium) (c : Course) (promise : Promise) (
           let h = given c.guest p running.shows in
           (OfBounds, refl, tt, kept_once h.0 OfBounds tt (inl (Some a, h.3)))
 
-    pub lacks_record : (step : ℕ) (why : WorkFault) (w' : Running) → HasRoom w
-        → LacksRecord w kind (record_of step a) why w'
-        → TurnFails c promise stage why (asks_once kind (Ok (Some a))) w' (medium disk)
+    pub lacks_record : (step : ℕ) (why : WorkFault) (w' : RunningWorker) → HasRoom w
+        → LacksRecord w question (record_of step a) why w'
+        → TurnFails c promise stage why (asks_once question (Ok (Some a))) w' (medium disk)
         (medium disk)
     lacks_record step why w' room h =
-        subst (λ z. TurnFails c promise stage z (asks_once kind (Ok (Some a))) w' (medium disk)
+        subst (λ z. TurnFails c promise stage z (asks_once question (Ok (Some a))) w' (medium disk)
         (medium disk)) (sym h.is)
-        (lacks_by (subst (λ n. Fits n kind a) (sym same_limit) h.fits) w' step h.fault room h.fails
-        h.same)
+        (lacks_by (subst (λ n. Fits n question a) (sym same_limit) h.fits) w' step
+        h.fault room h.fails h.same)
 
-    pub not_taken : (step : ℕ) (why : WorkFault) (w' : Running)
-        → IsNotTaken w kind (record_of step a) why w'
-        → TurnFails c promise stage why (asks_once kind (Ok (Some a))) w' (medium disk)
+    pub not_taken : (step : ℕ) (why : WorkFault) (w' : RunningWorker)
+        → IsNotTaken w question (record_of step a) why w'
+        → TurnFails c promise stage why (asks_once question (Ok (Some a))) w' (medium disk)
         (medium disk)
     not_taken step why w' h =
-        subst (λ z. TurnFails c promise stage z (asks_once kind (Ok (Some a))) w' (medium disk)
+        subst (λ z. TurnFails c promise stage z (asks_once question (Ok (Some a))) w' (medium disk)
         (medium disk)) (sym h.is)
-        (not_taken_by (subst (λ n. Fits n kind a) (sym same_limit) h.fits) w' h.fault h.given)
+        (not_taken_by (subst (λ n. Fits n question a) (sym same_limit) h.fits) w' h.fault h.given)
 
     -- ---- it is taken
 
-    module _ (q : ProcessState) (moves : Moves c.guest p (Some a) q) (w' : Running)
-        (takes : TakesOnRecord w kind (record_of q.steps a) w')
+    module _ (q : ProcessState) (moves : Moves c.guest p (Some a) q) (w' : RunningWorker)
+        (takes : TakesOnRecord w question (record_of q.steps a) w')
         (shows : ShowsProcess w'.process c.guest q) where
       abbrev more_promise : Promise
-      more_promise = promise_once promise p kind (Ok (Some a)) true
+      more_promise = promise_once promise p question (Ok (Some a)) true
 
       counted : q.steps ≡ p.steps + 1
       counted = move_counts c.guest p q (Some a) moves
@@ -452,7 +454,7 @@ module _ {D : Type 0} (medium : D → Medium) (c : Course) (promise : Promise) (
           let running = asking.running in
           let is = running.on_disk in
           answer_is_on_record c.code c.config promise is.point is.records is.pending p.steps q.steps
-          kind a is.on_record
+          question a is.on_record
 
       on_disk_next : IsOnDisk c.code c.config c.guest more_promise q q.steps more_promise.events
           w'.store (medium disk)
@@ -461,7 +463,7 @@ module _ {D : Type 0} (medium : D → Medium) (c : Course) (promise : Promise) (
           let is = running.on_disk in
           let stores = stored_next in
           let syncs = answered_syncs_are_held c.code c.config promise.kept
-          (count_at is.point is.records) p kind a
+          (count_at is.point is.records) p question a
           (valid_module medium c.code c.config c.guest promise p p.steps (promise.events + 1)
           w.store disk is) by_answers.reached wants_there is.syncs in
           record {
@@ -483,17 +485,18 @@ module _ {D : Type 0} (medium : D → Medium) (c : Course) (promise : Promise) (
             early = is.early;
           }
 
-      goes_taken : Fits (text_limit p.host.version) kind a
-          → TurnGoes c promise stage (asks_once kind (Ok (Some a))) w' (medium disk) (medium disk)
+      goes_taken : Fits (text_limit p.host.version) question a
+          → TurnGoes c promise stage (asks_once question (Ok (Some a))) w'
+          (medium disk) (medium disk)
       goes_taken fits =
           let running = asking.running in
           let few : promise.synced ≤ p.steps = running.synced in
           let one_more = counted in
-          let way = answers_go_on c.code c.config c.guest promise stage c.fuel p q kind a question
-          moves in
+          let way = answers_go_on c.code c.config c.guest promise stage c.fuel p q
+          question a at_question moves in
           record {
             promise' = more_promise;
-            stage' = stage_once stage p kind (Ok (Some a)) true;
+            stage' = stage_once stage p question (Ok (Some a)) true;
             process = q;
             done = done_once (Ok (Some a)) true fits foretold;
             onward = goes_once (Ok (Some a)) true fits foretold;
@@ -504,7 +507,7 @@ module _ {D : Type 0} (medium : D → Medium) (c : Course) (promise : Promise) (
               shows = shows;
               module_is = takes.guest_same ∙ running.module_is;
               way = subst (λ n. IsUnderWay c.code c.config c.guest more_promise
-                  (stage_once stage p kind (Ok (Some a)) true) c.fuel n q)
+                  (stage_once stage p question (Ok (Some a)) true) c.fuel n q)
                   (sym (takes.released_same ∙ all_told)) way;
               began = running.began;
               on_disk = on_disk_next;
@@ -520,9 +523,9 @@ module _ {D : Type 0} (medium : D → Medium) (c : Course) (promise : Promise) (
             };
           }
 
-    pub taken : (step : ℕ) (w' : Running) → step ≡ p.steps + 1
-        → TakesOnRecord w kind (record_of step a) w'
-        → TurnGoes c promise stage (asks_once kind (Ok (Some a))) w' (medium disk) (medium disk)
+    pub taken : (step : ℕ) (w' : RunningWorker) → step ≡ p.steps + 1
+        → TakesOnRecord w question (record_of step a) w'
+        → TurnGoes c promise stage (asks_once question (Ok (Some a))) w' (medium disk) (medium disk)
     taken step w' is_next takes =
         let running = asking.running in
         let given = takes.given c.guest p running.shows in
@@ -530,5 +533,5 @@ module _ {D : Type 0} (medium : D → Medium) (c : Course) (promise : Promise) (
         let count = move_counts c.guest p by.process (Some a) by.moves in
         let same : record_of step a ≡ record_of by.process.steps a =
         ap (λ n. record_of n a) (is_next ∙ sym count) in
-        goes_taken by.process by.moves w' (subst (λ r. TakesOnRecord w kind r w') same takes)
-        by.shows (subst (λ n. Fits n kind a) (sym same_limit) takes.fits)
+        goes_taken by.process by.moves w' (subst (λ r. TakesOnRecord w question r w') same takes)
+        by.shows (subst (λ n. Fits n question a) (sym same_limit) takes.fits)

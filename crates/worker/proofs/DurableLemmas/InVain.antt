@@ -3,12 +3,12 @@ use Rattle.std.proofs.Common.{◌≡◌, ◌⊎◌, ℕ, ◌≤◌, List, [], �
 use Rattle.std.proofs.Common.{inl, inr, ⊎_elim, Bool, true, false, Option, Some, None, Ok, Err}
 use Rattle.std.specs.Prelude.{Result, IfErr, ◌≢◌}
 use Rattle.std.proofs.lemmas.List.{append-nil}
-use Rattle.wasi_abi.specs.declared.answer.Kind.{Kind}
-use Rattle.wasi_abi.specs.declared.answer.Kind.TheVariants as kinds
+use Rattle.wasi_abi.specs.declared.answer.Question.{Question}
+use Rattle.wasi_abi.specs.declared.answer.Question.TheVariants as questions
 use Rattle.wasi_abi.specs.declared.answer.Answer.{Answer}
 use Rattle.wasi_abi.specs.rules.Answers.{Fits}
 use Rattle.wasi_abi.specs.rules.Versions.{text_limit}
-use Rattle.wasi_calls_rules.specs.Hosts.{Host, Line}
+use Rattle.wasi_calls_rules.specs.WasiStates.{WasiState, Line}
 use Rattle.process_rules.specs.Processes.{ProcessState, Guest}
 use Rattle.process.specs.declared.fault.ProcessFault.{ProcessFault}
 use Rattle.process.specs.declared.fault.ProcessFault.TheVariants as stop
@@ -27,17 +27,17 @@ use Rattle.ephemeral_worker.specs.Turns.{working, failing}
 use Rattle.ephemeral_worker.specs.declared.fault.SliceFault.TheVariants as slice
 use Rattle.ephemeral_worker.specs.rules.Faults.{IsBadAnswer, LeadsUpTo, Fails, SlicesInVain}
 use Rattle.ephemeral_worker.specs.rules.Refusals.{slice_fault}
-use Rattle.ephemeral_worker.proofs.Ending.{Turning, Wishing, released_some, vainly}
-use Rattle.ephemeral_worker.proofs.Going.{Goes, leads, wish, asked_more}
+use Rattle.ephemeral_worker.proofs.Ending.{Turning, Questioning, released_some, vainly}
+use Rattle.ephemeral_worker.proofs.Going.{Goes, leads, leads_to_question, asked_more}
 use Rattle.ephemeral_worker.proofs.Joining.{wanted_ask}
 use Rattle.worker.specs.declared.fault.WorkFault.{WorkFault}
 use Rattle.worker.specs.declared.fault.WorkFault.TheVariants.{Work}
-use Rattle.worker.specs.declared.running.Running.{Running}
+use Rattle.worker.specs.declared.running_worker.RunningWorker.{RunningWorker}
 use Rattle.worker.specs.rules.WorkFaults.{fault_of_store}
 use Rattle.worker.specs.rules.DurableFailures.{StopsAtDisk, StopsAtStore, StopsAtQuestion}
 use Rattle.worker.specs.rules.DurableFailures.{StopsForMemory, IsDiskCause}
 use Rattle.worker.specs.rules.DurableFailures.{SlicesOnDiskInVain}
-use Rattle.worker.specs.DurableTurns.{SettlesVainly, AsksVainly, Hears}
+use Rattle.worker.specs.DurableTurns.{FlushesVainly, AsksVainly, Hears}
 use Rattle.worker.specs.DurableTurns.{HearsBy, IsMisfit, LacksRecord, IsNotTaken}
 
 -- ---- faults
@@ -108,7 +108,7 @@ module _ {S O : Type 0} (gives : Giving S) (takes : Taking O) where
         let g = gone guest p shows in
         record {
           front = g.exchanges;
-          kind = kinds.Realtime;
+          question = questions.Realtime;
           is = sym (append-nil g.exchanges);
           leads = leads gives takes old v v fuel guest p s t o q g empty;
           answered = g.answered;
@@ -135,9 +135,9 @@ module _ {S O : Type 0} (gives : Giving S) (takes : Taking O) where
       shows = (gone guest p shows).shows;
     }
 
-    settles_stored : (fault : StoreFault) → fault ≢ store.Memory → fault ≢ store.TooBig
+    stored_vainly : (fault : StoreFault) → fault ≢ store.Memory → fault ≢ store.TooBig
         → SlicesOnDiskInVain gives takes old fuel (fault_of_store fault) v s t o q
-    settles_stored fault none fits guest p shows =
+    stored_vainly fault none fits guest p shows =
         let g = gone guest p shows in (
           stays_at guest p shows,
           disk_cause_of guest p fuel g.exchanges g.steps g.process g.within
@@ -145,15 +145,15 @@ module _ {S O : Type 0} (gives : Giving S) (takes : Taking O) where
               (λ is. absurd (none is)),
         )
 
-    pub settled_vainly : (why : WorkFault) (new : ProcessValue) (r : O)
-        → SettlesVainly takes v why new q r
+    pub flushed_vainly : (why : WorkFault) (new : ProcessValue) (r : O)
+        → FlushesVainly takes v why new q r
         → SlicesOnDiskInVain gives takes old fuel why new s t o r
-    settled_vainly why new r (inl stored) =
+    flushed_vainly why new r (inl stored) =
         subst (λ z. SlicesOnDiskInVain gives takes old fuel why z s t o r) (sym stored.4)
         (subst (λ z. SlicesOnDiskInVain gives takes old fuel why v s t o z) (sym stored.5)
         (subst (λ z. SlicesOnDiskInVain gives takes old fuel z v s t o q) (sym stored.1)
-        (settles_stored stored.0 stored.2 stored.3)))
-    settled_vainly why new r (inr refused) =
+        (stored_vainly stored.0 stored.2 stored.3)))
+    flushed_vainly why new r (inr refused) =
         subst (λ z. SlicesOnDiskInVain gives takes old fuel z new s t o r) (sym refused.0)
         (told_vainly (released_some gives takes old v new fuel first s t o q r turning refused.1))
       where
@@ -163,11 +163,11 @@ module _ {S O : Type 0} (gives : Giving S) (takes : Taking O) where
 
   -- ---- what is asked
 
-  module _ (old v : ProcessValue) (fuel first : ℕ) (s t : S) (o q : O) (kind : Kind)
-      (wishing : Wishing gives takes old v fuel first s t o q kind) where
+  module _ (old v : ProcessValue) (fuel first : ℕ) (s t : S) (o q : O) (question : Question)
+      (questioning : Questioning gives takes old v fuel first s t o q question) where
     abbrev so_far : (guest : Guest) (p : ProcessState) → ShowsProcess old guest p
         → Goes gives takes old v fuel guest p s t o q
-    so_far guest p shows = wishing.turning.goes guest p shows
+    so_far guest p shows = questioning.turning.goes guest p shows
 
     -- it may be memory for the answer
     memory_for : (guest : Guest) (p : ProcessState) (shows : ShowsProcess old guest p)
@@ -177,9 +177,9 @@ module _ {S O : Type 0} (gives : Giving S) (takes : Taking O) where
         → StopsForMemory guest p fuel exchanges (so_far guest p shows).steps
         (so_far guest p shows).process
     memory_for guest p shows exchanges given up = (
-      wishing.less guest p shows,
-      wishing.running guest p shows,
-      inr (kind, wishing.wants guest p shows),
+      questioning.less guest p shows,
+      questioning.running guest p shows,
+      inr (question, questioning.wants guest p shows),
       given,
       up,
     )
@@ -189,35 +189,37 @@ module _ {S O : Type 0} (gives : Giving S) (takes : Taking O) where
         → SlicesOnDiskInVain gives takes old fuel (fault_of_store fault) v s t o q
     room_vainly fault guest p shows =
         let g = so_far guest p shows in
-        let up = up_to_now old v fuel first s t o q wishing.turning guest p shows wishing.empty in (
-          stays_at old v fuel first s t o q wishing.turning guest p shows,
+        let up = up_to_now old v fuel first s t o q questioning.turning guest p shows
+        questioning.empty in (
+          stays_at old v fuel first s t o q questioning.turning guest p shows,
           disk_cause_of guest p fuel g.exchanges g.steps g.process g.within (inr up) fault
               (λ is. (
-                wishing.less guest p shows,
-                wishing.running guest p shows,
-                kind,
-                wishing.wants guest p shows,
+                questioning.less guest p shows,
+                questioning.running guest p shows,
+                question,
+                questioning.wants guest p shows,
                 up,
               ))
               (λ is. memory_for guest p shows g.exchanges None up),
         )
 
     -- it is asked
-    module _ (u : S) (said : SourceSaid) (asked : gives t kind said u) (new : ProcessValue)
+    module _ (u : S) (said : SourceSaid) (asked : gives t question said u) (new : ProcessValue)
         (same : new ≡ v) where
-      abbrev question : Ask
-      question = record { kind = kind; said = said }
+      abbrev this_ask : Ask
+      this_ask = record { question = question; said = said }
 
       abbrev asks_here : (guest : Guest) (p : ProcessState) → ShowsProcess old guest p
           → Fails gives takes (working old) (failing new) guest p s u o q
       asks_here guest p shows = record {
-        exchanges = (so_far guest p shows).exchanges ++ (Asks question ∷ []);
+        exchanges = (so_far guest p shows).exchanges ++ (Asks this_ask ∷ []);
         exchanged = asked_more gives takes old v v fuel guest p s t o q (so_far guest p shows) u
-            question asked;
-        wanted = wanted_ask guest p (so_far guest p shows).exchanges question
+            this_ask asked;
+        wanted = wanted_ask guest p (so_far guest p shows).exchanges this_ask
             (so_far guest p shows).wanted
-            (wish gives takes old v v fuel guest p s t o q (so_far guest p shows) kind wishing.empty
-            (wishing.running guest p shows) (wishing.wants guest p shows));
+            (leads_to_question gives takes old v v fuel guest p s t o q (so_far guest p shows)
+            question questioning.empty (questioning.running guest p shows)
+            (questioning.wants guest p shows));
         steps = (so_far guest p shows).steps;
         process = (so_far guest p shows).process;
         shows = subst (λ z. ShowsProcess z guest (so_far guest p shows).process) (sym same)
@@ -225,18 +227,18 @@ module _ {S O : Type 0} (gives : Giving S) (takes : Taking O) where
       }
 
       bad_vainly : ((guest : Guest) (p : ProcessState) (shows : ShowsProcess old guest p)
-          → IsBadAnswer (text_limit (so_far guest p shows).process.host.version) kind said)
+          → IsBadAnswer (text_limit (so_far guest p shows).process.host.version) question said)
           → SlicesOnDiskInVain gives takes old fuel (Work slice.Source) new s u o q
       bad_vainly bad guest p shows = (
         asks_here guest p shows,
         (
-          wishing.less guest p shows,
+          questioning.less guest p shows,
           record {
             front = (so_far guest p shows).exchanges;
-            ask = question;
+            ask = this_ask;
             is = refl;
             leads = leads gives takes old v v fuel guest p s t o q (so_far guest p shows)
-                wishing.empty;
+                questioning.empty;
             bad = bad guest p shows;
           },
         ),
@@ -244,15 +246,15 @@ module _ {S O : Type 0} (gives : Giving S) (takes : Taking O) where
 
       up_to_answer : (a : Answer) → said ≡ Ok (Some a)
           → (guest : Guest) (p : ProcessState) (shows : ShowsProcess old guest p)
-          → LeadsUpTo guest p ((so_far guest p shows).exchanges ++ (Asks question ∷ []))
+          → LeadsUpTo guest p ((so_far guest p shows).exchanges ++ (Asks this_ask ∷ []))
           (so_far guest p shows).steps (so_far guest p shows).process (Some a)
       up_to_answer a is guest p shows = record {
         front = (so_far guest p shows).exchanges;
-        kind = kind;
+        question = question;
         is = ap (λ (z : SourceSaid). (so_far guest p shows).exchanges
-            ++ (Asks (record { kind = kind; said = z }) ∷ [])) is;
+            ++ (Asks (record { question = question; said = z }) ∷ [])) is;
         leads = leads gives takes old v v fuel guest p s t o q (so_far guest p shows)
-            wishing.empty;
+            questioning.empty;
         answered = (so_far guest p shows).answered;
       }
 
@@ -262,7 +264,7 @@ module _ {S O : Type 0} (gives : Giving S) (takes : Taking O) where
           → SlicesOnDiskInVain gives takes old fuel (fault_of_store fault) new s u o q
       kept_vainly a is from r fault fails guest p shows =
           let g = so_far guest p shows in
-          let calls : List Exchange = g.exchanges ++ (Asks question ∷ []) in
+          let calls : List Exchange = g.exchanges ++ (Asks this_ask ∷ []) in
           let up = up_to_answer a is guest p shows in (
             asks_here guest p shows,
             store_cause guest p fuel calls g.steps g.process g.within (inr (a, up)) fault
@@ -271,42 +273,43 @@ module _ {S O : Type 0} (gives : Giving S) (takes : Taking O) where
                 (λ none. memory_for guest p shows calls (Some a) up),
           )
 
-    module _ (mid new : Running) (step : ℕ) (u : S) (why : WorkFault)
+    module _ (mid new : RunningWorker) (step : ℕ) (u : S) (why : WorkFault)
         (same : mid.process ≡ v) where
       same_limit : (guest : Guest) (p : ProcessState) (shows : ShowsProcess old guest p)
-          → text_limit (so_far guest p shows).process.host.version ≡ text_limit mid.process.host.host.version
+          → text_limit (so_far guest p shows).process.host.version
+          ≡ text_limit mid.process.host.host.version
       same_limit guest p shows =
           let g = so_far guest p shows in
           let shown = g.shows in
           let host = shown.host in
-          ap (λ (h : Host). text_limit h.version) host.is
+          ap (λ (h : WasiState). text_limit h.version) host.is
           ∙ ap (λ (x : ProcessValue). text_limit x.host.host.version) (sym same)
 
-      misfit_vainly : (a : Answer) → gives t kind (Ok (Some a)) u
-          → IsMisfit mid kind (record { step = step; answer = a }) why new
+      misfit_vainly : (a : Answer) → gives t question (Ok (Some a)) u
+          → IsMisfit mid question (record { step = step; answer = a }) why new
           → SlicesOnDiskInVain gives takes old fuel why new.process s u o q
       misfit_vainly a asked h =
           subst (λ z. SlicesOnDiskInVain gives takes old fuel z new.process s u o q) (sym h.is)
           (bad_vainly u (Ok (Some a)) asked new.process
-          (ap (λ (w : Running). w.process) h.same ∙ same)
-          (λ guest p shows fits. h.misfits (subst (λ n. Fits n kind a) (same_limit guest p shows)
-          fits)))
+          (ap (λ (w : RunningWorker). w.process) h.same ∙ same)
+          (λ guest p shows fits. h.misfits (subst (λ n. Fits n question a)
+          (same_limit guest p shows) fits)))
 
-      unkept_vainly : (a : Answer) → gives t kind (Ok (Some a)) u
-          → LacksRecord mid kind (record { step = step; answer = a }) why new
+      unkept_vainly : (a : Answer) → gives t question (Ok (Some a)) u
+          → LacksRecord mid question (record { step = step; answer = a }) why new
           → SlicesOnDiskInVain gives takes old fuel why new.process s u o q
       unkept_vainly a asked h =
           subst (λ z. SlicesOnDiskInVain gives takes old fuel z new.process s u o q) (sym h.is)
           (kept_vainly u (Ok (Some a)) asked new.process (h.same ∙ same) a refl
           mid.store (record { step = step; answer = a }) h.fault h.fails)
 
-      untaken_vainly : (a : Answer) → gives t kind (Ok (Some a)) u
-          → IsNotTaken mid kind (record { step = step; answer = a }) why new
+      untaken_vainly : (a : Answer) → gives t question (Ok (Some a)) u
+          → IsNotTaken mid question (record { step = step; answer = a }) why new
           → SlicesOnDiskInVain gives takes old fuel why new.process s u o q
       untaken_vainly a asked h =
           subst (λ z. SlicesOnDiskInVain gives takes old fuel z new.process s u o q) (sym h.is)
           (as_on_disk old new.process fuel h.fault s u o q
-          (vainly gives takes old v new.process fuel first s t u o q kind wishing
+          (vainly gives takes old v new.process fuel first s t u o q question questioning
           (slice_fault h.fault) (record {
             said = Ok (Some a);
             asked = asked;
@@ -317,29 +320,29 @@ module _ {S O : Type 0} (gives : Giving S) (takes : Taking O) where
             );
           })))
 
-      heard_vainly : (said : SourceSaid) → gives t kind said u
-          → HearsBy mid kind step said (Err why) new
+      heard_vainly : (said : SourceSaid) → gives t question said u
+          → HearsBy mid question step said (Err why) new
           → SlicesOnDiskInVain gives takes old fuel why new.process s u o q
       heard_vainly (Err e) asked h =
           subst (λ z. SlicesOnDiskInVain gives takes old fuel z new.process s u o q)
           (sym (same_fault why (Work slice.Source) h.0))
-          (bad_vainly u (Err e) asked new.process (ap (λ (w : Running). w.process) h.1 ∙ same)
+          (bad_vainly u (Err e) asked new.process (ap (λ (w : RunningWorker). w.process) h.1 ∙ same)
           (λ guest p shows. tt))
       heard_vainly (Ok None) asked h = absurd (let no_error = h.0 in cc)
       heard_vainly (Ok (Some a)) asked h = ⊎_elim
-          (λ (misfits : IsMisfit mid kind (record { step = step; answer = a }) why new).
+          (λ (misfits : IsMisfit mid question (record { step = step; answer = a }) why new).
           misfit_vainly a asked misfits)
-          (λ (rest : LacksRecord mid kind (record { step = step; answer = a }) why new
-          ⊎ IsNotTaken mid kind (record { step = step; answer = a }) why new).
+          (λ (rest : LacksRecord mid question (record { step = step; answer = a }) why new
+          ⊎ IsNotTaken mid question (record { step = step; answer = a }) why new).
           ⊎_elim
-          (λ (lacks : LacksRecord mid kind (record { step = step; answer = a }) why new).
+          (λ (lacks : LacksRecord mid question (record { step = step; answer = a }) why new).
           unkept_vainly a asked lacks)
-          (λ (none : IsNotTaken mid kind (record { step = step; answer = a }) why new).
+          (λ (none : IsNotTaken mid question (record { step = step; answer = a }) why new).
           untaken_vainly a asked none)
           rest) h
 
-    pub asked_vainly : (from new : Running) (why : WorkFault) (u : S) → from.process ≡ v
-        → AsksVainly gives from kind why new t u
+    pub asked_vainly : (from new : RunningWorker) (why : WorkFault) (u : S) → from.process ≡ v
+        → AsksVainly gives from question why new t u
         → SlicesOnDiskInVain gives takes old fuel why new.process s u o q
     asked_vainly from new why u at (inl stored) =
         let by = stored.0 in
@@ -353,12 +356,12 @@ module _ {S O : Type 0} (gives : Giving S) (takes : Taking O) where
         heard_vainly heard.0 new heard.1 u why (heard.2 ∙ at) hears.said hears.asked hears.hears
 
 -- what was said is why it fails
-pub hears_in_vain : {S : Type 0} (gives : Giving S) (old mid new : Running) (kind : Kind) (step : ℕ)
-    (result : Result Bool WorkFault) (source source' : S) → mid.process ≡ old.process
-    → Hears gives mid kind step result new source source'
-    → IfErr result (λ why. AsksVainly gives old kind why new source source')
-hears_in_vain gives old mid new kind step (Ok b) source source' same h = tt
-hears_in_vain gives old mid new kind step (Err why) source source' same h =
+pub hears_in_vain : {S : Type 0} (gives : Giving S) (old mid new : RunningWorker)
+    (question : Question) (step : ℕ) (result : Result Bool WorkFault) (source source' : S)
+    → mid.process ≡ old.process → Hears gives mid question step result new source source'
+    → IfErr result (λ why. AsksVainly gives old question why new source source')
+hears_in_vain gives old mid new question step (Ok b) source source' same h = tt
+hears_in_vain gives old mid new question step (Err why) source source' same h =
     inr (mid, step, same, h)
 
 pub not_both : (b : Bool) → b ≡ true → b ≡ false → ⊥

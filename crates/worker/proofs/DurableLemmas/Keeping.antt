@@ -3,7 +3,7 @@ use Rattle.std.proofs.Common.{◌≡◌, ℕ, length, refl, sym, inl, inr, Bool,
 use Rattle.std.proofs.Common.{false}
 use Rattle.std.proofs.Common.{Ok, Err, ◌≤◌, subst}
 use Rattle.std.specs.Prelude.{◌↔◌, IsTrue}
-use Rattle.wasi_abi.specs.declared.answer.Kind.{Kind}
+use Rattle.wasi_abi.specs.declared.answer.Question.{Question}
 use Rattle.wasi_abi.specs.rules.Answers.{Fits}
 use Rattle.wasi_abi.specs.rules.Versions.{text_limit}
 use Rattle.process.specs.declared.fault.ProcessFault.{ProcessFault}
@@ -18,21 +18,22 @@ use Rattle.worker_store.specs.rules.Calls.{AppendFails}
 use Rattle.worker_store.specs.rules.Stores.{with_record}
 use Rattle.ephemeral_worker.specs.declared.fault.SliceFault.TheVariants as slice
 use Rattle.worker.specs.declared.fault.WorkFault.TheVariants.{Work}
-use Rattle.worker.specs.declared.running.Running.{Running}
+use Rattle.worker.specs.declared.running_worker.RunningWorker.{RunningWorker}
 use Rattle.worker.specs.rules.WorkFaults.{fault_of_store}
 use Rattle.ephemeral_worker.specs.rules.Refusals.{slice_fault}
 use Rattle.worker.specs.DurableTurns.{TakesOnRecord, TakesNone}
 
-module _ (old : Running) (kind : Kind) (r : Record) (limit : ℕ)
+module _ (old : RunningWorker) (question : Question) (r : Record) (limit : ℕ)
     (limit_is : limit ≡ text_limit old.process.host.host.version) (does_fit : Bool)
-    (fitting : IsTrue does_fit ↔ Fits limit kind r.answer) where
-  fits_there : does_fit ≡ true → Fits (text_limit old.process.host.host.version) kind r.answer
-  fits_there is = subst (λ n. Fits n kind r.answer) limit_is (fitting.0 is)
+    (fitting : IsTrue does_fit ↔ Fits limit question r.answer) where
+  fits_there : does_fit ≡ true → Fits (text_limit old.process.host.host.version) question r.answer
+  fits_there is = subst (λ n. Fits n question r.answer) limit_is (fitting.0 is)
 
   -- it doesn't fit
-  pub misfit_refused : does_fit ≡ false → TakesNone old kind r (Work slice.Source) old
+  pub misfit_refused : does_fit ≡ false → TakesNone old question r (Work slice.Source) old
   misfit_refused is = inl (record {
-    misfits = λ fits. not_both (fitting.1 (subst (λ n. Fits n kind r.answer) (sym limit_is) fits));
+    misfits = λ fits. not_both (fitting.1 (subst (λ n. Fits n question r.answer)
+        (sym limit_is) fits));
     is = refl;
     same = refl;
   })
@@ -43,7 +44,7 @@ module _ (old : Running) (kind : Kind) (r : Record) (limit : ℕ)
   module _ (is : does_fit ≡ true) (process : ProcessValue) (after : WorkerStore) where
     -- its record isn't kept
     pub record_lacking : (fault : StoreFault) → AppendFails old.store r fault
-        → TakesNone old kind r (fault_of_store fault) (record old { store = after })
+        → TakesNone old question r (fault_of_store fault) (record old { store = after })
     record_lacking fault fails = inr (inl (record {
       fits = fits_there is;
       fault = fault;
@@ -55,7 +56,7 @@ module _ (old : Running) (kind : Kind) (r : Record) (limit : ℕ)
     -- the process doesn't take it
     pub answer_refused : (fault : ProcessFault)
         → GivesAnswer old.process r.answer (Err fault) process
-        → TakesNone old kind r (Work (slice_fault fault))
+        → TakesNone old question r (Work (slice_fault fault))
         (record old { process = process; store = after })
     answer_refused fault given = inr (inr (record {
       fits = fits_there is;
@@ -71,7 +72,7 @@ module _ (old : Running) (kind : Kind) (r : Record) (limit : ℕ)
         → GivesAnswer old.process r.answer (Ok tt) process → IsProcess process
         → process.host.released ≡ old.process.host.released
         → process.machine.guest ≡ old.process.machine.guest
-        → TakesOnRecord old kind r (record old { process = process; store = after })
+        → TakesOnRecord old question r (record old { process = process; store = after })
     answer_taken appended fits room given some released guest = record {
       fits = fits_there is;
       appended = appended;

@@ -10,7 +10,7 @@ use Rattle.process_rules.specs.Owing.{RunsQuietly}
 use Rattle.process_rules.proofs.Quiet.{runs_join}
 use Rattle.sector_disk.specs.rules.Medium.{Medium}
 use Rattle.process.specs.rules.Values.{ProcessValue, ShowsProcess}
-use Rattle.state_image.specs.rules.Image.{Saved}
+use Rattle.state_image.specs.rules.ProcessImage.{Saved}
 use Rattle.state_image.specs.rules.Saving.{saved_of}
 use Rattle.disk_layout.specs.rules.Journal.{TakesRecords}
 use Rattle.restart_theorem.specs.Lives.{Act, Reply, Ended, kept_by_end}

@@ -2,7 +2,7 @@
 use Rattle.std.proofs.Common.{◌≡◌, ℕ, ◌+◌, ◌-◌, ◌*◌, ◌≤◌, [], length, refl}
 use Rattle.std.proofs.Common.{sym, ap, ◌∙◌, subst, inl, inr, arith, false, take, drop}
 use Rattle.std.proofs.lemmas.List.{append-nil}
-use Rattle.wasi_abi.specs.declared.answer.Kind.{Kind}
+use Rattle.wasi_abi.specs.declared.answer.Question.{Question}
 use Rattle.wasi_abi.specs.declared.numbers.TheConstants.{NUMBERS_END}
 use Rattle.process_rules.specs.Behind.{IsNarrowTo}
 use Rattle.process_rules.specs.Processes.{ProcessState}
@@ -33,10 +33,10 @@ use Rattle.worker_store.proofs.LawLemmas.TurnLemmas.{same_no_more}
 use Rattle.worker_store.specs.declared.fault.StoreFault.{StoreFault}
 use Rattle.worker_store.specs.declared.fault.StoreFault.TheVariants as store
 use Rattle.worker_store.specs.declared.store.WorkerStore.{WorkerStore}
-use Rattle.worker_store.specs.laws.Laws.{ImagesFitAreas}
+use Rattle.worker_store.specs.laws.Laws.{ProcessImagesFitAreas}
 use Rattle.worker_store.specs.rules.Calls.{StoresNext}
 use Rattle.worker_store.specs.rules.Stores.{IsStoreOf}
-use Rattle.worker.specs.declared.running.Running.{Running}
+use Rattle.worker.specs.declared.running_worker.RunningWorker.{RunningWorker}
 use Rattle.worker.specs.rules.WorkFaults.{fault_of_store}
 use Rattle.worker.specs.rules.DurableCalls.{ComesOf, HasCauseAt}
 use Rattle.worker.specs.rules.OpenWorkers.{IsOnDisk}
@@ -50,13 +50,14 @@ use Rattle.worker.proofs.DurableLemmas.Bounds.{on_disk_still, saves_within}
 use Rattle.worker.proofs.DurableLemmas.Ends.{fails_at_call, failed_end, broken_open}
 use Rattle.worker.proofs.DurableLemmas.Ends.{carried_on}
 use Rattle.worker.proofs.DurableLemmas.Ends.{stays_on, disk_cause}
-use Rattle.worker.proofs.DurableLemmas.Settling.{with_store}
+use Rattle.worker.proofs.DurableLemmas.Flushing.{with_store}
 
 -- ---- there is room already
 
 module _ {D : Type 0} (medium : D → Medium) where
-  pub has_room : (w : Running) (disk : D) → HasRoom w → MakesRoom w w (medium disk) (medium disk)
-  has_room w disk room c promise stage p kind asking =
+  pub has_room : (w : RunningWorker) (disk : D) → HasRoom w
+      → MakesRoom w w (medium disk) (medium disk)
+  has_room w disk room c promise stage p question asking =
       let running = asking.running in
       let is = running.on_disk in (
         record {
@@ -105,11 +106,11 @@ record SaveComes (c : Course) (promise : Promise) (p : ProcessState) (fault : St
   pub may : MayFail Open cause
   pub bound : HasBound c.code c.config c.guest promise p cause
 
-module _ {D : Type 0} (medium : D → Medium) (w : Running) (after : WorkerStore) (disk disk' : D)
-    (fit : ImagesFitAreas) (numbered : IsProcess w.process)
+module _ {D : Type 0} (medium : D → Medium) (w : RunningWorker) (after : WorkerStore)
+    (disk disk' : D) (fit : ProcessImagesFitAreas) (numbered : IsProcess w.process)
     (leaves : LeavesFrontOrNext w.store w.process (medium disk) (medium disk')) where
-  module _ (c : Course) (promise : Promise) (stage : Stage) (p : ProcessState) (kind : Kind)
-      (asking : IsAskingOn c promise stage p kind promise.events w (medium disk)) where
+  module _ (c : Course) (promise : Promise) (stage : Stage) (p : ProcessState) (question : Question)
+      (asking : IsAskingOn c promise stage p question promise.events w (medium disk)) where
     ready : CanSave c.code c.config c.guest promise p p.steps promise.events w.store (medium disk)
         asking.running.on_disk [] p w.process
     ready =
@@ -134,7 +135,7 @@ module _ {D : Type 0} (medium : D → Medium) (w : Running) (after : WorkerStore
         let can = ready in
         all_first promise.kept can.next.front (can.all ∙ append-nil promise.kept)
 
-    -- behind all of them nothing widens
+    -- after all of them nothing widens
     widens_none : IsNarrowTo (drop (length ready.next.front) promise.kept) p.steps
     widens_none =
         up_to_all promise.kept ready.next.front p.steps (ready.all ∙ append-nil promise.kept)
@@ -318,13 +319,13 @@ module _ {D : Type 0} (medium : D → Medium) (w : Running) (after : WorkerStore
   pub makes_no_room : (fault : StoreFault)
       → SaveFails w.store w.process (medium disk) (medium disk') fault
       → MakesNoRoom w (fault_of_store fault) (with_store w after) (medium disk) (medium disk')
-  makes_no_room fault fails c promise stage p kind asking =
-      save_in_vain c promise stage p kind asking fault fails
+  makes_no_room fault fails c promise stage p question asking =
+      save_in_vain c promise stage p question asking fault fails
 
   pub makes_room : StoresNext w.store after w.process (medium disk) (medium disk')
       → after.journal ≡ state (saved_of w.process).version after.journal.generation 0 [] false
       → MakesRoom w (with_store w after) (medium disk) (medium disk')
-  makes_room stores fresh c promise stage p kind asking =
+  makes_room stores fresh c promise stage p question asking =
       let running = asking.running in (
         record {
           running = record {
@@ -334,7 +335,7 @@ module _ {D : Type 0} (medium : D → Medium) (w : Running) (after : WorkerStore
             module_is = running.module_is;
             way = running.way;
             began = running.began;
-            on_disk = saved_on c promise stage p kind asking stores;
+            on_disk = saved_on c promise stage p question asking stores;
             synced = running.synced;
             abreast = running.abreast;
           };
@@ -343,7 +344,7 @@ module _ {D : Type 0} (medium : D → Medium) (w : Running) (after : WorkerStore
           wants = asking.wants;
           room = asking.room;
         },
-        room_after c promise stage p kind asking stores fresh,
-        save_goes c promise stage p kind asking stores,
-        save_bounds c promise stage p kind asking,
+        room_after c promise stage p question asking stores fresh,
+        save_goes c promise stage p question asking stores,
+        save_bounds c promise stage p question asking,
       )

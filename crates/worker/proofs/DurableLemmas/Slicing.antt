@@ -3,7 +3,7 @@ use Rattle.std.proofs.Common.{◌≡◌, ℕ, ◌-◌, ◌<◌, refl, ap, ◌∙
 use Rattle.std.proofs.Common.{false}
 use Rattle.std.proofs.Common.{Ok, Err, []}
 use Rattle.std.specs.Prelude.{Result, IfOk}
-use Rattle.wasi_abi.specs.declared.answer.Kind.{Kind}
+use Rattle.wasi_abi.specs.declared.answer.Question.{Question}
 use Rattle.process.specs.declared.fault.ProcessFault.{ProcessFault}
 use Rattle.process.specs.declared.stop.ProcessEnd.{ProcessEnd}
 use Rattle.process.specs.declared.stop.Stop.TheVariants as stops
@@ -16,41 +16,41 @@ use Rattle.record_replay.proofs.Emitted.{released_none, released_steps}
 use Rattle.ephemeral_worker.specs.declared.now.Now.TheVariants as now
 use Rattle.worker.specs.declared.fault.WorkFault.{WorkFault}
 use Rattle.worker.specs.declared.fault.WorkFault.TheVariants.{Work}
-use Rattle.worker.specs.declared.running.Running.{Running}
+use Rattle.worker.specs.declared.running_worker.RunningWorker.{RunningWorker}
 use Rattle.ephemeral_worker.specs.rules.Refusals.{slice_fault}
 use Rattle.ephemeral_worker.specs.rules.Slices.{Slices}
 use Rattle.ephemeral_worker.specs.Turns.{working, AsksOnce}
-use Rattle.worker.specs.DurableTurns.{Hears, SettlesTurn, SettlesInVain, AsksTurn, WorksOn}
-use Rattle.worker.specs.DurableTurns.{SettlesVainly, AsksVainly}
+use Rattle.worker.specs.DurableTurns.{Hears, Flushes, FlushesInVain, AsksTurn, WorksOn}
+use Rattle.worker.specs.DurableTurns.{FlushesVainly, AsksVainly}
 use Rattle.worker.specs.StoreTurns.{StoreGoes, StoreStops, StoreRuns, PaysCalls}
 use Rattle.worker.specs.rules.CallCounts.{most_saving}
 use Rattle.worker.specs.rules.DurableFailures.{SlicesOnDiskInVain}
 use Rattle.ephemeral_worker.proofs.Ending.{measure, Turning, turning_none, owes}
 use Rattle.ephemeral_worker.proofs.Ending.{owes_less, asks, asks_counts, released_all, waiting}
 use Rattle.ephemeral_worker.proofs.Ending.{given}
-use Rattle.ephemeral_worker.proofs.Ending.{given_less, Wishing, cannot_advance}
-use Rattle.worker.proofs.DurableLemmas.InVain.{as_on_disk, settled_vainly, asked_vainly}
+use Rattle.ephemeral_worker.proofs.Ending.{given_less, Questioning, cannot_advance}
+use Rattle.worker.proofs.DurableLemmas.InVain.{as_on_disk, flushed_vainly, asked_vainly}
 use Rattle.worker.proofs.DurableLemmas.Asking.{asks_once_of}
 use Rattle.worker.proofs.DurableLemmas.Advancing.{with_process, says_abreast}
 use Rattle.worker.proofs.StoreTurnLemmas.{goes_none, goes_join, goes_stop, runs_join}
 use Rattle.worker.proofs.StoreTurnLemmas.{process_cause}
 use Rattle.worker.proofs.DurableLemmas.Working.{SoFar, so_far_none, works_spent, works_over}
-use Rattle.worker.proofs.DurableLemmas.Working.{works_in_vain, works_settled}
-use Rattle.worker.proofs.DurableLemmas.Working.{works_unsettled}
+use Rattle.worker.proofs.DurableLemmas.Working.{works_in_vain, works_flushed}
+use Rattle.worker.proofs.DurableLemmas.Working.{works_unflushed}
 use Rattle.worker.proofs.DurableLemmas.Working.{works_given, works_waiting, works_unasked}
 
 -- where the source has answered, or has none
-pub once_if_ok : {S : Type 0} (gives : Giving S) (old mid new : Running) (kind : Kind) (step : ℕ)
-    (result : Result Bool WorkFault) (source source' : S) → mid.process ≡ old.process
-    → Hears gives mid kind step result new source source'
-    → IfOk result (λ b. AsksOnce gives kind old.process (Ok b) new.process source source')
-once_if_ok gives old mid new kind step (Ok b) source source' same h =
-    asks_once_of gives old mid new kind step b source source' same h
-once_if_ok gives old mid new kind step (Err why) source source' same h = tt
+pub once_if_ok : {S : Type 0} (gives : Giving S) (old mid new : RunningWorker)
+    (question : Question) (step : ℕ) (result : Result Bool WorkFault) (source source' : S)
+    → mid.process ≡ old.process → Hears gives mid question step result new source source'
+    → IfOk result (λ b. AsksOnce gives question old.process (Ok b) new.process source source')
+once_if_ok gives old mid new question step (Ok b) source source' same h =
+    asks_once_of gives old mid new question step b source source' same h
+once_if_ok gives old mid new question step (Err why) source source' same h = tt
 
 module _ {D S O : Type 0} (medium : D → Medium) (gives : Giving S) (takes : Taking O) where
   -- it goes on, with and without its disk
-  pub record InSlice (old w : Running) (fuel first : ℕ) (disk disk' : D) (source source' : S)
+  pub record InSlice (old w : RunningWorker) (fuel first : ℕ) (disk disk' : D) (source source' : S)
       (outlet outlet' : O) : Type 0 where
     pub turning : Turning gives takes old.process w.process fuel first source source' outlet
         outlet'
@@ -59,7 +59,7 @@ module _ {D S O : Type 0} (medium : D → Medium) (gives : Giving S) (takes : Ta
     pub places : w.store.geometry ≡ old.store.geometry
     pub sectors : (medium disk').sectors ≡ (medium disk).sectors
 
-  pub in_slice_none : (w : Running) (fuel first : ℕ) (disk : D) (source : S) (outlet : O)
+  pub in_slice_none : (w : RunningWorker) (fuel first : ℕ) (disk : D) (source : S) (outlet : O)
       → waiting_in w.process ≡ [] → IsProcess w.process → first ≡ w.process.steps
       → InSlice w w fuel first disk disk source source outlet outlet
   in_slice_none w fuel first disk source outlet none_waits is first_is = record {
@@ -70,36 +70,36 @@ module _ {D S O : Type 0} (medium : D → Medium) (gives : Giving S) (takes : Ta
     sectors = refl;
   }
 
-  module _ (old w : Running) (v : ProcessValue) (fuel first left : ℕ) (disk mid : D) (s t : S)
-      (o q : O) (i : InSlice old w fuel first disk mid s t o q)
-      (left_is : left ≡ fuel - (w.process.steps - first))
+  module _ (old w : RunningWorker) (v : ProcessValue) (fuel first fuel_left : ℕ)
+      (disk mid : D) (s t : S) (o q : O) (i : InSlice old w fuel first disk mid s t o q)
+      (fuel_left_is : fuel_left ≡ fuel - (w.process.steps - first))
       (same : v.host.released ≡ w.process.host.released)
       (same_guest : v.machine.guest ≡ w.process.machine.guest) where
-    left_there : left ≡ fuel - (w.process.steps - old.process.steps)
-    left_there =
+    fuel_left_there : fuel_left ≡ fuel - (w.process.steps - old.process.steps)
+    fuel_left_there =
         let turning = i.turning in
-        left_is ∙ ap (λ n. fuel - (w.process.steps - n)) turning.first_is
+        fuel_left_is ∙ ap (λ n. fuel - (w.process.steps - n)) turning.first_is
 
-    pub spent_on : AdvancesProcess w.process left (Ok stops.Spent) v
+    pub spent_on : AdvancesProcess w.process fuel_left (Ok stops.Spent) v
         → WorksOn gives takes old fuel (Ok now.Spent) (with_process w v) (medium disk) (medium mid)
         s t o q
     spent_on advances =
-        works_spent medium gives takes old w v fuel left disk mid s t o q i.so_far left_there same
-        same_guest i.sectors advances
+        works_spent medium gives takes old w v fuel fuel_left disk mid s t o q i.so_far
+        fuel_left_there same same_guest i.sectors advances
 
-    pub over_on : (how : ProcessEnd) → AdvancesProcess w.process left (Ok (stops.Ended how)) v
+    pub over_on : (how : ProcessEnd) → AdvancesProcess w.process fuel_left (Ok (stops.Ended how)) v
         → WorksOn gives takes old fuel (Ok (now.Ended how)) (says_abreast (with_process w v))
         (medium disk) (medium mid) s t o q
     over_on how advances =
-        works_over medium gives takes old w v fuel left disk mid s t o q i.so_far left_there same
-        same_guest i.sectors how advances
+        works_over medium gives takes old w v fuel fuel_left disk mid s t o q i.so_far
+        fuel_left_there same same_guest i.sectors how advances
 
-    pub vain_on : (why : ProcessFault) → AdvancesProcess w.process left (Err why) v
+    pub vain_on : (why : ProcessFault) → AdvancesProcess w.process fuel_left (Err why) v
         → WorksOn gives takes old fuel (Err (Work (slice_fault why))) (with_process w v)
         (medium disk) (medium mid) s t o q
     vain_on why advances =
-        works_in_vain medium gives takes old w v fuel left disk mid s t o q i.so_far left_there same
-        same_guest i.sectors why advances
+        works_in_vain medium gives takes old w v fuel fuel_left disk mid s t o q i.so_far
+        fuel_left_there same same_guest i.sectors why advances
 
     pub vain_stops : (why : ProcessFault)
         → StoreStops old.store w.store (Work (slice_fault why)) (medium disk) (medium mid)
@@ -107,8 +107,8 @@ module _ {D S O : Type 0} (medium : D → Medium) (gives : Giving S) (takes : Ta
         goes_stop old.store w.store (medium disk) (medium mid) i.goes (Work (slice_fault why))
         (process_cause old.store (medium disk) (medium mid) why)
 
-    -- what comes behind the turns so far
-    pub turn_runs : {T : Type 0} (w' : Running) (disk' : D) (result : Result T WorkFault)
+    -- what comes after the turns so far
+    pub turn_runs : {T : Type 0} (w' : RunningWorker) (disk' : D) (result : Result T WorkFault)
         → StoreRuns result w.store w'.store (medium mid) (medium disk')
         → StoreRuns result old.store w'.store (medium disk) (medium disk')
     turn_runs w' disk' result runs =
@@ -116,112 +116,113 @@ module _ {D S O : Type 0} (medium : D → Medium) (gives : Giving S) (takes : Ta
         (medium disk') runs
 
     -- as a worker without a disk
-    pub vain_so_far : (why : ProcessFault) → AdvancesProcess w.process left (Err why) v
+    pub vain_so_far : (why : ProcessFault) → AdvancesProcess w.process fuel_left (Err why) v
         → SlicesOnDiskInVain gives takes old.process fuel (Work (slice_fault why)) v s t o q
     vain_so_far why advances =
         as_on_disk gives takes old.process v fuel why s t o q
-        (cannot_advance gives takes old.process w.process v fuel first left s t o q i.turning
-        left_is same why advances)
+        (cannot_advance gives takes old.process w.process v fuel first fuel_left s t o q i.turning
+        fuel_left_is same why advances)
 
-    module _ (advances : AdvancesProcess w.process left (Ok stops.Owes) v) (w' : Running)
+    module _ (advances : AdvancesProcess w.process fuel_left (Ok stops.Owes) v) (w' : RunningWorker)
         (disk' : D) (r : O) where
-      pub settled_on : ReleasesAll takes v w'.process q r
-          → SettlesTurn takes (with_process w v) w' (medium mid) (medium disk') q r
+      pub flushed_on : ReleasesAll takes v w'.process q r
+          → Flushes takes (with_process w v) w' (medium mid) (medium disk') q r
           → StoreGoes w.store w'.store (medium mid) (medium disk')
           → w'.store.geometry ≡ w.store.geometry → (medium disk').sectors ≡ (medium mid).sectors
           → PaysCalls {T = Unit {0}} (Ok tt) w.store w'.store (medium mid) (medium disk')
           → InSlice old w' fuel first disk disk' s t o r
-      settled_on all settles goes places sectors pays = record {
+      flushed_on all flushes goes places sectors pays = record {
         turning = released_all gives takes old.process v w'.process fuel first s t o q r
-            (owes gives takes old.process w.process v fuel first left s t o q i.turning left_is
-            same advances) all;
-        so_far = works_settled medium gives takes old w v fuel left disk mid s t o q i.so_far
-            left_there same same_guest i.sectors advances w' disk' r settles pays;
+            (owes gives takes old.process w.process v fuel first fuel_left s t o q
+            i.turning fuel_left_is same advances) all;
+        so_far = works_flushed medium gives takes old w v fuel fuel_left disk mid s t o q i.so_far
+            fuel_left_there same same_guest i.sectors advances w' disk' r flushes pays;
         goes = goes_join old.store w.store (medium disk) (medium mid) i.goes w'.store
             (medium disk') goes;
         places = places ∙ i.places;
         sectors = sectors ∙ i.sectors;
       }
 
-      pub settled_less : ReleasesAll takes v w'.process q r
+      pub flushed_less : ReleasesAll takes v w'.process q r
           → measure fuel first w'.process < measure fuel first w.process
-      settled_less all =
-          owes_less gives takes old.process w.process v fuel first left s t o q i.turning left_is
-          same advances w'.process (released_none takes v w'.process q r all)
+      flushed_less all =
+          owes_less gives takes old.process w.process v fuel first fuel_left s t o q
+          i.turning fuel_left_is same advances w'.process (released_none takes v w'.process q r all)
           (released_steps takes v w'.process q r all)
 
-      pub unsettled_on : (why : WorkFault)
-          → SettlesInVain takes (with_process w v) why w' (medium mid) (medium disk') q r
+      pub unflushed_on : (why : WorkFault)
+          → FlushesInVain takes (with_process w v) why w' (medium mid) (medium disk') q r
           → PaysCalls {T = Unit {0}} (Err why) w.store w'.store (medium mid) (medium disk')
           → WorksOn gives takes old fuel (Err why) w' (medium disk) (medium disk') s t o r
-      unsettled_on why settles pays =
-          works_unsettled medium gives takes old w v fuel left disk mid s t o q i.so_far left_there
-          same same_guest i.sectors advances w' disk' r why settles pays
+      unflushed_on why flushes pays =
+          works_unflushed medium gives takes old w v fuel fuel_left disk mid s t o q i.so_far
+          fuel_left_there same same_guest i.sectors advances w' disk' r why flushes pays
 
-      pub unsettled_so_far : (why : WorkFault) → SettlesVainly takes v why w'.process q r
+      pub unflushed_so_far : (why : WorkFault) → FlushesVainly takes v why w'.process q r
           → SlicesOnDiskInVain gives takes old.process fuel why w'.process s t o r
-      unsettled_so_far why vain =
-          settled_vainly gives takes old.process v fuel first s t o q
-          (owes gives takes old.process w.process v fuel first left s t o q i.turning left_is same
-          advances) why w'.process r vain
+      unflushed_so_far why vain =
+          flushed_vainly gives takes old.process v fuel first s t o q
+          (owes gives takes old.process w.process v fuel first fuel_left s t o q i.turning
+          fuel_left_is same advances) why w'.process r vain
 
-    module _ (kind : Kind) (advances : AdvancesProcess w.process left (Ok (stops.Asks kind)) v)
-        (w' : Running) (disk' : D) (u : S) where
-      wishing : Wishing gives takes old.process v fuel first s t o q kind
-      wishing =
-          asks gives takes old.process w.process v fuel first left s t o q i.turning left_is same
-          kind advances
+    module _ (question : Question) (advances : AdvancesProcess w.process fuel_left
+        (Ok (stops.Asks question)) v) (w' : RunningWorker) (disk' : D) (u : S) where
+      questioning : Questioning gives takes old.process v fuel first s t o q question
+      questioning =
+          asks gives takes old.process w.process v fuel first fuel_left s t o q i.turning
+          fuel_left_is same question advances
 
-      pub given_on : AsksOnce gives kind v (Ok true) w'.process t u
+      pub given_on : AsksOnce gives question v (Ok true) w'.process t u
           → w'.process.host.released ≡ v.host.released
-          → AsksTurn gives (with_process w v) kind (Ok true) w' (medium mid) (medium disk') t u
+          → AsksTurn gives (with_process w v) question (Ok true) w' (medium mid) (medium disk') t u
           → StoreGoes w.store w'.store (medium mid) (medium disk')
           → w'.store.geometry ≡ w.store.geometry → (medium disk').sectors ≡ (medium mid).sectors
           → CallsUpTo (most_saving (medium mid).sectors) (medium mid) (medium disk')
           → InSlice old w' fuel first disk disk' s u o q
       given_on once still asked goes places sectors few = record {
-        turning = given gives takes old.process v w'.process fuel first s t u o q kind wishing once
-            still;
-        so_far = works_given medium gives takes old w v fuel left disk mid s t o q i.so_far
-            left_there same same_guest i.sectors kind advances w' disk' u few asked;
+        turning = given gives takes old.process v w'.process fuel first s t u o q question
+            questioning once still;
+        so_far = works_given medium gives takes old w v fuel fuel_left disk mid s t o q i.so_far
+            fuel_left_there same same_guest i.sectors question advances w' disk' u few asked;
         goes = goes_join old.store w.store (medium disk) (medium mid) i.goes w'.store
             (medium disk') goes;
         places = places ∙ i.places;
         sectors = sectors ∙ i.sectors;
       }
 
-      pub given_lower : AsksOnce gives kind v (Ok true) w'.process t u
+      pub given_lower : AsksOnce gives question v (Ok true) w'.process t u
           → measure fuel first w'.process < measure fuel first w.process
       given_lower once =
-          given_less gives takes old.process v w'.process fuel first s t u o q kind wishing once
-          w.process
-          (asks_counts gives takes old.process w.process v fuel first left s t o q i.turning left_is
-          same kind advances)
+          given_less gives takes old.process v w'.process fuel first s t u o q question
+          questioning once w.process
+          (asks_counts gives takes old.process w.process v fuel first fuel_left s t o q
+          i.turning fuel_left_is same question advances)
 
-      pub waits_done : AsksOnce gives kind v (Ok false) w'.process t u
+      pub waits_done : AsksOnce gives question v (Ok false) w'.process t u
           → Slices gives takes (working old.process) fuel now.Waiting (working w'.process) s u o q
       waits_done once =
-          waiting gives takes old.process v w'.process fuel first s t u o q kind wishing once
+          waiting gives takes old.process v w'.process fuel first s t u o q question
+          questioning once
 
-      pub waits_on : AsksTurn gives (with_process w v) kind (Ok false) w' (medium mid)
+      pub waits_on : AsksTurn gives (with_process w v) question (Ok false) w' (medium mid)
           (medium disk') t u
           → CallsUpTo (most_saving (medium mid).sectors) (medium mid) (medium disk')
           → WorksOn gives takes old fuel (Ok now.Waiting) w' (medium disk) (medium disk') s u o q
       waits_on asked few =
-          works_waiting medium gives takes old w v fuel left disk mid s t o q i.so_far left_there
-          same same_guest i.sectors kind advances w' disk' u few asked
+          works_waiting medium gives takes old w v fuel fuel_left disk mid s t o q i.so_far
+          fuel_left_there same same_guest i.sectors question advances w' disk' u few asked
 
       pub unasked_on : (why : WorkFault)
-          → AsksTurn gives (with_process w v) kind (Err why) w' (medium mid) (medium disk') t u
+          → AsksTurn gives (with_process w v) question (Err why) w' (medium mid) (medium disk') t u
           → CallsUpTo (most_saving (medium mid).sectors) (medium mid) (medium disk')
           → WorksOn gives takes old fuel (Err why) w' (medium disk) (medium disk') s u o q
       unasked_on why asked few =
-          works_unasked medium gives takes old w v fuel left disk mid s t o q i.so_far left_there
-          same same_guest i.sectors kind advances w' disk' u few why asked
+          works_unasked medium gives takes old w v fuel fuel_left disk mid s t o q i.so_far
+          fuel_left_there same same_guest i.sectors question advances w' disk' u few why asked
 
       pub unasked_so_far : (why : WorkFault)
-          → AsksVainly gives (with_process w v) kind why w' t u
+          → AsksVainly gives (with_process w v) question why w' t u
           → SlicesOnDiskInVain gives takes old.process fuel why w'.process s u o q
       unasked_so_far why vain =
-          asked_vainly gives takes old.process v fuel first s t o q kind wishing (with_process w v)
-          w' why u refl vain
+          asked_vainly gives takes old.process v fuel first s t o q question questioning
+          (with_process w v) w' why u refl vain

@@ -4,7 +4,7 @@ use Rattle.std.proofs.Common.{◌∙◌}
 use Rattle.std.proofs.Common.{subst, arith, Bool, true, false, Ok, Err, ◌*◌, length, length-append}
 use Rattle.std.specs.Prelude.{Result}
 use Rattle.wasm_syntax.specs.declared.module.Module.{Module}
-use Rattle.wasi_abi.specs.declared.answer.Kind.{Kind}
+use Rattle.wasi_abi.specs.declared.answer.Question.{Question}
 use Rattle.wasi_abi.specs.rules.Configs.{Settings}
 use Rattle.process_rules.specs.Processes.{ProcessState, Guest}
 use Rattle.process.specs.declared.fault.ProcessFault.{ProcessFault}
@@ -12,7 +12,7 @@ use Rattle.process.specs.declared.stop.ProcessEnd.{ProcessEnd}
 use Rattle.process.specs.declared.stop.Stop.TheVariants as stops
 use Rattle.process.specs.rules.Values.{ProcessValue, ending_of}
 use Rattle.process.specs.rules.Stops.{AdvancesProcess}
-use Rattle.sector_disk.specs.rules.Image.{Image}
+use Rattle.sector_disk.specs.rules.DiskImage.{DiskImage}
 use Rattle.sector_disk.specs.rules.Medium.{Medium, CallsUpTo, Passes}
 use Rattle.state_image.specs.rules.Saving.{saved_of}
 use Rattle.record_replay.specs.rules.Calls.{Giving, Taking, Begun, Exchange, Asks, Tells, Exchanges}
@@ -33,7 +33,7 @@ use Rattle.ephemeral_worker.specs.declared.now.Now.{Now}
 use Rattle.ephemeral_worker.specs.declared.now.Now.TheVariants as now
 use Rattle.worker.specs.declared.fault.WorkFault.{WorkFault}
 use Rattle.worker.specs.declared.fault.WorkFault.TheVariants.{Work}
-use Rattle.worker.specs.declared.running.Running.{Running}
+use Rattle.worker.specs.declared.running_worker.RunningWorker.{RunningWorker}
 use Rattle.ephemeral_worker.specs.rules.Refusals.{slice_fault}
 use Rattle.worker.specs.rules.CallCounts.{most_calls, most_saving, CallsForEvents}
 use Rattle.worker.specs.StoreTurns.{owed, PaysCalls}
@@ -44,7 +44,7 @@ use Rattle.worker.specs.rules.OpenWorkers.{IsOpenOn}
 use Rattle.worker.specs.rules.DurableCalls.{HasCauseOf, IsReplyOf, CallCarries}
 use Rattle.worker.specs.rules.DurableCalls.{SliceCarries}
 use Rattle.worker.specs.DurableTurns.{Course, IsBetweenTurns, TurnGoes, TurnEnds}
-use Rattle.worker.specs.DurableTurns.{slice_end, told_lines_of, SettlesTurn, SettlesInVain}
+use Rattle.worker.specs.DurableTurns.{slice_end, told_lines_of, Flushes, FlushesInVain}
 use Rattle.worker.specs.DurableTurns.{AsksOutside, AsksTurn, WorksOn}
 use Rattle.ephemeral_worker.proofs.Joining.{tells_ask_nothing, releases_of_tells}
 use Rattle.worker.proofs.DurableLemmas.OnDisk.{keeps_now}
@@ -58,7 +58,7 @@ use Rattle.worker.proofs.DurableLemmas.Advancing.{advance_fails}
 -- ---- two parts of a slice
 
 module _ {D : Type 0} (medium : D → Medium) (c : Course) (promise : Promise) (stage : Stage)
-    (xs ys : List Exchange) (w w' : Running) (disk mid disk' : D)
+    (xs ys : List Exchange) (w w' : RunningWorker) (disk mid disk' : D)
     (a : TurnGoes c promise stage xs w (medium disk) (medium mid)) where
   goes_after : TurnGoes c a.promise' a.stage' ys w' (medium mid) (medium disk')
       → TurnGoes c promise stage (xs ++ ys) w' (medium disk) (medium disk')
@@ -104,7 +104,7 @@ module _ {D : Type 0} (medium : D → Medium) (c : Course) (promise : Promise) (
 
 -- a cause at a later moment is one at an earlier moment
 causes_before : (result : Result Now WorkFault) (guest : Guest) (config : Settings)
-    (v : ProcessValue) (old mid new : Medium) {P : Image → Type 0} → Passes old mid P
+    (v : ProcessValue) (old mid new : Medium) {P : DiskImage → Type 0} → Passes old mid P
     → HasCauseOf result guest config v mid new → HasCauseOf result guest config v old new
 causes_before (Ok why) guest config v old mid new passes cause = tt
 causes_before (Err why) guest config v old mid new passes cause =
@@ -122,14 +122,14 @@ module _ {S O : Type 0} (gives : Giving S) (takes : Taking O) where
         released;
   }
 
-  asked_alone : (kind : Kind) (exchanges : List Exchange) (source source' : S) (outlet : O)
-      → AsksOutside gives kind exchanges source source'
+  asked_alone : (question : Question) (exchanges : List Exchange) (source source' : S) (outlet : O)
+      → AsksOutside gives question exchanges source source'
       → Exchanges gives takes source outlet exchanges source' outlet
-  asked_alone kind [] source source' outlet same = record { asked = same; released = refl }
-  asked_alone kind (Asks ask ∷ []) source source' outlet h =
+  asked_alone question [] source source' outlet same = record { asked = same; released = refl }
+  asked_alone question (Asks ask ∷ []) source source' outlet h =
       record { asked = (source', h.1, refl); released = refl }
-  asked_alone kind (Asks ask ∷ (x ∷ others)) source source' outlet h = absurd h
-  asked_alone kind (Tells begun ∷ others) source source' outlet h = absurd h
+  asked_alone question (Asks ask ∷ (x ∷ others)) source source' outlet h = absurd h
+  asked_alone question (Tells begun ∷ others) source source' outlet h = absurd h
 
   nothing_alone : (source : S) (outlet : O) → Exchanges gives takes source outlet [] source outlet
   nothing_alone source outlet = record { asked = refl; released = refl }
@@ -138,7 +138,7 @@ module _ {S O : Type 0} (gives : Giving S) (takes : Taking O) where
 
 module _ {D S O : Type 0} (medium : D → Medium) (gives : Giving S) (takes : Taking O) where
   -- the exchanges so far are those of a worker that goes on
-  abbrev pub SoFar : Running → ℕ → Running → D → D → S → S → O → O → Type 0
+  abbrev pub SoFar : RunningWorker → ℕ → RunningWorker → D → D → S → S → O → O → Type 0
   SoFar old fuel w disk disk' source source' outlet outlet' =
       (exchanges : List Exchange)
       × Exchanges gives takes source outlet exchanges source' outlet'
@@ -150,7 +150,7 @@ module _ {D S O : Type 0} (medium : D → Medium) (gives : Giving S) (takes : Ta
       ≤ (medium disk).counted + (medium disk).sectors
       + length exchanges * most_calls (medium disk).sectors)
 
-  pub so_far_none : (w : Running) (fuel : ℕ) (disk : D) (source : S) (outlet : O)
+  pub so_far_none : (w : RunningWorker) (fuel : ℕ) (disk : D) (source : S) (outlet : O)
       → SoFar w fuel w disk disk source source outlet outlet
   so_far_none w fuel disk source outlet = (
     [],
@@ -170,8 +170,8 @@ module _ {D S O : Type 0} (medium : D → Medium) (gives : Giving S) (takes : Ta
     (let few = owed_within (medium disk).sectors w.store.journal.kept in omega (arith, few)),
   )
 
-  module _ (old w : Running) (fuel : ℕ) (disk mid disk' : D) (s t u : S) (o q r : O)
-      (so_far : SoFar old fuel w disk mid s t o q) (w' : Running) (ys : List Exchange)
+  module _ (old w : RunningWorker) (fuel : ℕ) (disk mid disk' : D) (s t u : S) (o q r : O)
+      (so_far : SoFar old fuel w disk mid s t o q) (w' : RunningWorker) (ys : List Exchange)
       (more : Exchanges gives takes t q ys u r) where
     -- it goes on
     pub then_goes : ((c : Course) (promise : Promise) (stage : Stage) (p : ProcessState)
@@ -243,9 +243,9 @@ module _ {D S O : Type 0} (medium : D → Medium) (gives : Giving S) (takes : Ta
 
   -- ---- its turns
 
-  module _ (old w : Running) (v : ProcessValue) (fuel left : ℕ) (disk mid : D) (s t : S) (o q : O)
-      (so_far : SoFar old fuel w disk mid s t o q)
-      (left_is : left ≡ fuel - (w.process.steps - old.process.steps))
+  module _ (old w : RunningWorker) (v : ProcessValue) (fuel fuel_left : ℕ) (disk mid : D)
+      (s t : S) (o q : O) (so_far : SoFar old fuel w disk mid s t o q)
+      (fuel_left_is : fuel_left ≡ fuel - (w.process.steps - old.process.steps))
       (same : v.host.released ≡ w.process.host.released)
       (same_guest : v.machine.guest ≡ w.process.machine.guest)
       (long : (medium mid).sectors ≡ (medium disk).sectors) where
@@ -253,13 +253,13 @@ module _ {D S O : Type 0} (medium : D → Medium) (gives : Giving S) (takes : Ta
         + owed (medium disk).sectors w.store.journal.kept + most_saving (medium disk).sectors
     nothing_called = omega arith
 
-    left_of : (c : Course) → c.fuel ≡ fuel → c.first ≡ old.process.steps
-        → left ≡ c.fuel - (w.process.steps - c.first)
-    left_of c fuel_is first_is =
-        left_is ∙ ap (λ n. n - (w.process.steps - old.process.steps)) (sym fuel_is)
+    fuel_left_of : (c : Course) → c.fuel ≡ fuel → c.first ≡ old.process.steps
+        → fuel_left ≡ c.fuel - (w.process.steps - c.first)
+    fuel_left_of c fuel_is first_is =
+        fuel_left_is ∙ ap (λ n. n - (w.process.steps - old.process.steps)) (sym fuel_is)
         ∙ ap (λ n. c.fuel - (w.process.steps - n)) (sym first_is)
 
-    pub works_spent : AdvancesProcess w.process left (Ok stops.Spent) v
+    pub works_spent : AdvancesProcess w.process fuel_left (Ok stops.Spent) v
         → WorksOn gives takes old fuel (Ok now.Spent) (with_process w v) (medium disk) (medium mid)
         s t o q
     works_spent advances =
@@ -269,13 +269,14 @@ module _ {D S O : Type 0} (medium : D → Medium) (gives : Giving S) (takes : Ta
           Spent,
           refl,
           tt,
-          advance_spent medium c promise stage p w v mid between left (left_of c fuel_is first_is)
+          advance_spent medium c promise stage p w v mid between fuel_left
+              (fuel_left_of c fuel_is first_is)
               same same_guest advances,
         )) nothing_called
 
-    pub works_over : (how : ProcessEnd) → AdvancesProcess w.process left (Ok (stops.Ended how)) v
-        → WorksOn gives takes old fuel (Ok (now.Ended how)) (says_abreast (with_process w v))
-        (medium disk) (medium mid) s t o q
+    pub works_over : (how : ProcessEnd) → AdvancesProcess w.process fuel_left
+        (Ok (stops.Ended how)) v → WorksOn gives takes old fuel (Ok (now.Ended how))
+        (says_abreast (with_process w v)) (medium disk) (medium mid) s t o q
     works_over how advances =
         then_ends old w fuel disk mid mid s t t o q q so_far (says_abreast (with_process w v)) []
         (nothing_alone gives takes t q) (Ok (now.Ended how))
@@ -283,73 +284,74 @@ module _ {D S O : Type 0} (medium : D → Medium) (gives : Giving S) (takes : Ta
           Over (ending_of how),
           refl,
           tt,
-          advance_over medium c promise stage p w v mid between left (left_of c fuel_is first_is)
+          advance_over medium c promise stage p w v mid between fuel_left
+              (fuel_left_of c fuel_is first_is)
               same same_guest how advances,
         )) nothing_called
 
-    pub works_in_vain : (why : ProcessFault) → AdvancesProcess w.process left (Err why) v
+    pub works_in_vain : (why : ProcessFault) → AdvancesProcess w.process fuel_left (Err why) v
         → WorksOn gives takes old fuel (Err (Work (slice_fault why))) (with_process w v)
         (medium disk) (medium mid) s t o q
     works_in_vain why advances =
         then_ends old w fuel disk mid mid s t t o q q so_far (with_process w v) []
         (nothing_alone gives takes t q) (Err (Work (slice_fault why)))
         (λ c promise stage p fuel_is first_is between foretold.
-        let fails = advance_fails medium c promise stage p w v mid between left
-        (left_of c fuel_is first_is) same same_guest why advances in
+        let fails = advance_fails medium c promise stage p w v mid between fuel_left
+        (fuel_left_of c fuel_is first_is) same same_guest why advances in
         (Fails fails.0, (fails.0, fails.1, refl), fails.2, fails.3)) nothing_called
 
     -- what is owed
-    module _ (advances : AdvancesProcess w.process left (Ok stops.Owes) v) (w' : Running)
+    module _ (advances : AdvancesProcess w.process fuel_left (Ok stops.Owes) v) (w' : RunningWorker)
         (disk' : D) (r : O) where
-      pub works_settled : SettlesTurn takes (with_process w v) w' (medium mid) (medium disk') q r
+      pub works_flushed : Flushes takes (with_process w v) w' (medium mid) (medium disk') q r
           → PaysCalls {T = Unit {0}} (Ok tt) w.store w'.store (medium mid) (medium disk')
           → SoFar old fuel w' disk disk' s t o r
-      works_settled settles pays =
-          then_goes old w fuel disk mid disk' s t t o q r so_far w' (told_lines_of settles.0)
-          (told_alone gives takes t q r settles.0 settles.1)
+      works_flushed flushes pays =
+          then_goes old w fuel disk mid disk' s t t o q r so_far w' (told_lines_of flushes.0)
+          (told_alone gives takes t q r flushes.0 flushes.1)
           (λ c promise stage p fuel_is first_is between foretold.
-          let owes = advance_owes medium c promise stage p w v mid between left
-          (left_of c fuel_is first_is) same same_guest advances in
-          settles.2 c promise stage owes.process owes.owing foretold)
-          (turn_free (length (told_lines_of settles.0)) (most_calls (medium disk).sectors)
+          let owes = advance_owes medium c promise stage p w v mid between fuel_left
+          (fuel_left_of c fuel_is first_is) same same_guest advances in
+          flushes.2 c promise stage owes.process owes.owing foretold)
+          (turn_free (length (told_lines_of flushes.0)) (most_calls (medium disk).sectors)
           (medium mid).counted (medium disk').counted
           (owed (medium disk).sectors w.store.journal.kept)
           (owed (medium disk).sectors w'.store.journal.kept)
           (subst (λ (n : ℕ). (medium disk').counted + owed n w'.store.journal.kept
           ≤ (medium mid).counted + owed n w.store.journal.kept) long pays))
 
-      pub works_unsettled : (why : WorkFault)
-          → SettlesInVain takes (with_process w v) why w' (medium mid) (medium disk') q r
+      pub works_unflushed : (why : WorkFault)
+          → FlushesInVain takes (with_process w v) why w' (medium mid) (medium disk') q r
           → PaysCalls {T = Unit {0}} (Err why) w.store w'.store (medium mid) (medium disk')
           → WorksOn gives takes old fuel (Err why) w' (medium disk) (medium disk') s t o r
-      works_unsettled why settles pays =
-          then_ends old w fuel disk mid disk' s t t o q r so_far w' (told_lines_of settles.0)
-          (told_alone gives takes t q r settles.0 settles.1) (Err why)
+      works_unflushed why flushes pays =
+          then_ends old w fuel disk mid disk' s t t o q r so_far w' (told_lines_of flushes.0)
+          (told_alone gives takes t q r flushes.0 flushes.1) (Err why)
           (λ c promise stage p fuel_is first_is between foretold.
-          let owes = advance_owes medium c promise stage p w v mid between left
-          (left_of c fuel_is first_is) same same_guest advances in
-          let fails = settles.2 c promise stage owes.process owes.owing foretold in
+          let owes = advance_owes medium c promise stage p w v mid between fuel_left
+          (fuel_left_of c fuel_is first_is) same same_guest advances in
+          let fails = flushes.2 c promise stage owes.process owes.owing foretold in
           (Fails fails.0, (fails.0, fails.1, refl), fails.2, fails.3))
           (let paid = subst (λ (n : ℕ). (medium disk').counted
           ≤ (medium mid).counted + owed n w.store.journal.kept) long pays in omega (arith, paid))
 
     -- what is asked
-    module _ (kind : Kind) (advances : AdvancesProcess w.process left (Ok (stops.Asks kind)) v)
-        (w' : Running) (disk' : D) (u : S)
+    module _ (question : Question) (advances : AdvancesProcess w.process fuel_left
+        (Ok (stops.Asks question)) v) (w' : RunningWorker) (disk' : D) (u : S)
         (few : CallsUpTo (most_saving (medium mid).sectors) (medium mid) (medium disk')) where
       -- it ends the slice, if it does
       called_last : (medium disk').counted ≤ (medium mid).counted
           + owed (medium disk).sectors w.store.journal.kept + most_saving (medium disk).sectors
       called_last = omega (arith, few, long)
 
-      pub works_given : AsksTurn gives (with_process w v) kind (Ok true) w' (medium mid)
+      pub works_given : AsksTurn gives (with_process w v) question (Ok true) w' (medium mid)
           (medium disk') t u → SoFar old fuel w' disk disk' s u o q
       works_given asks =
           then_goes old w fuel disk mid disk' s t u o q q so_far w' asks.0
-          (asked_alone gives takes kind asks.0 t u q asks.1)
+          (asked_alone gives takes question asks.0 t u q asks.1)
           (λ c promise stage p fuel_is first_is between foretold.
-          let there = advance_asks medium c promise stage p w v mid between left
-          (left_of c fuel_is first_is) same same_guest kind advances in
+          let there = advance_asks medium c promise stage p w v mid between fuel_left
+          (fuel_left_of c fuel_is first_is) same same_guest question advances in
           asks.2 c promise stage there.process there.asking foretold)
           (let less = owed_within (medium disk).sectors w'.store.journal.kept in
           let one = asks.3 in
@@ -358,26 +360,26 @@ module _ {D S O : Type 0} (medium : D → Medium) (gives : Giving S) (takes : Ta
           (owed (medium disk).sectors w'.store.journal.kept) (most_saving (medium mid).sectors) few
           (omega (arith, less, long)) (omega (arith, one)))
 
-      pub works_waiting : AsksTurn gives (with_process w v) kind (Ok false) w' (medium mid)
+      pub works_waiting : AsksTurn gives (with_process w v) question (Ok false) w' (medium mid)
           (medium disk') t u
           → WorksOn gives takes old fuel (Ok now.Waiting) w' (medium disk) (medium disk') s u o q
       works_waiting asks =
           then_ends old w fuel disk mid disk' s t u o q q so_far w' asks.0
-          (asked_alone gives takes kind asks.0 t u q asks.1) (Ok now.Waiting)
+          (asked_alone gives takes question asks.0 t u q asks.1) (Ok now.Waiting)
           (λ c promise stage p fuel_is first_is between foretold.
-          let there = advance_asks medium c promise stage p w v mid between left
-          (left_of c fuel_is first_is) same same_guest kind advances in
+          let there = advance_asks medium c promise stage p w v mid between fuel_left
+          (fuel_left_of c fuel_is first_is) same same_guest question advances in
           (Waits, refl, tt, asks.2 c promise stage there.process there.asking foretold)) called_last
 
       pub works_unasked : (why : WorkFault)
-          → AsksTurn gives (with_process w v) kind (Err why) w' (medium mid) (medium disk') t u
+          → AsksTurn gives (with_process w v) question (Err why) w' (medium mid) (medium disk') t u
           → WorksOn gives takes old fuel (Err why) w' (medium disk) (medium disk') s u o q
       works_unasked why asks =
           then_ends old w fuel disk mid disk' s t u o q q so_far w' asks.0
-          (asked_alone gives takes kind asks.0 t u q asks.1) (Err why)
+          (asked_alone gives takes question asks.0 t u q asks.1) (Err why)
           (λ c promise stage p fuel_is first_is between foretold.
-          let there = advance_asks medium c promise stage p w v mid between left
-          (left_of c fuel_is first_is) same same_guest kind advances in
+          let there = advance_asks medium c promise stage p w v mid between fuel_left
+          (fuel_left_of c fuel_is first_is) same same_guest question advances in
           let fails = asks.2 c promise stage there.process there.asking foretold in
           (Fails fails.0, (fails.0, fails.1, refl), fails.2, fails.3)) called_last
 
@@ -385,8 +387,8 @@ module _ {D S O : Type 0} (medium : D → Medium) (gives : Giving S) (takes : Ta
 
 -- a worker that is open begins a slice
 begins : (m : Module) (config : Settings) (guest : Guest) (promise : Promise) (stage : Stage)
-    (p : ProcessState) (acts : List Act) (running : Running) (replayed fuel : ℕ) (failed : Bool)
-    (disk : Medium)
+    (p : ProcessState) (acts : List Act) (running : RunningWorker) (replayed fuel : ℕ)
+    (failed : Bool) (disk : Medium)
     → IsOpenOn m config guest promise stage p (durable_of running replayed failed) disk
     → stage.acts ≡ Slice fuel ∷ acts
     → IsBetweenTurns (record {
@@ -416,7 +418,7 @@ begins m config guest promise stage p acts running replayed fuel failed disk ope
 
 -- how a slice ends is how its call does
 module _ {D : Type 0} (medium : D → Medium) (c : Course) (promise : Promise) (stage : Stage)
-    (reply : Reply) (exchanges : List Exchange) (w : Running) (replayed : ℕ) (failed : Bool)
+    (reply : Reply) (exchanges : List Exchange) (w : RunningWorker) (replayed : ℕ) (failed : Bool)
     (disk disk' : D)
     (ends : TurnEnds c promise stage reply exchanges w (medium disk) (medium disk'))
     (few : CallsForEvents (length exchanges + 1) (medium disk) (medium disk')) where
@@ -456,7 +458,7 @@ module _ {D : Type 0} (medium : D → Medium) (c : Course) (promise : Promise) (
       }
 
 module _ {D S O : Type 0} (medium : D → Medium) (gives : Giving S) (takes : Taking O)
-    (old new : Running) (replayed fuel : ℕ) (before after : Bool) (disk disk' : D)
+    (old new : RunningWorker) (replayed fuel : ℕ) (before after : Bool) (disk disk' : D)
     (source source' : S) (outlet outlet' : O) where
   carries_by : (result : Result Now WorkFault) → ((reply : Reply) → IsReplyOf result reply
       → phase_ended reply ≡ Open → after ≡ false)

@@ -6,10 +6,10 @@ use Rattle.std.proofs.lemmas.List.{append-nil}
 use Rattle.wasm_syntax.specs.declared.module.Module.{Module}
 use Rattle.wasi_abi.specs.rules.Configs.{Settings}
 use Rattle.process_rules.specs.Processes.{ProcessState, Guest}
-use Rattle.state_image.specs.rules.Image.{Saved}
+use Rattle.state_image.specs.rules.ProcessImage.{Saved}
 use Rattle.state_image.specs.rules.Saving.{saved_of}
 use Rattle.process.specs.rules.Values.{ProcessValue}
-use Rattle.sector_disk.specs.rules.Image.{Image}
+use Rattle.sector_disk.specs.rules.DiskImage.{DiskImage}
 use Rattle.sector_disk.specs.rules.Medium.{Medium, Passes}
 use Rattle.record_replay.specs.rules.Calls.{Exchange}
 use Rattle.restart_theorem.specs.Lives.{Act, Cause, OfDisk, Reply}
@@ -22,7 +22,7 @@ use Rattle.restart_theorem.specs.Holds.{StaysWithin}
 use Rattle.restart_theorem.specs.Exchanges.{AreEvents}
 use Rattle.worker_store.specs.laws.Pieces.{IsForetold}
 use Rattle.worker_store.proofs.LawLemmas.Pieces.{parts_are_foretold}
-use Rattle.worker_store.proofs.LawLemmas.Passing.{left_in_the_end}
+use Rattle.worker_store.proofs.LawLemmas.Passing.{crashed_in_the_end}
 use Rattle.ephemeral_worker.specs.declared.now.Now.{Now}
 use Rattle.ephemeral_worker.specs.declared.now.Now.TheVariants as now
 use Rattle.worker.specs.declared.fault.WorkFault.{WorkFault}
@@ -47,16 +47,16 @@ use Rattle.worker.proofs.LifeLemmas.Joined.{acts_stay, opened_stays}
 pub later_still : (old mid new : Medium) → IsLater old mid → IsLater mid new → IsLater old new
 later_still old mid new first then = record {
   sectors = then.sectors ∙ first.sectors;
-  told = then.told ∙ first.told;
+  fault_plan = then.fault_plan ∙ first.fault_plan;
   room = then.room ∙ first.room;
   faults = omega (arith, first.faults, then.faults);
 }
 
 -- calls that have passed
-pub passed_later : (old new : Medium) (P : Image → Type 0) → Passes old new P → IsLater old new
+pub passed_later : (old new : Medium) (P : DiskImage → Type 0) → Passes old new P → IsLater old new
 passed_later old new P passes = record {
   sectors = passes.sectors;
-  told = passes.told;
+  fault_plan = passes.fault_plan;
   room = passes.room;
   faults = passes.faults;
 }
@@ -66,7 +66,7 @@ pub bounds_in_the_end : (latest : ℕ) (old new : Medium) → StaysWithin latest
 bounds_in_the_end latest old new stays image leaves =
     let passes = stays.passes in
     subst (λ (n : ℕ). IsBounded latest n image) (sym passes.sectors)
-    (left_in_the_end old new _ stays image leaves)
+    (crashed_in_the_end old new _ stays image leaves)
 
 -- where an error is the disk's, it has failed since then, or takes too few writes
 abbrev pub HasDiskCause : Settings → RecoverFault → Medium → Medium → Type 0

@@ -4,7 +4,7 @@ use Rattle.std.proofs.Common.{◌∷◌, length, None, refl, sym, ap, subst, ari
 use Rattle.wasm_syntax.specs.declared.module.Module.{Module}
 use Rattle.wasi_abi.specs.rules.Configs.{Settings}
 use Rattle.process_rules.specs.Runs.{Kept}
-use Rattle.state_image.specs.rules.Image.{Saved}
+use Rattle.state_image.specs.rules.ProcessImage.{Saved}
 use Rattle.record_replay.specs.rules.Calls.{Exchange, Asks, Tells}
 use Rattle.restart_theorem.specs.Lives.{Act, Slice, Checkpoint, Upgrade, Inputs, Cause, OfOutlet}
 use Rattle.restart_theorem.specs.Lives.{Reply, Spent, kept_by_end}
@@ -101,7 +101,7 @@ module _ (m : Module) (config : Settings) where
       → IsKept m config so_far stage e → IsDeaf (next_stage stage e).phase
   deaf_next so_far stage (Told r is_taken) deaf kept =
       absurd (deaf_untold stage.phase stage.acts stage.step kept.is_line.steps deaf kept.in_time)
-  deaf_next so_far stage (Asked steps kind said fits) deaf kept =
+  deaf_next so_far stage (Asked steps question said fits) deaf kept =
       absurd (deaf_unasked stage.phase stage.acts stage.step steps deaf kept.in_time)
   deaf_next so_far stage (Opened held shown) deaf kept =
       absurd (not_deaf stage.phase Shut kept.shut (λ d. d) deaf)
@@ -122,7 +122,7 @@ module _ (m : Module) (config : Settings) where
   AreHeard [] = Unit {0}
   AreHeard (Told r true ∷ events) = AreHeard events
   AreHeard (Told r false ∷ events) = ⊥
-  AreHeard (Asked steps kind said fits ∷ events) = AreHeard events
+  AreHeard (Asked steps question said fits ∷ events) = AreHeard events
   AreHeard (Opened held shown ∷ events) = AreHeard events
   AreHeard (Ended act reply held shown ∷ events) = AreHeard events
 
@@ -143,9 +143,9 @@ module _ (m : Module) (config : Settings) where
   heard_or_deaf (Told r false ∷ events) so_far stage kept =
       inr (stays_deaf events (after so_far (Told r false)) (next_stage stage (Told r false))
       (refused_is_deaf stage.phase) kept.1)
-  heard_or_deaf (Asked steps kind said fits ∷ events) so_far stage kept =
-      heard_or_deaf events (after so_far (Asked steps kind said fits))
-      (next_stage stage (Asked steps kind said fits)) kept.1
+  heard_or_deaf (Asked steps question said fits ∷ events) so_far stage kept =
+      heard_or_deaf events (after so_far (Asked steps question said fits))
+      (next_stage stage (Asked steps question said fits)) kept.1
   heard_or_deaf (Opened held shown ∷ events) so_far stage kept =
       heard_or_deaf events (after so_far (Opened held shown))
       (next_stage stage (Opened held shown)) kept.1
@@ -199,9 +199,9 @@ module _ (m : Module) (config : Settings) where
       (takes_all events (after so_far (Told r true)) (next_stage stage (Told r true)) kept.1 heard
       (fewer_takes stage.takes (length (told_in events)) few))
   takes_all (Told r false ∷ events) so_far stage kept heard few = absurd heard
-  takes_all (Asked steps kind said fits ∷ events) so_far stage kept heard few =
-      takes_all events (after so_far (Asked steps kind said fits))
-      (next_stage stage (Asked steps kind said fits)) kept.1 heard few
+  takes_all (Asked steps question said fits ∷ events) so_far stage kept heard few =
+      takes_all events (after so_far (Asked steps question said fits))
+      (next_stage stage (Asked steps question said fits)) kept.1 heard few
   takes_all (Opened held shown ∷ events) so_far stage kept heard few =
       takes_all events (after so_far (Opened held shown)) (next_stage stage (Opened held shown))
       kept.1 heard few

@@ -3,7 +3,7 @@ use Rattle.std.proofs.Common.{◌≡◌, ℕ, ◌≤◌, List, [], ◌∷◌, �
 use Rattle.std.specs.Prelude.{Some, None}
 use Rattle.wasm_syntax.specs.declared.module.Module.{Module}
 use Rattle.wasi_abi.specs.rules.Configs.{Settings}
-use Rattle.state_image.specs.rules.Image.{Saved}
+use Rattle.state_image.specs.rules.ProcessImage.{Saved}
 use Rattle.record_replay.specs.rules.Calls.{Exchange, Asks, Tells}
 use Rattle.restart_theorem.specs.Lives.{Act, Reply, Event, Told, Asked, Opened, Ended}
 use Rattle.restart_theorem.specs.Lives.{told_in}
@@ -86,7 +86,7 @@ opened_before (Asked n k said fits ∷ first) rest s is = opened_before first re
 opened_before (Opened held shown ∷ first) rest s is = is
 opened_before (Ended act reply held shown ∷ first) rest s is = opened_before first rest s is
 
--- a list behind which nothing opens shows the same
+-- a list after which nothing opens shows the same
 pub shown_before : (events : List Event) (act : Act) (reply : Reply) (held : ℕ) (shown : Saved)
     → opened_in (events ++ Ended act reply held shown ∷ []) ≡ opened_in events
 shown_before [] act reply held shown = refl
@@ -122,7 +122,7 @@ acts_stay stage exchanges events (told {begun = begun} {exchanges = others} {eve
     acts_stay (next_stage stage (Told (release_of begun) (was_taken begun.said))) others rest are
 acts_stay stage exchanges events
     (asked {ask = ask} {steps = steps} {fits = fits} {exchanges = others} {events = rest} are) =
-    acts_stay (next_stage stage (Asked steps ask.kind ask.said fits)) others rest are
+    acts_stay (next_stage stage (Asked steps ask.question ask.said fits)) others rest are
 
 pub opened_stays : (promise : Promise) (exchanges : List Exchange) (events : List Event)
     → AreEvents exchanges events → (promised promise events).has_opened ≡ promise.has_opened
@@ -132,4 +132,4 @@ opened_stays promise exchanges events
     opened_stays (after promise (Told (release_of begun) (was_taken begun.said))) others rest are
 opened_stays promise exchanges events
     (asked {ask = ask} {steps = steps} {fits = fits} {exchanges = others} {events = rest} are) =
-    opened_stays (after promise (Asked steps ask.kind ask.said fits)) others rest are
+    opened_stays (after promise (Asked steps ask.question ask.said fits)) others rest are

@@ -9,7 +9,7 @@ use Rattle.std.specs.Prelude.{map}
 use Rattle.wasm_syntax.specs.declared.module.Module.{Module}
 use Rattle.wasi_abi.specs.rules.Configs.{Settings}
 use Rattle.process_rules.specs.Runs.{Kept}
-use Rattle.state_image.specs.rules.Image.{Saved}
+use Rattle.state_image.specs.rules.ProcessImage.{Saved}
 use Rattle.state_image.specs.rules.Saving.{saved_of}
 use Rattle.sector_disk.specs.rules.Medium.{Medium}
 use Rattle.disk_layout.specs.rules.Places.{geometry_of}
@@ -99,8 +99,8 @@ enough : (config : Settings) (n : ℕ)
 enough config n = (omega arith, omega arith)
 
 module _ (bytes : List ℕ) (config : Settings) (inputs : Inputs) (exchanges : List Exchange)
-    (left : Result (List Act) RecoverFault) (calls : ℕ) (found last : Medium)
-    (met : CameTrue bytes config inputs exchanges left calls found last)
+    (undone : Result (List Act) RecoverFault) (calls : ℕ) (found last : Medium)
+    (met : CameTrue bytes config inputs exchanges undone calls found last)
     (later : IsLater found last) (going : HasNotStopped inputs.stop calls) where
   -- an error has a cause that was put in
   fault_of : (why : RecoverFault) (cause : Cause) → IsCauseOf why cause
@@ -127,7 +127,7 @@ module _ (bytes : List ℕ) (config : Settings) (inputs : Inputs) (exchanges : L
       other_fault inputs.fails calls cause (λ e. absurd (cc))
   fault_of (recover.Worker (Work (slice.Refused refusal.StepsSpent))) cause is disk =
       other_fault inputs.fails calls cause (λ e. absurd (cc))
-  fault_of (recover.Worker (Work (slice.Refused (refusal.Front why)))) cause is disk = absurd is
+  fault_of (recover.Worker (Work (slice.Refused (refusal.Module why)))) cause is disk = absurd is
   fault_of (recover.Worker (Work slice.Failed)) cause is disk = absurd is
   fault_of (recover.Worker (Store store.TooBig)) cause is disk =
       other_fault inputs.fails calls cause (λ e. absurd (cc))
@@ -174,10 +174,10 @@ module _ (m : Module) (config : Settings) where
       })) (keeps image leaves)
 
   -- an error promises no less than was promised before it
-  before_error : (promise : Promise) (act : Act) (cause : Cause) (held : ℕ) (shown : Saved)
+  before_fault : (promise : Promise) (act : Act) (cause : Cause) (held : ℕ) (shown : Saved)
       → PromisesNoMore promise
       (record (after promise (Ended act (Fails cause) held shown)) { kept = promise.kept })
-  before_error promise act cause held shown = record {
+  before_fault promise act cause held shown = record {
     answers = omega arith;
     steps = omega arith;
     passed = omega arith;
@@ -197,7 +197,7 @@ module _ (m : Module) (config : Settings) where
       let no : promise.has_opened ≡ false = ap (λ (p : Promise). p.has_opened) unopened.0 in
       absurd (cc)) (λ (h : HoldsPromise m config now now image).
       let less = less_is_held m config promise now now image
-      (before_error promise act cause held shown) h in
+      (before_fault promise act cause held shown) h in
       inr (record {
         created = less.created;
         held = less.held;
@@ -257,7 +257,7 @@ module _ (m : Module) (config : Settings) (bytes : List ℕ) (before : Promise) 
 
   -- what the law says
   abbrev pub LifeGoesOn : Result (List Act) RecoverFault → Type 0
-  LifeGoesOn left = (life : Life) × IsLifeOf inputs begins exchanges worker left calls life
+  LifeGoesOn undone = (life : Life) × IsLifeOf inputs begins exchanges worker undone calls life
       × IsLivedOn m config before inputs life found last × IsLater found last
       × CallsForEvents (length life.events + 1) found last
 
@@ -265,17 +265,17 @@ module _ (m : Module) (config : Settings) (bytes : List ℕ) (before : Promise) 
   abbrev pub life_of : List Event → End → Life
   life_of events ends = record { begins = begins; events = events; calls = calls; ends = ends }
 
-  module _ (left : Result (List Act) RecoverFault) (events : List Event)
+  module _ (undone : Result (List Act) RecoverFault) (events : List Event)
       (kept : AreKept m config so_far (at_first inputs) events)
       (told : told_in events ≡ released_in exchanges)
       (shown : opened_in events ≡ shown_first worker)
       (anew : begins ≡ Creates → (so_far.has_opened ≡ false) × OpensAnew events) where
-    ends_so : (ends : End) → EndsBy inputs calls left ends
+    ends_so : (ends : End) → EndsBy inputs calls undone ends
         → MayEnd inputs (promised so_far events).events calls
         (stage_after (at_first inputs) events) ends
         → KeepsPromise m config (promised so_far events) last
         → KeepsBounds ((promised so_far events).events + 1) last → IsLater found last
-        → CallsForEvents (length events + 1) found last → LifeGoesOn left
+        → CallsForEvents (length events + 1) found last → LifeGoesOn undone
     ends_so ends by may keeps bounded later few = (
       life_of events ends,
       record { begins_so = refl; told = told; shown = shown; counted = refl; ends = by },
@@ -441,13 +441,13 @@ module _ (m : Module) (config : Settings) (bytes : List ℕ) (before : Promise) 
 
   -- it was, and calls followed
   ends_opened : (w : DurableValue) (told more : List Exchange)
-      (left : Result (List Act) RecoverFault) (disk : Medium) → worker ≡ Some w
+      (undone : Result (List Act) RecoverFault) (disk : Medium) → worker ≡ Some w
       → exchanges ≡ told ++ more
-      → CameTrue bytes config inputs exchanges left calls found last
+      → CameTrue bytes config inputs exchanges undone calls found last
       → (o : IsOpened m config so_far inputs begins told w found disk)
       → CallsMake m config (promised so_far o.events) (stage_after (at_first inputs) o.events) more
-      left disk last → LifeGoesOn left
-  ends_opened w told more left disk somebody are came o c = by left came come
+      undone disk last → LifeGoesOn undone
+  ends_opened w told more undone disk somebody are came o c = by undone came come
     where
       events : List Event
       events = o.events ++ c.events
@@ -476,14 +476,14 @@ module _ (m : Module) (config : Settings) (bytes : List ℕ) (before : Promise) 
                 (both.1 (c.events ++ others)),
           )
 
-      come : ComeTo m config (promised so_far events) (stage_after (at_first inputs) events) left
+      come : ComeTo m config (promised so_far events) (stage_after (at_first inputs) events) undone
           found last
       come = come_since m config (promised so_far events) (stage_after (at_first inputs) events)
-          left found disk last o.later
-          (subst (λ (p : Promise). ComeTo m config p (stage_after (at_first inputs) events) left
+          undone found disk last o.later
+          (subst (λ (p : Promise). ComeTo m config p (stage_after (at_first inputs) events) undone
           disk last) (sym joined.1)
           (subst (λ (s : Stage). ComeTo m config (promised (promised so_far o.events) c.events) s
-          left disk last) (sym joined.2) c.come))
+          undone disk last) (sym joined.2) c.come))
 
       still : IsLater found last
       still = later_still found disk last o.later c.later
@@ -494,10 +494,10 @@ module _ (m : Module) (config : Settings) (bytes : List ℕ) (before : Promise) 
           calls_then (length o.events) (length c.events + 1) (length events + 1) found disk last
           later.sectors o.counted c.counted (omega (arith, length-append o.events c.events))
 
-      by : (left : Result (List Act) RecoverFault)
-          → CameTrue bytes config inputs exchanges left calls found last
-          → ComeTo m config (promised so_far events) (stage_after (at_first inputs) events) left
-          found last → LifeGoesOn left
+      by : (undone : Result (List Act) RecoverFault)
+          → CameTrue bytes config inputs exchanges undone calls found last
+          → ComeTo m config (promised so_far events) (stage_after (at_first inputs) events) undone
+          found last → LifeGoesOn undone
       by (Ok acts) met so =
           ends_going events joined.0 all_told shown anew acts so met.over still few
       by (Err why) met so =
@@ -517,10 +517,10 @@ told_alone gives takes source outlet outlet' told released = record {
 module _ {D S O : Type 0} (medium : D → Medium) (gives : Giving S) (takes : Taking O) where
   pub calls_make_lives : CallsMakeLives medium gives takes
   calls_make_lives m config bytes so_far acts found last source source' outlet outlet' begins worker
-      left accepted (opened {disk = disk} {outlet' = inside} {w = w} starts calls) keeps bounded =
+      undone accepted (opened {disk = disk} {outlet' = inside} {w = w} starts calls) keeps bounded =
       let o = opening m config so_far medium takes bytes found disk outlet inside begins (Ok w)
       accepted keeps bounded starts in
-      let c = calls_make medium gives takes acts w disk last source source' inside outlet' left
+      let c = calls_make medium gives takes acts w disk last source source' inside outlet' undone
       calls
       in (
         map Tells o.0 ++ c.0,
@@ -532,14 +532,14 @@ module _ {D S O : Type 0} (medium : D → Medium) (gives : Giving S) (takes : Ta
             came.foretold in
             let is = o.2 inputs came.sectors came.room heard.1 in
             ends_opened m config bytes so_far inputs begins (map Tells o.0 ++ c.0) worker count
-            (medium found) (medium last) w (map Tells o.0) c.0 left (medium disk) refl refl came is
-            (c.2 m config is.guest (promised (as_begun begins so_far) is.events)
+            (medium found) (medium last) w (map Tells o.0) c.0 undone (medium disk)
+            refl refl came is (c.2 m config is.guest (promised (as_begun begins so_far) is.events)
             (stage_after stage is.events)
             is.process is.opened (is.acts ∙ acts_are) (is.foretold c.0 came.foretold) is.keeps
             is.bounded),
       )
   calls_make_lives m config bytes so_far acts found last source source' outlet outlet' begins worker
-      left accepted (unopened {why = why} starts) keeps bounded =
+      undone accepted (unopened {why = why} starts) keeps bounded =
       let o = opening m config so_far medium takes bytes found last outlet outlet' begins (Err why)
       accepted keeps bounded starts in (
         map Tells o.0,

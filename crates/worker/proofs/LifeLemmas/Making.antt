@@ -5,7 +5,7 @@ use Rattle.std.specs.Prelude.{Result, Ok, Err, None, true}
 use Rattle.wasm_syntax.specs.declared.module.Module.{Module}
 use Rattle.wasi_abi.specs.rules.Configs.{Settings}
 use Rattle.process_rules.specs.Processes.{ProcessState, Guest}
-use Rattle.state_image.specs.rules.Image.{Saved}
+use Rattle.state_image.specs.rules.ProcessImage.{Saved}
 use Rattle.sector_disk.specs.rules.Medium.{Medium}
 use Rattle.record_replay.specs.rules.Calls.{Giving, Taking, Exchange, Exchanges}
 use Rattle.record_replay.proofs.Following.{exchanges_join}
@@ -67,18 +67,18 @@ module _ (m : Module) (config : Settings) where
 
   -- the events of calls, but for the end of one that failed
   pub record CallsMake (promise : Promise) (stage : Stage) (exchanges : List Exchange)
-      (left : Result (List Act) RecoverFault) (old last : Medium) : Type 0 where
+      (undone : Result (List Act) RecoverFault) (old last : Medium) : Type 0 where
     pub events : List Event
     pub kept : AreKept m config promise stage events
     pub told : told_in events ≡ released_in exchanges
     pub shut : opened_in events ≡ None
-    pub come : ComeTo (promised promise events) (stage_after stage events) left old last
+    pub come : ComeTo (promised promise events) (stage_after stage events) undone old last
     pub later : IsLater old last
     pub counted : CallsForEvents (length events + 1) old last
 
-  pub come_since : (promise : Promise) (stage : Stage) (left : Result (List Act) RecoverFault)
-      (old mid last : Medium) → IsLater old mid → ComeTo promise stage left mid last
-      → ComeTo promise stage left old last
+  pub come_since : (promise : Promise) (stage : Stage) (undone : Result (List Act) RecoverFault)
+      (old mid last : Medium) → IsLater old mid → ComeTo promise stage undone mid last
+      → ComeTo promise stage undone old last
   come_since promise stage (Ok acts) old mid last later come = come
   come_since promise stage (Err why) old mid last later come =
       record {
@@ -95,14 +95,14 @@ module _ (m : Module) (config : Settings) where
         widens = come.widens;
       }
 
-  -- a call without an error, and those behind it
+  -- a call without an error, and those after it
   calls_on : (guest : Guest) (promise : Promise) (stage : Stage) (act : Act) (reply : Reply)
-      (w : DurableValue) (first rest : List Exchange) (left : Result (List Act) RecoverFault)
+      (w : DurableValue) (first rest : List Exchange) (undone : Result (List Act) RecoverFault)
       (old mid last : Medium)
       → (call : CallGoes m config guest promise stage act reply w first old mid)
-      → CallsMake (promised promise call.events) (stage_after stage call.events) rest left mid last
-      → CallsMake promise stage (first ++ rest) left old last
-  calls_on guest promise stage act reply w first rest left old mid last call more =
+      → CallsMake (promised promise call.events) (stage_after stage call.events) rest
+      undone mid last → CallsMake promise stage (first ++ rest) undone old last
+  calls_on guest promise stage act reply w first rest undone old mid last call more =
       let joined = calls_join m config promise stage call.events more.events call.kept more.kept in
       record {
         events = call.events ++ more.events;
@@ -111,11 +111,11 @@ module _ (m : Module) (config : Settings) where
             ∙ ap (λ l. l ++ told_in more.events) call.told
             ∙ ap (λ l. released_in first ++ l) more.told ∙ sym (released_join first rest);
         shut = opened_behind call.events more.events call.shut ∙ more.shut;
-        come = come_since _ _ left old mid last call.later
-            (subst (λ (p : Promise). ComeTo p (stage_after stage (call.events ++ more.events)) left
-            mid last) (sym joined.1)
+        come = come_since _ _ undone old mid last call.later
+            (subst (λ (p : Promise). ComeTo p (stage_after stage (call.events
+            ++ more.events)) undone mid last) (sym joined.1)
             (subst (λ (s : Stage). ComeTo (promised (promised promise call.events) more.events) s
-            left mid last) (sym joined.2) more.come));
+            undone mid last) (sym joined.2) more.come));
         later = later_still old mid last call.later more.later;
         counted = (let still = call.later in
             calls_then (length call.events) (length more.events + 1)
@@ -152,12 +152,12 @@ module _ (m : Module) (config : Settings) where
 -- what calls exchange with source and outlet, and what they make of any life that they are in
 abbrev pub CallsComeOut : {S O : Type 0} → Giving S → Taking O → List Act → DurableValue
     → Result (List Act) RecoverFault → Medium → Medium → S → S → O → O → Type 0
-CallsComeOut gives takes acts w left disk last source source' outlet outlet' =
+CallsComeOut gives takes acts w undone disk last source source' outlet outlet' =
     (exchanges : List Exchange) × Exchanges gives takes source outlet exchanges source' outlet'
     × ((m : Module) (config : Settings) (guest : Guest) (promise : Promise) (stage : Stage)
     (p : ProcessState) → IsOpenOn m config guest promise stage p w disk → stage.acts ≡ acts
     → IsForetold stage exchanges → KeepsPromise m config promise disk
-    → KeepsBounds promise.events disk → CallsMake m config promise stage exchanges left disk last)
+    → KeepsBounds promise.events disk → CallsMake m config promise stage exchanges undone disk last)
 
 none_called : (m : Module) (config : Settings) (guest : Guest) (promise : Promise) (stage : Stage)
     (p : ProcessState) (acts : List Act) (w : DurableValue) (disk : Medium)
@@ -177,45 +177,45 @@ none_called m config guest promise stage p acts w disk open_on acts_are keeps bo
         keeps = keeps;
         bounded = bounded;
       };
-      later = record { sectors = refl; told = refl; room = refl; faults = omega arith };
+      later = record { sectors = refl; fault_plan = refl; room = refl; faults = omega arith };
       counted = calls_none 1 disk;
     }
 
 -- what is next of a call that was done
 call_then : (m : Module) (config : Settings) (guest : Guest) (promise : Promise) (stage : Stage)
     (act : Act) (reply : Reply) (acts : List Act) (w : DurableValue) (first rest : List Exchange)
-    (left : Result (List Act) RecoverFault) (old mid last : Medium) → stage.acts ≡ act ∷ acts
+    (undone : Result (List Act) RecoverFault) (old mid last : Medium) → stage.acts ≡ act ∷ acts
     → IsForetold stage (first ++ rest)
     → CallGoes m config guest promise stage act reply w first old mid
     → ((promise' : Promise) (stage' : Stage) (q : ProcessState)
     → IsOpenOn m config guest promise' stage' q w mid → stage'.acts ≡ acts
     → IsForetold stage' rest → KeepsPromise m config promise' mid
     → KeepsBounds promise'.events mid
-    → CallsMake m config promise' stage' rest left mid last)
-    → CallsMake m config promise stage (first ++ rest) left old last
-call_then m config guest promise stage act reply acts w first rest left old mid last acts_are
+    → CallsMake m config promise' stage' rest undone mid last)
+    → CallsMake m config promise stage (first ++ rest) undone old last
+call_then m config guest promise stage act reply acts w first rest undone old mid last acts_are
     foretold call more =
-    calls_on m config guest promise stage act reply w first rest left old mid last call
+    calls_on m config guest promise stage act reply w first rest undone old mid last call
     (more (promised promise call.events) (stage_after stage call.events) call.process call.opened
     (call.acts ∙ ap without_first acts_are) (call.foretold rest foretold) call.keeps call.bounded)
 
 module _ {D S O : Type 0} (medium : D → Medium) (gives : Giving S) (takes : Taking O) where
   pub calls_make : (acts : List Act) (w : DurableValue) (disk last : D) (source source' : S)
-      (outlet outlet' : O) (left : Result (List Act) RecoverFault)
-      → CallsInOrder medium gives takes acts w disk source outlet left last source' outlet'
-      → CallsComeOut gives takes acts w left (medium disk) (medium last) source source' outlet
+      (outlet outlet' : O) (undone : Result (List Act) RecoverFault)
+      → CallsInOrder medium gives takes acts w disk source outlet undone last source' outlet'
+      → CallsComeOut gives takes acts w undone (medium disk) (medium last) source source' outlet
       outlet'
-  calls_make acts w disk last source source' outlet outlet' left no_more = (
+  calls_make acts w disk last source source' outlet outlet' undone no_more = (
     [],
     record { asked = refl; released = refl },
     λ m config guest promise stage p open_on acts_are foretold keeps bounded.
         none_called m config guest promise stage p acts w (medium disk) open_on acts_are keeps
         bounded,
   )
-  calls_make acts w disk last source source' outlet outlet' left
+  calls_make acts w disk last source source' outlet outlet' undone
       (sliced {fuel = fuel} {acts = others} {w' = w'} {disk' = mid} {source' = inside}
       {outlet' = beyond} said slice more) =
-      let rest = calls_make others w' mid last inside source' beyond outlet' left more in (
+      let rest = calls_make others w' mid last inside source' beyond outlet' undone more in (
         slice.0 ++ rest.0,
         exchanges_join gives takes source source' inside outlet outlet' beyond slice.0 rest.0
             slice.1 rest.1,
@@ -223,12 +223,12 @@ module _ {D S O : Type 0} (medium : D → Medium) (gives : Giving S) (takes : Ta
             let first = parts_are_foretold m config promise promise stage stage slice.0 rest.0
             foretold in
             let did = slice.2 m config guest promise stage p others open_on acts_are first.1 in
-            call_then m config guest promise stage (Slice fuel) did.0 others w' slice.0 rest.0 left
-            (medium disk) (medium mid) (medium last) acts_are foretold
+            call_then m config guest promise stage (Slice fuel) did.0 others w'
+            slice.0 rest.0 undone (medium disk) (medium mid) (medium last) acts_are foretold
             (call_goes m config guest promise stage (Slice fuel) did.0 w' slice.0 (medium disk)
             (medium mid) (slices_go said did.0 did.1) did.3) (rest.2 m config guest),
       )
-  calls_make acts w disk last source source' outlet outlet' left
+  calls_make acts w disk last source source' outlet outlet' undone
       (slice_failed {fuel = fuel} {acts = others} {w' = w'} {why = why} slice) = (
         slice.0,
         slice.1,
@@ -243,19 +243,19 @@ module _ {D S O : Type 0} (medium : D → Medium) (gives : Giving S) (takes : Ta
             (subst (λ (r : Reply). CallCarries m config guest promise stage (Slice fuel) r w'
             (medium disk) (medium last) slice.0) failure.2 did.3)),
       )
-  calls_make acts w disk last source source' outlet outlet' left
+  calls_make acts w disk last source source' outlet outlet' undone
       (saved {acts = others} {w' = w'} {disk' = mid} checkpoint more) =
-      let rest = calls_make others w' mid last source source' outlet outlet' left more in (
+      let rest = calls_make others w' mid last source source' outlet outlet' undone more in (
         rest.0,
         rest.1,
         λ m config guest promise stage p open_on acts_are foretold keeps bounded.
             let did = checkpoint m config guest promise stage p others open_on acts_are in
-            call_then m config guest promise stage Checkpoint did.0 others w' [] rest.0 left
+            call_then m config guest promise stage Checkpoint did.0 others w' [] rest.0 undone
             (medium disk) (medium mid) (medium last) acts_are foretold
             (call_goes m config guest promise stage Checkpoint did.0 w' [] (medium disk)
             (medium mid) (ap phase_ended did.1) did.2) (rest.2 m config guest),
       )
-  calls_make acts w disk last source source' outlet outlet' left
+  calls_make acts w disk last source source' outlet outlet' undone
       (saving_failed {acts = others} {w' = w'} {why = why} checkpoint cause) = (
         [],
         record { asked = refl; released = refl },
@@ -271,19 +271,19 @@ module _ {D S O : Type 0} (medium : D → Medium) (gives : Giving S) (takes : Ta
             (subst (λ (r : Reply). CallCarries m config guest promise stage Checkpoint r w'
             (medium disk) (medium last) []) failure.2 did.2)),
       )
-  calls_make acts w disk last source source' outlet outlet' left
+  calls_make acts w disk last source source' outlet outlet' undone
       (was_upgraded {acts = others} {w' = w'} {disk' = mid} upgrade more) =
-      let rest = calls_make others w' mid last source source' outlet outlet' left more in (
+      let rest = calls_make others w' mid last source source' outlet outlet' undone more in (
         rest.0,
         rest.1,
         λ m config guest promise stage p open_on acts_are foretold keeps bounded.
             let did = upgrade m config guest promise stage p others open_on acts_are in
-            call_then m config guest promise stage Upgrade did.0 others w' [] rest.0 left
+            call_then m config guest promise stage Upgrade did.0 others w' [] rest.0 undone
             (medium disk) (medium mid) (medium last) acts_are foretold
             (call_goes m config guest promise stage Upgrade did.0 w' [] (medium disk)
             (medium mid) (ap phase_ended did.1) did.2) (rest.2 m config guest),
       )
-  calls_make acts w disk last source source' outlet outlet' left
+  calls_make acts w disk last source source' outlet outlet' undone
       (upgrade_failed {acts = others} {w' = w'} {why = why} upgrade cause) = (
         [],
         record { asked = refl; released = refl },

@@ -11,7 +11,7 @@ use Rattle.wasi_abi.specs.rules.Configs.{Settings}
 use Rattle.machine.specs.rules.Offers.{offer}
 use Rattle.process_rules.specs.Processes.{ProcessState, Guest}
 use Rattle.state_image.specs.rules.Saving.{saved_of}
-use Rattle.sector_disk.specs.rules.Image.{Image}
+use Rattle.sector_disk.specs.rules.DiskImage.{DiskImage}
 use Rattle.sector_disk.specs.rules.Medium.{Medium}
 use Rattle.sector_disk.specs.rules.Medium.{CallsUpTo}
 use Rattle.disk_layout.specs.declared.fault.LayoutFault.TheVariants as layout
@@ -104,7 +104,7 @@ module _ (m : Module) (config : Settings) (so_far : Promise) (inputs : Inputs) w
         → IsForetold (stage_after (at_first inputs) events) rest
     pub anew : IsAnew begins events
 
-  -- why a life isn't opened, where it stands so
+  -- why a life isn't opened, where it is so
   pub record HasNotOpened (events : ℕ) (phase : Phase) (why : RecoverFault) (old last : Medium)
       : Type 0 where
     pub cause : Cause
@@ -248,7 +248,7 @@ module _ (m : Module) (config : Settings) (so_far : Promise) (inputs : Inputs) w
       (found mid new : Medium) (none : IsNothingYet so_far) (later : IsLater found mid)
       (sectors : total_sectors (geometry_of config (length bytes)) ≤ found.sectors)
       (room : most_unsynced (geometry_of config (length bytes)) ≤ found.room)
-      (settled : (mid.unsynced ≡ 0) ⊎ (found.faults < mid.faults))
+      (synced_or_failed : (mid.unsynced ≡ 0) ⊎ (found.faults < mid.faults))
       (before : CallsUpTo (most_recovering found.sectors) found mid) where
     -- the calls of the recovery, and of the creation
     both_called : CallsUpTo (most_creating mid.sectors) mid new
@@ -297,7 +297,7 @@ module _ (m : Module) (config : Settings) (so_far : Promise) (inputs : Inputs) w
     why_not_created : (why : WorkFault) → IsLater mid new
         → IsNotCreatedOn bytes config mid new why
         → HasNotOpened so_far.events Shut (Worker why) found new
-    why_not_created (Work (slice.Refused (refusal.Front why))) after is = absurd (is.2 m accepted)
+    why_not_created (Work (slice.Refused (refusal.Module why))) after is = absurd (is.2 m accepted)
     why_not_created (Work (slice.Refused refusal.StepsSpent)) after is = absurd is
     why_not_created (Work slice.Memory) after is = record {
       cause = OfMemory;
@@ -319,7 +319,7 @@ module _ (m : Module) (config : Settings) (so_far : Promise) (inputs : Inputs) w
       disk = ⊎_elim (λ (synced : mid.unsynced ≡ 0).
           absurd (few_writes (omega (arith, full, synced))))
           (λ (failed : found.faults < mid.faults).
-          let more = after.faults in inr (omega (arith, failed, more))) settled;
+          let more = after.faults in inr (omega (arith, failed, more))) synced_or_failed;
     }
     why_not_created (Disk fault) after (inr (inl few)) =
         let same = later.room in absurd (omega (arith, few, room, same))
@@ -369,9 +369,9 @@ module _ (m : Module) (config : Settings) (so_far : Promise) (inputs : Inputs) w
       module _ (accepted : IsAccepted offer config.pages bytes m) (mid : D)
           (sectors : total_sectors (geometry_of config (length bytes)) ≤ (medium found).sectors)
           (room : most_unsynced (geometry_of config (length bytes)) ≤ (medium found).room)
-          (settled : ((medium mid).unsynced ≡ 0) ⊎ ((medium found).faults < (medium mid).faults))
-          (image : Image) (leaves : (medium mid).may_leave image)
-          (begun : so_far.was_created ≡ true) where
+          (synced_or_failed : ((medium mid).unsynced ≡ 0) ⊎
+          ((medium found).faults < (medium mid).faults)) (image : DiskImage)
+          (leaves : (medium mid).crash_images image) (begun : so_far.was_created ≡ true) where
         created_so : (told : List Begun) (result : Result DurableValue WorkFault)
             → FindsNone so_far told (medium found) (medium mid)
             → CreationKeeps bytes config result (medium mid) (medium disk)
@@ -394,31 +394,31 @@ module _ (m : Module) (config : Settings) (so_far : Promise) (inputs : Inputs) w
                 → OpensSo Creates [] (opened_by result) (medium found) (medium disk)
             by (Ok w) later nothing opens causes =
                 created_opens bytes accepted (medium found) (medium mid) (medium disk) nothing later
-                sectors room settled none.counted w opens
-                (opens.leaves (λ other left. (none.unopened other left).1))
+                sectors room synced_or_failed none.counted w opens
+                (opens.leaves (λ other crashed. (none.unopened other crashed).1))
             by (Err why) later nothing opens causes =
                 created_in_vain bytes accepted (medium found) (medium mid) (medium disk) nothing
-                later sectors room settled none.counted why
-                (opens (λ other left. (none.unopened other left).1)) causes
+                later sectors room synced_or_failed none.counted why
+                (opens (λ other crashed. (none.unopened other crashed).1)) causes
 
   -- the disk has no unsynced write, or has failed
-  is_settled : {D O : Type 0} (medium : D → Medium) (takes : Taking O)
+  is_synced_or_failed : {D O : Type 0} (medium : D → Medium) (takes : Taking O)
       (result : Result DurableValue RecoverFault) (old new : D) (outlet outlet' : O)
       → SaysNoWorker result → Recovers medium takes result old new outlet outlet'
       → ((medium new).unsynced ≡ 0) ⊎ ((medium old).faults < (medium new).faults)
-  is_settled medium takes result old new outlet outlet' says (inl unsettled) =
-      inr unsettled.faulted
-  is_settled medium takes result old new outlet outlet' says (inr by) =
+  is_synced_or_failed medium takes result old new outlet outlet' says (inl failed_sync) =
+      inr failed_sync.faulted
+  is_synced_or_failed medium takes result old new outlet outlet' says (inr by) =
       let reads = (by.3 says).0 in
       let sync = by.1 in
-      let clean = sync.settled in inl (reads.unsynced ∙ clean.unsynced)
+      let clean = sync.all_synced in inl (reads.unsynced ∙ clean.unsynced)
 
 -- A disk without a worker has none also where a creation is begun now.
 none_as_begun : (so_far : Promise) (told : List Begun) (old new : Medium)
     → FindsNone so_far told old new → FindsNone (as_begun Creates so_far) told old new
 none_as_begun so_far told old new none = record {
   none_told = none.none_told;
-  unopened = λ image left. let is = none.unopened image left in
+  unopened = λ image crashed. let is = none.unopened image crashed in
       (ap (λ (p : Promise). as_begun Creates p) is.0, is.1);
   bounded = none.bounded;
   counted = none.counted;
@@ -459,8 +459,8 @@ opening m config so_far medium takes bytes found disk outlet outlet' begins resu
       λ inputs sectors room foretold.
           created_so m config (as_begun Creates so_far) inputs medium takes bytes found disk
           accepted mid sectors room
-          (is_settled m config so_far inputs medium takes none found mid outlet outlet' says by)
-          image leaves refl did.0 made
+          (is_synced_or_failed m config so_far inputs medium takes none found mid outlet
+          outlet' says by) image leaves refl did.0 made
           (none_as_begun so_far did.0 (medium found) (medium mid)
           (finds_none m config so_far inputs did.0 none (medium found) (medium mid) says
           (did.2 inputs foretold))) creation causes,

@@ -125,7 +125,7 @@ CallsSay gives takes acts w disk source source' outlet outlet' outcome =
     (p : ProcessState) → IsOpenOn m config guest promise stage p w disk → stage.acts ≡ acts
     → IsForetold stage exchanges → EventsSay m config promise stage exchanges outcome)
 
--- a call, and those behind it
+-- a call, and those after it
 says_on : (m : Module) (config : Settings) (promise : Promise) (stage : Stage)
     (first rest : List Exchange) (outcome outcome' : Now → Now) (events : List Event)
     → AreKept m config promise stage events → told_in events ≡ released_in first
@@ -148,12 +148,12 @@ says_on m config promise stage first rest outcome outcome' events kept told_so o
 
 module _ {D S O : Type 0} (medium : D → Medium) (gives : Giving S) (takes : Taking O) where
   calls_say : (acts : List Act) (w : DurableValue) (disk last : D) (source source' : S)
-      (outlet outlet' : O) (left : Result (List Act) RecoverFault)
-      (calls : CallsInOrder medium gives takes acts w disk source outlet left last source' outlet')
-      → left ≡ Ok []
+      (outlet outlet' : O) (undone : Result (List Act) RecoverFault)
+      (calls : CallsInOrder medium gives takes acts w disk source outlet undone last
+      source' outlet') → undone ≡ Ok []
       → CallsSay gives takes acts w (medium disk) source source' outlet outlet'
       (λ before. outcome_after before calls)
-  calls_say acts w disk last source source' outlet outlet' left no_more is = (
+  calls_say acts w disk last source source' outlet outlet' undone no_more is = (
     [],
     record { asked = refl; released = refl },
     λ m config guest promise stage p open_on acts_are foretold. record {
@@ -163,10 +163,10 @@ module _ {D S O : Type 0} (medium : D → Medium) (gives : Giving S) (takes : Ta
       says = λ before. refl;
     },
   )
-  calls_say acts w disk last source source' outlet outlet' left
+  calls_say acts w disk last source source' outlet outlet' undone
       (sliced {fuel = fuel} {acts = others} {w' = w'} {disk' = mid} {source' = inside}
       {outlet' = beyond} said slice more) is =
-      let rest = calls_say others w' mid last inside source' beyond outlet' left more is in (
+      let rest = calls_say others w' mid last inside source' beyond outlet' undone more is in (
         slice.0 ++ rest.0,
         exchanges_join gives takes source source' inside outlet outlet' beyond slice.0 rest.0
             slice.1 rest.1,
@@ -196,11 +196,11 @@ module _ {D S O : Type 0} (medium : D → Medium) (gives : Giving S) (takes : Ta
             (still_foretold m config guest promise stage (Slice fuel) did.0 w' (medium disk)
             (medium mid) slice.0 did.3 rest.0 foretold)),
       )
-  calls_say acts w disk last source source' outlet outlet' left (slice_failed slice) is =
+  calls_say acts w disk last source source' outlet outlet' undone (slice_failed slice) is =
       absurd (cc)
-  calls_say acts w disk last source source' outlet outlet' left
+  calls_say acts w disk last source source' outlet outlet' undone
       (saved {acts = others} {w' = w'} {disk' = mid} checkpoint more) is =
-      let rest = calls_say others w' mid last source source' outlet outlet' left more is in (
+      let rest = calls_say others w' mid last source source' outlet outlet' undone more is in (
         rest.0,
         rest.1,
         λ m config guest promise stage p open_on acts_are foretold.
@@ -227,11 +227,11 @@ module _ {D S O : Type 0} (medium : D → Medium) (gives : Giving S) (takes : Ta
             (still_foretold m config guest promise stage Checkpoint did.0 w' (medium disk)
             (medium mid) [] did.2 rest.0 foretold)),
       )
-  calls_say acts w disk last source source' outlet outlet' left
+  calls_say acts w disk last source source' outlet outlet' undone
       (saving_failed checkpoint cause) is = absurd (cc)
-  calls_say acts w disk last source source' outlet outlet' left
+  calls_say acts w disk last source source' outlet outlet' undone
       (was_upgraded {acts = others} {w' = w'} {disk' = mid} upgrade more) is =
-      let rest = calls_say others w' mid last source source' outlet outlet' left more is in (
+      let rest = calls_say others w' mid last source source' outlet outlet' undone more is in (
         rest.0,
         rest.1,
         λ m config guest promise stage p open_on acts_are foretold.
@@ -258,13 +258,13 @@ module _ {D S O : Type 0} (medium : D → Medium) (gives : Giving S) (takes : Ta
             (still_foretold m config guest promise stage Upgrade did.0 w' (medium disk)
             (medium mid) [] did.2 rest.0 foretold)),
       )
-  calls_say acts w disk last source source' outlet outlet' left
+  calls_say acts w disk last source source' outlet outlet' undone
       (upgrade_failed upgrade cause) is = absurd (cc)
 
 -- ---- the slice that ends last
 
 module _ (m : Module) (config : Settings) (so_far : Promise) (inputs : Inputs) where
-  -- the first of these, where no slice ends behind it
+  -- the first of these, where no slice ends after it
   first_ends : (front : List Event) (e : Event) (events : List Event) (before : Reply)
       → IsKept m config (promised so_far front) (stage_after (at_first inputs) front) e
       → ((b : Reply) → reply_after b events ≡ b)
@@ -344,12 +344,12 @@ answered_so m config so_far inputs front events outcome kept says =
 module _ {D S O : Type 0} (medium : D → Medium) (gives : Giving S) (takes : Taking O) where
   pub lives_end_as_said : LivesEndAsSaid medium gives takes
   lives_end_as_said m config bytes so_far acts found last source source' outlet outlet' begins
-      worker left accepted (opened {disk = disk} {outlet' = inside} {w = w} starts calls) is sectors
-      room keeps bounded =
+      worker undone accepted (opened {disk = disk} {outlet' = inside} {w = w} starts
+      calls) is sectors room keeps bounded =
       let o = opening m config so_far medium takes bytes found disk outlet inside begins (Ok w)
       accepted keeps bounded starts in
-      let c = calls_say medium gives takes acts w disk last source source' inside outlet' left calls
-      is in
+      let c = calls_say medium gives takes acts w disk last source source' inside
+      outlet' undone calls is in
       let all : List Exchange = map Tells o.0 ++ c.0 in
       let inputs : Inputs = uncut acts all in
       let stage : Stage = at_first inputs in
@@ -372,4 +372,4 @@ module _ {D S O : Type 0} (medium : D → Medium) (gives : Giving S) (takes : Ta
             (outcome_after now.Spent calls) more.kept (more.says now.Spent);
       }
   lives_end_as_said m config bytes so_far acts found last source source' outlet outlet' begins
-      worker left accepted (unopened starts) is sectors room keeps bounded = absurd (cc)
+      worker undone accepted (unopened starts) is sectors room keeps bounded = absurd (cc)

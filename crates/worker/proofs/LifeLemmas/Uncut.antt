@@ -13,8 +13,8 @@ use Rattle.worker.proofs.LifeLemmas.Living.{calls_make_lives, anything_comes_tru
 use Rattle.worker.proofs.LifeLemmas.Heard.{all_heard, as_many}
 
 -- whether it is over doesn't hang on what was said
-over_still : (acts : List Act) (exchanges : List Exchange) (left : Result (List Act) RecoverFault)
-    → IsLifeOver (uncut acts []) 1 left → IsLifeOver (uncut acts exchanges) 1 left
+over_still : (acts : List Act) (exchanges : List Exchange) (undone : Result (List Act) RecoverFault)
+    → IsLifeOver (uncut acts []) 1 undone → IsLifeOver (uncut acts exchanges) 1 undone
 over_still acts exchanges (Ok []) over = tt
 over_still acts exchanges (Ok (act ∷ others)) over = absurd over
 over_still acts exchanges (Err why) over = tt
@@ -22,15 +22,15 @@ over_still acts exchanges (Err why) over = tt
 pub lives_go_on_uncut : {D S O : Type 0} (medium : D → Medium) (gives : Giving S)
     (takes : Taking O) → LivesGoOnUncut medium gives takes
 lives_go_on_uncut medium gives takes m config bytes so_far acts found last source source' outlet
-    outlet' begins worker left accepted one over sectors room keeps bounded =
+    outlet' begins worker undone accepted one over sectors room keeps bounded =
     let made = calls_make_lives medium gives takes m config bytes so_far acts found last source
-    source' outlet outlet' begins worker left accepted one keeps bounded in
+    source' outlet outlet' begins worker undone accepted one keeps bounded in
     let l = made.2 (uncut acts made.0) 1 refl (record {
       foretold = anything_comes_true made.0;
       sectors = sectors;
       room = room;
       faults = λ later more. inl (lit≤ tt);
-      over = over_still acts made.0 left over;
+      over = over_still acts made.0 undone over;
     }) in
     let lived = l.2 keeps bounded in
     let told : told_in (l.0).events ≡ released_in made.0 = l.1.told in
@@ -45,7 +45,7 @@ lives_go_on_uncut medium gives takes m config bytes so_far acts found last sourc
       told = told;
       heard = all_heard m config so_far (uncut acts made.0) l.0 refl (omega (arith, many, counts))
           lived.0;
-      ends = subst (λ n. EndsBy (uncut acts made.0) n left (l.0).ends) (sym l.1.counted) l.1.ends;
+      ends = subst (λ n. EndsBy (uncut acts made.0) n undone (l.0).ends) (sym l.1.counted) l.1.ends;
       keeps = lived.1;
       bounded = lived.2;
     }

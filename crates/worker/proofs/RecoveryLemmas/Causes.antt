@@ -1,4 +1,4 @@
--- Why a recovery fails, whatever stands on the disk.
+-- Why a recovery fails, whatever is on the disk.
 use Rattle.std.proofs.Common.{◌≡◌, ℕ, ◌+◌, ◌<◌, ◌≤◌, sym, subst, inl, inr, arith}
 use Rattle.std.specs.Prelude.{Result, Ok, Err, IfErr}
 use Rattle.process.specs.rules.Values.{ProcessValue}
@@ -15,15 +15,15 @@ use Rattle.worker.specs.declared.recover_fault.RecoverFault.{RecoverFault}
 use Rattle.worker.specs.declared.recover_fault.RecoverFault.TheVariants as recover
 use Rattle.worker.specs.rules.WorkFaults.{fault_of_store}
 use Rattle.worker.specs.rules.DurableValues.{DurableValue}
-use Rattle.worker.specs.rules.Recoveries.{HasRecoveryCause, IsSettledBy}
+use Rattle.worker.specs.rules.Recoveries.{HasRecoveryCause, IsJustSynced}
 use Rattle.worker.specs.Findings.{HasSearchCause}
 use Rattle.worker.specs.Revivals.{RevivesFound}
 
--- the disk couldn't be settled
-pub unsettled_cause : (old new : Medium) (fault : DiskFault) (why : RecoverFault)
+-- the disk couldn't be synced
+pub failed_sync_cause : (old new : Medium) (fault : DiskFault) (why : RecoverFault)
     → why ≡ recover.Worker (Disk fault) → old.faults < new.faults
     → HasRecoveryCause old new why
-unsettled_cause old new fault why is failed =
+failed_sync_cause old new fault why is failed =
     subst (λ (e : RecoverFault). HasRecoveryCause old new e) (sym is) (inl failed)
 
 -- no worker was found
@@ -38,29 +38,29 @@ module _ (old sync mid : Medium) (earlier : old.faults ≤ sync.faults) where
   unfound_cause other cause = cause
 
 -- the next generation couldn't be written
-module _ (old mid new : Medium) (settled : IsSettledBy old mid) (found : Found)
+module _ (old mid new : Medium) (just_synced : IsJustSynced old mid) (found : Found)
     (room : total_sectors found.geometry ≤ mid.sectors) where
   reopening_cause : (g : ℕ) (v : ProcessValue) (fault : StoreFault)
       → ReopeningFails found.geometry g v mid new fault
       → HasRecoveryCause old new (recover.Worker (fault_of_store fault))
   reopening_cause g v store.TooBig fails = tt
   reopening_cause g v (store.Disk fault) (inl few) =
-      let passes = settled.leaves.passes in
+      let passes = just_synced.leaves.passes in
       let sectors = passes.sectors in
       let same = passes.room in
-      let synced = settled.settled.unsynced in
+      let synced = just_synced.all_synced.unsynced in
       inr (
         found.geometry,
         omega (arith, room, sectors),
         inl (omega (arith, few, same, synced)),
       )
   reopening_cause g v (store.Disk fault) (inr (inl no_room)) =
-      let passes = settled.leaves.passes in
+      let passes = just_synced.leaves.passes in
       let sectors = passes.sectors in
       let same = passes.room in
       inr (found.geometry, omega (arith, room, sectors), inr (omega (arith, no_room, same)))
   reopening_cause g v (store.Disk fault) (inr (inr failed)) =
-      let passes = settled.leaves.passes in
+      let passes = just_synced.leaves.passes in
       let faults = passes.faults in
       inl (omega (arith, failed, faults))
   reopening_cause g v store.Full fails = absurd fails
@@ -72,7 +72,7 @@ module _ (old mid new : Medium) (settled : IsSettledBy old mid) (found : Found)
 
 -- whatever comes of what was found
 module _ {D O : Type 0} (medium : D → Medium) (takes : Taking O) (old mid new : D)
-    (settled : IsSettledBy (medium old) (medium mid)) (found : Found)
+    (just_synced : IsJustSynced (medium old) (medium mid)) (found : Found)
     (room : total_sectors found.geometry ≤ (medium mid).sectors) (outlet outlet' : O) where
   pub revival_cause : (result : Result DurableValue RecoverFault)
       → RevivesFound medium takes found result mid new outlet outlet'
@@ -84,5 +84,5 @@ module _ {D O : Type 0} (medium : D → Medium) (takes : Taking O) (old mid new 
   revival_cause (Err why) (inr for) =
       let none = for.none in
       subst (λ (e : RecoverFault). HasRecoveryCause (medium old) (medium new) e) (sym none.is)
-      (reopening_cause (medium old) (medium mid) (medium new) settled found room
+      (reopening_cause (medium old) (medium mid) (medium new) just_synced found room
       (found.generation + 1) for.process none.fault none.fails)

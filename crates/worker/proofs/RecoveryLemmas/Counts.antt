@@ -8,22 +8,22 @@ use Rattle.record_replay.specs.rules.Calls.{Taking}
 use Rattle.worker.specs.declared.found.Found.{Found}
 use Rattle.worker.specs.declared.recover_fault.RecoverFault.{RecoverFault}
 use Rattle.worker.specs.rules.DurableValues.{DurableValue}
-use Rattle.worker.specs.rules.Recoveries.{IsSettledBy}
+use Rattle.worker.specs.rules.Recoveries.{IsJustSynced}
 use Rattle.worker.specs.rules.Unsynced.{CountsInSaving, CountsInRecovery}
 use Rattle.worker.specs.Revivals.{RevivesFound}
 
--- a settled disk, and then a commit
-saving_counts : (places : Geometry) (old mid new : Medium) → IsSettledBy old mid
+-- a synced disk, and then a commit
+saving_counts : (places : Geometry) (old mid new : Medium) → IsJustSynced old mid
     → CountsUpTo (mid.unsynced + places.area_sectors + 1) mid new → CountsInSaving places old new
-saving_counts places old mid new settled counts =
-    let none = settled.settled.unsynced in
-    let passes = settled.leaves.passes in
+saving_counts places old mid new just_synced counts =
+    let none = just_synced.all_synced.unsynced in
+    let passes = just_synced.leaves.passes in
     counts_then old.unsynced (mid.unsynced + places.area_sectors + 1)
     (max old.unsynced (places.area_sectors + 1)) old mid new (omega arith) (omega (arith, none))
-    passes.later settled.counts counts
+    passes.later just_synced.counts counts
 
 module _ {D O : Type 0} (medium : D → Medium) (takes : Taking O) (old mid new : D)
-    (settled : IsSettledBy (medium old) (medium mid)) (found : Found)
+    (just_synced : IsJustSynced (medium old) (medium mid)) (found : Found)
     (room : total_sectors found.geometry ≤ (medium mid).sectors) (outlet outlet' : O) where
   pub revival_counts : (result : Result DurableValue RecoverFault)
       → RevivesFound medium takes found result mid new outlet outlet'
@@ -32,17 +32,19 @@ module _ {D O : Type 0} (medium : D → Medium) (takes : Taking O) (old mid new 
       let opens = revives.1 in
       let writes = opens.writes in
       subst (λ (g : Geometry). CountsInSaving g (medium old) (medium new)) (sym opens.placed)
-      (saving_counts found.geometry (medium old) (medium mid) (medium new) settled writes.counts)
+      (saving_counts found.geometry (medium old) (medium mid) (medium new) just_synced
+      writes.counts)
   revival_counts (Err why) (inl stops) =
       inl (subst (λ d. CountsUpTo (medium old).unsynced (medium old) (medium d)) (sym stops.same)
-      settled.counts)
+      just_synced.counts)
   revival_counts (Err why) (inr for) =
       let none = for.none in
       let writes = none.writes in
-      let passes = settled.leaves.passes in
+      let passes = just_synced.leaves.passes in
       let sectors = passes.sectors in
       inr (
         found.geometry,
         omega (arith, room, sectors),
-        saving_counts found.geometry (medium old) (medium mid) (medium new) settled writes.counts,
+        saving_counts found.geometry (medium old) (medium mid) (medium new) just_synced
+            writes.counts,
       )

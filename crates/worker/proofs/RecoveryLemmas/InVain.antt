@@ -5,9 +5,9 @@ use Rattle.std.specs.Prelude.{map}
 use Rattle.wasm_syntax.specs.declared.module.Module.{Module}
 use Rattle.wasi_abi.specs.rules.Configs.{Settings}
 use Rattle.process_rules.specs.Processes.{ProcessState}
-use Rattle.wasi_calls_rules.specs.Hosts.{Line}
+use Rattle.wasi_calls_rules.specs.WasiStates.{Line}
 use Rattle.process.specs.rules.Values.{ProcessValue}
-use Rattle.state_image.specs.rules.Image.{image}
+use Rattle.state_image.specs.rules.ProcessImage.{process_image}
 use Rattle.state_image.specs.rules.Saving.{saved_of}
 use Rattle.sector_disk.specs.declared.sector.TheConstants.{SECTOR_SIZE}
 use Rattle.sector_disk.specs.rules.Medium.{Medium, LeavesOnly, spare}
@@ -24,20 +24,20 @@ use Rattle.record_replay.specs.rules.Replays.{ReplaysUpTo, RefusesFrom, StopsRep
 use Rattle.restart_theorem.specs.Lives.{Inputs}
 use Rattle.restart_theorem.specs.Courses.{Stage, Phase, Shut, at_first}
 use Rattle.restart_theorem.specs.Promises.{Promise}
-use Rattle.restart_theorem.specs.Holds.{ImageHolds, KeepsPromise, CarriesPromise, IsBounded}
+use Rattle.restart_theorem.specs.Holds.{DiskImageHolds, KeepsPromise, CarriesPromise, IsBounded}
 use Rattle.restart_theorem.specs.Holds.{KeepsBounds, StaysWithin}
 use Rattle.restart_theorem.specs.Exchanges.{none as no_event}
 use Rattle.worker_store.specs.laws.Pieces.{IsForetold}
-use Rattle.worker_store.specs.laws.Telling.{AreMade, AddsLines}
+use Rattle.worker_store.specs.laws.Telling.{ArePerformed, AddsLines}
 use Rattle.worker_store.specs.laws.Reopening.{IsReviving}
 use Rattle.worker_store.specs.laws.Carried.{count_at, IsHeldAt}
-use Rattle.worker_store.proofs.LawLemmas.Carrying.{held_at_stands}
-use Rattle.worker_store.proofs.LawLemmas.Passing.{left_in_the_end}
+use Rattle.worker_store.proofs.LawLemmas.Carrying.{held_at_holds_promise}
+use Rattle.worker_store.proofs.LawLemmas.Passing.{crashed_in_the_end}
 use Rattle.worker_store.proofs.LawLemmas.Recovering.{retold_is_held}
 use Rattle.worker_store.proofs.LawLemmas.Reopening.{lines_are_retold, lines_are_retold_in_vain}
 use Rattle.worker_store.specs.declared.fault.StoreFault.{StoreFault}
 use Rattle.worker_store.specs.declared.fault.StoreFault.TheVariants as store
-use Rattle.worker_store.specs.laws.Laws.{ImagesFitAreas}
+use Rattle.worker_store.specs.laws.Laws.{ProcessImagesFitAreas}
 use Rattle.worker_store.specs.rules.Calls.{ReopeningFails}
 use Rattle.worker.specs.declared.found.Found.{Found}
 use Rattle.worker.specs.declared.recover_fault.RecoverFault.{RecoverFault}
@@ -45,7 +45,7 @@ use Rattle.worker.specs.declared.recover_fault.RecoverFault.TheVariants as recov
 use Rattle.worker.specs.rules.CallCounts.{most_recovering}
 use Rattle.worker.specs.rules.DurableCalls.{TakesTooFew}
 use Rattle.worker.specs.rules.WorkFaults.{fault_of_store}
-use Rattle.worker.specs.rules.Recoveries.{IsNoWorker, IsSettledBy, MayNotReopen}
+use Rattle.worker.specs.rules.Recoveries.{IsNoWorker, IsJustSynced, MayNotReopen}
 use Rattle.worker.specs.rules.Recoveries.{ReopensInVain, EndsInVain}
 use Rattle.worker.specs.Revivals.{IsReplayed, StopsInVain, OpensNone}
 use Rattle.worker.proofs.RecoveryLemmas.Undiverged.{undiverged, lines_within}
@@ -99,7 +99,7 @@ ends_in_vain m config promise inputs told old new other denies r = r
 -- ---- nothing was told
 
 pub nothing_done : (m : Module) (config : Settings) (promise : Promise) (inputs : Inputs)
-    (why : RecoverFault) (old new : Medium) → LeavesOnly old new old.may_leave
+    (why : RecoverFault) (old new : Medium) → LeavesOnly old new old.crash_images
     → KeepsPromise m config promise old → KeepsBounds promise.events old
     → MayNotReopen config promise Shut why old new → CallsUpTo (most_recovering old.sectors) old new
     → ReopensInVain m config promise inputs [] why old new
@@ -108,14 +108,14 @@ nothing_done m config promise inputs why old new leaves keeps bounds may few = r
   are = no_event;
   kept = tt;
   carried = record {
-    at_any_moment = leaves_weaker old new old.may_leave (ImageHolds m config promise promise)
+    at_any_moment = leaves_weaker old new old.crash_images (DiskImageHolds m config promise promise)
         leaves keeps;
-    in_the_end = λ image left.
-        keeps image (left_in_the_end old new old.may_leave leaves image left);
+    in_the_end = λ image crashed.
+        keeps image (crashed_in_the_end old new old.crash_images leaves image crashed);
   };
-  bounded = leaves_weaker old new old.may_leave (IsBounded (promise.events + 1) old.sectors) leaves
-      (λ image left. within_later promise.events (promise.events + 1) old.sectors image
-      (omega arith) (bounds image left));
+  bounded = leaves_weaker old new old.crash_images (IsBounded (promise.events
+      + 1) old.sectors) leaves (λ image crashed. within_later promise.events (promise.events
+      + 1) old.sectors image (omega arith) (bounds image crashed));
   counted = few;
   may = may;
 }
@@ -155,14 +155,14 @@ refuses_as takes a b p outlet outlet' same refuses =
 
 module _ {D O : Type 0} (medium : D → Medium) (takes : Taking O) (m : Module)
     (config : Settings) (promise : Promise) (found : Found) (old mid : D)
-    (settled : IsSettledBy (medium old) (medium mid))
+    (just_synced : IsJustSynced (medium old) (medium mid))
     (keeps : KeepsPromise m config promise (medium old))
     (bounds : KeepsBounds promise.events (medium old))
     (there : IsThere m config promise found (medium old).sectors (medium mid)) where
   -- the disk is as it was read
   told_in_vain : (inputs : Inputs) (told : List Begun) (why : RecoverFault) (line : ℕ)
       → line ≤ length there.last.host.lines
-      → (made : AreMade m config promise (at_first inputs) line (map Tells told))
+      → (made : ArePerformed m config promise (at_first inputs) line (map Tells told))
       → MayNotReopen config promise made.stage'.phase why (medium old) (medium mid)
       → ReopensInVain m config promise inputs told why (medium old) (medium mid)
   told_in_vain inputs told why line few made may =
@@ -180,16 +180,16 @@ module _ {D O : Type 0} (medium : D → Medium) (takes : Taking O) (m : Module)
             CarriesPromise m config promise p (medium old) (medium mid)) done.promised_is
             (record {
               at_any_moment = first_holds m config promise made.promise' line (medium old)
-                  (medium mid) settled keeps made.adds;
-              in_the_end = λ image left.
-                  inr (held_at_stands m config made.promise' there.point found.records.items
-                  there.last image held (there.all image left));
+                  (medium mid) just_synced keeps made.adds;
+              in_the_end = λ image crashed.
+                  inr (held_at_holds_promise m config made.promise' there.point found.records.items
+                  there.last image held (there.all image crashed));
             });
         bounded = subst (λ (p : Promise).
             StaysWithin (p.events + 1) (medium old) (medium mid)) done.promised_is
-            (first_within promise (made.promise'.events + 1) (medium old) (medium mid) settled
+            (first_within promise (made.promise'.events + 1) (medium old) (medium mid) just_synced
             bounds (below_next promise.events made.promise'.events adds.events));
-        counted = omega (arith, settled.counted);
+        counted = omega (arith, just_synced.counted);
         may = subst (λ (s : Stage).
             MayNotReopen config promise s.phase why (medium old) (medium mid)) done.stage_is may;
       }
@@ -267,15 +267,17 @@ module _ {D O : Type 0} (medium : D → Medium) (takes : Taking O) (m : Module)
     -- ---- all lines were told, but the next generation couldn't be written
 
     module _ (new : D) (v : ProcessValue) (count : ℕ)
-        (replayed : IsReplayed takes found v count outlet outlet') (fit : ImagesFitAreas) where
+        (replayed : IsReplayed takes found v count outlet outlet')
+        (fit : ProcessImagesFitAreas) where
       back : IsBack takes there.point there.last v count outlet outlet'
       back =
           let held = there.held in
           is_back takes m config there.wasm there.point found.records.items found there.found_at
           there.last held.recorded v count outlet outlet' replayed
 
-      image_fits : length (image (saved_of v)) ≤ SECTOR_SIZE * found.geometry.area_sectors
-      image_fits =
+      process_image_fits : length (process_image (saved_of v)) ≤ SECTOR_SIZE
+          * found.geometry.area_sectors
+      process_image_fits =
           let held = there.held in
           let at = there.found_at in
           fits_area m config there.point found.records.items there.last v found.geometry
@@ -292,11 +294,11 @@ module _ {D O : Type 0} (medium : D → Medium) (takes : Taking O) (m : Module)
           let early : there.point.generation ≤ promise.events = there.early in
           ((refl, omega (arith, late, same, early)), λ denies. denies)
       fails_for store.TooBig (inr long) =
-          let few = image_fits in absurd (omega (arith, few, long))
+          let few = process_image_fits in absurd (omega (arith, few, long))
       fails_for (store.Disk fault) cause =
           let at = there.found_at in
-          let all = settled.settled in
-          let passes = settled.leaves.passes in (
+          let all = just_synced.all_synced in
+          let passes = just_synced.leaves.passes in (
             (
               refl,
               too_few config (medium old) (medium mid) (medium new) found.geometry.area_sectors
@@ -331,13 +333,13 @@ module _ {D O : Type 0} (medium : D → Medium) (takes : Taking O) (m : Module)
             carried = subst (λ (p : Promise).
                 CarriesPromise m config promise p (medium old) (medium new)) done.promised_is
                 (moments_hold medium takes m config promise found old mid new there v count outlet
-                outlet' back has inputs told settled keeps);
+                outlet' back has inputs told just_synced keeps);
             bounded = subst (λ (p : Promise).
                 StaysWithin (p.events + 1) (medium old) (medium new)) done.promised_is
                 (moments_within medium takes m config promise found old mid new there v count
-                outlet outlet' back has inputs told settled bounds);
-            counted = (let passes = settled.leaves.passes in
-                omega (arith, settled.counted, few, passes.sectors));
+                outlet outlet' back has inputs told just_synced bounds);
+            counted = (let passes = just_synced.leaves.passes in
+                omega (arith, just_synced.counted, few, passes.sectors));
             may = subst (λ (s : Stage).
                 MayNotReopen config promise s.phase why (medium old) (medium new)) done.stage_is
                 (subst (λ (phase : Phase).

@@ -12,7 +12,7 @@ use Rattle.process_rules.specs.Runs.{Kept, Runs, Reaches, none as no_step}
 use Rattle.process_rules.proofs.Growing.{runs_count, start_counts}
 use Rattle.process_rules.proofs.Quiet.{runs_join}
 use Rattle.process.specs.rules.Values.{ProcessValue, ShowsProcess, IsProcess, waiting_in}
-use Rattle.state_image.specs.rules.Image.{image}
+use Rattle.state_image.specs.rules.ProcessImage.{process_image}
 use Rattle.state_image.specs.rules.Saving.{saved_of}
 use Rattle.state_image.specs.rules.WellTyped.{IsWellTyped}
 use Rattle.state_image.proofs.ReachedWellTyped.{saved_is_well_typed}
@@ -32,7 +32,7 @@ use Rattle.worker_store.specs.laws.Carried.{answers_at, count_at, IsHeldAt}
 use Rattle.worker_store.specs.laws.Reopening.{IsReviving}
 use Rattle.worker_store.proofs.LawLemmas.Carrying.{up_to_map}
 use Rattle.worker_store.proofs.LawLemmas.Fronts.{front_kept}
-use Rattle.worker_store.specs.laws.Laws.{ImagesFitAreas}
+use Rattle.worker_store.specs.laws.Laws.{ProcessImagesFitAreas}
 use Rattle.worker.specs.declared.found.Found.{Found}
 use Rattle.worker.specs.Findings.{IsFoundAt}
 use Rattle.worker.specs.Revivals.{IsReplayed}
@@ -56,7 +56,7 @@ whole_way guest p last records recorded = record {
   within = omega arith;
 }
 
--- what a savepoint, a front of its records and some steps lead to
+-- what a savepoint, a prefix of its records and some steps lead to
 pub record IsOnWay {m : Module} {config : Settings} (point : Savepoint m config)
     (front : List Record) (p : ProcessState) : Type 0 where
   pub runs : Runs point.reached.guest point.reached.start (answers_at point front) p.steps p
@@ -187,7 +187,7 @@ last_reached m config point records last recorded =
 
 -- ---- the process at hand
 
--- It is the one that the records of a savepoint lead to. Its lines behind those of the savepoint
+-- It is the one that the records of a savepoint lead to. Its lines after those of the savepoint
 -- were told.
 pub record IsBack {O : Type 0} (takes : Taking O) {m : Module} {config : Settings}
     (point : Savepoint m config) (last : ProcessState) (v : ProcessValue) (count : ℕ)
@@ -247,15 +247,15 @@ pub fits_area : (m : Module) (config : Settings) (point : Savepoint m config)
     (records : List Record) (last : ProcessState) (v : ProcessValue) (geometry : Geometry)
     → Recorded point.reached.guest point.process records last
     → ShowsProcess v point.reached.guest last → IsProcess v → v.machine.guest ≡ m
-    → IsOfBytes (host_of config) → geometry ≡ places point → ImagesFitAreas
-    → length (image (saved_of v)) ≤ SECTOR_SIZE * geometry.area_sectors
+    → IsOfBytes (host_of config) → geometry ≡ places point → ProcessImagesFitAreas
+    → length (process_image (saved_of v)) ≤ SECTOR_SIZE * geometry.area_sectors
 fits_area m config point records last v geometry recorded shows is same texts placed fit =
     let pages = point.settings.in_range.pages in
     let typed : IsWellTyped m config (saved_of v) =
     saved_is_well_typed point.wasm m config (answers_at point records) last.steps v last
     point.accepted (few_pages config.pages pages.1) texts
     (last_reached m config point records last recorded) same is shows in
-    subst (λ (g : Geometry). length (image (saved_of v)) ≤ SECTOR_SIZE * g.area_sectors)
+    subst (λ (g : Geometry). length (process_image (saved_of v)) ≤ SECTOR_SIZE * g.area_sectors)
     (sym placed) (fit m config (saved_of v) (length point.wasm) typed)
   where
     few_pages : (pages : ℕ) → pages ≤ 256 → pages ≤ 2 ^ 16

@@ -8,7 +8,7 @@ use Rattle.wasi_abi.specs.rules.Configs.{Settings}
 use Rattle.process_rules.specs.Processes.{ProcessState}
 use Rattle.process_rules.specs.Runs.{none as no_step}
 use Rattle.process.specs.rules.Values.{ProcessValue, IsProcess}
-use Rattle.sector_disk.specs.rules.Image.{Image}
+use Rattle.sector_disk.specs.rules.DiskImage.{DiskImage}
 use Rattle.sector_disk.specs.rules.Medium.{Medium, LeavesOnly, Passes, CallsUpTo, CountsUpTo}
 use Rattle.sector_disk.proofs.CountLemmas.{counts_same}
 use Rattle.sector_disk.proofs.Moments.{leaves_only, started}
@@ -21,7 +21,7 @@ use Rattle.record_replay.specs.rules.Calls.{Taking}
 use Rattle.record_replay.specs.rules.Replays.{Replays, ReplaysInVain}
 use Rattle.restart_theorem.specs.Promises.{Promise}
 use Rattle.restart_theorem.specs.Holds.{IsBounded}
-use Rattle.worker_store.specs.laws.Savepoints.{Savepoint, StandsAtPoint, StandsBySaved}
+use Rattle.worker_store.specs.laws.Savepoints.{Savepoint, IsAtSavepoint, StandsBySaved}
 use Rattle.worker_store.specs.laws.Commits.{BeginsAtPoint, StandsBefore}
 use Rattle.worker_store.specs.laws.Carried.{answers_at}
 use Rattle.worker_store.specs.laws.AtHand.{IsNextOf}
@@ -53,12 +53,12 @@ pub record HasNext (m : Module) (config : Settings) (promise : Promise) (found :
   pub front : next.front ≡ answers_at there.point found.records.items
   pub again : IsAgain found.geometry (found.generation + 1) v next
   pub leaves : LeavesOnly mid new (λ disk.
-      StandsAtPoint there.point found.records.items there.last disk ⊎ BeginsAtPoint next disk)
+      IsAtSavepoint there.point found.records.items there.last disk ⊎ BeginsAtPoint next disk)
 
--- where images stand at a savepoint, what is saved comes behind that
+-- where images are at a savepoint, what is saved comes after that
 before_next : (m : Module) (config : Settings) (point next : Savepoint m config)
-    (records : List Record) (last p : ProcessState) (v : ProcessValue) (disk : Image)
-    → IsNextOf point records [] last p v next → StandsAtPoint point records last disk
+    (records : List Record) (last p : ProcessState) (v : ProcessValue) (disk : DiskImage)
+    → IsNextOf point records [] last p v next → IsAtSavepoint point records last disk
     → StandsBefore next (answers_at point records) last.steps disk
 before_next m config point next records last p v disk is_next at =
     let by : StandsBySaved point (answers_at point records) last.steps disk =
@@ -114,14 +114,14 @@ module _ {D O : Type 0} (medium : D → Medium) (takes : Taking O) (m : Module)
         let point : Savepoint m config = there.point in
         let records : List Record = found.records.items in
         opens.stores m config has.next (answers_at point records) there.last.steps has.again
-        (λ disk left. before_next m config point has.next records there.last there.last v disk
-        has.is_next (there.all disk left))
+        (λ disk crashed. before_next m config point has.next records there.last there.last v disk
+        has.is_next (there.all disk crashed))
 
-    -- what stands there is within the bounds
+    -- what is there is within the bounds
     pub next_within : (has : HasNext m config promise found sectors (medium mid) (medium new) there
         v)
-        → (latest : ℕ) → promise.events + 1 ≤ latest → (disk : Image)
-        → StandsAtPoint there.point found.records.items there.last disk
+        → (latest : ℕ) → promise.events + 1 ≤ latest → (disk : DiskImage)
+        → IsAtSavepoint there.point found.records.items there.last disk
         ⊎ BeginsAtPoint has.next disk
         → IsBounded latest sectors disk
     next_within has latest more disk at =
@@ -131,7 +131,7 @@ module _ {D O : Type 0} (medium : D → Medium) (takes : Taking O) (m : Module)
         let comes = has.is_next.comes in
         let one : next.generation ≡ point.generation + 1 = comes.generation in
         ⊎_elim
-        (λ (stood : StandsAtPoint there.point found.records.items there.last disk).
+        (λ (stood : IsAtSavepoint there.point found.records.items there.last disk).
         within_at m config point found.records.items there.last latest sectors disk stood
         (omega (arith, early, more)) there.room)
         (λ (begins : BeginsAtPoint has.next disk).
@@ -151,13 +151,13 @@ module _ {D : Type 0} (medium : D → Medium) (geometry : Geometry) (generation 
   none_next late = record {
     writes = record {
       leaves = λ m config point next records last again comes all.
-          leaves_only (medium mid) (medium mid) (λ disk. StandsAtPoint point records last disk
+          leaves_only (medium mid) (medium mid) (λ disk. IsAtSavepoint point records last disk
           ⊎ BeginsAtPoint next disk) (started (medium mid) (λ disk.
-          StandsAtPoint point records last disk ⊎ BeginsAtPoint next disk))
-          (λ image left. inl (all image left));
+          IsAtSavepoint point records last disk ⊎ BeginsAtPoint next disk))
+          (λ image crashed. inl (all image crashed));
       passes = started (medium mid) (λ image. Unit {0});
       counts = counts_same (medium mid) _;
-      some = λ image left. (image, left);
+      some = λ image crashed. (image, crashed);
       counted = omega arith;
     };
     fault = store.TooBig;
@@ -170,8 +170,8 @@ module _ {D : Type 0} (medium : D → Medium) (geometry : Geometry) (generation 
       (passes : Passes (medium mid) (medium new) (λ image. Unit {0}))
       (counts : CountsUpTo ((medium mid).unsynced + geometry.area_sectors + 1) (medium mid)
       (medium new))
-      (some : (image : Image) → (medium new).may_leave image
-      → (before : Image) × (medium mid).may_leave before)
+      (some : (image : DiskImage) → (medium new).crash_images image
+      → (before : DiskImage) × (medium mid).crash_images before)
       (few : CallsUpTo ((medium mid).sectors + 2) (medium mid) (medium new)) where
     writes_next : WritesNext geometry generation v (medium mid) (medium new)
     writes_next = record {

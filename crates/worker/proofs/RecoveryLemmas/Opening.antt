@@ -12,7 +12,7 @@ use Rattle.record_replay.specs.rules.Calls.{Taking, all_taken}
 use Rattle.restart_theorem.specs.Lives.{Inputs, Event, Opened}
 use Rattle.restart_theorem.specs.Courses.{Stage, at_first, next_stage, stage_after}
 use Rattle.restart_theorem.specs.Promises.{Promise, after, IsOpening}
-use Rattle.restart_theorem.specs.Holds.{ImageHolds, KeepsPromise, CarriesPromise, KeepsBounds}
+use Rattle.restart_theorem.specs.Holds.{DiskImageHolds, KeepsPromise, CarriesPromise, KeepsBounds}
 use Rattle.restart_theorem.specs.Holds.{StaysWithin}
 use Rattle.worker_store.specs.laws.Savepoints.{Savepoint}
 use Rattle.worker_store.specs.laws.CallEnds.{IsSavedAs, IsBetween}
@@ -30,7 +30,7 @@ use Rattle.worker_store.proofs.LawLemmas.Telling.{max_within}
 use Rattle.worker.specs.declared.found.Found.{Found}
 use Rattle.worker.specs.rules.DurableValues.{DurableValue}
 use Rattle.worker.specs.rules.OpenWorkers.{IsOpenOn}
-use Rattle.worker.specs.rules.Recoveries.{IsSettledBy, Reopens, recovery_events}
+use Rattle.worker.specs.rules.Recoveries.{IsJustSynced, Reopens, recovery_events}
 use Rattle.worker.specs.Revivals.{OpensStore}
 use Rattle.worker.proofs.RecoveryLemmas.There.{IsThere}
 use Rattle.worker.proofs.RecoveryLemmas.Lives.{IsBack}
@@ -102,7 +102,7 @@ module _ {D O : Type 0} (medium : D → Medium) (takes : Taking O) (m : Module)
         has.next.front told.held has.front)
         (first_up_to m config told.made.promise' there.point found.records.items there.last
         has.next.front told.held has.front) heard) has.is_next.saved has.leaves
-        stored.journaled.stands
+        stored.journaled.at_savepoint
 
     -- all kept answers are those of the savepoint
     kept_is : (after told.made.promise' opening).kept ≡ answers_at has.next []
@@ -161,7 +161,7 @@ module _ {D O : Type 0} (medium : D → Medium) (takes : Taking O) (m : Module)
           };
         }
 
-    module _ (settled : IsSettledBy (medium old) (medium mid))
+    module _ (just_synced : IsJustSynced (medium old) (medium mid))
         (keeps : KeepsPromise m config promise (medium old))
         (bounds : KeepsBounds promise.events (medium old)) where
       pub reopens : Reopens m config promise inputs
@@ -176,7 +176,7 @@ module _ {D O : Type 0} (medium : D → Medium) (takes : Taking O) (m : Module)
           let moments : CarriesPromise m config promise told.made.promise' (medium old)
           (medium new) =
           moments_hold medium takes m config promise found old mid new there w.process w.replayed
-          outlet outlet' back has inputs told settled keeps in
+          outlet outlet' back has inputs told just_synced keeps in
           let last_stage : Stage = stage_after (at_first inputs)
           (recovery_events done.events held w) in
           record {
@@ -185,17 +185,17 @@ module _ {D O : Type 0} (medium : D → Medium) (takes : Taking O) (m : Module)
             held = held;
             kept = joined.0;
             at_any_moment = subst (λ (p : Promise).
-                LeavesOnly (medium old) (medium new) (ImageHolds m config promise p))
+                LeavesOnly (medium old) (medium new) (DiskImageHolds m config promise p))
                 done.promised_is moments.at_any_moment;
             in_the_end = subst (λ (p : Promise). KeepsPromise m config p (medium new))
                 (sym joined.1) carries.carries.in_the_end;
             bounded = subst (λ (p : Promise). StaysWithin p.events (medium old) (medium new))
                 (sym joined.1)
                 (moments_within medium takes m config promise found old mid new there w.process
-                w.replayed outlet outlet' back has inputs told settled bounds);
-            counted = (let passes = settled.leaves.passes in
+                w.replayed outlet outlet' back has inputs told just_synced bounds);
+            counted = (let passes = just_synced.leaves.passes in
                 let writes = opens.writes in
-                omega (arith, settled.counted, writes.counted, passes.sectors));
+                omega (arith, just_synced.counted, writes.counted, passes.sectors));
             guest = there.point.reached.guest;
             process = there.last;
             opened = subst (λ (p : Promise). IsOpenOn m config there.point.reached.guest p

@@ -9,15 +9,15 @@ use Rattle.wasi_abi.specs.rules.Configs.{Settings}
 use Rattle.process_rules.specs.Processes.{ProcessState}
 use Rattle.process_rules.specs.Runs.{Kept}
 use Rattle.process.specs.rules.Values.{ProcessValue}
-use Rattle.state_image.specs.rules.Image.{image}
+use Rattle.state_image.specs.rules.ProcessImage.{process_image}
 use Rattle.state_image.specs.rules.Saving.{saved_of}
 use Rattle.sector_disk.specs.declared.fault.DiskFault.{DiskFault}
-use Rattle.sector_disk.specs.rules.Image.{Image}
+use Rattle.sector_disk.specs.rules.DiskImage.{DiskImage}
 use Rattle.sector_disk.specs.rules.Medium.{Medium, SyncsMedium}
 use Rattle.sector_disk.proofs.CountLemmas.{counts_same, counts_then, unsynced_within}
 use Rattle.sector_disk.specs.rules.Medium.{CallsUpTo}
-use Rattle.sector_disk.proofs.Moments.{leaves_weaker, leaves_only, started, settled_only}
-use Rattle.sector_disk.proofs.Moments.{settled_stays, stays_left, stays_on}
+use Rattle.sector_disk.proofs.Moments.{leaves_weaker, leaves_only, started, synced_only}
+use Rattle.sector_disk.proofs.Moments.{synced_stays, stays_crashed, stays_on}
 use Rattle.sector_disk.proofs.Moments.{stays_leaves_only}
 use Rattle.disk_layout.specs.declared.fault.LayoutFault.TheVariants as layout
 use Rattle.disk_layout.specs.rules.Places.{geometry_of, area_place, rounded_up, total_sectors}
@@ -39,11 +39,11 @@ use Rattle.restart_theorem.specs.Holds.{HoldsPromise, IsUnopened, KeepsPromise}
 use Rattle.restart_theorem.specs.Holds.{IsBounded, KeepsBounds}
 use Rattle.worker_store.specs.laws.Savepoints.{point_of}
 use Rattle.worker_store.proofs.LawLemmas.Carrying.{blank_is_unopened}
-use Rattle.worker_store.proofs.LawLemmas.Points.{stands_at_its_point}
+use Rattle.worker_store.proofs.LawLemmas.Points.{is_at_its_savepoint}
 use Rattle.worker_store.specs.declared.fault.StoreFault.{StoreFault}
 use Rattle.worker_store.specs.declared.fault.StoreFault.TheVariants as store
 use Rattle.worker_store.specs.rules.Calls.{ReopeningFails}
-use Rattle.worker_store.specs.laws.Laws.{ImagesFitAreas}
+use Rattle.worker_store.specs.laws.Laws.{ProcessImagesFitAreas}
 use Rattle.worker.specs.declared.fault.WorkFault.TheVariants.{Work, Disk, Store, Upgrade}
 use Rattle.worker.specs.declared.found.Found.{Found}
 use Rattle.worker.specs.declared.recover_fault.RecoverFault.{RecoverFault}
@@ -51,7 +51,7 @@ use Rattle.worker.specs.declared.recover_fault.RecoverFault.TheVariants as recov
 use Rattle.worker.specs.rules.WorkFaults.{fault_of_store}
 use Rattle.worker.specs.rules.DurableValues.{DurableValue}
 use Rattle.worker.specs.rules.Recoveries.{IsNoWorker, IsNoWorkerOr, SaysNothing}
-use Rattle.worker.specs.rules.Recoveries.{MarksDecide, IsSettledBy}
+use Rattle.worker.specs.rules.Recoveries.{MarksDecide, IsJustSynced}
 use Rattle.worker.specs.rules.Recoveries.{Recovers, RecoveryCarries, MayNotReopen}
 use Rattle.worker.specs.rules.Recoveries.{ReopensInVain, FindsNone, EndsInVain}
 use Rattle.worker.specs.rules.Recoveries.{Revives, RevivesInVain, TellsSome, OpeningCalls}
@@ -67,22 +67,22 @@ use Rattle.worker.proofs.RecoveryLemmas.Opening.{reopens}
 use Rattle.worker.proofs.RecoveryLemmas.InVain.{nothing_done, stopped_so, written_so}
 use Rattle.worker.proofs.RecoveryLemmas.InVain.{refuses_as}
 
--- ---- the disk is settled and read
+-- ---- the disk is synced and read
 
 -- a good sync, and then reads
-pub settled_by : {T : Type 0} (old sync mid : Medium) (done : T)
+pub is_just_synced : {T : Type 0} (old sync mid : Medium) (done : T)
     → SyncsMedium {T = T} (Ok done) old sync → OnlyReads sync mid
-    → CallsUpTo (2 * sync.sectors) sync mid → IsSettledBy old mid
-settled_by old sync mid done syncs reads few =
+    → CallsUpTo (2 * sync.sectors) sync mid → IsJustSynced old mid
+is_just_synced old sync mid done syncs reads few =
     let passes = syncs.passes in
     let calls = syncs.calls in
     record {
-      settled = settled_stays sync mid reads.stays syncs.settles;
+      all_synced = synced_stays sync mid reads.stays syncs.all_synced;
       stays = stays_on old sync mid passes.later syncs.stays reads.stays;
-      leaves = leaves_join old sync mid old.may_leave
+      leaves = leaves_join old sync mid old.crash_images
           (stays_leaves_only old sync syncs.stays syncs.passes)
-          (leaves_weaker sync mid sync.may_leave old.may_leave reads.leaves
-          (λ image left. stays_left old sync syncs.stays image left));
+          (leaves_weaker sync mid sync.crash_images old.crash_images reads.leaves
+          (λ image crashed. stays_crashed old sync syncs.stays image crashed));
       counts = counts_then old.unsynced sync.unsynced old.unsynced old sync mid (omega arith)
           (unsynced_within old.unsynced old sync (omega arith) passes.later syncs.counts)
           passes.later syncs.counts reads.counts;
@@ -93,17 +93,18 @@ settled_by old sync mid done syncs reads few =
 pub reads_none : (mid : Medium) → OnlyReads mid mid
 reads_none mid = record {
   stays = record {
-    may = λ shown image both. both;
+    crash_pairs = λ shown image both. both;
     since = λ t shown image le both. both;
     unsynced = omega arith;
   };
-  leaves = leaves_only mid mid mid.may_leave (started mid mid.may_leave) (λ image left. left);
+  leaves = leaves_only mid mid mid.crash_images (started mid mid.crash_images)
+      (λ image crashed. crashed);
   unsynced = refl;
   counts = counts_same mid mid.unsynced;
   calls = refl;
 }
 
--- ---- the disk couldn't be settled
+-- ---- the disk couldn't be synced
 
 -- a sync fails only where the disk fails
 pub sync_faulted : {T : Type 0} (old new : Medium) (fault : DiskFault)
@@ -120,8 +121,8 @@ module _ {D O : Type 0} (medium : D → Medium) (takes : Taking O) (old new : D)
   failed : (medium old).faults < (medium new).faults
   failed = sync_faulted (medium old) (medium new) fault syncs
 
-  pub unsettled_recovers : Recovers medium takes (Err why) old new outlet outlet
-  unsettled_recovers =
+  pub failed_sync_recovers : Recovers medium takes (Err why) old new outlet outlet
+  failed_sync_recovers =
       let calls = syncs.calls in
       inl (record {
         fault = fault;
@@ -132,8 +133,8 @@ module _ {D O : Type 0} (medium : D → Medium) (takes : Taking O) (old new : D)
         none_told = refl;
       })
 
-  pub unsettled_carries : RecoveryCarries takes (Err why) (medium old) (medium new) outlet outlet
-  unsettled_carries m config promise left is_left keeps bounds = (
+  pub failed_sync_carries : RecoveryCarries takes (Err why) (medium old) (medium new) outlet outlet
+  failed_sync_carries m config promise crashed is_crashed keeps bounds = (
     [],
     refl,
     λ inputs foretold.
@@ -146,7 +147,7 @@ module _ {D O : Type 0} (medium : D → Medium) (takes : Taking O) (old new : D)
 
 -- ---- no worker was found
 
--- what an error keeps that says nothing of what stands there
+-- what an error keeps that says nothing of what is there
 finds_nothing : (m : Module) (config : Settings) (promise : Promise) (inputs : Inputs)
     (old mid : Medium) (why : RecoverFault) → SaysNothing why
     → ((fault : DiskFault) → why ≡ recover.Worker (Disk fault) → old.faults < mid.faults)
@@ -190,7 +191,8 @@ tells_none takes released p outlet =
     record { told = []; others = drop released p.host.lines; are = refl; releases = refl }
 
 -- it has told nothing
-nothing_revived : {O : Type 0} (takes : Taking O) {disk : Image} {m : Module} {config : Settings}
+nothing_revived : {O : Type 0} (takes : Taking O) {disk : DiskImage} {m : Module}
+    {config : Settings}
     {kept : List Kept} {n : ℕ} (stands : StandsFor disk m config kept n) (outlet : O)
     (why : RecoverFault) → SaysNothing why → RevivesInVain takes stands why outlet outlet
 nothing_revived takes stands outlet (recover.Worker (Disk fault)) says =
@@ -202,20 +204,20 @@ nothing_revived takes stands outlet (recover.Replay why) says = absurd says
 nothing_revived takes stands outlet other says = (says, refl)
 
 module _ {D O : Type 0} (medium : D → Medium) (takes : Taking O) (old mid : D) (outlet : O)
-    (settled : IsSettledBy (medium old) (medium mid)) (why : RecoverFault) (wasm : List ℕ)
-    (finds : (image : Image) → (medium mid).shows image
+    (just_synced : IsJustSynced (medium old) (medium mid)) (why : RecoverFault) (wasm : List ℕ)
+    (finds : (image : DiskImage) → (medium mid).shows image
     → FindsWorker (medium old).sectors wasm image (Err why))
-    (marks : (image : Image) → (medium mid).shows image
+    (marks : (image : DiskImage) → (medium mid).shows image
     → MarksDecide {T = Found} image (Err why)) where
   pub unfound_recovers : Recovers medium takes (Err why) old mid outlet outlet
   unfound_recovers = inr (
     mid,
-    settled,
+    just_synced,
     λ image shows. (let decide = marks image shows in record {
       marks = record { only = decide.only; always = decide.always };
       revives = λ m config kept n stands room. nothing_revived takes stands outlet why
           (finds image shows m config (point_of stands) stands.records stands.last
-          (stands_at_its_point image m config kept n stands) room);
+          (is_at_its_savepoint image m config kept n stands) room);
     }),
     λ denies. (reads_none (medium mid), refl),
     tt,
@@ -224,52 +226,53 @@ module _ {D O : Type 0} (medium : D → Medium) (takes : Taking O) (old mid : D)
   pub unfound_carries : ((fault : DiskFault) → why ≡ recover.Worker (Disk fault)
       → (medium old).faults < (medium mid).faults)
       → RecoveryCarries takes (Err why) (medium old) (medium mid) outlet outlet
-  unfound_carries cause m config promise left is_left keeps bounds = (
+  unfound_carries cause m config promise crashed is_crashed keeps bounds = (
     [],
     refl,
     λ inputs foretold.
         finds_vain m config promise inputs (medium old) (medium mid) why or cause none
-        (λ may. nothing_done m config promise inputs why (medium old) (medium mid) settled.leaves
-        keeps bounds may (omega (arith, settled.counted))),
+        (λ may. nothing_done m config promise inputs why (medium old) (medium mid)
+        just_synced.leaves keeps bounds may (omega (arith, just_synced.counted))),
   )
     where
-      shown_of : (image : Image) → (medium mid).may_leave image → (medium mid).shows image
-      shown_of image left = settled_only (medium mid) settled.settled image left
+      shown_of : (image : DiskImage) → (medium mid).crash_images image → (medium mid).shows image
+      shown_of image crashed = synced_only (medium mid) just_synced.all_synced image crashed
 
-      before : (image : Image) → (medium mid).may_leave image → (medium old).may_leave image
-      before image left = stays_left (medium old) (medium mid) settled.stays image left
+      before : (image : DiskImage) → (medium mid).crash_images image
+          → (medium old).crash_images image
+      before image crashed = stays_crashed (medium old) (medium mid) just_synced.stays image crashed
 
       or : IsNoWorkerOr why ⊎ SaysNothing why
       or = ⊎_elim
-          (λ (unopened : IsUnopened promise left).
-          let decide = marks left (shown_of left is_left) in inl (decide.always unopened.1))
-          (λ (holds : HoldsPromise m config promise promise left).
+          (λ (unopened : IsUnopened promise crashed).
+          let decide = marks crashed (shown_of crashed is_crashed) in inl
+          (decide.always unopened.1)) (λ (holds : HoldsPromise m config promise promise crashed).
           let stands = holds.stands in
-          let within = bounds left (before left is_left) m config
+          let within = bounds crashed (before crashed is_crashed) m config
           (take holds.held promise.kept) holds.steps holds.stands in
-          inr (finds left (shown_of left is_left) m config (point_of stands) stands.records
+          inr (finds crashed (shown_of crashed is_crashed) m config (point_of stands) stands.records
           stands.last
-          (stands_at_its_point left m config (take holds.held promise.kept) holds.steps stands)
+          (is_at_its_savepoint crashed m config (take holds.held promise.kept) holds.steps stands)
           within.1))
-          (keeps left (before left is_left))
+          (keeps crashed (before crashed is_crashed))
 
       none : IsNoWorker why → FindsNone promise [] (medium old) (medium mid)
       none denies = record {
         none_told = refl;
-        unopened = λ image left.
-            let decide = marks image (shown_of image left) in
+        unopened = λ image crashed.
+            let decide = marks image (shown_of image crashed) in
             let blank : IsBlank image = decide.only denies in (
-              blank_is_unopened m config promise image (keeps image (before image left)) blank,
+              blank_is_unopened m config promise image (keeps image (before image crashed)) blank,
               blank,
             );
-        bounded = leaves_weaker (medium old) (medium mid) (medium old).may_leave
-            (IsBounded promise.events (medium old).sectors) settled.leaves bounds;
-        counted = omega (arith, settled.counted);
+        bounded = leaves_weaker (medium old) (medium mid) (medium old).crash_images
+            (IsBounded promise.events (medium old).sectors) just_synced.leaves bounds;
+        counted = omega (arith, just_synced.counted);
       }
 
 -- ---- a worker was found
 
--- no error behind the reads says that there is none
+-- no error after the reads says that there is none
 module _ {D O : Type 0} (takes : Taking O) (found : Found) (mid new : D) (outlet outlet' : O) where
   pub stopped_some : (why : RecoverFault) → StopsInVain takes found why mid new outlet outlet'
       → IsNoWorker why → ⊥
@@ -296,14 +299,15 @@ opening_calls found w mid new opens =
     let made = calls.2 in (
       calls.0,
       subst (λ g. AreStores Changes (area_place w.store.geometry g)
-          (rounded_up (length (image (saved_of w.process)))) calls.0) (sym opens.numbered)
+          (rounded_up (length (process_image (saved_of w.process)))) calls.0) (sym opens.numbered)
           (subst (λ (z : Geometry). AreStores Changes (area_place z (found.generation + 1))
-          (rounded_up (length (image (saved_of w.process)))) calls.0) (sym opens.placed) calls.1),
+          (rounded_up (length (process_image (saved_of w.process)))) calls.0)
+          (sym opens.placed) calls.1),
       subst (λ g. new.calls ≡ with_head g calls.0 ++ mid.calls) (sym opens.numbered) made.all,
     )
 
 -- what an image stands for, by which it was found
-module _ {O : Type 0} (takes : Taking O) (found : Found) (wasm : List ℕ) (disk : Image)
+module _ {O : Type 0} (takes : Taking O) (found : Found) (wasm : List ℕ) (disk : DiskImage)
     (m : Module) (config : Settings) (kept : List Kept) (n : ℕ)
     (stands : StandsFor disk m config kept n)
     (at : IsFoundAt wasm (point_of stands) stands.records found) (outlet outlet' : O) where
@@ -368,7 +372,7 @@ module _ {O : Type 0} (takes : Taking O) (found : Found) (wasm : List ℕ) (disk
       subst (λ (e : RecoverFault). RevivesInVain takes stands e outlet outlet') (sym stops.is)
       (stop_revives stops.fault come.0 come.1)
 
-  write_revives : (fit : ImagesFitAreas) (v : ProcessValue) (count : ℕ) (mid new : Medium)
+  write_revives : (fit : ProcessImagesFitAreas) (v : ProcessValue) (count : ℕ) (mid new : Medium)
       → IsReplayed takes found v count outlet outlet' → (fault : StoreFault)
       → ReopeningFails found.geometry (found.generation + 1) v mid new fault
       → RevivesInVain takes stands (recover.Worker (fault_of_store fault)) outlet outlet'
@@ -396,7 +400,7 @@ module _ {O : Type 0} (takes : Taking O) (found : Found) (wasm : List ℕ) (disk
   write_revives fit v count mid new replayed store.Memory cause = absurd cause
   write_revives fit v count mid new replayed store.Failed cause = absurd cause
 
-  pub unwritten_revives : (fit : ImagesFitAreas) (why : RecoverFault) (mid new : Medium)
+  pub unwritten_revives : (fit : ProcessImagesFitAreas) (why : RecoverFault) (mid new : Medium)
       → ReplaysForNothing takes found why mid new outlet outlet'
       → RevivesInVain takes stands why outlet outlet'
   unwritten_revives fit why mid new for =
@@ -405,26 +409,26 @@ module _ {O : Type 0} (takes : Taking O) (found : Found) (wasm : List ℕ) (disk
       (write_revives fit for.process for.count mid new for.replayed none.fault none.fails)
 
 module _ {D O : Type 0} (medium : D → Medium) (takes : Taking O) (old mid new : D)
-    (outlet outlet' : O) (fit : ImagesFitAreas) (settled : IsSettledBy (medium old) (medium mid))
-    (found : Found) (wasm : List ℕ)
-    (finds : (image : Image) → (medium mid).shows image
+    (outlet outlet' : O) (fit : ProcessImagesFitAreas) (just_synced : IsJustSynced
+    (medium old) (medium mid)) (found : Found) (wasm : List ℕ)
+    (finds : (image : DiskImage) → (medium mid).shows image
     → FindsWorker (medium old).sectors wasm image (Ok found))
-    (marks : (image : Image) → (medium mid).shows image
+    (marks : (image : DiskImage) → (medium mid).shows image
     → MarksDecide {T = Found} image (Ok found)) where
-  found_for : (image : Image) → (medium mid).shows image → (m : Module) (config : Settings)
+  found_for : (image : DiskImage) → (medium mid).shows image → (m : Module) (config : Settings)
       (kept : List Kept) (n : ℕ) (stands : StandsFor image m config kept n)
       → total_sectors (geometry_of config (length stands.wasm)) ≤ (medium old).sectors
       → IsFoundAt wasm (point_of stands) stands.records found
   found_for image shows m config kept n stands room =
       finds image shows m config (point_of stands) stands.records stands.last
-      (stands_at_its_point image m config kept n stands) room
+      (is_at_its_savepoint image m config kept n stands) room
 
   pub found_recovers : (result : Result DurableValue RecoverFault)
       → RevivesFound medium takes found result mid new outlet outlet'
       → Recovers medium takes result old new outlet outlet'
   found_recovers (Ok w) revives = inr (
     mid,
-    settled,
+    just_synced,
     λ image shows. (let decide = marks image shows in record {
       marks = record {
         only = λ denies. absurd denies;
@@ -440,7 +444,7 @@ module _ {D O : Type 0} (medium : D → Medium) (takes : Taking O) (old mid new 
   )
   found_recovers (Err why) (inl stops) = inr (
     mid,
-    settled,
+    just_synced,
     λ image shows. (let decide = marks image shows in record {
       marks = record {
         only = λ denies. absurd (stopped_some takes found mid new outlet outlet' why stops denies);
@@ -455,7 +459,7 @@ module _ {D O : Type 0} (medium : D → Medium) (takes : Taking O) (old mid new 
   )
   found_recovers (Err why) (inr for) = inr (
     mid,
-    settled,
+    just_synced,
     λ image shows. (let decide = marks image shows in record {
       marks = record {
         only = λ denies. absurd (unwritten_some found.geometry found.generation for.process why
@@ -473,21 +477,21 @@ module _ {D O : Type 0} (medium : D → Medium) (takes : Taking O) (old mid new 
   )
 
   -- where an image was left
-  there_for : (m : Module) (config : Settings) (promise : Promise) (first : Image)
-      → (medium mid).may_leave first → KeepsPromise m config promise (medium old)
+  there_for : (m : Module) (config : Settings) (promise : Promise) (first : DiskImage)
+      → (medium mid).crash_images first → KeepsPromise m config promise (medium old)
       → KeepsBounds promise.events (medium old)
       → IsThere m config promise found (medium old).sectors (medium mid)
-  there_for m config promise first left keeps bounds =
-      is_there m config promise (medium old) (medium mid) settled keeps found wasm finds marks
-      bounds first left
+  there_for m config promise first crashed keeps bounds =
+      is_there m config promise (medium old) (medium mid) just_synced keeps found wasm finds marks
+      bounds first crashed
 
   pub found_carries : (result : Result DurableValue RecoverFault)
       → RevivesFound medium takes found result mid new outlet outlet'
       → RecoveryCarries takes result (medium old) (medium new) outlet outlet'
-  found_carries (Ok w) revives m config promise left is_left keeps bounds =
+  found_carries (Ok w) revives m config promise crashed is_crashed keeps bounds =
       let opens = revives.1 in
       let writes = opens.writes in
-      let first = writes.some left is_left in
+      let first = writes.some crashed is_crashed in
       let there = there_for m config promise first.0 first.1 keeps bounds in
       let held = there.held in
       let back = is_back takes m config there.wasm there.point found.records.items found
@@ -499,19 +503,19 @@ module _ {D O : Type 0} (medium : D → Medium) (takes : Taking O) (old mid new 
             reopens medium takes m config promise found old mid new there w outlet outlet' back
             opens revives.2 revives.3 inputs
             (is_retold m config promise inputs there.point found.records.items there.last held
-            foretold) settled keeps bounds,
+            foretold) just_synced keeps bounds,
       )
-  found_carries (Err why) (inl stops) m config promise left is_left keeps bounds =
-      let there = there_for m config promise left
-      (subst (λ (d : D). (medium d).may_leave left) stops.same is_left) keeps bounds in
-      stopped_so medium takes m config promise found old mid settled keeps bounds there outlet
+  found_carries (Err why) (inl stops) m config promise crashed is_crashed keeps bounds =
+      let there = there_for m config promise crashed
+      (subst (λ (d : D). (medium d).crash_images crashed) stops.same is_crashed) keeps bounds in
+      stopped_so medium takes m config promise found old mid just_synced keeps bounds there outlet
       outlet' why new stops
-  found_carries (Err why) (inr for) m config promise left is_left keeps bounds =
+  found_carries (Err why) (inr for) m config promise crashed is_crashed keeps bounds =
       let none = for.none in
       let writes = none.writes in
-      let first = writes.some left is_left in
+      let first = writes.some crashed is_crashed in
       let there = there_for m config promise first.0 first.1 keeps bounds in
-      written_so medium takes m config promise found old mid settled keeps bounds there outlet
+      written_so medium takes m config promise found old mid just_synced keeps bounds there outlet
       outlet' new for.process for.count for.replayed fit why for.none
 
 -- ---- a good sync, and then reads
@@ -520,28 +524,28 @@ module _ {D O T : Type 0} (medium : D → Medium) (takes : Taking O) (old sync m
     (syncs : SyncsMedium {T = T} (Ok done) (medium old) (medium sync))
     (reads : OnlyReads (medium sync) (medium mid))
     (few : CallsUpTo (2 * (medium sync).sectors) (medium sync) (medium mid)) (outlet : O) where
-  settled : IsSettledBy (medium old) (medium mid)
-  settled = settled_by (medium old) (medium sync) (medium mid) done syncs reads few
+  just_synced : IsJustSynced (medium old) (medium mid)
+  just_synced = is_just_synced (medium old) (medium sync) (medium mid) done syncs reads few
 
   finds_of : (result : Result Found RecoverFault)
-      → (one : FindsOne (medium sync).sectors (medium mid) result) → (image : Image)
+      → (one : FindsOne (medium sync).sectors (medium mid) result) → (image : DiskImage)
       → (medium mid).shows image → FindsWorker (medium old).sectors one.0 image result
   finds_of result one =
       let passes = syncs.passes in
-      subst (λ n. (image : Image) → (medium mid).shows image → FindsWorker n one.0 image result)
+      subst (λ n. (image : DiskImage) → (medium mid).shows image → FindsWorker n one.0 image result)
       passes.sectors one.1
 
   module _ (why : RecoverFault)
       (one : FindsOne (medium sync).sectors (medium mid) (Err why))
-      (marks : (image : Image) → (medium mid).shows image
+      (marks : (image : DiskImage) → (medium mid).shows image
       → MarksDecide {T = Found} image (Err why)) where
     pub not_found_recovers : Recovers medium takes (Err why) old mid outlet outlet
-    not_found_recovers = unfound_recovers medium takes old mid outlet settled why one.0
+    not_found_recovers = unfound_recovers medium takes old mid outlet just_synced why one.0
         (finds_of (Err why) one) marks
 
     pub not_found_carries : HasSearchCause (medium sync) (medium mid) why
         → RecoveryCarries takes (Err why) (medium old) (medium mid) outlet outlet
-    not_found_carries cause = unfound_carries medium takes old mid outlet settled why one.0
+    not_found_carries cause = unfound_carries medium takes old mid outlet just_synced why one.0
         (finds_of (Err why) one) marks
         (λ fault is. since (medium old).faults (medium sync).faults (medium mid).faults earlier
         (subst (λ (e : RecoverFault). HasSearchCause (medium sync) (medium mid) e) is cause))
@@ -552,15 +556,15 @@ module _ {D O T : Type 0} (medium : D → Medium) (takes : Taking O) (old sync m
         since : (a b c : ℕ) → a ≤ b → b < c → a < c
         since a b c x y = omega (arith, x, y)
 
-  module _ (new : D) (outlet' : O) (fit : ImagesFitAreas) (found : Found)
+  module _ (new : D) (outlet' : O) (fit : ProcessImagesFitAreas) (found : Found)
       (one : FindsOne (medium sync).sectors (medium mid) (Ok found))
-      (marks : (image : Image) → (medium mid).shows image
+      (marks : (image : DiskImage) → (medium mid).shows image
       → MarksDecide {T = Found} image (Ok found)) (result : Result DurableValue RecoverFault)
       (revives : RevivesFound medium takes found result mid new outlet outlet') where
     pub is_found_recovers : Recovers medium takes result old new outlet outlet'
-    is_found_recovers = found_recovers medium takes old mid new outlet outlet' fit settled found
+    is_found_recovers = found_recovers medium takes old mid new outlet outlet' fit just_synced found
         one.0 (finds_of (Ok found) one) marks result revives
 
     pub is_found_carries : RecoveryCarries takes result (medium old) (medium new) outlet outlet'
-    is_found_carries = found_carries medium takes old mid new outlet outlet' fit settled found
+    is_found_carries = found_carries medium takes old mid new outlet outlet' fit just_synced found
         one.0 (finds_of (Ok found) one) marks result revives

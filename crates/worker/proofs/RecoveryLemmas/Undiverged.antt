@@ -46,7 +46,7 @@ lacks_none guest (On c h) given p q to has lacks =
     lacks (closed_numbers to.0.thread to.0.later (stepped given to.0 h p)
     (subst (λ (z : ProcessState). HasLineNumbers z.host) to.2 lines))
 lacks_none guest (Over why c h) given p q to has lacks = lacks
-lacks_none guest (Wants kind) given p q to has lacks = lacks
+lacks_none guest (Wants question) given p q to has lacks = lacks
 lacks_none guest Nowhere given p q to has lacks = lacks
 
 not_beyond : (guest : Guest) (p q : ProcessState) (given : Option Answer) → Moves guest p given q

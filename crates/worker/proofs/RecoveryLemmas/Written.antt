@@ -5,7 +5,7 @@ use Rattle.wasm_syntax.specs.declared.module.Module.{Module}
 use Rattle.wasi_abi.specs.rules.Configs.{Settings}
 use Rattle.process_rules.specs.Processes.{ProcessState, Guest}
 use Rattle.process.specs.rules.Values.{ProcessValue}
-use Rattle.sector_disk.specs.rules.Image.{Image}
+use Rattle.sector_disk.specs.rules.DiskImage.{DiskImage}
 use Rattle.sector_disk.specs.rules.Medium.{Medium, LeavesOnly}
 use Rattle.sector_disk.proofs.Moments.{leaves_weaker}
 use Rattle.disk_layout.specs.rules.Journal.{Record}
@@ -13,12 +13,12 @@ use Rattle.record_replay.specs.rules.Calls.{Taking, Exchange, Tells, all_taken}
 use Rattle.restart_theorem.specs.Lives.{Inputs}
 use Rattle.restart_theorem.specs.Courses.{at_first}
 use Rattle.restart_theorem.specs.Promises.{Promise}
-use Rattle.restart_theorem.specs.Holds.{ImageHolds, KeepsPromise, CarriesPromise, IsBounded}
+use Rattle.restart_theorem.specs.Holds.{DiskImageHolds, KeepsPromise, CarriesPromise, IsBounded}
 use Rattle.restart_theorem.specs.Holds.{KeepsBounds}
-use Rattle.worker_store.specs.laws.Savepoints.{Savepoint, StandsAtPoint}
+use Rattle.worker_store.specs.laws.Savepoints.{Savepoint, IsAtSavepoint}
 use Rattle.worker_store.specs.laws.Commits.{BeginsAtPoint}
 use Rattle.worker_store.specs.laws.Pieces.{IsForetold}
-use Rattle.worker_store.specs.laws.Telling.{AreMade, AddsLines}
+use Rattle.worker_store.specs.laws.Telling.{ArePerformed, AddsLines}
 use Rattle.worker_store.specs.laws.Carried.{count_at, IsHeldAt, PromisesNoMore}
 use Rattle.worker_store.specs.laws.Reopening.{IsReviving}
 use Rattle.worker_store.proofs.LawLemmas.Carrying.{commit_carries, first_on_record, first_up_to}
@@ -27,7 +27,7 @@ use Rattle.worker_store.proofs.LawLemmas.Reopening.{lines_are_retold}
 use Rattle.worker_store.proofs.LawLemmas.TurnLemmas.{told_still_holds, parts_leave_begun}
 use Rattle.worker_store.proofs.LawLemmas.TurnLemmas.{same_no_more}
 use Rattle.worker.specs.declared.found.Found.{Found}
-use Rattle.worker.specs.rules.Recoveries.{IsSettledBy}
+use Rattle.worker.specs.rules.Recoveries.{IsJustSynced}
 use Rattle.worker.proofs.RecoveryLemmas.There.{IsThere, leaves_join}
 use Rattle.worker.proofs.RecoveryLemmas.Lives.{IsBack, whole_way, come_lives}
 use Rattle.worker.proofs.RecoveryLemmas.NextPoint.{HasNext, next_within}
@@ -35,25 +35,27 @@ use Rattle.worker.proofs.DurableLemmas.Bounds.{within_later}
 
 -- ---- what a cut leaves
 
--- up to where the disk is settled and read, while lines are told
+-- up to where the disk is synced and read, while lines are told
 pub first_holds : (m : Module) (config : Settings) (promise promise' : Promise) (line : ℕ)
-    (old mid : Medium) → IsSettledBy old mid → KeepsPromise m config promise old
-    → AddsLines promise line promise' → LeavesOnly old mid (ImageHolds m config promise promise')
-first_holds m config promise promise' line old mid settled keeps adds =
-    leaves_weaker old mid old.may_leave (ImageHolds m config promise promise') settled.leaves
-    (λ image left. told_still_holds m config promise promise' line adds promise image
-    (same_no_more promise) (keeps image left))
+    (old mid : Medium) → IsJustSynced old mid → KeepsPromise m config promise old
+    → AddsLines promise line promise' → LeavesOnly old mid (DiskImageHolds m config
+    promise promise')
+first_holds m config promise promise' line old mid just_synced keeps adds =
+    leaves_weaker old mid old.crash_images (DiskImageHolds m config promise promise')
+    just_synced.leaves (λ image crashed. told_still_holds m config promise promise' line
+    adds promise image (same_no_more promise) (keeps image crashed))
 
-pub first_within : (promise : Promise) (latest : ℕ) (old mid : Medium) → IsSettledBy old mid
+pub first_within : (promise : Promise) (latest : ℕ) (old mid : Medium) → IsJustSynced old mid
     → KeepsBounds promise.events old → promise.events ≤ latest
     → LeavesOnly old mid (IsBounded latest old.sectors)
-first_within promise latest old mid settled bounds more =
-    leaves_weaker old mid old.may_leave (IsBounded latest old.sectors) settled.leaves
-    (λ image left. within_later promise.events latest old.sectors image more (bounds image left))
+first_within promise latest old mid just_synced bounds more =
+    leaves_weaker old mid old.crash_images (IsBounded latest old.sectors) just_synced.leaves
+    (λ image crashed. within_later promise.events latest old.sectors image more
+    (bounds image crashed))
 
 -- ---- lines
 
--- the lines of a recovered process behind those of its savepoint, as exchanges
+-- the lines of a recovered process after those of its savepoint, as exchanges
 abbrev pub retold_lines : {m : Module} {config : Settings} → Savepoint m config → ProcessState
     → List Exchange
 retold_lines point last =
@@ -62,7 +64,7 @@ retold_lines point last =
 -- they are told, and the process may be opened
 pub record IsRetold (m : Module) (config : Settings) (promise : Promise) (inputs : Inputs)
     (point : Savepoint m config) (records : List Record) (last : ProcessState) : Type 0 where
-  pub made : AreMade m config promise (at_first inputs) (length last.host.lines)
+  pub made : ArePerformed m config promise (at_first inputs) (length last.host.lines)
       (retold_lines point last)
   pub lives : IsReviving m config point.reached.guest made.promise' made.stage'
       (count_at point records) (length last.host.lines) last
@@ -107,7 +109,7 @@ module _ {D O : Type 0} (medium : D → Medium) (takes : Taking O) (m : Module)
     (has : HasNext m config promise found (medium old).sectors (medium mid) (medium new) there v)
     (inputs : Inputs)
     (told : IsRetold m config promise inputs there.point found.records.items there.last)
-    (settled : IsSettledBy (medium old) (medium mid)) where
+    (just_synced : IsJustSynced (medium old) (medium mid)) where
   pub heard_all : length there.last.host.lines ≤ told.made.promise'.heard
   heard_all = (let lives = told.lives in lives.heard)
 
@@ -124,9 +126,9 @@ module _ {D O : Type 0} (medium : D → Medium) (takes : Taking O) (m : Module)
       has.next.front told.held has.front) heard_all) has.leaves in
       record {
         at_any_moment = leaves_join (medium old) (medium mid) (medium new)
-            (ImageHolds m config promise told.made.promise')
+            (DiskImageHolds m config promise told.made.promise')
             (first_holds m config promise told.made.promise' (length there.last.host.lines)
-            (medium old) (medium mid) settled keeps told.made.adds) carries.at_any_moment;
+            (medium old) (medium mid) just_synced keeps told.made.adds) carries.at_any_moment;
         in_the_end = carries.in_the_end;
       }
 
@@ -136,12 +138,12 @@ module _ {D O : Type 0} (medium : D → Medium) (takes : Taking O) (m : Module)
   moments_within bounds =
       let adds = told.made.adds in
       let latest : ℕ = told.made.promise'.events + 1 in
-      let P : Image → Type 0 = λ disk.
-      StandsAtPoint there.point found.records.items there.last disk
+      let P : DiskImage → Type 0 = λ disk.
+      IsAtSavepoint there.point found.records.items there.last disk
       ⊎ BeginsAtPoint has.next disk in
       leaves_join (medium old) (medium mid) (medium new)
       (IsBounded (told.made.promise'.events + 1) (medium old).sectors)
-      (first_within promise latest (medium old) (medium mid) settled bounds
+      (first_within promise latest (medium old) (medium mid) just_synced bounds
       (below_next promise.events told.made.promise'.events adds.events))
       (leaves_weaker (medium mid) (medium new) P
       (IsBounded (told.made.promise'.events + 1) (medium old).sectors) has.leaves

@@ -5,9 +5,9 @@ use Rattle.wasm_syntax.specs.declared.module.Module.{Module}
 use Rattle.wasm_semantics.specs.Acceptance.{IsAccepted}
 use Rattle.wasi_abi.specs.rules.Configs.{Settings}
 use Rattle.machine.specs.rules.Offers.{offer}
-use Rattle.state_image.specs.rules.Image.{Saved}
+use Rattle.state_image.specs.rules.ProcessImage.{Saved}
 use Rattle.state_image.specs.rules.Saving.{saved_of}
-use Rattle.sector_disk.specs.rules.Image.{Image}
+use Rattle.sector_disk.specs.rules.DiskImage.{DiskImage}
 use Rattle.sector_disk.specs.rules.Medium.{Medium}
 use Rattle.disk_layout.specs.rules.Places.{geometry_of, total_sectors}
 use Rattle.disk_layout.specs.rules.Unsynced.{most_unsynced}
@@ -50,12 +50,12 @@ pub data CallsInOrder {D S O : Type 0} (medium : D → Medium) (gives : Giving S
         → CallsInOrder medium gives takes acts w disk source outlet (Ok acts) disk source outlet
     sliced : {fuel : ℕ} {acts : List Act} {w w' : DurableValue} {disk disk' last : D}
         {source source' source_last : S} {outlet outlet' outlet_last : O}
-        {left : Result (List Act) RecoverFault} (said : Now)
+        {undone : Result (List Act) RecoverFault} (said : Now)
         → SliceCarries gives takes w fuel (Ok said) w' (medium disk) (medium disk') source source'
         outlet outlet'
-        → CallsInOrder medium gives takes acts w' disk' source' outlet' left last source_last
+        → CallsInOrder medium gives takes acts w' disk' source' outlet' undone last source_last
         outlet_last
-        → CallsInOrder medium gives takes (Slice fuel ∷ acts) w disk source outlet left last
+        → CallsInOrder medium gives takes (Slice fuel ∷ acts) w disk source outlet undone last
         source_last
         outlet_last
     slice_failed : {fuel : ℕ} {acts : List Act} {w w' : DurableValue} {why : WorkFault}
@@ -65,11 +65,11 @@ pub data CallsInOrder {D S O : Type 0} (medium : D → Medium) (gives : Giving S
         → CallsInOrder medium gives takes (Slice fuel ∷ acts) w disk source outlet
         (Err (recover.Worker why)) last source' outlet'
     saved : {acts : List Act} {w w' : DurableValue} {disk disk' last : D} {source source_last : S}
-        {outlet outlet_last : O} {left : Result (List Act) RecoverFault}
+        {outlet outlet_last : O} {undone : Result (List Act) RecoverFault}
         → CheckpointCarries w (Ok tt) w' (medium disk) (medium disk')
-        → CallsInOrder medium gives takes acts w' disk' source outlet left last source_last
+        → CallsInOrder medium gives takes acts w' disk' source outlet undone last source_last
         outlet_last
-        → CallsInOrder medium gives takes (Checkpoint ∷ acts) w disk source outlet left last
+        → CallsInOrder medium gives takes (Checkpoint ∷ acts) w disk source outlet undone last
         source_last
         outlet_last
     saving_failed : {acts : List Act} {w w' : DurableValue} {why : WorkFault} {disk last : D}
@@ -79,11 +79,11 @@ pub data CallsInOrder {D S O : Type 0} (medium : D → Medium) (gives : Giving S
         → CallsInOrder medium gives takes (Checkpoint ∷ acts) w disk source outlet
         (Err (recover.Worker why)) last source outlet
     was_upgraded : {acts : List Act} {w w' : DurableValue} {disk disk' last : D}
-        {source source_last : S} {outlet outlet_last : O} {left : Result (List Act) RecoverFault}
+        {source source_last : S} {outlet outlet_last : O} {undone : Result (List Act) RecoverFault}
         → UpgradeCarries w (Ok tt) w' (medium disk) (medium disk')
-        → CallsInOrder medium gives takes acts w' disk' source outlet left last source_last
+        → CallsInOrder medium gives takes acts w' disk' source outlet undone last source_last
         outlet_last
-        → CallsInOrder medium gives takes (Upgrade ∷ acts) w disk source outlet left last
+        → CallsInOrder medium gives takes (Upgrade ∷ acts) w disk source outlet undone last
         source_last
         outlet_last
     upgrade_failed : {acts : List Act} {w w' : DurableValue} {why : WorkFault} {disk last : D}
@@ -99,17 +99,17 @@ opened_by (Ok w) = Ok w
 opened_by (Err why) = Err (recover.Worker why)
 
 -- A life begins by a recovery. Where that says that there is no worker, one is created of these
--- bytes. The disk is one of the model: behind the recovery there is an image that a cut may leave.
+-- bytes. The disk is one of the model: after the recovery there is an image that a cut may leave.
 pub data BeginsLife {D O : Type 0} (medium : D → Medium) (takes : Taking O) (bytes : List ℕ)
     (config : Settings) : D → O → Beginning → Result DurableValue RecoverFault → D → O → Type 0
   where
     recovered : {result : Result DurableValue RecoverFault} {found disk : D} {outlet outlet' : O}
-        (image : Image) → (medium disk).may_leave image → (SaysNoWorker result → ⊥)
+        (image : DiskImage) → (medium disk).crash_images image → (SaysNoWorker result → ⊥)
         → RecoveryCarries takes result (medium found) (medium disk) outlet outlet'
         → BeginsLife medium takes bytes config found outlet recovers result disk outlet'
     created : {found mid disk : D} {outlet outlet' : O} (none : Result DurableValue RecoverFault)
-        (result : Result DurableValue WorkFault) (image : Image)
-        → (medium mid).may_leave image → SaysNoWorker none
+        (result : Result DurableValue WorkFault) (image : DiskImage)
+        → (medium mid).crash_images image → SaysNoWorker none
         → Recovers medium takes none found mid outlet outlet'
         → RecoveryCarries takes none (medium found) (medium mid) outlet outlet'
         → CreationKeeps bytes config result (medium mid) (medium disk)
@@ -122,11 +122,11 @@ pub data IsOneLife {D S O : Type 0} (medium : D → Medium) (gives : Giving S) (
     (bytes : List ℕ) (config : Settings) (acts : List Act) : D → S → O → Beginning
     → Option DurableValue → Result (List Act) RecoverFault → D → S → O → Type 0 where
   opened : {found disk last : D} {source source' : S} {outlet outlet' outlet_last : O}
-      {begins : Beginning} {w : DurableValue} {left : Result (List Act) RecoverFault}
+      {begins : Beginning} {w : DurableValue} {undone : Result (List Act) RecoverFault}
       → BeginsLife medium takes bytes config found outlet begins (Ok w) disk outlet'
-      → CallsInOrder medium gives takes acts w disk source outlet' left last source' outlet_last
-      → IsOneLife medium gives takes bytes config acts found source outlet begins (Some w) left last
-      source' outlet_last
+      → CallsInOrder medium gives takes acts w disk source outlet' undone last source' outlet_last
+      → IsOneLife medium gives takes bytes config acts found source outlet begins
+      (Some w) undone last source' outlet_last
   unopened : {found last : D} {source : S} {outlet outlet' : O} {begins : Beginning}
       {why : RecoverFault}
       → BeginsLife medium takes bytes config found outlet begins (Err why) last outlet'
@@ -135,9 +135,9 @@ pub data IsOneLife {D S O : Type 0} (medium : D → Medium) (gives : Giving S) (
       source outlet'
 
 -- nothing is left to be done, or an error ended it
-abbrev pub left_undone : Result (Unit {0}) RecoverFault → Result (List Act) RecoverFault
-left_undone (Ok done) = Ok []
-left_undone (Err why) = Err why
+abbrev pub undone_acts : Result (Unit {0}) RecoverFault → Result (List Act) RecoverFault
+undone_acts (Ok done) = Ok []
+undone_acts (Err why) = Err why
 
 -- ---- what was put into it
 
@@ -149,7 +149,7 @@ IsLifeOver inputs calls _ = Unit {0}
 -- the same disk later
 pub record IsLater (old new : Medium) : Type 0 where
   pub sectors : new.sectors ≡ old.sectors
-  pub told : new.told ≡ old.told
+  pub fault_plan : new.fault_plan ≡ old.fault_plan
   pub room : new.room ≡ old.room
   pub faults : old.faults ≤ new.faults
 
@@ -157,14 +157,14 @@ pub record IsLater (old new : Medium) : Type 0 where
 -- has room for the worker of these bytes. So many of its calls were begun, and it has failed only
 -- where one of them was to fail or to stop.
 pub record CameTrue (bytes : List ℕ) (config : Settings) (inputs : Inputs)
-    (exchanges : List Exchange) (left : Result (List Act) RecoverFault) (calls : ℕ)
+    (exchanges : List Exchange) (undone : Result (List Act) RecoverFault) (calls : ℕ)
     (found last : Medium) : Type 0 where
   pub foretold : Foretell inputs.says inputs.takes exchanges
   pub sectors : total_sectors (geometry_of config (length bytes)) ≤ found.sectors
   pub room : most_unsynced (geometry_of config (length bytes)) ≤ found.room
   pub faults : IsLater found last → found.faults < last.faults
       → HasDiskFault inputs.fails OfDisk calls ⊎ HasStopped inputs.stop calls
-  pub over : IsLifeOver inputs calls left
+  pub over : IsLifeOver inputs calls undone
 
 -- ---- what is read off the life
 
@@ -173,7 +173,7 @@ abbrev pub opened_in : List Event → Option Saved
 opened_in [] = None
 opened_in (Opened held shown ∷ events) = Some shown
 opened_in (Told r is_taken ∷ events) = opened_in events
-opened_in (Asked steps kind said fits ∷ events) = opened_in events
+opened_in (Asked steps question said fits ∷ events) = opened_in events
 opened_in (Ended act reply held shown ∷ events) = opened_in events
 
 abbrev pub shown_first : Option DurableValue → Option Saved
@@ -195,40 +195,40 @@ IsCauseOf other cause = LayerWantsMemory other × (cause ≡ OfMemory)
 
 -- All was done, or the stop came, or an error ended it.
 abbrev pub EndsBy : Inputs → ℕ → Result (List Act) RecoverFault → End → Type 0
-EndsBy inputs calls left Finished = (left ≡ Ok []) × HasNotStopped inputs.stop calls
-EndsBy inputs calls left Stopped = HasStopped inputs.stop calls
-EndsBy inputs calls left (Failed cause) = (why : RecoverFault) × (left ≡ Err why)
+EndsBy inputs calls undone Finished = (undone ≡ Ok []) × HasNotStopped inputs.stop calls
+EndsBy inputs calls undone Stopped = HasStopped inputs.stop calls
+EndsBy inputs calls undone (Failed cause) = (why : RecoverFault) × (undone ≡ Err why)
     × IsCauseOf why cause × HasNotStopped inputs.stop calls
 
 -- the life that these calls make
 pub record IsLifeOf (inputs : Inputs) (begins : Beginning) (exchanges : List Exchange)
-    (worker : Option DurableValue) (left : Result (List Act) RecoverFault) (calls : ℕ)
+    (worker : Option DurableValue) (undone : Result (List Act) RecoverFault) (calls : ℕ)
     (life : Life) : Type 0 where
   pub begins_so : life.begins ≡ begins
   pub told : told_in life.events ≡ released_in exchanges
   pub shown : opened_in life.events ≡ shown_first worker
   pub counted : life.calls ≡ calls
-  pub ends : EndsBy inputs calls left life.ends
+  pub ends : EndsBy inputs calls undone life.ends
 
 -- ---- the law
 
 -- Take the calls of one life, each as its clause says, on a disk that keeps what was promised. They
 -- exchange something with source and outlet. Whatever was put in that this makes true, they are a
 -- life that goes on from all that was promised. It leaves a disk that keeps what is promised then.
--- Few calls of the disk are begun before each of its events, and behind the last one.
+-- Few calls of the disk are begun before each of its events, and after the last one.
 abbrev pub CallsMakeLives : {D S O : Type 0} → (D → Medium) → Giving S → Taking O → Type 0
 CallsMakeLives {D} {S} {O} medium gives takes =
     (m : Module) (config : Settings) (bytes : List ℕ) (so_far : Promise) (acts : List Act)
     (found last : D) (source source' : S) (outlet outlet' : O) (begins : Beginning)
-    (worker : Option DurableValue) (left : Result (List Act) RecoverFault)
+    (worker : Option DurableValue) (undone : Result (List Act) RecoverFault)
     → IsAccepted offer config.pages bytes m
-    → IsOneLife medium gives takes bytes config acts found source outlet begins worker left last
+    → IsOneLife medium gives takes bytes config acts found source outlet begins worker undone last
     source' outlet'
     → KeepsPromise m config so_far (medium found) → KeepsBounds so_far.events (medium found)
     → (exchanges : List Exchange) × Exchanges gives takes source outlet exchanges source' outlet'
     × ((inputs : Inputs) (calls : ℕ) → inputs.acts ≡ acts
-    → CameTrue bytes config inputs exchanges left calls (medium found) (medium last)
-    → (life : Life) × IsLifeOf inputs begins exchanges worker left calls life
+    → CameTrue bytes config inputs exchanges undone calls (medium found) (medium last)
+    → (life : Life) × IsLifeOf inputs begins exchanges worker undone calls life
     × IsLivedOn m config so_far inputs life (medium found) (medium last)
     × IsLater (medium found) (medium last)
     × CallsForEvents (length life.events + 1) (medium found) (medium last))

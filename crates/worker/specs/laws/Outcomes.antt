@@ -16,8 +16,8 @@ use Rattle.worker.specs.laws.OneLife.{IsOneLife, opened, unopened}
 -- what was answered before them.
 abbrev pub outcome_after : {D S O : Type 0} {medium : D → Medium} {gives : Giving S}
     {takes : Taking O} {acts : List Act} {w : DurableValue} {disk last : D} {source source' : S}
-    {outlet outlet' : O} {left : Result (List Act) RecoverFault} → Now
-    → CallsInOrder medium gives takes acts w disk source outlet left last source' outlet' → Now
+    {outlet outlet' : O} {undone : Result (List Act) RecoverFault} → Now
+    → CallsInOrder medium gives takes acts w disk source outlet undone last source' outlet' → Now
 outcome_after before no_more = before
 outcome_after before (sliced said carries others) = outcome_after said others
 outcome_after before (slice_failed carries) = before
@@ -30,8 +30,8 @@ outcome_after before (upgrade_failed carries cause) = before
 abbrev pub life_outcome : {D S O : Type 0} {medium : D → Medium} {gives : Giving S}
     {takes : Taking O} {bytes : List ℕ} {config : Settings} {acts : List Act} {found last : D}
     {source source' : S} {outlet outlet' : O} {begins : Beginning} {worker : Option DurableValue}
-    {left : Result (List Act) RecoverFault}
-    → IsOneLife medium gives takes bytes config acts found source outlet begins worker left last
+    {undone : Result (List Act) RecoverFault}
+    → IsOneLife medium gives takes bytes config acts found source outlet begins worker undone last
     source' outlet' → Now
 life_outcome (opened begun calls) = outcome_after Spent calls
 life_outcome (unopened begun) = Spent

@@ -5,7 +5,7 @@ use Rattle.wasm_semantics.specs.Acceptance.{IsAccepted}
 use Rattle.wasi_abi.specs.rules.Configs.{Settings}
 use Rattle.machine.specs.rules.Offers.{offer}
 use Rattle.process.specs.rules.Values.{ending_of}
-use Rattle.state_image.specs.rules.Image.{Saved}
+use Rattle.state_image.specs.rules.ProcessImage.{Saved}
 use Rattle.sector_disk.specs.rules.Medium.{Medium}
 use Rattle.disk_layout.specs.rules.Places.{geometry_of, total_sectors}
 use Rattle.disk_layout.specs.rules.Unsynced.{most_unsynced}
@@ -35,13 +35,13 @@ reply_of (now.Ended how) = Over (ending_of how)
 abbrev pub reply_after : Reply → List Event → Reply
 reply_after before [] = before
 reply_after before (Told r is_taken ∷ events) = reply_after before events
-reply_after before (Asked steps kind said fits ∷ events) = reply_after before events
+reply_after before (Asked steps question said fits ∷ events) = reply_after before events
 reply_after before (Opened held shown ∷ events) = reply_after before events
 reply_after before (Ended (Slice fuel) reply held shown ∷ events) = reply_after reply events
 reply_after before (Ended Checkpoint reply held shown ∷ events) = reply_after before events
 reply_after before (Ended Upgrade reply held shown ∷ events) = reply_after before events
 
--- The last slice among these events ends so, behind others. It keeps what was promised then: the
+-- The last slice among these events ends so, after others. It keeps what was promised then: the
 -- process that it shows is one that all kept answers lead to.
 pub record LastSliceEnds (m : Module) (config : Settings) (so_far : Promise) (inputs : Inputs)
     (events : List Event) (reply : Reply) : Type 0 where
@@ -74,10 +74,10 @@ abbrev pub LivesEndAsSaid : {D S O : Type 0} → (D → Medium) → Giving S →
 LivesEndAsSaid {D} {S} {O} medium gives takes =
     (m : Module) (config : Settings) (bytes : List ℕ) (so_far : Promise) (acts : List Act)
     (found last : D) (source source' : S) (outlet outlet' : O) (begins : Beginning)
-    (worker : Option DurableValue) (left : Result (List Act) RecoverFault)
+    (worker : Option DurableValue) (undone : Result (List Act) RecoverFault)
     → IsAccepted offer config.pages bytes m
-    → (one : IsOneLife medium gives takes bytes config acts found source outlet begins worker left
-    last source' outlet') → left ≡ Ok []
+    → (one : IsOneLife medium gives takes bytes config acts found source outlet begins worker undone
+    last source' outlet') → undone ≡ Ok []
     → total_sectors (geometry_of config (length bytes)) ≤ (medium found).sectors
     → most_unsynced (geometry_of config (length bytes)) ≤ (medium found).room
     → KeepsPromise m config so_far (medium found) → KeepsBounds so_far.events (medium found)

@@ -39,7 +39,7 @@ uncut acts exchanges = record {
 -- them, or the life ended by one that it refused. It ends as its last call says.
 pub record GoesOnUncut {D S O : Type 0} (medium : D → Medium) (gives : Giving S) (takes : Taking O)
     (m : Module) (config : Settings) (so_far : Promise) (acts : List Act) (begins : Beginning)
-    (left : Result (List Act) RecoverFault) (found last : D) (source source' : S)
+    (undone : Result (List Act) RecoverFault) (found last : D) (source source' : S)
     (outlet outlet' : O) : Type 0 where
   pub exchanges : List Exchange
   pub exchanged : Exchanges gives takes source outlet exchanges source' outlet'
@@ -48,7 +48,7 @@ pub record GoesOnUncut {D S O : Type 0} (medium : D → Medium) (gives : Giving 
   pub lived : IsLived m config so_far (uncut acts exchanges) life
   pub told : told_in life.events ≡ released_in exchanges
   pub heard : AreTrue (taken_in exchanges) ⊎ (life.ends ≡ Failed OfOutlet)
-  pub ends : EndsBy (uncut acts exchanges) life.calls left life.ends
+  pub ends : EndsBy (uncut acts exchanges) life.calls undone life.ends
   pub keeps : KeepsPromise m config (promised_by so_far life) (medium last)
   pub bounded : KeepsBounds (promised_by so_far life).events (medium last)
 
@@ -57,13 +57,13 @@ abbrev pub LivesGoOnUncut : {D S O : Type 0} → (D → Medium) → Giving S →
 LivesGoOnUncut {D} {S} {O} medium gives takes =
     (m : Module) (config : Settings) (bytes : List ℕ) (so_far : Promise) (acts : List Act)
     (found last : D) (source source' : S) (outlet outlet' : O) (begins : Beginning)
-    (worker : Option DurableValue) (left : Result (List Act) RecoverFault)
+    (worker : Option DurableValue) (undone : Result (List Act) RecoverFault)
     → IsAccepted offer config.pages bytes m
-    → IsOneLife medium gives takes bytes config acts found source outlet begins worker left last
+    → IsOneLife medium gives takes bytes config acts found source outlet begins worker undone last
     source' outlet'
-    → IsLifeOver (uncut acts []) 1 left
+    → IsLifeOver (uncut acts []) 1 undone
     → total_sectors (geometry_of config (length bytes)) ≤ (medium found).sectors
     → most_unsynced (geometry_of config (length bytes)) ≤ (medium found).room
     → KeepsPromise m config so_far (medium found) → KeepsBounds so_far.events (medium found)
-    → GoesOnUncut medium gives takes m config so_far acts begins left found last source source'
+    → GoesOnUncut medium gives takes m config so_far acts begins undone found last source source'
     outlet outlet'

@@ -4,11 +4,11 @@ use Rattle.wasm_syntax.specs.declared.module.Module.{Module}
 use Rattle.wasi_abi.specs.declared.numbers.TheConstants.{NUMBERS_END}
 use Rattle.wasi_abi.specs.rules.Configs.{Settings}
 use Rattle.process_rules.specs.Processes.{ProcessState, Guest}
-use Rattle.state_image.specs.rules.Image.{image}
+use Rattle.state_image.specs.rules.ProcessImage.{process_image}
 use Rattle.state_image.specs.rules.Saving.{saved_of}
 use Rattle.sector_disk.specs.declared.disk_call.DiskCall.{DiskCall}
 use Rattle.sector_disk.specs.declared.sector.TheConstants.{SECTOR_SIZE}
-use Rattle.sector_disk.specs.rules.Medium.{Medium, MakesCalls, spare}
+use Rattle.sector_disk.specs.rules.Medium.{Medium, PerformsCalls, spare}
 use Rattle.disk_layout.specs.rules.Places.{area_place, rounded_up}
 use Rattle.journal.specs.rules.Packed.{sectors_for}
 use Rattle.journal.specs.rules.Steps.{barrier_calls}
@@ -36,8 +36,8 @@ pub record IsSavedIn (old new : DurableValue) : Type 0 where
 abbrev pub CheckpointCalls : {T E : Type 0} → DurableValue → Result T E → Medium → Medium → Type 0
 CheckpointCalls w result old new = (stores : List DiskCall)
     × AreStores Changes (area_place w.store.geometry (w.store.journal.generation + 1))
-    (rounded_up (length (image (saved_of w.process)))) stores
-    × MakesCalls (with_head (w.store.journal.generation + 1) stores
+    (rounded_up (length (process_image (saved_of w.process)))) stores
+    × PerformsCalls (with_head (w.store.journal.generation + 1) stores
     ++ barrier_calls w.store.geometry w.store.journal) result old new
 
 -- When each error comes of a worker that is open. The number of the generation is at its end, or
@@ -56,13 +56,13 @@ CheckpointFails w old new fault =
     (p : ProcessState) → IsOpenOn m config guest promise stage p w old
     → IsCheckpointFault w old new fault
 
--- When each error comes, whatever stands on the disk. Then the journal may also have too few
--- sectors for the pending records, and the area for the image. The disk may have taken writes since
--- its last good sync. The worker says that it has failed only where it had failed before.
+-- When each error comes, whatever is on the disk. Then the journal may also have too few sectors
+-- for the pending records, and the area for the image. The disk may have taken writes since its
+-- last good sync. The worker says that it has failed only where it had failed before.
 abbrev pub HasCheckpointCause : DurableValue → Medium → Medium → WorkFault → Type 0
 HasCheckpointCause w old new (Work slice.Failed) = w.has_failed ≡ true
 HasCheckpointCause w old new (Store store.TooBig) = (NUMBERS_END ≤ w.store.journal.generation + 1)
-    ⊎ (SECTOR_SIZE * w.store.geometry.area_sectors < length (image (saved_of w.process)))
+    ⊎ (SECTOR_SIZE * w.store.geometry.area_sectors < length (process_image (saved_of w.process)))
 HasCheckpointCause w old new (Store store.Full) =
     w.store.geometry.journal_sectors - w.store.journal.used
     < sectors_for (length w.store.journal.kept)

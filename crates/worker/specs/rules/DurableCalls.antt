@@ -2,7 +2,7 @@
 use Rattle.std.specs.Prelude.{◌≡◌, ◌⊎◌, ℕ, ◌+◌, ◌<◌, List, [], ◌∷◌, ◌++◌, length, None, Result}
 use Rattle.std.specs.Prelude.{Ok, Err}
 use Rattle.wasm_syntax.specs.declared.module.Module.{Module}
-use Rattle.wasi_abi.specs.declared.answer.Kind.{Kind}
+use Rattle.wasi_abi.specs.declared.answer.Question.{Question}
 use Rattle.wasi_abi.specs.rules.Configs.{Settings}
 use Rattle.process_rules.specs.Processes.{ProcessState, Guest}
 use Rattle.process_rules.specs.Runs.{Wants, next_of}
@@ -43,7 +43,7 @@ ComesOf (Work slice.Source) cause = (cause ≡ OfSource) ⊎ (cause ≡ OfAnswer
 ComesOf (Work slice.Outlet) cause = cause ≡ OfOutlet
 ComesOf (Work slice.Memory) cause = cause ≡ OfMemory
 ComesOf (Work (slice.Refused refusal.StepsSpent)) cause = cause ≡ OfBounds
-ComesOf (Work (slice.Refused (refusal.Front why))) cause = ⊥
+ComesOf (Work (slice.Refused (refusal.Module why))) cause = ⊥
 ComesOf (Work slice.Failed) cause = ⊥
 ComesOf (Disk fault) cause = cause ≡ OfDisk
 ComesOf (Store store.TooBig) cause = cause ≡ OfBounds
@@ -78,7 +78,8 @@ TakesTooFew config disk =
 pub record NeedsMemory (guest : Guest) (v : ProcessValue) : Type 0 where
   pub process : ProcessState
   pub shows : ShowsProcess v guest process
-  pub needs : CallsHost guest process ⊎ ((kind : Kind) × (next_of guest process None ≡ Wants kind))
+  pub needs : CallsHost guest process ⊎ ((question : Question)
+      × (next_of guest process None ≡ Wants question))
 
 -- Why a call fails after which this process is shown. The disk has failed since, or takes too few
 -- writes. Memory was wanted for the next step, or to keep its answer.
@@ -124,7 +125,7 @@ pub record CallCarries (m : Module) (config : Settings) (guest : Guest) (promise
       (stage_after stage (call_events events act reply held new)) q new disk'
 
 -- A slice has these exchanges with its source and its outlet. Whatever was promised of the worker
--- that is open on this disk, and wherever a life stands whose source and outlet will say what they
+-- that is open on this disk, and wherever a life is whose source and outlet will say what they
 -- now said, it keeps it.
 abbrev pub SliceCarries : {S O : Type 0} → Giving S → Taking O → DurableValue → ℕ
     → Result Now WorkFault → DurableValue → Medium → Medium → S → S → O → O → Type 0

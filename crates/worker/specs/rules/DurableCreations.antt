@@ -7,10 +7,10 @@ use Rattle.wasi_abi.specs.rules.Configs.{Settings}
 use Rattle.machine.specs.rules.Offers.{offer}
 use Rattle.process_rules.specs.Processes.{ProcessState, Guest}
 use Rattle.process.specs.rules.Values.{HasStarted}
-use Rattle.state_image.specs.rules.Image.{image}
+use Rattle.state_image.specs.rules.ProcessImage.{process_image}
 use Rattle.state_image.specs.rules.Saving.{saved_of}
 use Rattle.sector_disk.specs.declared.sector.TheConstants.{SECTOR_SIZE}
-use Rattle.sector_disk.specs.rules.Image.{Image}
+use Rattle.sector_disk.specs.rules.DiskImage.{DiskImage}
 use Rattle.sector_disk.specs.rules.Medium.{Medium, BeginsCalls, CallsUpTo, spare}
 use Rattle.disk_layout.specs.declared.fault.LayoutFault.TheVariants.{TooSmall}
 use Rattle.disk_layout.specs.declared.geometry.Geometry.{Geometry}
@@ -38,7 +38,7 @@ places_for config bytes = geometry_of config (length bytes)
 -- ---- without a promise
 
 -- The bytes spell an accepted module, and the worker is at its start, in generation 1. These very
--- bytes and this configuration stand on the disk, which has all sectors of the worker.
+-- bytes and this configuration are on the disk, which has all sectors of the worker.
 pub record IsCreatedOn (bytes : List ℕ) (config : Settings) (w : DurableValue) (disk : Medium)
     : Type 0 where
   pub spelled : Module
@@ -49,7 +49,7 @@ pub record IsCreatedOn (bytes : List ℕ) (config : Settings) (w : DurableValue)
   pub unfailed : w.has_failed ≡ false
   pub abreast : w.is_abreast ≡ true
   pub geometry : w.store.geometry ≡ places_for config bytes
-  pub contents : (image : Image) → disk.may_leave image → HasWorker config bytes image
+  pub contents : (image : DiskImage) → disk.crash_images image → HasWorker config bytes image
   pub room : total_sectors w.store.geometry ≤ disk.sectors
 
 -- When each error comes. The module isn't accepted, or the host has no room. Or the disk has too
@@ -73,7 +73,8 @@ IsRefusedAtFirst other = ⊥
 abbrev pub CreationCalls : List ℕ → Settings → Result DurableValue WorkFault → Medium → Medium
     → Type 0
 CreationCalls bytes config (Ok w) old new = new.calls
-    ≡ creation_calls (places_for config bytes) (length (image (saved_of w.process))) ++ old.calls
+    ≡ creation_calls (places_for config bytes) (length (process_image
+    (saved_of w.process))) ++ old.calls
 CreationCalls bytes config (Err why) old new = (count : ℕ)
     × (count ≤ SECTOR_SIZE * (places_for config bytes).area_sectors)
     × BeginsCalls (creation_calls (places_for config bytes) count) old new

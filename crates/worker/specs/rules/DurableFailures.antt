@@ -1,8 +1,8 @@
 -- Why a slice of a worker on its disk fails, and what it has done until then (this project's own).
 -- It is said in the words of a worker that has no disk.
 use Rattle.std.specs.Prelude.{◌≡◌, ◌⊎◌, ℕ, ◌<◌, ◌≤◌, List, Option, Some, None, true}
-use Rattle.wasi_abi.specs.declared.answer.Kind.{Kind}
-use Rattle.wasi_calls_rules.specs.Hosts.{Line}
+use Rattle.wasi_abi.specs.declared.answer.Question.{Question}
+use Rattle.wasi_calls_rules.specs.WasiStates.{Line}
 use Rattle.process_rules.specs.Processes.{ProcessState, Guest}
 use Rattle.process_rules.specs.Runs.{Wants, next_of}
 use Rattle.process.specs.rules.Values.{ProcessValue, ShowsProcess}
@@ -33,13 +33,13 @@ StopsAtStore guest p exchanges steps q = StopsAtDisk guest p exchanges steps q
 -- It stops where an answer is to be asked for.
 abbrev pub StopsAtQuestion : Guest → ProcessState → ℕ → List Exchange → ℕ → ProcessState → Type 0
 StopsAtQuestion guest p fuel exchanges steps q = (steps < fuel) × (q.ended ≡ None)
-    × (kind : Kind) × (next_of guest q None ≡ Wants kind)
+    × (question : Question) × (next_of guest q None ≡ Wants question)
     × LeadsUpTo guest p exchanges steps q None
 
 -- Memory is wanted for the next step, for which some fuel is left, or to keep its answer.
 abbrev pub StopsForMemory : Guest → ProcessState → ℕ → List Exchange → ℕ → ProcessState → Type 0
 StopsForMemory guest p fuel exchanges steps q = (steps < fuel) × (q.ended ≡ None)
-    × (CallsHost guest q ⊎ ((kind : Kind) × (next_of guest q None ≡ Wants kind)))
+    × (CallsHost guest q ⊎ ((question : Question) × (next_of guest q None ≡ Wants question)))
     × (given : Option Answer) × LeadsUpTo guest p exchanges steps q given
 
 -- What failed: memory; the disk; the number of the next generation; the store, which may have
@@ -76,9 +76,9 @@ abbrev pub LacksRoom : Geometry → Medium → Type 0
 LacksRoom places disk = (spare disk < places.journal_sectors)
     ⊎ (spare disk < places.area_sectors) ⊎ (disk.room ≡ 0)
 
--- When an error of a slice comes, whatever stands on the disk. A fault of the disk comes only where
--- the disk has failed since, or lacks room. A worker says that it has failed only where it had
--- failed before. No other fault of its store comes but those of its journal and its next image.
+-- When an error of a slice comes, whatever is on the disk. A fault of the disk comes only where the
+-- disk has failed since, or lacks room. A worker says that it has failed only where it had failed
+-- before. No other fault of its store comes but those of its journal and its next image.
 abbrev pub HasSliceCause : DurableValue → Medium → Medium → WorkFault → Type 0
 HasSliceCause w old new (Disk fault) =
     LacksRoom w.store.geometry old ⊎ (old.faults < new.faults)

@@ -3,7 +3,7 @@ use Rattle.std.specs.Prelude.{◌≡◌, ℕ, Bool, false, []}
 use Rattle.process.specs.rules.Values.{ProcessValue, waiting_in}
 use Rattle.worker_store.specs.declared.store.WorkerStore.{WorkerStore}
 use Rattle.worker_store.specs.rules.Stores.{IsUnfailed}
-use Rattle.worker.specs.declared.running.Running.{Running}
+use Rattle.worker.specs.declared.running_worker.RunningWorker.{RunningWorker}
 use Rattle.ephemeral_worker.specs.rules.Values.{WorkerValue}
 
 -- Its process, its store, whether the process has come to the last line that was ever told, how
@@ -16,7 +16,7 @@ pub record DurableValue : Type 0 where
   pub has_failed : Bool
 
 -- of its parts
-abbrev pub durable_of : Running → ℕ → Bool → DurableValue
+abbrev pub durable_of : RunningWorker → ℕ → Bool → DurableValue
 durable_of running replayed has_failed = record {
   process = running.process;
   store = running.store;

@@ -19,7 +19,7 @@ use Rattle.worker_store.specs.rules.Stores.{IsStoreOf}
 use Rattle.worker.specs.rules.DurableValues.{DurableValue}
 
 -- The disk of a worker, and its store, which hold what is promised. The answers of a savepoint, of
--- the records behind it and of those that are pending are all kept answers. They lead to p without
+-- the records after it and of those that are pending are all kept answers. They lead to p without
 -- another one. The answers behind the guest's syncs up to this step are among those on the disk.
 -- The savepoint's generation is at most this one.
 pub record IsOnDisk (m : Module) (config : Settings) (guest : Guest) (promise : Promise)
@@ -47,7 +47,7 @@ pub record IsAbreast (promise : Promise) (stage : Stage) (p : ProcessState) (say
 
 -- A worker between two calls, none of which has failed. It shows the process that all kept answers
 -- lead to. All its lines were told in this life, an outlet has taken each, and none waits. Each
--- sync of the guest that is promised is behind it. So many generations have an event of their own.
+-- sync of the guest that is promised is after it. So many generations have an event of their own.
 -- The configuration's texts are bytes.
 pub record IsOpenOn (m : Module) (config : Settings) (guest : Guest) (promise : Promise)
     (stage : Stage) (p : ProcessState) (w : DurableValue) (disk : Medium) : Type 0 where

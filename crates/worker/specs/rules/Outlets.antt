@@ -30,8 +30,8 @@ pub record RefusesLast {O : Type 0} (takes : Taking O) (outlet outlet' : O) : Ty
 
 -- It took each, and this isn't so. Or it refused the last one, and this is so.
 abbrev pub HeedsOutlet : {O : Type 0} → Taking O → Type 0 → O → O → Type 0
-HeedsOutlet takes IsTold outlet outlet' = (TakesEach takes outlet outlet' × (IsTold → ⊥))
-    ⊎ (RefusesLast takes outlet outlet' × IsTold)
+HeedsOutlet takes IsReported outlet outlet' = (TakesEach takes outlet outlet' × (IsReported → ⊥))
+    ⊎ (RefusesLast takes outlet outlet' × IsReported)
 
 -- an error that says that the outlet has failed, of a call or of a replay
 abbrev pub IsOutletFault : RecoverFault → Type 0

@@ -26,9 +26,9 @@ fault_of_read (read.Journal fault) = recover.Journal fault
 abbrev pub wants_memory : RecoverFault → Bool
 wants_memory (recover.Worker (work.Work slice.Memory)) = true
 wants_memory (recover.Layout layout.Memory) = true
-wants_memory (recover.Front fault) = is_want fault
+wants_memory (recover.Module fault) = is_want fault
 wants_memory (recover.Snapshot snapshot.Memory) = true
-wants_memory (recover.Image restore.Memory) = true
+wants_memory (recover.ProcessImage restore.Memory) = true
 wants_memory (recover.Journal journal.Memory) = true
 wants_memory (recover.Replay replay.Memory) = true
 wants_memory other = false
@@ -36,9 +36,9 @@ wants_memory other = false
 -- A layer wants memory before any line is told: Y5, one of B4, V5 and L7, S4, I2 or J4.
 abbrev pub LayerWantsMemory : RecoverFault → Type 0
 LayerWantsMemory (recover.Layout layout.Memory) = Unit {0}
-LayerWantsMemory (recover.Front fault) = IsTrue (is_want fault)
+LayerWantsMemory (recover.Module fault) = IsTrue (is_want fault)
 LayerWantsMemory (recover.Snapshot snapshot.Memory) = Unit {0}
-LayerWantsMemory (recover.Image restore.Memory) = Unit {0}
+LayerWantsMemory (recover.ProcessImage restore.Memory) = Unit {0}
 LayerWantsMemory (recover.Journal journal.Memory) = Unit {0}
 LayerWantsMemory other = ⊥
 

@@ -4,16 +4,16 @@ use Rattle.std.specs.Prelude.{◌++◌, length, map, drop, Result, Ok, Err, IfOk
 use Rattle.wasm_syntax.specs.declared.module.Module.{Module}
 use Rattle.wasi_abi.specs.declared.numbers.TheConstants.{NUMBERS_END}
 use Rattle.wasi_abi.specs.rules.Configs.{Settings}
-use Rattle.wasi_calls_rules.specs.Hosts.{Line}
+use Rattle.wasi_calls_rules.specs.WasiStates.{Line}
 use Rattle.process_rules.specs.Processes.{ProcessState, Guest}
 use Rattle.process_rules.specs.Runs.{Kept}
 use Rattle.process.specs.rules.Values.{ShowsProcess}
-use Rattle.state_image.specs.rules.Image.{image}
+use Rattle.state_image.specs.rules.ProcessImage.{process_image}
 use Rattle.state_image.specs.rules.Saving.{saved_of}
 use Rattle.sector_disk.specs.declared.disk_call.DiskCall.{DiskCall}
 use Rattle.sector_disk.specs.declared.disk_call.DiskCall.TheVariants.{Sync}
 use Rattle.sector_disk.specs.declared.fault.DiskFault.{DiskFault}
-use Rattle.sector_disk.specs.rules.Image.{Image}
+use Rattle.sector_disk.specs.rules.DiskImage.{DiskImage}
 use Rattle.sector_disk.specs.rules.Medium.{Medium, IsAllSynced, Stays, BeginsCalls, LeavesOnly}
 use Rattle.sector_disk.specs.rules.Medium.{CallsUpTo, CountsUpTo}
 use Rattle.disk_layout.specs.declared.fault.LayoutFault.TheVariants as layout
@@ -29,7 +29,7 @@ use Rattle.restart_theorem.specs.Stands.{StandsFor, IsBlank}
 use Rattle.restart_theorem.specs.Lives.{Inputs, Event, Opened}
 use Rattle.restart_theorem.specs.Courses.{Phase, Shut, Unheard, at_first, stage_after}
 use Rattle.restart_theorem.specs.Promises.{Promise, promised, AreKept}
-use Rattle.restart_theorem.specs.Holds.{IsUnopened, ImageHolds, KeepsPromise, CarriesPromise}
+use Rattle.restart_theorem.specs.Holds.{IsUnopened, DiskImageHolds, KeepsPromise, CarriesPromise}
 use Rattle.restart_theorem.specs.Holds.{KeepsBounds, StaysWithin}
 use Rattle.restart_theorem.specs.Exchanges.{AreEvents}
 use Rattle.worker_store.specs.laws.Pieces.{IsForetold}
@@ -43,7 +43,7 @@ use Rattle.worker.specs.rules.DurableValues.{DurableValue}
 use Rattle.worker.specs.rules.OpenWorkers.{IsOpenOn}
 use Rattle.worker.specs.rules.RecoverFaults.{LayerWantsMemory, IsOfItsLayer}
 
--- ---- what stands on the disk decides
+-- ---- what is on the disk decides
 
 -- that there is no worker
 abbrev pub IsNoWorker : RecoverFault → Type 0
@@ -57,7 +57,7 @@ IsNoWorkerOr (Layout layout.Memory) = Unit {0}
 IsNoWorkerOr (Worker (Disk fault)) = Unit {0}
 IsNoWorkerOr other = ⊥
 
--- an error that says nothing of what stands on the disk: a layer wants memory, or the disk fails
+-- an error that says nothing of what is on the disk: a layer wants memory, or the disk fails
 abbrev pub SaysNothing : RecoverFault → Type 0
 SaysNothing (Worker (Disk fault)) = Unit {0}
 SaysNothing other = LayerWantsMemory other
@@ -73,14 +73,15 @@ SaysNoWorkerOr (Ok found) = ⊥
 SaysNoWorkerOr (Err why) = IsNoWorkerOr why
 
 -- it says so only where a mark of one is missing, and always there
-pub record MarksDecide {T : Type 0} (disk : Image) (result : Result T RecoverFault) : Type 0 where
+pub record MarksDecide {T : Type 0} (disk : DiskImage) (result : Result T RecoverFault)
+    : Type 0 where
   pub only : SaysNoWorker result → IsBlank disk
   pub always : IsBlank disk → SaysNoWorkerOr result
 
 -- The worker is at the process that the image's answers lead to, one generation on. As many steps
 -- were replayed as lie between the saved process and that one. It doesn't say that no line is
 -- beyond that process: an earlier life may have told some.
-pub record IsRevived {disk : Image} {m : Module} {config : Settings} {kept : List Kept} {n : ℕ}
+pub record IsRevived {disk : DiskImage} {m : Module} {config : Settings} {kept : List Kept} {n : ℕ}
     (stands : StandsFor disk m config kept n) (w : DurableValue) : Type 0 where
   pub shows : ShowsProcess w.process stands.reached.guest stands.last
   pub module_is : w.process.machine.guest ≡ m
@@ -89,7 +90,7 @@ pub record IsRevived {disk : Image} {m : Module} {config : Settings} {kept : Lis
   pub unfailed : w.has_failed ≡ false
   pub behind : w.is_abreast ≡ false
 
--- Some of the lines of p behind the first so many were released, each once, in their order, with
+-- Some of the lines of p after the first so many were released, each once, in their order, with
 -- their numbers. The outlet took them.
 pub record TellsSome {O : Type 0} (takes : Taking O) (released : ℕ) (p : ProcessState)
     (outlet outlet' : O) : Type 0 where
@@ -98,10 +99,10 @@ pub record TellsSome {O : Type 0} (takes : Taking O) (released : ℕ) (p : Proce
   pub are : drop released p.host.lines ≡ told ++ others
   pub releases : Releases takes outlet (all_taken (suc released) told) outlet'
 
--- An error of it comes for want of memory, or from the outlet or the disk. Or the number of the
+-- An error of it comes when out of memory, or from the outlet or the disk. Or the number of the
 -- next generation is at its end. Memory is wanted by the replay, some lines told, or by a layer
 -- before it, and nothing is told.
-abbrev pub RevivesInVain : {O : Type 0} {disk : Image} {m : Module} {config : Settings}
+abbrev pub RevivesInVain : {O : Type 0} {disk : DiskImage} {m : Module} {config : Settings}
     {kept : List Kept} {n : ℕ} → Taking O → StandsFor disk m config kept n → RecoverFault → O → O
     → Type 0
 RevivesInVain takes stands (Replay replay.Memory) outlet outlet' =
@@ -115,9 +116,9 @@ RevivesInVain takes stands (Worker (Store store.TooBig)) outlet outlet' =
     × TellsFrom takes stands.saved.lines stands.last outlet outlet'
 RevivesInVain takes stands other outlet outlet' = LayerWantsMemory other × (outlet' ≡ outlet)
 
--- What a recovery of it answers. Each line behind those of the saved process was told, once and in
+-- What a recovery of it answers. Each line after those of the saved process was told, once and in
 -- order, or the first of them, where it fails.
-abbrev pub Revives : {O : Type 0} {disk : Image} {m : Module} {config : Settings}
+abbrev pub Revives : {O : Type 0} {disk : DiskImage} {m : Module} {config : Settings}
     {kept : List Kept} {n : ℕ} → Taking O → StandsFor disk m config kept n
     → Result DurableValue RecoverFault → O → O → Type 0
 Revives takes stands (Ok w) outlet outlet' =
@@ -125,7 +126,7 @@ Revives takes stands (Ok w) outlet outlet' =
 Revives takes stands (Err why) outlet outlet' = RevivesInVain takes stands why outlet outlet'
 
 -- whatever worker the image stands for, on a disk of so many sectors
-pub record RecoversFrom {O : Type 0} (takes : Taking O) (sectors : ℕ) (disk : Image)
+pub record RecoversFrom {O : Type 0} (takes : Taking O) (sectors : ℕ) (disk : DiskImage)
     (result : Result DurableValue RecoverFault) (outlet outlet' : O) : Type 0 where
   pub marks : MarksDecide disk result
   pub revives : (m : Module) (config : Settings) (kept : List Kept) (n : ℕ)
@@ -133,19 +134,19 @@ pub record RecoversFrom {O : Type 0} (takes : Taking O) (sectors : ℕ) (disk : 
       → total_sectors (geometry_of config (length stands.wasm)) ≤ sectors
       → Revives takes stands result outlet outlet'
 
--- The disk is settled by one sync, and then it was only read. A cut leaves what it may have left
+-- The disk is synced once, and then it was only read. A cut leaves what it may have left
 -- before. At no moment were there more unsynced writes than before.
-pub record IsSettledBy (old mid : Medium) : Type 0 where
-  pub settled : IsAllSynced mid
+pub record IsJustSynced (old mid : Medium) : Type 0 where
+  pub all_synced : IsAllSynced mid
   pub stays : Stays old mid
-  pub leaves : LeavesOnly old mid old.may_leave
+  pub leaves : LeavesOnly old mid old.crash_images
   pub counts : CountsUpTo old.unsynced old mid
   pub calls : mid.calls ≡ Sync ∷ old.calls
   -- no sector is read more than twice
   pub counted : CallsUpTo (2 * old.sectors + 1) old mid
 
 -- it couldn't be, and nothing was told
-pub record IsUnsettled {T O : Type 0} (result : Result T RecoverFault) (old new : Medium)
+pub record SyncFails {T O : Type 0} (result : Result T RecoverFault) (old new : Medium)
     (outlet outlet' : O) : Type 0 where
   pub fault : DiskFault
   pub is : result ≡ Err (Worker (Disk fault))
@@ -154,12 +155,12 @@ pub record IsUnsettled {T O : Type 0} (result : Result T RecoverFault) (old new 
   pub faulted : old.faults < new.faults
   pub none_told : outlet' ≡ outlet
 
--- The calls of the disk behind the reads, once the worker is open. They are some sectors of its
+-- The calls of the disk after the reads, once the worker is open. They are some sectors of its
 -- image, in rising order and each once at most, a sync, the head of its generation, and a sync.
 abbrev pub OpeningCalls : DurableValue → Medium → Medium → Type 0
 OpeningCalls w mid new = (stores : List DiskCall)
     × AreStores Changes (area_place w.store.geometry w.store.journal.generation)
-    (rounded_up (length (image (saved_of w.process)))) stores
+    (rounded_up (length (process_image (saved_of w.process)))) stores
     × (new.calls ≡ with_head w.store.journal.generation stores ++ mid.calls)
 
 -- Nothing is written or told before a good sync. What the disk then shows decides the result.
@@ -167,9 +168,9 @@ OpeningCalls w mid new = (stores : List DiskCall)
 abbrev pub Recovers : {D O : Type 0} → (D → Medium) → Taking O → Result DurableValue RecoverFault
     → D → D → O → O → Type 0
 Recovers {D} medium takes result old new outlet outlet' =
-    IsUnsettled result (medium old) (medium new) outlet outlet'
-    ⊎ ((mid : D) × IsSettledBy (medium old) (medium mid)
-    × ((image : Image) → (medium mid).shows image
+    SyncFails result (medium old) (medium new) outlet outlet'
+    ⊎ ((mid : D) × IsJustSynced (medium old) (medium mid)
+    × ((image : DiskImage) → (medium mid).shows image
     → RecoversFrom takes (medium old).sectors image result outlet outlet')
     × (SaysNoWorker result → OnlyReads (medium mid) (medium new) × (outlet' ≡ outlet))
     × IfOk result (λ w. OpeningCalls w (medium mid) (medium new)))
@@ -188,7 +189,7 @@ pub record Reopens (m : Module) (config : Settings) (promise : Promise) (inputs 
   pub are : AreEvents (map Tells told) events
   pub held : ℕ
   pub kept : AreKept m config promise (at_first inputs) (recovery_events events held w)
-  pub at_any_moment : LeavesOnly old new (ImageHolds m config promise (promised promise events))
+  pub at_any_moment : LeavesOnly old new (DiskImageHolds m config promise (promised promise events))
   pub in_the_end : KeepsPromise m config (promised promise (recovery_events events held w)) new
   pub bounded : StaysWithin (promised promise (recovery_events events held w)).events old new
   pub counted : CallsUpTo (most_recovering old.sectors) old new
@@ -197,7 +198,7 @@ pub record Reopens (m : Module) (config : Settings) (promise : Promise) (inputs 
   pub opened : IsOpenOn m config guest (promised promise (recovery_events events held w))
       (stage_after (at_first inputs) (recovery_events events held w)) process w new
 
--- Where a life stands whose recovery fails so. The disk failed since, or takes too few writes. Or
+-- Where a life is whose recovery fails so. The disk failed since, or takes too few writes. Or
 -- memory was refused, or the outlet took a line no more. Or so much has happened that the number of
 -- a generation may be at its end. No other error comes.
 abbrev pub MayNotReopen : Settings → Promise → Phase → RecoverFault → Medium → Medium → Type 0
@@ -209,10 +210,10 @@ MayNotReopen config promise phase (Worker (Store store.TooBig)) old new =
     (phase ≡ Shut) × (NUMBERS_END ≤ promise.events + 1)
 MayNotReopen config promise phase other old new = (phase ≡ Shut) × LayerWantsMemory other
 
--- When an error comes, whatever stands on the disk. A fault of the disk is told as that, and comes
--- only where the disk has failed since. Or it surely takes fewer writes between two syncs than an
--- area has sectors of some worker for which it has room, or none. No layer says that a call of it
--- has failed before.
+-- When an error comes, whatever is on the disk. A fault of the disk is told as that, and comes only
+-- where the disk has failed since. Or it surely takes fewer writes between two syncs than an area
+-- has sectors of some worker for which it has room, or none. No layer says that a call of it has
+-- failed before.
 abbrev pub HasRecoveryCause : Medium → Medium → RecoverFault → Type 0
 HasRecoveryCause old new (Worker (Disk fault)) = (old.faults < new.faults)
     ⊎ ((places : Geometry) × (total_sectors places ≤ old.sectors)
@@ -234,7 +235,7 @@ pub record ReopensInVain (m : Module) (config : Settings) (promise : Promise) (i
 -- was told.
 pub record FindsNone (promise : Promise) (told : List Begun) (old new : Medium) : Type 0 where
   pub none_told : told ≡ []
-  pub unopened : (image : Image) → new.may_leave image → IsUnopened promise image
+  pub unopened : (image : DiskImage) → new.crash_images image → IsUnopened promise image
   pub bounded : StaysWithin promise.events old new
   pub counted : CallsUpTo (most_recovering old.sectors) old new
 
@@ -254,14 +255,14 @@ ReopensOrNot m config promise inputs told (Ok w) old new =
 ReopensOrNot m config promise inputs told (Err why) old new =
     EndsInVain m config promise inputs told why old new
 
--- Whatever was promised of the worker on the disk, a recovery keeps it, wherever a life stands
+-- Whatever was promised of the worker on the disk, a recovery keeps it, wherever a life is
 -- whose outlet will take what it now took. In the end there is an image that a cut may leave: the
 -- answers of the disk fit one.
 abbrev pub RecoveryCarries : {O : Type 0} → Taking O → Result DurableValue RecoverFault → Medium
     → Medium → O → O → Type 0
 RecoveryCarries takes result old new outlet outlet' =
-    (m : Module) (config : Settings) (promise : Promise) (left : Image) → new.may_leave left
-    → KeepsPromise m config promise old → KeepsBounds promise.events old
+    (m : Module) (config : Settings) (promise : Promise) (crashed : DiskImage)
+    → new.crash_images crashed → KeepsPromise m config promise old → KeepsBounds promise.events old
     → (told : List Begun) × Releases takes outlet told outlet'
     × ((inputs : Inputs) → IsForetold (at_first inputs) (map Tells told)
     → ReopensOrNot m config promise inputs told result old new)

@@ -1,4 +1,4 @@
--- What a recovery answers whatever stands on its disk (this project's own).
+-- What a recovery answers whatever is on its disk (this project's own).
 use Rattle.std.specs.Prelude.{◌≡◌, ◌≢◌, ◌⊎◌, ℕ, ◌+◌, ◌*◌, ◌≤◌, ◌<◌, false, List, length, Result}
 use Rattle.std.specs.Prelude.{Ok, Err, IfErr}
 use Rattle.wasm_syntax.specs.declared.module.Module.{Module}
@@ -6,14 +6,15 @@ use Rattle.wasm_semantics.specs.Acceptance.{IsAccepted}
 use Rattle.wasi_abi.specs.declared.numbers.TheConstants.{NUMBERS_END}
 use Rattle.process_rules.specs.Processes.{ProcessState}
 use Rattle.machine.specs.rules.Offers.{offer}
-use Rattle.machine_loader.specs.declared.fault.FrontFault.{FrontFault}
-use Rattle.machine_loader.specs.rules.Acceptance.{IsTold, FrontDenies, HasNoAcceptedModule}
+use Rattle.machine_loader.specs.declared.fault.ModuleFault.{ModuleFault}
+use Rattle.machine_loader.specs.rules.Acceptance.{IsReported, ModuleFaultDenies}
+use Rattle.machine_loader.specs.rules.Acceptance.{HasNoAcceptedModule}
 use Rattle.process.specs.rules.Values.{ProcessValue, ShowsProcess}
-use Rattle.state_image.specs.rules.Image.{Saved, IsMarkedOtherwise, image}
+use Rattle.state_image.specs.rules.ProcessImage.{Saved, IsMarkedOtherwise, process_image}
 use Rattle.state_image.specs.rules.Saving.{saved_of}
 use Rattle.state_image.specs.rules.WellTyped.{IsWellTyped}
 use Rattle.sector_disk.specs.declared.sector.TheConstants.{SECTOR_SIZE}
-use Rattle.sector_disk.specs.rules.Image.{Image}
+use Rattle.sector_disk.specs.rules.DiskImage.{DiskImage}
 use Rattle.sector_disk.specs.rules.Medium.{Medium}
 use Rattle.disk_layout.specs.declared.fault.LayoutFault.{LayoutFault}
 use Rattle.disk_layout.specs.declared.fault.LayoutFault.TheVariants as layout
@@ -29,7 +30,7 @@ use Rattle.record_replay.specs.rules.Replays.{ReplaysUpTo, StopsReplay, TellsFro
 use Rattle.state_image.specs.declared.restoring.fault.RestoreFault.TheVariants as restore
 use Rattle.worker_store.specs.declared.fault.StoreFault.TheVariants as store
 use Rattle.worker_store.specs.rules.AnyDisk.{HasOtherVersion, HasShortJournal, HasKnownVersion}
-use Rattle.worker_store.specs.rules.AnyDisk.{LacksItsImage, NamesImage, HasOtherMark}
+use Rattle.worker_store.specs.rules.AnyDisk.{LacksItsProcessImage, NamesProcessImage, HasOtherMark}
 use Rattle.journal.specs.declared.fault.JournalFault.TheVariants as journal
 use Rattle.snapshot.specs.declared.fault.SnapshotFault.TheVariants as snapshot
 use Rattle.snapshot.specs.rules.Heads.{HasNone}
@@ -38,12 +39,12 @@ use Rattle.worker.specs.declared.recover_fault.RecoverFault.{RecoverFault}
 use Rattle.worker.specs.declared.recover_fault.RecoverFault.TheVariants as recover
 use Rattle.worker.specs.declared.surveyed.Survey.{Survey}
 use Rattle.worker.specs.rules.DurableValues.{DurableValue}
-use Rattle.worker.specs.rules.Recoveries.{IsSettledBy, IsUnsettled}
+use Rattle.worker.specs.rules.Recoveries.{IsJustSynced, SyncFails}
 
 -- ---- what a disk of so many sectors holds
 
 -- Configuration and module are there, whole, and the module is accepted.
-pub record HoldsModule (sectors : ℕ) (disk : Image) : Type 0 where
+pub record HoldsModule (sectors : ℕ) (disk : DiskImage) : Type 0 where
   pub contents : Contents
   pub whole : GivesContents sectors disk (Ok contents)
   pub module_is : Module
@@ -52,12 +53,13 @@ pub record HoldsModule (sectors : ℕ) (disk : Image) : Type 0 where
 -- The newest complete head names an image, and it is there, whole. It is that of a well-typed
 -- process of this module. Head and image are of its version, and the journal takes the longest
 -- record of it. These are the records of its generation, read as of that version.
-pub record HoldsWorker (sectors : ℕ) (disk : Image) : Type 0 where
+pub record HoldsWorker (sectors : ℕ) (disk : DiskImage) : Type 0 where
   pub holds : HoldsModule sectors disk
   pub generation : ℕ
   pub saved : Saved
   pub well_typed : IsWellTyped holds.module_is holds.contents.config saved
-  pub newest : NamesImage holds.contents.geometry disk generation saved.version (image saved)
+  pub newest : NamesProcessImage holds.contents.geometry disk generation saved.version
+      (process_image saved)
   pub records : List Record
   pub scanned : scan holds.contents.geometry saved.version disk generation ≡ records
 
@@ -66,56 +68,57 @@ pub record HoldsWorker (sectors : ℕ) (disk : Image) : Type 0 where
 -- Configuration and module are there, whole, and this is what the module isn't accepted for. Want
 -- of memory says only what the steps before found: of B4 nothing, of V5 that a module is spelled,
 -- and of L7 that it is valid.
-pub record HoldsRefused (sectors : ℕ) (disk : Image) (fault : FrontFault) : Type 0 where
+pub record HoldsRefused (sectors : ℕ) (disk : DiskImage) (fault : ModuleFault) : Type 0 where
   pub contents : Contents
   pub whole : GivesContents sectors disk (Ok contents)
-  pub told : IsTold contents.config.pages contents.wasm fault
-  pub none : FrontDenies fault (HasNoAcceptedModule contents.config.pages contents.wasm)
+  pub told : IsReported contents.config.pages contents.wasm fault
+  pub none : ModuleFaultDenies fault (HasNoAcceptedModule contents.config.pages contents.wasm)
 
 -- no head is complete, or the newest one names an image that its area doesn't hold
-pub record HoldsNoImage (sectors : ℕ) (disk : Image) : Type 0 where
+pub record HoldsNoProcessImage (sectors : ℕ) (disk : DiskImage) : Type 0 where
   pub holds : HoldsModule sectors disk
-  pub none : HasNone disk ⊎ LacksItsImage holds.contents.geometry disk
+  pub none : HasNone disk ⊎ LacksItsProcessImage holds.contents.geometry disk
 
 -- The newest head is of a version whose longest record the journal doesn't take. Or the image that
 -- it names is there, whole, and begins with the mark of another version.
-pub record HoldsAtOdds (sectors : ℕ) (disk : Image) : Type 0 where
+pub record HoldsAtOdds (sectors : ℕ) (disk : DiskImage) : Type 0 where
   pub holds : HoldsModule sectors disk
   pub odds : HasShortJournal holds.contents.geometry disk
       ⊎ HasOtherMark holds.contents.geometry disk
 
 -- The image that the newest head names is there, whole. The journal takes the longest record of
 -- the head's version, and the image has the mark of no other one.
-pub record HoldsNamedImage (sectors : ℕ) (disk : Image) : Type 0 where
+pub record HoldsNamedProcessImage (sectors : ℕ) (disk : DiskImage) : Type 0 where
   pub holds : HoldsModule sectors disk
   pub generation : ℕ
   pub version : Version
   pub bytes : List ℕ
-  pub newest : NamesImage holds.contents.geometry disk generation version bytes
+  pub newest : NamesProcessImage holds.contents.geometry disk generation version bytes
   pub marked : IsMarkedOtherwise version bytes → ⊥
 
 -- it is so, and the image is that of no well-typed process of the module
-pub record HoldsNoProcess (sectors : ℕ) (disk : Image) : Type 0 where
-  pub named : HoldsNamedImage sectors disk
+pub record HoldsNoProcess (sectors : ℕ) (disk : DiskImage) : Type 0 where
+  pub named : HoldsNamedProcessImage sectors disk
   pub other : (s : Saved) → IsWellTyped named.holds.module_is named.holds.contents.config s
-      → named.bytes ≢ image s
+      → named.bytes ≢ process_image s
 
 -- ---- where memory is wanted, what was found before
 
 -- the image that the newest head names is that of a well-typed process of the module
-pub record HoldsProcess (sectors : ℕ) (disk : Image) : Type 0 where
+pub record HoldsProcess (sectors : ℕ) (disk : DiskImage) : Type 0 where
   pub holds : HoldsModule sectors disk
   pub generation : ℕ
   pub saved : Saved
   pub well_typed : IsWellTyped holds.module_is holds.contents.config saved
-  pub newest : NamesImage holds.contents.geometry disk generation saved.version (image saved)
+  pub newest : NamesProcessImage holds.contents.geometry disk generation saved.version
+      (process_image saved)
 
 -- ---- what a fault shows
 
 -- A mark, the layout, a length or a digest is wrong, or the disk is too small. Or the newest head
 -- is of no known version, or is at odds with the journal or with its image. Want of memory shows
 -- nothing here. A fault of the disk is told as that.
-abbrev pub ShowsLayoutFault : ℕ → Image → LayoutFault → Type 0
+abbrev pub ShowsLayoutFault : ℕ → DiskImage → LayoutFault → Type 0
 ShowsLayoutFault sectors disk layout.Version = GivesContents sectors disk (Err layout.Version)
     ⊎ (HoldsModule sectors disk × HasOtherVersion disk)
 ShowsLayoutFault sectors disk layout.Damaged = GivesContents sectors disk (Err layout.Damaged)
@@ -124,25 +127,25 @@ ShowsLayoutFault sectors disk (layout.Disk fault) = ⊥
 ShowsLayoutFault sectors disk fault = GivesContents sectors disk (Err fault)
 
 -- What the disk shows, where this fault is found before anything is told. It is looked at in one
--- order, and memory may be wanted at each step: so want of memory shows what the steps before have
+-- order, and memory may be wanted at each step: so out of memory shows what the steps before have
 -- found, and a fault of the disk shows nothing.
-abbrev pub ShowsFault : ℕ → Image → RecoverFault → Type 0
+abbrev pub ShowsFault : ℕ → DiskImage → RecoverFault → Type 0
 ShowsFault sectors disk (recover.Layout fault) = ShowsLayoutFault sectors disk fault
-ShowsFault sectors disk (recover.Front fault) = HoldsRefused sectors disk fault
-ShowsFault sectors disk (recover.Snapshot snapshot.Damaged) = HoldsNoImage sectors disk
+ShowsFault sectors disk (recover.Module fault) = HoldsRefused sectors disk fault
+ShowsFault sectors disk (recover.Snapshot snapshot.Damaged) = HoldsNoProcessImage sectors disk
 ShowsFault sectors disk (recover.Snapshot snapshot.Memory) =
     (holds : HoldsModule sectors disk) × HasKnownVersion holds.contents.geometry disk
-ShowsFault sectors disk (recover.Image restore.NotAnImage) = HoldsNoProcess sectors disk
-ShowsFault sectors disk (recover.Image restore.Memory) = HoldsNamedImage sectors disk
+ShowsFault sectors disk (recover.ProcessImage restore.NotAnImage) = HoldsNoProcess sectors disk
+ShowsFault sectors disk (recover.ProcessImage restore.Memory) = HoldsNamedProcessImage sectors disk
 ShowsFault sectors disk (recover.Journal journal.Memory) = HoldsProcess sectors disk
 ShowsFault sectors disk (recover.Worker (Disk fault)) = Unit {0}
 ShowsFault sectors disk other = ⊥
 
 -- ---- what comes of a worker that was found
 
--- The records lead from the saved process to that of the worker, one generation on. Each line
--- behind those of the saved process was told, once and in order.
-pub record RevivesHeld {O : Type 0} {sectors : ℕ} {disk : Image} (takes : Taking O)
+-- The records lead from the saved process to that of the worker, one generation on. Each line after
+-- those of the saved process was told, once and in order.
+pub record RevivesHeld {O : Type 0} {sectors : ℕ} {disk : DiskImage} (takes : Taking O)
     (held : HoldsWorker sectors disk) (w : DurableValue) (outlet outlet' : O) : Type 0 where
   pub last : ProcessState
   pub recorded : Recorded held.well_typed.guest held.well_typed.process held.records last
@@ -155,7 +158,7 @@ pub record RevivesHeld {O : Type 0} {sectors : ℕ} {disk : Image} (takes : Taki
   pub told : TellsFrom takes held.saved.lines last outlet outlet'
 
 -- The records have led so far, and a replay stops there for this. The lines up to there were told.
-abbrev pub StopsHeld : {O : Type 0} {sectors : ℕ} {disk : Image} → Taking O
+abbrev pub StopsHeld : {O : Type 0} {sectors : ℕ} {disk : DiskImage} → Taking O
     → HoldsWorker sectors disk → ReplayFault → O → O → Type 0
 StopsHeld takes held fault outlet outlet' =
     (come : ReplaysUpTo held.well_typed.guest held.well_typed.process held.records)
@@ -163,7 +166,7 @@ StopsHeld takes held fault outlet outlet' =
     fault outlet outlet'
 
 -- The records have led to the last process, and all lines were told.
-pub record EndsHeld {O : Type 0} {sectors : ℕ} {disk : Image} (takes : Taking O)
+pub record EndsHeld {O : Type 0} {sectors : ℕ} {disk : DiskImage} (takes : Taking O)
     (held : HoldsWorker sectors disk) (v : ProcessValue) (outlet outlet' : O) : Type 0 where
   pub last : ProcessState
   pub recorded : Recorded held.well_typed.guest held.well_typed.process held.records last
@@ -171,13 +174,14 @@ pub record EndsHeld {O : Type 0} {sectors : ℕ} {disk : Image} (takes : Taking 
   pub told : TellsFrom takes held.saved.lines last outlet outlet'
 
 -- the number of the next generation is at its end, or its image is longer than an area
-abbrev pub IsTooBig : {sectors : ℕ} {disk : Image} → HoldsWorker sectors disk → ProcessValue
+abbrev pub IsTooBig : {sectors : ℕ} {disk : DiskImage} → HoldsWorker sectors disk → ProcessValue
     → Type 0
 IsTooBig held v = (NUMBERS_END ≤ held.generation + 1)
-    ⊎ (SECTOR_SIZE * held.holds.contents.geometry.area_sectors < length (image (saved_of v)))
+    ⊎ (SECTOR_SIZE * held.holds.contents.geometry.area_sectors < length
+    (process_image (saved_of v)))
 
 -- A record can't be replayed; or the worker has come to its last process, and can't be saved.
-abbrev pub FailsHeld : {O : Type 0} {sectors : ℕ} {disk : Image} → Taking O
+abbrev pub FailsHeld : {O : Type 0} {sectors : ℕ} {disk : DiskImage} → Taking O
     → HoldsWorker sectors disk → RecoverFault → O → O → Type 0
 FailsHeld takes held (recover.Replay fault) outlet outlet' =
     StopsHeld takes held fault outlet outlet'
@@ -191,7 +195,7 @@ FailsHeld takes held other outlet outlet' = ⊥
 
 -- The worker is the one that the image holds, by its newest head and by no other. An error says
 -- what is wrong with the image, and nothing was told; or why the worker that it holds can't go on.
-abbrev pub AnswersDisk : {O : Type 0} → Taking O → ℕ → Image → Result DurableValue RecoverFault
+abbrev pub AnswersDisk : {O : Type 0} → Taking O → ℕ → DiskImage → Result DurableValue RecoverFault
     → O → O → Type 0
 AnswersDisk takes sectors disk (Ok w) outlet outlet' =
     (held : HoldsWorker sectors disk) × RevivesHeld takes held w outlet outlet'
@@ -199,7 +203,7 @@ AnswersDisk takes sectors disk (Err why) outlet outlet' =
     (ShowsFault sectors disk why × (outlet' ≡ outlet))
     ⊎ ((held : HoldsWorker sectors disk) × FailsHeld takes held why outlet outlet')
 
--- what stands on the disk is refused, or memory is wanted, before anything is told
+-- what is on the disk is refused, or memory is wanted, before anything is told
 abbrev pub IsRefusal : RecoverFault → Type 0
 IsRefusal (recover.Worker why) = ⊥
 IsRefusal (recover.Replay why) = ⊥
@@ -211,8 +215,8 @@ IsOfSaving (recover.Worker (Disk fault)) = Unit {0}
 IsOfSaving (recover.Worker (Store store.TooBig)) = Unit {0}
 IsOfSaving other = ⊥
 
--- Nothing is told where what stands on the disk is refused. Nothing is written either, but where
--- all is well with it and the next generation can't be written.
+-- Nothing is told where what is on the disk is refused. Nothing is written either, but where all is
+-- well with it and the next generation can't be written.
 pub record LeavesRefused {O : Type 0} (why : RecoverFault) (mid new : Medium) (outlet outlet' : O)
     : Type 0 where
   pub untold : IsRefusal why → outlet' ≡ outlet
@@ -223,9 +227,9 @@ pub record LeavesRefused {O : Type 0} (why : RecoverFault) (mid new : Medium) (o
 abbrev pub RecoversAsShown : {D O : Type 0} → (D → Medium) → Taking O
     → Result DurableValue RecoverFault → D → D → O → O → Type 0
 RecoversAsShown {D} medium takes result old new outlet outlet' =
-    IsUnsettled result (medium old) (medium new) outlet outlet'
-    ⊎ ((mid : D) × IsSettledBy (medium old) (medium mid)
-    × ((image : Image) → (medium mid).shows image
+    SyncFails result (medium old) (medium new) outlet outlet'
+    ⊎ ((mid : D) × IsJustSynced (medium old) (medium mid)
+    × ((image : DiskImage) → (medium mid).shows image
     → AnswersDisk takes (medium old).sectors image result outlet outlet')
     × IfErr result (λ why. LeavesRefused why (medium mid) (medium new) outlet outlet'))
 
@@ -233,7 +237,7 @@ RecoversAsShown {D} medium takes result old new outlet outlet' =
 
 -- the numbers and the version of the process that the image has saved, and how many records there
 -- are
-abbrev pub survey_in : {sectors : ℕ} {disk : Image} → HoldsWorker sectors disk → Survey
+abbrev pub survey_in : {sectors : ℕ} {disk : DiskImage} → HoldsWorker sectors disk → Survey
 survey_in held = record {
   generation = held.generation;
   steps = held.saved.steps;
@@ -245,7 +249,7 @@ survey_in held = record {
 
 -- They are those of the worker that the image holds, by its newest head and by no other. An error
 -- says what is wrong with the image.
-abbrev pub SurveysDisk : ℕ → Image → Result Survey RecoverFault → Type 0
+abbrev pub SurveysDisk : ℕ → DiskImage → Result Survey RecoverFault → Type 0
 SurveysDisk sectors disk (Ok told) =
     (held : HoldsWorker sectors disk) × (told ≡ survey_in held)
 SurveysDisk sectors disk (Err why) = ShowsFault sectors disk why

@@ -12,8 +12,8 @@ use Rattle.sector_disk.specs.declared.fault_disk.FaultDisk.{FaultDisk}
 use Rattle.sector_disk.specs.declared.memory.MemDisk.{MemDisk}
 use Rattle.sector_disk.specs.declared.sector.TheConstants.{SECTOR_SIZE}
 use Rattle.sector_disk.specs.rules.FaultDisk.{disk_below, stop_of, fail_of, call_counts_of}
-use Rattle.sector_disk.specs.rules.FaultDisk.{left_front_of}
-use Rattle.sector_disk.specs.rules.Image.{Image}
+use Rattle.sector_disk.specs.rules.FaultDisk.{torn_front_of}
+use Rattle.sector_disk.specs.rules.DiskImage.{DiskImage}
 use Rattle.sector_disk.specs.rules.Medium.{Medium}
 use Rattle.sector_disk.specs.rules.Memory.{memory_medium, memory_state_of, after_cut}
 use Rattle.sector_disk.specs.rules.Trouble.{call_number, troubled}
@@ -33,7 +33,7 @@ use Rattle.worker.specs.declared.story.report.LifeEnd.TheVariants.{Failed}
 use Rattle.worker.specs.declared.story.report.LifeReport.{LifeReport}
 use Rattle.worker.specs.declared.story.report.Opening.{Opening}
 use Rattle.worker.specs.declared.story.report.Opening.TheVariants.{Recovered}
-use Rattle.worker.specs.laws.OneLife.{IsOneLife, shown_first, left_undone}
+use Rattle.worker.specs.laws.OneLife.{IsOneLife, shown_first, undone_acts}
 use Rattle.worker.specs.rules.DurableValues.{DurableValue}
 use Rattle.worker.specs.rules.Planned.{inputs_of, act_of, number_refused}
 use Rattle.worker.specs.rules.Told.{TellsOpening, TellsEach, BeginFewCalls}
@@ -42,7 +42,7 @@ use Rattle.worker.specs.Hearing.{hands_out, hears}
 -- so many sectors of zeros, and room for so many writes between two syncs
 abbrev pub IsEmptyDisk : ℕ → ℕ → MemDisk → Type 0
 IsEmptyDisk sectors writes disk = memory_state_of disk ≡ record {
-  settled = replicate sectors (replicate SECTOR_SIZE 0);
+  durable = replicate sectors (replicate SECTOR_SIZE 0);
   pending = [];
   limit = writes;
 }
@@ -73,7 +73,7 @@ pub record IsBegunOn (planned : PlannedLife) (found : MemDisk) (disk : FaultDisk
 -- A recovered life tells the generation after that of the worker on the disk that it found.
 abbrev pub IsNextGeneration : Medium → Opening → Type 0
 IsNextGeneration found (Recovered generation steps answers lines bytes) =
-    (image : Image) (m : Module) (config : Settings) (kept : List Kept) (n : ℕ)
+    (image : DiskImage) (m : Module) (config : Settings) (kept : List Kept) (n : ℕ)
     → found.shows image → (stands : StandsFor image m config kept n)
     → total_sectors (geometry_of config (length stands.wasm)) ≤ found.sectors
     → generation ≡ stands.generation + 1
@@ -88,14 +88,14 @@ front_count false = 0
 -- They don't name the front of a stop.
 abbrev pub IsCutBy : List ℕ → FaultDisk MemDisk → MemDisk → Type 0
 IsCutBy tears last next = memory_state_of next ≡ after_cut (memory_state_of (disk_below last))
-    (take (length (memory_state_of (disk_below last)).pending - front_count (left_front_of last))
+    (take (length (memory_state_of (disk_below last)).pending - front_count (torn_front_of last))
     tears)
 
 -- After an error the next life finds the same disk, and else what a cut leaves.
-abbrev pub IsLeftBy : List ℕ → LifeEnd → FaultDisk MemDisk → MemDisk → Type 0
-IsLeftBy tears (Failed why) last next = next ≡ disk_below last
-IsLeftBy tears Finished last next = IsCutBy tears last next
-IsLeftBy tears Stopped last next = IsCutBy tears last next
+abbrev pub IsNextDisk : List ℕ → LifeEnd → FaultDisk MemDisk → MemDisk → Type 0
+IsNextDisk tears (Failed why) last next = next ≡ disk_below last
+IsNextDisk tears Finished last next = IsCutBy tears last next
+IsNextDisk tears Stopped last next = IsCutBy tears last next
 
 -- One life on the disk that it finds. Its calls are those of a worker, each as its clause says.
 -- This is told of its opening, its lines and its calls of the disk. Then comes what the next life
@@ -115,11 +115,11 @@ pub record IsRunOn (bytes : List ℕ) (config : Settings) (planned : PlannedLife
   pub refuse : until_fault unheard ≡ number_refused planned.refuse
   pub heard : RefusingOutlet HeardLines
   pub calls : IsOneLife story_medium hands_out hears bytes config (map act_of planned.acts) first
-      planned.answers unheard begins worker (left_undone ended) last unasked heard
+      planned.answers unheard begins worker (undone_acts ended) last unasked heard
   pub opened : TellsOpening begins (shown_first worker) report.opened
   pub generation : IsNextGeneration (memory_medium found) report.opened
   pub releases : report.releases ≡ (inner_outlet heard).lines
-  pub left : IsLeftBy planned.tears report.ended last next
+  pub next_disk : IsNextDisk planned.tears report.ended last next
 
 -- ---- all lives
 

@@ -4,7 +4,7 @@ use Rattle.wasm_syntax.specs.declared.module.Module.{Module}
 use Rattle.wasi_abi.specs.rules.Configs.{Settings}
 use Rattle.process_rules.specs.Runs.{Kept}
 use Rattle.sector_disk.specs.declared.fault.DiskFault.{DiskFault}
-use Rattle.sector_disk.specs.rules.Image.{Image}
+use Rattle.sector_disk.specs.rules.DiskImage.{DiskImage}
 use Rattle.sector_disk.specs.rules.Medium.{Medium}
 use Rattle.disk_layout.specs.rules.Places.{geometry_of, total_sectors}
 use Rattle.restart_theorem.specs.Stands.{StandsFor}
@@ -12,14 +12,14 @@ use Rattle.worker.specs.declared.fault.WorkFault.TheVariants.{Disk}
 use Rattle.worker.specs.declared.recover_fault.RecoverFault.{RecoverFault}
 use Rattle.worker.specs.declared.recover_fault.RecoverFault.TheVariants.{Worker}
 use Rattle.worker.specs.declared.surveyed.Survey.{Survey}
-use Rattle.worker.specs.rules.Recoveries.{SaysNothing, MarksDecide, IsSettledBy}
-use Rattle.worker.specs.rules.Recoveries.{IsUnsettled}
+use Rattle.worker.specs.rules.Recoveries.{SaysNothing, MarksDecide, IsJustSynced}
+use Rattle.worker.specs.rules.Recoveries.{SyncFails}
 use Rattle.worker.specs.rules.ShownDisks.{SurveysDisk}
 
 -- The numbers of the process that an image has saved, and not of the one to which its records lead.
 -- Also how many records there are, and the version of that process.
-abbrev pub survey_of : {disk : Image} {m : Module} {config : Settings} {kept : List Kept} {n : ℕ}
-    → StandsFor disk m config kept n → Survey
+abbrev pub survey_of : {disk : DiskImage} {m : Module} {config : Settings}
+    {kept : List Kept} {n : ℕ} → StandsFor disk m config kept n → Survey
 survey_of stands = record {
   generation = stands.generation;
   steps = stands.saved.steps;
@@ -30,21 +30,21 @@ survey_of stands = record {
 }
 
 -- P holds of the survey of whatever worker the image stands for, on a disk of so many sectors.
-abbrev pub EachSurvey : ℕ → Image → (Survey → Type 0) → Type 0
+abbrev pub EachSurvey : ℕ → DiskImage → (Survey → Type 0) → Type 0
 EachSurvey sectors disk P =
     (m : Module) (config : Settings) (kept : List Kept) (n : ℕ)
     (stands : StandsFor disk m config kept n)
     → total_sectors (geometry_of config (length stands.wasm)) ≤ sectors → P (survey_of stands)
 
--- this survey is told, or an error that says nothing of what stands on the disk
+-- this survey is told, or an error that says nothing of what is on the disk
 abbrev pub TellsSurvey : Result Survey RecoverFault → Survey → Type 0
 TellsSurvey (Ok told) survey = told ≡ survey
 TellsSurvey (Err why) survey = SaysNothing why
 
--- A mark of a worker is missing just where the result says so, want of memory and faults of the
--- disk left aside. Else the survey of the worker is told. Whatever the image holds, the result is
--- that of it.
-pub record SurveysFrom (sectors : ℕ) (disk : Image) (result : Result Survey RecoverFault)
+-- A mark of a worker is missing just where the result says so, out of memory and faults of the disk
+-- left aside. Else the survey of the worker is told. Whatever the image holds, the result is that
+-- of it.
+pub record SurveysFrom (sectors : ℕ) (disk : DiskImage) (result : Result Survey RecoverFault)
     : Type 0 where
   pub marks : MarksDecide disk result
   pub tells : EachSurvey sectors disk (TellsSurvey result)
@@ -59,6 +59,6 @@ HasFailedSince result old new =
 -- result.
 abbrev pub Surveys : Result Survey RecoverFault → Medium → Medium → Type 0
 Surveys result old new =
-    IsUnsettled {O = Unit {0}} result old new tt tt
-    ⊎ (IsSettledBy old new × HasFailedSince result old new
-    × ((image : Image) → new.shows image → SurveysFrom old.sectors image result))
+    SyncFails {O = Unit {0}} result old new tt tt
+    ⊎ (IsJustSynced old new × HasFailedSince result old new
+    × ((image : DiskImage) → new.shows image → SurveysFrom old.sectors image result))

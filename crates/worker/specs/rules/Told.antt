@@ -1,13 +1,14 @@
 -- What a report tells of a life.
 use Rattle.std.specs.Prelude.{◌≡◌, ◌≤◌, ℕ, ◌+◌, ◌*◌, List, [], ◌∷◌, length, map, Option, Some}
 use Rattle.std.specs.Prelude.{None}
-use Rattle.state_image.specs.rules.Image.{Saved, image}
+use Rattle.state_image.specs.rules.ProcessImage.{Saved, process_image}
 use Rattle.disk_layout.specs.rules.Places.{geometry_of, total_sectors}
 use Rattle.record_replay.specs.declared.line_list.NumberedLine.{NumberedLine}
 use Rattle.record_replay.specs.rules.Lists.{numbered}
 use Rattle.restart_theorem.specs.Lives.{Release, told_in}
 use Rattle.restart_theorem.specs.Lives.{Beginning, Recovers, Creates, End, Life}
-use Rattle.restart_theorem.specs.Lives.End.{Finished as finished, Stopped as stopped, Failed as failed}
+use Rattle.restart_theorem.specs.Lives.End.{Finished as finished, Stopped as stopped}
+use Rattle.restart_theorem.specs.Lives.End.{Failed as failed}
 use Rattle.worker.specs.laws.OneLife.{opened_in, IsCauseOf}
 use Rattle.worker.specs.declared.story.report.Opening.{Opening}
 use Rattle.worker.specs.declared.story.report.Opening.TheVariants.{Created, Recovered}
@@ -20,10 +21,11 @@ use Rattle.worker.specs.rules.CallCounts.{most_calls}
 -- A life that was created, or recovered, tells the image of the process with which it opened, and a
 -- recovered one its numbers too. Of one that wasn't opened nothing is told.
 abbrev pub TellsOpening : Beginning → Option Saved → Opening → Type 0
-TellsOpening begins (Some shown) (Created bytes) = (begins ≡ Creates) × (bytes ≡ image shown)
+TellsOpening begins (Some shown) (Created bytes) = (begins ≡ Creates)
+    × (bytes ≡ process_image shown)
 TellsOpening begins (Some shown) (Recovered generation steps answers lines bytes) =
     (begins ≡ Recovers) × (steps ≡ shown.steps) × (answers ≡ shown.answers)
-    × (lines ≡ shown.lines) × (bytes ≡ image shown)
+    × (lines ≡ shown.lines) × (bytes ≡ process_image shown)
 TellsOpening begins None Unopened = Unit {0}
 TellsOpening begins _ _ = ⊥
 
@@ -52,8 +54,8 @@ TellsEach [] [] = Unit {0}
 TellsEach (life ∷ lives) (report ∷ reports) = TellsLife life report × TellsEach lives reports
 TellsEach _ _ = ⊥
 
--- on a disk of so many sectors few calls were begun before each event of these lives, and behind
--- the last one
+-- on a disk of so many sectors few calls were begun before each event of these lives, and after the
+-- last one
 abbrev pub BeginFewCalls : ℕ → List Life → Type 0
 BeginFewCalls sectors [] = Unit {0}
 BeginFewCalls sectors (life ∷ lives) =

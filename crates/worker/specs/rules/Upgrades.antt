@@ -11,12 +11,12 @@ use Rattle.wasi_calls.specs.rules.Held.{held_widened}
 use Rattle.process_rules.specs.Processes.{ProcessState, Guest}
 use Rattle.process_rules.specs.Runs.{Wider, widened, Runs}
 use Rattle.process.specs.rules.Values.{ProcessValue, ShowsProcess}
-use Rattle.state_image.specs.rules.Image.{image}
+use Rattle.state_image.specs.rules.ProcessImage.{process_image}
 use Rattle.state_image.specs.rules.Saving.{saved_of}
 use Rattle.sector_disk.specs.declared.disk_call.DiskCall.{DiskCall}
 use Rattle.sector_disk.specs.declared.sector.TheConstants.{SECTOR_SIZE}
-use Rattle.sector_disk.specs.rules.Image.{Image}
-use Rattle.sector_disk.specs.rules.Medium.{Medium, LeavesOnly, MakesCalls, spare}
+use Rattle.sector_disk.specs.rules.DiskImage.{DiskImage}
+use Rattle.sector_disk.specs.rules.Medium.{Medium, LeavesOnly, PerformsCalls, spare}
 use Rattle.disk_layout.specs.rules.Journal.{TakesRecords}
 use Rattle.disk_layout.specs.rules.Places.{area_place, rounded_up}
 use Rattle.journal.specs.rules.Packed.{sectors_for}
@@ -62,8 +62,8 @@ pub record IsUpgradedIn (old new : DurableValue) : Type 0 where
 abbrev pub UpgradeCalls : {T E : Type 0} → DurableValue → Result T E → Medium → Medium → Type 0
 UpgradeCalls w result old new = (stores : List DiskCall)
     × AreStores Changes (area_place w.store.geometry (w.store.journal.generation + 1))
-    (rounded_up (length (image (saved_of (upgraded w.process))))) stores
-    × MakesCalls (with_head (w.store.journal.generation + 1) stores
+    (rounded_up (length (process_image (saved_of (upgraded w.process))))) stores
+    × PerformsCalls (with_head (w.store.journal.generation + 1) stores
     ++ barrier_calls w.store.geometry w.store.journal) result old new
 
 -- ---- errors
@@ -102,16 +102,16 @@ UpgradeFails w after old new fault =
     (p : ProcessState) → IsOpenOn m config guest promise stage p w old
     → IsUpgradeFault w old new fault × LeavesProcess fault w.process after
 
--- When each error comes, whatever stands on the disk. Then the journal may also have too few
--- sectors for the pending records, and the area for the image. The disk may have taken writes since
--- its last good sync. The worker says that it has failed only where it had failed before.
+-- When each error comes, whatever is on the disk. Then the journal may also have too few sectors
+-- for the pending records, and the area for the image. The disk may have taken writes since its
+-- last good sync. The worker says that it has failed only where it had failed before.
 abbrev pub HasUpgradeCause : DurableValue → Medium → Medium → WorkFault → Type 0
 HasUpgradeCause w old new (Work slice.Failed) = w.has_failed ≡ true
 HasUpgradeCause w old new (Upgrade JournalTooSmall) = IsTooSmall w
 HasUpgradeCause w old new (Upgrade NotCaughtUp) = IsNotCaughtUp w
 HasUpgradeCause w old new (Store store.TooBig) = (NUMBERS_END ≤ w.store.journal.generation + 1)
     ⊎ (SECTOR_SIZE * w.store.geometry.area_sectors
-    < length (image (saved_of (upgraded w.process))))
+    < length (process_image (saved_of (upgraded w.process))))
 HasUpgradeCause w old new (Store store.Full) =
     w.store.geometry.journal_sectors - w.store.journal.used
     < sectors_for (length w.store.journal.kept)
@@ -122,8 +122,8 @@ HasUpgradeCause w old new other = ⊥
 
 -- ---- the disk
 
--- It stands in version 1 for a prefix of the kept answers, which holds all that is promised.
-pub record StandsInOne (m : Module) (config : Settings) (promise : Promise) (disk : Image)
+-- It is in version 1 for a prefix of the kept answers, which holds all that is promised.
+pub record StandsInOne (m : Module) (config : Settings) (promise : Promise) (disk : DiskImage)
     : Type 0 where
   pub held : ℕ
   pub steps : ℕ
@@ -131,18 +131,18 @@ pub record StandsInOne (m : Module) (config : Settings) (promise : Promise) (dis
   pub version : stands.saved.version ≡ One
   pub holds : HoldsAll m config promise.kept promise held steps
 
--- It stands in version 1 for all of them. What they lead to comes to p without another one.
+-- It is in version 1 for all of them. What they lead to comes to p without another one.
 pub record LeadsInOne (m : Module) (config : Settings) (promise : Promise) (p : ProcessState)
-    (disk : Image) : Type 0 where
+    (disk : DiskImage) : Type 0 where
   pub steps : ℕ
   pub stands : StandsFor disk m config promise.kept steps
   pub version : stands.saved.version ≡ One
   pub more : ℕ
   pub runs : Runs stands.reached.guest stands.last [] more p
 
--- It stands in version 2 for p, widened. No record is behind that.
+-- It is in version 2 for p, widened. No record is after that.
 pub record StandsInTwo (m : Module) (config : Settings) (promise : Promise) (p : ProcessState)
-    (disk : Image) : Type 0 where
+    (disk : DiskImage) : Type 0 where
   pub stands : StandsFor disk m config (promise.kept ++ Wider p.steps ∷ []) p.steps
   pub version : stands.saved.version ≡ Two
   pub at : stands.process ≡ widened p
@@ -169,4 +169,4 @@ abbrev pub EndsInTwo : DurableValue → Medium → Medium → Type 0
 EndsInTwo w old new =
     (m : Module) (config : Settings) (guest : Guest) (promise : Promise) (stage : Stage)
     (p : ProcessState) → IsOpenOn m config guest promise stage p w old → p.host.version ≡ One
-    → (image : Image) → new.may_leave image → StandsInTwo m config promise p image
+    → (image : DiskImage) → new.crash_images image → StandsInTwo m config promise p image

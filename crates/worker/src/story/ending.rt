@@ -1,14 +1,14 @@
 //! How a life ended, and what it leaves to the next one.
 
 ghost use Rattle.std.specs.Prelude.{◌≡◌, ◌↔◌, ◌-◌, IfOk, IsTrue, length, take};
-ghost use Rattle.sector_disk.specs.rules.FaultDisk.{call_counts_of, disk_below, left_front_of};
+ghost use Rattle.sector_disk.specs.rules.FaultDisk.{call_counts_of, disk_below, torn_front_of};
 ghost use Rattle.sector_disk.specs.rules.Memory.{memory_medium, memory_state_of, after_cut};
 ghost use Rattle.sector_disk.specs.rules.Trouble.{call_number};
 ghost use Rattle.restart_theorem.specs.Between.{IsFoundAfterCut};
 ghost use Rattle.restart_theorem.specs.Courses.{HasStopped};
 ghost use Rattle.worker.specs.rules.Planned.{call_at};
-ghost use Rattle.worker.specs.rules.StoryDisks.{IsLeftBy, front_count};
-ghost use Rattle.worker.specs.Endings.{end_told, IsFoundBehind};
+ghost use Rattle.worker.specs.rules.StoryDisks.{IsNextDisk, front_count};
+ghost use Rattle.worker.specs.Endings.{reported_end, IsFoundBehind};
 
 use crate::RecoverFault;
 use crate::story::fault::StoryFault;
@@ -36,7 +36,7 @@ pub(crate) fn has_stopped(stop: Option<Place>, calls: u64) -> bool
 
 /// How a life ended whose calls ended so.
 pub(crate) fn end_of(has_stopped: bool, ended: Result<(), RecoverFault>) -> LifeEnd
-    ensures { result ≡ end_told has_stopped ended }
+    ensures { result ≡ reported_end has_stopped ended }
 {
     if has_stopped {
         return LifeEnd::Stopped;
@@ -55,15 +55,15 @@ pub(crate) fn disk_behind(
     tears: &[u16],
 ) -> Result<MemDisk, StoryFault>
     ensures behind { IfOk result (IsFoundBehind ended (disk_below disk)) }
-    ensures left { IfOk result (IsLeftBy tears.now ended disk) }
+    ensures next_disk { IfOk result (IsNextDisk tears.now ended disk) }
     ensures room { IfOk result (λ next.
         (memory_medium next).room ≡ (memory_medium (disk_below disk)).room) }
 {
-    let has_left_front = disk.has_left_front();
-    let left = disk.into_inner();
+    let has_torn_front = disk.has_torn_front();
+    let last = disk.into_inner();
     match ended {
-        LifeEnd::Failed(_) => Ok(left),
-        LifeEnd::Finished | LifeEnd::Stopped => cut_by(alloc, &left, has_left_front, tears),
+        LifeEnd::Failed(_) => Ok(last),
+        LifeEnd::Finished | LifeEnd::Stopped => cut_by(alloc, &last, has_torn_front, tears),
     }
 }
 
@@ -72,17 +72,17 @@ pub(crate) fn disk_behind(
 fn cut_by(
     alloc: Global,
     disk: &MemDisk,
-    has_left_front: bool,
+    has_torn_front: bool,
     tears: &[u16],
 ) -> Result<MemDisk, StoryFault>
     ensures cut { IfOk result (λ d. memory_state_of d ≡ after_cut (memory_state_of disk.now)
-        (take (length (memory_state_of disk.now).pending - front_count has_left_front) tears.now)) }
+        (take (length (memory_state_of disk.now).pending - front_count has_torn_front) tears.now)) }
     ensures found { IfOk result (λ d. IsFoundAfterCut (memory_medium disk.now) (memory_medium d)) }
     ensures room { IfOk result (λ d. (memory_medium d).room ≡ (memory_medium disk.now).room) }
 {
     let earlier = disk
         .unsynced_count()
-        .saturating_sub(usize::from(has_left_front));
+        .saturating_sub(usize::from(has_torn_front));
     let named = tears.len().min(earlier);
     match disk.cut(alloc, &tears[..named]) {
         Ok(cut) => Ok(cut),

@@ -4,8 +4,9 @@ ghost use Rattle.std.specs.Prelude.{◌≡◌, [], false};
 
 use record_replay::{LineList, Outlet, OutletFault};
 use std::alloc::Global;
+use wasi_calls_rules::OutputStream;
 
-/// The lines of a life, and whether one was refused, which happens for want of memory alone.
+/// The lines of a life, and whether one was refused, which happens only when out of memory.
 #[derive(Debug, Drop)]
 pub(crate) struct HeardLines {
     pub(crate) lines: LineList,
@@ -29,7 +30,12 @@ impl Outlet for HeardLines {
 
     ghost takes = { λ old number line said new. HearsLine old number line said new };
 
-    fn release(&mut self, number: u64, stream: u8, text: &[u8]) -> Result<(), OutletFault> {
+    fn release(
+        &mut self,
+        number: u64,
+        stream: OutputStream,
+        text: &[u8],
+    ) -> Result<(), OutletFault> {
         match self.lines.release(number, stream, text) {
             Ok(()) => Ok(()),
             Err(fault) => {

@@ -2,7 +2,7 @@
 
 use sector_disk::Place;
 use wasi_abi::Answer;
-use wasm_syntax::Row;
+use wasm_syntax::ItemList;
 
 /// What the worker is told to do.
 #[derive(Clone, Copy, Debug, PartialEq, Eq)]
@@ -18,9 +18,9 @@ pub enum PlannedAct {
 pub struct PlannedLife {
     /// What its source hands out, one after another, whatever is asked for. From then on it has
     /// none.
-    pub answers: Row<Answer>,
+    pub answers: ItemList<Answer>,
     /// What the worker is told to do, one after another.
-    pub acts: Row<PlannedAct>,
+    pub acts: ItemList<PlannedAct>,
     /// The read, write or sync of this life, from 1 on, at which the power is cut. Also the front
     /// that it leaves, if it is a write.
     pub stop: Option<Place>,
@@ -32,5 +32,5 @@ pub struct PlannedLife {
     pub refuse: Option<u64>,
     /// The fronts, in bytes, that the cut keeps of the earlier writes since the last good sync, the
     /// oldest first. Of a write without a number all is kept, and of one that failed its front.
-    pub tears: Row<u16>,
+    pub tears: ItemList<u16>,
 }

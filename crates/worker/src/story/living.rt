@@ -3,7 +3,7 @@
 ghost use Rattle.std.specs.Prelude.{◌≤◌, map, Some, IfOk, OnOk};
 ghost use Rattle.state_image.specs.rules.Saving.{saved_of};
 ghost use Rattle.disk_layout.specs.rules.Places.{total_sectors};
-ghost use Rattle.worker.specs.laws.OneLife.{CallsInOrder, left_undone};
+ghost use Rattle.worker.specs.laws.OneLife.{CallsInOrder, undone_acts};
 ghost use Rattle.worker.specs.rules.Planned.{act_of};
 ghost use Rattle.worker.specs.rules.Told.{TellsOpening};
 ghost use Rattle.worker.specs.LifeCalls.{TellsGeneration};
@@ -16,10 +16,10 @@ use crate::story::report::Opening;
 use crate::{RecoverFault, WorkFault, Worker};
 use record_replay::{Outlet, Source};
 use sector_disk::Disk;
-use state_image::write_image;
+use state_image::write_process_image;
 use std::alloc::{AllocError, Global};
 use wasi_abi::Config;
-use wasm_syntax::Row;
+use wasm_syntax::ItemList;
 
 /// The bytes of a module, and its configuration.
 #[derive(Clone, Copy)]
@@ -36,7 +36,7 @@ pub(crate) struct LivedOnce {
 }
 
 /// One life on this disk: a recovery, or a creation, and then these acts up to the first error.
-/// Only want of memory for what is told makes it fail.
+/// Only out of memory for what is told makes it fail.
 pub(crate) fn live_once<D: Disk, S: Source, O: Outlet>(
     alloc: Global,
     spelled: SpelledWorker,
@@ -58,7 +58,7 @@ pub(crate) fn live_once<D: Disk, S: Source, O: Outlet>(
     }
 }
 
-/// What comes behind the opening.
+/// What comes after the opening.
 fn go_on<D: Disk, S: Source, O: Outlet>(
     alloc: Global,
     opened: OpenedWorker,
@@ -73,7 +73,7 @@ fn go_on<D: Disk, S: Source, O: Outlet>(
     ensures generation { IfOk result (λ lived.
         TellsGeneration opened.is_created opened.worker.store.journal.generation lived.opened) }
     ensures done { IfOk result (λ lived. CallsInOrder D.medium S.gives O.takes (map act_of acts.now)
-        opened.worker disk.old source.old outlet.old (left_undone lived.ended) disk.new source.new
+        opened.worker disk.old source.old outlet.old (undone_acts lived.ended) disk.new source.new
         outlet.new) }
 {
     let OpenedWorker {
@@ -97,16 +97,16 @@ fn tell_opening(alloc: Global, worker: &Worker, is_created: bool) -> Result<Open
         (TellsGeneration is_created worker.now.store.journal.generation) }
 {
     let process = worker.process();
-    let image = Row::from_vec(write_image(alloc, process)?);
+    let process_image = ItemList::from_vec(write_process_image(alloc, process)?);
     if is_created {
-        return Ok(Opening::Created { image });
+        return Ok(Opening::Created { process_image });
     }
     Ok(Opening::Recovered {
         generation: worker.generation(),
         steps: process.steps(),
         answers: process.answers(),
         lines: process.lines(),
-        image,
+        process_image,
     })
 }
 
@@ -120,7 +120,7 @@ fn do_all<D: Disk, S: Source, O: Outlet>(
 ) -> Result<(), RecoverFault>
     requires { total_sectors worker.old.store.geometry ≤ (D.medium disk.old).sectors }
     ensures { CallsInOrder D.medium S.gives O.takes (map act_of acts.now) worker.old disk.old
-        source.old outlet.old (left_undone result) disk.new source.new outlet.new }
+        source.old outlet.old (undone_acts result) disk.new source.new outlet.new }
 {
     for act in acts {
         match do_one(worker, disk, *act, source, outlet) {

@@ -1,5 +1,5 @@
-//! Lists of lives of a worker on one disk in memory, with a cut of the power or an error behind
-//! each (this project's own).
+//! Lists of lives of a worker on one disk in memory, with a cut of the power or an error after each
+//! (this project's own).
 //!
 //! # Promises
 //!
@@ -9,17 +9,17 @@
 //!   The report tells each (`TellsLives`). It says how it was opened, and the image and the numbers
 //!   of the process then. It has all its lines in order, and says how it ended, and with how many
 //!   calls of the disk.
-//! - A life begins at most `most_calls` calls of its disk before each of its events, and behind the
+//! - A life begins at most `most_calls` calls of its disk before each of its events, and after the
 //!   last one (`BeginFewCalls`). So it isn't told as stopped at a call that it can't have come to.
 //! - So a life isn't opened, or leaves an act undone, only where its stop came first, or an error
-//!   with its cause. That is the call of the disk that fails, the line that is refused, want of
+//!   with its cause. That is the call of the disk that fails, the line that is refused, out of
 //!   memory, an answer that doesn't fit, or a number at its end (`MayEnd` of `restart_theorem`).
 //! - Want of memory inside of a life ends that life. `StoryFault` is told only where memory was
 //!   refused to `story` itself.
-//! - A life without a stop, or whose stop isn't reached, is cut behind its last act. One that ends
+//! - A life without a stop, or whose stop isn't reached, is cut after its last act. One that ends
 //!   by another error isn't cut, and the next one finds the same disk (`IsFoundBehind`). The fronts
 //!   that a cut keeps are those that are told, in order, of all writes but the front of a stop
-//!   (`IsLeftBy`).
+//!   (`IsNextDisk`).
 //! - All lives are run on one disk, which is empty at first, by the calls of a worker (`AreRunOn`).
 //!   It takes as many writes between two syncs as ever wait for one (`most_unsynced`), and not one
 //!   more. A life whose worker left more of them unsynced would end in a fault of the disk.
@@ -74,7 +74,7 @@ pub use report::{LifeEnd, LifeReport, Opening, Report};
 use sector_disk::{FaultDisk, MemDisk};
 use std::alloc::Global;
 use wasi_abi::Config;
-use wasm_syntax::Row;
+use wasm_syntax::ItemList;
 
 /// How many heads a disk has.
 const HEADS: usize = 2;
@@ -89,15 +89,15 @@ pub fn story(
     ensures { IfOk result (λ report. TellsLives wasm.now config.now lives.now report.lives) }
 {
     let mut disk = empty_disk(alloc, wasm, config)?;
-    let mut told = Row::new(alloc);
+    let mut told = ItemList::new(alloc);
     for life in lives {
-        let LivedOn { report, disk: left } = live(
+        let LivedOn { report, disk: last } = live(
             alloc,
             SpelledWorker { wasm, config },
             disk,
             life,
         )?;
-        disk = left;
+        disk = last;
         match told.push(report) {
             Ok(()) => {}
             Err(_) => return Err(StoryFault::Memory),
@@ -146,7 +146,7 @@ struct LivedOn {
     disk: MemDisk,
 }
 
-/// One life on this disk, up to its stop, and the cut behind it.
+/// One life on this disk, up to its stop, and the cut after it.
 fn live(
     alloc: Global,
     spelled: SpelledWorker,

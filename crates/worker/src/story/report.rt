@@ -2,14 +2,14 @@
 
 use crate::RecoverFault;
 use record_replay::LineList;
-use wasm_syntax::Row;
+use wasm_syntax::ItemList;
 
 /// How a life was opened, and the image of its process right after that.
 #[derive(Debug, Drop)]
 pub enum Opening {
     /// A fresh worker was created: the disk held none.
     Created {
-        image: Row<u8>,
+        process_image: ItemList<u8>,
     },
     /// The worker on the disk went on, as this generation, with so many steps, answers and lines.
     Recovered {
@@ -17,7 +17,7 @@ pub enum Opening {
         steps: u64,
         answers: u64,
         lines: u64,
-        image: Row<u8>,
+        process_image: ItemList<u8>,
     },
     Unopened,
 }
@@ -47,5 +47,5 @@ pub struct LifeReport {
 /// What is told of a list of lives, in order.
 #[derive(Debug, Drop)]
 pub struct Report {
-    pub lives: Row<LifeReport>,
+    pub lives: ItemList<LifeReport>,
 }

@@ -7,7 +7,7 @@ use Rattle.wasi_abi.specs.declared.version.Version.TheVariants.{One, Two}
 use Rattle.wasi_abi.specs.rules.Configs.{Settings}
 use Rattle.process_rules.specs.Runs.{Kept, Wider, version_after}
 use Rattle.process_rules.specs.Behind.{IsNarrowTo}
-use Rattle.state_image.specs.rules.Image.{Saved}
+use Rattle.state_image.specs.rules.ProcessImage.{Saved}
 use Rattle.restart_theorem.specs.Lives.{Act, Slice, Checkpoint, Upgrade, Reply, Spent, Waits, Over}
 use Rattle.restart_theorem.specs.Lives.{Done, Fails, Cause, OfDisk, OfSource, OfAnswer, OfOutlet}
 use Rattle.restart_theorem.specs.Lives.{OfMemory, OfBounds, OfJournal, OfLines, Ended}

@@ -3,18 +3,19 @@ use Rattle.std.proofs.Common.{◌≡◌, ◌⊎◌, List, [], length, ap, subst,
 use Rattle.std.proofs.Common.{arith}
 use Rattle.std.proofs.Math.Nat.{le-max_right}
 use Rattle.process_rules.specs.Runs.{Kept}
-use Rattle.state_image.specs.rules.Image.{Saved}
-use Rattle.sector_disk.specs.rules.Image.{Image}
+use Rattle.state_image.specs.rules.ProcessImage.{Saved}
+use Rattle.sector_disk.specs.rules.DiskImage.{DiskImage}
 use Rattle.sector_disk.specs.rules.Medium.{Medium}
 use Rattle.sector_disk.proofs.Moments.{leaves_weaker}
 use Rattle.restart_theorem.specs.Stands.{IsBlank}
 use Rattle.restart_theorem.specs.Lives.{Opened}
 use Rattle.restart_theorem.specs.Promises.{Promise, after}
-use Rattle.restart_theorem.specs.Holds.{IsNothingYet, ImageHolds}
+use Rattle.restart_theorem.specs.Holds.{IsNothingYet, DiskImageHolds}
 use Rattle.worker_store.specs.laws.Commits.{BeginsAtPoint}
 use Rattle.worker_store.specs.laws.Carried.{IsHeldAt, PromisesNoMore}
 use Rattle.worker_store.specs.laws.Anew.{CreationOpens}
-use Rattle.worker_store.proofs.LawLemmas.Carrying.{held_at_stands, fresh_is_held, opening_is_held}
+use Rattle.worker_store.proofs.LawLemmas.Carrying.{held_at_holds_promise, fresh_is_held}
+use Rattle.worker_store.proofs.LawLemmas.Carrying.{opening_is_held}
 use Rattle.worker_store.proofs.LawLemmas.Carrying.{less_is_held}
 
 -- where nothing was promised, an opening takes nothing back
@@ -42,20 +43,21 @@ module _ {D : Type 0} (medium : D → Medium) where
       none_taken
       (opening_is_held m config promise first
       (fresh_is_held m config promise first nothing created empty no_lines))) in
-      let P : Image → Type 0 = λ disk. IsBlank disk ⊎ BeginsAtPoint first disk in
-      let holds : (disk : Image) → P disk → ImageHolds m config promise more disk =
+      let P : DiskImage → Type 0 = λ disk. IsBlank disk ⊎ BeginsAtPoint first disk in
+      let holds : (disk : DiskImage) → P disk → DiskImageHolds m config promise more disk =
       λ disk at. ⊎_elim
       (λ (blank : IsBlank disk). inl (nothing, blank))
       (λ (begins : BeginsAtPoint first disk).
       inr (less_is_held m config promise more more disk
       (opening_promises_no_less promise shown nothing)
-      (held_at_stands m config more first [] first.process disk held begins.at))) at in
+      (held_at_holds_promise m config more first [] first.process disk held begins.at))) at in
       record {
         carries = record {
           at_any_moment = leaves_weaker (medium old) (medium new) P
-              (ImageHolds m config promise more) leaves holds;
-          in_the_end = λ disk left. inr
-              (held_at_stands m config more first [] first.process disk held (stands disk left));
+              (DiskImageHolds m config promise more) leaves holds;
+          in_the_end = λ disk crashed. inr
+              (held_at_holds_promise m config more first [] first.process disk held
+              (stands disk crashed));
         };
         held = held;
       }

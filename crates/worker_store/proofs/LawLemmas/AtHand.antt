@@ -8,14 +8,14 @@ use Rattle.wasm_syntax.specs.declared.module.Module.{Module}
 use Rattle.wasm_semantics.specs.Validity.{AreFunctionTypes, module_context}
 use Rattle.wasi_abi.specs.declared.version.Version.TheVariants.{One}
 use Rattle.wasi_abi.specs.rules.Configs.{Settings}
-use Rattle.wasi_calls_rules.specs.Hosts.{Host}
+use Rattle.wasi_calls_rules.specs.WasiStates.{WasiState}
 use Rattle.process_rules.specs.Processes.{ProcessState, Guest, IsStart}
 use Rattle.process.specs.rules.Values.{ProcessValue, ShowsProcess}
 use Rattle.process_rules.specs.Runs.{Kept, Given, Wider, Runs, none, version_after}
-use Rattle.process_rules.proofs.Hosted.{reached_versions}
+use Rattle.process_rules.proofs.ReachedStates.{reached_versions}
 use Rattle.process_rules.proofs.Quiet.{runs_join}
 use Rattle.process.proofs.Lines.{all_shown}
-use Rattle.state_image.specs.rules.Image.{SavedShowsProcess}
+use Rattle.state_image.specs.rules.ProcessImage.{SavedShowsProcess}
 use Rattle.state_image.specs.rules.Saving.{saved_of}
 use Rattle.state_image.proofs.Shown.{saves_shown}
 use Rattle.disk_layout.specs.rules.Journal.{Record, TakesRecords}
@@ -86,7 +86,7 @@ pub version_shown : (guest : Guest) (v : ProcessValue) (p : ProcessState)
     → ShowsProcess v guest p → (saved_of v).version ≡ p.host.version
 version_shown guest v p shows =
     let host = shows.host in
-    sym (ap (λ (h : Host). h.version) host.is)
+    sym (ap (λ (h : WasiState). h.version) host.is)
 
 -- so what is saved where nothing else was kept is of the savepoint's version
 pub version_at_hand : (m : Module) (config : Settings) (point : Savepoint m config)

@@ -12,7 +12,7 @@ use Rattle.process_rules.specs.Runs.{Kept, Runs, Next, On, Over, Wants, Nowhere,
 use Rattle.process_rules.proofs.Growing.{runs_count}
 use Rattle.process_rules.proofs.Quiet.{runs_join}
 use Rattle.process.specs.rules.Stops.{LacksNumbers}
-use Rattle.state_image.specs.rules.Image.{Saved}
+use Rattle.state_image.specs.rules.ProcessImage.{Saved}
 use Rattle.restart_theorem.specs.Lives.{Act, Slice, Done, Ended}
 use Rattle.restart_theorem.specs.Lives.{Fails, Cause, OfDisk, OfSource, OfAnswer, OfOutlet}
 use Rattle.restart_theorem.specs.Lives.{OfMemory, OfBounds, OfJournal, OfLines, kept_by_end}
@@ -134,7 +134,7 @@ module _ (m : Module) (config : Settings) (guest : Guest) where
     no_numbers = lacks;
   }
   lacking given kept p shown at (Over why configuration host) leads lacks = absurd lacks
-  lacking given kept p shown at (Wants kind) leads lacks = absurd lacks
+  lacking given kept p shown at (Wants question) leads lacks = absurd lacks
   lacking given kept p shown at Nowhere leads lacks = absurd lacks
 
   at_bound : (promise : Promise) (kept : List Kept) (p : ProcessState) (shown : Saved)

@@ -7,13 +7,13 @@ use Rattle.std.proofs.lemmas.Bool.{cases_lt}
 use Rattle.std.proofs.lemmas.List.{append-nil, length-take-le, take_all, take-take}
 use Rattle.wasm_syntax.specs.declared.module.Module.{Module}
 use Rattle.wasi_abi.specs.rules.Configs.{Settings}
-use Rattle.wasi_calls_rules.specs.Hosts.{Host}
+use Rattle.wasi_calls_rules.specs.WasiStates.{WasiState}
 use Rattle.wasi_calls_rules.specs.laws.Laws.{Emits}
 use Rattle.process_rules.specs.Processes.{ProcessState}
 use Rattle.process_rules.specs.Runs.{Kept, Given, Runs, Reaches}
 use Rattle.process_rules.specs.Behind.{AnswersBehindLine}
 use Rattle.process_rules.proofs.Growing.{runs_count, runs_emit}
-use Rattle.sector_disk.specs.rules.Image.{Image}
+use Rattle.sector_disk.specs.rules.DiskImage.{DiskImage}
 use Rattle.sector_disk.specs.rules.Medium.{Medium, LeavesOnly}
 use Rattle.sector_disk.proofs.Moments.{leaves_weaker}
 use Rattle.disk_layout.specs.rules.Journal.{Record}
@@ -26,24 +26,24 @@ use Rattle.record_replay.proofs.OneRecording.{one_recorded}
 use Rattle.restart_theorem.proofs.Fronts.{none_widens, up_to_front}
 use Rattle.restart_theorem.specs.Lives.{Checkpoint, Done, Ended}
 use Rattle.restart_theorem.specs.Promises.{Promise, after, HoldsAll}
-use Rattle.restart_theorem.specs.Holds.{HoldsPromise, IsUnopened, ImageHolds, CarriesPromise}
+use Rattle.restart_theorem.specs.Holds.{HoldsPromise, IsUnopened, DiskImageHolds, CarriesPromise}
 use Rattle.restart_theorem.proofs.Disks.{blank_stands_for_none}
-use Rattle.worker_store.specs.laws.Savepoints.{Savepoint, point_of, StandsAtPoint, StandsBySaved}
-use Rattle.worker_store.specs.laws.Barriers.{StandsAtFront}
+use Rattle.worker_store.specs.laws.Savepoints.{Savepoint, point_of, IsAtSavepoint, StandsBySaved}
+use Rattle.worker_store.specs.laws.Barriers.{IsAtFront}
 use Rattle.worker_store.specs.laws.Commits.{BeginsAtPoint}
 use Rattle.worker_store.specs.laws.Carried.{answers_at, count_at, IsHeldAt, IsCarried}
-use Rattle.worker_store.specs.laws.Carried.{HeldAtStands}
+use Rattle.worker_store.specs.laws.Carried.{HeldAtHoldsPromise}
 use Rattle.worker_store.specs.laws.Carried.{MarkedIsHeld, BlankIsUnopened, StaysCarried}
-use Rattle.worker_store.specs.laws.Carried.{StandsHeldAt, PromisesNoMore, LessIsHeld}
+use Rattle.worker_store.specs.laws.Carried.{PromiseIsHeldAt, PromisesNoMore, LessIsHeld}
 use Rattle.worker_store.specs.laws.Carried.{NextIsHeld, FreshIsHeld, SavedIsHeld}
 use Rattle.worker_store.specs.laws.Carried.{OpeningIsHeld, PointIsAt, PointOpens, CarriedKeeps}
 use Rattle.worker_store.specs.laws.Carried.{BarrierCarries, BarrierCarriesOn, CommitCarries}
-use Rattle.worker_store.specs.laws.Carried.{StandingCarries, CreationCarries, BeginsCarried}
+use Rattle.worker_store.specs.laws.Carried.{SavepointCarries, CreationCarries, BeginsCarried}
 use Rattle.worker_store.specs.laws.Acts.{keeping_more}
 use Rattle.worker_store.proofs.LawLemmas.Acts.{saving_ends_alike}
 use Rattle.worker_store.proofs.LawLemmas.Points.{by_point, steps_of}
 use Rattle.worker_store.proofs.LawLemmas.Fronts.{front_kept, length_of_map}
-use Rattle.worker_store.proofs.LawLemmas.Passing.{left_in_the_end}
+use Rattle.worker_store.proofs.LawLemmas.Passing.{crashed_in_the_end}
 use Rattle.worker_store.proofs.LawLemmas.Keeping.{stays_journaled}
 
 -- ---- counts
@@ -60,7 +60,7 @@ answers_count point records =
     length-append point.front (map given_in records)
     ∙ ap (λ n. length point.front + n) (length_of_map records)
 
-pub more_lines : (g h : Host) → Emits g h → length g.lines ≤ length h.lines
+pub more_lines : (g h : WasiState) → Emits g h → length g.lines ≤ length h.lines
 more_lines g h emits =
     let long : length h.lines ≡ length g.lines + length emits.lines =
     ap (λ l. length l) emits.are ∙ length-append g.lines emits.lines in
@@ -130,8 +130,8 @@ less_is_held m config less more now disk no_more holds =
 
 -- ---- an image
 
-pub held_at_stands : HeldAtStands
-held_at_stands m config promise point records last disk held at =
+pub held_at_holds_promise : HeldAtHoldsPromise
+held_at_holds_promise m config promise point records last disk held at =
     let by : StandsBySaved point (take (count_at point records) promise.kept) last.steps disk =
     by_point m config point records last disk (take (count_at point records) promise.kept)
     last.steps at held.front refl in
@@ -145,8 +145,8 @@ held_at_stands m config promise point records last disk held at =
       snapshot_passed = subst (λ s. promise.passed ≤ s.lines) (sym by.saved) held.passed;
     }
 
-pub stands_held_at : StandsHeldAt
-stands_held_at m config promise disk holds =
+pub promise_is_held_at : PromiseIsHeldAt
+promise_is_held_at m config promise disk holds =
     let stands = holds.stands in
     let all = holds.holds in
     let point : Savepoint m config = point_of stands in
@@ -204,7 +204,7 @@ module _ (m : Module) (config : Settings) (promise : Promise) (point : Savepoint
       (answers_at point (records ++ pending)) answers (answers_count point (records ++ pending))
 
   -- where all of them are there, it is the process at hand
-  all_there : (disk : Image) (at : StandsAtFront point records last pending disk)
+  all_there : (disk : DiskImage) (at : IsAtFront point records last pending disk)
       → length pending ≤ at.count
       → IsNarrowTo (drop (count_at point (records ++ take at.count pending)) promise.kept)
       at.process.steps
@@ -219,7 +219,7 @@ module _ (m : Module) (config : Settings) (promise : Promise) (point : Savepoint
       (subst (λ (l : List Record). IsNarrowTo (drop (count_at point (records ++ l)) promise.kept)
       now.steps) (sym whole) up)
 
-  pub front_is_held : (disk : Image) → StandsAtFront point records last pending disk
+  pub front_is_held : (disk : DiskImage) → IsAtFront point records last pending disk
       → HoldsPromise m config promise promise disk
   front_is_held disk at =
       let some : List Record = take at.count pending in
@@ -239,7 +239,7 @@ module _ (m : Module) (config : Settings) (promise : Promise) (point : Savepoint
       ∙ ap (λ l. take (count_at point those) l) answers
       ∙ ap (λ n. take n (answers_at point (records ++ pending))) count
       ∙ front_kept point.front records pending at.count in
-      held_at_stands m config promise point those at.process disk (record {
+      held_at_holds_promise m config promise point those at.process disk (record {
         created = held.created;
         front = front;
         recorded = recorded_join point.reached.guest point.process last at.process records some
@@ -568,22 +568,23 @@ all_is_held m config promise point journal records pending last now disk is =
 
 -- where each image that is left holds it, a call carries it
 pub carries : (m : Module) (config : Settings) (less promise : Promise) (old new : Medium)
-    (P : Image → Type 0) → PromisesNoMore less promise
-    → ((disk : Image) → P disk → HoldsPromise m config promise promise disk)
+    (P : DiskImage → Type 0) → PromisesNoMore less promise
+    → ((disk : DiskImage) → P disk → HoldsPromise m config promise promise disk)
     → LeavesOnly old new P → CarriesPromise m config less promise old new
 carries m config less promise old new P no_more holds leaves = record {
-  at_any_moment = leaves_weaker old new P (ImageHolds m config less promise) leaves
+  at_any_moment = leaves_weaker old new P (DiskImageHolds m config less promise) leaves
       (λ image at.
       inr (less_is_held m config less promise promise image no_more (holds image at)));
-  in_the_end = λ image left. inr (holds image (left_in_the_end old new P leaves image left));
+  in_the_end = λ image crashed. inr (holds image (crashed_in_the_end old new P leaves
+      image crashed));
 }
 
 module _ {D : Type 0} (medium : D → Medium) where
   pub carried_keeps : CarriedKeeps medium
-  carried_keeps m config promise point journal records pending last now disk is image left =
+  carried_keeps m config promise point journal records pending last now disk is image crashed =
       let journaled = is.journaled in
-      inr (held_at_stands m config promise point records last image is.held
-      (journaled.stands image left))
+      inr (held_at_holds_promise m config promise point records last image is.held
+      (journaled.at_savepoint image crashed))
 
   pub stays_carried : StaysCarried medium
   stays_carried m config promise point journal records pending last now old new is stays = record {
@@ -619,30 +620,31 @@ module _ {D : Type 0} (medium : D → Medium) where
       let there = next_is_held m config promise point next records more last held saves in
       carries m config less promise (medium old) (medium new) _ no_more
       (λ disk at. ⊎_elim
-      (λ (stands : StandsAtPoint point records last disk).
-      held_at_stands m config promise point records last disk held stands)
+      (λ (stands : IsAtSavepoint point records last disk).
+      held_at_holds_promise m config promise point records last disk held stands)
       (λ (begins : BeginsAtPoint next disk).
-      held_at_stands m config promise next [] next.process disk there begins.at) at) leaves
+      held_at_holds_promise m config promise next [] next.process disk there begins.at) at) leaves
 
-  pub standing_carries : StandingCarries medium
-  standing_carries m config less promise point records last old new no_more held leaves =
+  pub savepoint_carries : SavepointCarries medium
+  savepoint_carries m config less promise point records last old new no_more held leaves =
       carries m config less promise (medium old) (medium new) _ no_more
-      (λ disk stands. held_at_stands m config promise point records last disk held stands) leaves
+      (λ disk stands. held_at_holds_promise m config promise point records last disk held
+      stands) leaves
 
   pub creation_carries : CreationCarries medium
   creation_carries m config promise point old new nothing created empty no_lines leaves =
       let held = fresh_is_held m config promise point nothing created empty no_lines in
-      let P : Image → Type 0 = λ disk. IsBlank disk ⊎ BeginsAtPoint point disk in
-      let holds : (disk : Image) → P disk → ImageHolds m config promise promise disk =
+      let P : DiskImage → Type 0 = λ disk. IsBlank disk ⊎ BeginsAtPoint point disk in
+      let holds : (disk : DiskImage) → P disk → DiskImageHolds m config promise promise disk =
       λ disk at. ⊎_elim
       (λ (blank : IsBlank disk). inl (nothing, blank))
       (λ (begins : BeginsAtPoint point disk).
-      inr (held_at_stands m config promise point [] point.process disk held begins.at)) at in
+      inr (held_at_holds_promise m config promise point [] point.process disk held begins.at)) at in
       record {
         at_any_moment = leaves_weaker (medium old) (medium new) P
-            (ImageHolds m config promise promise) leaves holds;
-        in_the_end = λ image left.
-            holds image (left_in_the_end (medium old) (medium new) P leaves image left);
+            (DiskImageHolds m config promise promise) leaves holds;
+        in_the_end = λ image crashed.
+            holds image (crashed_in_the_end (medium old) (medium new) P leaves image crashed);
       }
 
   pub begins_carried : BeginsCarried medium

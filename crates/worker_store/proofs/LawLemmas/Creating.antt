@@ -13,8 +13,8 @@ use Rattle.wasi_abi.specs.rules.Layouts.{padding}
 use Rattle.disk_layout.specs.declared.superblock.TheConstants.{SUPER_END_MARK}
 use Rattle.wasm_syntax.specs.declared.module.Module.{Module}
 use Rattle.wasi_abi.specs.rules.Configs.{Settings}
-use Rattle.state_image.specs.rules.Image.{image}
-use Rattle.sector_disk.specs.rules.Image.{Image, sector_at, front_over}
+use Rattle.state_image.specs.rules.ProcessImage.{process_image}
+use Rattle.sector_disk.specs.rules.DiskImage.{DiskImage, sector_at, front_over}
 use Rattle.sector_disk.proofs.ExampleLemmas.{differ}
 use Rattle.disk_layout.specs.rules.Places.{Geometry, geometry_of, config_bytes, head_place}
 use Rattle.disk_layout.specs.rules.Places.{area_place, journal_place, rounded_up}
@@ -34,7 +34,7 @@ use Rattle.worker_store.specs.laws.Creations.{FirstCommitKeepsNoSuper, AwaitsSup
 use Rattle.worker_store.specs.laws.Creations.{FirstCommitAwaitsSuper}
 use Rattle.worker_store.specs.laws.Creations.{super_of_point, SuperBegins, WholeSuperBegins}
 use Rattle.worker_store.specs.laws.Creations.{FreshStandsForNone}
-use Rattle.worker_store.proofs.LawLemmas.Sectors.{SameSector, contents_stay, image_stays}
+use Rattle.worker_store.proofs.LawLemmas.Sectors.{SameSector, contents_stay, process_image_stays}
 use Rattle.worker_store.proofs.LawLemmas.Sectors.{contents_below, some_below}
 use Rattle.worker_store.proofs.LawLemmas.Points.{point_stands_alone}
 use Rattle.worker_store.proofs.LawLemmas.Replacing.{super_outside, contents_outside}
@@ -96,7 +96,7 @@ zeros_show_none place sector from e =
     none_there : (found place : ℕ) → found ≡ 0 → found ≡ place → 1 ≤ place → ⊥
     none_there found place e is from = omega (arith, e, is, from)
 
-no_heads : (disk : Image) → shown_generation 1 (sector_at disk 1) ≡ 0
+no_heads : (disk : DiskImage) → shown_generation 1 (sector_at disk 1) ≡ 0
     → shown_generation 1 (sector_at disk 2) ≡ 0 → heads_to disk ≡ 0
 no_heads disk first second = omega (arith, first, second)
 
@@ -138,7 +138,7 @@ zero_runs_await_head config wasm first second third none contents heads journal 
       journal = λ k below. journal.each k below ∙ zeros_at geometry.journal_sectors k below;
     })
 
-ready_for_first : (config : Settings) (wasm : List ℕ) (disk : Image) (g : ℕ) → g ≡ 1
+ready_for_first : (config : Settings) (wasm : List ℕ) (disk : DiskImage) (g : ℕ) → g ≡ 1
     → AwaitsHead config wasm disk → IsReadyForHead g disk
 ready_for_first config wasm disk g first awaits = record {
   before = inl (first, awaits.no_head);
@@ -230,13 +230,13 @@ whole_super front super size from within =
     ∙ take_all 512 super (omega (arith, size))
 
 -- with the super before what is awaits
-awaited_begins : (m : Module) (config : Settings) (point : Savepoint m config) (old new : Image)
+awaited_begins : (m : Module) (config : Settings) (point : Savepoint m config) (old new : DiskImage)
     → AwaitsSuper point old → sector_at new 0 ≡ super_of_point point
     → ((k : ℕ) → 1 ≤ k → SameSector old new k) → BeginsAtPoint point new
 awaited_begins m config point old new awaits super same =
     let geometry : Geometry = places point in
     let g : ℕ = point.generation in
-    let bytes : List ℕ = image point.saved in
+    let bytes : List ℕ = process_image point.saved in
     let area : ℕ = area_place geometry g in
     let heads : (n : ℕ) → SameSector old new (head_place n) =
     λ n. same (head_place n) (omega arith) in
@@ -249,8 +249,9 @@ awaited_begins m config point old new awaits super same =
           awaits.contents;
     })
     (record {
-      holds = image_stays geometry old new g (version_number point.saved.version) bytes heads
-          (λ k from below. same k (in_area geometry g k from)) had.holds;
+      holds = process_image_stays geometry old new g (version_number
+          point.saved.version) bytes heads (λ k from below. same k
+          (in_area geometry g k from)) had.holds;
       zeros = bytes_same old new area (rounded_up (length bytes))
           (λ k from below. same k (in_area geometry g k from)) ∙ had.zeros;
       heads = heads_move old new heads ∙ had.heads;

@@ -10,10 +10,10 @@ use Rattle.wasi_abi.specs.declared.version.Version.{Version}
 use Rattle.wasi_abi.specs.rules.Configs.{Settings}
 use Rattle.process_rules.specs.Processes.{ProcessState, Guest}
 use Rattle.process_rules.specs.Runs.{Kept}
-use Rattle.sector_disk.specs.rules.Image.{Image}
+use Rattle.sector_disk.specs.rules.DiskImage.{DiskImage}
 use Rattle.disk_layout.specs.rules.Places.{Geometry, journal_place}
 use Rattle.disk_layout.specs.rules.Journal.{Record, scan}
-use Rattle.journal.specs.rules.Steps.{RecordsStand, AllRecordsFit, records_bytes}
+use Rattle.journal.specs.rules.Steps.{HoldsRecords, AllRecordsFit, records_bytes}
 use Rattle.journal.specs.rules.Steps.{SameOthers, ShowsNoneAfter}
 use Rattle.journal.proofs.RunLemmas.{all_bytes}
 use Rattle.journal.proofs.RecordLemmas.{scan_of}
@@ -21,14 +21,14 @@ use Rattle.record_replay.specs.rules.Records.{Recorded, none, more, given_in}
 use Rattle.record_replay.proofs.Recordings.{recorded_join}
 use Rattle.restart_theorem.specs.Stands.{IsNumbered}
 use Rattle.restart_theorem.proofs.NumbersKept.{records_keep_numbers}
-use Rattle.worker_store.specs.laws.Savepoints.{Savepoint, places, point_of, StandsAtPoint}
+use Rattle.worker_store.specs.laws.Savepoints.{Savepoint, places, point_of, IsAtSavepoint}
 use Rattle.worker_store.specs.laws.Barriers.{RecordedOnce, BarrierLeavesFront, BarrierLeavesAll}
 use Rattle.worker_store.specs.laws.Barriers.{FrontStands, BarrierStands}
-use Rattle.worker_store.proofs.LawLemmas.Sectors.{worker_stays, image_below, contents_below}
+use Rattle.worker_store.proofs.LawLemmas.Sectors.{worker_stays, process_image_below, contents_below}
 use Rattle.worker_store.proofs.LawLemmas.Sectors.{some_below}
 use Rattle.worker_store.proofs.LawLemmas.Sectors.{SameSector, none_later_of, head_stays}
 use Rattle.worker_store.proofs.LawLemmas.Points.{recorded_front, point_stands}
-use Rattle.worker_store.proofs.LawLemmas.Points.{stands_at_its_point}
+use Rattle.worker_store.proofs.LawLemmas.Points.{is_at_its_savepoint}
 
 -- ---- records
 
@@ -43,9 +43,9 @@ both_fit v [] others fit fit_others = fit_others
 both_fit v (r ∷ records) others fit fit_others =
     (fit.0, both_fit v records others fit.1 fit_others)
 
--- the records that stand are scanned
+-- the records that are held are scanned
 pub scanned_all : (v : Version) (geometry : Geometry) (g used : ℕ) (records : List Record)
-    (disk : Image) → RecordsStand geometry v g used records disk → AllRecordsFit v records
+    (disk : DiskImage) → HoldsRecords geometry v g used records disk → AllRecordsFit v records
     → scan geometry v disk g ≡ records
 scanned_all v geometry g used records disk stands fit =
     let read = all_bytes geometry g used (records_bytes v records) disk stands in
@@ -60,8 +60,8 @@ scanned_all v geometry g used records disk stands fit =
 -- ---- an image
 
 -- all below the journal stays
-below_same : (geometry : Geometry) (used : ℕ) (old new : Image) → SameOthers geometry used old new
-    → (k : ℕ) → k < journal_place geometry → SameSector old new k
+below_same : (geometry : Geometry) (used : ℕ) (old new : DiskImage)
+    → SameOthers geometry used old new → (k : ℕ) → k < journal_place geometry → SameSector old new k
 below_same geometry used old new others k below =
     others.below k (from_below (journal_place geometry) used k below)
   where
@@ -70,12 +70,12 @@ below_same geometry used old new others k below =
 
 -- with other records in its journal
 with_journal : (m : Module) (config : Settings) (point : Savepoint m config)
-    (records later : List Record) (last q : ProcessState) (used : ℕ) (old new : Image)
-    → StandsAtPoint point records last old → SameOthers (places point) used old new
+    (records later : List Record) (last q : ProcessState) (used : ℕ) (old new : DiskImage)
+    → IsAtSavepoint point records last old → SameOthers (places point) used old new
     → ShowsNoneAfter (places point) point.generation new
     → scan (places point) point.saved.version new point.generation ≡ later
     → Recorded point.reached.guest point.process later q → IsNumbered q
-    → StandsAtPoint point later q new
+    → IsAtSavepoint point later q new
 with_journal m config point records later last q used old new at others none_later scanned
     recorded numbers =
     let same = below_same (places point) used old new others in
@@ -84,7 +84,7 @@ with_journal m config point records later last q used old new at others none_lat
       worker = worker_stays config point.wasm old new
           (same 0 (some_below (places point) 0 (omega arith)))
           (λ k from below. same k (contents_below (places point) k below)) at.worker;
-      holds = image_below (places point) old new point.generation _ _ same at.holds;
+      holds = process_image_below (places point) old new point.generation _ _ same at.holds;
       scanned = scanned;
       recorded = recorded;
       numbers = numbers;
@@ -117,7 +117,8 @@ pub barrier_leaves_all : BarrierLeavesAll
 barrier_leaves_all m config point records pending last q used count old new at recorded numbers
     appends fit fit_pending stands =
     let scanned = scanned_all point.saved.version (places point) point.generation count
-    (records ++ pending) new stands (both_fit point.saved.version records pending fit fit_pending) in
+    (records ++ pending) new stands (both_fit point.saved.version records pending fit
+    fit_pending) in
     let all = recorded_join point.reached.guest point.process last q records pending at.recorded
     recorded in
     with_journal m config point records (records ++ pending) last q used old new at
@@ -140,7 +141,7 @@ pub length_of_map : (records : List Record) → length (map given_in records) �
 length_of_map [] = refl
 length_of_map (r ∷ records) = ap (λ (n : ℕ). suc n) (length_of_map records)
 
--- the answers of a front of the records
+-- the answers of a prefix of the records
 pub front_kept : (front : List Kept) (records pending : List Record) (count : ℕ)
     → take (length front + length records + count) (front ++ map given_in (records ++ pending))
     ≡ front ++ map given_in (records ++ take count pending)
@@ -164,7 +165,7 @@ front_stands m config point records pending last disk kept all at =
     (ap (λ l. take (length point.front + length records + at.count) l) all
     ∙ front_kept point.front records pending at.count)
 
--- with the answers of more records behind those of some
+-- with the answers of more records after those of some
 kept_further : (front kept : List Kept) (records others : List Record)
     → kept ≡ front ++ map given_in records
     → kept ++ map given_in others ≡ front ++ map given_in (records ++ others)
@@ -176,7 +177,7 @@ kept_further front kept records others rest =
 pub barrier_stands : BarrierStands
 barrier_stands m config kept n old new stands pending q used recorded numbers appends =
     let point : Savepoint m config = point_of stands in
-    let at = stands_at_its_point old m config kept n stands in
+    let at = is_at_its_savepoint old m config kept n stands in
     let front = recorded_front stands.reached.guest stands.last q pending appends.count recorded in
     let more : List Record = take appends.count pending in
     let all = recorded_join stands.reached.guest stands.process stands.last front.process

@@ -8,7 +8,7 @@ use Rattle.wasi_abi.specs.declared.version.Version.{Version}
 use Rattle.disk_layout.specs.rules.Places.{Geometry}
 use Rattle.disk_layout.specs.rules.Journal.{Record, record_bytes}
 use Rattle.journal.specs.rules.State.{JournalState}
-use Rattle.journal.specs.rules.Steps.{AppendsFront, RecordsStand, RecordFits, AllRecordsFit}
+use Rattle.journal.specs.rules.Steps.{AppendsFront, HoldsRecords, RecordFits, AllRecordsFit}
 use Rattle.journal.specs.rules.Steps.{records_bytes, IsOn}
 use Rattle.record_replay.specs.rules.Records.{none}
 use Rattle.worker_store.specs.laws.Savepoints.{places}
@@ -17,7 +17,7 @@ use Rattle.worker_store.specs.laws.Journaled.{AppendGoesOn, StaysJournaled, Begi
 use Rattle.worker_store.proofs.LawLemmas.Fronts.{recorded_once, both_fit, barrier_leaves_front}
 use Rattle.worker_store.proofs.LawLemmas.Fronts.{barrier_leaves_all}
 use Rattle.worker_store.proofs.LawLemmas.Replacing.{no_records}
-use Rattle.worker_store.proofs.LawLemmas.Passing.{step_at_any_moment, left_in_the_end}
+use Rattle.worker_store.proofs.LawLemmas.Passing.{step_at_any_moment, crashed_in_the_end}
 
 -- ---- the bytes in memory
 
@@ -30,12 +30,12 @@ one_more v pending r =
 appended_on : (geometry : Geometry) (journal : JournalState) (records pending : List Record)
     (r : Record) (disk : Medium)
     → IsOn geometry journal.version journal.generation journal.used journal.kept records pending
-    disk.may_leave
+    disk.crash_images
     → RecordFits journal.version r
     → IsOn geometry journal.version journal.generation journal.used
-    (journal.kept ++ record_bytes journal.version r) records (pending ++ r ∷ []) disk.may_leave
+    (journal.kept ++ record_bytes journal.version r) records (pending ++ r ∷ []) disk.crash_images
 appended_on geometry journal records pending r disk on fits = record {
-  stands = on.stands;
+  holds_records = on.holds_records;
   spells = ap (λ l. l ++ record_bytes journal.version r) on.spells
       ∙ one_more journal.version pending r;
   fit = on.fit;
@@ -46,7 +46,7 @@ appended_on geometry journal records pending r disk on fits = record {
 module _ {D : Type 0} (medium : D → Medium) where
   pub barrier_at_any_moment : BarrierAtAnyMoment medium
   barrier_at_any_moment m config point journal records pending last now old new is leaves =
-      step_at_any_moment (medium old) (medium new) _ _ _ is.stands
+      step_at_any_moment (medium old) (medium new) _ _ _ is.at_savepoint
       (λ a b at appends.
       barrier_leaves_front m config point records pending last now journal.used a b at
       is.recorded is.numbers
@@ -58,7 +58,7 @@ module _ {D : Type 0} (medium : D → Medium) where
 
   pub barrier_in_the_end : BarrierInTheEnd medium
   barrier_in_the_end m config point before after records pending last now used old new is leaves
-      e stand =
+      e held =
       let same : after.generation ≡ before.generation =
       ap (λ (j : JournalState). j.generation) e in
       let version : after.version ≡ before.version = ap (λ (j : JournalState). j.version) e in
@@ -66,10 +66,10 @@ module _ {D : Type 0} (medium : D → Medium) where
       record {
         version = version ∙ is.version;
         generation = same ∙ is.generation;
-        stands = λ image left.
-            let step = left_in_the_end (medium old) (medium new) _ leaves image left in
+        at_savepoint = λ image crashed.
+            let step = crashed_in_the_end (medium old) (medium new) _ leaves image crashed in
             barrier_leaves_all m config point records pending last now before.used after.used
-            step.0 image (is.stands step.0 step.1) is.recorded is.numbers
+            step.0 image (is.at_savepoint step.0 step.1) is.recorded is.numbers
             (subst (λ g. AppendsFront (places point) point.saved.version g before.used records
             pending step.0 image)
             is.generation
@@ -77,13 +77,13 @@ module _ {D : Type 0} (medium : D → Medium) where
             pending step.0 image) is.version step.2))
             (subst (λ v. AllRecordsFit v records) is.version on.fit)
             (subst (λ v. AllRecordsFit v pending) is.version on.fit_kept)
-            (subst (λ g. RecordsStand (places point) point.saved.version g after.used
+            (subst (λ g. HoldsRecords (places point) point.saved.version g after.used
             (records ++ pending) image)
             (same ∙ is.generation)
-            (subst (λ v. RecordsStand (places point) v after.generation after.used
-            (records ++ pending) image) (version ∙ is.version) (stand image left)));
+            (subst (λ v. HoldsRecords (places point) v after.generation after.used
+            (records ++ pending) image) (version ∙ is.version) (held image crashed)));
         on = record {
-          stands = stand;
+          holds_records = held;
           spells = ap (λ (j : JournalState). j.kept) e;
           fit = subst (λ v. AllRecordsFit v (records ++ pending)) (sym version)
               (both_fit before.version records pending on.fit on.fit_kept);
@@ -102,10 +102,10 @@ module _ {D : Type 0} (medium : D → Medium) where
       record {
         version = ap (λ (j : JournalState). j.version) e ∙ is.version;
         generation = ap (λ (j : JournalState). j.generation) e ∙ is.generation;
-        stands = is.stands;
+        at_savepoint = is.at_savepoint;
         on = subst (λ (j : JournalState).
             IsOn (places point) j.version j.generation j.used j.kept records (pending ++ r ∷ [])
-            (medium disk).may_leave) (sym e) grown;
+            (medium disk).crash_images) (sym e) grown;
         recorded = recorded_once point.reached.guest last now asks next pending a n is.recorded
             runs moves;
         numbers = numbers;
@@ -117,9 +117,9 @@ module _ {D : Type 0} (medium : D → Medium) where
       record {
         version = is.version;
         generation = is.generation;
-        stands = λ image left. is.stands image (stays image left);
+        at_savepoint = λ image crashed. is.at_savepoint image (stays image crashed);
         on = record {
-          stands = λ image left. on.stands image (stays image left);
+          holds_records = λ image crashed. on.holds_records image (stays image crashed);
           spells = on.spells;
           fit = on.fit;
           fit_kept = on.fit_kept;
@@ -133,10 +133,10 @@ module _ {D : Type 0} (medium : D → Medium) where
   begins_journaled m config point disk begins below numbers = record {
     version = refl;
     generation = refl;
-    stands = λ image left. (let begun = begins image left in begun.at);
+    at_savepoint = λ image crashed. (let begun = begins image crashed in begun.at);
     on = record {
-      stands = λ image left.
-          let begun = begins image left in
+      holds_records = λ image crashed.
+          let begun = begins image crashed in
           no_records point.saved.version (places point) point.generation image begun.earlier;
       spells = refl;
       fit = tt;

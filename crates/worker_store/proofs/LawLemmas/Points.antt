@@ -9,17 +9,18 @@ use Rattle.wasi_abi.specs.rules.Configs.{Settings}
 use Rattle.process_rules.specs.Processes.{ProcessState, Guest}
 use Rattle.process_rules.specs.Runs.{Kept}
 use Rattle.process_rules.proofs.Growing.{runs_count, start_counts}
-use Rattle.state_image.specs.rules.Image.{image}
-use Rattle.state_image.proofs.Marks.{version_of_image}
-use Rattle.sector_disk.specs.rules.Image.{Image}
+use Rattle.state_image.specs.rules.ProcessImage.{process_image}
+use Rattle.state_image.proofs.Marks.{version_of_process_image}
+use Rattle.sector_disk.specs.rules.DiskImage.{DiskImage}
 use Rattle.disk_layout.specs.rules.Places.{Geometry, geometry_of}
-use Rattle.disk_layout.specs.rules.Sectors.{HasWorker, HoldsImage}
+use Rattle.disk_layout.specs.rules.Sectors.{HasWorker, HoldsProcessImage}
 use Rattle.disk_layout.specs.rules.Journal.{Record, scan}
 use Rattle.wasi_abi.specs.rules.Versions.{version_number}
 use Rattle.record_replay.specs.rules.Records.{Recorded, none, more, given_in}
 use Rattle.restart_theorem.specs.Stands.{ShowsNoneLater}
-use Rattle.worker_store.specs.laws.Savepoints.{Savepoint, StandsAtPoint, StandsBySaved}
-use Rattle.worker_store.specs.laws.Savepoints.{StandsAtItsPoint, PointStands, ReadAlikeStands}
+use Rattle.worker_store.specs.laws.Savepoints.{Savepoint, IsAtSavepoint, StandsBySaved}
+use Rattle.worker_store.specs.laws.Savepoints.{IsAtItsSavepoint, PointStands}
+use Rattle.worker_store.specs.laws.Savepoints.{ReadAlikeIsAtSavepoint}
 use Rattle.worker_store.specs.laws.Savepoints.{PointStandsAlone}
 
 -- ---- records, one after another
@@ -74,8 +75,8 @@ steps_of m config point =
 
 -- ---- what an image stands for
 
-pub stands_at_its_point : StandsAtItsPoint
-stands_at_its_point disk m config kept n stands = record {
+pub is_at_its_savepoint : IsAtItsSavepoint
+is_at_its_savepoint disk m config kept n stands = record {
   worker = stands.worker;
   holds = stands.holds;
   scanned = stands.scanned;
@@ -85,8 +86,8 @@ stands_at_its_point disk m config kept n stands = record {
 }
 
 pub by_point : (m : Module) (config : Settings) (point : Savepoint m config)
-    (records : List Record) (last : ProcessState) (disk : Image) (kept : List Kept) (n : ℕ)
-    → StandsAtPoint point records last disk → kept ≡ point.front ++ map given_in records
+    (records : List Record) (last : ProcessState) (disk : DiskImage) (kept : List Kept) (n : ℕ)
+    → IsAtSavepoint point records last disk → kept ≡ point.front ++ map given_in records
     → n ≡ last.steps → StandsBySaved point kept n disk
 by_point m config point records last disk kept n at rest step = record {
   stands = record {
@@ -129,21 +130,22 @@ point_stands_alone m config point disk at =
     by_point m config point [] point.process disk point.front point.steps at
     (sym (append-nil point.front)) (sym (steps_of m config point))
 
-pub read_alike_stands : ReadAlikeStands
-read_alike_stands m config point other records last q disk found at there wasm generation bytes =
+pub read_alike_is_at_savepoint : ReadAlikeIsAtSavepoint
+read_alike_is_at_savepoint m config point other records last q disk found at there wasm
+    generation bytes =
     let place : List ℕ → Geometry = λ w. geometry_of config (length w) in
     let version : other.saved.version ≡ point.saved.version =
-    version_of_image other.saved point.saved bytes in
+    version_of_process_image other.saved point.saved bytes in
     let v : Version = other.saved.version in
-    let holds : HoldsImage (place point.wasm) found point.generation
-    (version_number point.saved.version) (image point.saved) =
-    subst (λ w. HoldsImage (place point.wasm) found point.generation (version_number w)
-    (image point.saved)) version
-    (subst (λ l. HoldsImage (place point.wasm) found point.generation (version_number v) l) bytes
-    (subst (λ g. HoldsImage (place point.wasm) found g (version_number v) (image other.saved))
-    generation
-    (subst (λ w. HoldsImage (place w) found other.generation (version_number v)
-    (image other.saved)) wasm there.holds))) in
+    let holds : HoldsProcessImage (place point.wasm) found point.generation
+    (version_number point.saved.version) (process_image point.saved) =
+    subst (λ w. HoldsProcessImage (place point.wasm) found point.generation (version_number w)
+    (process_image point.saved)) version
+    (subst (λ l. HoldsProcessImage (place point.wasm) found point.generation
+    (version_number v) l) bytes (subst (λ g. HoldsProcessImage (place point.wasm) found g
+    (version_number v) (process_image other.saved)) generation
+    (subst (λ w. HoldsProcessImage (place w) found other.generation (version_number v)
+    (process_image other.saved)) wasm there.holds))) in
     record {
       worker = subst (λ w. HasWorker config w found) wasm there.worker;
       holds = holds;

@@ -10,13 +10,14 @@ use Rattle.wasm_syntax.specs.declared.value.Value.{Value}
 use Rattle.wasm_syntax.specs.declared.module.Module.{Module}
 use Rattle.wasm_semantics.specs.Configuration.{Configuration, Thread, Outcome}
 use Rattle.wasm_semantics.specs.Validity.{IsValid}
-use Rattle.wasi_abi.specs.declared.answer.Kind.{Kind}
+use Rattle.wasi_abi.specs.declared.answer.Question.{Question}
 use Rattle.wasi_abi.specs.declared.call.Call.{Call}
 use Rattle.wasi_abi.specs.rules.Configs.{Settings}
 use Rattle.wasi_calls_rules.specs.Checks.{Ruling}
 use Rattle.process_rules.specs.Processes.{ProcessState, Guest}
-use Rattle.process_rules.specs.Runs.{Kept, Given, Wider, Next, Wants, On, after_row, after_call}
-use Rattle.process_rules.specs.Runs.{after_rule, next_of, Runs, Reaches}
+use Rattle.process_rules.specs.Runs.{Kept, Given, Wider, Next, Wants, On, after_call_rule}
+use Rattle.process_rules.specs.Runs.{after_call}
+use Rattle.process_rules.specs.Runs.{after_counted_step, next_of, Runs, Reaches}
 use Rattle.process_rules.specs.Runs.{none as no_step, step, take as takes, widen}
 use Rattle.process_rules.specs.Behind.{IsNarrowTo, AnswersBehindLine, AnswersBehindSync, Syncs}
 use Rattle.process_rules.specs.Owing.{RunsQuietly, none, more}
@@ -26,7 +27,7 @@ use Rattle.process_rules.proofs.Quiet.{runs_join, quiet_runs_are_runs}
 use Rattle.sector_disk.specs.rules.Medium.{Medium}
 use Rattle.disk_layout.specs.rules.Journal.{Record}
 use Rattle.journal.specs.rules.State.{JournalState}
-use Rattle.state_image.specs.rules.Image.{Saved}
+use Rattle.state_image.specs.rules.ProcessImage.{Saved}
 use Rattle.record_replay.specs.rules.Records.{given_in}
 use Rattle.record_replay.proofs.Recordings.{recorded_runs, recorded_join}
 use Rattle.restart_theorem.specs.Lives.{Act, Reply, Ended, kept_of_said}
@@ -64,7 +65,7 @@ pub up_to_rest : (kept more_kept : List Kept) (n : ℕ) → IsNarrowTo more_kept
 up_to_rest [] more_kept n up = up
 up_to_rest (x ∷ kept) more_kept n up = up_to_rest kept more_kept n up
 
--- behind all that is kept nothing widens
+-- after all that is kept nothing widens
 pub up_to_end : (kept : List Kept) (n : ℕ) → IsNarrowTo (drop (length kept) kept) n
 up_to_end [] n = tt
 up_to_end (x ∷ kept) n = up_to_end kept n
@@ -213,22 +214,22 @@ GoesOnThere (On c h) = Unit {0}
 GoesOnThere _ = ⊥
 
 -- a process that asks for an answer makes no sync
-wants_no_sync : (guest : Guest) (p : ProcessState) (kind : Kind)
-    → next_of guest p None ≡ Wants kind → Syncs guest p → ⊥
-wants_no_sync guest p kind wants syncs =
+wants_no_sync : (guest : Guest) (p : ProcessState) (question : Question)
+    → next_of guest p None ≡ Wants question → Syncs guest p → ⊥
+wants_no_sync guest p question wants syncs =
     let c : Configuration = p.configuration in
     let f : ℕ = syncs.function in
     let operands : List Value = syncs.arguments in
     let waits : Thread = syncs.waits in
-    let done : GoesOnThere (after_row syncs.call (Ok syncs.done) c p.host waits) = tt in
-    let of_row : GoesOnThere (after_call (Some syncs.call) operands None c p.host waits) =
-    subst (λ (r : Ruling). GoesOnThere (after_row syncs.call r c p.host waits))
+    let done : GoesOnThere (after_call_rule syncs.call (Ok syncs.done) c p.host waits) = tt in
+    let of_call_rule : GoesOnThere (after_call (Some syncs.call) operands None c p.host waits) =
+    subst (λ (r : Ruling). GoesOnThere (after_call_rule syncs.call r c p.host waits))
     (sym syncs.answers_zero) done in
     let of_call : GoesOnThere (after_call (slice_get guest.calls f) operands None c p.host waits) =
     subst (λ (o : Option Call). GoesOnThere (after_call o operands None c p.host waits))
-    (sym syncs.is_call) of_row in
+    (sym syncs.is_call) of_call_rule in
     let goes : GoesOnThere (next_of guest p None) =
-    subst (λ (o : Outcome). GoesOnThere (after_rule guest o None c p.host)) (sym syncs.asks)
+    subst (λ (o : Outcome). GoesOnThere (after_counted_step guest o None c p.host)) (sym syncs.asks)
     of_call in
     subst GoesOnThere wants goes
 
@@ -301,7 +302,7 @@ moved_syncs_are_held m config kept held guest p q given moves syncs k a below be
     let counted : q.steps ≡ p.steps + 1 = move_counts guest p q given moves in
     syncs k a (omega (arith, below, counted)) behind
 
--- a sync behind answers of which the last isn't needed
+-- a sync after answers of which the last isn't needed
 pub behind_front : (m : Module) (config : Settings) (kept more_kept : List Kept) (k a : ℕ)
     → a ≤ length kept → AnswersBehindSync m config (kept ++ more_kept) k a
     → AnswersBehindSync m config kept k a
@@ -322,7 +323,7 @@ behind_front m config kept more_kept k a within behind = record {
 }
 
 pub answered_syncs_are_held : AnsweredSyncsAreHeld
-answered_syncs_are_held m config kept held p kind a valid reached wants syncs k b below behind =
+answered_syncs_are_held m config kept held p question a valid reached wants syncs k b below behind =
     ⊎_elim
     (λ (all : length kept < b). absurd (too_late all))
     (λ (within : b ≤ length kept).
@@ -389,12 +390,12 @@ answered_syncs_are_held m config kept held p kind a valid reached wants syncs k 
         )) there behind.reached (up_to_rest kept (Given a ∷ []) behind.before tt)
         (up_to_before (drop b (kept ++ Given a ∷ [])) k (suc behind.before) (omega (arith, next))
         behind.up_to) in
-        wants_no_sync reached.guest p kind wants (syncs_move reached.guest behind.reached.guest p
-        behind.process one behind.syncs)
+        wants_no_sync reached.guest p question wants (syncs_move reached.guest
+        behind.reached.guest p behind.process one behind.syncs)
 
 -- ---- events
 
--- a line stays behind as many answers where more are kept that widen nothing before
+-- a line stays after as many answers where more are kept that widen nothing before
 pub line_of_more : (m : Module) (config : Settings) (kept more_kept : List Kept) (i a : ℕ)
     → (behind : AnswersBehindLine m config kept i a) → IsNarrowTo more_kept behind.steps
     → AnswersBehindLine m config (kept ++ more_kept) i a
@@ -471,8 +472,8 @@ module _ {D : Type 0} (medium : D → Medium) where
       not_above i number begun lines below late told = omega (arith, below, late, told)
 
   pub asked_carries : AskedCarries medium
-  asked_carries m config promise point journal records pending last now steps kind said fits disk
-      is later syncs =
+  asked_carries m config promise point journal records pending last now steps question
+      said fits disk is later syncs =
       let held = is.held in
       let holds = held.holds in
       let more_kept : List Kept = kept_of_said said fits in
@@ -634,7 +635,7 @@ module _ {D : Type 0} (medium : D → Medium) where
       )
 
 pub answer_is_on_record : AnswerIsOnRecord
-answer_is_on_record m config promise point records pending steps n kind a on_record =
+answer_is_on_record m config promise point records pending steps n question a on_record =
     let r : Record = record { step = n; answer = a } in
     ap (λ l. l ++ Given a ∷ []) on_record
     ∙ append_assoc point.front (map given_in (records ++ pending)) (Given a ∷ [])

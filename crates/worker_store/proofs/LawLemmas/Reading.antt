@@ -5,8 +5,8 @@ use Rattle.sha2.specs.Sha256.{sha256}
 use Rattle.wasm_syntax.specs.declared.module.Module.{Module}
 use Rattle.wasi_abi.specs.rules.Configs.{Settings}
 use Rattle.process_rules.specs.Processes.{ProcessState}
-use Rattle.state_image.specs.rules.Image.{image}
-use Rattle.sector_disk.specs.rules.Image.{Image, sector_at}
+use Rattle.state_image.specs.rules.ProcessImage.{process_image}
+use Rattle.sector_disk.specs.rules.DiskImage.{DiskImage, sector_at}
 use Rattle.disk_layout.specs.rules.Places.{area_place, head_place}
 use Rattle.disk_layout.specs.rules.Sectors.{IsNewest, bytes_from, head_of}
 use Rattle.disk_layout.specs.rules.Journal.{Record}
@@ -18,7 +18,7 @@ use Rattle.disk_layout.proofs.ReadingLemmas.WrittenLemmas.{reads_what_is_written
 use Rattle.snapshot.specs.rules.Heads.{FindsHead}
 use Rattle.snapshot.proofs.AreaLemmas.{one_newest}
 use Rattle.snapshot.proofs.LawLemmas.{shows_one}
-use Rattle.worker_store.specs.laws.Savepoints.{Savepoint, places, StandsAtPoint}
+use Rattle.worker_store.specs.laws.Savepoints.{Savepoint, places, IsAtSavepoint}
 use Rattle.worker_store.specs.laws.Readings.{ReadsTheModule, FindsThePoint, ReadsThePoint}
 use Rattle.worker_store.specs.laws.Readings.{ReadsUndamaged, FindsNewestPoint, ScansTheRecords}
 
@@ -38,13 +38,13 @@ reads_the_module m config point records last disk sectors answer at room of_disk
 abbrev head_in : {m : Module} {config : Settings} → Savepoint m config → Head
 head_in point = record {
   version = version_number point.saved.version;
-  length_in_bytes = length (image point.saved);
-  digest = sha256 (image point.saved);
+  length_in_bytes = length (process_image point.saved);
+  digest = sha256 (process_image point.saved);
   generation = point.generation;
 }
 
 -- of two newest heads of an image
-one_head : (disk : Image) (a b : ℕ) (h k : Head) → IsNewest disk a h → IsNewest disk b k → h ≡ k
+one_head : (disk : DiskImage) (a b : ℕ) (h k : Head) → IsNewest disk a h → IsNewest disk b k → h ≡ k
 one_head disk a b h k one two =
     one.is ∙ ap (λ n. head_of (sector_at disk (head_place n))) (one_newest disk a b h k one two)
     ∙ sym two.is
@@ -53,7 +53,7 @@ pub finds_the_point : FindsThePoint
 finds_the_point m config point records last disk None at none =
     let holds = at.holds in
     absurd (shows_one.some (places point) disk point.generation (version_number point.saved.version)
-    (image point.saved) holds none)
+    (process_image point.saved) holds none)
 finds_the_point m config point records last disk (Some head) at newest =
     let holds = at.holds in
     let same : head ≡ head_in point =
@@ -62,8 +62,8 @@ finds_the_point m config point records last disk (Some head) at newest =
 
 -- what the head names
 names_the_point : (m : Module) (config : Settings) (point : Savepoint m config)
-    (records : List Record) (last : ProcessState) (disk : Image) (head : Head)
-    → StandsAtPoint point records last disk → FindsHead disk (Some head)
+    (records : List Record) (last : ProcessState) (disk : DiskImage) (head : Head)
+    → IsAtSavepoint point records last disk → FindsHead disk (Some head)
     → head ≡ head_in point
 names_the_point m config point records last disk head at newest =
     let holds = at.holds in
@@ -74,12 +74,12 @@ reads_the_point m config point records last disk head bytes at newest names =
     let geometry : Geometry = places point in
     let holds = at.holds in
     let same = names_the_point m config point records last disk head at newest in
-    let long : length bytes.items ≡ length (image point.saved) =
+    let long : length bytes ≡ length (process_image point.saved) =
     sym names.len ∙ ap (λ (h : Head). h.length_in_bytes) same in
     sym names.area
     ∙ ap (λ n. take n (bytes_from disk (area_place geometry head.generation)
     geometry.area_sectors)) long
-    ∙ ap (λ (h : Head). take (length (image point.saved))
+    ∙ ap (λ (h : Head). take (length (process_image point.saved))
     (bytes_from disk (area_place geometry h.generation) geometry.area_sectors)) same
     ∙ holds.area
 
@@ -88,10 +88,10 @@ reads_undamaged m config point records last disk head at newest damaged =
     let geometry : Geometry = places point in
     let holds = at.holds in
     let same = names_the_point m config point records last disk head at newest in
-    damaged (image point.saved) (record {
+    damaged (process_image point.saved) (record {
       len = ap (λ (h : Head). h.length_in_bytes) same;
       digest = ap (λ (h : Head). h.digest) same;
-      area = ap (λ (h : Head). take (length (image point.saved))
+      area = ap (λ (h : Head). take (length (process_image point.saved))
           (bytes_from disk (area_place geometry h.generation) geometry.area_sectors)) same
           ∙ holds.area;
     })
@@ -100,14 +100,15 @@ pub finds_newest_point : FindsNewestPoint
 finds_newest_point m config point records last disk at = record {
   found = λ s held.
       shows_one.same (places point) disk s.generation point.generation s.version
-      (version_number point.saved.version) s.image.items (image point.saved) held at.holds;
+      (version_number point.saved.version) s.process_image (process_image point.saved)
+      held at.holds;
   some = λ none.
       shows_one.some (places point) disk point.generation (version_number point.saved.version)
-      (image point.saved)
+      (process_image point.saved)
       at.holds none;
   whole = λ damaged.
       shows_one.whole (places point) disk point.generation (version_number point.saved.version)
-      (image point.saved)
+      (process_image point.saved)
       at.holds damaged;
 }
 

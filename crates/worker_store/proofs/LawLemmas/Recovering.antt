@@ -11,8 +11,8 @@ use Rattle.process_rules.specs.Processes.{ProcessState, Guest}
 use Rattle.process_rules.specs.Runs.{Kept, Runs, Reaches}
 use Rattle.process_rules.specs.Behind.{AnswersBehindLine}
 use Rattle.process_rules.proofs.Quiet.{runs_join}
-use Rattle.state_image.specs.rules.Image.{Saved}
-use Rattle.sector_disk.specs.rules.Image.{Image}
+use Rattle.state_image.specs.rules.ProcessImage.{Saved}
+use Rattle.sector_disk.specs.rules.DiskImage.{DiskImage}
 use Rattle.sector_disk.specs.rules.Medium.{Medium}
 use Rattle.sector_disk.proofs.Moments.{leaves_weaker}
 use Rattle.disk_layout.specs.rules.Journal.{Record}
@@ -22,13 +22,14 @@ use Rattle.process_rules.specs.Behind.{IsNarrowTo}
 use Rattle.restart_theorem.proofs.Fronts.{reached_counts, up_to_front}
 use Rattle.restart_theorem.specs.Lives.{Opened}
 use Rattle.restart_theorem.specs.Promises.{Promise, after, HoldsAll}
-use Rattle.restart_theorem.specs.Holds.{HoldsPromise, ImageHolds}
-use Rattle.worker_store.specs.laws.Savepoints.{Savepoint, StandsAtPoint, StandsBySaved}
+use Rattle.restart_theorem.specs.Holds.{HoldsPromise, DiskImageHolds}
+use Rattle.worker_store.specs.laws.Savepoints.{Savepoint, IsAtSavepoint, StandsBySaved}
 use Rattle.worker_store.specs.laws.Commits.{BeginsAtPoint}
 use Rattle.worker_store.specs.laws.Carried.{answers_at, count_at, IsHeldAt}
 use Rattle.worker_store.specs.laws.Recovered.{RetoldIsHeld, RecoveryOpens}
 use Rattle.worker_store.proofs.LawLemmas.Points.{by_point}
-use Rattle.worker_store.proofs.LawLemmas.Carrying.{held_at_stands, less_is_held, next_is_held}
+use Rattle.worker_store.proofs.LawLemmas.Carrying.{held_at_holds_promise, less_is_held}
+use Rattle.worker_store.proofs.LawLemmas.Carrying.{next_is_held}
 use Rattle.worker_store.proofs.LawLemmas.Carrying.{opening_is_held, answers_count}
 
 -- ---- lines
@@ -156,10 +157,10 @@ held_of_front m config promise kept n held steps within same holds =
       emitted = behind.emitted;
     }
 
--- What stands there holds what was promised, of the answers that the opening keeps.
+-- What is there holds what was promised, of the answers that the opening keeps.
 front_opened : (m : Module) (config : Settings) (promise : Promise) (point : Savepoint m config)
-    (records : List Record) (last : ProcessState) (n : ℕ) (shown : Saved) (disk : Image)
-    → IsHeldAt promise point records last → StandsAtPoint point records last disk
+    (records : List Record) (last : ProcessState) (n : ℕ) (shown : Saved) (disk : DiskImage)
+    → IsHeldAt promise point records last → IsAtSavepoint point records last disk
     → count_at point records ≡ n
     → HoldsPromise m config promise (after promise (Opened n shown)) disk
 front_opened m config promise point records last n shown disk held at same =
@@ -198,11 +199,11 @@ module _ {D : Type 0} (medium : D → Medium) where
       (opening_is_held m config promise next there) in
       let long : length next.front ≡ length (answers_at point records) =
       ap (λ (l : List Kept). length l) (saves.front ∙ append-nil (answers_at point records)) in
-      let P : Image → Type 0 = λ disk.
-      StandsAtPoint point records last disk ⊎ BeginsAtPoint next disk in
-      let holds : (disk : Image) → P disk → HoldsPromise m config less more disk =
+      let P : DiskImage → Type 0 = λ disk.
+      IsAtSavepoint point records last disk ⊎ BeginsAtPoint next disk in
+      let holds : (disk : DiskImage) → P disk → HoldsPromise m config less more disk =
       λ disk at. ⊎_elim
-      (λ (stood : StandsAtPoint point records last disk).
+      (λ (stood : IsAtSavepoint point records last disk).
       less_is_held m config less promise more disk no_more
       (front_opened m config promise point records last (length next.front) shown disk held stood
       (sym (long ∙ answers_count point records))))
@@ -212,10 +213,11 @@ module _ {D : Type 0} (medium : D → Medium) where
       begins.at (omega arith))) at in
       record {
         carries = record {
-          at_any_moment = leaves_weaker (medium old) (medium new) P (ImageHolds m config less more)
-              leaves (λ disk at. inr (holds disk at));
-          in_the_end = λ disk left. inr
-              (held_at_stands m config more next [] next.process disk opened (stands disk left));
+          at_any_moment = leaves_weaker (medium old) (medium new) P
+              (DiskImageHolds m config less more) leaves (λ disk at. inr (holds disk at));
+          in_the_end = λ disk crashed. inr
+              (held_at_holds_promise m config more next [] next.process disk opened
+              (stands disk crashed));
         };
         held = opened;
       }

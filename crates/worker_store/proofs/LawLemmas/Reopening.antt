@@ -7,9 +7,10 @@ use Rattle.std.proofs.Math.Nat.{le-max_left}
 use Rattle.std.proofs.lemmas.Option.{slice_get_within}
 use Rattle.wasm_syntax.specs.declared.module.Module.{Module}
 use Rattle.wasi_abi.specs.rules.Configs.{Settings}
-use Rattle.wasi_calls_rules.specs.Hosts.{Line}
+use Rattle.wasi_calls_rules.specs.WasiStates.{Line}
 use Rattle.wasm_semantics.specs.Configuration.{Thread}
 use Rattle.wasi_calls_rules.specs.Lines.{rest_of}
+use Rattle.wasi_calls_rules.specs.declared.output_stream.OutputStream.TheVariants.{Stdout, Stderr}
 use Rattle.process_rules.specs.Processes.{ProcessState, Guest, IsStart, closed_at}
 use Rattle.process_rules.specs.Behind.{IsNarrowTo}
 use Rattle.process_rules.specs.Runs.{Runs, none}
@@ -20,12 +21,13 @@ use Rattle.restart_theorem.specs.Courses.{Stage, Unheard, first_taken, next_stag
 use Rattle.restart_theorem.specs.Courses.{IsLast, IsToldIn, ComesAfter, phase_refused}
 use Rattle.restart_theorem.specs.Promises.{Promise, after, HoldsAll, IsTelling}
 use Rattle.worker_store.specs.laws.Pieces.{IsForetold}
-use Rattle.worker_store.specs.laws.Telling.{AreMade}
+use Rattle.worker_store.specs.laws.Telling.{ArePerformed}
 use Rattle.worker_store.specs.laws.Reopening.{IsReviving, LinesAreRetold, LinesAreRetoldInVain}
 use Rattle.worker_store.specs.laws.Reopening.{LivesOpen, FreshHoldsNothing, FreshLivesBegin}
-use Rattle.worker_store.proofs.LawLemmas.Telling.{is_next, all_dropped, made_more, made_none, until}
+use Rattle.worker_store.proofs.LawLemmas.Telling.{is_next, all_dropped, performed_more}
+use Rattle.worker_store.proofs.LawLemmas.Telling.{performed_none, until}
 
--- the number behind the last one
+-- the number after the last one
 follows : (line : Option ℕ) (told : ℕ) → IsLast line told → ComesAfter line (told + 1)
 follows None told last = tt
 follows (Some k) told last = ap (λ z. z + 1) (sym last)
@@ -34,8 +36,9 @@ follows (Some k) told last = ap (λ z. z + 1) (sym last)
 lines_closed : (thread : Thread) (later : List ℕ) (p : ProcessState) → p.host.lines ≡ []
     → p.host.first ≡ [] → p.host.second ≡ [] → length (closed_at thread later p).host.lines ≡ 0
 lines_closed [] [] p lines first second =
-    ap length (ap (λ z. z ++ (rest_of 1 p.host.first ++ rest_of 2 p.host.second)) lines
-    ∙ (ap (λ z. rest_of 1 z ++ rest_of 2 p.host.second) first ∙ ap (λ z. rest_of 2 z) second))
+    ap length (ap (λ z. z ++ (rest_of Stdout p.host.first ++ rest_of Stderr p.host.second)) lines
+    ∙ (ap (λ z. rest_of Stdout z ++ rest_of Stderr p.host.second) first
+    ∙ ap (λ z. rest_of Stderr z) second))
 lines_closed (f ∷ thread) later p lines first second = ap length lines
 lines_closed [] (f ∷ later) p lines first second = ap length lines
 
@@ -43,7 +46,7 @@ no_sync : (k before : ℕ) → k ≤ 0 → k ≡ before + 1 → ⊥
 no_sync k before few is = omega (arith, few, is)
 
 module _ (m : Module) (config : Settings) (guest : Guest) where
-  -- the line at a place, which counts from 0, is that of the number behind it
+  -- the line at a place, which counts from 0, is that of the number after it
   one_retold : (promise : Promise) (stage : Stage) (held place : ℕ) (p : ProcessState)
       (line : Line) (number : ℕ) (is_taken : Bool) → number ≡ place + 1
       → is_taken ≡ first_taken stage.takes → IsReviving m config guest promise stage held place p
@@ -95,11 +98,11 @@ module _ (m : Module) (config : Settings) (guest : Guest) where
       (lines : List Line) → IsReviving m config guest promise stage held place p
       → number ≡ place + 1 → drop place p.host.lines ≡ lines
       → IsForetold stage (map Tells (all_taken number lines))
-      → (made : AreMade m config promise stage (length p.host.lines)
+      → (made : ArePerformed m config promise stage (length p.host.lines)
       (map Tells (all_taken number lines)))
       × IsReviving m config guest made.promise' made.stage' held (length p.host.lines) p
   told_from promise stage held place number p [] at same is foretold = (
-    made_none m config guest promise stage (length p.host.lines),
+    performed_none m config guest promise stage (length p.host.lines),
     subst (λ k. IsReviving m config guest promise stage held k p)
         (all_dropped p.host.lines place at.emitted is) at,
   )
@@ -112,7 +115,7 @@ module _ (m : Module) (config : Settings) (guest : Guest) where
       (place + 1) (number + 1) p lines
       (one_heard promise stage held place p line number same at next.0)
       (ap (λ n. n + 1) same) next.1 foretold.1 in (
-        made_more m config guest promise stage (length p.host.lines)
+        performed_more m config guest promise stage (length p.host.lines)
             (record { number = number; line = line; said = Ok tt })
             (map Tells (all_taken (number + 1) lines)) (omega (arith, same, inside))
             (one_retold promise stage held place p line number true same foretold.0 at next.0)
@@ -129,7 +132,7 @@ module _ (m : Module) (config : Settings) (guest : Guest) where
       → last ≡ number + length first → IsReviving m config guest promise stage held place p
       → drop place p.host.lines ≡ first ++ (line ∷ others)
       → IsForetold stage (map Tells (until number last first line))
-      → (made : AreMade m config promise stage (length p.host.lines)
+      → (made : ArePerformed m config promise stage (length p.host.lines)
       (map Tells (until number last first line)))
       × (made.stage'.phase ≡ Unheard)
   told_until promise stage held place p [] others line number last same is_last at is foretold =
@@ -138,11 +141,11 @@ module _ (m : Module) (config : Settings) (guest : Guest) where
       slice_get_within p.host.lines place line next.0 in
       let r : Release = record { number = last; line = line } in
       let here : last ≡ place + 1 = omega (arith, is_last, same) in (
-        made_more m config guest promise stage (length p.host.lines)
+        performed_more m config guest promise stage (length p.host.lines)
             (record { number = last; line = line; said = Err (record {}) }) []
             (omega (arith, here, inside))
             (one_retold promise stage held place p line last false here foretold.0 at next.0)
-            (made_none m config guest (after promise (Told r false))
+            (performed_none m config guest (after promise (Told r false))
             (next_stage stage (Told r false))
             (length p.host.lines)),
         ap phase_refused at.shut,
@@ -157,7 +160,7 @@ module _ (m : Module) (config : Settings) (guest : Guest) where
       (place + 1) p first others line (number + 1) last (ap (λ n. n + 1) same)
       (omega (arith, is_last)) (one_heard promise stage held place p x number same at next.0)
       next.1 foretold.1 in (
-        made_more m config guest promise stage (length p.host.lines)
+        performed_more m config guest promise stage (length p.host.lines)
             (record { number = number; line = x; said = Ok tt })
             (map Tells (until (number + 1) last first line)) (omega (arith, same, inside))
             (one_retold promise stage held place p x number true same foretold.0 at next.0) rest.0,

@@ -6,21 +6,21 @@ use Rattle.wasm_syntax.specs.declared.module.Module.{Module}
 use Rattle.wasi_abi.specs.declared.version.Version.{Version}
 use Rattle.wasi_abi.specs.rules.Configs.{Settings}
 use Rattle.process_rules.specs.Processes.{ProcessState}
-use Rattle.state_image.specs.rules.Image.{image}
-use Rattle.sector_disk.specs.rules.Image.{Image, sector_at}
+use Rattle.state_image.specs.rules.ProcessImage.{process_image}
+use Rattle.sector_disk.specs.rules.DiskImage.{DiskImage, sector_at}
 use Rattle.disk_layout.specs.rules.Places.{Geometry, geometry_of, head_place}
 use Rattle.disk_layout.specs.rules.Places.{journal_place}
 use Rattle.disk_layout.specs.rules.Sectors.{Head, HasWorker, IsNewest, shown_generation}
 use Rattle.disk_layout.specs.rules.Journal.{Record}
 use Rattle.wasi_abi.specs.rules.Versions.{version_number}
-use Rattle.journal.specs.rules.Steps.{RecordsStand}
+use Rattle.journal.specs.rules.Steps.{HoldsRecords}
 use Rattle.journal.specs.laws.Laws.{ShowsEarlierThan}
 use Rattle.snapshot.specs.rules.Heads.{heads_to, IsReadyForHead}
 use Rattle.snapshot.specs.rules.Steps.{KeepsNewest, HasNew, IsOutsideArea}
 use Rattle.snapshot.proofs.AreaLemmas.{parity}
 use Rattle.record_replay.specs.rules.Records.{none}
 use Rattle.restart_theorem.specs.Stands.{IsNumbered}
-use Rattle.worker_store.specs.laws.Savepoints.{Savepoint, places, StandsAtPoint}
+use Rattle.worker_store.specs.laws.Savepoints.{Savepoint, places, IsAtSavepoint}
 use Rattle.worker_store.specs.laws.Commits.{BeginsAtPoint, NewPointBegins, PointIsReady}
 use Rattle.worker_store.specs.laws.Commits.{FillingKeepsPoint, IsNextPoint, CommitLeavesOneOfTwo}
 use Rattle.worker_store.specs.laws.Commits.{CommitBeginsNext}
@@ -58,15 +58,15 @@ journal_from geometry k = omega arith
 
 -- ---- heads
 
-heads_within : (disk : Image) (g : ℕ) → shown_generation 1 (sector_at disk 1) ≤ g
+heads_within : (disk : DiskImage) (g : ℕ) → shown_generation 1 (sector_at disk 1) ≤ g
     → shown_generation 1 (sector_at disk 2) ≤ g → heads_to disk ≤ g
 heads_within disk g first second = omega (arith, first, second)
 
-first_within : (disk : Image) (g : ℕ) → heads_to disk ≤ g
+first_within : (disk : DiskImage) (g : ℕ) → heads_to disk ≤ g
     → shown_generation 1 (sector_at disk 1) ≤ g
 first_within disk g within = omega (arith, within)
 
-second_within : (disk : Image) (g : ℕ) → heads_to disk ≤ g
+second_within : (disk : DiskImage) (g : ℕ) → heads_to disk ≤ g
     → shown_generation 1 (sector_at disk 2) ≤ g
 second_within disk g within = omega (arith, within)
 
@@ -77,8 +77,8 @@ point_is_ready m config point records last disk at =
     let within = heads_within disk point.generation shows.first_head shows.second_head in
     let head : Head = record {
       version = version_number point.saved.version;
-      length_in_bytes = length (image point.saved);
-      digest = sha256 (image point.saved);
+      length_in_bytes = length (process_image point.saved);
+      digest = sha256 (process_image point.saved);
       generation = point.generation;
     } in
     let held = at.holds in
@@ -91,11 +91,11 @@ point_is_ready m config point records last disk at =
 
 -- the same but for sectors of the area, and a head that isn't found
 kept_point : (m : Module) (config : Settings) (point : Savepoint m config)
-    (records : List Record) (last : ProcessState) (old new : Image)
-    → StandsAtPoint point records last old → SameSector old new 0
+    (records : List Record) (last : ProcessState) (old new : DiskImage)
+    → IsAtSavepoint point records last old → SameSector old new 0
     → ((k : ℕ) → 3 ≤ k → k < 3 + (places point).module_sectors → SameSector old new k)
     → ((k : ℕ) → SameSector old new (journal_place (places point) + k))
-    → KeepsNewest (places point) old new → StandsAtPoint point records last new
+    → KeepsNewest (places point) old new → IsAtSavepoint point records last new
 kept_point m config point records last old new at super contents journal keeps =
     let shows = at.none_later in
     let was = heads_within old point.generation shows.first_head shows.second_head in
@@ -103,8 +103,8 @@ kept_point m config point records last old new at super contents journal keeps =
     subst (λ n. n ≤ point.generation) (sym keeps.heads) was in
     record {
       worker = worker_stays config point.wasm old new super contents at.worker;
-      holds = keeps.image point.generation (version_number point.saved.version)
-          (image point.saved) at.holds;
+      holds = keeps.process_image point.generation (version_number point.saved.version)
+          (process_image point.saved) at.holds;
       scanned = scan_stays (places point) old new point.generation point.saved.version
           (λ k below. journal k) ∙ at.scanned;
       recorded = at.recorded;
@@ -129,8 +129,8 @@ filling_keeps_point m config point records last old new at fills =
 
 -- ---- where the new one is there
 
-pub no_records : (v : Version) (geometry : Geometry) (g : ℕ) (disk : Image)
-    → ShowsEarlierThan geometry g disk → RecordsStand geometry v g 0 [] disk
+pub no_records : (v : Version) (geometry : Geometry) (g : ℕ) (disk : DiskImage)
+    → ShowsEarlierThan geometry g disk → HoldsRecords geometry v g 0 [] disk
 no_records v geometry g disk earlier = record {
   within = omega arith;
   written = λ k below. absurd (omega (arith, below));
@@ -165,9 +165,9 @@ new_point_begins m config point disk numbers worker new earlier =
 
 -- with the bytes of another savepoint
 begins_with : (m : Module) (config : Settings) (next : Savepoint m config) (wasm : List ℕ)
-    (disk : Image) → IsNumbered next.process → next.wasm ≡ wasm → HasWorker config wasm disk
+    (disk : DiskImage) → IsNumbered next.process → next.wasm ≡ wasm → HasWorker config wasm disk
     → HasNew (geometry_of config (length wasm)) next.generation
-    (version_number next.saved.version) (image next.saved) disk
+    (version_number next.saved.version) (process_image next.saved) disk
     → ShowsEarlierThan (geometry_of config (length wasm)) next.generation disk
     → BeginsAtPoint next disk
 begins_with m config next wasm disk numbers e worker new earlier =
@@ -175,12 +175,12 @@ begins_with m config next wasm disk numbers e worker new earlier =
     new_point_begins m config next disk numbers
     (subst (λ w. HasWorker config w disk) (sym e) worker)
     (subst (λ w. HasNew (place w) next.generation (version_number next.saved.version)
-    (image next.saved) disk) (sym e) new)
+    (process_image next.saved) disk) (sym e) new)
     (subst (λ w. ShowsEarlierThan (place w) next.generation disk) (sym e) earlier)
 
 module _ (m : Module) (config : Settings) (point next : Savepoint m config)
-    (records : List Record) (last : ProcessState) (old new : Image)
-    (at : StandsAtPoint point records last old) (is_next : IsNextPoint point next)
+    (records : List Record) (last : ProcessState) (old new : DiskImage)
+    (at : IsAtSavepoint point records last old) (is_next : IsNextPoint point next)
     (others : (k : ℕ) → IsOutsideArea (places point) next.generation k
     → k ≢ head_place next.generation → SameSector old new k) where
   ready : IsReadyForHead next.generation old
@@ -202,7 +202,7 @@ module _ (m : Module) (config : Settings) (point next : Savepoint m config)
       (later_no_head next.generation (journal_place (places point) + k)
       (journal_from (places point) k))
 
-  old_stays : KeepsNewest (places point) old new → StandsAtPoint point records last new
+  old_stays : KeepsNewest (places point) old new → IsAtSavepoint point records last new
   old_stays keeps =
       kept_point m config point records last old new at super contents journal keeps
 
@@ -217,7 +217,7 @@ module _ (m : Module) (config : Settings) (point next : Savepoint m config)
       below_next n g h le e = omega (arith, le, e)
 
   new_begins : HasNew (places point) next.generation (version_number next.saved.version)
-      (image next.saved) new
+      (process_image next.saved) new
       → BeginsAtPoint next new
   new_begins has =
       begins_with m config next point.wasm new is_next.numbers is_next.wasm

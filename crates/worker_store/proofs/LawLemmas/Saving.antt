@@ -8,8 +8,8 @@ use Rattle.wasm_syntax.specs.declared.module.Module.{Module}
 use Rattle.wasi_abi.specs.rules.Configs.{Settings}
 use Rattle.process_rules.specs.Processes.{ProcessState}
 use Rattle.process_rules.specs.Runs.{Kept}
-use Rattle.state_image.specs.rules.Image.{Saved}
-use Rattle.sector_disk.specs.rules.Image.{Image}
+use Rattle.state_image.specs.rules.ProcessImage.{Saved}
+use Rattle.sector_disk.specs.rules.DiskImage.{DiskImage}
 use Rattle.sector_disk.specs.rules.Medium.{Medium, LeavesOnly}
 use Rattle.sector_disk.proofs.Moments.{goes_on, weaker, leaves_only, leaves_weaker}
 use Rattle.disk_layout.specs.rules.Journal.{Record}
@@ -17,20 +17,20 @@ use Rattle.journal.specs.rules.State.{JournalState}
 use Rattle.record_replay.specs.rules.Records.{Recorded, none}
 use Rattle.restart_theorem.specs.Lives.{Act, Checkpoint, Done, Fails, Cause, Ended}
 use Rattle.restart_theorem.specs.Promises.{Promise, after, synced_by}
-use Rattle.restart_theorem.specs.Holds.{HoldsPromise, ImageHolds, CarriesPromise}
-use Rattle.worker_store.specs.laws.Savepoints.{Savepoint, StandsAtPoint}
-use Rattle.worker_store.specs.laws.Barriers.{StandsAtFront}
+use Rattle.restart_theorem.specs.Holds.{HoldsPromise, DiskImageHolds, CarriesPromise}
+use Rattle.worker_store.specs.laws.Savepoints.{Savepoint, IsAtSavepoint}
+use Rattle.worker_store.specs.laws.Barriers.{IsAtFront}
 use Rattle.worker_store.specs.laws.Commits.{BeginsAtPoint}
 use Rattle.worker_store.specs.laws.Acts.{SavesWith, keeping_more}
 use Rattle.worker_store.specs.laws.Carried.{IsHeldAt, IsCarried, SavesFront, count_at}
 use Rattle.worker_store.specs.laws.Raised.{SyncsAreHeld}
-use Rattle.worker_store.specs.laws.Saves.{StandsAtFrontOrNext, SaveAtAnyMoment, SaveCarries}
+use Rattle.worker_store.specs.laws.Saves.{IsAtFrontOrNext, SaveAtAnyMoment, SaveCarries}
 use Rattle.worker_store.specs.laws.Saves.{IsSavingAt, promise_saved, DoneSavesCarry}
 use Rattle.worker_store.specs.laws.Saves.{FailedSavesCarry, EndsPromiseNoLess}
 use Rattle.worker_store.proofs.LawLemmas.Acts.{saving_ends_alike}
 use Rattle.worker_store.proofs.LawLemmas.Carrying.{carries, front_is_held, all_is_held}
 use Rattle.worker_store.proofs.LawLemmas.Carrying.{next_is_held}
-use Rattle.worker_store.proofs.LawLemmas.Carrying.{held_at_stands, saved_is_held}
+use Rattle.worker_store.proofs.LawLemmas.Carrying.{held_at_holds_promise, saved_is_held}
 use Rattle.worker_store.proofs.LawLemmas.Raising.{ended_carries}
 
 -- ---- fronts
@@ -41,31 +41,31 @@ take_none (r ∷ records) = refl
 
 -- none of the pending records
 pub front_of_none : (m : Module) (config : Settings) (point : Savepoint m config)
-    (records pending : List Record) (last : ProcessState) (disk : Image)
-    → StandsAtPoint point records last disk → StandsAtFront point records last pending disk
+    (records pending : List Record) (last : ProcessState) (disk : DiskImage)
+    → IsAtSavepoint point records last disk → IsAtFront point records last pending disk
 front_of_none m config point records pending last disk at = record {
   count = 0;
   within = omega arith;
   process = last;
   recorded = subst (λ (l : List Record). Recorded point.reached.guest last l last)
       (sym (take_none pending)) none;
-  at = subst (λ (l : List Record). StandsAtPoint point l last disk)
+  at = subst (λ (l : List Record). IsAtSavepoint point l last disk)
       (sym (ap (λ (l : List Record). records ++ l) (take_none pending) ∙ append-nil records)) at;
 }
 
 -- all of them
 pub front_of_all : (m : Module) (config : Settings) (point : Savepoint m config)
-    (records pending : List Record) (last now : ProcessState) (disk : Image)
+    (records pending : List Record) (last now : ProcessState) (disk : DiskImage)
     → Recorded point.reached.guest last pending now
-    → StandsAtPoint point (records ++ pending) now disk
-    → StandsAtFront point records last pending disk
+    → IsAtSavepoint point (records ++ pending) now disk
+    → IsAtFront point records last pending disk
 front_of_all m config point records pending last now disk recorded at = record {
   count = length pending;
   within = omega arith;
   process = now;
   recorded = subst (λ (l : List Record). Recorded point.reached.guest last l now)
       (sym (take-length pending)) recorded;
-  at = subst (λ (l : List Record). StandsAtPoint point (records ++ l) now disk)
+  at = subst (λ (l : List Record). IsAtSavepoint point (records ++ l) now disk)
       (sym (take-length pending)) at;
 }
 
@@ -82,7 +82,7 @@ ends_promise_no_less promise act reply held shown = record {
 
 -- What holds a promise with more kept holds it also when the end of a call has promised more.
 held_on : (m : Module) (config : Settings) (promise : Promise) (more : List Kept) (n : ℕ)
-    (shown : Saved) (disk : Image)
+    (shown : Saved) (disk : DiskImage)
     → HoldsPromise m config (keeping_more promise more) (keeping_more promise more) disk
     → HoldsPromise m config promise
     (after (keeping_more promise more) (Ended Checkpoint Done n shown)) disk
@@ -108,19 +108,19 @@ held_on m config promise more n shown disk holds =
 module _ {D : Type 0} (medium : D → Medium) where
   pub save_at_any_moment : SaveAtAnyMoment medium
   save_at_any_moment m config point next journal records pending last now old mid new is one two =
-      let P : Image → Type 0 = StandsAtFront point records last pending in
-      let Q : Image → Type 0 = λ disk.
-      StandsAtPoint point (records ++ pending) now disk ⊎ BeginsAtPoint next disk in
-      let R : Image → Type 0 = StandsAtFrontOrNext point next records last pending in
+      let P : DiskImage → Type 0 = IsAtFront point records last pending in
+      let Q : DiskImage → Type 0 = λ disk.
+      IsAtSavepoint point (records ++ pending) now disk ⊎ BeginsAtPoint next disk in
+      let R : DiskImage → Type 0 = IsAtFrontOrNext point next records last pending in
       leaves_only (medium old) (medium new) R
       (goes_on (medium old) (medium mid) (medium new) R Q
       (weaker (medium old) (medium mid) P R one.passes (λ disk at. inl at)) two.passes
       (λ disk at. ⊎_elim
-      (λ (stands : StandsAtPoint point (records ++ pending) now disk).
+      (λ (stands : IsAtSavepoint point (records ++ pending) now disk).
       inl (front_of_all m config point records pending last now disk is.recorded stands))
       (λ (begins : BeginsAtPoint next disk). inr begins) at))
-      (λ disk left. inl (front_of_none m config point records pending last disk
-      (is.stands disk left)))
+      (λ disk crashed. inl (front_of_none m config point records pending last disk
+      (is.at_savepoint disk crashed)))
 
   -- each image that a save leaves holds what is promised
   module _ (m : Module) (config : Settings) (promise : Promise) (point next : Savepoint m config)
@@ -132,20 +132,20 @@ module _ {D : Type 0} (medium : D → Medium) where
     next_held = next_is_held m config promise point next (records ++ pending) more now
         (all_is_held m config promise point journal records pending last now (medium old) is) saves
 
-    pub saved_holds : (disk : Image) → StandsAtFrontOrNext point next records last pending disk
+    pub saved_holds : (disk : DiskImage) → IsAtFrontOrNext point next records last pending disk
         → HoldsPromise m config promise promise disk
     saved_holds disk at = ⊎_elim
-        (λ (front : StandsAtFront point records last pending disk).
+        (λ (front : IsAtFront point records last pending disk).
         front_is_held m config promise point records pending last is.held is.answers now
         is.journaled.recorded is.up_to disk front)
         (λ (begins : BeginsAtPoint next disk).
-        held_at_stands m config promise next [] next.process disk next_held begins.at) at
+        held_at_holds_promise m config promise next [] next.process disk next_held begins.at) at
 
   pub save_carries : SaveCarries medium
   save_carries m config less promise point next journal records pending more last now old new
       no_more is saves leaves =
       carries m config less promise (medium old) (medium new)
-      (StandsAtFrontOrNext point next records last pending) no_more
+      (IsAtFrontOrNext point next records last pending) no_more
       (saved_holds m config promise point next journal records pending more last now old is saves)
       leaves
 
@@ -157,7 +157,7 @@ module _ {D : Type 0} (medium : D → Medium) where
       (is : IsSavingAt promise act more shown point next journal records pending last now
       (medium old))
       (leaves : LeavesOnly (medium old) (medium new)
-      (StandsAtFrontOrNext point next records last pending)) where
+      (IsAtFrontOrNext point next records last pending)) where
     done_held : IsHeldAt (promise_saved promise act more shown) next [] next.process
     done_held =
         let long : length next.front ≡ length (promise.kept ++ more) =
@@ -173,15 +173,15 @@ module _ {D : Type 0} (medium : D → Medium) where
         now old is.carried is.front) is.all))
 
     done_moments : LeavesOnly (medium old) (medium new)
-        (ImageHolds m config promise (promise_saved promise act more shown))
+        (DiskImageHolds m config promise (promise_saved promise act more shown))
     done_moments =
         let n : ℕ = length (promise.kept ++ more) in
         subst (λ (z : Promise).
-        LeavesOnly (medium old) (medium new) (ImageHolds m config promise z))
+        LeavesOnly (medium old) (medium new) (DiskImageHolds m config promise z))
         (sym (saving_ends_alike promise act more shown Done n is.saves))
         (leaves_weaker (medium old) (medium new)
-        (StandsAtFrontOrNext point next records last pending)
-        (ImageHolds m config promise
+        (IsAtFrontOrNext point next records last pending)
+        (DiskImageHolds m config promise
         (after (keeping_more promise more) (Ended Checkpoint Done n shown))) leaves
         (λ disk at. inr (held_on m config promise more n shown disk
         (saved_holds m config (keeping_more promise more) point next journal records pending more
@@ -227,9 +227,9 @@ module _ {D : Type 0} (medium : D → Medium) where
         carries = record {
           at_any_moment = done_moments m config promise act more shown point next journal records
               pending last now old new is leaves;
-          in_the_end = λ disk left. inr (held_at_stands m config
+          in_the_end = λ disk crashed. inr (held_at_holds_promise m config
               (promise_saved promise act more shown) next [] next.process disk held
-              (stands disk left));
+              (stands disk crashed));
         };
         held = held;
       }

@@ -8,7 +8,7 @@ use Rattle.std.proofs.lemmas.List.{length-drop}
 use Rattle.std.proofs.lemmas.Option.{slice_get_within}
 use Rattle.wasm_syntax.specs.declared.module.Module.{Module}
 use Rattle.wasi_abi.specs.rules.Configs.{Settings}
-use Rattle.wasi_calls_rules.specs.Hosts.{Line}
+use Rattle.wasi_calls_rules.specs.WasiStates.{Line}
 use Rattle.process_rules.specs.Processes.{ProcessState, Guest}
 use Rattle.record_replay.specs.rules.Calls.{Exchange, Begun, Tells, all_taken}
 use Rattle.restart_theorem.specs.Lives.{Release, Told, OfOutlet}
@@ -17,7 +17,7 @@ use Rattle.restart_theorem.specs.Promises.{Promise, heard_by, after, IsTelling}
 use Rattle.restart_theorem.specs.Exchanges.{was_taken, release_of, none, told}
 use Rattle.worker_store.specs.laws.Underway.{IsUnderWay, IsBroken}
 use Rattle.worker_store.specs.laws.Pieces.{IsForetold}
-use Rattle.worker_store.specs.laws.Telling.{AddsLines, AreMade, AllLinesAreTold}
+use Rattle.worker_store.specs.laws.Telling.{AddsLines, ArePerformed, AllLinesAreTold}
 use Rattle.worker_store.specs.laws.Telling.{LinesAreToldInVain}
 use Rattle.worker_store.proofs.LawLemmas.Underway.{lines_are_told, taken_lines_go_on}
 use Rattle.worker_store.proofs.LawLemmas.Underway.{refused_lines_break}
@@ -62,7 +62,7 @@ adds_more promise promise' r is_taken line few adds = record {
   events = (let e = adds.events in omega (arith, e));
 }
 
--- a line and what stands behind it
+-- a line and what is after it
 pub is_next : (lines rest : List Line) (line : Line) (place : ℕ) → drop place lines ≡ line ∷ rest
     → (slice_get lines place ≡ Some line) × (drop (place + 1) lines ≡ rest)
 is_next [] rest line zero is = absurd cc
@@ -90,13 +90,13 @@ until number last first line =
 
 module _ (m : Module) (config : Settings) (guest : Guest) where
   -- a release that was made, and then others
-  abbrev pub made_more : (promise : Promise) (stage : Stage) (line : ℕ) (begun : Begun)
+  abbrev pub performed_more : (promise : Promise) (stage : Stage) (line : ℕ) (begun : Begun)
       (rest : List Exchange) → begun.number ≤ line
       → IsTelling m config promise stage (release_of begun) (was_taken begun.said)
-      → AreMade m config (after promise (Told (release_of begun) (was_taken begun.said)))
+      → ArePerformed m config (after promise (Told (release_of begun) (was_taken begun.said)))
       (next_stage stage (Told (release_of begun) (was_taken begun.said))) line rest
-      → AreMade m config promise stage line (Tells begun ∷ rest)
-  made_more promise stage line begun rest few is made = record {
+      → ArePerformed m config promise stage line (Tells begun ∷ rest)
+  performed_more promise stage line begun rest few is made = record {
     promise' = made.promise';
     stage' = made.stage';
     done = record {
@@ -110,9 +110,9 @@ module _ (m : Module) (config : Settings) (guest : Guest) where
         made.adds;
   }
 
-  abbrev pub made_none : (promise : Promise) (stage : Stage) (line : ℕ)
-      → AreMade m config promise stage line []
-  made_none promise stage line = record {
+  abbrev pub performed_none : (promise : Promise) (stage : Stage) (line : ℕ)
+      → ArePerformed m config promise stage line []
+  performed_none promise stage line = record {
     promise' = promise;
     stage' = stage;
     done = record {
@@ -127,7 +127,7 @@ module _ (m : Module) (config : Settings) (guest : Guest) where
 
   -- ---- one line
 
-  -- the line at a place, which counts from 0, is that of the number behind it
+  -- the line at a place, which counts from 0, is that of the number after it
   one_told : (promise : Promise) (stage : Stage) (fuel place : ℕ) (p : ProcessState)
       (line : Line) (number : ℕ) (is_taken : Bool) → number ≡ place + 1
       → is_taken ≡ first_taken stage.takes
@@ -160,11 +160,11 @@ module _ (m : Module) (config : Settings) (guest : Guest) where
       (lines : List Line) (number : ℕ) → number ≡ place + 1
       → IsUnderWay m config guest promise stage fuel place p → drop place p.host.lines ≡ lines
       → IsForetold stage (map Tells (all_taken number lines))
-      → (made : AreMade m config promise stage (length p.host.lines)
+      → (made : ArePerformed m config promise stage (length p.host.lines)
       (map Tells (all_taken number lines)))
       × IsUnderWay m config guest made.promise' made.stage' fuel (length p.host.lines) p
   told_from promise stage fuel place p [] number same way is foretold = (
-    made_none promise stage (length p.host.lines),
+    performed_none promise stage (length p.host.lines),
     subst (λ k. IsUnderWay m config guest promise stage fuel k p)
         (all_dropped p.host.lines place way.emitted is) way,
   )
@@ -176,7 +176,7 @@ module _ (m : Module) (config : Settings) (guest : Guest) where
       let rest = told_from (after promise (Told r true)) (next_stage stage (Told r true)) fuel
       (place + 1) p lines (number + 1) (ap (λ n. n + 1) same)
       (one_taken promise stage fuel place p line number same way next.0) next.1 foretold.1 in (
-        made_more promise stage (length p.host.lines)
+        performed_more promise stage (length p.host.lines)
             (record { number = number; line = line; said = Ok tt })
             (map Tells (all_taken (number + 1) lines)) (omega (arith, same, inside))
             (one_told promise stage fuel place p line number true same foretold.0 way next.0)
@@ -195,7 +195,7 @@ module _ (m : Module) (config : Settings) (guest : Guest) where
       → last ≡ number + length first → IsUnderWay m config guest promise stage fuel place p
       → drop place p.host.lines ≡ first ++ (line ∷ others)
       → IsForetold stage (map Tells (until number last first line))
-      → (made : AreMade m config promise stage (length p.host.lines)
+      → (made : ArePerformed m config promise stage (length p.host.lines)
       (map Tells (until number last first line)))
       × IsBroken m config guest made.promise' made.stage' fuel (length promise.kept) p
       (Broken OfOutlet)
@@ -205,11 +205,11 @@ module _ (m : Module) (config : Settings) (guest : Guest) where
       slice_get_within p.host.lines place line next.0 in
       let r : Release = record { number = last; line = line } in
       let here : last ≡ place + 1 = omega (arith, at, same) in (
-        made_more promise stage (length p.host.lines)
+        performed_more promise stage (length p.host.lines)
             (record { number = last; line = line; said = Err (record {}) }) []
             (omega (arith, here, inside))
             (one_told promise stage fuel place p line last false here foretold.0 way next.0)
-            (made_none (after promise (Told r false)) (next_stage stage (Told r false))
+            (performed_none (after promise (Told r false)) (next_stage stage (Told r false))
             (length p.host.lines)),
         refused_lines_break m config guest promise stage fuel place p r way
             (omega (arith, here, inside)),
@@ -224,7 +224,7 @@ module _ (m : Module) (config : Settings) (guest : Guest) where
       (place + 1) p first others line (number + 1) last (ap (λ n. n + 1) same)
       (omega (arith, at)) (one_taken promise stage fuel place p x number same way next.0) next.1
       foretold.1 in (
-        made_more promise stage (length p.host.lines)
+        performed_more promise stage (length p.host.lines)
             (record { number = number; line = x; said = Ok tt })
             (map Tells (until (number + 1) last first line)) (omega (arith, same, inside))
             (one_told promise stage fuel place p x number true same foretold.0 way next.0) rest.0,

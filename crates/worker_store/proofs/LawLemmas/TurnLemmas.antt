@@ -8,12 +8,12 @@ use Rattle.std.proofs.lemmas.Bool.{cases_lt}
 use Rattle.std.proofs.lemmas.List.{take_all, take-append-le, length-take-le}
 use Rattle.wasm_syntax.specs.declared.module.Module.{Module}
 use Rattle.wasm_semantics.specs.Validity.{IsValid}
-use Rattle.wasi_abi.specs.declared.answer.Kind.{Kind}
+use Rattle.wasi_abi.specs.declared.answer.Question.{Question}
 use Rattle.wasi_abi.specs.rules.Configs.{Settings}
 use Rattle.process_rules.specs.Processes.{ProcessState}
 use Rattle.process_rules.specs.Runs.{Kept, Reaches}
 use Rattle.process_rules.specs.Behind.{IsNarrowTo, AnswersBehindLine, AnswersBehindSync}
-use Rattle.sector_disk.specs.rules.Image.{Image}
+use Rattle.sector_disk.specs.rules.DiskImage.{DiskImage}
 use Rattle.sector_disk.specs.rules.Medium.{Medium, LeavesOnly}
 use Rattle.sector_disk.proofs.Moments.{started, leaves_only}
 use Rattle.record_replay.specs.rules.Calls.{Exchange}
@@ -22,7 +22,7 @@ use Rattle.restart_theorem.specs.Lives.{SourceSaid, Release, Event, Told, Asked,
 use Rattle.restart_theorem.specs.Lives.{kept_of_said}
 use Rattle.restart_theorem.specs.Courses.{Stage, next_stage, stage_after}
 use Rattle.restart_theorem.specs.Promises.{Promise, after, promised, HoldsAll}
-use Rattle.restart_theorem.specs.Holds.{HoldsPromise, IsUnopened, ImageHolds}
+use Rattle.restart_theorem.specs.Holds.{HoldsPromise, IsUnopened, DiskImageHolds}
 use Rattle.record_replay.proofs.Recordings.{recorded_count}
 use Rattle.restart_theorem.proofs.Fronts.{reached_counts, up_to_behind, said_widens_none}
 use Rattle.restart_theorem.specs.Exchanges.{was_taken, release_of, AreEvents, none, told, asked}
@@ -40,13 +40,13 @@ use Rattle.worker_store.proofs.LawLemmas.Raising.{front_of_more}
 
 -- an image that stands for these answers, with the lines of its snapshot within these bounds
 record IsStood (m : Module) (config : Settings) (kept : List Kept) (n heard passed : ℕ)
-    (disk : Image) : Type 0 where
+    (disk : DiskImage) : Type 0 where
   pub stands : StandsFor disk m config kept n
   pub heard_is : stands.saved.lines ≤ heard
   pub passed_is : passed ≤ stands.saved.lines
 
 -- Where the front is the same, and all is held that was promised first, it holds that.
-holds_still : (m : Module) (config : Settings) (first then now : Promise) (image : Image)
+holds_still : (m : Module) (config : Settings) (first then now : Promise) (image : DiskImage)
     (holds : HoldsPromise m config first then image)
     → now.was_created ≡ then.was_created → then.heard ≤ now.heard
     → take holds.held then.kept ≡ take holds.held now.kept
@@ -75,9 +75,9 @@ holds_still m config first then now image holds created more same all =
     above a b c x y = omega (arith, x, y)
 
 -- what has no worker has none
-still : (m : Module) (config : Settings) (first then now : Promise) (image : Image)
+still : (m : Module) (config : Settings) (first then now : Promise) (image : DiskImage)
     → (HoldsPromise m config first then image → HoldsPromise m config first now image)
-    → ImageHolds m config first then image → ImageHolds m config first now image
+    → DiskImageHolds m config first then image → DiskImageHolds m config first now image
 still m config first then now image goes held =
     ⊎_elim
     (λ (unopened : IsUnopened first image). inl unopened)
@@ -97,7 +97,7 @@ pub ended_still_holds : EndedStillHolds
 ended_still_holds m config promise act reply n shown same first image no_more held =
     let then : Promise = record (after promise (Ended act reply n shown)) { kept = promise.kept } in
     subst
-    (λ (l : List Kept). ImageHolds m config first
+    (λ (l : List Kept). DiskImageHolds m config first
     (record (after promise (Ended act reply n shown)) { kept = l }) image) (sym same)
     (still m config first promise then image
     (λ holds. record {
@@ -110,7 +110,7 @@ ended_still_holds m config promise act reply n shown same first image no_more he
       snapshot_passed = holds.snapshot_passed;
     }) held)
 
--- No sync up to a step needs an answer that comes behind it.
+-- No sync up to a step needs an answer that comes after it.
 module _ (m : Module) (config : Settings) (kept more_kept : List Kept) (n : ℕ) (p : ProcessState)
     (valid : IsValid m) (reached : Reaches m config kept n p) (up : IsNarrowTo more_kept n) where
   here_reached : Reaches m config (take (length kept) (kept ++ more_kept)) n p
@@ -137,7 +137,7 @@ module _ (m : Module) (config : Settings) (kept more_kept : List Kept) (n : ℕ)
       behind.up_to) in
       omega (arith, later, next, below)
 
-  -- so those behind earlier ones stay held
+  -- so those after earlier ones stay held
   pub syncs_of_more : (held : ℕ) → SyncsAreHeld m config kept held n
       → SyncsAreHeld m config (kept ++ more_kept) held n
   syncs_of_more held syncs k b below behind = ⊎_elim
@@ -162,7 +162,7 @@ module _ (m : Module) (config : Settings) (kept more_kept : List Kept) (n : ℕ)
       (λ (all : length kept ≤ a). omega (arith, all, within))
       (cases_lt a (length kept))
 
-  -- Each line that was begun stays behind answers that are held.
+  -- Each line that was begun stays after answers that are held.
   line_stays : (i held begun : ℕ) → i ≤ begun
       → ((step : ℕ) → IsNarrowTo more_kept step) ⊎ (begun ≤ length p.host.lines)
       → (a : ℕ) × (a ≤ held) × AnswersBehindLine m config kept i a
@@ -263,13 +263,14 @@ module _ {D : Type 0} (medium : D → Medium) where
       }
 
 pub asked_still_holds : AskedStillHolds
-asked_still_holds m config promise p kind said fits valid reached synced first image no_more held =
-    still m config first promise (after promise (Asked p.steps kind said fits)) image
+asked_still_holds m config promise p question said fits valid reached synced first image
+    no_more held = still m config first promise (after promise
+    (Asked p.steps question said fits)) image
     (λ holds.
     let all = holds.holds in
     let before : first.synced ≤ promise.synced = no_more.synced in
-    holds_still m config first promise (after promise (Asked p.steps kind said fits)) image holds
-    refl (omega arith)
+    holds_still m config first promise (after promise (Asked p.steps question said
+    fits)) image holds refl (omega arith)
     (sym (take-append-le holds.held promise.kept (kept_of_said said fits) all.within))
     (all_of_more m config promise.kept (kept_of_said said fits) p.steps p valid reached
     (said_widens_none said fits p.steps) first holds.held holds.steps
@@ -315,11 +316,11 @@ told_begun promise stage r is_taken = record {
   events = omega arith;
 }
 
-asked_begun : (promise : Promise) (stage : Stage) (steps : ℕ) (kind : Kind) (said : SourceSaid)
-    (fits : Bool)
-    → LeavesBegun promise (after promise (Asked steps kind said fits)) stage
-    (next_stage stage (Asked steps kind said fits))
-asked_begun promise stage steps kind said fits = record {
+asked_begun : (promise : Promise) (stage : Stage) (steps : ℕ) (question : Question)
+    (said : SourceSaid) (fits : Bool)
+    → LeavesBegun promise (after promise (Asked steps question said fits)) stage
+    (next_stage stage (Asked steps question said fits))
+asked_begun promise stage steps question said fits = record {
   opened = refl;
   step = refl;
   acts = refl;
@@ -358,10 +359,10 @@ begun_of promise stage exchanges events (told {begun = begun} {exchanges = rest}
     (begun_of (after promise e) (next_stage stage e) rest others are)
 begun_of promise stage exchanges events (asked {ask = ask} {steps = steps} {fits = fits}
     {exchanges = rest} {events = others} are) =
-    let e : Event = Asked steps ask.kind ask.said fits in
+    let e : Event = Asked steps ask.question ask.said fits in
     begun_join promise (after promise e) (promised (after promise e) others) stage
     (next_stage stage e) (stage_after (next_stage stage e) others)
-    (asked_begun promise stage steps ask.kind ask.said fits)
+    (asked_begun promise stage steps ask.question ask.said fits)
     (begun_of (after promise e) (next_stage stage e) rest others are)
 
 pub parts_leave_begun : PartsLeaveBegun
@@ -373,16 +374,16 @@ parts_leave_begun m config promise promise' stage stage' exchanges done =
 -- ---- a disk
 
 -- a promise that has opened isn't one of nothing
-not_unopened : (promise : Promise) (image : Image) → promise.has_opened ≡ true
+not_unopened : (promise : Promise) (image : DiskImage) → promise.has_opened ≡ true
     → IsUnopened promise image → ⊥
 not_unopened promise image opened unopened =
     let never : promise.has_opened ≡ false = ap (λ (p : Promise). p.has_opened) unopened.0 in
     absurd (cc)
 
 -- what holds the more holds the less
-lowered : (m : Module) (config : Settings) (less more now : Promise) (image : Image)
-    → more.has_opened ≡ true → PromisesNoMore less more → ImageHolds m config more now image
-    → ImageHolds m config less now image
+lowered : (m : Module) (config : Settings) (less more now : Promise) (image : DiskImage)
+    → more.has_opened ≡ true → PromisesNoMore less more → DiskImageHolds m config more now image
+    → DiskImageHolds m config less now image
 lowered m config less more now image opened no_more held =
     ⊎_elim
     (λ (unopened : IsUnopened more image). absurd (not_unopened more image opened unopened))
@@ -412,40 +413,40 @@ module _ (m : Module) (config : Settings) (first between last : Promise) (old in
     (a : GoesOnFrom m config first between old inside)
     (b : GoesOnFrom m config between last inside new) where
   -- a cut in the second part
-  from_second : (image : Image) → ImageHolds m config between last image
-      → ImageHolds m config first last image
+  from_second : (image : DiskImage) → DiskImageHolds m config between last image
+      → DiskImageHolds m config first last image
   from_second image held =
       lowered m config first between last image a.opened_now a.no_more held
 
   -- and one in the first, once the second is over
-  from_first : (image : Image) → ImageHolds m config first between image
-      → ImageHolds m config first last image
+  from_first : (image : DiskImage) → DiskImageHolds m config first between image
+      → DiskImageHolds m config first last image
   from_first image held = b.still first image a.no_more held
 
-  leaves_joined : LeavesOnly old new (ImageHolds m config first last)
+  leaves_joined : LeavesOnly old new (DiskImageHolds m config first last)
   leaves_joined =
       let one = a.leaves in
       let two = b.leaves in
       let x = one.passes in
       let y = two.passes in
       record {
-        each = λ image left. ⊎_elim
+        each = λ image crashed. ⊎_elim
             (λ past. from_first image (one.each image past))
             (λ now. from_second image now)
-            (y.nothing_else old.moment image x.later left);
+            (y.nothing_else old.moment image x.later crashed);
         passes = record {
           sectors = y.sectors ∙ x.sectors;
-          told = y.told ∙ x.told;
+          fault_plan = y.fault_plan ∙ x.fault_plan;
           room = y.room ∙ x.room;
           faults = omega (arith, x.faults, y.faults);
           later = omega (arith, x.later, y.later);
-          nothing_else = λ t image le left. ⊎_elim
+          nothing_else = λ t image le crashed. ⊎_elim
               (λ past. ⊎_elim
               (λ before. inl before)
               (λ now. inr (from_first image now))
               (x.nothing_else t image le past))
               (λ now. inr (from_second image now))
-              (y.nothing_else t image (up_to t le x.later) left);
+              (y.nothing_else t image (up_to t le x.later) crashed);
         };
       }
     where
@@ -477,10 +478,10 @@ module _ {D : Type 0} (medium : D → Medium) where
     opened_now = opened_now;
     no_more = no_more;
     still = goes;
-    leaves = leaves_only (medium disk) (medium disk) (ImageHolds m config then now)
-        (started (medium disk) (ImageHolds m config then now))
-        (λ image left. lowered m config then now now image opened_now no_more
-        (keeps image left));
+    leaves = leaves_only (medium disk) (medium disk) (DiskImageHolds m config then now)
+        (started (medium disk) (DiskImageHolds m config then now))
+        (λ image crashed. lowered m config then now now image opened_now no_more
+        (keeps image crashed));
   }
 
   pub lines_carry : LinesCarry medium

@@ -7,7 +7,7 @@ use Rattle.std.proofs.Math.Seq.{take-length, take-append_seam}
 use Rattle.std.proofs.lemmas.Option.{slice_get_within}
 use Rattle.std.proofs.lemmas.List.{append-nil, length-append}
 use Rattle.wasm_syntax.specs.declared.module.Module.{Module}
-use Rattle.wasi_abi.specs.declared.answer.Kind.{Kind}
+use Rattle.wasi_abi.specs.declared.answer.Question.{Question}
 use Rattle.wasi_abi.specs.rules.Configs.{Settings}
 use Rattle.wasi_calls_rules.specs.laws.Laws.{Emits}
 use Rattle.process_rules.specs.Processes.{ProcessState, Guest}
@@ -171,7 +171,7 @@ module _ (m : Module) (config : Settings) (guest : Guest) where
       (sym is) ((begun, omega (arith, in_time)), (omega (arith, begun), omega (arith, in_time))))
 
   pub questions_are_asked : QuestionsAreAsked m config guest
-  questions_are_asked promise stage fuel p kind fits asks fitting =
+  questions_are_asked promise stage fuel p question fits asks fitting =
       let at = asks.way.in_slice in
       record {
         process = p;
@@ -189,7 +189,7 @@ module _ (m : Module) (config : Settings) (guest : Guest) where
         heard = refl;
       }
 
-  -- a front of a longer list
+  -- a prefix of a longer list
   front_of_more : (kept more : List Kept)
       → take (length kept) (kept ++ more) ≡ take (length kept) kept
   front_of_more kept more = take-append_seam kept more ∙ sym (take-length kept)
@@ -198,52 +198,53 @@ module _ (m : Module) (config : Settings) (guest : Guest) where
   no_longer kept more = omega (arith, length-append kept more)
 
   -- where the process has taken none of what was said
-  not_taken : (promise : Promise) (stage : Stage) (fuel : ℕ) (p : ProcessState) (kind : Kind)
-      (said : SourceSaid) (fits : Bool) → IsAtQuestion m config guest promise stage fuel p kind
-      → IsInItsSlice m config guest (promise_asked m config guest promise p kind said fits)
-      (stage_asked m config guest stage p kind said fits) fuel (length promise.kept) p
-  not_taken promise stage fuel p kind said fits asks =
-      still_in promise (after promise (Asked p.steps kind said fits)) stage
-      (next_stage stage (Asked p.steps kind said fits)) fuel (length promise.kept) p
+  not_taken : (promise : Promise) (stage : Stage) (fuel : ℕ) (p : ProcessState)
+      (question : Question) (said : SourceSaid) (fits : Bool)
+      → IsAtQuestion m config guest promise stage fuel p question
+      → IsInItsSlice m config guest (promise_asked m config guest promise p question said fits)
+      (stage_asked m config guest stage p question said fits) fuel (length promise.kept) p
+  not_taken promise stage fuel p question said fits asks =
+      still_in promise (after promise (Asked p.steps question said fits)) stage
+      (next_stage stage (Asked p.steps question said fits)) fuel (length promise.kept) p
       (front_of_more promise.kept (kept_of_said said fits))
       (no_longer promise.kept (kept_of_said said fits)) refl refl asks.way.in_slice
 
   -- all lines were told before the question
-  all_among : (promise : Promise) (stage : Stage) (fuel : ℕ) (p : ProcessState) (kind : Kind)
-      → IsAtQuestion m config guest promise stage fuel p kind
+  all_among : (promise : Promise) (stage : Stage) (fuel : ℕ) (p : ProcessState)
+      (question : Question) → IsAtQuestion m config guest promise stage fuel p question
       → IsOneOf stage.line (length p.host.lines)
-  all_among promise stage fuel p kind asks =
+  all_among promise stage fuel p question asks =
       among_first stage.line (length p.host.lines) (length p.host.lines) asks.way.line
       (omega arith)
 
   pub answers_are_kept : AnswersAreKept m config guest
-  answers_are_kept promise stage fuel p kind a asks = record {
-    in_slice = not_taken promise stage fuel p kind (Ok (Some a)) true asks;
+  answers_are_kept promise stage fuel p question a asks = record {
+    in_slice = not_taken promise stage fuel p question (Ok (Some a)) true asks;
     is = refl;
-    told = all_among promise stage fuel p kind asks;
+    told = all_among promise stage fuel p question asks;
   }
 
   pub other_answers_break : OtherAnswersBreak m config guest
-  other_answers_break promise stage fuel p kind asks = record {
+  other_answers_break promise stage fuel p question asks = record {
     misfit = λ a. record {
-      in_slice = not_taken promise stage fuel p kind (Ok (Some a)) false asks;
+      in_slice = not_taken promise stage fuel p question (Ok (Some a)) false asks;
       is = refl;
-      told = all_among promise stage fuel p kind asks;
+      told = all_among promise stage fuel p question asks;
     };
     none_there = λ fits. record {
-      in_slice = not_taken promise stage fuel p kind (Ok None) fits asks;
+      in_slice = not_taken promise stage fuel p question (Ok None) fits asks;
       is = refl;
-      told = all_among promise stage fuel p kind asks;
+      told = all_among promise stage fuel p question asks;
     };
     fault = λ e fits. record {
-      in_slice = not_taken promise stage fuel p kind (Err e) fits asks;
+      in_slice = not_taken promise stage fuel p question (Err e) fits asks;
       is = refl;
-      told = all_among promise stage fuel p kind asks;
+      told = all_among promise stage fuel p question asks;
     };
   }
 
   pub answers_go_on : AnswersGoOn m config guest
-  answers_go_on promise stage fuel p q kind a asks moves =
+  answers_go_on promise stage fuel p q question a asks moves =
       let at = asks.way.in_slice in
       let counted : q.steps ≡ p.steps + 1 = move_counts guest p q (Some a) moves in
       let more : Emits p.host q.host = move_emits guest p q (Some a) moves in

@@ -4,12 +4,12 @@ use Rattle.wasi_abi.specs.declared.version.Version.TheVariants.{One, Two}
 use Rattle.wasi_abi.specs.rules.Configs.{Settings}
 use Rattle.process_rules.specs.Runs.{Kept, Wider, version_after}
 use Rattle.process_rules.specs.Behind.{IsNarrowTo}
-use Rattle.state_image.specs.rules.Image.{Saved}
+use Rattle.state_image.specs.rules.ProcessImage.{Saved}
 use Rattle.restart_theorem.specs.Lives.{Act, Slice, Checkpoint, Upgrade, Reply, Cause, Ended}
 use Rattle.restart_theorem.specs.Courses.{Stage, Open, MayFail}
 use Rattle.restart_theorem.specs.Promises.{Promise, after, MayPlead}
 
--- An act that saves: once it is done, no later life comes behind the process that it shows.
+-- An act that saves: once it is done, no later life comes after the process that it shows.
 abbrev pub IsSaving : Act → Type 0
 IsSaving (Slice fuel) = ⊥
 IsSaving Checkpoint = Unit {0}

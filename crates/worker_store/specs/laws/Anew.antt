@@ -2,13 +2,13 @@
 use Rattle.std.specs.Prelude.{◌≡◌, ◌⊎◌, true, []}
 use Rattle.wasm_syntax.specs.declared.module.Module.{Module}
 use Rattle.wasi_abi.specs.rules.Configs.{Settings}
-use Rattle.state_image.specs.rules.Image.{Saved}
+use Rattle.state_image.specs.rules.ProcessImage.{Saved}
 use Rattle.sector_disk.specs.rules.Medium.{Medium, LeavesOnly}
 use Rattle.restart_theorem.specs.Stands.{IsBlank}
 use Rattle.restart_theorem.specs.Lives.{Opened}
 use Rattle.restart_theorem.specs.Promises.{Promise, after}
 use Rattle.restart_theorem.specs.Holds.{IsNothingYet, CarriesPromise}
-use Rattle.worker_store.specs.laws.Savepoints.{Savepoint, StandsAtPoint}
+use Rattle.worker_store.specs.laws.Savepoints.{Savepoint, IsAtSavepoint}
 use Rattle.worker_store.specs.laws.Commits.{BeginsAtPoint}
 use Rattle.worker_store.specs.laws.Moments.{LeavesAll}
 use Rattle.worker_store.specs.laws.Carried.{IsHeldAt}
@@ -26,5 +26,5 @@ CreationOpens {D} medium =
     (first : Savepoint m config) (old new : D) → IsNothingYet promise
     → promise.was_created ≡ true → first.front ≡ [] → first.saved.lines ≡ 0 → first.saved ≡ shown
     → LeavesOnly (medium old) (medium new) (λ disk. IsBlank disk ⊎ BeginsAtPoint first disk)
-    → LeavesAll (medium new) (StandsAtPoint first [] first.process)
+    → LeavesAll (medium new) (IsAtSavepoint first [] first.process)
     → OpensAtFirst promise shown first (medium old) (medium new)

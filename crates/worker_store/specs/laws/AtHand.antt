@@ -53,8 +53,8 @@ VersionStays =
     (last p : ProcessState) (n : ℕ) → Recorded point.reached.guest point.process records last
     → Runs point.reached.guest last [] n p → p.host.version ≡ point.saved.version
 
--- There is a next one wherever the records of a savepoint have led, if the journal takes the records
--- of the version of the process at hand.
+-- There is a next one wherever the records of a savepoint have led, if the journal takes the
+-- records of the version of the process at hand.
 abbrev pub NextIsAtHand : Type 0
 NextIsAtHand =
     (m : Module) (config : Settings) (point : Savepoint m config) (records : List Record)

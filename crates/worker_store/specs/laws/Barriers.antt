@@ -5,13 +5,13 @@ use Rattle.wasi_abi.specs.declared.answer.Answer.{Answer}
 use Rattle.wasi_abi.specs.rules.Configs.{Settings}
 use Rattle.process_rules.specs.Processes.{ProcessState, Guest}
 use Rattle.process_rules.specs.Runs.{Kept, Runs, Moves}
-use Rattle.sector_disk.specs.rules.Image.{Image}
+use Rattle.sector_disk.specs.rules.DiskImage.{DiskImage}
 use Rattle.disk_layout.specs.rules.Places.{geometry_of}
 use Rattle.disk_layout.specs.rules.Journal.{Record}
-use Rattle.journal.specs.rules.Steps.{AppendsFront, RecordsStand, AllRecordsFit}
+use Rattle.journal.specs.rules.Steps.{AppendsFront, HoldsRecords, AllRecordsFit}
 use Rattle.record_replay.specs.rules.Records.{Recorded, given_in}
 use Rattle.restart_theorem.specs.Stands.{IsNumbered, StandsFor}
-use Rattle.worker_store.specs.laws.Savepoints.{Savepoint, places, point_of, StandsAtPoint}
+use Rattle.worker_store.specs.laws.Savepoints.{Savepoint, places, point_of, IsAtSavepoint}
 use Rattle.worker_store.specs.laws.Savepoints.{StandsBySaved}
 
 -- ---- records
@@ -25,53 +25,53 @@ RecordedOnce =
 
 -- ---- an image
 
--- It stands at this savepoint, with these records and a front of those behind them.
-pub record StandsAtFront {m : Module} {config : Settings} (point : Savepoint m config)
-    (records : List Record) (last : ProcessState) (pending : List Record) (disk : Image)
+-- It is at this savepoint, with these records and a prefix of those after them.
+pub record IsAtFront {m : Module} {config : Settings} (point : Savepoint m config)
+    (records : List Record) (last : ProcessState) (pending : List Record) (disk : DiskImage)
     : Type 0 where
   pub count : ℕ
   pub within : count ≤ length pending
   pub process : ProcessState
   pub recorded : Recorded point.reached.guest last (take count pending) process
-  pub at : StandsAtPoint point (records ++ take count pending) process disk
+  pub at : IsAtSavepoint point (records ++ take count pending) process disk
 
--- Whatever a barrier has left, the image stands for a front of the pending records.
+-- Whatever a barrier has left, the image stands for a prefix of the pending records.
 abbrev pub BarrierLeavesFront : Type 0
 BarrierLeavesFront =
     (m : Module) (config : Settings) (point : Savepoint m config) (records pending : List Record)
-    (last q : ProcessState) (used : ℕ) (old new : Image)
-    → StandsAtPoint point records last old → Recorded point.reached.guest last pending q
+    (last q : ProcessState) (used : ℕ) (old new : DiskImage)
+    → IsAtSavepoint point records last old → Recorded point.reached.guest last pending q
     → IsNumbered q
     → AppendsFront (places point) point.saved.version point.generation used records pending old new
-    → StandsAtFront point records last pending new
+    → IsAtFront point records last pending new
 
--- Where all of them stand in the journal, it stands for all.
+-- Where all of them are in the journal, it stands for all.
 abbrev pub BarrierLeavesAll : Type 0
 BarrierLeavesAll =
     (m : Module) (config : Settings) (point : Savepoint m config) (records pending : List Record)
-    (last q : ProcessState) (used count : ℕ) (old new : Image)
-    → StandsAtPoint point records last old → Recorded point.reached.guest last pending q
+    (last q : ProcessState) (used count : ℕ) (old new : DiskImage)
+    → IsAtSavepoint point records last old → Recorded point.reached.guest last pending q
     → IsNumbered q
     → AppendsFront (places point) point.saved.version point.generation used records pending old new
     → AllRecordsFit point.saved.version records → AllRecordsFit point.saved.version pending
-    → RecordsStand (places point) point.saved.version point.generation count (records ++ pending) new
-    → StandsAtPoint point (records ++ pending) q new
+    → HoldsRecords (places point) point.saved.version point.generation count (records
+    ++ pending) new → IsAtSavepoint point (records ++ pending) q new
 
 -- Of all answers, those in memory included, it stands for so many.
 abbrev pub FrontStands : Type 0
 FrontStands =
     (m : Module) (config : Settings) (point : Savepoint m config) (records pending : List Record)
-    (last : ProcessState) (disk : Image) (kept : List Kept)
+    (last : ProcessState) (disk : DiskImage) (kept : List Kept)
     → kept ≡ point.front ++ map given_in (records ++ pending)
-    → (at : StandsAtFront point records last pending disk)
+    → (at : IsAtFront point records last pending disk)
     → StandsBySaved point (take (length point.front + length records + at.count) kept)
     at.process.steps disk
 
 -- So where it stood for some answers, it stands for these and for those of the front, by the same
--- savepoint, at the step of the process behind them.
+-- savepoint, at the step of the process after them.
 abbrev pub BarrierStands : Type 0
 BarrierStands =
-    (m : Module) (config : Settings) (kept : List Kept) (n : ℕ) (old new : Image)
+    (m : Module) (config : Settings) (kept : List Kept) (n : ℕ) (old new : DiskImage)
     (stands : StandsFor old m config kept n) (pending : List Record) (q : ProcessState) (used : ℕ)
     → Recorded stands.reached.guest stands.last pending q → IsNumbered q
     → (appends : AppendsFront (geometry_of config (length stands.wasm)) stands.saved.version

@@ -12,7 +12,7 @@ use Rattle.process_rules.specs.Processes.{Ending, ProcessState, Guest, IsStart}
 use Rattle.process_rules.specs.Runs.{Kept, Runs}
 use Rattle.process.specs.rules.Stops.{IsBeyond}
 use Rattle.disk_layout.specs.rules.Journal.{TakesRecords}
-use Rattle.state_image.specs.rules.Image.{Saved, SavedShowsProcess}
+use Rattle.state_image.specs.rules.ProcessImage.{Saved, SavedShowsProcess}
 use Rattle.restart_theorem.specs.Lives.{Act, Slice, Reply, Spent, Waits, Over, Done}
 use Rattle.restart_theorem.specs.Lives.{Fails, Cause, OfBounds, Ended, kept_by_end}
 use Rattle.restart_theorem.specs.Courses.{Stage, Phase, Open, NoneThere, MayFail, next_stage}

@@ -5,7 +5,7 @@ use Rattle.wasi_abi.specs.rules.Configs.{Settings}
 use Rattle.process_rules.specs.Processes.{ProcessState}
 use Rattle.process_rules.specs.Behind.{IsNarrowTo}
 use Rattle.process_rules.specs.Runs.{Kept, Runs}
-use Rattle.sector_disk.specs.rules.Image.{Image}
+use Rattle.sector_disk.specs.rules.DiskImage.{DiskImage}
 use Rattle.sector_disk.specs.rules.Medium.{Medium, LeavesOnly}
 use Rattle.disk_layout.specs.rules.Sectors.{HasMarks}
 use Rattle.disk_layout.specs.rules.Journal.{Record}
@@ -15,10 +15,10 @@ use Rattle.restart_theorem.specs.Stands.{IsBlank}
 use Rattle.restart_theorem.specs.Lives.{Act, Done, Opened, Ended}
 use Rattle.restart_theorem.specs.Courses.{Stage, Shut, IsLast}
 use Rattle.restart_theorem.specs.Promises.{Promise, after, HoldsAll, IsAt, IsOpening}
-use Rattle.restart_theorem.specs.Holds.{HoldsPromise, IsNothingYet, ImageHolds, KeepsPromise}
+use Rattle.restart_theorem.specs.Holds.{HoldsPromise, IsNothingYet, DiskImageHolds, KeepsPromise}
 use Rattle.restart_theorem.specs.Holds.{CarriesPromise}
-use Rattle.worker_store.specs.laws.Savepoints.{Savepoint, point_of, StandsAtPoint}
-use Rattle.worker_store.specs.laws.Barriers.{StandsAtFront}
+use Rattle.worker_store.specs.laws.Savepoints.{Savepoint, point_of, IsAtSavepoint}
+use Rattle.worker_store.specs.laws.Barriers.{IsAtFront}
 use Rattle.worker_store.specs.laws.Commits.{BeginsAtPoint}
 use Rattle.worker_store.specs.laws.Journaled.{IsJournaled}
 use Rattle.worker_store.specs.laws.Acts.{SavesWith, keeping_more}
@@ -46,33 +46,33 @@ pub record IsHeldAt {m : Module} {config : Settings} (promise : Promise)
   pub heard : point.saved.lines ≤ promise.heard
   pub passed : promise.passed ≤ point.saved.lines
 
--- What stands there holds what is promised,
-abbrev pub HeldAtStands : Type 0
-HeldAtStands =
+-- What is there holds what is promised,
+abbrev pub HeldAtHoldsPromise : Type 0
+HeldAtHoldsPromise =
     (m : Module) (config : Settings) (promise : Promise) (point : Savepoint m config)
-    (records : List Record) (last : ProcessState) (disk : Image)
-    → IsHeldAt promise point records last → StandsAtPoint point records last disk
+    (records : List Record) (last : ProcessState) (disk : DiskImage)
+    → IsHeldAt promise point records last → IsAtSavepoint point records last disk
     → HoldsPromise m config promise promise disk
 
--- and what holds it stands there.
-abbrev pub StandsHeldAt : Type 0
-StandsHeldAt =
-    (m : Module) (config : Settings) (promise : Promise) (disk : Image)
+-- and what holds it is there.
+abbrev pub PromiseIsHeldAt : Type 0
+PromiseIsHeldAt =
+    (m : Module) (config : Settings) (promise : Promise) (disk : DiskImage)
     → (holds : HoldsPromise m config promise promise disk)
     → IsHeldAt promise (point_of holds.stands) holds.stands.records holds.stands.last
 
 -- What a recovery finds with the marks of a worker holds what is promised,
 abbrev pub MarkedIsHeld : Type 0
 MarkedIsHeld =
-    (m : Module) (config : Settings) (promise : Promise) (disk : Image)
-    → ImageHolds m config promise promise disk → HasMarks disk
+    (m : Module) (config : Settings) (promise : Promise) (disk : DiskImage)
+    → DiskImageHolds m config promise promise disk → HasMarks disk
     → HoldsPromise m config promise promise disk
 
 -- and where it finds no worker, nothing has been promised.
 abbrev pub BlankIsUnopened : Type 0
 BlankIsUnopened =
-    (m : Module) (config : Settings) (promise : Promise) (disk : Image)
-    → ImageHolds m config promise promise disk → IsBlank disk → IsNothingYet promise
+    (m : Module) (config : Settings) (promise : Promise) (disk : DiskImage)
+    → DiskImageHolds m config promise promise disk → IsBlank disk → IsNothingYet promise
 
 -- no more is promised by the first than by the second
 pub record PromisesNoMore (less more : Promise) : Type 0 where
@@ -85,7 +85,7 @@ pub record PromisesNoMore (less more : Promise) : Type 0 where
 -- So what holds the more holds the less.
 abbrev pub LessIsHeld : Type 0
 LessIsHeld =
-    (m : Module) (config : Settings) (less more now : Promise) (disk : Image)
+    (m : Module) (config : Settings) (less more now : Promise) (disk : DiskImage)
     → PromisesNoMore less more → HoldsPromise m config more now disk
     → HoldsPromise m config less now disk
 
@@ -103,7 +103,7 @@ pub record SavesFront {m : Module} {config : Settings} (promise : Promise)
   pub runs : Runs point.reached.guest last more steps next.process
   pub heard : next.saved.lines ≤ promise.heard
 
--- It holds what the last one and the records behind that hold.
+-- It holds what the last one and the records after that hold.
 abbrev pub NextIsHeld : Type 0
 NextIsHeld =
     (m : Module) (config : Settings) (promise : Promise) (point next : Savepoint m config)
@@ -176,7 +176,7 @@ StaysCarried {D} medium =
     (m : Module) (config : Settings) (promise : Promise) (point : Savepoint m config)
     (journal : JournalState) (records pending : List Record) (last now : ProcessState)
     (old new : D) → IsCarried promise point journal records pending last now (medium old)
-    → ((image : Image) → (medium new).may_leave image → (medium old).may_leave image)
+    → ((image : DiskImage) → (medium new).crash_images image → (medium old).crash_images image)
     → IsCarried promise point journal records pending last now (medium new)
 
 -- A barrier leaves it so, by Ok or by any error, whatever less was promised when the call began.
@@ -186,7 +186,7 @@ BarrierCarries {D} medium =
     (journal : JournalState) (records pending : List Record) (last now : ProcessState)
     (old new : D) → PromisesNoMore less promise
     → IsCarried promise point journal records pending last now (medium old)
-    → LeavesOnly (medium old) (medium new) (StandsAtFront point records last pending)
+    → LeavesOnly (medium old) (medium new) (IsAtFront point records last pending)
     → CarriesPromise m config less promise (medium old) (medium new)
 
 -- once it has answered Ok
@@ -206,16 +206,16 @@ CommitCarries {D} medium =
     → PromisesNoMore less promise → IsHeldAt promise point records last
     → SavesFront promise point next records more last
     → LeavesOnly (medium old) (medium new)
-    (λ disk. StandsAtPoint point records last disk ⊎ BeginsAtPoint next disk)
+    (λ disk. IsAtSavepoint point records last disk ⊎ BeginsAtPoint next disk)
     → CarriesPromise m config less promise (medium old) (medium new)
 
--- where it leaves nothing but what stands at the old savepoint
-abbrev pub StandingCarries : {D : Type 0} → (D → Medium) → Type 0
-StandingCarries {D} medium =
+-- where it leaves nothing but what is at the old savepoint
+abbrev pub SavepointCarries : {D : Type 0} → (D → Medium) → Type 0
+SavepointCarries {D} medium =
     (m : Module) (config : Settings) (less promise : Promise) (point : Savepoint m config)
     (records : List Record) (last : ProcessState) (old new : D) → PromisesNoMore less promise
     → IsHeldAt promise point records last
-    → LeavesOnly (medium old) (medium new) (StandsAtPoint point records last)
+    → LeavesOnly (medium old) (medium new) (IsAtSavepoint point records last)
     → CarriesPromise m config less promise (medium old) (medium new)
 
 -- a creation that has begun, while nothing has been promised

@@ -4,8 +4,8 @@ use Rattle.wasm_syntax.specs.declared.module.Module.{Module}
 use Rattle.wasi_abi.specs.rules.Configs.{Settings}
 use Rattle.process_rules.specs.Processes.{ProcessState}
 use Rattle.process_rules.specs.Runs.{Kept}
-use Rattle.state_image.specs.rules.Image.{image}
-use Rattle.sector_disk.specs.rules.Image.{Image}
+use Rattle.state_image.specs.rules.ProcessImage.{process_image}
+use Rattle.sector_disk.specs.rules.DiskImage.{DiskImage}
 use Rattle.disk_layout.specs.rules.Sectors.{HasWorker}
 use Rattle.disk_layout.specs.rules.Journal.{Record}
 use Rattle.wasi_abi.specs.rules.Versions.{version_number}
@@ -13,21 +13,21 @@ use Rattle.journal.specs.laws.Laws.{ShowsEarlierThan}
 use Rattle.snapshot.specs.rules.Heads.{IsReadyForHead}
 use Rattle.snapshot.specs.rules.Steps.{HasNew, Fills, Commits, Replaces}
 use Rattle.restart_theorem.specs.Stands.{IsNumbered, StandsFor}
-use Rattle.worker_store.specs.laws.Savepoints.{Savepoint, places, StandsAtPoint}
+use Rattle.worker_store.specs.laws.Savepoints.{Savepoint, places, IsAtSavepoint}
 
--- It stands at this savepoint without records, and no sector of the journal shows the generation.
+-- It is at this savepoint without records, and no sector of the journal shows the generation.
 pub record BeginsAtPoint {m : Module} {config : Settings} (point : Savepoint m config)
-    (disk : Image) : Type 0 where
-  pub at : StandsAtPoint point [] point.process disk
+    (disk : DiskImage) : Type 0 where
+  pub at : IsAtSavepoint point [] point.process disk
   pub earlier : ShowsEarlierThan (places point) point.generation disk
 
 -- where a new head and its image are there, over a journal of earlier generations
 abbrev pub NewPointBegins : Type 0
 NewPointBegins =
-    (m : Module) (config : Settings) (point : Savepoint m config) (disk : Image)
+    (m : Module) (config : Settings) (point : Savepoint m config) (disk : DiskImage)
     → IsNumbered point.process → HasWorker config point.wasm disk
     → HasNew (places point) point.generation (version_number point.saved.version)
-    (image point.saved) disk
+    (process_image point.saved) disk
     → ShowsEarlierThan (places point) point.generation disk
     → BeginsAtPoint point disk
 
@@ -35,16 +35,16 @@ NewPointBegins =
 abbrev pub PointIsReady : Type 0
 PointIsReady =
     (m : Module) (config : Settings) (point : Savepoint m config) (records : List Record)
-    (last : ProcessState) (disk : Image) → StandsAtPoint point records last disk
+    (last : ProcessState) (disk : DiskImage) → IsAtSavepoint point records last disk
     → IsReadyForHead (point.generation + 1) disk
 
 -- while the area of the next generation is filled, it stands for the same
 abbrev pub FillingKeepsPoint : Type 0
 FillingKeepsPoint =
     (m : Module) (config : Settings) (point : Savepoint m config) (records : List Record)
-    (last : ProcessState) (old new : Image) → StandsAtPoint point records last old
+    (last : ProcessState) (old new : DiskImage) → IsAtSavepoint point records last old
     → Fills (places point) (point.generation + 1) old new
-    → StandsAtPoint point records last new
+    → IsAtSavepoint point records last new
 
 -- of the same bytes of the module, and of the next generation; its numbers are below their ends
 pub record IsNextPoint {m : Module} {config : Settings} (point next : Savepoint m config)
@@ -53,24 +53,24 @@ pub record IsNextPoint {m : Module} {config : Settings} (point next : Savepoint 
   pub generation : next.generation ≡ point.generation + 1
   pub numbers : IsNumbered next.process
 
--- whatever a commit of another savepoint has left, it stands at the one or at the other
+-- whatever a commit of another savepoint has left, it is at the one or at the other
 abbrev pub CommitLeavesOneOfTwo : Type 0
 CommitLeavesOneOfTwo =
     (m : Module) (config : Settings) (point next : Savepoint m config) (records : List Record)
-    (last : ProcessState) (old new : Image) → StandsAtPoint point records last old
+    (last : ProcessState) (old new : DiskImage) → IsAtSavepoint point records last old
     → IsNextPoint point next
     → Commits (places point) next.generation (version_number next.saved.version)
-    (image next.saved) old new
-    → StandsAtPoint point records last new ⊎ BeginsAtPoint next new
+    (process_image next.saved) old new
+    → IsAtSavepoint point records last new ⊎ BeginsAtPoint next new
 
--- once it has replaced the old one, it stands at the new one
+-- once it has replaced the old one, it is at the new one
 abbrev pub CommitBeginsNext : Type 0
 CommitBeginsNext =
     (m : Module) (config : Settings) (point next : Savepoint m config) (records : List Record)
-    (last : ProcessState) (old new : Image) → StandsAtPoint point records last old
+    (last : ProcessState) (old new : DiskImage) → IsAtSavepoint point records last old
     → IsNextPoint point next
     → Replaces (places point) next.generation (version_number next.saved.version)
-    (image next.saved) old new
+    (process_image next.saved) old new
     → BeginsAtPoint next new
 
 -- ---- whatever it stands by
@@ -78,31 +78,31 @@ CommitBeginsNext =
 -- It stands for these answers at this step, by the generation before that of the savepoint, whose
 -- numbers are below their ends.
 pub record StandsBefore {m : Module} {config : Settings} (next : Savepoint m config)
-    (kept : List Kept) (n : ℕ) (disk : Image) : Type 0 where
+    (kept : List Kept) (n : ℕ) (disk : DiskImage) : Type 0 where
   pub stands : StandsFor disk m config kept n
   pub wasm : next.wasm ≡ stands.wasm
   pub generation : next.generation ≡ stands.generation + 1
   pub numbers : IsNumbered next.process
 
 -- Until the savepoint is there, it stands for the same.
-abbrev pub FillingKeepsStanding : Type 0
-FillingKeepsStanding =
+abbrev pub FillingKeepsWorker : Type 0
+FillingKeepsWorker =
     (m : Module) (config : Settings) (next : Savepoint m config) (kept : List Kept) (n : ℕ)
-    (old new : Image) → StandsBefore next kept n old
+    (old new : DiskImage) → StandsBefore next kept n old
     → Fills (places next) next.generation old new → StandsBefore next kept n new
 
-abbrev pub CommitKeepsStanding : Type 0
-CommitKeepsStanding =
+abbrev pub CommitKeepsWorker : Type 0
+CommitKeepsWorker =
     (m : Module) (config : Settings) (next : Savepoint m config) (kept : List Kept) (n : ℕ)
-    (old new : Image) → StandsBefore next kept n old
+    (old new : DiskImage) → StandsBefore next kept n old
     → Commits (places next) next.generation (version_number next.saved.version)
-    (image next.saved) old new
+    (process_image next.saved) old new
     → StandsBefore next kept n new ⊎ BeginsAtPoint next new
 
 abbrev pub ReplacingBegins : Type 0
 ReplacingBegins =
     (m : Module) (config : Settings) (next : Savepoint m config) (kept : List Kept) (n : ℕ)
-    (old new : Image) → StandsBefore next kept n old
+    (old new : DiskImage) → StandsBefore next kept n old
     → Replaces (places next) next.generation (version_number next.saved.version)
-    (image next.saved) old new
+    (process_image next.saved) old new
     → BeginsAtPoint next new

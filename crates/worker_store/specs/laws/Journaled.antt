@@ -5,32 +5,33 @@ use Rattle.wasi_abi.specs.declared.answer.Answer.{Answer}
 use Rattle.wasi_abi.specs.rules.Configs.{Settings}
 use Rattle.process_rules.specs.Processes.{ProcessState}
 use Rattle.process_rules.specs.Runs.{Runs, Moves}
-use Rattle.sector_disk.specs.rules.Image.{Image}
+use Rattle.sector_disk.specs.rules.DiskImage.{DiskImage}
 use Rattle.sector_disk.specs.rules.Medium.{Medium, After, LeavesOnly}
 use Rattle.disk_layout.specs.rules.Journal.{Record, record_bytes}
 use Rattle.journal.specs.rules.State.{JournalState, state}
-use Rattle.journal.specs.rules.Steps.{AppendsFront, RecordsStand, RecordFits, IsOn}
+use Rattle.journal.specs.rules.Steps.{AppendsFront, HoldsRecords, RecordFits, IsOn}
 use Rattle.record_replay.specs.rules.Records.{Recorded}
 use Rattle.restart_theorem.specs.Stands.{IsNumbered}
-use Rattle.worker_store.specs.laws.Savepoints.{Savepoint, places, StandsAtPoint}
-use Rattle.worker_store.specs.laws.Barriers.{StandsAtFront}
+use Rattle.worker_store.specs.laws.Savepoints.{Savepoint, places, IsAtSavepoint}
+use Rattle.worker_store.specs.laws.Barriers.{IsAtFront}
 use Rattle.worker_store.specs.laws.Commits.{BeginsAtPoint}
 
--- Whatever a cut leaves of the disk stands at this savepoint, with these records, which lead to
--- the first process. The journal holds them, and in memory those behind them, which lead on to the
+-- Whatever a cut leaves of the disk is at this savepoint, with these records, which lead to the
+-- first process. The journal holds them, and in memory those after them, which lead on to the
 -- second process. Its numbers are below their ends. The records are of the savepoint's version.
 pub record IsJournaled {m : Module} {config : Settings} (point : Savepoint m config)
     (journal : JournalState) (records pending : List Record) (last now : ProcessState)
     (disk : Medium) : Type 0 where
   pub version : journal.version ≡ point.saved.version
   pub generation : journal.generation ≡ point.generation
-  pub stands : (image : Image) → disk.may_leave image → StandsAtPoint point records last image
+  pub at_savepoint : (image : DiskImage) → disk.crash_images image
+      → IsAtSavepoint point records last image
   pub on : IsOn (places point) journal.version journal.generation journal.used journal.kept records
-      pending disk.may_leave
+      pending disk.crash_images
   pub recorded : Recorded point.reached.guest last pending now
   pub numbers : IsNumbered now
 
--- a cut at any moment of a barrier leaves a front of the pending records
+-- a cut at any moment of a barrier leaves a prefix of the pending records
 abbrev pub BarrierAtAnyMoment : {D : Type 0} → (D → Medium) → Type 0
 BarrierAtAnyMoment {D} medium =
     (m : Module) (config : Settings) (point : Savepoint m config) (journal : JournalState)
@@ -39,8 +40,8 @@ BarrierAtAnyMoment {D} medium =
     → LeavesOnly (medium old) (medium new)
     (After (AppendsFront (places point) journal.version journal.generation journal.used records
     pending)
-    (medium old).may_leave)
-    → LeavesOnly (medium old) (medium new) (StandsAtFront point records last pending)
+    (medium old).crash_images)
+    → LeavesOnly (medium old) (medium new) (IsAtFront point records last pending)
 
 -- Once it has answered Ok, all of them are on the disk, and none is pending.
 abbrev pub BarrierInTheEnd : {D : Type 0} → (D → Medium) → Type 0
@@ -51,10 +52,10 @@ BarrierInTheEnd {D} medium =
     → LeavesOnly (medium old) (medium new)
     (After (AppendsFront (places point) before.version before.generation before.used records
     pending)
-    (medium old).may_leave)
+    (medium old).crash_images)
     → after ≡ state before.version before.generation used [] false
-    → ((image : Image) → (medium new).may_leave image
-    → RecordsStand (places point) after.version after.generation after.used (records ++ pending)
+    → ((image : DiskImage) → (medium new).crash_images image
+    → HoldsRecords (places point) after.version after.generation after.used (records ++ pending)
     image)
     → IsJournaled point after (records ++ pending) [] now now (medium new)
 
@@ -77,14 +78,14 @@ StaysJournaled {D} medium =
     (m : Module) (config : Settings) (point : Savepoint m config) (journal : JournalState)
     (records pending : List Record) (last now : ProcessState) (old new : D)
     → IsJournaled point journal records pending last now (medium old)
-    → ((image : Image) → (medium new).may_leave image → (medium old).may_leave image)
+    → ((image : DiskImage) → (medium new).crash_images image → (medium old).crash_images image)
     → IsJournaled point journal records pending last now (medium new)
 
 -- the fresh journal of a disk that begins at a savepoint
 abbrev pub BeginsJournaled : {D : Type 0} → (D → Medium) → Type 0
 BeginsJournaled {D} medium =
     (m : Module) (config : Settings) (point : Savepoint m config) (disk : D)
-    → ((image : Image) → (medium disk).may_leave image → BeginsAtPoint point image)
+    → ((image : DiskImage) → (medium disk).crash_images image → BeginsAtPoint point image)
     → point.generation < 2 ^ 64 → IsNumbered point.process
     → IsJournaled point (state point.saved.version point.generation 0 [] false) [] []
     point.process point.process (medium disk)

@@ -5,7 +5,7 @@ use Rattle.wasi_abi.specs.declared.answer.Answer.{Answer}
 use Rattle.wasi_abi.specs.rules.Configs.{Settings}
 use Rattle.process_rules.specs.Processes.{ProcessState}
 use Rattle.process_rules.specs.Runs.{Runs, Moves}
-use Rattle.state_image.specs.rules.Image.{Saved, image}
+use Rattle.state_image.specs.rules.ProcessImage.{Saved, process_image}
 use Rattle.state_image.specs.rules.WellTyped.{IsWellTyped}
 use Rattle.sector_disk.specs.declared.sector.TheConstants.{SECTOR_SIZE}
 use Rattle.sector_disk.specs.rules.Medium.{Medium}
@@ -32,7 +32,7 @@ AppendStores {D} medium =
 
 -- The image of a well-typed process fits into its area, whatever the module's length: no commit of
 -- it is too big.
-abbrev pub ImagesFitAreas : Type 0
-ImagesFitAreas =
+abbrev pub ProcessImagesFitAreas : Type 0
+ProcessImagesFitAreas =
     (m : Module) (config : Settings) (s : Saved) (wasm : ℕ) → IsWellTyped m config s
-    → length (image s) ≤ SECTOR_SIZE * (geometry_of config wasm).area_sectors
+    → length (process_image s) ≤ SECTOR_SIZE * (geometry_of config wasm).area_sectors

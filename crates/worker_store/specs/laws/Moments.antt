@@ -5,8 +5,8 @@ use Rattle.wasm_syntax.specs.declared.module.Module.{Module}
 use Rattle.wasi_abi.specs.rules.Configs.{Settings}
 use Rattle.process_rules.specs.Processes.{ProcessState}
 use Rattle.process_rules.specs.Runs.{Kept}
-use Rattle.state_image.specs.rules.Image.{image}
-use Rattle.sector_disk.specs.rules.Image.{Image}
+use Rattle.state_image.specs.rules.ProcessImage.{process_image}
+use Rattle.sector_disk.specs.rules.DiskImage.{DiskImage}
 use Rattle.sector_disk.specs.rules.Medium.{Medium, After, Follows, LeavesOnly}
 use Rattle.sector_disk.specs.rules.Run.{IsTornRun, IsWrittenRun}
 use Rattle.disk_layout.specs.rules.Places.{geometry_of, config_bytes, journal_place}
@@ -17,14 +17,14 @@ use Rattle.disk_layout.specs.declared.geometry.TheConstants.{MODULE_PLACE}
 use Rattle.wasi_abi.specs.rules.Versions.{version_number}
 use Rattle.snapshot.specs.rules.Steps.{Fills, Commits, Replaces}
 use Rattle.restart_theorem.specs.Stands.{IsNumbered, IsBlank}
-use Rattle.worker_store.specs.laws.Savepoints.{Savepoint, places, StandsAtPoint}
+use Rattle.worker_store.specs.laws.Savepoints.{Savepoint, places, IsAtSavepoint}
 use Rattle.worker_store.specs.laws.Commits.{BeginsAtPoint, IsNextPoint, StandsBefore}
 use Rattle.worker_store.specs.laws.Creations.{zero_sector, HasNoSuper, AwaitsHead, AwaitsSuper}
 use Rattle.worker_store.specs.laws.Creations.{super_of_point}
 
 -- each image that a cut may leave has P
-abbrev pub LeavesAll : Medium → (Image → Type 0) → Type 0
-LeavesAll disk P = (image : Image) → disk.may_leave image → P image
+abbrev pub LeavesAll : Medium → (DiskImage → Type 0) → Type 0
+LeavesAll disk P = (image : DiskImage) → disk.crash_images image → P image
 
 -- ---- a commit
 
@@ -33,43 +33,43 @@ abbrev pub FillAtAnyMoment : {D : Type 0} → (D → Medium) → Type 0
 FillAtAnyMoment {D} medium =
     (m : Module) (config : Settings) (point : Savepoint m config) (records : List Record)
     (last : ProcessState) (old new : D)
-    → LeavesAll (medium old) (StandsAtPoint point records last)
+    → LeavesAll (medium old) (IsAtSavepoint point records last)
     → LeavesOnly (medium old) (medium new)
-    (After (Fills (places point) (point.generation + 1)) (medium old).may_leave)
-    → LeavesOnly (medium old) (medium new) (StandsAtPoint point records last)
+    (After (Fills (places point) (point.generation + 1)) (medium old).crash_images)
+    → LeavesOnly (medium old) (medium new) (IsAtSavepoint point records last)
 
 -- while the next savepoint is committed
 abbrev pub CommitAtAnyMoment : {D : Type 0} → (D → Medium) → Type 0
 CommitAtAnyMoment {D} medium =
     (m : Module) (config : Settings) (point next : Savepoint m config) (records : List Record)
     (last : ProcessState) (old new : D)
-    → LeavesAll (medium old) (StandsAtPoint point records last) → IsNextPoint point next
+    → LeavesAll (medium old) (IsAtSavepoint point records last) → IsNextPoint point next
     → LeavesOnly (medium old) (medium new)
     (After (Commits (places point) next.generation (version_number next.saved.version)
-    (image next.saved))
-    (medium old).may_leave)
+    (process_image next.saved))
+    (medium old).crash_images)
     → LeavesOnly (medium old) (medium new)
-    (λ disk. StandsAtPoint point records last disk ⊎ BeginsAtPoint next disk)
+    (λ disk. IsAtSavepoint point records last disk ⊎ BeginsAtPoint next disk)
 
 -- once the commit has answered Ok
 abbrev pub CommitInTheEnd : {D : Type 0} → (D → Medium) → Type 0
 CommitInTheEnd {D} medium =
     (m : Module) (config : Settings) (point next : Savepoint m config) (records : List Record)
     (last : ProcessState) (old new : D)
-    → LeavesAll (medium old) (StandsAtPoint point records last) → IsNextPoint point next
+    → LeavesAll (medium old) (IsAtSavepoint point records last) → IsNextPoint point next
     → Follows (Replaces (places point) next.generation (version_number next.saved.version)
-    (image next.saved))
-    (medium old).may_leave (medium new).may_leave
+    (process_image next.saved))
+    (medium old).crash_images (medium new).crash_images
     → LeavesAll (medium new) (BeginsAtPoint next)
 
--- ---- a commit of the next generation, by whatever the disk stands
+-- ---- a commit of the next generation, whatever the disk stands by
 
 abbrev pub FillKeepsAtAnyMoment : {D : Type 0} → (D → Medium) → Type 0
 FillKeepsAtAnyMoment {D} medium =
     (m : Module) (config : Settings) (next : Savepoint m config) (kept : List Kept) (n : ℕ)
     (old new : D) → LeavesAll (medium old) (StandsBefore next kept n)
     → LeavesOnly (medium old) (medium new)
-    (After (Fills (places next) next.generation) (medium old).may_leave)
+    (After (Fills (places next) next.generation) (medium old).crash_images)
     → LeavesOnly (medium old) (medium new) (StandsBefore next kept n)
 
 abbrev pub CommitKeepsAtAnyMoment : {D : Type 0} → (D → Medium) → Type 0
@@ -78,8 +78,8 @@ CommitKeepsAtAnyMoment {D} medium =
     (old new : D) → LeavesAll (medium old) (StandsBefore next kept n)
     → LeavesOnly (medium old) (medium new)
     (After (Commits (places next) next.generation (version_number next.saved.version)
-    (image next.saved))
-    (medium old).may_leave)
+    (process_image next.saved))
+    (medium old).crash_images)
     → LeavesOnly (medium old) (medium new)
     (λ disk. StandsBefore next kept n disk ⊎ BeginsAtPoint next disk)
 
@@ -88,8 +88,8 @@ CommitKeepsInTheEnd {D} medium =
     (m : Module) (config : Settings) (next : Savepoint m config) (kept : List Kept) (n : ℕ)
     (old new : D) → LeavesAll (medium old) (StandsBefore next kept n)
     → Follows (Replaces (places next) next.generation (version_number next.saved.version)
-    (image next.saved))
-    (medium old).may_leave (medium new).may_leave
+    (process_image next.saved))
+    (medium old).crash_images (medium new).crash_images
     → LeavesAll (medium new) (BeginsAtPoint next)
 
 -- ---- a creation
@@ -99,38 +99,38 @@ abbrev pub ZerosAtAnyMoment : {D : Type 0} → (D → Medium) → Type 0
 ZerosAtAnyMoment {D} medium =
     (old new : D) → LeavesAll (medium old) IsBlank
     → LeavesOnly (medium old) (medium new)
-    (After (IsTornRun 0 (zero_sector ∷ []) 1) (medium old).may_leave)
+    (After (IsTornRun 0 (zero_sector ∷ []) 1) (medium old).crash_images)
     → LeavesOnly (medium old) (medium new) IsBlank
 
--- once they are settled
+-- once they are durable
 abbrev pub ZerosInTheEnd : {D : Type 0} → (D → Medium) → Type 0
 ZerosInTheEnd {D} medium =
     (old new : D)
-    → Follows (IsWrittenRun 0 (zero_sector ∷ []) 1) (medium old).shows (medium new).may_leave
+    → Follows (IsWrittenRun 0 (zero_sector ∷ []) 1) (medium old).shows (medium new).crash_images
     → LeavesAll (medium new) HasNoSuper
 
--- while sectors behind the super are written
+-- while sectors after the super are written
 abbrev pub RunAtAnyMoment : {D : Type 0} → (D → Medium) → Type 0
 RunAtAnyMoment {D} medium =
-    (at n : ℕ) (sectors : Image) (old new : D) → 1 ≤ at → LeavesAll (medium old) HasNoSuper
+    (at n : ℕ) (sectors : DiskImage) (old new : D) → 1 ≤ at → LeavesAll (medium old) HasNoSuper
     → LeavesOnly (medium old) (medium new)
-    (After (IsTornRun at sectors n) (medium old).may_leave)
+    (After (IsTornRun at sectors n) (medium old).crash_images)
     → LeavesOnly (medium old) (medium new) HasNoSuper
 
--- once zeros stand in heads and journal too, and all is settled
+-- once zeros are in heads and journal too, and all is durable
 abbrev pub ZeroRunsInTheEnd : {D : Type 0} → (D → Medium) → Type 0
 ZeroRunsInTheEnd {D} medium =
-    (config : Settings) (wasm : List ℕ) (first second third settled : D)
+    (config : Settings) (wasm : List ℕ) (first second third synced : D)
     → (let geometry : Geometry = geometry_of config (length wasm) in
-    ((disk : Image) → (medium first).shows disk → HasNoSuper disk
+    ((disk : DiskImage) → (medium first).shows disk → HasNoSuper disk
     × SectorsHold disk MODULE_PLACE geometry.module_sectors (config_bytes config ++ wasm))
     → Follows (IsWrittenRun 1 (zero_sector ∷ zero_sector ∷ []) 2) (medium first).shows
     (medium second).shows
     → Follows (IsWrittenRun (journal_place geometry)
     (replicate geometry.journal_sectors zero_sector) geometry.journal_sectors)
     (medium second).shows (medium third).shows
-    → ((disk : Image) → (medium settled).may_leave disk → (medium third).shows disk)
-    → LeavesAll (medium settled) (AwaitsHead config wasm))
+    → ((disk : DiskImage) → (medium synced).crash_images disk → (medium third).shows disk)
+    → LeavesAll (medium synced) (AwaitsHead config wasm))
 
 -- while the area of the first generation is filled
 abbrev pub FirstFillAtAnyMoment : {D : Type 0} → (D → Medium) → Type 0
@@ -138,7 +138,7 @@ FirstFillAtAnyMoment {D} medium =
     (config : Settings) (wasm : List ℕ) (old new : D)
     → LeavesAll (medium old) (AwaitsHead config wasm)
     → LeavesOnly (medium old) (medium new)
-    (After (Fills (geometry_of config (length wasm)) 1) (medium old).may_leave)
+    (After (Fills (geometry_of config (length wasm)) 1) (medium old).crash_images)
     → LeavesOnly (medium old) (medium new) (AwaitsHead config wasm)
 
 -- while the first savepoint is committed
@@ -147,7 +147,7 @@ FirstCommitAtAnyMoment {D} medium =
     (geometry : Geometry) (version : ℕ) (bytes : List ℕ) (old new : D)
     → LeavesAll (medium old) HasNoSuper
     → LeavesOnly (medium old) (medium new)
-    (After (Commits geometry 1 version bytes) (medium old).may_leave)
+    (After (Commits geometry 1 version bytes) (medium old).crash_images)
     → LeavesOnly (medium old) (medium new) HasNoSuper
 
 -- once that has answered Ok
@@ -157,8 +157,8 @@ FirstCommitInTheEnd {D} medium =
     → point.generation ≡ 1 → IsNumbered point.process
     → LeavesAll (medium old) (AwaitsHead config point.wasm)
     → Follows (Replaces (places point) point.generation (version_number point.saved.version)
-    (image point.saved))
-    (medium old).may_leave (medium new).may_leave
+    (process_image point.saved))
+    (medium old).crash_images (medium new).crash_images
     → LeavesAll (medium new) (AwaitsSuper point)
 
 -- while the super is written
@@ -167,14 +167,14 @@ SuperAtAnyMoment {D} medium =
     (m : Module) (config : Settings) (point : Savepoint m config) (old new : D)
     → LeavesAll (medium old) (AwaitsSuper point)
     → LeavesOnly (medium old) (medium new)
-    (After (IsTornRun 0 (super_of_point point ∷ []) 1) (medium old).may_leave)
+    (After (IsTornRun 0 (super_of_point point ∷ []) 1) (medium old).crash_images)
     → LeavesOnly (medium old) (medium new) (λ disk. IsBlank disk ⊎ BeginsAtPoint point disk)
 
--- once it is settled
+-- once it is durable
 abbrev pub SuperInTheEnd : {D : Type 0} → (D → Medium) → Type 0
 SuperInTheEnd {D} medium =
     (m : Module) (config : Settings) (point : Savepoint m config) (old new : D)
     → LeavesAll (medium old) (AwaitsSuper point)
     → Follows (IsWrittenRun 0 (super_of_point point ∷ []) 1) (medium old).shows
-    (medium new).may_leave
+    (medium new).crash_images
     → LeavesAll (medium new) (BeginsAtPoint point)

@@ -47,7 +47,7 @@ PartsAreForetold =
     → (AreDone m config promise stage first between inside → IsForetold inside rest)
     × IsForetold stage first
 
--- The end of a call comes behind its exchanges.
+-- The end of a call comes after its exchanges.
 abbrev pub EndsJoin : Type 0
 EndsJoin =
     (m : Module) (config : Settings) (promise between : Promise) (stage inside : Stage)

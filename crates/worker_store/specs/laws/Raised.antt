@@ -4,14 +4,14 @@ use Rattle.std.specs.Prelude.{Some, Ok}
 use Rattle.std.specs.Prelude.{Option}
 use Rattle.wasm_syntax.specs.declared.module.Module.{Module}
 use Rattle.wasm_semantics.specs.Validity.{IsValid}
-use Rattle.wasi_abi.specs.declared.answer.Kind.{Kind}
+use Rattle.wasi_abi.specs.declared.answer.Question.{Question}
 use Rattle.wasi_abi.specs.declared.answer.Answer.{Answer}
 use Rattle.wasi_abi.specs.rules.Configs.{Settings}
 use Rattle.process_rules.specs.Processes.{ProcessState, Guest}
 use Rattle.process_rules.specs.Runs.{Kept, Given, Wants, next_of, Moves, Runs, Reaches}
 use Rattle.process_rules.specs.Behind.{AnswersBehindSync}
 use Rattle.process_rules.specs.Owing.{RunsQuietly}
-use Rattle.state_image.specs.rules.Image.{Saved}
+use Rattle.state_image.specs.rules.ProcessImage.{Saved}
 use Rattle.sector_disk.specs.rules.Medium.{Medium}
 use Rattle.disk_layout.specs.rules.Journal.{Record}
 use Rattle.journal.specs.rules.State.{JournalState}
@@ -60,8 +60,8 @@ MovedSyncsAreHeld =
 abbrev pub AnsweredSyncsAreHeld : Type 0
 AnsweredSyncsAreHeld =
     (m : Module) (config : Settings) (kept : List Kept) (held : ℕ) (p : ProcessState)
-    (kind : Kind) (a : Answer) → IsValid m → (reached : Reaches m config kept p.steps p)
-    → next_of reached.guest p None ≡ Wants kind
+    (question : Question) (a : Answer) → IsValid m → (reached : Reaches m config kept p.steps p)
+    → next_of reached.guest p None ≡ Wants question
     → SyncsAreHeld m config kept held p.steps
     → SyncsAreHeld m config (kept ++ Given a ∷ []) held (p.steps + 1)
 
@@ -85,14 +85,14 @@ abbrev pub AskedCarries : {D : Type 0} → (D → Medium) → Type 0
 AskedCarries {D} medium =
     (m : Module) (config : Settings) (promise : Promise) (point : Savepoint m config)
     (journal : JournalState) (records pending : List Record) (last now : ProcessState) (steps : ℕ)
-    (kind : Kind) (said : SourceSaid) (fits : Bool) (disk : D)
+    (question : Question) (said : SourceSaid) (fits : Bool) (disk : D)
     → IsCarried promise point journal records pending last now (medium disk)
     → promise.synced ≤ steps
     → SyncsAreHeld m config (promise.kept ++ kept_of_said said fits) (count_at point records) steps
-    → IsCarried (after promise (Asked steps kind said fits)) point journal records pending last now
-    (medium disk)
+    → IsCarried (after promise (Asked steps question said fits)) point journal records
+    pending last now (medium disk)
 
--- More may be kept behind what all kept answers lead to, where all syncs that returned are behind
+-- More may be kept after what all kept answers lead to, where all syncs that returned are after
 -- that. It may widen the process there, where that has emitted all lines that were begun.
 abbrev pub MoreCarries : {D : Type 0} → (D → Medium) → Type 0
 MoreCarries {D} medium =
@@ -135,9 +135,9 @@ AppendCarries {D} medium =
 abbrev pub AnswerIsOnRecord : Type 0
 AnswerIsOnRecord =
     (m : Module) (config : Settings) (promise : Promise) (point : Savepoint m config)
-    (records pending : List Record) (steps n : ℕ) (kind : Kind) (a : Answer)
+    (records pending : List Record) (steps n : ℕ) (question : Question) (a : Answer)
     → AreOnRecord promise point (records ++ pending)
-    → AreOnRecord (after promise (Asked steps kind (Ok (Some a)) true)) point
+    → AreOnRecord (after promise (Asked steps question (Ok (Some a)) true)) point
     (records ++ (pending ++ record { step = n; answer = a } ∷ []))
 
 -- All kept answers lead to what the last process on record comes to without another one.

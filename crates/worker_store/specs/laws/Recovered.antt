@@ -3,13 +3,13 @@ use Rattle.std.specs.Prelude.{◌≡◌, ◌⊎◌, List, [], length}
 use Rattle.wasm_syntax.specs.declared.module.Module.{Module}
 use Rattle.wasi_abi.specs.rules.Configs.{Settings}
 use Rattle.process_rules.specs.Processes.{ProcessState}
-use Rattle.state_image.specs.rules.Image.{Saved}
+use Rattle.state_image.specs.rules.ProcessImage.{Saved}
 use Rattle.sector_disk.specs.rules.Medium.{Medium, LeavesOnly}
 use Rattle.disk_layout.specs.rules.Journal.{Record}
 use Rattle.restart_theorem.specs.Lives.{Opened}
 use Rattle.restart_theorem.specs.Promises.{Promise, after}
 use Rattle.restart_theorem.specs.Holds.{CarriesPromise}
-use Rattle.worker_store.specs.laws.Savepoints.{Savepoint, StandsAtPoint}
+use Rattle.worker_store.specs.laws.Savepoints.{Savepoint, IsAtSavepoint}
 use Rattle.worker_store.specs.laws.Commits.{BeginsAtPoint}
 use Rattle.worker_store.specs.laws.Moments.{LeavesAll}
 use Rattle.worker_store.specs.laws.Carried.{PromisesNoMore, IsHeldAt, SavesFront}
@@ -39,6 +39,6 @@ RecoveryOpens {D} medium =
     → PromisesNoMore less promise → IsHeldAt promise point records last
     → SavesFront promise point next records [] last → next.saved ≡ shown
     → LeavesOnly (medium old) (medium new)
-    (λ disk. StandsAtPoint point records last disk ⊎ BeginsAtPoint next disk)
-    → LeavesAll (medium new) (StandsAtPoint next [] next.process)
+    (λ disk. IsAtSavepoint point records last disk ⊎ BeginsAtPoint next disk)
+    → LeavesAll (medium new) (IsAtSavepoint next [] next.process)
     → OpensAtNext less promise shown next (medium old) (medium new)

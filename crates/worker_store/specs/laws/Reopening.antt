@@ -4,19 +4,19 @@ use Rattle.std.specs.Prelude.{◌≡◌, ℕ, ◌+◌, ◌≤◌, true, List, �
 use Rattle.std.specs.Prelude.{length, map, drop, take}
 use Rattle.wasm_syntax.specs.declared.module.Module.{Module}
 use Rattle.wasi_abi.specs.rules.Configs.{Settings}
-use Rattle.wasi_calls_rules.specs.Hosts.{Line}
+use Rattle.wasi_calls_rules.specs.WasiStates.{Line}
 use Rattle.process_rules.specs.Processes.{ProcessState, Guest, IsStart}
 use Rattle.process_rules.specs.Behind.{IsNarrowTo}
 use Rattle.process_rules.specs.Runs.{Runs}
 use Rattle.record_replay.specs.rules.Calls.{Tells, all_taken, last_refused}
-use Rattle.state_image.specs.rules.Image.{Saved}
+use Rattle.state_image.specs.rules.ProcessImage.{Saved}
 use Rattle.restart_theorem.specs.Lives.{Inputs, Opened}
 use Rattle.restart_theorem.specs.Courses.{Stage, Shut, Unheard, at_first, next_stage}
 use Rattle.restart_theorem.specs.Courses.{IsLast}
 use Rattle.restart_theorem.specs.Promises.{Promise, after, HoldsAll, IsOpening}
 use Rattle.restart_theorem.specs.Holds.{IsNothingYet}
 use Rattle.worker_store.specs.laws.Pieces.{IsForetold}
-use Rattle.worker_store.specs.laws.Telling.{AreMade}
+use Rattle.worker_store.specs.laws.Telling.{ArePerformed}
 use Rattle.worker_store.specs.laws.CallEnds.{IsSavedAs, IsBetween}
 
 module _ (m : Module) (config : Settings) (guest : Guest) where
@@ -35,14 +35,14 @@ module _ (m : Module) (config : Settings) (guest : Guest) where
     pub heard : told ≤ promise.heard
     pub passed : promise.passed ≤ told
 
-  -- All lines behind those are told, and the outlet takes them.
+  -- All lines after those are told, and the outlet takes them.
   abbrev pub LinesAreRetold : Type 0
   LinesAreRetold =
       (promise : Promise) (stage : Stage) (held told number : ℕ) (p : ProcessState)
       (lines : List Line) → IsReviving promise stage held told p → number ≡ told + 1
       → drop told p.host.lines ≡ lines
       → IsForetold stage (map Tells (all_taken number lines))
-      → (made : AreMade m config promise stage (length p.host.lines)
+      → (made : ArePerformed m config promise stage (length p.host.lines)
       (map Tells (all_taken number lines)))
       × IsReviving made.promise' made.stage' held (length p.host.lines) p
 
@@ -53,7 +53,7 @@ module _ (m : Module) (config : Settings) (guest : Guest) where
       (first others : List Line) (line : Line) → IsReviving promise stage held told p
       → number ≡ told + 1 → drop told p.host.lines ≡ first ++ (line ∷ others)
       → IsForetold stage (map Tells (last_refused number first line))
-      → (made : AreMade m config promise stage (length p.host.lines)
+      → (made : ArePerformed m config promise stage (length p.host.lines)
       (map Tells (last_refused number first line))) × (made.stage'.phase ≡ Unheard)
 
   -- ---- the opening

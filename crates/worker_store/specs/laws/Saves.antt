@@ -4,16 +4,16 @@ use Rattle.wasm_syntax.specs.declared.module.Module.{Module}
 use Rattle.wasi_abi.specs.rules.Configs.{Settings}
 use Rattle.process_rules.specs.Processes.{ProcessState}
 use Rattle.process_rules.specs.Runs.{Kept}
-use Rattle.state_image.specs.rules.Image.{Saved}
-use Rattle.sector_disk.specs.rules.Image.{Image}
+use Rattle.state_image.specs.rules.ProcessImage.{Saved}
+use Rattle.sector_disk.specs.rules.DiskImage.{DiskImage}
 use Rattle.sector_disk.specs.rules.Medium.{Medium, LeavesOnly}
 use Rattle.disk_layout.specs.rules.Journal.{Record}
 use Rattle.journal.specs.rules.State.{JournalState}
 use Rattle.restart_theorem.specs.Lives.{Act, Reply, Done, Fails, Cause, Ended}
 use Rattle.restart_theorem.specs.Promises.{Promise, after, synced_by}
 use Rattle.restart_theorem.specs.Holds.{CarriesPromise}
-use Rattle.worker_store.specs.laws.Savepoints.{Savepoint, StandsAtPoint}
-use Rattle.worker_store.specs.laws.Barriers.{StandsAtFront}
+use Rattle.worker_store.specs.laws.Savepoints.{Savepoint, IsAtSavepoint}
+use Rattle.worker_store.specs.laws.Barriers.{IsAtFront}
 use Rattle.worker_store.specs.laws.Commits.{BeginsAtPoint}
 use Rattle.worker_store.specs.laws.Journaled.{IsJournaled}
 use Rattle.worker_store.specs.laws.Moments.{LeavesAll}
@@ -22,11 +22,11 @@ use Rattle.worker_store.specs.laws.Carried.{PromisesNoMore, SavesFront, IsHeldAt
 use Rattle.worker_store.specs.laws.Carried.{count_at}
 use Rattle.worker_store.specs.laws.Raised.{SyncsAreHeld}
 
--- it stands for a front of the pending records, or begins at the next savepoint
-abbrev pub StandsAtFrontOrNext : {m : Module} {config : Settings} → Savepoint m config
-    → Savepoint m config → List Record → ProcessState → List Record → Image → Type 0
-StandsAtFrontOrNext point next records last pending disk =
-    StandsAtFront point records last pending disk ⊎ BeginsAtPoint next disk
+-- it stands for a prefix of the pending records, or begins at the next savepoint
+abbrev pub IsAtFrontOrNext : {m : Module} {config : Settings} → Savepoint m config
+    → Savepoint m config → List Record → ProcessState → List Record → DiskImage → Type 0
+IsAtFrontOrNext point next records last pending disk =
+    IsAtFront point records last pending disk ⊎ BeginsAtPoint next disk
 
 -- A cut at any moment of a barrier, and then of a commit, leaves that.
 abbrev pub SaveAtAnyMoment : {D : Type 0} → (D → Medium) → Type 0
@@ -34,10 +34,10 @@ SaveAtAnyMoment {D} medium =
     (m : Module) (config : Settings) (point next : Savepoint m config) (journal : JournalState)
     (records pending : List Record) (last now : ProcessState) (old mid new : D)
     → IsJournaled point journal records pending last now (medium old)
-    → LeavesOnly (medium old) (medium mid) (StandsAtFront point records last pending)
+    → LeavesOnly (medium old) (medium mid) (IsAtFront point records last pending)
     → LeavesOnly (medium mid) (medium new)
-    (λ disk. StandsAtPoint point (records ++ pending) now disk ⊎ BeginsAtPoint next disk)
-    → LeavesOnly (medium old) (medium new) (StandsAtFrontOrNext point next records last pending)
+    (λ disk. IsAtSavepoint point (records ++ pending) now disk ⊎ BeginsAtPoint next disk)
+    → LeavesOnly (medium old) (medium new) (IsAtFrontOrNext point next records last pending)
 
 -- It holds what is promised, whatever less was promised when the call began.
 abbrev pub SaveCarries : {D : Type 0} → (D → Medium) → Type 0
@@ -47,7 +47,7 @@ SaveCarries {D} medium =
     (last now : ProcessState) (old new : D) → PromisesNoMore less promise
     → IsCarried promise point journal records pending last now (medium old)
     → SavesFront promise point next (records ++ pending) more now
-    → LeavesOnly (medium old) (medium new) (StandsAtFrontOrNext point next records last pending)
+    → LeavesOnly (medium old) (medium new) (IsAtFrontOrNext point next records last pending)
     → CarriesPromise m config less promise (medium old) (medium new)
 
 -- ---- by an act
@@ -81,8 +81,8 @@ DoneSavesCarry {D} medium =
     (shown : Saved) (point next : Savepoint m config) (journal : JournalState)
     (records pending : List Record) (last now : ProcessState) (old new : D)
     → IsSavingAt promise act more shown point next journal records pending last now (medium old)
-    → LeavesOnly (medium old) (medium new) (StandsAtFrontOrNext point next records last pending)
-    → LeavesAll (medium new) (StandsAtPoint next [] next.process)
+    → LeavesOnly (medium old) (medium new) (IsAtFrontOrNext point next records last pending)
+    → LeavesAll (medium new) (IsAtSavepoint next [] next.process)
     → IsSavedBy promise act more shown next (medium old) (medium new)
 
 -- After an error it holds what the end promises then, where no sync of the guest that has returned
@@ -96,7 +96,7 @@ FailedSavesCarry {D} medium =
     → IsSavingAt promise act more shown point next journal records pending last now (medium old)
     → SyncsAreHeld m config (promise.kept ++ more) (count_at point records)
     (synced_by (Fails cause) shown.steps)
-    → LeavesOnly (medium old) (medium new) (StandsAtFrontOrNext point next records last pending)
+    → LeavesOnly (medium old) (medium new) (IsAtFrontOrNext point next records last pending)
     → CarriesPromise m config promise (after promise (Ended act (Fails cause) held shown))
     (medium old) (medium new)
 

@@ -2,7 +2,7 @@
 use Rattle.std.specs.Prelude.{◌≡◌, ℕ, suc, ◌≤◌, max, List, ◌∷◌, ◌++◌, length, map, drop}
 use Rattle.wasm_syntax.specs.declared.module.Module.{Module}
 use Rattle.wasi_abi.specs.rules.Configs.{Settings}
-use Rattle.wasi_calls_rules.specs.Hosts.{Line}
+use Rattle.wasi_calls_rules.specs.WasiStates.{Line}
 use Rattle.process_rules.specs.Processes.{ProcessState, Guest}
 use Rattle.record_replay.specs.rules.Calls.{Exchange, Tells, all_taken, last_refused}
 use Rattle.restart_theorem.specs.Lives.{OfOutlet}
@@ -25,7 +25,7 @@ pub record AddsLines (promise : Promise) (line : ℕ) (promise' : Promise) : Typ
   pub events : promise.events ≤ promise'.events
 
 -- The releases were made: where they lead.
-pub record AreMade (m : Module) (config : Settings) (promise : Promise) (stage : Stage)
+pub record ArePerformed (m : Module) (config : Settings) (promise : Promise) (stage : Stage)
     (line : ℕ) (exchanges : List Exchange) : Type 0 where
   pub promise' : Promise
   pub stage' : Stage
@@ -40,7 +40,7 @@ module _ (m : Module) (config : Settings) (guest : Guest) where
       (lines : List Line) → IsUnderWay m config guest promise stage fuel told p
       → drop told p.host.lines ≡ lines
       → IsForetold stage (map Tells (all_taken (suc told) lines))
-      → (made : AreMade m config promise stage (length p.host.lines)
+      → (made : ArePerformed m config promise stage (length p.host.lines)
       (map Tells (all_taken (suc told) lines)))
       × IsUnderWay m config guest made.promise' made.stage' fuel (length p.host.lines) p
 
@@ -52,7 +52,7 @@ module _ (m : Module) (config : Settings) (guest : Guest) where
       → IsUnderWay m config guest promise stage fuel told p
       → drop told p.host.lines ≡ first ++ (line ∷ others)
       → IsForetold stage (map Tells (last_refused (suc told) first line))
-      → (made : AreMade m config promise stage (length p.host.lines)
+      → (made : ArePerformed m config promise stage (length p.host.lines)
       (map Tells (last_refused (suc told) first line)))
       × IsBroken m config guest made.promise' made.stage' fuel (length promise.kept) p
       (Broken OfOutlet)

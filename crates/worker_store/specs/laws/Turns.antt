@@ -2,20 +2,20 @@
 use Rattle.std.specs.Prelude.{◌≡◌, ℕ, ◌≤◌, Bool, true, List, length}
 use Rattle.wasm_syntax.specs.declared.module.Module.{Module}
 use Rattle.wasm_semantics.specs.Validity.{IsValid}
-use Rattle.wasi_abi.specs.declared.answer.Kind.{Kind}
+use Rattle.wasi_abi.specs.declared.answer.Question.{Question}
 use Rattle.wasi_abi.specs.rules.Configs.{Settings}
 use Rattle.process_rules.specs.Processes.{ProcessState}
 use Rattle.process_rules.specs.Runs.{Reaches}
-use Rattle.sector_disk.specs.rules.Image.{Image}
+use Rattle.sector_disk.specs.rules.DiskImage.{DiskImage}
 use Rattle.sector_disk.specs.rules.Medium.{Medium, LeavesOnly}
 use Rattle.disk_layout.specs.rules.Journal.{Record}
 use Rattle.journal.specs.rules.State.{JournalState}
-use Rattle.state_image.specs.rules.Image.{Saved}
+use Rattle.state_image.specs.rules.ProcessImage.{Saved}
 use Rattle.record_replay.specs.rules.Calls.{Exchange}
 use Rattle.restart_theorem.specs.Lives.{Act, Reply, SourceSaid, Asked, Ended, kept_by_end}
 use Rattle.restart_theorem.specs.Courses.{Stage}
 use Rattle.restart_theorem.specs.Promises.{Promise, after}
-use Rattle.restart_theorem.specs.Holds.{ImageHolds, KeepsPromise, CarriesPromise}
+use Rattle.restart_theorem.specs.Holds.{DiskImageHolds, KeepsPromise, CarriesPromise}
 use Rattle.worker_store.specs.laws.Savepoints.{Savepoint}
 use Rattle.worker_store.specs.laws.Carried.{PromisesNoMore, IsCarried}
 use Rattle.worker_store.specs.laws.Pieces.{AreDone}
@@ -27,8 +27,8 @@ use Rattle.worker_store.specs.laws.Telling.{AddsLines}
 -- An image that held what was promised at some time before then holds it still, now that more
 -- answers are kept and more lines heard.
 abbrev pub StillHolds : Module → Settings → Promise → Promise → Type 0
-StillHolds m config then now = (first : Promise) (image : Image) → PromisesNoMore first then
-    → ImageHolds m config first then image → ImageHolds m config first now image
+StillHolds m config then now = (first : Promise) (image : DiskImage) → PromisesNoMore first then
+    → DiskImageHolds m config first then image → DiskImageHolds m config first now image
 
 -- So it is where lines were told,
 abbrev pub ToldStillHolds : Type 0
@@ -39,10 +39,10 @@ ToldStillHolds =
 -- where a process that all kept answers lead to has asked, whatever is said to it,
 abbrev pub AskedStillHolds : Type 0
 AskedStillHolds =
-    (m : Module) (config : Settings) (promise : Promise) (p : ProcessState) (kind : Kind)
+    (m : Module) (config : Settings) (promise : Promise) (p : ProcessState) (question : Question)
     (said : SourceSaid) (fits : Bool) → IsValid m → Reaches m config promise.kept p.steps p
     → promise.synced ≤ p.steps
-    → StillHolds m config promise (after promise (Asked p.steps kind said fits))
+    → StillHolds m config promise (after promise (Asked p.steps question said fits))
 
 -- and where a call has ended that keeps none besides.
 abbrev pub EndedStillHolds : Type 0
@@ -76,7 +76,7 @@ pub record GoesOnFrom (m : Module) (config : Settings) (then now : Promise) (old
   pub opened_now : now.has_opened ≡ true
   pub no_more : PromisesNoMore then now
   pub still : StillHolds m config then now
-  pub leaves : LeavesOnly old new (ImageHolds m config then now)
+  pub leaves : LeavesOnly old new (DiskImageHolds m config then now)
 
 -- Two parts are one.
 abbrev pub TurnsJoin : {D : Type 0} → (D → Medium) → Type 0

@@ -2,11 +2,11 @@
 use Rattle.std.specs.Prelude.{◌≡◌, ℕ, ◌+◌, ◌≤◌, ◌<◌, Bool, true, false, List, [], ◌∷◌}
 use Rattle.std.specs.Prelude.{length, take, Some, None, Ok, Err, slice_get}
 use Rattle.wasm_syntax.specs.declared.module.Module.{Module}
-use Rattle.wasi_abi.specs.declared.answer.Kind.{Kind}
+use Rattle.wasi_abi.specs.declared.answer.Question.{Question}
 use Rattle.wasi_abi.specs.declared.answer.Answer.{Answer}
 use Rattle.wasi_abi.specs.rules.Configs.{Settings}
 use Rattle.wasi_abi.specs.rules.Versions.{text_limit}
-use Rattle.wasi_calls_rules.specs.Hosts.{Line}
+use Rattle.wasi_calls_rules.specs.WasiStates.{Line}
 use Rattle.process_rules.specs.Processes.{ProcessState, Guest, IsStart}
 use Rattle.process_rules.specs.Runs.{Runs, Moves, Wants, next_of}
 use Rattle.record_replay.specs.declared.fault.SourceFault.{SourceFault}
@@ -88,63 +88,63 @@ module _ (m : Module) (config : Settings) (guest : Guest) where
 
   -- What a process asks for, all of whose lines were told, is a question, whatever is said to it.
   pub record IsAtQuestion (promise : Promise) (stage : Stage) (fuel : ℕ) (p : ProcessState)
-      (kind : Kind) : Type 0 where
+      (question : Question) : Type 0 where
     pub way : IsUnderWay promise stage fuel (length p.host.lines) p
     pub running : p.ended ≡ None
-    pub wants : next_of guest p None ≡ Wants kind
+    pub wants : next_of guest p None ≡ Wants question
     pub room : p.steps < stage.step + fuel
 
   -- It keeps what was promised, whatever is said to it.
   abbrev pub QuestionsAreAsked : Type 0
   QuestionsAreAsked =
-      (promise : Promise) (stage : Stage) (fuel : ℕ) (p : ProcessState) (kind : Kind)
-      (fits : Bool) → IsAtQuestion promise stage fuel p kind
-      → IsFitting (text_limit p.host.version) kind (first_said stage.says) fits
+      (promise : Promise) (stage : Stage) (fuel : ℕ) (p : ProcessState) (question : Question)
+      (fits : Bool) → IsAtQuestion promise stage fuel p question
+      → IsFitting (text_limit p.host.version) question (first_said stage.says) fits
       → IsInquiring m config promise stage (record {
         steps = p.steps;
-        kind = kind;
+        question = question;
         said = first_said stage.says;
         fits = fits;
       })
 
   -- A question, and where it leads: to this promise and this stage.
-  abbrev pub promise_asked : Promise → ProcessState → Kind → SourceSaid → Bool → Promise
-  promise_asked promise p kind said fits = after promise (Asked p.steps kind said fits)
+  abbrev pub promise_asked : Promise → ProcessState → Question → SourceSaid → Bool → Promise
+  promise_asked promise p question said fits = after promise (Asked p.steps question said fits)
 
-  abbrev pub stage_asked : Stage → ProcessState → Kind → SourceSaid → Bool → Stage
-  stage_asked stage p kind said fits = next_stage stage (Asked p.steps kind said fits)
+  abbrev pub stage_asked : Stage → ProcessState → Question → SourceSaid → Bool → Stage
+  stage_asked stage p question said fits = next_stage stage (Asked p.steps question said fits)
 
   -- An answer that fits, and that the process takes, goes on.
   abbrev pub AnswersGoOn : Type 0
   AnswersGoOn =
-      (promise : Promise) (stage : Stage) (fuel : ℕ) (p q : ProcessState) (kind : Kind)
-      (a : Answer) → IsAtQuestion promise stage fuel p kind → Moves guest p (Some a) q
-      → IsUnderWay (promise_asked promise p kind (Ok (Some a)) true)
-      (stage_asked stage p kind (Ok (Some a)) true) fuel (length p.host.lines) q
+      (promise : Promise) (stage : Stage) (fuel : ℕ) (p q : ProcessState) (question : Question)
+      (a : Answer) → IsAtQuestion promise stage fuel p question → Moves guest p (Some a) q
+      → IsUnderWay (promise_asked promise p question (Ok (Some a)) true)
+      (stage_asked stage p question (Ok (Some a)) true) fuel (length p.host.lines) q
 
   -- One that fits, and that the process has not taken yet, is kept all the same.
   abbrev pub AnswersAreKept : Type 0
   AnswersAreKept =
-      (promise : Promise) (stage : Stage) (fuel : ℕ) (p : ProcessState) (kind : Kind)
-      (a : Answer) → IsAtQuestion promise stage fuel p kind
-      → IsBroken (promise_asked promise p kind (Ok (Some a)) true)
-      (stage_asked stage p kind (Ok (Some a)) true) fuel (length promise.kept) p Open
+      (promise : Promise) (stage : Stage) (fuel : ℕ) (p : ProcessState) (question : Question)
+      (a : Answer) → IsAtQuestion promise stage fuel p question
+      → IsBroken (promise_asked promise p question (Ok (Some a)) true)
+      (stage_asked stage p question (Ok (Some a)) true) fuel (length promise.kept) p Open
 
   -- After any other the process is where it was: one that doesn't fit, none, or a fault.
   pub record OthersBreak (promise : Promise) (stage : Stage) (fuel : ℕ) (p : ProcessState)
-      (kind : Kind) : Type 0 where
+      (question : Question) : Type 0 where
     pub misfit : (a : Answer)
-        → IsBroken (promise_asked promise p kind (Ok (Some a)) false)
-        (stage_asked stage p kind (Ok (Some a)) false) fuel (length promise.kept) p
+        → IsBroken (promise_asked promise p question (Ok (Some a)) false)
+        (stage_asked stage p question (Ok (Some a)) false) fuel (length promise.kept) p
         (Broken OfAnswer)
-    pub none_there : (fits : Bool) → IsBroken (promise_asked promise p kind (Ok None) fits)
-        (stage_asked stage p kind (Ok None) fits) fuel (length promise.kept) p
+    pub none_there : (fits : Bool) → IsBroken (promise_asked promise p question (Ok None) fits)
+        (stage_asked stage p question (Ok None) fits) fuel (length promise.kept) p
         (NoneThere p.steps)
     pub fault : (e : SourceFault) (fits : Bool)
-        → IsBroken (promise_asked promise p kind (Err e) fits)
-        (stage_asked stage p kind (Err e) fits) fuel (length promise.kept) p (Broken OfSource)
+        → IsBroken (promise_asked promise p question (Err e) fits)
+        (stage_asked stage p question (Err e) fits) fuel (length promise.kept) p (Broken OfSource)
 
   abbrev pub OtherAnswersBreak : Type 0
   OtherAnswersBreak =
-      (promise : Promise) (stage : Stage) (fuel : ℕ) (p : ProcessState) (kind : Kind)
-      → IsAtQuestion promise stage fuel p kind → OthersBreak promise stage fuel p kind
+      (promise : Promise) (stage : Stage) (fuel : ℕ) (p : ProcessState) (question : Question)
+      → IsAtQuestion promise stage fuel p question → OthersBreak promise stage fuel p question

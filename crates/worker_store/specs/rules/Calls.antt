@@ -5,7 +5,7 @@ use Rattle.wasi_abi.specs.declared.numbers.TheConstants.{NUMBERS_END}
 use Rattle.wasi_abi.specs.rules.Configs.{Settings}
 use Rattle.process_rules.specs.Processes.{ProcessState}
 use Rattle.process.specs.rules.Values.{ProcessValue}
-use Rattle.state_image.specs.rules.Image.{image}
+use Rattle.state_image.specs.rules.ProcessImage.{process_image}
 use Rattle.state_image.specs.rules.Saving.{saved_of}
 use Rattle.sector_disk.specs.declared.sector.TheConstants.{SECTOR_SIZE}
 use Rattle.sector_disk.specs.rules.Medium.{Medium, LeavesOnly, spare}
@@ -17,11 +17,11 @@ use Rattle.process_rules.specs.Runs.{Kept}
 use Rattle.disk_layout.specs.declared.geometry.Geometry.{Geometry}
 use Rattle.disk_layout.specs.rules.Places.{area_place, rounded_up}
 use Rattle.snapshot.specs.declared.writing.Writing.TheVariants.{Changes}
-use Rattle.snapshot.specs.rules.Calls.{MakesStoresAndHead}
+use Rattle.snapshot.specs.rules.Calls.{PerformsStoresAndHead}
 use Rattle.restart_theorem.specs.Stands.{IsNumbered}
-use Rattle.worker_store.specs.laws.Savepoints.{Savepoint, StandsAtPoint, places}
+use Rattle.worker_store.specs.laws.Savepoints.{Savepoint, IsAtSavepoint, places}
 use Rattle.worker_store.specs.laws.Moments.{LeavesAll}
-use Rattle.worker_store.specs.laws.Barriers.{StandsAtFront}
+use Rattle.worker_store.specs.laws.Barriers.{IsAtFront}
 use Rattle.worker_store.specs.laws.Commits.{BeginsAtPoint, IsNextPoint, StandsBefore}
 use Rattle.worker_store.specs.declared.fault.StoreFault.{StoreFault}
 use Rattle.worker_store.specs.declared.fault.StoreFault.TheVariants.{Full, TooLong, TooBig, Disk}
@@ -31,7 +31,7 @@ use Rattle.worker_store.specs.rules.Stores.{IsStoreOf}
 
 -- ---- append
 
--- When each error of `append` comes. Where the record fits, want of memory is the only one.
+-- When each error of `append` comes. Where the record fits, out of memory is the only one.
 abbrev pub AppendFails : WorkerStore → Record → StoreFault → Type 0
 AppendFails store r Full = (length (payload_of r.answer) ≤ text_limit store.journal.version)
     × (room_of store.geometry store.journal < length (record_bytes store.journal.version r))
@@ -43,12 +43,12 @@ AppendFails store r other = ⊥
 
 -- ---- barrier
 
--- a cut at any moment leaves a front of the records that are pending
+-- a cut at any moment leaves a prefix of the records that are pending
 abbrev pub LeavesFronts : WorkerStore → Medium → Medium → Type 0
 LeavesFronts store old new =
     (m : Module) (config : Settings) (point : Savepoint m config) (records pending : List Record)
     (last now : ProcessState) → IsStoreOf point store records pending last now old
-    → LeavesOnly old new (StandsAtFront point records last pending)
+    → LeavesOnly old new (IsAtFront point records last pending)
 
 -- all of them are on the disk, and none is pending
 abbrev pub StoresAll : WorkerStore → WorkerStore → Medium → Medium → Type 0
@@ -77,7 +77,7 @@ LeavesOneOfTwo store process old new =
     (records pending : List Record) (last now : ProcessState)
     → IsStoreOf point store records pending last now old → IsNextPoint point next
     → next.saved ≡ saved_of process
-    → LeavesOnly old new (λ disk. StandsAtPoint point records last disk ⊎ BeginsAtPoint next disk)
+    → LeavesOnly old new (λ disk. IsAtSavepoint point records last disk ⊎ BeginsAtPoint next disk)
 
 -- the disk begins at the new snapshot, and there are no records
 abbrev pub StoresNext : WorkerStore → WorkerStore → ProcessValue → Medium → Medium → Type 0
@@ -92,22 +92,22 @@ StoresNext before after process old new =
 -- generation, and a sync; after an error these calls are begun
 abbrev pub CommitCalls : {T : Type 0} → Geometry → ℕ → ProcessValue → Result T StoreFault → Medium
     → Medium → Type 0
-CommitCalls geometry g process result old new = MakesStoresAndHead (record {
+CommitCalls geometry g process result old new = PerformsStoresAndHead (record {
   writing = Changes;
   first = area_place geometry g;
-  count = rounded_up (length (image (saved_of process)));
+  count = rounded_up (length (process_image (saved_of process)));
 }) g result old new
 
 -- when each error of `commit` comes
 abbrev pub CommitFails : WorkerStore → ProcessValue → Medium → Medium → StoreFault → Type 0
 CommitFails store process old new TooBig = (NUMBERS_END ≤ store.journal.generation + 1)
-    ⊎ (SECTOR_SIZE * store.geometry.area_sectors < length (image (saved_of process)))
+    ⊎ (SECTOR_SIZE * store.geometry.area_sectors < length (process_image (saved_of process)))
 CommitFails store process old new (Disk fault) = (spare old < store.geometry.area_sectors)
     ⊎ (old.room ≡ 0) ⊎ (old.faults < new.faults)
 CommitFails store process old new Failed = store.has_failed ≡ true
 CommitFails store process old new other = ⊥
 
--- ---- a commit by whatever the disk stands
+-- ---- a commit whatever the disk stands by
 
 -- a savepoint of this generation and this process, of a module that takes such a place
 pub record IsAgain {m : Module} {config : Settings} (geometry : Geometry) (g : ℕ)
@@ -129,8 +129,8 @@ abbrev pub LeavesPointOrNext : Geometry → ℕ → ProcessValue → Medium → 
 LeavesPointOrNext geometry g process old new =
     (m : Module) (config : Settings) (point next : Savepoint m config) (records : List Record)
     (last : ProcessState) → IsAgain geometry g process next → IsNextPoint point next
-    → LeavesAll old (StandsAtPoint point records last)
-    → LeavesOnly old new (λ disk. StandsAtPoint point records last disk ⊎ BeginsAtPoint next disk)
+    → LeavesAll old (IsAtSavepoint point records last)
+    → LeavesOnly old new (λ disk. IsAtSavepoint point records last disk ⊎ BeginsAtPoint next disk)
 
 -- the disk begins at the new snapshot, and there are no records
 abbrev pub StoresAgain : Geometry → ℕ → ProcessValue → WorkerStore → Medium → Medium → Type 0
@@ -142,7 +142,7 @@ StoresAgain geometry g process store old new =
 -- when each error of it comes
 abbrev pub ReopeningFails : Geometry → ℕ → ProcessValue → Medium → Medium → StoreFault → Type 0
 ReopeningFails geometry g process old new TooBig = (NUMBERS_END ≤ g)
-    ⊎ (SECTOR_SIZE * geometry.area_sectors < length (image (saved_of process)))
+    ⊎ (SECTOR_SIZE * geometry.area_sectors < length (process_image (saved_of process)))
 ReopeningFails geometry g process old new (Disk fault) = (spare old < geometry.area_sectors)
     ⊎ (old.room ≡ 0) ⊎ (old.faults < new.faults)
 ReopeningFails geometry g process old new other = ⊥

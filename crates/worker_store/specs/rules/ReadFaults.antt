@@ -46,8 +46,8 @@ IsOwnOfJournal (journal.Disk fault) = ⊥
 IsOwnOfJournal journal.Failed = ⊥
 IsOwnOfJournal other = Unit {0}
 
--- When an error comes, whatever stands on the disk. A fault of the disk is told as that, and only
--- where the disk has failed since. Any other one is what its layer says itself.
+-- When an error comes, whatever is on the disk. A fault of the disk is told as that, and only where
+-- the disk has failed since. Any other one is what its layer says itself.
 abbrev pub HasReadCause : Medium → Medium → ReadFault → Type 0
 HasReadCause old new (Disk fault) = old.faults < new.faults
 HasReadCause old new (Layout fault) = IsOwnOfLayout fault

@@ -15,10 +15,10 @@ use Rattle.worker_store.specs.laws.Savepoints.{Savepoint, places}
 use Rattle.worker_store.specs.laws.Journaled.{IsJournaled}
 use Rattle.worker_store.specs.declared.store.WorkerStore.{WorkerStore}
 
--- No call has failed. Whatever a cut leaves of the disk stands at this savepoint, with these
--- records, which lead to the first process. The journal holds them, and in memory those that are
--- pending, which lead on to the second process, and for which it has room. No write waits for a
--- sync, and the next generation has 63 bits.
+-- No call has failed. Whatever a cut leaves of the disk is at this savepoint, with these records,
+-- which lead to the first process. The journal holds them, and in memory those that are pending,
+-- which lead on to the second process, and for which it has room. No write waits for a sync, and
+-- the next generation has 63 bits.
 pub record IsStoreOf {m : Module} {config : Settings} (point : Savepoint m config)
     (store : WorkerStore)
     (records pending : List Record) (last now : ProcessState) (disk : Medium) : Type 0 where
@@ -29,7 +29,7 @@ pub record IsStoreOf {m : Module} {config : Settings} (point : Savepoint m confi
   pub fits : length store.journal.kept
       ≤ PAYLOAD_SIZE * ((places point).journal_sectors - store.journal.used)
   pub sectors : total_sectors (places point) ≤ disk.sectors
-  pub settled : IsAllSynced disk
+  pub all_synced : IsAllSynced disk
   pub early : point.generation < 2 ^ 63
 
 -- where a generation begins, of this version: there is no record of it, and no call has failed

@@ -17,5 +17,5 @@ invariant-loop-i g l =
       counts : CountsUpTo (old.unsynced + l.i) old now;
       counted : now.counted ≤ old.counted + l.i;
       calls : now.calls ≡ rising_writes 3 l.i ++ old.calls;
-      passes : Passes old now (After (IsTornRun 3 sectors (length sectors)) old.may_leave);
+      passes : Passes old now (After (IsTornRun 3 sectors (length sectors)) old.crash_images);
     }

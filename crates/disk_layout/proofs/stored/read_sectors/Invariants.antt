@@ -1,5 +1,5 @@
 use Rattle.std.proofs.Common.{◌≡◌, ◌≤◌, ◌+◌, ◌*◌, length}
-use Rattle.sector_disk.specs.rules.Image.{Image}
+use Rattle.sector_disk.specs.rules.DiskImage.{DiskImage}
 use Rattle.disk_layout.specs.rules.Sectors.{bytes_from}
 use Rattle.disk_layout.specs.rules.Stored.{OnlyReads}
 use Rattle.disk_layout.proofs.stored.read_sectors.Given as goal
@@ -12,5 +12,5 @@ invariant-loop-i g l =
       reads : OnlyReads old now;
       counted : now.counted ≤ old.counted + l.i;
       len : length l.bytes.items ≡ 512 * l.i;
-      bytes : (image : Image) → now.shows image → l.bytes.items ≡ bytes_from image l.at l.i;
+      bytes : (image : DiskImage) → now.shows image → l.bytes.items ≡ bytes_from image l.at l.i;
     }

@@ -1,5 +1,5 @@
 use Rattle.std.proofs.Common.{length, ap, sym, ◌∙◌, subst, arith, List, ℕ, Ok}
-use Rattle.sector_disk.specs.rules.Image.{sector_at}
+use Rattle.sector_disk.specs.rules.DiskImage.{sector_at}
 use Rattle.sector_disk.proofs.Moments.{stays_shows}
 use Rattle.disk_layout.specs.rules.Sectors.{super_of}
 use Rattle.disk_layout.specs.rules.Stored.{Checks, IsKnown}

@@ -13,15 +13,15 @@ loop-process-init g c =
     turning_none _ _ _ _ _ _ _ c.requires.none_waits c.steps-first.ensures.shows
     c.steps-first.ensures.value
 
-pub overflow_sub-left : goal.overflow_sub-left
-overflow_sub-left g c =
+pub overflow_sub-fuel_left : goal.overflow_sub-fuel_left
+overflow_sub-fuel_left g c =
     let counts = turning_counts _ _ _ _ _ _ _ _ _ _ c.loop-process.invariant in
     let first = counts.0 in
     let is = c.steps.ensures.value in
     omega arith
 
-pub overflow_sub-left-in-loop-process : goal.overflow_sub-left-in-loop-process
-overflow_sub-left-in-loop-process g c =
+pub overflow_sub-fuel_left-in-loop-process : goal.overflow_sub-fuel_left-in-loop-process
+overflow_sub-fuel_left-in-loop-process g c =
     let counts = turning_counts _ _ _ _ _ _ _ _ _ _ c.loop-process.invariant in
     let within = counts.1 in
     let is = c.steps.ensures.value in
@@ -83,46 +83,46 @@ pub returns-in_err-ask-in-Asks-clause-failed : goal.returns-in_err-ask-in-Asks-c
 returns-in_err-ask-in-Asks-clause-failed g c =
     let p = err_from_is_err_and c.from_residual-in_err-ask-in-Asks.result
     c.from_residual-in_err-ask-in-Asks.ensures.1 in
-    let wishing =
+    let questioning =
     asks _ _ _ _ c.advance.new.self _ _ _ _ _ _ _ c.loop-process.invariant
     (ap (λ z. c.args.fuel - (z - c.steps-first.result)) c.steps.ensures.value)
-    c.in_ok-advance.ensures.released c.in-Asks.kind
+    c.in_ok-advance.ensures.released c.in-Asks.question
     (rw c.in-Asks.is at c.in_ok-advance.ensures.advances) in
-    rw (p.1, p.2) (vainly _ _ _ _ c.ask.new.process _ _ _ _ c.ask.new.source _ _ _ wishing
+    rw (p.1, p.2) (vainly _ _ _ _ c.ask.new.process _ _ _ _ c.ask.new.source _ _ _ questioning
     c.in_err-ask-in-Asks.field-0.0 c.in_err-ask-in-Asks.ensures.once)
 
 pub returns-then-not-branch-clause-done : goal.returns-then-not-branch-clause-done
 returns-then-not-branch-clause-done g c =
-    let wishing =
+    let questioning =
     asks _ _ _ _ c.advance.new.self _ _ _ _ _ _ _ c.loop-process.invariant
     (ap (λ z. c.args.fuel - (z - c.steps-first.result)) c.steps.ensures.value)
-    c.in_ok-advance.ensures.released c.in-Asks.kind
+    c.in_ok-advance.ensures.released c.in-Asks.question
     (rw c.in-Asks.is at c.in_ok-advance.ensures.advances) in
-    waiting _ _ _ _ c.ask.new.process _ _ _ _ c.ask.new.source _ _ _ wishing
+    waiting _ _ _ _ c.ask.new.process _ _ _ _ c.ask.new.source _ _ _ questioning
     (rw c.if-not-branch.true at c.in_ok-ask-in-Asks.ensures.once)
 
 pub loop-process-smaller : goal.loop-process-smaller
 loop-process-smaller g c =
-    let wishing =
+    let questioning =
     asks _ _ _ _ c.advance.new.self _ _ _ _ _ _ _ c.loop-process.invariant
     (ap (λ z. c.args.fuel - (z - c.steps-first.result)) c.steps.ensures.value)
-    c.in_ok-advance.ensures.released c.in-Asks.kind
+    c.in_ok-advance.ensures.released c.in-Asks.question
     (rw c.in-Asks.is at c.in_ok-advance.ensures.advances) in
     let counts =
     asks_counts _ _ _ _ c.advance.new.self _ _ _ _ _ _ _ c.loop-process.invariant
     (ap (λ z. c.args.fuel - (z - c.steps-first.result)) c.steps.ensures.value)
-    c.in_ok-advance.ensures.released c.in-Asks.kind
+    c.in_ok-advance.ensures.released c.in-Asks.question
     (rw c.in-Asks.is at c.in_ok-advance.ensures.advances) in
-    given_less _ _ _ _ c.ask.new.process _ _ _ _ c.ask.new.source _ _ _ wishing
+    given_less _ _ _ _ c.ask.new.process _ _ _ _ c.ask.new.source _ _ _ questioning
     (rw c.if-not-branch.false at c.in_ok-ask-in-Asks.ensures.once) c.loop-process.process counts
 
 pub loop-process-preserved : goal.loop-process-preserved
 loop-process-preserved g c =
-    let wishing =
+    let questioning =
     asks _ _ _ _ c.advance.new.self _ _ _ _ _ _ _ c.loop-process.invariant
     (ap (λ z. c.args.fuel - (z - c.steps-first.result)) c.steps.ensures.value)
-    c.in_ok-advance.ensures.released c.in-Asks.kind
+    c.in_ok-advance.ensures.released c.in-Asks.question
     (rw c.in-Asks.is at c.in_ok-advance.ensures.advances) in
-    given _ _ _ _ c.ask.new.process _ _ _ _ c.ask.new.source _ _ _ wishing
+    given _ _ _ _ c.ask.new.process _ _ _ _ c.ask.new.source _ _ _ questioning
     (rw c.if-not-branch.false at c.in_ok-ask-in-Asks.ensures.once)
     c.in_ok-ask-in-Asks.ensures.released

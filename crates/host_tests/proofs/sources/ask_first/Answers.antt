@@ -12,7 +12,8 @@ returns c =
     let e = own-1.entry at-1-1 in
     let r = read_made own-1 e at-1-1 refl (Result (Option Answer) SourceFault
     → Type 0) (λ j x said. (z : j.0.Denot)
-    × j.1.gives x c.args.kind said z) _ _ _ c.into_dyn_box.ensures.1 in
-    let k : (left : List Answer) × HandsOut c.in_ok-new.field-0.value c.answer.result left =
-    subst (λ f. f c.answer.result) r (c.answer.ensures.0, c.answer.ensures.1) in
-    subst (λ xs. (left : List Answer) × HandsOut xs c.answer.result left) c.in_ok-new.ensures.ok k
+    × j.1.gives x c.args.question said z) _ _ _ c.into_dyn_box.ensures.1 in
+    let k : (answers_left : List Answer) × HandsOut c.in_ok-new.field-0.value c.answer.result
+    answers_left = subst (λ f. f c.answer.result) r (c.answer.ensures.0, c.answer.ensures.1) in
+    subst (λ xs. (answers_left : List Answer) × HandsOut xs c.answer.result answers_left)
+    c.in_ok-new.ensures.ok k

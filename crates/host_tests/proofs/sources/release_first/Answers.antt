@@ -1,7 +1,7 @@
 use Rattle.std.proofs.Common.{subst, ap, ℕ, Result, IsErr, Err, ◌≡◌, ◌∙◌, ◌==◌, if◌then◌else◌, sym}
 use Rattle.std.proofs.Common.{refl}
 use denote.Param.Object.{read_made}
-use Rattle.wasi_calls_rules.specs.Hosts.{Line}
+use Rattle.wasi_calls_rules.specs.WasiStates.{Line}
 use Rattle.record_replay.specs.declared.fault.OutletFault.{OutletFault}
 use Rattle.record_replay.specs.rules.Lists.{until_fault}
 use Rattle.host_tests.proofs.sources.release_first.OwnLists.{own-1, at-1-1}

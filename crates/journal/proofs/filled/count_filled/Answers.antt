@@ -1,5 +1,5 @@
 use Rattle.std.proofs.Common.{◌≡◌, ◌≤◌, ◌+◌, ℕ, List, true, false, sym, ap, ◌∙◌, arith}
-use Rattle.sector_disk.specs.rules.Image.{Image, sector_at}
+use Rattle.sector_disk.specs.rules.DiskImage.{DiskImage, sector_at}
 use Rattle.sector_disk.proofs.Moments.{stays_shows}
 use Rattle.disk_layout.specs.rules.Journal.{is_of}
 use Rattle.disk_layout.proofs.ReadLemmas.{read_more}
@@ -36,7 +36,7 @@ loop-k-preserved g c =
     let new = g.D.Disk.medium c.read.new.self in
     let stays = c.read.ensures.stays in
     let at = c.loop-k.invariant in
-    let here : (image : Image) → new.shows image
+    let here : (image : DiskImage) → new.shows image
     → is_of c.args.generation (1 + c.loop-k.k) (sector_at image (c.journal_place-at.result
     + c.loop-k.k)) ≡ true =
     λ image shows. ap (λ (s : List ℕ). is_of c.args.generation (1 + c.loop-k.k) s)

@@ -1,5 +1,5 @@
 use Rattle.std.proofs.Common.{◌≡◌, ◌+◌, ◌<◌, ◌≤◌, ℕ, true}
-use Rattle.sector_disk.specs.rules.Image.{Image, sector_at}
+use Rattle.sector_disk.specs.rules.DiskImage.{DiskImage, sector_at}
 use Rattle.disk_layout.specs.rules.Journal.{is_of}
 use Rattle.disk_layout.specs.rules.Stored.{OnlyReads}
 use Rattle.journal.proofs.filled.count_filled.Given as goal
@@ -12,6 +12,6 @@ invariant-loop-k g l =
     record {
       reads : OnlyReads old now;
       counted : now.counted ≤ old.counted + l.k;
-      on : (image : Image) → now.shows image → (i : ℕ) → i < l.k
+      on : (image : DiskImage) → now.shows image → (i : ℕ) → i < l.k
           → is_of l.generation (1 + i) (sector_at image (l.at + i)) ≡ true;
     }

@@ -1,11 +1,11 @@
-use Rattle.journal.proofs.ExampleLemmas.{fitting_examples, standing_examples, barrier_examples}
+use Rattle.journal.proofs.ExampleLemmas.{fitting_examples, holding_examples, barrier_examples}
 use Rattle.journal.proofs.laws.worked_examples.Goals as goal
 
 pub returns-clause-fitting : goal.returns-clause-fitting
 returns-clause-fitting c = fitting_examples
 
-pub returns-clause-standing : goal.returns-clause-standing
-returns-clause-standing c = standing_examples
+pub returns-clause-holding : goal.returns-clause-holding
+returns-clause-holding c = holding_examples
 
 pub returns-clause-barriers : goal.returns-clause-barriers
 returns-clause-barriers c = barrier_examples

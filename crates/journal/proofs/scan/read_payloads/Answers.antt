@@ -2,7 +2,7 @@ use Rattle.std.proofs.Common.{◌≡◌, ◌≤◌, ◌<◌, ◌+◌, ◌-◌, �
 use Rattle.std.proofs.Common.{ap, ◌∙◌, subst, ⊎_elim, arith}
 use Rattle.std.proofs.lemmas.Bool.{cases_lt}
 use Rattle.std.proofs.lemmas.List.{append-nil}
-use Rattle.sector_disk.specs.rules.Image.{Image, sector_at}
+use Rattle.sector_disk.specs.rules.DiskImage.{DiskImage, sector_at}
 use Rattle.sector_disk.proofs.Moments.{stays_shows}
 use Rattle.disk_layout.specs.rules.Journal.{payloads_from, is_of}
 use Rattle.disk_layout.proofs.ReadLemmas.{read_more}
@@ -11,7 +11,7 @@ use Rattle.journal.proofs.PackedLemmas.{payloads_split, pay_on, pay_off}
 use Rattle.journal.proofs.scan.read_payloads.Goals as goal
 
 -- a sector more
-payloads_more : (image : Image) (g at k : ℕ)
+payloads_more : (image : DiskImage) (g at k : ℕ)
     → ((i : ℕ) → i < k → is_of g (1 + i) (sector_at image (at + i)) ≡ true)
     → is_of g (1 + k) (sector_at image (at + k)) ≡ true
     → payloads_from image g at 1 (k + 1) ≡ payloads_from image g at 1 k
@@ -22,7 +22,7 @@ payloads_more image g at k on here =
     ∙ append-nil (payload_of_sector (sector_at image (at + k))))
 
 -- a sector of another kind ends it
-payloads_end : (image : Image) (g at k count : ℕ) → k ≤ count
+payloads_end : (image : DiskImage) (g at k count : ℕ) → k ≤ count
     → ((i : ℕ) → i < k → is_of g (1 + i) (sector_at image (at + i)) ≡ true)
     → is_of g (1 + k) (sector_at image (at + k)) ≡ false
     → payloads_from image g at 1 count ≡ payloads_from image g at 1 k
@@ -32,7 +32,7 @@ payloads_end image g at k count le on off =
     ∙ ap (λ l. payloads_from image g at 1 k ++ l) (pay_off image g (at + k) (1 + k) (count - k) off)
     ∙ append-nil (payloads_from image g at 1 k)
 
-on_more : (image : Image) (g at k : ℕ)
+on_more : (image : DiskImage) (g at k : ℕ)
     → ((i : ℕ) → i < k → is_of g (1 + i) (sector_at image (at + i)) ≡ true)
     → is_of g (1 + k) (sector_at image (at + k)) ≡ true
     → (i : ℕ) → i < k + 1 → is_of g (1 + i) (sector_at image (at + i)) ≡ true
@@ -84,7 +84,7 @@ loop-k-preserved g c =
     let new = g.D.Disk.medium c.read.new.self in
     let stays = c.read.ensures.stays in
     let at = c.loop-k.invariant in
-    let on : (image : Image) → new.shows image
+    let on : (image : DiskImage) → new.shows image
     → is_of c.args.generation (1 + c.loop-k.k) (sector_at image (c.journal_place-at.result
     + c.loop-k.k)) ≡ true =
     λ image shows. ap (λ (s : List ℕ). is_of c.args.generation (1 + c.loop-k.k) s)

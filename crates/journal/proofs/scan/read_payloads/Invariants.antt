@@ -1,5 +1,5 @@
 use Rattle.std.proofs.Common.{◌≡◌, ◌+◌, ◌<◌, ◌≤◌, ℕ, true}
-use Rattle.sector_disk.specs.rules.Image.{Image, sector_at}
+use Rattle.sector_disk.specs.rules.DiskImage.{DiskImage, sector_at}
 use Rattle.disk_layout.specs.rules.Journal.{payloads_from, is_of}
 use Rattle.disk_layout.specs.rules.Stored.{OnlyReads}
 use Rattle.journal.proofs.scan.read_payloads.Given as goal
@@ -11,8 +11,8 @@ invariant-loop-k g l =
     record {
       reads : OnlyReads old now;
       counted : now.counted ≤ old.counted + l.k;
-      on : (image : Image) → now.shows image → (i : ℕ) → i < l.k
+      on : (image : DiskImage) → now.shows image → (i : ℕ) → i < l.k
           → is_of l.generation (1 + i) (sector_at image (l.at + i)) ≡ true;
-      payloads : (image : Image) → now.shows image
+      payloads : (image : DiskImage) → now.shows image
           → payloads_from image l.generation l.at 1 l.k ≡ l.bytes.items;
     }

@@ -1,16 +1,16 @@
 use Rattle.std.proofs.Common.{◌≡◌, ◌<◌, ◌≤◌, ◌+◌, ◌*◌, ◌++◌, ℕ, List, [], ◌∷◌, length, sym, ap, ◌∙◌}
 use Rattle.std.proofs.Common.{subst, arith, rules}
 use Rattle.std.proofs.lemmas.Result.{on_ok_weaker}
-use Rattle.sector_disk.specs.rules.Image.{sector_at}
+use Rattle.sector_disk.specs.rules.DiskImage.{sector_at}
 use Rattle.sector_disk.specs.rules.Medium.{Tears, TakesWrite, BothFollow}
 use Rattle.sector_disk.specs.rules.Calls.{rising_writes}
 use Rattle.sector_disk.specs.declared.disk_call.DiskCall.TheVariants.{Sync}
 use Rattle.sector_disk.specs.rules.Run.{IsTornRun, IsWrittenRun}
-use Rattle.sector_disk.proofs.Moments.{shows_follow, settled_follows, goes_on, stays_left}
+use Rattle.sector_disk.proofs.Moments.{shows_follow, synced_follows, goes_on, stays_crashed}
 use Rattle.sector_disk.proofs.RunLemmas.{both_tear, both_take, run_passes, run_leaves_only}
-use Rattle.sector_disk.proofs.RunLemmas.{left_longer}
+use Rattle.sector_disk.proofs.RunLemmas.{crashed_longer}
 use Rattle.sector_disk.proofs.CountLemmas.{counts_then}
-use Rattle.sector_disk.proofs.CallLemmas.{begun_first, made_then, rising_begun, rising_more}
+use Rattle.sector_disk.proofs.CallLemmas.{begun_first, performed_then, rising_begun, rising_more}
 use Rattle.disk_layout.specs.rules.Journal.{journal_sector}
 use Rattle.journal.specs.rules.Packed.{packed, sectors_for}
 use Rattle.journal.proofs.PackedLemmas.{packed_at, part_lent}
@@ -88,9 +88,9 @@ returns-clause-any_moment g c =
     let within : n ≤ count = let e = c.sectors_for-count.ensures in let t = c.loop-i.auto.i-end in
     omega arith in
     run_leaves_only c.args.at batch count old new
-    (goes_on old mid new _ _ i.passes c.sync.ensures.passes (λ image left.
-    left_longer c.args.at batch n count old mid within i.tears image
-    (stays_left mid new c.sync.ensures.stays image left)))
+    (goes_on old mid new _ _ i.passes c.sync.ensures.passes (λ image crashed.
+    crashed_longer c.args.at batch n count old mid within i.tears image
+    (stays_crashed mid new c.sync.ensures.stays image crashed)))
 
 pub returns-clause-stored : goal.returns-clause-stored
 returns-clause-stored g c =
@@ -105,9 +105,9 @@ returns-clause-stored g c =
     let f = c.loop-i-test.false in omega arith in
     let whole = subst (λ (k : ℕ). BothFollow (IsWrittenRun c.args.at batch k)
     (IsTornRun c.args.at batch k) old mid) all i.whole in
-    on_ok_weaker c.sync.result (λ settled.
-    settled_follows old mid new _ settled c.sync.ensures.stays (shows_follow old mid _ _ whole))
-    c.sync.ensures.settles
+    on_ok_weaker c.sync.result (λ all_synced.
+    synced_follows old mid new _ all_synced c.sync.ensures.stays (shows_follow old mid _ _ whole))
+    c.sync.ensures.all_synced
 
 pub returns-in_err-write-clause-counts : goal.returns-in_err-write-clause-counts
 returns-in_err-write-clause-counts g c =
@@ -153,9 +153,9 @@ returns-clause-together g c =
     let f = c.loop-i-test.false in omega arith in
     let counts = c.sync.ensures.counts in
     on_ok_weaker c.sync.result
-    (λ settled. subst (λ (k : ℕ). new.unsynced_since old.moment k) all
+    (λ all_synced. subst (λ (k : ℕ). new.unsynced_since old.moment k) all
     (counts.keeps old.moment mid.unsynced p.later (mid.count_now old.moment p.later)))
-    c.sync.ensures.settles
+    c.sync.ensures.all_synced
 
 pub returns-in_err-write-clause-calls : goal.returns-in_err-write-clause-calls
 returns-in_err-write-clause-calls g c =
@@ -185,5 +185,5 @@ returns-clause-calls g c =
     let all : n ≡ count = let e = c.sectors_for-count.ensures in let t = c.loop-i.auto.i-end in
     let f = c.loop-i-test.false in omega arith in
     let written = i.calls ∙ ap (λ k. rising_writes c.args.at k ++ old.calls) all in
-    made_then (rising_writes c.args.at count) (Sync
+    performed_then (rising_writes c.args.at count) (Sync
     ∷ []) c.sync.result old mid new written c.sync.ensures.calls

@@ -18,5 +18,5 @@ invariant-loop-i g l =
       counts : CountsUpTo (old.unsynced + l.i) old now;
       counted : now.counted ≤ old.counted + l.i;
       calls : now.calls ≡ rising_writes l.at l.i ++ old.calls;
-      passes : Passes old now (After (IsTornRun l.at batch n) old.may_leave);
+      passes : Passes old now (After (IsTornRun l.at batch n) old.crash_images);
     }

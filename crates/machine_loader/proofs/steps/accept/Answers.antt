@@ -8,11 +8,11 @@ returns-in_err-valid-clause-only c =
     rw (p.1, p.2)
     (denied c.args.pages c.args.bytes.now c.in_err-valid.field-0.0 c.in_err-valid.ensures.only)
 
-pub returns-in_err-valid-clause-told : goal.returns-in_err-valid-clause-told
-returns-in_err-valid-clause-told c =
+pub returns-in_err-valid-clause-reported : goal.returns-in_err-valid-clause-reported
+returns-in_err-valid-clause-reported c =
     let p = err_from_is_err_and c.from_residual.result c.from_residual.ensures.1 in
     rw (p.1, p.2)
-    (told c.args.pages c.args.bytes.now c.in_err-valid.field-0.0 c.in_err-valid.ensures.told)
+    (told c.args.pages c.args.bytes.now c.in_err-valid.field-0.0 c.in_err-valid.ensures.reported)
 
 pub returns-in_err-link-clause-only : goal.returns-in_err-link-clause-only
 returns-in_err-link-clause-only c =
@@ -22,8 +22,8 @@ returns-in_err-link-clause-only c =
     (not_linkable c.args.pages c.args.bytes.now c.in_ok-valid.valid
     c.in_ok-valid.ensures.read.spelled c.in_err-link.field-0.0 c.in_err-link.ensures.only)
 
-pub returns-in_err-link-clause-told : goal.returns-in_err-link-clause-told
-returns-in_err-link-clause-told c =
+pub returns-in_err-link-clause-reported : goal.returns-in_err-link-clause-reported
+returns-in_err-link-clause-reported c =
     let p = err_from_is_err_and c.from_residual-in_err-link.result
     c.from_residual-in_err-link.ensures.1 in
     let read = c.in_ok-valid.ensures.read in

@@ -1,15 +1,15 @@
 use Rattle.std.proofs.Common.{ℕ, List, Option, Some, refl, sym, subst}
 use Rattle.std.specs.Prelude.{Ok}
 use Rattle.std.proofs.lemmas.Result.{err_from_is_err_and}
-use Rattle.machine.specs.declared.turns.pause.HostCall.{HostCall}
+use Rattle.machine.specs.declared.execution.pause.HostCall.{HostCall}
 use Rattle.machine.specs.rules.Runs.{TellsCall}
 use Rattle.process.specs.declared.calling.Called.{Called}
 use Rattle.wasi_calls.specs.rules.Calls.{AreArguments}
 use Rattle.wasi_abi.specs.rules.Calls.{parameters_of}
 use Rattle.process.specs.Parts.{IsAtCall, WaitsAtCall}
-use Rattle.process.specs.Callings.{MakesCall}
+use Rattle.process.specs.Callings.{PerformsCall}
 use Rattle.process.proofs.Waiting.{at_call, are_typed, wants_once, nothing_wanted}
-use Rattle.process.proofs.Giving.{not_made, is_made}
+use Rattle.process.proofs.Giving.{not_performed, is_performed}
 use Rattle.process.proofs.answering.answer_call.Goals as goal
 
 pub returns-in_default-clause-answers : goal.returns-in_default-clause-answers
@@ -54,8 +54,8 @@ returns-then-not-wants-clause-answers c = λ guest p shows running.
           absurd (cc),
     )
 
-pub make-requires-clause-typed : goal.make-requires-clause-typed
-make-requires-clause-typed c =
+pub perform-requires-clause-typed : goal.perform-requires-clause-typed
+perform-requires-clause-typed c =
     let r = c.requires.runs in
     let T : Option HostCall → Type 0 =
     λ o. TellsCall c.args.machine.now.guest r.guest.program r.process.configuration o in
@@ -66,8 +66,8 @@ make-requires-clause-typed c =
     (are_typed c.args.machine.now r.guest r.shows.calls r.process.configuration c.in-Some.asked.call
     c.in-Some.asked.arguments asks)
 
-pub make-requires-clause-waits : goal.make-requires-clause-waits
-make-requires-clause-waits c =
+pub perform-requires-clause-waits : goal.perform-requires-clause-waits
+perform-requires-clause-waits c =
     let r = c.requires.runs in
     let T : Option HostCall → Type 0 =
     λ o. TellsCall c.args.machine.now.guest r.guest.program r.process.configuration o in
@@ -99,7 +99,7 @@ returns-in_err-ended-clause-answers c = λ guest p shows running.
     c.in-Some.asked.arguments asks) in
     let q = err_from_is_err_and c.from_residual.result c.from_residual.ensures.1 in
     rw (q.1, q.2)
-    (not_made c.args.machine.now c.make.new.machine c.args.host.now c.make.new.host
+    (not_performed c.args.machine.now c.perform.new.machine c.args.host.now c.perform.new.host
     c.in-Some.asked.call c.as_slice-arguments.result.now c.args.answer.now guest p shows running at
     c.in_err-ended.field-0.0 c.in_err-ended.ensures.calls)
 
@@ -118,9 +118,9 @@ unreachable-requires c =
     c.in-Some.asked.arguments asks) in
     let wanted = (c.wants.ensures r.guest r.process r.shows at).0 c.if-not-wants.false in
     let M : Called → Type 0 =
-    λ k. MakesCall c.args.machine.now c.args.host.now c.in-Some.asked.call
-    c.as_slice-arguments.result.now (Some c.args.answer.now) (Ok k) c.make.new.machine
-    c.make.new.host in
+    λ k. PerformsCall c.args.machine.now c.args.host.now c.in-Some.asked.call
+    c.as_slice-arguments.result.now (Some c.args.answer.now) (Ok k) c.perform.new.machine
+    c.perform.new.host in
     let made = subst M c.in-Asks.is c.in_ok-ended.ensures.calls r.guest r.process r.shows r.running
     at in
     wants_once r.guest r.process c.in-Some.asked.call c.as_slice-arguments.result.now at
@@ -138,10 +138,10 @@ returns-clause-answers c = λ guest p shows running.
     (at_call c.args.machine.now guest shows.calls p.configuration c.in-Some.asked.call
     c.in-Some.asked.arguments asks) in
     let M : Called → Type 0 =
-    λ k. MakesCall c.args.machine.now c.args.host.now c.in-Some.asked.call
-    c.as_slice-arguments.result.now (Some c.args.answer.now) (Ok k) c.make.new.machine
-    c.make.new.host in
-    is_made c.args.machine.now c.make.new.machine c.args.host.now c.make.new.host
+    λ k. PerformsCall c.args.machine.now c.args.host.now c.in-Some.asked.call
+    c.as_slice-arguments.result.now (Some c.args.answer.now) (Ok k) c.perform.new.machine
+    c.perform.new.host in
+    is_performed c.args.machine.now c.perform.new.machine c.args.host.now c.perform.new.host
     c.in-Some.asked.call c.as_slice-arguments.result.now c.args.answer.now guest p shows running at
-    c.in-Made.synced c.in-Made.ended (subst M c.in-Made.is c.in_ok-ended.ensures.calls)
-    ((c.wants.ensures guest p shows at).0 c.if-not-wants.false)
+    c.in-Performed.synced c.in-Performed.ended (subst M c.in-Performed.is
+    c.in_ok-ended.ensures.calls) ((c.wants.ensures guest p shows at).0 c.if-not-wants.false)

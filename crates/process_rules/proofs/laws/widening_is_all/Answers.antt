@@ -1,5 +1,5 @@
 use Rattle.process_rules.proofs.OneProcess.{widening_is_all}
-use Rattle.process_rules.proofs.Hosted.{widened_once}
+use Rattle.process_rules.proofs.ReachedStates.{widened_once}
 use Rattle.process_rules.proofs.laws.widening_is_all.Goals as goal
 
 pub returns-clause-all : goal.returns-clause-all

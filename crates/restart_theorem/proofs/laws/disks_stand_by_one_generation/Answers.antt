@@ -1,4 +1,5 @@
-use Rattle.restart_theorem.proofs.Disks.{blank_stands_for_none, no_later_image, no_later_payload}
+use Rattle.restart_theorem.proofs.Disks.{blank_stands_for_none, no_later_process_image}
+use Rattle.restart_theorem.proofs.Disks.{no_later_payload}
 use Rattle.restart_theorem.proofs.Disks.{one_generation, disk_examples}
 use Rattle.restart_theorem.proofs.Disks.{one_spelled_worker, stands_within, blank_is_within}
 use Rattle.restart_theorem.proofs.laws.disks_stand_by_one_generation.Goals as goal
@@ -6,8 +7,8 @@ use Rattle.restart_theorem.proofs.laws.disks_stand_by_one_generation.Goals as go
 pub returns-clause-blank : goal.returns-clause-blank
 returns-clause-blank c = blank_stands_for_none
 
-pub returns-clause-image : goal.returns-clause-image
-returns-clause-image c = no_later_image
+pub returns-clause-process_image : goal.returns-clause-process_image
+returns-clause-process_image c = no_later_process_image
 
 pub returns-clause-payload : goal.returns-clause-payload
 returns-clause-payload c = no_later_payload

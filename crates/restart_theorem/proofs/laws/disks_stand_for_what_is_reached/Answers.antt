@@ -1,4 +1,5 @@
-use Rattle.restart_theorem.proofs.Disks.{what_stands_is_reached, records_ascend, stands_by_its_parts}
+use Rattle.restart_theorem.proofs.Disks.{what_stands_is_reached, records_ascend}
+use Rattle.restart_theorem.proofs.Disks.{stands_by_its_parts}
 use Rattle.restart_theorem.proofs.Disks.{heads_tell_widenings}
 use Rattle.restart_theorem.proofs.laws.disks_stand_for_what_is_reached.Goals as goal
 

@@ -32,12 +32,12 @@ returns-in_err-write_back g c =
       counts = let q = i.passes in
           counts_then (old.unsynced + n) (mid.unsynced + 1) (old.unsynced + old.sectors) old mid new
           (omega arith) (omega arith) q.later i.counts one.counts;
-      made = record {
+      performed = record {
         all = search rules;
         begun = rising_begun 0 n old mid new i.calls old.sectors (omega arith)
-            (subst (λ (k : ℕ). BeginsCalls (WriteOf k ∷ []) mid new) here one.made.begun);
+            (subst (λ (k : ℕ). BeginsCalls (WriteOf k ∷ []) mid new) here one.performed.begun);
       };
       counted = omega (arith, i.counted, one.counted);
       cause = search rules;
-      kind = subst P (sym same) c.in_err-write_back.ensures.kind;
+      which_fault = subst P (sym same) c.in_err-write_back.ensures.which_fault;
     }

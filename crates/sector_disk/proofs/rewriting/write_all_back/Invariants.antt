@@ -14,5 +14,5 @@ invariant-loop-sector g l =
       counts : CountsUpTo (old.unsynced + l.sector) old now;
       counted : now.counted ≤ old.counted + 2 * l.sector;
       calls : now.calls ≡ rising_writes 0 l.sector ++ old.calls;
-      passes : Passes old now old.may_leave;
+      passes : Passes old now old.crash_images;
     }

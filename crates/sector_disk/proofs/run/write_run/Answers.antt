@@ -1,7 +1,7 @@
 use Rattle.std.proofs.Common.{◌≡◌, ◌<◌, ◌≤◌, ◌+◌, ◌++◌, [], ◌∷◌, ℕ, length, Err, Result, sym, ap}
 use Rattle.std.proofs.Common.{◌∙◌, subst, arith, rules}
 use Rattle.std.proofs.lemmas.Result.{err_from_is_err_and}
-use Rattle.sector_disk.specs.rules.Image.{sector_at}
+use Rattle.sector_disk.specs.rules.DiskImage.{sector_at}
 use Rattle.sector_disk.specs.rules.Medium.{Tears, TakesWrite, BeginsCalls, FailsInside}
 use Rattle.sector_disk.specs.declared.disk_call.DiskCall.TheVariants.{WriteOf}
 use Rattle.sector_disk.specs.declared.fault.DiskFault.{DiskFault}
@@ -26,7 +26,7 @@ returns-in_err-write g c =
     let p = err_from_is_err_and c.from_residual.result c.from_residual.ensures.1 in
     let same : c.from_residual.result ≡ Err c.in_err-write.field-0.0 =
     p.1 ∙ ap (λ (e : DiskFault). (let r : Result (Unit {0}) DiskFault = Err e in r)) p.2 in
-    let kind = fails_inside {T = Unit {0}} c.in_err-write.field-0.0 _ _ mid new
+    let which_fault = fails_inside {T = Unit {0}} c.in_err-write.field-0.0 _ _ mid new
     c.in_err-write.ensures.cause (λ out. let e = i.place in omega arith) in
     let P : Result (Unit {0}) DiskFault → Type 0 = λ r. FailsInside r in
     record {
@@ -48,7 +48,7 @@ returns-in_err-write g c =
           run_leaves_only _ _ _ old new
           (run_passes _ _ _ _ old mid new more i.passes both c.write.ensures.passes);
       cause = search rules;
-      kind = subst P (sym same) kind;
+      which_fault = subst P (sym same) which_fault;
     }
 
 pub loop-sector-preserved : goal.loop-sector-preserved

@@ -18,5 +18,6 @@ invariant-loop-sector g l =
       counts : CountsUpTo (old.unsynced + l.sector-index) old now;
       counted : now.counted ≤ old.counted + l.sector-index;
       calls : now.calls ≡ rising_writes l.at l.sector-index ++ old.calls;
-      passes : Passes old now (After (IsTornRun l.at l.sectors (length l.sectors)) old.may_leave);
+      passes : Passes old now (After (IsTornRun l.at l.sectors (length l.sectors))
+          old.crash_images);
     }

@@ -1,7 +1,7 @@
 use Rattle.std.proofs.Common.{[], ◌∷◌, ◌≡◌, ◌+◌, ◌∙◌, arith, rules}
 use Rattle.std.proofs.lemmas.Result.{on_ok_weaker}
 use Rattle.sector_disk.proofs.CountLemmas.{counts_more, counts_then}
-use Rattle.sector_disk.proofs.CallLemmas.{made_since}
+use Rattle.sector_disk.proofs.CallLemmas.{performed_since}
 use Rattle.sector_disk.specs.declared.disk_call.DiskCall.TheVariants.{WriteOf}
 use Rattle.snapshot.proofs.StoreCalls.{one_changed, none_changed}
 use Rattle.snapshot.proofs.StoreLemmas.{as_written, stays_both, read_leaves, write_leaves}
@@ -88,7 +88,7 @@ returns-else-same g c =
       calls = (
         WriteOf c.args.at ∷ [],
         one_changed c.args.at,
-        made_since (WriteOf c.args.at
+        performed_since (WriteOf c.args.at
             ∷ []) c.write.result old mid new c.read.ensures.calls c.write.ensures.calls,
       );
       counted = omega (arith, c.read.ensures.counted, c.write.ensures.counted);

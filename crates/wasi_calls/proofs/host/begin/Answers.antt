@@ -1,6 +1,6 @@
 use Rattle.std.proofs.Common.{◌≡◌, ◌-◌, arith}
 use Rattle.std.specs.Prelude.{Option, None}
-use Rattle.wasi_calls_rules.specs.Hosts.{Descriptor}
+use Rattle.wasi_calls_rules.specs.WasiStates.{Descriptor}
 use Rattle.wasi_calls.proofs.Descriptors.{one_more, begun}
 use Rattle.wasi_calls.proofs.host.begin.Goals as goal
 

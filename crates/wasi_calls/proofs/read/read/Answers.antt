@@ -7,7 +7,7 @@ use Rattle.wasi_calls_rules.specs.Checks.{Bytes, scattered}
 use Rattle.wasi_calls_rules.specs.Moving.{Got, target_read}
 use Rattle.wasi_calls.specs.Moves.{total_len}
 use Rattle.std.specs.Prelude.{option_copied}
-use Rattle.wasi_calls.proofs.MovedRows.{read_is, stops_after, cell_put}
+use Rattle.wasi_calls.proofs.MovedCallRules.{read_is, stops_after, cell_put}
 use Rattle.wasi_calls.proofs.read.read.Goals as goal
 
 pub returns-in_err-moved-clause-stopped : goal.returns-in_err-moved-clause-stopped
@@ -16,8 +16,8 @@ returns-in_err-moved-clause-stopped c =
     let m = c.args.memory.now.bytes in
     let h = c.args.host.now.host in
     let given = option_copied c.args.answer in
-    let bs = c.in_ok-buffers.buffers in
-    let passed = c.in_ok-buffers.ensures.passed in
+    let bs = c.check.new.buffers in
+    let passed = c.in_ok-check.ensures.passed in
     let d = passed.descriptor in
     let p = err_from_is_err_and c.from_residual-in_err-moved.result
     c.from_residual-in_err-moved.ensures.1 in
@@ -35,8 +35,8 @@ returns-clause-done c =
     let m = c.args.memory.now.bytes in
     let h = c.args.host.now.host in
     let given = option_copied c.args.answer in
-    let bs = c.in_ok-buffers.buffers in
-    let passed = c.in_ok-buffers.ensures.passed in
+    let bs = c.check.new.buffers in
+    let passed = c.in_ok-check.ensures.passed in
     let d = passed.descriptor in
     let reads = c.in_ok-moved.ensures.done d passed.is_open in
     let stored = (rw c.unwrap.ensures at c.store_u32.ensures.stored) in

@@ -5,7 +5,7 @@ use Rattle.guest_memory.specs.rules.Bytes.{with_part}
 use Rattle.wasi_calls_rules.specs.Checks.{Bytes}
 use Rattle.wasi_calls_rules.specs.Moving.{file_read}
 use Rattle.wasi_calls.specs.Moves.{total_len}
-use Rattle.wasi_calls.proofs.MovedRows.{pread_is, cell_put}
+use Rattle.wasi_calls.proofs.MovedCallRules.{pread_is, cell_put}
 use Rattle.wasi_calls.proofs.read.read_at.Goals as goal
 
 pub returns-clause-done : goal.returns-clause-done
@@ -13,10 +13,10 @@ returns-clause-done c =
     let a = c.args.arguments in
     let m = c.args.memory.now.bytes in
     let h = c.args.host.now.host in
-    let bs = c.in_ok-checked.checked.buffers in
-    let passed = c.in_ok-checked.ensures.passed in
-    let named = c.in_ok-checked.ensures.file.named passed.descriptor passed.is_open in
-    let bytes : Bytes = file_read h c.in_ok-checked.checked.node a.offset (total_len bs) in
+    let bs = c.check_placed.new.buffers in
+    let passed = c.in_ok-node.ensures.passed in
+    let named = c.in_ok-node.ensures.file.named passed.descriptor passed.is_open in
+    let bytes : Bytes = file_read h c.in_ok-node.node a.offset (total_len bs) in
     let stored = (rw c.unwrap.ensures at c.store_u32.ensures.stored) in
     let put = cell_put c.read_file-moved.new.memory c.store_u32.new.self (a.ret + 0) a.ret
     c.read_file-moved.result (length bytes) stored (omega arith) c.read_file-moved.ensures.count in

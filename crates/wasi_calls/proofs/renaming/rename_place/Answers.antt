@@ -2,7 +2,7 @@ use Rattle.std.proofs.Common.{◌++◌, [], ◌∷◌, sym, ap, ◌∙◌}
 use Rattle.file_tree.specs.rules.Changes.{path_at}
 use Rattle.file_tree.specs.rules.Files.{Name}
 use Rattle.wasi_calls_rules.specs.Entries.{renamed_over}
-use Rattle.wasi_calls.specs.rules.Held.{HeldHost}
+use Rattle.wasi_calls.specs.rules.Held.{HeldWasiState}
 use Rattle.wasi_calls.proofs.Renamings.{place_moved}
 use Rattle.wasi_calls.proofs.renaming.rename_place.Goals as goal
 
@@ -19,7 +19,7 @@ returns-clause-done c = λ m.
     (c.in_ok-check_path-2.ensures.gives c.in-Leaf-target.name.now)
     (sym c.is_within.ensures ∙ c.if-is_within.false) (sym over)
     (sym c.is_same.ensures ∙ c.if-is_same.false) c.in_ok-check_way.ensures
-    (ap (λ (x : HeldHost). x.host) c.rename_over.ensures
+    (ap (λ (x : HeldWasiState). x.host) c.rename_over.ensures
     ∙ ap (λ (x : Name). renamed_over c.in-Some.node c.node_at-replaced.result
     (path_at c.args.host.now.host.files c.in-Some.node)
     (path_at c.args.host.now.host.files c.in-Leaf-target.to ++ x ∷ []) c.args.host.now.host)

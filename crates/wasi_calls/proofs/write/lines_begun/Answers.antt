@@ -1,9 +1,11 @@
 use Rattle.std.proofs.Common.{◌≡◌, length, ap, ◌∙◌, sym}
 use Rattle.std.specs.Prelude.{Ok}
-use Rattle.wasi_calls_rules.specs.Hosts.{Target, Stream, Node, Descriptor}
+use Rattle.wasi_calls_rules.specs.WasiStates.{Target, Stream, Node, Descriptor}
 use Rattle.wasi_calls_rules.specs.Checks.{Bytes, gathered, open_descriptor}
+use Rattle.wasi_calls_rules.specs.declared.output_stream.OutputStream.{OutputStream}
 use Rattle.wasi_calls.specs.Moves.{Wanted}
 use Rattle.wasi_calls.specs.Views.{target_of}
+use Rattle.wasi_calls.specs.Writes.{unfinished_of}
 use Rattle.wasi_calls.specs.rules.Outputs.{count_begun}
 use Rattle.wasi_calls.proofs.Emitted.{write_adds, begun_on}
 use Rattle.wasi_calls.proofs.write.lines_begun.Goals as goal
@@ -13,7 +15,7 @@ returns-in-Stream-clause-count c = λ h done s e.
     let a = c.args.arguments in
     let m = c.args.memory.now.bytes in
     let old = c.args.host.now in
-    let bs = c.in-Ok.buffers in
+    let bs = c.check.new.buffers in
     let passed = c.in-Ok.ensures.passed in
     let d = passed.descriptor in
     let own = c.unwrap.result.now in
@@ -21,12 +23,14 @@ returns-in-Stream-clause-count c = λ h done s e.
     rw c.unwrap.ensures at c.descriptor.ensures.gives in
     let both : Ok own ≡ Ok d = sym is ∙ passed.is_open in
     let same : own ≡ d = cc in
-    let named : d.target ≡ Stream c.in-Stream.stream =
+    let named : d.target ≡ Stream c.in-Stream.number =
     ap (λ (x : Descriptor). x.target) (sym same) ∙ sym c.names.ensures ∙ ap target_of c.in-Stream.is
     in
     let w : Wanted = record { descriptor = d; buffers = bs } in
     let counted = c.count_begun.ensures.value
     ∙ ap (λ (x : Bytes). count_begun (length x) (gathered m bs)) c.unfinished_line.ensures
+    ∙ ap (λ (o : OutputStream). count_begun (length (unfinished_of o old.host)) (gathered m bs))
+    c.output_stream-stream.ensures
     ∙ ap (λ (t : Target). begun_on t (gathered m bs) old.host) (sym named) in
     write_adds a.fd a.iovecs a.count a.ret m old h s w passed.is done c.count_begun.result e counted
 
@@ -35,7 +39,7 @@ returns-in-Node-clause-count c = λ h done s e.
     let a = c.args.arguments in
     let m = c.args.memory.now.bytes in
     let old = c.args.host.now in
-    let bs = c.in-Ok.buffers in
+    let bs = c.check.new.buffers in
     let passed = c.in-Ok.ensures.passed in
     let d = passed.descriptor in
     let own = c.unwrap.result.now in

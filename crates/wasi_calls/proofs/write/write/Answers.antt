@@ -3,11 +3,11 @@ use Rattle.std.specs.Prelude.{Ok}
 use Rattle.std.proofs.lemmas.Result.{err_from_is_err_and}
 use Rattle.wasi_abi.specs.rules.Layouts.{u32_bytes}
 use Rattle.guest_memory.specs.rules.Bytes.{with_part}
-use Rattle.wasi_calls_rules.specs.Hosts.{Host}
+use Rattle.wasi_calls_rules.specs.WasiStates.{WasiState}
 use Rattle.wasi_calls_rules.specs.Checks.{Bytes, gathered}
 use Rattle.wasi_calls_rules.specs.Moving.{target_written}
 use Rattle.wasi_calls.specs.Moves.{total_len}
-use Rattle.wasi_calls.proofs.MovedRows.{write_is, stops_after, cell_put}
+use Rattle.wasi_calls.proofs.MovedCallRules.{write_is, stops_after, cell_put}
 use Rattle.wasi_calls.proofs.write.write.Goals as goal
 
 pub returns-in_err-put-clause-stopped : goal.returns-in_err-put-clause-stopped
@@ -15,14 +15,14 @@ returns-in_err-put-clause-stopped c =
     let a = c.args.arguments in
     let m = c.args.memory.now.bytes in
     let h = c.args.host.now.host in
-    let bs = c.in_ok-buffers.buffers in
-    let passed = c.in_ok-buffers.ensures.passed in
+    let bs = c.check.new.buffers in
+    let passed = c.in_ok-check.ensures.passed in
     let d = passed.descriptor in
     let p = err_from_is_err_and c.from_residual-in_err-put.result
     c.from_residual-in_err-put.ensures.1 in
     rw (p.1, p.2, write_is a.fd a.iovecs a.count a.ret m h, passed.is)
     (stops_after c.in_err-put.field-0.0 (target_written d.target a.fd d (gathered m bs) h)
-    (λ (after : Host). record {
+    (λ (after : WasiState). record {
       memory = with_part m a.ret (u32_bytes (total_len bs));
       host = after;
     })
@@ -33,8 +33,8 @@ returns-clause-done c =
     let a = c.args.arguments in
     let m = c.args.memory.now.bytes in
     let h = c.args.host.now.host in
-    let bs = c.in_ok-buffers.buffers in
-    let passed = c.in_ok-buffers.ensures.passed in
+    let bs = c.check.new.buffers in
+    let passed = c.in_ok-check.ensures.passed in
     let d = passed.descriptor in
     let stored = (rw c.unwrap.ensures at c.store_u32.ensures.stored) in
     let put = cell_put c.args.memory.now c.store_u32.new.self (a.ret + 0) a.ret c.len.result

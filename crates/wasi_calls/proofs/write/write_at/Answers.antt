@@ -3,11 +3,11 @@ use Rattle.std.specs.Prelude.{Ok}
 use Rattle.std.proofs.lemmas.Result.{err_from_is_err_and}
 use Rattle.wasi_abi.specs.rules.Layouts.{u32_bytes}
 use Rattle.guest_memory.specs.rules.Bytes.{with_part}
-use Rattle.wasi_calls_rules.specs.Hosts.{Host}
+use Rattle.wasi_calls_rules.specs.WasiStates.{WasiState}
 use Rattle.wasi_calls_rules.specs.Checks.{Bytes, gathered}
 use Rattle.wasi_calls_rules.specs.Moving.{file_written}
 use Rattle.wasi_calls.specs.Moves.{total_len}
-use Rattle.wasi_calls.proofs.MovedRows.{pwrite_is, stops_after, cell_put}
+use Rattle.wasi_calls.proofs.MovedCallRules.{pwrite_is, stops_after, cell_put}
 use Rattle.wasi_calls.proofs.write.write_at.Goals as goal
 
 pub returns-in_err-write_file-clause-stopped : goal.returns-in_err-write_file-clause-stopped
@@ -15,15 +15,15 @@ returns-in_err-write_file-clause-stopped c =
     let a = c.args.arguments in
     let m = c.args.memory.now.bytes in
     let h = c.args.host.now.host in
-    let bs = c.in_ok-checked.checked.buffers in
-    let passed = c.in_ok-checked.ensures.passed in
-    let named = c.in_ok-checked.ensures.file.named passed.descriptor passed.is_open in
+    let bs = c.check_placed.new.buffers in
+    let passed = c.in_ok-node.ensures.passed in
+    let named = c.in_ok-node.ensures.file.named passed.descriptor passed.is_open in
     let p = err_from_is_err_and c.from_residual-in_err-write_file.result
     c.from_residual-in_err-write_file.ensures.1 in
     rw (p.1, p.2, pwrite_is a.fd a.iovecs a.count a.offset a.ret m h, passed.is, named)
     (stops_after c.in_err-write_file.field-0.0
-    (file_written c.in_ok-checked.checked.node a.offset (gathered m bs) h)
-    (λ (after : Host). record {
+    (file_written c.in_ok-node.node a.offset (gathered m bs) h)
+    (λ (after : WasiState). record {
       memory = with_part m a.ret (u32_bytes (total_len bs));
       host = after;
     })
@@ -34,9 +34,9 @@ returns-clause-done c =
     let a = c.args.arguments in
     let m = c.args.memory.now.bytes in
     let h = c.args.host.now.host in
-    let bs = c.in_ok-checked.checked.buffers in
-    let passed = c.in_ok-checked.ensures.passed in
-    let named = c.in_ok-checked.ensures.file.named passed.descriptor passed.is_open in
+    let bs = c.check_placed.new.buffers in
+    let passed = c.in_ok-node.ensures.passed in
+    let named = c.in_ok-node.ensures.file.named passed.descriptor passed.is_open in
     let len = c.len.ensures.value in
     let stored = (rw c.unwrap.ensures at c.store_u32.ensures.stored) in
     let put = cell_put c.args.memory.now c.store_u32.new.self (a.ret + 0) a.ret c.len.result

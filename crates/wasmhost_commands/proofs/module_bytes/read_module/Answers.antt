@@ -2,7 +2,7 @@ use Rattle.std.proofs.Common.{◌≡◌, ◌∙◌, ◌++◌, ℕ, List, [], Non
 use Rattle.std.specs.Prelude.{IfSome, Option, option_map}
 use Rattle.wasmhost_commands.proofs.module_bytes.read_module.Goals as goal
 
--- the first bytes of the same reader, in an empty row
+-- the first bytes of the same reader, in an empty list
 first_bytes : (a b : Option (List ℕ)) (limit n : ℕ) (old new : List ℕ) → a ≡ b → limit ≡ n
     → old ≡ []
     → IfSome (option_map (take limit) a) (λ xs. new ≡ old ++ xs) → IfSome b (λ xs. new ≡ take n xs)

@@ -1,23 +1,35 @@
-use Rattle.std.proofs.Common.{◌≡◌, []}
+use Rattle.std.proofs.Common.{◌≡◌, ◌*◌, [], arith}
 use Rattle.sector_disk.proofs.Moments.{stays_shows}
-use Rattle.disk_layout.proofs.ReadLemmas.{reads_then}
 use Rattle.disk_layout.specs.declared.reading.contents.Contents.{Contents}
 use Rattle.worker_store.specs.laws.Savepoints.{places}
 use Rattle.worker.proofs.FindingLemmas.{unread_as, marks_there, marks_unread}
 use Rattle.worker.proofs.FoundDiskLemmas.{contents_unread}
-use Rattle.worker.proofs.FindingLemmas.{unread_cause, later_so}
+use Rattle.worker.proofs.FindingLemmas.{searches_on, searches_in_vain}
 use Rattle.worker.proofs.finding.find.Goals as goal
 
-pub returns-in-Ok-clause-reads : goal.returns-in-Ok-clause-reads
-returns-in-Ok-clause-reads g c =
-    reads_then (g.D.Disk.medium c.args.disk.now) (g.D.Disk.medium c.read_worker.new.disk)
-    (g.D.Disk.medium c.find_linked.new.disk) c.in-Ok.ensures.reads c.find_linked.ensures.reads
+pub returns-in-Ok-clause-searches : goal.returns-in-Ok-clause-searches
+returns-in-Ok-clause-searches g c =
+    let old = g.D.Disk.medium c.args.disk.now in
+    let mid = g.D.Disk.medium c.read_worker.new.disk in
+    let leaves = c.in-Ok.ensures.reads.leaves in
+    let same = leaves.passes.sectors in
+    searches_on old.sectors mid.sectors (2 * old.sectors) old mid
+    (g.D.Disk.medium c.find_linked.new.disk) c.find_linked.result (omega (arith, same))
+    c.in-Ok.ensures.reads c.in-Ok.ensures.asks c.find_linked.ensures.searches
+
+pub returns-in-Err-clause-searches : goal.returns-in-Err-clause-searches
+returns-in-Err-clause-searches g c =
+    let old = g.D.Disk.medium c.args.disk.now in
+    searches_in_vain old.sectors (2 * old.sectors) old (g.D.Disk.medium c.read_worker.new.disk)
+    c.in-Err.fault c.from.result (omega arith) c.in-Err.ensures.reads c.in-Err.ensures.asks
+    c.from.ensures c.in-Err.ensures.cause
 
 pub returns-in-Ok-clause-finds : goal.returns-in-Ok-clause-finds
 returns-in-Ok-clause-finds g c = (
   c.in-Ok.contents.wasm,
   λ image shown m config point records last at room.
-      let reads = c.find_linked.ensures.reads in
+      let searches = c.find_linked.ensures.searches in
+      let reads = searches.reads in
       let before = stays_shows (g.D.Disk.medium c.read_worker.new.disk)
       (g.D.Disk.medium c.find_linked.new.disk) reads.stays image shown in
       c.find_linked.ensures.finds image shown m config point records last at
@@ -26,7 +38,8 @@ returns-in-Ok-clause-finds g c = (
 
 pub returns-in-Ok-clause-marks : goal.returns-in-Ok-clause-marks
 returns-in-Ok-clause-marks g c = λ image shown.
-    let reads = c.find_linked.ensures.reads in
+    let searches = c.find_linked.ensures.searches in
+    let reads = searches.reads in
     let before = stays_shows (g.D.Disk.medium c.read_worker.new.disk)
     (g.D.Disk.medium c.find_linked.new.disk) reads.stays image shown in
     marks_there image c.in-Ok.contents c.find_linked.result (c.in-Ok.ensures.marks image before)
@@ -51,7 +64,8 @@ returns-in-Err-clause-marks g c = λ image shown.
 pub returns-in-Ok-clause-shows : goal.returns-in-Ok-clause-shows
 returns-in-Ok-clause-shows g c = λ image shown.
     let was = g.D.Disk.medium c.args.disk.now in
-    let reads = c.find_linked.ensures.reads in
+    let searches = c.find_linked.ensures.searches in
+    let reads = searches.reads in
     let before = stays_shows (g.D.Disk.medium c.read_worker.new.disk)
     (g.D.Disk.medium c.find_linked.new.disk) reads.stays image shown in
     c.find_linked.ensures.shows image shown was.sectors (c.in-Ok.ensures.tells image before)
@@ -61,14 +75,3 @@ returns-in-Err-clause-shows g c = λ image shown.
     let was = g.D.Disk.medium c.args.disk.now in
     contents_unread was.sectors image c.in-Err.fault c.from.result c.from.ensures
     (c.in-Err.ensures.tells image shown)
-
-pub returns-in-Ok-clause-cause : goal.returns-in-Ok-clause-cause
-returns-in-Ok-clause-cause g c =
-    later_so (g.D.Disk.medium c.args.disk.now) (g.D.Disk.medium c.read_worker.new.disk)
-    (g.D.Disk.medium c.find_linked.new.disk) c.in-Ok.ensures.reads c.find_linked.result
-    c.find_linked.ensures.cause
-
-pub returns-in-Err-clause-cause : goal.returns-in-Err-clause-cause
-returns-in-Err-clause-cause g c =
-    unread_cause (g.D.Disk.medium c.args.disk.now) (g.D.Disk.medium c.read_worker.new.disk)
-    c.in-Err.fault c.from.result c.from.ensures c.in-Err.ensures.cause

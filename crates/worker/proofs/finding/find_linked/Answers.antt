@@ -4,7 +4,7 @@ use Rattle.disk_layout.specs.declared.reading.contents.Contents.{Contents}
 use Rattle.worker.specs.Findings.{FindsPoint}
 use Rattle.worker.proofs.RestoringLemmas.{begun_machine, same_module, unaccepted}
 use Rattle.worker.proofs.FoundDiskLemmas.{module_refused, module_held, machine_held}
-use Rattle.worker.proofs.FindingLemmas.{unaccepted_cause}
+use Rattle.worker.proofs.FindingLemmas.{searches_no_more, unaccepted_cause}
 use Rattle.worker.proofs.finding.find_linked.Goals as goal
 
 pub find_saved-requires-clause-begun : goal.find_saved-requires-clause-begun
@@ -43,9 +43,10 @@ pub returns-in-Err-clause-shows : goal.returns-in-Err-clause-shows
 returns-in-Err-clause-shows g c = λ image shown sectors whole.
     module_refused sectors image c.args.contents whole c.pages.result c.as_slice.result.now
     c.pages.ensures.value c.as_slice.ensures c.in-Err.fault c.from.result c.from.ensures
-    c.in-Err.ensures.told c.in-Err.ensures.only
+    c.in-Err.ensures.reported c.in-Err.ensures.only
 
-pub returns-in-Err-clause-cause : goal.returns-in-Err-clause-cause
-returns-in-Err-clause-cause g c =
-    unaccepted_cause (g.D.Disk.medium c.args.disk.now) (g.D.Disk.medium c.args.disk.now)
-    c.in-Err.fault c.from.result c.from.ensures
+pub returns-in-Err-clause-searches : goal.returns-in-Err-clause-searches
+returns-in-Err-clause-searches g c =
+    let m = g.D.Disk.medium c.args.disk.now in
+    searches_no_more m.sectors m c.from.result (unaccepted_cause m m c.in-Err.fault c.from.result
+    c.from.ensures)

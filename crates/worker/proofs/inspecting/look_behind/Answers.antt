@@ -1,4 +1,4 @@
-use Rattle.std.proofs.Common.{sym, subst, arith}
+use Rattle.std.proofs.Common.{sym, subst, arith, refl}
 use Rattle.std.specs.Prelude.{Ok}
 use Rattle.sector_disk.proofs.Moments.{stays_shows}
 use Rattle.disk_layout.specs.declared.reading.contents.Contents.{Contents}
@@ -11,7 +11,7 @@ use Rattle.worker.proofs.inspecting.look_behind.Goals as goal
 pub returns-in-Ok-find_linked-clause-reads : goal.returns-in-Ok-find_linked-clause-reads
 returns-in-Ok-find_linked-clause-reads g c =
     reads_then (g.D.Disk.medium c.args.disk.now) (g.D.Disk.medium c.find_linked.new.disk)
-    (g.D.Disk.medium c.measure-measured.new.disk) c.in-Ok-find_linked.ensures.reads
+    (g.D.Disk.medium c.measure-measured.new.disk) c.in-Ok-find_linked.ensures.searches.reads
     c.measure-measured.ensures.reads
 
 pub returns-in-Ok-find_linked-clause-tells : goal.returns-in-Ok-find_linked-clause-tells
@@ -22,24 +22,26 @@ returns-in-Ok-find_linked-clause-tells g c = λ image shown sectors gives.
     found_is_told sectors image c.in-Ok.kept c.in-Ok-find_linked.found
     (subst (λ (x : Contents). GivesContents sectors image (Ok x)) (sym c.in-Ok.ensures) gives)
     (c.in-Ok-find_linked.ensures.shows image before sectors gives) c.measure-measured.result
-    c.tell_found.result (c.measure-measured.ensures.measures image shown) c.tell_found.ensures
+    c.tell_found.result
+    (c.measure-measured.ensures.measures image shown c.in-Ok-find_linked.found refl refl refl)
+    (c.tell_found.ensures c.in-Ok-find_linked.found refl refl refl)
 
 pub returns-in-Ok-find_linked-clause-cause : goal.returns-in-Ok-find_linked-clause-cause
 returns-in-Ok-find_linked-clause-cause g c =
     let old = g.D.Disk.medium c.args.disk.now in
     let mid = g.D.Disk.medium c.find_linked.new.disk in
     let new = g.D.Disk.medium c.measure-measured.new.disk in
-    let reads = c.in-Ok-find_linked.ensures.reads in
+    let reads = c.in-Ok-find_linked.ensures.searches.reads in
     let leaves = reads.leaves in
     let later = leaves.passes.faults in
     measuring_cause (HasSearchCause old new) c.in-Ok.kept c.in-Ok-find_linked.found
     c.measure-measured.result c.tell_found.result
     (measured_since old mid new c.measure-measured.result later c.measure-measured.ensures.cause)
-    c.tell_found.ensures
+    (c.tell_found.ensures c.in-Ok-find_linked.found refl refl refl)
 
 pub returns-in-Ok-find_linked-clause-asks : goal.returns-in-Ok-find_linked-clause-asks
 returns-in-Ok-find_linked-clause-asks g c =
-    let reads = c.in-Ok-find_linked.ensures.reads in
+    let reads = c.in-Ok-find_linked.ensures.searches.reads in
     let leaves = reads.leaves in
     let same = leaves.passes.sectors in
-    omega (arith, c.in-Ok-find_linked.ensures.asks, c.measure-measured.ensures.asks, same)
+    omega (arith, c.in-Ok-find_linked.ensures.searches.asks, c.measure-measured.ensures.asks, same)

@@ -4,14 +4,14 @@ use Rattle.worker.proofs.recovering.open_next.Goals as goal
 
 pub returns-in_default : goal.returns-in_default
 returns-in_default g c =
-    none_next g.D.Disk.medium c.args.geometry.now c.args.generation c.args.process.now
+    none_next g.D.Disk.medium c.args.last.geometry c.args.last.generation c.args.process.now
     c.args.disk.now (let late = c.in_default.ensures in omega (arith, late))
 
 pub returns-in-Ok : goal.returns-in-Ok
 returns-in-Ok g c =
     let next = c.in-Some.ensures in
     let done = c.in-Ok.ensures in
-    opens_next g.D.Disk.medium c.args.geometry.now c.args.generation c.args.process.now
+    opens_next g.D.Disk.medium c.args.last.geometry c.args.last.generation c.args.process.now
     c.args.disk.now c.in-Some.next next.1 c.reopen.new.disk done.point_or_next done.passes
     done.counts done.some done.asks c.in-Ok.store done.durable done.begun done.numbered done.placed
     done.calls
@@ -20,6 +20,6 @@ pub returns-in-Err : goal.returns-in-Err
 returns-in-Err g c =
     let next = c.in-Some.ensures in
     let failed = c.in-Err.ensures in
-    opens_none g.D.Disk.medium c.args.geometry.now c.args.generation c.args.process.now
+    opens_none g.D.Disk.medium c.args.last.geometry c.args.last.generation c.args.process.now
     c.args.disk.now c.in-Some.next next.1 c.reopen.new.disk failed.point_or_next failed.passes
     failed.counts failed.some failed.asks c.in-Err.fault c.from.result failed.cause c.from.ensures

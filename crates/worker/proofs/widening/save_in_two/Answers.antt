@@ -7,12 +7,12 @@ use Rattle.journal.specs.rules.State.{JournalState}
 use Rattle.process.specs.rules.Values.{ProcessValue}
 use Rattle.worker.specs.rules.Savings.{SaveCalls, HasSaveCause}
 use Rattle.worker.specs.rules.Upgrades.{upgraded}
-use Rattle.worker.specs.Upgrading.{LeftBy}
+use Rattle.worker.specs.Upgrading.{AfterFault}
 use Rattle.worker.proofs.SavingLemmas.{barrier_saves, commit_saves, commit_saved}
 use Rattle.worker.proofs.SavingLemmas.{barrier_calls_begun, commit_calls_behind}
 use Rattle.worker.proofs.SavingLemmas.{barrier_fails}
 use Rattle.worker.proofs.SavingLemmas.{commit_fails, still_room}
-use Rattle.worker.proofs.SavingInTwoLemmas.{left_same, left_by_commit, late_fails, late_cause}
+use Rattle.worker.proofs.SavingInTwoLemmas.{fault_same, fault_of_commit, late_fails, late_cause}
 use Rattle.worker.proofs.SavingInTwoLemmas.{late_runs, bars_and_commits}
 use Rattle.worker.proofs.StoreTurnLemmas.{barrier_went, barrier_failed, commit_runs}
 use Rattle.worker.proofs.StoreTurnLemmas.{saves_join, barrier_save_cause}
@@ -21,60 +21,60 @@ use Rattle.worker.proofs.widening.save_in_two.Goals as goal
 
 -- ---- the barrier fails
 
-pub returns-in-Err-clause-left : goal.returns-in-Err-clause-left
-returns-in-Err-clause-left g c = left_same c.in-Err.fault c.args.store.now c.args.process.now
+pub returns-in-Err-clause-after_fault : goal.returns-in-Err-clause-after_fault
+returns-in-Err-clause-after_fault g c = fault_same c.in-Err.fault c.args.store.now
+    c.args.process.now
 
 pub returns-in-Err-clause-any_moment : goal.returns-in-Err-clause-any_moment
 returns-in-Err-clause-any_moment g c =
     barrier_saves g.D.Disk.medium c.args.store.now c.args.process.now c.args.disk.now
-    c.barrier.new.disk c.in-Err.ensures.any_moment
+    c.barrier.new.disk c.in-Err.ensures.stores.any_moment
 
 pub returns-in-Err-clause-bars : goal.returns-in-Err-clause-bars
-returns-in-Err-clause-bars g c = inl c.in-Err.ensures.any_moment
+returns-in-Err-clause-bars g c = inl c.in-Err.ensures.stores.any_moment
 
 pub returns-in-Err-clause-calls : goal.returns-in-Err-clause-calls
 returns-in-Err-clause-calls g c =
-    let made = c.in-Err.ensures.calls in
+    let made = c.in-Err.ensures.stores.calls in
     barrier_calls_begun c.args.store.now (upgraded c.args.process.now) c.in-Err.fault
     (g.D.Disk.medium c.args.disk.now) (g.D.Disk.medium c.barrier.new.disk) made.begun
 
 pub returns-in-Err-clause-cause : goal.returns-in-Err-clause-cause
 returns-in-Err-clause-cause g c =
     barrier_fails c.args.store.now c.args.process.now (g.D.Disk.medium c.args.disk.now)
-    (g.D.Disk.medium c.barrier.new.disk) c.in-Err.fault c.in-Err.ensures.cause
+    (g.D.Disk.medium c.barrier.new.disk) c.in-Err.fault c.in-Err.ensures.stores.cause
 
 pub returns-in-Err-clause-runs : goal.returns-in-Err-clause-runs
 returns-in-Err-clause-runs g c =
     let failed = c.in-Err.ensures in
     barrier_failed g.D.Disk.medium c.args.store.now c.barrier.new.self c.args.disk.now
-    c.barrier.new.disk failed.stays failed.passes failed.counts c.in-Err.fault failed.full
-    failed.cause failed.calls.begun
+    c.barrier.new.disk c.in-Err.fault failed.stores failed.full
 
 pub returns-in-Err-clause-on_any_disk : goal.returns-in-Err-clause-on_any_disk
 returns-in-Err-clause-on_any_disk g c =
     barrier_save_cause c.args.store.now (upgraded c.args.process.now)
     (g.D.Disk.medium c.args.disk.now) (g.D.Disk.medium c.barrier.new.disk) c.in-Err.fault
-    c.in-Err.ensures.cause
+    c.in-Err.ensures.stores.cause
 
 -- ---- the next generation has no number
 
-pub returns-in-Err-widen-clause-left : goal.returns-in-Err-widen-clause-left
-returns-in-Err-widen-clause-left g c =
-    subst (λ (w : ProcessValue). LeftBy c.in-Err-widen.fault c.args.store.now c.args.process.now w)
-    (sym (c.in-Err-widen.ensures.same ∙ c.release_none.ensures.same))
-    (left_same c.in-Err-widen.fault c.args.store.now c.args.process.now)
+pub returns-in-Err-widen-clause-after_fault : goal.returns-in-Err-widen-clause-after_fault
+returns-in-Err-widen-clause-after_fault g c =
+    subst (λ (w : ProcessValue). AfterFault c.in-Err-widen.fault c.args.store.now
+    c.args.process.now w) (sym (c.in-Err-widen.ensures.same ∙ c.release_none.ensures.same))
+    (fault_same c.in-Err-widen.fault c.args.store.now c.args.process.now)
 
 pub returns-in-Err-widen-clause-any_moment : goal.returns-in-Err-widen-clause-any_moment
 returns-in-Err-widen-clause-any_moment g c =
     barrier_saves g.D.Disk.medium c.args.store.now c.widen.new.process c.args.disk.now
-    c.barrier.new.disk c.in_default.ensures.any_moment
+    c.barrier.new.disk c.in_default.ensures.stores.any_moment
 
 pub returns-in-Err-widen-clause-bars : goal.returns-in-Err-widen-clause-bars
-returns-in-Err-widen-clause-bars g c = inl c.in_default.ensures.any_moment
+returns-in-Err-widen-clause-bars g c = inl c.in_default.ensures.stores.any_moment
 
 pub returns-in-Err-widen-clause-calls : goal.returns-in-Err-widen-clause-calls
 returns-in-Err-widen-clause-calls g c =
-    let made = c.in_default.ensures.calls in
+    let made = c.in_default.ensures.stores.calls in
     barrier_calls_begun c.args.store.now (upgraded c.args.process.now) c.in-Err-widen.fault
     (g.D.Disk.medium c.args.disk.now) (g.D.Disk.medium c.barrier.new.disk) made.begun
 
@@ -82,7 +82,8 @@ pub returns-in-Err-widen-clause-cause : goal.returns-in-Err-widen-clause-cause
 returns-in-Err-widen-clause-cause g c =
     late_fails c.args.store.now c.barrier.new.self c.widen.new.process
     (g.D.Disk.medium c.args.disk.now) (g.D.Disk.medium c.barrier.new.disk) c.generation.result
-    c.generation.ensures c.in_default.ensures.stays c.in-Err-widen.ensures.late c.in-Err-widen.fault
+    c.generation.ensures c.in_default.ensures.stores.stays c.in-Err-widen.ensures.late
+    c.in-Err-widen.fault
     c.in-Err-widen.ensures.fails
 
 pub returns-in-Err-widen-clause-runs : goal.returns-in-Err-widen-clause-runs
@@ -91,14 +92,15 @@ returns-in-Err-widen-clause-runs g c =
     late_runs c.args.store.now c.barrier.new.self (g.D.Disk.medium c.args.disk.now)
     (g.D.Disk.medium c.barrier.new.disk)
     (barrier_went g.D.Disk.medium c.args.store.now c.barrier.new.self c.args.disk.now
-    c.barrier.new.disk done.stays done.passes done.counts tt done.full done.stored done.quiet
-    done.settled done.calls.all) c.in-Err-widen.fault c.in-Err-widen.ensures.fails
+    c.barrier.new.disk tt done.stores done.full done.quiet) c.in-Err-widen.fault
+    c.in-Err-widen.ensures.fails
 
 pub returns-in-Err-widen-clause-on_any_disk : goal.returns-in-Err-widen-clause-on_any_disk
 returns-in-Err-widen-clause-on_any_disk g c =
     late_cause c.args.store.now c.barrier.new.self (upgraded c.args.process.now)
     (g.D.Disk.medium c.args.disk.now) (g.D.Disk.medium c.barrier.new.disk) c.generation.result
-    c.generation.ensures c.in_default.ensures.stays c.in-Err-widen.ensures.late c.in-Err-widen.fault
+    c.generation.ensures c.in_default.ensures.stores.stays c.in-Err-widen.ensures.late
+    c.in-Err-widen.fault
     c.in-Err-widen.ensures.fails
 
 -- ---- the commit
@@ -106,91 +108,90 @@ returns-in-Err-widen-clause-on_any_disk g c =
 pub commit-requires : goal.commit-requires
 commit-requires g c =
     still_room c.args.store.now c.barrier.new.self (g.D.Disk.medium c.args.disk.now)
-    (g.D.Disk.medium c.barrier.new.disk) c.in_default.ensures.stays c.in_default.ensures.passes
+    (g.D.Disk.medium c.barrier.new.disk) c.in_default.ensures.stores.stays
+    c.in_default.ensures.stores.passes
     c.requires.sectors
 
 pub returns-clause-done : goal.returns-clause-done
 returns-clause-done g c =
     on_ok_weaker c.commit.result
     (λ done. c.in_default-widen.ensures.done ∙ ap upgraded c.release_none.ensures.same)
-    c.commit.ensures.durable
+    c.commit.ensures.commits.durable
 
-pub returns-clause-left : goal.returns-clause-left
-returns-clause-left g c =
-    left_by_commit c.args.store.now c.barrier.new.self c.args.process.now c.widen.new.process
+pub returns-clause-after_fault : goal.returns-clause-after_fault
+returns-clause-after_fault g c =
+    fault_of_commit c.args.store.now c.barrier.new.self c.args.process.now c.widen.new.process
     (g.D.Disk.medium c.barrier.new.disk) (g.D.Disk.medium c.commit.new.disk)
-    c.in_default.ensures.stays
+    c.in_default.ensures.stores.stays
     (c.in_default-widen.ensures.done ∙ ap upgraded c.release_none.ensures.same)
     (subst (λ n. n + 1 < NUMBERS_END) c.generation.ensures c.in_default-widen.ensures.counted)
-    c.commit.result c.commit.ensures.cause
+    c.commit.result c.commit.ensures.commits.cause
 
 pub returns-clause-any_moment : goal.returns-clause-any_moment
 returns-clause-any_moment g c =
     commit_saves g.D.Disk.medium c.args.store.now c.widen.new.process c.args.disk.now
-    c.barrier.new.disk c.in_default.ensures.any_moment c.barrier.new.self c.commit.new.disk
-    c.in_default.ensures.durable c.commit.ensures.any_moment
+    c.barrier.new.disk c.in_default.ensures.stores.any_moment c.barrier.new.self c.commit.new.disk
+    c.in_default.ensures.stores.durable c.commit.ensures.commits.any_moment
 
 pub returns-clause-bars : goal.returns-clause-bars
 returns-clause-bars g c =
-    let made = c.in_default.ensures.calls in
+    let made = c.in_default.ensures.stores.calls in
     bars_and_commits g.D.Disk.medium c.args.store.now c.barrier.new.self c.args.process.now
     c.widen.new.process c.args.disk.now c.barrier.new.disk c.commit.new.disk made.all
-    c.in_default.ensures.any_moment c.in_default.ensures.durable
+    c.in_default.ensures.stores.any_moment c.in_default.ensures.stores.durable
     (c.in_default-widen.ensures.done ∙ ap upgraded c.release_none.ensures.same)
-    c.commit.ensures.any_moment
+    c.commit.ensures.commits.any_moment
 
 pub returns-clause-durable : goal.returns-clause-durable
 returns-clause-durable g c =
     on_ok_weaker c.commit.result
     (commit_saved g.D.Disk.medium c.args.store.now c.widen.new.process c.args.disk.now
-    c.barrier.new.disk c.in_default.ensures.any_moment c.barrier.new.self c.commit.new.disk
-    c.in_default.ensures.durable c.commit.new.self) c.commit.ensures.durable
+    c.barrier.new.disk c.in_default.ensures.stores.any_moment c.barrier.new.self c.commit.new.disk
+    c.in_default.ensures.stores.durable c.commit.new.self) c.commit.ensures.commits.durable
 
 pub returns-clause-numbered : goal.returns-clause-numbered
 returns-clause-numbered g c =
-    let stays = c.in_default.ensures.stays in
+    let stays = c.in_default.ensures.stores.stays in
     on_ok_weaker c.commit.result (λ next. next ∙ ap (λ n. n + 1) stays.generation)
-    c.commit.ensures.numbered
+    c.commit.ensures.commits.numbered
 
 pub returns-clause-unnumbered : goal.returns-clause-unnumbered
 returns-clause-unnumbered g c =
-    let stays = c.in_default.ensures.stays in
+    let stays = c.in_default.ensures.stores.stays in
     on_err_weaker c.commit.result
     (λ same. ap (λ (j : JournalState). j.generation) same ∙ stays.generation)
-    c.commit.ensures.unchanged
+    c.commit.ensures.commits.unchanged
 
 pub returns-clause-calls : goal.returns-clause-calls
 returns-clause-calls g c =
-    let made = c.in_default.ensures.calls in
+    let made = c.in_default.ensures.stores.calls in
     subst (λ (v : ProcessValue). SaveCalls c.args.store.now v c.commit.result
     (g.D.Disk.medium c.args.disk.now) (g.D.Disk.medium c.commit.new.disk))
     (c.in_default-widen.ensures.done ∙ ap upgraded c.release_none.ensures.same)
     (commit_calls_behind c.args.store.now c.barrier.new.self c.widen.new.process
     c.commit.result (g.D.Disk.medium c.args.disk.now) (g.D.Disk.medium c.barrier.new.disk)
-    (g.D.Disk.medium c.commit.new.disk) c.in_default.ensures.stays made.all
-    c.commit.ensures.calls)
+    (g.D.Disk.medium c.commit.new.disk) c.in_default.ensures.stores.stays made.all
+    c.commit.ensures.commits.calls)
 
 pub returns-clause-cause : goal.returns-clause-cause
 returns-clause-cause g c =
     commit_fails c.args.store.now c.barrier.new.self c.widen.new.process
     (g.D.Disk.medium c.args.disk.now) (g.D.Disk.medium c.barrier.new.disk)
-    (g.D.Disk.medium c.commit.new.disk) c.in_default.ensures.durable c.in_default.ensures.stays
-    c.in_default.ensures.passes c.commit.result c.commit.ensures.cause
+    (g.D.Disk.medium c.commit.new.disk) c.in_default.ensures.stores.durable
+    c.in_default.ensures.stores.stays
+    c.in_default.ensures.stores.passes c.commit.result c.commit.ensures.commits.cause
 
 pub returns-clause-runs : goal.returns-clause-runs
 returns-clause-runs g c =
     let old = c.args.store.now in
     let done = c.in_default.ensures in
-    let put = c.commit.ensures in
     saves_join old c.barrier.new.self c.commit.new.self (g.D.Disk.medium c.args.disk.now)
     (g.D.Disk.medium c.barrier.new.disk) (g.D.Disk.medium c.commit.new.disk) c.commit.result
     (barrier_went g.D.Disk.medium old c.barrier.new.self c.args.disk.now c.barrier.new.disk
-    done.stays done.passes done.counts tt done.full done.stored done.quiet done.settled
-    done.calls.all)
+    tt done.stores done.full done.quiet)
     (commit_runs c.barrier.new.self c.commit.new.self c.widen.new.process
-    (g.D.Disk.medium c.barrier.new.disk) (g.D.Disk.medium c.commit.new.disk) put.passes
-    put.counts put.stays
-    c.commit.result put.begun put.unchanged put.settled put.cause put.calls)
+    (g.D.Disk.medium c.barrier.new.disk) (g.D.Disk.medium c.commit.new.disk) c.commit.result
+    c.commit.ensures.commits)
 
 pub returns-clause-on_any_disk : goal.returns-clause-on_any_disk
 returns-clause-on_any_disk g c =
@@ -203,16 +204,15 @@ returns-clause-on_any_disk g c =
     (g.D.Disk.medium c.args.disk.now)
     (g.D.Disk.medium c.barrier.new.disk) (g.D.Disk.medium c.commit.new.disk)
     (barrier_went g.D.Disk.medium old c.barrier.new.self c.args.disk.now c.barrier.new.disk
-    done.stays done.passes done.counts tt done.full done.stored done.quiet done.settled
-    done.calls.all)
-    done.stays c.commit.result c.commit.ensures.cause)
+    tt done.stores done.full done.quiet)
+    done.stores.stays c.commit.result c.commit.ensures.commits.cause)
 
 pub returns-clause-stays : goal.returns-clause-stays
 returns-clause-stays g c =
-    let stays = c.in_default.ensures.stays in c.commit.ensures.stays ∙ stays.geometry
+    let stays = c.in_default.ensures.stores.stays in c.commit.ensures.commits.stays ∙ stays.geometry
 
 pub returns-clause-passes : goal.returns-clause-passes
 returns-clause-passes g c =
     goes_on (g.D.Disk.medium c.args.disk.now) (g.D.Disk.medium c.barrier.new.disk)
     (g.D.Disk.medium c.commit.new.disk) (λ image. Unit {0}) (λ image. Unit {0})
-    c.in_default.ensures.passes c.commit.ensures.passes (λ image at. tt)
+    c.in_default.ensures.stores.passes c.commit.ensures.commits.passes (λ image at. tt)

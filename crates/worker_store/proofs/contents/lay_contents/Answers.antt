@@ -3,10 +3,10 @@ use Rattle.std.proofs.lemmas.Result.{on_ok_weaker}
 use Rattle.sector_disk.proofs.CountLemmas.{counts_more, counts_then}
 use Rattle.worker_store.specs.rules.Creations.{behind_sectors, contents_calls}
 use Rattle.worker_store.proofs.CreationLemmas.{zeros_leave_blank, zeros_leave_none, blank_on}
-use Rattle.worker_store.proofs.CreationLemmas.{both_leave_none, none_left, synced_none}
+use Rattle.worker_store.proofs.CreationLemmas.{both_leave_none, none_crashed, synced_none}
 use Rattle.worker_store.proofs.CreationLemmas.{synced_awaits, err_calls, contents_first}
 use Rattle.worker_store.proofs.CreationLemmas.{contents_second, contents_all, cause_behind}
-use Rattle.worker_store.proofs.UnsyncedLemmas.{settled_then}
+use Rattle.worker_store.proofs.UnsyncedLemmas.{synced_then}
 use Rattle.worker_store.proofs.contents.lay_contents.Goals as goal
 
 pub returns-in_err-store_run-clause-blank : goal.returns-in_err-store_run-clause-blank
@@ -46,7 +46,7 @@ returns-in_err-write_behind-clause-cause g c is_err =
     let p = leaves.passes in
     cause_behind (behind_sectors c.args.geometry.now) (g.D.Disk.medium c.args.disk.now)
     (g.D.Disk.medium c.store_run.new.disk) (g.D.Disk.medium c.write_behind.new.disk)
-    c.in_ok-store_run.ensures.settled p.room p.faults (c.in_err-write_behind.ensures.cause refl)
+    c.in_ok-store_run.ensures.all_synced p.room p.faults (c.in_err-write_behind.ensures.cause refl)
 
 pub returns-clause-blank : goal.returns-clause-blank
 returns-clause-blank g c all =
@@ -58,7 +58,8 @@ returns-clause-blank g c all =
     (zeros_leave_none old mid c.in_ok-store_run.ensures.stored) in
     blank_on old mid new (zeros_leave_blank old mid all c.store_run.ensures.any_moment)
     (both_leave_none mid next new behind
-    (synced_none next new (none_left mid next behind) c.sync.ensures.stays c.sync.ensures.passes))
+    (synced_none next new (none_crashed mid next behind) c.sync.ensures.stays
+    c.sync.ensures.passes))
 
 pub returns-clause-awaits : goal.returns-clause-awaits
 returns-clause-awaits g c settings spelled placed =
@@ -67,10 +68,10 @@ returns-clause-awaits g c settings spelled placed =
     let next = g.D.Disk.medium c.write_behind.new.disk in
     let new = g.D.Disk.medium c.sync.new.self in
     on_ok_weaker c.sync.result
-    (λ settled. synced_awaits settings c.args.wasm.now next new
+    (λ all_synced. synced_awaits settings c.args.wasm.now next new
     (c.in_ok-write_behind.ensures.awaits settings spelled placed
-    (zeros_leave_none old mid c.in_ok-store_run.ensures.stored)) c.sync.ensures.stays settled)
-    c.sync.ensures.settles
+    (zeros_leave_none old mid c.in_ok-store_run.ensures.stored)) c.sync.ensures.stays all_synced)
+    c.sync.ensures.all_synced
 
 pub returns-clause-none : goal.returns-clause-none
 returns-clause-none g c =
@@ -81,9 +82,9 @@ returns-clause-none g c =
     let behind = c.write_behind.ensures.none
     (zeros_leave_none old mid c.in_ok-store_run.ensures.stored) in
     on_ok_weaker c.sync.result
-    (λ settled. none_left next new
-    (synced_none next new (none_left mid next behind) c.sync.ensures.stays c.sync.ensures.passes))
-    c.sync.ensures.settles
+    (λ all_synced. none_crashed next new
+    (synced_none next new (none_crashed mid next behind) c.sync.ensures.stays
+    c.sync.ensures.passes)) c.sync.ensures.all_synced
 
 pub returns-clause-calls : goal.returns-clause-calls
 returns-clause-calls g c =
@@ -105,9 +106,9 @@ returns-in_err-write_behind-clause-counts g c =
     let many : ℕ = behind_sectors c.args.geometry.now in
     let leaves = c.store_run.ensures.any_moment in
     let p = leaves.passes in
-    settled_then (old.unsynced + 1) many (max (old.unsynced + 1) many) old
+    synced_then (old.unsynced + 1) many (max (old.unsynced + 1) many) old
     (g.D.Disk.medium c.store_run.new.disk) (g.D.Disk.medium c.write_behind.new.disk)
-    c.in_ok-store_run.ensures.settled (omega arith) (omega arith) p.later
+    c.in_ok-store_run.ensures.all_synced (omega arith) (omega arith) p.later
     c.store_run.ensures.counts c.write_behind.ensures.counts
 
 pub returns-clause-counts : goal.returns-clause-counts
@@ -121,10 +122,10 @@ returns-clause-counts g c =
     let p = leaves.passes in
     let q = c.write_behind.ensures.passes in
     let most : ℕ = max (old.unsynced + 1) many in
-    let settled = c.in_ok-store_run.ensures.settled in
-    let none = settled.unsynced in
+    let all_synced = c.in_ok-store_run.ensures.all_synced in
+    let none = all_synced.unsynced in
     let few = c.in_ok-write_behind.ensures.unsynced in
     counts_then most next.unsynced most old next new (omega arith) (omega (arith, none, few))
     (omega (arith, p.later, q.later))
-    (settled_then (old.unsynced + 1) many most old mid next settled (omega arith) (omega arith)
+    (synced_then (old.unsynced + 1) many most old mid next all_synced (omega arith) (omega arith)
     p.later c.store_run.ensures.counts c.write_behind.ensures.counts) c.sync.ensures.counts

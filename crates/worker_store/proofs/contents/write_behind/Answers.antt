@@ -4,7 +4,7 @@ use Rattle.std.proofs.Common.{arith}
 use Rattle.std.proofs.lemmas.List.{length-replicate}
 use Rattle.std.proofs.lemmas.Result.{on_ok_weaker}
 use Rattle.sector_disk.specs.rules.Calls.{rising_writes}
-use Rattle.sector_disk.specs.rules.Medium.{BeginsCalls, MakesCalls}
+use Rattle.sector_disk.specs.rules.Medium.{BeginsCalls, PerformsCalls}
 use Rattle.sector_disk.proofs.CountLemmas.{counts_more}
 use Rattle.sector_disk.proofs.Moments.{shows_follow}
 use Rattle.disk_layout.specs.rules.Contents.{contents_sectors}
@@ -82,10 +82,11 @@ returns-clause-calls g c =
     behind_all geometry c.write_zeros.result old mid next new
     (subst (λ n. mid.calls ≡ rising_writes 3 n ++ old.calls) (sym c.requires.module_sectors)
     c.in_ok-write_contents.ensures.calls.all) c.in_ok-write_run.ensures.calls.all
-    (subst (λ k. MakesCalls (rising_writes k geometry.journal_sectors) c.write_zeros.result next
+    (subst (λ k. PerformsCalls (rising_writes k geometry.journal_sectors) c.write_zeros.result next
     new) c.journal_place.ensures
-    (subst (λ n. MakesCalls (rising_writes c.journal_place.result n) c.write_zeros.result next new)
-    (length-replicate geometry.journal_sectors zero_sector) c.write_zeros.ensures.calls))
+    (subst (λ n. PerformsCalls (rising_writes c.journal_place.result n)
+    c.write_zeros.result next new) (length-replicate geometry.journal_sectors zero_sector)
+    c.write_zeros.ensures.calls))
 
 pub returns-clause-asks : goal.returns-clause-asks
 returns-clause-asks g c =

@@ -1,7 +1,7 @@
 use Rattle.std.proofs.Common.{◌+◌, max, length, arith}
 use Rattle.sector_disk.proofs.CountLemmas.{counts_more}
 use Rattle.wasi_abi.specs.rules.Versions.{version_number}
-use Rattle.state_image.specs.rules.Image.{image}
+use Rattle.state_image.specs.rules.ProcessImage.{process_image}
 use Rattle.state_image.specs.rules.Saving.{saved_of}
 use Rattle.disk_layout.specs.rules.Unsynced.{most_unsynced}
 use Rattle.worker_store.specs.rules.Creations.{behind_sectors, creation_calls}
@@ -9,7 +9,7 @@ use Rattle.worker_store.proofs.CreationLemmas.{blank_on, err_calls}
 use Rattle.worker_store.proofs.FirstLemmas.{commit_leaves_none, blank_or_first, super_leaves}
 use Rattle.worker_store.proofs.FirstLemmas.{super_stands, creation_first, creation_second}
 use Rattle.worker_store.proofs.FirstLemmas.{creation_third, creation_all}
-use Rattle.worker_store.proofs.LayingCounts.{image_counts_behind, super_counts_behind}
+use Rattle.worker_store.proofs.LayingCounts.{process_image_counts_behind, super_counts_behind}
 use Rattle.worker_store.proofs.creation.lay_worker.Goals as goal
 
 pub returns-in_err-lay_contents-clause-any_moment :
@@ -22,7 +22,7 @@ pub returns-in_err-lay_contents-clause-calls : goal.returns-in_err-lay_contents-
 returns-in_err-lay_contents-clause-calls g c =
     let old = g.D.Disk.medium c.args.disk.now in
     let mid = g.D.Disk.medium c.lay_contents.new.disk in
-    let count = length (image (saved_of c.args.process.now)) in
+    let count = length (process_image (saved_of c.args.process.now)) in
     err_calls (creation_calls c.args.geometry.now count) c.from_residual.result old mid
     c.from_residual.ensures.0
     (creation_first c.args.geometry.now count old mid c.lay_contents.ensures.calls.begun)
@@ -36,7 +36,7 @@ returns-in_err-write_snapshot-clause-any_moment g c settings spelled placed =
     blank_or_first settings c.args.wasm.now c.args.process.now old next
     (λ all. blank_on old mid next (c.lay_contents.ensures.blank all)
     (commit_leaves_none c.args.geometry.now (version_number (saved_of c.args.process.now).version)
-    (image (saved_of c.args.process.now)) mid
+    (process_image (saved_of c.args.process.now)) mid
     next c.in_ok-lay_contents.ensures.none c.write_snapshot.ensures.any_moment))
 
 pub returns-in_err-write_snapshot-clause-calls : goal.returns-in_err-write_snapshot-clause-calls
@@ -44,7 +44,7 @@ returns-in_err-write_snapshot-clause-calls g c =
     let old = g.D.Disk.medium c.args.disk.now in
     let mid = g.D.Disk.medium c.lay_contents.new.disk in
     let next = g.D.Disk.medium c.write_snapshot.new.disk in
-    let count = length (image (saved_of c.args.process.now)) in
+    let count = length (process_image (saved_of c.args.process.now)) in
     err_calls (creation_calls c.args.geometry.now count)
     c.from_residual-in_err-write_snapshot.result
     old next c.from_residual-in_err-write_snapshot.ensures.0
@@ -62,7 +62,7 @@ returns-in_err-write_super-clause-any_moment g c settings spelled placed m point
     c.digest_of-digest.ensures
     (λ all. blank_on old mid next (c.lay_contents.ensures.blank all)
     (commit_leaves_none c.args.geometry.now (version_number (saved_of c.args.process.now).version)
-    (image (saved_of c.args.process.now)) mid
+    (process_image (saved_of c.args.process.now)) mid
     next c.in_ok-lay_contents.ensures.none c.write_snapshot.ensures.any_moment))
     (c.in_ok-lay_contents.ensures.awaits settings spelled placed)
     c.in_ok-write_snapshot.ensures.done c.write_super.ensures.any_moment
@@ -73,7 +73,7 @@ returns-in_err-write_super-clause-calls g c =
     let mid = g.D.Disk.medium c.lay_contents.new.disk in
     let next = g.D.Disk.medium c.write_snapshot.new.disk in
     let new = g.D.Disk.medium c.write_super.new.disk in
-    let count = length (image (saved_of c.args.process.now)) in
+    let count = length (process_image (saved_of c.args.process.now)) in
     let made = c.in_ok-write_snapshot.ensures.calls in
     err_calls (creation_calls c.args.geometry.now count) c.from_residual-in_err-write_super.result
     old new c.from_residual-in_err-write_super.ensures.0
@@ -92,7 +92,7 @@ returns-clause-any_moment g c settings spelled placed m point first =
     c.digest_of-digest.ensures
     (λ all. blank_on old mid next (c.lay_contents.ensures.blank all)
     (commit_leaves_none c.args.geometry.now (version_number (saved_of c.args.process.now).version)
-    (image (saved_of c.args.process.now)) mid
+    (process_image (saved_of c.args.process.now)) mid
     next c.in_ok-lay_contents.ensures.none c.write_snapshot.ensures.any_moment))
     (c.in_ok-lay_contents.ensures.awaits settings spelled placed)
     c.in_ok-write_snapshot.ensures.done c.write_super.ensures.any_moment
@@ -112,7 +112,7 @@ returns-clause-calls g c =
     let mid = g.D.Disk.medium c.lay_contents.new.disk in
     let next = g.D.Disk.medium c.write_snapshot.new.disk in
     let new = g.D.Disk.medium c.write_super.new.disk in
-    let count = length (image (saved_of c.args.process.now)) in
+    let count = length (process_image (saved_of c.args.process.now)) in
     let made = c.in_ok-write_snapshot.ensures.calls in
     let all = creation_all c.args.geometry.now count old mid next new
     c.in_ok-lay_contents.ensures.calls.all made.0 made.1 made.2.all
@@ -129,9 +129,9 @@ returns-in_err-lay_contents-clause-counts g c =
 
 pub returns-in_err-write_snapshot-clause-counts : goal.returns-in_err-write_snapshot-clause-counts
 returns-in_err-write_snapshot-clause-counts g c =
-    image_counts_behind c.args.geometry.now (g.D.Disk.medium c.args.disk.now)
+    process_image_counts_behind c.args.geometry.now (g.D.Disk.medium c.args.disk.now)
     (g.D.Disk.medium c.lay_contents.new.disk) (g.D.Disk.medium c.write_snapshot.new.disk)
-    c.in_ok-lay_contents.ensures.settled c.lay_contents.ensures.passes
+    c.in_ok-lay_contents.ensures.all_synced c.lay_contents.ensures.passes
     c.lay_contents.ensures.counts c.write_snapshot.ensures.counts
 
 pub returns-in_err-write_super-clause-counts : goal.returns-in_err-write_super-clause-counts
@@ -139,9 +139,9 @@ returns-in_err-write_super-clause-counts g c =
     let leaves = c.write_snapshot.ensures.any_moment in
     super_counts_behind c.args.geometry.now (g.D.Disk.medium c.args.disk.now)
     (g.D.Disk.medium c.lay_contents.new.disk) (g.D.Disk.medium c.write_snapshot.new.disk)
-    c.in_ok-lay_contents.ensures.settled c.lay_contents.ensures.passes
+    c.in_ok-lay_contents.ensures.all_synced c.lay_contents.ensures.passes
     c.lay_contents.ensures.counts c.write_snapshot.ensures.counts
-    (g.D.Disk.medium c.write_super.new.disk) c.in_ok-write_snapshot.ensures.settled
+    (g.D.Disk.medium c.write_super.new.disk) c.in_ok-write_snapshot.ensures.all_synced
     (let p = leaves.passes in p.later)
     c.write_super.ensures.counts
 
@@ -150,8 +150,8 @@ returns-clause-counts g c =
     let leaves = c.write_snapshot.ensures.any_moment in
     super_counts_behind c.args.geometry.now (g.D.Disk.medium c.args.disk.now)
     (g.D.Disk.medium c.lay_contents.new.disk) (g.D.Disk.medium c.write_snapshot.new.disk)
-    c.in_ok-lay_contents.ensures.settled c.lay_contents.ensures.passes
+    c.in_ok-lay_contents.ensures.all_synced c.lay_contents.ensures.passes
     c.lay_contents.ensures.counts c.write_snapshot.ensures.counts
-    (g.D.Disk.medium c.write_super.new.disk) c.in_ok-write_snapshot.ensures.settled
+    (g.D.Disk.medium c.write_super.new.disk) c.in_ok-write_snapshot.ensures.all_synced
     (let p = leaves.passes in p.later)
     c.write_super.ensures.counts

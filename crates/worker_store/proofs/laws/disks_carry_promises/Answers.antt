@@ -1,6 +1,6 @@
 use Rattle.worker_store.proofs.LawLemmas.Carrying.{carried_keeps, barrier_carries}
 use Rattle.worker_store.proofs.LawLemmas.Carrying.{barrier_carries_on}
-use Rattle.worker_store.proofs.LawLemmas.Carrying.{commit_carries, standing_carries}
+use Rattle.worker_store.proofs.LawLemmas.Carrying.{commit_carries, savepoint_carries}
 use Rattle.worker_store.proofs.LawLemmas.Carrying.{creation_carries}
 use Rattle.worker_store.proofs.LawLemmas.Carrying.{begins_carried}
 use Rattle.worker_store.proofs.LawLemmas.Carrying.{stays_carried}
@@ -12,14 +12,14 @@ returns-clause-keeps g c = carried_keeps g.D.Disk.medium
 pub returns-clause-barrier : goal.returns-clause-barrier
 returns-clause-barrier g c = barrier_carries g.D.Disk.medium
 
-pub returns-clause-settled : goal.returns-clause-settled
-returns-clause-settled g c = barrier_carries_on g.D.Disk.medium
+pub returns-clause-durable : goal.returns-clause-durable
+returns-clause-durable g c = barrier_carries_on g.D.Disk.medium
 
 pub returns-clause-commit : goal.returns-clause-commit
 returns-clause-commit g c = commit_carries g.D.Disk.medium
 
-pub returns-clause-standing : goal.returns-clause-standing
-returns-clause-standing g c = standing_carries g.D.Disk.medium
+pub returns-clause-savepoint : goal.returns-clause-savepoint
+returns-clause-savepoint g c = savepoint_carries g.D.Disk.medium
 
 pub returns-clause-creation : goal.returns-clause-creation
 returns-clause-creation g c = creation_carries g.D.Disk.medium

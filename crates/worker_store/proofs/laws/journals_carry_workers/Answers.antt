@@ -6,8 +6,8 @@ use Rattle.worker_store.proofs.laws.journals_carry_workers.Goals as goal
 pub returns-clause-barrier : goal.returns-clause-barrier
 returns-clause-barrier g c = barrier_at_any_moment g.D.Disk.medium
 
-pub returns-clause-settled : goal.returns-clause-settled
-returns-clause-settled g c = barrier_in_the_end g.D.Disk.medium
+pub returns-clause-durable : goal.returns-clause-durable
+returns-clause-durable g c = barrier_in_the_end g.D.Disk.medium
 
 pub returns-clause-appended : goal.returns-clause-appended
 returns-clause-appended g c = append_goes_on g.D.Disk.medium

@@ -1,4 +1,5 @@
-use Rattle.worker_store.proofs.LawLemmas.Carrying.{held_at_stands, stands_held_at, less_is_held}
+use Rattle.worker_store.proofs.LawLemmas.Carrying.{held_at_holds_promise, promise_is_held_at}
+use Rattle.worker_store.proofs.LawLemmas.Carrying.{less_is_held}
 use Rattle.worker_store.proofs.LawLemmas.Carrying.{next_is_held}
 use Rattle.worker_store.proofs.LawLemmas.Carrying.{fresh_is_held, saved_is_held}
 use Rattle.worker_store.proofs.LawLemmas.Carrying.{opening_is_held}
@@ -7,10 +8,10 @@ use Rattle.worker_store.proofs.LawLemmas.Carrying.{marked_is_held, blank_is_unop
 use Rattle.worker_store.proofs.laws.savepoints_hold_promises.Goals as goal
 
 pub returns-clause-stands : goal.returns-clause-stands
-returns-clause-stands c = held_at_stands
+returns-clause-stands c = held_at_holds_promise
 
 pub returns-clause-held : goal.returns-clause-held
-returns-clause-held c = stands_held_at
+returns-clause-held c = promise_is_held_at
 
 pub returns-clause-less : goal.returns-clause-less
 returns-clause-less c = less_is_held

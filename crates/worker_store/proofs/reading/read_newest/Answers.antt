@@ -2,13 +2,13 @@ use Rattle.std.proofs.Common.{rules, ℕ, ap, sym, subst, inl, ◌∙◌}
 use Rattle.std.proofs.lemmas.Bool.{false≢true}
 use Rattle.disk_layout.specs.declared.head.Head.{Head}
 use Rattle.snapshot.specs.rules.Heads.{FindsHead}
-use Rattle.std.specs.Prelude.{Result, Ok, Err, Vec, IsTrue, Option}
-use Rattle.std.specs.declared.alloc.Global.{Global}
+use Rattle.std.specs.Prelude.{Result, Ok, Err, List, ℕ, IsTrue, Option}
 use Rattle.sector_disk.proofs.Moments.{stays_shows}
 use Rattle.snapshot.specs.declared.fault.SnapshotFault.{SnapshotFault}
 use Rattle.snapshot.specs.declared.snapshots.Snapshots.{Snapshots}
 use Rattle.snapshot.specs.rules.Snapshots.{is_failed}
-use Rattle.worker_store.proofs.NewestLemmas.{judged, image_wrong, other_version, short_journal}
+use Rattle.worker_store.proofs.NewestLemmas.{judged, process_image_wrong, other_version}
+use Rattle.worker_store.proofs.NewestLemmas.{short_journal}
 use Rattle.worker_store.proofs.NewestLemmas.{reads_newest}
 use Rattle.disk_layout.specs.declared.fault.LayoutFault.TheVariants as layout
 use Rattle.snapshot.specs.declared.fault.SnapshotFault.TheVariants.{Damaged}
@@ -17,30 +17,33 @@ use Rattle.worker_store.proofs.ReadCauseLemmas.{head_cause, snapshot_later}
 use Rattle.worker_store.proofs.ReadLemmas.{idle_works}
 use Rattle.worker_store.proofs.reading.read_newest.Goals as goal
 
-pub returns-in-Ok-image_of-clause-tells : goal.returns-in-Ok-image_of-clause-tells
-returns-in-Ok-image_of-clause-tells g c image shown =
+pub returns-in-Ok-process_image_of-clause-tells : goal.returns-in-Ok-process_image_of-clause-tells
+returns-in-Ok-process_image_of-clause-tells g c image shown =
     let before = stays_shows (g.D.Disk.medium c.newest_head.new.disk)
-    (g.D.Disk.medium c.image_of.new.disk) c.image_of.ensures.reads.stays image shown in
+    (g.D.Disk.medium c.process_image_of.new.disk) c.process_image_of.ensures.reads.stays
+    image shown in
     let known = c.in-Some-known_version in
     judged c.args.geometry.now image c.in-Ok.found c.in-Some.head c.in-Some.is
     (c.in-Ok.ensures.finds image before) known.version known.ensures
-    (c.takes_records.ensures.0 c.if-not-takes_records.false) c.in-Ok-image_of.image
-    (c.in-Ok-image_of.ensures.image image shown) c.judge_mark.result c.judge_mark.ensures
+    (c.takes_records.ensures.0 c.if-not-takes_records.false) c.in-Ok-process_image_of.process_image
+    (c.in-Ok-process_image_of.ensures.process_image image shown) c.judge_mark.result
+    c.judge_mark.ensures
 
-pub returns-in-Err-image_of-clause-tells : goal.returns-in-Err-image_of-clause-tells
-returns-in-Err-image_of-clause-tells g c image shown =
+pub returns-clause-tells : goal.returns-clause-tells
+returns-clause-tells g c image shown =
     let before = stays_shows (g.D.Disk.medium c.newest_head.new.disk)
-    (g.D.Disk.medium c.image_of.new.disk) c.image_of.ensures.reads.stays image shown in
+    (g.D.Disk.medium c.process_image_of.new.disk) c.process_image_of.ensures.reads.stays
+    image shown in
     let known = c.in-Some-known_version in
-    image_wrong c.args.geometry.now image c.in-Ok.found c.in-Some.head c.in-Some.is
+    process_image_wrong c.args.geometry.now image c.in-Ok.found c.in-Some.head c.in-Some.is
     (c.in-Ok.ensures.finds image before) known.version known.ensures
-    (c.takes_records.ensures.0 c.if-not-takes_records.false) c.in-Err-image_of.fault
-    c.from-in-Err-image_of.result c.from-in-Err-image_of.ensures
+    (c.takes_records.ensures.0 c.if-not-takes_records.false) c.in-Err-process_image_of.fault
+    c.from-in-Err-process_image_of.result c.from-in-Err-process_image_of.ensures
     (λ same. idle_works c.new-snapshots.result c.new-snapshots.ensures.idle
     (subst (λ (s : Snapshots). IsTrue (is_failed s)) c.in-Ok.ensures.same
-    (c.in-Err-image_of.ensures.fails.refused.0 (ap (λ (f : SnapshotFault).
-    (let r : Result (Vec ℕ Global) SnapshotFault = Err f in r)) same))))
-    (c.in-Err-image_of.ensures.image image shown)
+    (c.in-Err-process_image_of.ensures.fails.refused.0 (ap (λ (f : SnapshotFault).
+    (let r : Result (List ℕ) SnapshotFault = Err f in r)) same))))
+    (c.in-Err-process_image_of.ensures.process_image image shown)
 
 pub returns-in-Err-clause-tells : goal.returns-in-Err-clause-tells
 returns-in-Err-clause-tells g c = search rules
@@ -63,7 +66,7 @@ returns-then-not-takes_records-clause-tells g c image shown =
     (c.in-Ok.ensures.finds image shown) known.version known.ensures
     (λ takes. false≢true (sym c.if-not-takes_records.true ∙ c.takes_records.ensures.1 takes))
 
--- ---- where a savepoint stands
+-- ---- where a savepoint is
 
 pub returns-in-Err-clause-finds : goal.returns-in-Err-clause-finds
 returns-in-Err-clause-finds g c image shown =
@@ -86,15 +89,15 @@ returns-then-not-takes_records-clause-finds g c image shown =
     reads_newest c.args.geometry.now image (Err (read.Layout layout.Damaged))
     (returns-then-not-takes_records-clause-tells g c image shown)
 
-pub returns-in-Ok-image_of-clause-finds : goal.returns-in-Ok-image_of-clause-finds
-returns-in-Ok-image_of-clause-finds g c image shown =
+pub returns-in-Ok-process_image_of-clause-finds : goal.returns-in-Ok-process_image_of-clause-finds
+returns-in-Ok-process_image_of-clause-finds g c image shown =
     reads_newest c.args.geometry.now image c.judge_mark.result
-    (returns-in-Ok-image_of-clause-tells g c image shown)
+    (returns-in-Ok-process_image_of-clause-tells g c image shown)
 
-pub returns-in-Err-image_of-clause-finds : goal.returns-in-Err-image_of-clause-finds
-returns-in-Err-image_of-clause-finds g c image shown =
-    reads_newest c.args.geometry.now image (Err c.from-in-Err-image_of.result)
-    (returns-in-Err-image_of-clause-tells g c image shown)
+pub returns-clause-finds : goal.returns-clause-finds
+returns-clause-finds g c image shown =
+    reads_newest c.args.geometry.now image (Err c.from-in-Err-process_image_of.result)
+    (returns-clause-tells g c image shown)
 
 -- ---- when an error comes
 
@@ -104,14 +107,14 @@ returns-in-Err-clause-cause g c =
     (g.D.Disk.medium c.newest_head.new.disk) c.in-Err.fault c.from.result c.from.ensures
     c.new-snapshots.result c.new-snapshots.ensures.idle (c.in-Err.ensures.cause (search rules))
 
-pub returns-in-Err-image_of-clause-cause : goal.returns-in-Err-image_of-clause-cause
-returns-in-Err-image_of-clause-cause g c =
-    snapshot_later (Vec ℕ Global) (g.D.Disk.medium c.args.disk.now)
-    (g.D.Disk.medium c.image_of.new.disk) (g.D.Disk.medium c.newest_head.new.disk)
-    c.in-Ok.ensures.reads c.in-Err-image_of.fault c.from-in-Err-image_of.result
-    c.from-in-Err-image_of.ensures
+pub returns-clause-cause : goal.returns-clause-cause
+returns-clause-cause g c =
+    snapshot_later (List ℕ) (g.D.Disk.medium c.args.disk.now)
+    (g.D.Disk.medium c.process_image_of.new.disk) (g.D.Disk.medium c.newest_head.new.disk)
+    c.in-Ok.ensures.reads c.in-Err-process_image_of.fault c.from-in-Err-process_image_of.result
+    c.from-in-Err-process_image_of.ensures
     (λ same. idle_works c.new-snapshots.result c.new-snapshots.ensures.idle
     (subst (λ (s : Snapshots). IsTrue (is_failed s)) c.in-Ok.ensures.same
-    (c.in-Err-image_of.ensures.fails.refused.0 (ap (λ (f : SnapshotFault).
-    (let r : Result (Vec ℕ Global) SnapshotFault = Err f in r)) same))))
-    c.in-Err-image_of.ensures.cause
+    (c.in-Err-process_image_of.ensures.fails.refused.0 (ap (λ (f : SnapshotFault).
+    (let r : Result (List ℕ) SnapshotFault = Err f in r)) same))))
+    c.in-Err-process_image_of.ensures.cause

@@ -8,5 +8,5 @@ pub returns-in-Err-clause-cause : goal.returns-in-Err-clause-cause
 returns-in-Err-clause-cause g c =
     let failed = c.in-Err.ensures in
     journal_cause (Vec Record Global) (g.D.Disk.medium c.args.disk.now)
-    (g.D.Disk.medium c.scan.new.disk) c.in-Err.fault c.from.result c.from.ensures failed.kind
+    (g.D.Disk.medium c.scan.new.disk) c.in-Err.fault c.from.result c.from.ensures failed.which_fault
     failed.cause

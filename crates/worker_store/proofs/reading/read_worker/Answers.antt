@@ -17,5 +17,6 @@ returns-in-Err-clause-gives g c disk shown =
 
 pub returns-in-Err-clause-cause : goal.returns-in-Err-clause-cause
 returns-in-Err-clause-cause g c =
-    layout_cause Contents (g.D.Disk.medium c.args.disk.now) (g.D.Disk.medium c.read_contents.new.disk)
-    c.in-Err.fault c.from.result c.from.ensures c.in-Err.ensures.cause
+    layout_cause Contents (g.D.Disk.medium c.args.disk.now)
+    (g.D.Disk.medium c.read_contents.new.disk) c.in-Err.fault c.from.result c.from.ensures
+    c.in-Err.ensures.cause

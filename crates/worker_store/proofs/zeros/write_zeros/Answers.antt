@@ -32,7 +32,7 @@ returns-in_err-write g c =
     let p = err_from_is_err_and c.from_residual.result c.from_residual.ensures.1 in
     let same : c.from_residual.result ≡ Err c.in_err-write.field-0.0 =
     p.1 ∙ ap (λ (e : DiskFault). (let r : Result (Unit {0}) DiskFault = Err e in r)) p.2 in
-    let kind = fails_inside {T = Unit {0}} c.in_err-write.field-0.0 _ _ mid new
+    let which_fault = fails_inside {T = Unit {0}} c.in_err-write.field-0.0 _ _ mid new
     c.in_err-write.ensures.cause (λ out. omega arith) in
     zeros_cut c.args.at count c.from_residual.result c.in_err-write.field-0.0 old new same both
     (let u = tears.unsynced in omega (arith, i.unsynced))
@@ -43,7 +43,7 @@ returns-in_err-write g c =
     (run_passes c.args.at sectors count count old mid new (omega arith) i.passes both
     c.write.ensures.passes)
     (let u = i.unsynced in let p = i.passes in let w = c.in_err-write.ensures.cause in search rules)
-    kind (omega (arith, below, i.counted, c.write.ensures.counted))
+    which_fault (omega (arith, below, i.counted, c.write.ensures.counted))
 
 pub loop-k-preserved : goal.loop-k-preserved
 loop-k-preserved g c =

@@ -17,5 +17,5 @@ invariant-loop-k g l =
       counts : CountsUpTo (old.unsynced + l.k) old now;
       counted : now.counted ≤ old.counted + l.k;
       calls : now.calls ≡ rising_writes l.at l.k ++ old.calls;
-      passes : Passes old now (After (IsTornRun l.at sectors l.count) old.may_leave);
+      passes : Passes old now (After (IsTornRun l.at sectors l.count) old.crash_images);
     }

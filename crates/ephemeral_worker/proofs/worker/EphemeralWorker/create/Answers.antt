@@ -7,7 +7,7 @@ pub returns-in_err-module-clause-refused : goal.returns-in_err-module-clause-ref
 returns-in_err-module-clause-refused c =
     let p = err_from_is_err_and c.from_residual.result c.from_residual.ensures.1 in
     rw (p.1, p.2) (unread c.args.config.pages c.args.wasm.now c.in_err-module.field-0.0
-    c.in_err-module.ensures.told c.in_err-module.ensures.only)
+    c.in_err-module.ensures.reported c.in_err-module.ensures.only)
 
 pub returns-in_err-process-clause-refused : goal.returns-in_err-process-clause-refused
 returns-in_err-process-clause-refused c =

@@ -24,7 +24,7 @@ loop-chunks-preserved c =
       f.ensures.full,
       one_less (stored c.args.chunks.now c.args.keys.now.items) (stored l.chunks l.keys.items)
           (stored f.new.chunks f.new.keys.items) (length l.keys.items) (length f.new.keys.items)
-          less h.3 f.ensures.left,
+          less h.3 f.ensures.kept,
       rekeys_join c.args.chunks.now l.chunks f.new.chunks c.args.keys.now.items l.keys.items
           f.new.keys.items h.4 f.ensures.others,
     )

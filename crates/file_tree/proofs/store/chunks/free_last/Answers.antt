@@ -13,8 +13,8 @@ returns-clause-full c =
     (less_full c.args.chunks.now c.remove-chunk.new.self keys last c.remove-key.result
     c.requires.full is_last c.remove-key.ensures.value c.remove-chunk.ensures.updates)
 
-pub returns-clause-left : goal.returns-clause-left
-returns-clause-left c =
+pub returns-clause-kept : goal.returns-clause-kept
+returns-clause-kept c =
     let keys = c.args.keys.now.items in
     let last = length c.as_slice.result.now - 1 in
     let is_last : length keys ≡ suc last =

@@ -15,9 +15,9 @@ loop-done-preserved c =
     let into = c.loop-done.into in
     let rest = length into - i in
     let all = concat (stored c.args.chunks.now c.args.keys.now) in
-    let left : length (take rest (drop i into)) ≡ rest =
+    let rest_length : length (take rest (drop i into)) ≡ rest =
     omega (arith, length-take rest (drop i into), length-drop i into) in
-    let most : n ≤ rest = omega (arith, r.most, left) in
+    let most : n ≤ rest = omega (arith, r.most, rest_length) in
     let many : length (take n (drop (c.args.from + i) all)) ≡ n =
     omega (
       arith,

@@ -27,7 +27,7 @@ invariant_of-self-2 c =
       content = new_content c.new_content.result;
     } in
     let made = is_made c.self.inside.nodes c.self.inside.next c.args.directory c.args.name.now
-    c.args.kind n c.args.self.now c.self.view_is c.self.invariant.0 c.requires.free
+    c.args.node_type n c.args.self.now c.self.view_is c.self.invariant.0 c.requires.free
     c.requires.room refl (ap (λ x. In c.args.directory x) c.in_ok-name.ensures)
     c.new_content.ensures.shown in
     rw c.in_ok-push.ensures.pushed (
@@ -43,7 +43,7 @@ returns-clause-created c =
       content = new_content c.new_content.result;
     } in
     let made = is_made c.self.inside.nodes c.self.inside.next c.args.directory c.args.name.now
-    c.args.kind n c.args.self.now c.self.view_is c.self.invariant.0 c.requires.free
+    c.args.node_type n c.args.self.now c.self.view_is c.self.invariant.0 c.requires.free
     c.requires.room refl (ap (λ x. In c.args.directory x) c.in_ok-name.ensures)
     c.new_content.ensures.shown in
     rw c.in_ok-push.ensures.pushed made.files_are

@@ -21,8 +21,8 @@ invariant_of-self-2 c =
     let n : Node =
     record { number = c.args.number; hook = Removed; content = new_content c.new_content.result } in
     let all =
-    is_added c.self.inside.nodes c.self.inside.next c.args.kind n c.args.self.now c.self.view_is
-    c.self.invariant.0
+    is_added c.self.inside.nodes c.self.inside.next c.args.node_type n c.args.self.now
+    c.self.view_is c.self.invariant.0
     (omega (arith, c.requires.next, ap (λ (fs : Files). fs.next) c.self.view_is))
     c.requires.room refl c.new_content.ensures.shown in
     rw c.in_ok-push.ensures.pushed
@@ -33,8 +33,8 @@ returns-clause-created c =
     let n : Node =
     record { number = c.args.number; hook = Removed; content = new_content c.new_content.result } in
     let all =
-    is_added c.self.inside.nodes c.self.inside.next c.args.kind n c.args.self.now c.self.view_is
-    c.self.invariant.0
+    is_added c.self.inside.nodes c.self.inside.next c.args.node_type n c.args.self.now
+    c.self.view_is c.self.invariant.0
     (omega (arith, c.requires.next, ap (λ (fs : Files). fs.next) c.self.view_is))
     c.requires.room refl c.new_content.ensures.shown in
     rw c.in_ok-push.ensures.pushed all.files_are

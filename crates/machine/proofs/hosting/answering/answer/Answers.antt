@@ -1,5 +1,5 @@
 use Rattle.std.proofs.Common.{arith}
-use Rattle.machine.proofs.TurnLemmas.AtCalls.{few_there, room_of}
+use Rattle.machine.proofs.CycleLemmas.AtCalls.{few_there, room_of}
 use Rattle.machine.specs.rules.Answers.{call_results}
 use Rattle.machine.proofs.HostingLemmas.Answered.{asking_of, enough_there, is_answered}
 use Rattle.machine.proofs.hosting.answering.answer.Goals as goal

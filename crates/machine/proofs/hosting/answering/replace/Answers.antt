@@ -10,6 +10,6 @@ push-requires c =
     let count = c.len.ensures.len in
     let height : c.len.result - c.args.taken ≡ length (drop c.args.taken c.args.slots.now) =
     simp length-drop (omega (arith, count)) in
-    let left = c.truncate.ensures (take c.args.taken c.args.slots.now) under height
+    let slots_left = c.truncate.ensures (take c.args.taken c.args.slots.now) under height
     (sym (take-append-drop c.args.taken c.args.slots.now)) in
-    omega (arith, ap length left, height, count, room)
+    omega (arith, ap length slots_left, height, count, room)

@@ -10,7 +10,7 @@ returns-in_err-own c =
     let past : length m.imports ≤ c.loop-import.import-index =
     rw c.as_slice-import-items.ensures at c.loop-import-test.false in
     rw c.from_residual.ensures (ap (option_map function_type_of) c.in_err-own.ensures
-    ∙ sym (own_type m.imports m.functions c.loop-import.import-index c.loop-import.left
+    ∙ sym (own_type m.imports m.functions c.loop-import.import-index c.loop-import.index_left
     c.args.function past c.loop-import.invariant))
 
 pub returns : goal.returns
@@ -19,5 +19,5 @@ returns c =
     let past : length m.imports ≤ c.loop-import.import-index =
     rw c.as_slice-import-items.ensures at c.loop-import-test.false in
     ap (option_map function_type_of) c.in_ok-own.ensures
-    ∙ sym (own_type m.imports m.functions c.loop-import.import-index c.loop-import.left
+    ∙ sym (own_type m.imports m.functions c.loop-import.import-index c.loop-import.index_left
     c.args.function past c.loop-import.invariant)

@@ -6,7 +6,7 @@ use Rattle.machine_frame.specs.rules.Threads.{places_of}
 use Rattle.machine_frame.proofs.Threads.Showing.{places_count}
 use Rattle.machine.specs.rules.LentFrames.{lent_frame}
 use Rattle.machine.specs.Loading.Checks.{FitsBelow}
-use Rattle.machine.proofs.LoadingLemmas.Bodies.{own_kind}
+use Rattle.machine.proofs.LoadingLemmas.Bodies.{own_signature}
 use Rattle.machine.proofs.LoadingLemmas.Frames.{from_end, begins, no_begin, goes_on, stops, all_fit}
 use Rattle.machine.proofs.loading.frames.fit_frames.Goals as goal
 
@@ -49,8 +49,14 @@ returns-in_default c = λ functions program looks. (
       let so_far = c.loop-number.invariant functions program looks in
       let none = c.in_default.ensures ctx looks.looked_up in
       let own = so_far.own in
-      let some = own_kind c.args.code.now functions program looks.is_code so_far.place.function
-      (record { kind = own.kind; declared = own.declared; body = own.body; is = own.is }) in
+      let some = own_signature c.args.code.now functions program looks.is_code so_far.place.function
+      (record {
+        signature = own.signature;
+        declared = own.declared;
+        body = own.body;
+        is
+            = own.is;
+      }) in
       let at = so_far.is_above in
       absurd (cc),
 )
@@ -73,12 +79,18 @@ returns-then-not-waits c = λ functions program looks. (
       let so_far = c.loop-number.invariant functions program looks in
       let own = so_far.own in
       let known = c.in-Some.ensures ctx looks.looked_up in
-      let some = own_kind c.args.code.now functions program looks.is_code so_far.place.function
-      (record { kind = own.kind; declared = own.declared; body = own.body; is = own.is }) in
+      let some = own_signature c.args.code.now functions program looks.is_code so_far.place.function
+      (record {
+        signature = own.signature;
+        declared = own.declared;
+        body = own.body;
+        is
+            = own.is;
+      }) in
       let at = so_far.is_above in
-      let kind : own.kind ≡ c.in-Some.called.now = cc in
+      let signature : own.signature ≡ c.in-Some.called.now = cc in
       let yes = (c.in_ok-waits.ensures functions program looks).1
-      (subst (λ k. FitsBelow ctx program k place) kind
+      (subst (λ k. FitsBelow ctx program k place) signature
       (stops ctx program places n c.loop-number.above so_far place there fits)) in
       let none = c.if-not-waits.true in
       cc,
@@ -100,12 +112,12 @@ loop-number-preserved c = λ functions program looks.
     let so_far = c.loop-number.invariant functions program looks in
     let own = so_far.own in
     let known = c.in-Some.ensures ctx looks.looked_up in
-    let some = own_kind c.args.code.now functions program looks.is_code so_far.place.function
-    (record { kind = own.kind; declared = own.declared; body = own.body; is = own.is }) in
+    let some = own_signature c.args.code.now functions program looks.is_code so_far.place.function
+    (record { signature = own.signature; declared = own.declared; body = own.body; is = own.is }) in
     let at = so_far.is_above in
-    let kind : c.in-Some.called.now ≡ own.kind = cc in
+    let signature : c.in-Some.called.now ≡ own.signature = cc in
     goes_on ctx program places n c.loop-number.above so_far place there
-    (subst (λ k. FitsBelow ctx program k place) kind
+    (subst (λ k. FitsBelow ctx program k place) signature
     ((c.in_ok-waits.ensures functions program looks).0 c.if-not-waits.false))
 
 pub returns : goal.returns

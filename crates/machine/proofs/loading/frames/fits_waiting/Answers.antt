@@ -5,7 +5,8 @@ use Rattle.wasm_syntax.specs.declared.types.ValueType.{ValueType}
 use Rattle.wasm_semantics.specs.Validity.{module_context}
 use Rattle.wasm_validate.proofs.PartLemmas.Lookups.{is_false}
 use Rattle.machine.specs.rules.LentFrames.{lent_frame}
-use Rattle.machine.proofs.LoadingLemmas.Bodies.{not_own, body_of, own_kind, one_result, same_words}
+use Rattle.machine.proofs.LoadingLemmas.Bodies.{not_own, body_of, own_signature, one_result}
+use Rattle.machine.proofs.LoadingLemmas.Bodies.{same_words}
 use Rattle.machine.proofs.LoadingLemmas.Bodies.{below_fits, below_waits, waits, waits_there}
 use Rattle.machine.proofs.LoadingLemmas.Bodies.{waits_reached, waits_words, none_there}
 use Rattle.machine.proofs.loading.frames.fits_waiting.Goals as goal
@@ -24,7 +25,7 @@ returns-in_default c = λ functions program looks. (
   λ fits. absurd (not_own c.args.code.now functions program looks.is_code c.args.place.now.function
       (λ g at. let e = (c.in_default.ensures g).1 at in absurd (cc))
       (record {
-        kind = fits.0.kind;
+        signature = fits.0.signature;
         declared = fits.0.declared;
         body = fits.0.body;
         is = fits.0.is;
@@ -37,9 +38,9 @@ returns-in_default-function_type c = λ functions program looks. (
   λ fits.
       let ctx = module_context c.args.code.now.«module» functions in
       let none = c.in_default-function_type.ensures ctx looks.looked_up in
-      let some = own_kind c.args.code.now functions program looks.is_code
+      let some = own_signature c.args.code.now functions program looks.is_code
       c.args.place.now.function (record {
-        kind = fits.0.kind;
+        signature = fits.0.signature;
         declared = fits.0.declared;
         body = fits.0.body;
         is = fits.0.is;
@@ -53,13 +54,13 @@ returns-in_default-opcode_at c = λ functions program looks. (
   λ fits.
       let ctx = module_context c.args.code.now.«module» functions in
       let g = c.in-Some.function.now in
-      let kind = c.in-Some-function_type.function_type.now in
+      let signature = c.in-Some-function_type.function_type.now in
       let place = lent_frame c.args.place.now in
-      let b = body_of c.args.code.now functions program looks.is_code place.function g kind
+      let b = body_of c.args.code.now functions program looks.is_code place.function g signature
       ((c.in-Some.ensures g).0 refl) (c.in-Some-function_type.ensures ctx looks.looked_up) in
-      let there = waits_there ctx kind g b.body place c.args.above.now
-      (below_waits ctx program place kind g.code.locals b.body.sequence b.is c.args.above.now fits)
-      in
+      let there = waits_there ctx signature g b.body place c.args.above.now
+      (below_waits ctx program place signature g.code.locals b.body.sequence b.is
+      c.args.above.now fits) in
       let none = c.in_default-opcode_at.ensures in
       let some : slice_get c.as_slice.result.now place.position ≡ Some there.0 =
       ap (λ z. slice_get z place.position) c.as_slice.ensures ∙ there.1 in
@@ -72,13 +73,13 @@ returns-in_default-taken_by c = λ functions program looks. (
   λ fits.
       let ctx = module_context c.args.code.now.«module» functions in
       let g = c.in-Some.function.now in
-      let kind = c.in-Some-function_type.function_type.now in
+      let signature = c.in-Some-function_type.function_type.now in
       let place = lent_frame c.args.place.now in
       let above = c.args.above.now in
-      let b = body_of c.args.code.now functions program looks.is_code place.function g kind
+      let b = body_of c.args.code.now functions program looks.is_code place.function g signature
       ((c.in-Some.ensures g).0 refl) (c.in-Some-function_type.ensures ctx looks.looked_up) in
-      let there = waits_there ctx kind g b.body place above
-      (below_waits ctx program place kind g.code.locals b.body.sequence b.is above fits) in
+      let there = waits_there ctx signature g b.body place above
+      (below_waits ctx program place signature g.code.locals b.body.sequence b.is above fits) in
       let some : Some c.in-Some-opcode_at.instruction.now ≡ slice_get g.code.body place.position =
       c.in-Some-opcode_at.ensures ∙ ap (λ z. slice_get z place.position) c.as_slice.ensures in
       absurd (none_there ctx above c.in-Some-opcode_at.instruction.now there.0
@@ -92,13 +93,13 @@ returns-in_default-2 c = λ functions program looks. (
   λ fits.
       let ctx = module_context c.args.code.now.«module» functions in
       let g = c.in-Some.function.now in
-      let kind = c.in-Some-function_type.function_type.now in
+      let signature = c.in-Some-function_type.function_type.now in
       let place = lent_frame c.args.place.now in
-      let b = body_of c.args.code.now functions program looks.is_code place.function g kind
+      let b = body_of c.args.code.now functions program looks.is_code place.function g signature
       ((c.in-Some.ensures g).0 refl) (c.in-Some-function_type.ensures ctx looks.looked_up) in
-      absurd (waits_reached ctx kind g b.body place c.args.above.now
+      absurd (waits_reached ctx signature g b.body place c.args.above.now
       (sym c.in_default-2.is ∙ c.in_ok-types.ensures ctx looks.looked_up b.body)
-      (below_waits ctx program place kind g.code.locals b.body.sequence b.is c.args.above.now
+      (below_waits ctx program place signature g.code.locals b.body.sequence b.is c.args.above.now
       fits)),
 )
 
@@ -108,21 +109,21 @@ returns-in_default-checked_sub c = λ functions program looks. (
   λ fits.
       let ctx = module_context c.args.code.now.«module» functions in
       let g = c.in-Some.function.now in
-      let kind = c.in-Some-function_type.function_type.now in
+      let signature = c.in-Some-function_type.function_type.now in
       let place = lent_frame c.args.place.now in
       let types : List ValueType = c.in-Some-2.types in
       let above = c.args.above.now in
       let i = c.in-Some-opcode_at.instruction.now in
       let n = c.in-Some-taken_by.taken in
-      let b = body_of c.args.code.now functions program looks.is_code place.function g kind
+      let b = body_of c.args.code.now functions program looks.is_code place.function g signature
       ((c.in-Some.ensures g).0 refl) (c.in-Some-function_type.ensures ctx looks.looked_up) in
       let found = sym c.in-Some-2.is ∙ c.in_ok-types.ensures ctx looks.looked_up b.body in
       let at : slice_get g.code.body place.position ≡ Some i =
       ap (λ z. slice_get z place.position) (sym c.as_slice.ensures)
       ∙ sym c.in-Some-opcode_at.ensures in
       let takes = c.in-Some-taken_by.ensures ctx looks.looked_up in
-      let words = waits_words ctx kind g b.body place above i at n takes types found
-      (below_waits ctx program place kind g.code.locals b.body.sequence b.is above fits) in
+      let words = waits_words ctx signature g b.body place above i at n takes types found
+      (below_waits ctx program place signature g.code.locals b.body.sequence b.is above fits) in
       let few = words.0 in
       let count = c.len.ensures in
       absurd (c.in_default-checked_sub.ensures (omega (arith, few, count))),
@@ -132,30 +133,31 @@ pub returns : goal.returns
 returns c = λ functions program looks.
     let ctx = module_context c.args.code.now.«module» functions in
     let g = c.in-Some.function.now in
-    let kind = c.in-Some-function_type.function_type.now in
+    let signature = c.in-Some-function_type.function_type.now in
     let place = lent_frame c.args.place.now in
     let types : List ValueType = c.in-Some-2.types in
     let above = c.args.above.now in
     let i = c.in-Some-opcode_at.instruction.now in
     let n = c.in-Some-taken_by.taken in
-    let b = body_of c.args.code.now functions program looks.is_code place.function g kind
+    let b = body_of c.args.code.now functions program looks.is_code place.function g signature
     ((c.in-Some.ensures g).0 refl) (c.in-Some-function_type.ensures ctx looks.looked_up) in
     let found = sym c.in-Some-2.is ∙ c.in_ok-types.ensures ctx looks.looked_up b.body in
     let at : slice_get g.code.body place.position ≡ Some i =
     ap (λ z. slice_get z place.position) (sym c.as_slice.ensures)
     ∙ sym c.in-Some-opcode_at.ensures in
     let takes = c.in-Some-taken_by.ensures ctx looks.looked_up in
-    let left : c.in-Some-checked_sub.left ≡ length types - n =
+    let count_left : c.in-Some-checked_sub.count_left ≡ length types - n =
     c.in-Some-checked_sub.ensures.1 ∙ ap (λ m. m - n) c.len.ensures in
-    let part : take c.in-Some-checked_sub.left types ≡ take (length types - n) types =
-    ap (λ m. take m types) left in
-    let words = same_words c.as_slice-parameters.result.now kind.parameters
-    c.as_slice-2.result.now g.code.locals (take c.in-Some-checked_sub.left types)
+    let part : take c.in-Some-checked_sub.count_left types ≡ take (length types - n) types =
+    ap (λ m. take m types) count_left in
+    let words = same_words c.as_slice-parameters.result.now signature.parameters
+    c.as_slice-2.result.now g.code.locals (take c.in-Some-checked_sub.count_left types)
     (take (length types - n) types) place.slots
     c.are_slots.result c.as_slice-parameters.ensures c.as_slice-2.ensures part
     c.are_slots.ensures in (
-      λ t. below_fits ctx program place kind g.code.locals b.body.sequence b.is above
-          (waits ctx kind g b.body place above i at n takes types found (words.0 t)),
-      λ fits. words.1 (waits_words ctx kind g b.body place above i at n takes types found
-          (below_waits ctx program place kind g.code.locals b.body.sequence b.is above fits)).1,
+      λ t. below_fits ctx program place signature g.code.locals b.body.sequence b.is above
+          (waits ctx signature g b.body place above i at n takes types found (words.0 t)),
+      λ fits. words.1 (waits_words ctx signature g b.body place above i at n takes types found
+          (below_waits ctx program place signature g.code.locals b.body.sequence b.is
+          above fits)).1,
     )

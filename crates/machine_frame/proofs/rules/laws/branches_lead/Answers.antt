@@ -1,4 +1,5 @@
-use Rattle.machine_frame.proofs.Standing.Branching.{branches_lead, conditions_lead, tables_lead}
+use Rattle.machine_frame.proofs.FramePosition.Branching.{branches_lead, conditions_lead}
+use Rattle.machine_frame.proofs.FramePosition.Branching.{tables_lead}
 use Rattle.machine_frame.proofs.rules.laws.branches_lead.Goals as goal
 
 pub returns-clause-branches : goal.returns-clause-branches

@@ -1,4 +1,4 @@
-use Rattle.machine_frame.proofs.Standing.Ending.{ends_lead_out, parts_lead_out}
+use Rattle.machine_frame.proofs.FramePosition.Ending.{ends_lead_out, parts_lead_out}
 use Rattle.machine_frame.proofs.rules.laws.ends_lead_out.Goals as goal
 
 pub returns-clause-ends : goal.returns-clause-ends

@@ -1,5 +1,6 @@
-use Rattle.machine_frame.proofs.Standing.LeadingOn.{effects_lead_on, blocks_lead_in, loops_lead_in}
-use Rattle.machine_frame.proofs.Standing.LeadingOn.{ifs_lead_in, choices_lead_in}
+use Rattle.machine_frame.proofs.FramePosition.LeadingOn.{effects_lead_on, blocks_lead_in}
+use Rattle.machine_frame.proofs.FramePosition.LeadingOn.{loops_lead_in}
+use Rattle.machine_frame.proofs.FramePosition.LeadingOn.{ifs_lead_in, choices_lead_in}
 use Rattle.machine_frame.proofs.rules.laws.frames_lead_on.Goals as goal
 
 pub returns-clause-effects : goal.returns-clause-effects

@@ -5,7 +5,7 @@ use Rattle.record_replay.proofs.boxed.AnySourceSource.answer.Goals as goal
 pub returns : goal.returns
 returns g c =
     step_of_same
-    (λ name old new. (g.dyn-1.0.entry name).1.gives old c.args.kind c.answer.result new)
+    (λ name old new. (g.dyn-1.0.entry name).1.gives old c.args.question c.answer.result new)
     (λ name new. record {
       0 = record {
         ptr = c.args.self.now.0.ptr;

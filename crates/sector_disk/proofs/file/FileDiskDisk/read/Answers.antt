@@ -22,7 +22,7 @@ returns-in-Ok-clause-reads g c =
           subst (λ (a : AnsweredCalls). Explains d.count a image shows.0) is shows.1
           in on.1;
       stays = record {
-        may = λ shown image both. let on =
+        crash_pairs = λ shown image both. let on =
             subst (λ (a : AnsweredCalls). Explains d.count a shown image) is both in
             on.0;
         since = λ t shown image le both.

@@ -1,5 +1,5 @@
 use Rattle.std.proofs.Common.{◌≡◌, ap, sym, subst, arith, rules}
-use Rattle.sector_disk.specs.rules.Image.{Image}
+use Rattle.sector_disk.specs.rules.DiskImage.{DiskImage}
 use Rattle.sector_disk.specs.rules.Answered.{AnsweredCalls, Explains, unsynced_of, file_calls}
 use Rattle.sector_disk.specs.laws.Answered.{stays, synced_since}
 use Rattle.sector_disk.proofs.CountLemmas.{answered_keeps, answered_grows}
@@ -15,18 +15,18 @@ returns-in-Ok-clause-syncs g c =
     let d = c.args.self.now in
     let now = c.and-self-in-Ok.result.log.items in
     let is = c.and-self-in-Ok.ensures in
-    let on = λ (shown image : Image) (both : Explains d.count now shown image).
+    let on = λ (shown image : DiskImage) (both : Explains d.count now shown image).
     subst (λ (a : AnsweredCalls). Explains d.count a shown image) is both in
     let none : unsynced_of now ≡ 0 = ap unsynced_of is in
     record {
-      settles = record {
+      all_synced = record {
         same = λ shown image both. let was = on shown image both in was.2;
         unsynced = none;
       };
       stays = record {
-        may = λ shown image both.
+        crash_pairs = λ shown image both.
             let was = on shown image both in
-            subst (λ (i : Image). Explains d.count d.past.log.items shown i) (sym was.2)
+            subst (λ (i : DiskImage). Explains d.count d.past.log.items shown i) (sym was.2)
             (stays d.count d.past.log.items shown was.0 was.1);
         since = λ t shown image le both.
             synced_since d.count t now d.past.log.items image shown

@@ -1,7 +1,7 @@
 use Rattle.std.proofs.Common.{◌≡◌, ◌+◌, ap, ◌∙◌, subst, arith, rules}
-use Rattle.sector_disk.specs.rules.Image.{Image}
+use Rattle.sector_disk.specs.rules.DiskImage.{DiskImage}
 use Rattle.sector_disk.specs.rules.Answered.{AnsweredCalls, Explains, unsynced_of, file_calls}
-use Rattle.sector_disk.specs.laws.Answered.{images, whole_front}
+use Rattle.sector_disk.specs.laws.Answered.{disk_images, whole_front}
 use Rattle.sector_disk.proofs.CountLemmas.{answered_keeps, answered_grows}
 use Rattle.sector_disk.specs.declared.file_call.FileCall.TheVariants.{Tore}
 use Rattle.sector_disk.specs.rules.File.{answers_of}
@@ -13,7 +13,7 @@ returns-in-Ok-clause-writes g c =
     let d = c.args.self.now in
     let now = c.and-self-in-Ok.result.log.items in
     let is = c.and-self-in-Ok.ensures in
-    let on = λ (shown image : Image) (both : Explains d.count now shown image).
+    let on = λ (shown image : DiskImage) (both : Explains d.count now shown image).
     subst (λ (a : AnsweredCalls). Explains d.count a shown image) is both in
     let more : unsynced_of now ≡ unsynced_of d.past.log.items + 1 =
     ap unsynced_of is in
@@ -27,7 +27,7 @@ returns-in-Ok-clause-writes g c =
       tears = record {
         both = λ shown image both.
             let was = on shown image both in
-            let are = images d.count d.past.log.items was.0 was.1 was.3 in (
+            let are = disk_images d.count d.past.log.items was.0 was.1 was.3 in (
               was.0,
               was.1,
               was.3,

@@ -2,32 +2,33 @@ use Rattle.std.proofs.Common.{◌≡◌, ◌<◌, ◌≤◌, ◌+◌, ℕ, List,
 use Rattle.std.proofs.Common.{◌∙◌, subst, arith}
 use Rattle.std.proofs.lemmas.List.{get_or_read}
 use Rattle.std.proofs.lemmas.List.Elements.{All-get_or}
-use Rattle.sector_disk.specs.rules.Image.{sector_at, with_sector, with_front, front_over, IsImage}
+use Rattle.sector_disk.specs.rules.DiskImage.{sector_at, with_sector, with_front, front_over}
+use Rattle.sector_disk.specs.rules.DiskImage.{IsDiskImage}
 use Rattle.sector_disk.specs.rules.Pending.{IsWriteWithin, torn_by, first_front}
-use Rattle.sector_disk.specs.laws.Fronts.{image-with_front}
-use Rattle.sector_disk.specs.laws.Pending.{torn_left, torn_by_some, torn_step}
+use Rattle.sector_disk.specs.laws.Fronts.{disk_image-with_front}
+use Rattle.sector_disk.specs.laws.Pending.{torn_crashed, torn_by_some, torn_step}
 use Rattle.sector_disk.specs.declared.write.Write.{Write}
 use Rattle.sector_disk.proofs.memory.MemDisk.cut.Goals as goal
 
-pub returns-in_err-image-clause-left : goal.returns-in_err-image-clause-left
-returns-in_err-image-clause-left c =
-    torn_left c.args.tears.now c.args.self.now.pending.items c.args.self.now.settled.items
+pub returns-in_err-image-clause-crash_image : goal.returns-in_err-image-clause-crash_image
+returns-in_err-image-clause-crash_image c =
+    torn_crashed c.args.tears.now c.args.self.now.pending.items c.args.self.now.durable.items
 
 pub returns-in_err-image-clause-every : goal.returns-in_err-image-clause-every
 returns-in_err-image-clause-every c =
-    torn_by_some c.args.self.now.pending.items c.args.self.now.settled.items
+    torn_by_some c.args.self.now.pending.items c.args.self.now.durable.items
 
 pub returns-clause-every : goal.returns-clause-every
-returns-clause-every c = torn_by_some c.args.self.now.pending.items c.args.self.now.settled.items
+returns-clause-every c = torn_by_some c.args.self.now.pending.items c.args.self.now.durable.items
 
-pub returns-clause-left : goal.returns-clause-left
-returns-clause-left c =
-    torn_left c.args.tears.now c.args.self.now.pending.items c.args.self.now.settled.items
+pub returns-clause-crash_image : goal.returns-clause-crash_image
+returns-clause-crash_image c =
+    torn_crashed c.args.tears.now c.args.self.now.pending.items c.args.self.now.durable.items
 
 pub index_mut-requires : goal.index_mut-requires
 index_mut-requires c =
     let ws = c.deref-write-items.result.now in
-    let P = IsWriteWithin (length c.args.self.now.settled.items) in
+    let P = IsWriteWithin (length c.args.self.now.durable.items) in
     let w : Write = get_or ws c.loop-i.i (record { sector = 0; bytes = [] }) in
     let fits = All-get_or P ws c.loop-i.i (record {
       sector = 0;
@@ -39,7 +40,7 @@ index_mut-requires c =
 pub loop-i-preserved : goal.loop-i-preserved
 loop-i-preserved c =
     let ws = c.deref-write-items.result.now in
-    let P = IsWriteWithin (length c.args.self.now.settled.items) in
+    let P = IsWriteWithin (length c.args.self.now.durable.items) in
     let d : Write = record { sector = 0; bytes = [] } in
     let w : Write = get_or ws c.loop-i.i d in
     let fits = All-get_or P ws c.loop-i.i d c.loop-i-test.true
@@ -59,10 +60,10 @@ loop-i-preserved c =
     let le : first_front (drop c.loop-i.i c.args.tears.now) ≤ 512 =
     omega (arith, c.front_named.ensures.front, c.front_named.ensures.within) in
     record {
-      image = subst (λ l. IsImage (length c.args.self.now.settled.items)
+      image = subst (λ l. IsDiskImage (length c.args.self.now.durable.items)
           (with_sector c.loop-i.image.items w.sector l)) (sym bytes)
-          (image-with_front _ c.loop-i.image.items w.sector _ w.bytes c.loop-i.invariant.image le
-          (λ lt. fits.full));
+          (disk_image-with_front _ c.loop-i.image.items w.sector _ w.bytes
+          c.loop-i.invariant.image le (λ lt. fits.full));
       torn = ap (λ (l : List ℕ). torn_by (drop (c.loop-i.i + 1) c.args.tears.now)
           (drop (c.loop-i.i + 1) c.args.self.now.pending.items)
           (with_sector c.loop-i.image.items w.sector l)) bytes

@@ -1,6 +1,6 @@
 use Rattle.std.proofs.Common.{◌<◌, length, [], refl, sym, ap, ◌∙◌, arith, rules}
 use Rattle.std.proofs.lemmas.List.{get_or_read}
-use Rattle.sector_disk.specs.rules.Image.{sector_at}
+use Rattle.sector_disk.specs.rules.DiskImage.{sector_at}
 use Rattle.sector_disk.specs.rules.Memory.{memory_medium}
 use Rattle.sector_disk.proofs.CountLemmas.{counts_same}
 use Rattle.sector_disk.proofs.MemoryLemmas.{shown_size}

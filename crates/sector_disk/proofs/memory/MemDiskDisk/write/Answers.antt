@@ -1,11 +1,12 @@
 use Rattle.std.proofs.Common.{inr, ◌≡◌, ◌+◌, rules, ◌<◌, length, refl, sym, ap, ◌∙◌, subst, arith}
 use Rattle.std.proofs.lemmas.List.{length_push}
 use Rattle.std.proofs.lemmas.List.Elements.{All-push}
-use Rattle.sector_disk.specs.rules.Image.{Image, with_sector, IsTorn}
+use Rattle.sector_disk.specs.rules.DiskImage.{DiskImage, with_sector, IsTorn}
 use Rattle.sector_disk.specs.rules.Memory.{memory_medium, calls_in}
 use Rattle.sector_disk.specs.rules.Pending.{IsWriteWithin, Leaves}
 use Rattle.sector_disk.specs.laws.Fronts.{whole-with_front}
-use Rattle.sector_disk.specs.laws.Pending.{had_more, replayed_more, left_more, image-replayed}
+use Rattle.sector_disk.specs.laws.Pending.{had_more, replayed_more, crashed_more}
+use Rattle.sector_disk.specs.laws.Pending.{disk_image-replayed}
 use Rattle.sector_disk.proofs.CountLemmas.{counts_same, had_keeps, had_grows}
 use Rattle.sector_disk.proofs.Moments.{torn_none}
 use Rattle.sector_disk.proofs.MemoryLemmas.{shown_size}
@@ -16,7 +17,7 @@ index_mut-requires c = omega (arith, shown_size c.args.self.now, c.args.self.now
 
 pub invariant_of-self-2-clause-within : goal.invariant_of-self-2-clause-within
 invariant_of-self-2-clause-within c =
-    let P = IsWriteWithin (length c.args.self.now.settled.items) in
+    let P = IsWriteWithin (length c.args.self.now.durable.items) in
     rw c.in-Ok.ensures.items (All-push P c.args.self.now.pending.items
     (record { sector = c.args.sector; bytes = c.args.from.now }) c.args.self.now.within
     (record { within = omega arith; full = c.told-from }))
@@ -30,33 +31,34 @@ invariant_of-self-2-clause-replayed c =
     (sym (replayed_more c.args.self.now.pending.items (record {
       sector = c.args.sector;
       bytes = c.args.from.now;
-    }) c.args.self.now.settled.items))
+    }) c.args.self.now.durable.items))
 
 pub returns-clause-writes : goal.returns-clause-writes
 returns-clause-writes c =
-    let lt : c.args.sector < length c.args.self.now.settled.items = omega arith in
+    let lt : c.args.sector < length c.args.self.now.durable.items = omega arith in
     let d = c.args.self.now in
     let w : Rattle.sector_disk.specs.declared.write.Write.Write = record {
       sector = c.args.sector;
       bytes = c.args.from.now;
     } in
-    let image = subst (λ i. Rattle.sector_disk.specs.rules.Image.IsImage (length d.settled.items) i)
-    (sym d.replayed) (image-replayed _ d.pending.items d.settled.items d.full d.within) in
-    let left = λ (new : Image) (left : Leaves c.push.new.self.items d.settled.items new).
-    left_more d.pending.items w d.settled.items new
-    (subst (λ ws. Leaves ws d.settled.items new) c.in-Ok.ensures.items left) in
+    let image = subst (λ i. Rattle.sector_disk.specs.rules.DiskImage.IsDiskImage
+    (length d.durable.items) i) (sym d.replayed) (disk_image-replayed _ d.pending.items
+    d.durable.items d.full d.within) in
+    let crashed = λ (new : DiskImage) (crashed : Leaves c.push.new.self.items d.durable.items new).
+    crashed_more d.pending.items w d.durable.items new
+    (subst (λ ws. Leaves ws d.durable.items new) c.in-Ok.ensures.items crashed) in
     let more : length c.push.new.self.items ≡ length d.pending.items + 1 =
     omega (arith, ap length c.in-Ok.ensures.items, length_push d.pending.items w) in
     record {
       inside = lt;
       whole = record {
-        both = λ shown new both. let was = left new both.1 in
+        both = λ shown new both. let was = crashed new both.1 in
             (d.shown.items, was.0, (refl, was.1), both.0, was.2);
         unsynced = more;
       };
       tears = record {
         both = λ shown new both.
-            let was = left new both.1 in (
+            let was = crashed new both.1 in (
               d.shown.items,
               was.0,
               (refl, was.1),
@@ -72,9 +74,9 @@ returns-clause-writes c =
         unsynced = omega arith;
       };
       counts = record {
-        keeps = λ t n le since. had_keeps d.settled d.pending d.past.items c.and-past.result.items
+        keeps = λ t n le since. had_keeps d.durable d.pending d.past.items c.and-past.result.items
             (length c.push.new.self.items) t n c.and-past.ensures le since;
-        grows = λ t n le since. had_grows d.settled d.pending d.past.items c.and-past.result.items
+        grows = λ t n le since. had_grows d.durable d.pending d.past.items c.and-past.result.items
             (length c.push.new.self.items) (length d.pending.items + 1) t n c.and-past.ensures
             (omega arith) since;
       };
@@ -89,9 +91,9 @@ returns-clause-writes c =
 
 pub returns-clause-kept : goal.returns-clause-kept
 returns-clause-kept c =
-    λ t image le left.
-    inr (had_more t c.args.self.now.settled c.args.self.now.pending c.args.self.now.past.items
-    c.and-past.result.items image c.and-past.ensures le left)
+    λ t image le crashed.
+    inr (had_more t c.args.self.now.durable c.args.self.now.pending c.args.self.now.past.items
+    c.and-past.result.items image c.and-past.ensures le crashed)
 
 pub returns-then-sector-sectors-clause-writes : goal.returns-then-sector-sectors-clause-writes
 returns-then-sector-sectors-clause-writes c =

@@ -1,10 +1,10 @@
 use Rattle.std.proofs.Common.{◌≡◌, ◌⊎◌, ◌≤◌, ◌+◌, ◌*◌, max, ◌-◌, ◌∙◌, ℕ, List, [], ◌∷◌, length, sym}
 use Rattle.std.proofs.Common.{ap, subst, arith, rules}
 use Rattle.std.proofs.lemmas.Result.{on_ok_weaker}
-use Rattle.sector_disk.specs.rules.Image.{Image, IsTorn, IsWritten}
-use Rattle.sector_disk.specs.rules.Medium.{After, Follows, LeavesOnly, MakesCalls}
+use Rattle.sector_disk.specs.rules.DiskImage.{DiskImage, IsTorn, IsWritten}
+use Rattle.sector_disk.specs.rules.Medium.{After, Follows, LeavesOnly, PerformsCalls}
 use Rattle.sector_disk.specs.declared.disk_call.DiskCall.TheVariants.{WriteOf, Sync}
-use Rattle.sector_disk.proofs.CallLemmas.{made_then}
+use Rattle.sector_disk.proofs.CallLemmas.{performed_then}
 use Rattle.snapshot.proofs.StoreCalls.{no_head}
 use Rattle.disk_layout.specs.rules.Places.{head_place, area_place, rounded_up}
 use Rattle.snapshot.specs.rules.Steps.{HoldsWithZeros, Fills, Commits, Replaces}
@@ -20,8 +20,8 @@ returns-in_err-store_last-clause-any_moment g c = λ bytes given.
     let old = g.D.Disk.medium c.args.disk.now in
     let new = g.D.Disk.medium c.store_last.new.disk in
     let w = c.args.self in
-    leaves_weaker old new (After (Fills c.args.geometry.now w.generation) old.may_leave)
-    (After (Commits c.args.geometry.now w.generation w.version bytes) old.may_leave)
+    leaves_weaker old new (After (Fills c.args.geometry.now w.generation) old.crash_images)
+    (After (Commits c.args.geometry.now w.generation w.version bytes) old.crash_images)
     c.store_last.ensures.any_moment
     (λ image a. (
       a.0,
@@ -33,7 +33,7 @@ pub returns-clause-any_moment : goal.returns-clause-any_moment
 returns-clause-any_moment g c = λ bytes given.
     let old = g.D.Disk.medium c.args.disk.now in
     let mid = g.D.Disk.medium c.store_last.new.disk in
-    let new = g.D.Disk.medium c.settle_sector.new.disk in
+    let new = g.D.Disk.medium c.write_durably.new.disk in
     let w = c.args.self in
     let h = c.head-head.result in
     let geometry = c.args.geometry.now in
@@ -41,9 +41,9 @@ returns-clause-any_moment g c = λ bytes given.
     let digest = c.head-head.ensures.digest bytes given.hashed in
     let is = is_head h bytes digest c.head-head.ensures.small in
     let len = c.head-head.ensures.length ∙ sym given.count in
-    let one = subst (λ (n : ℕ). LeavesOnly old mid (After (Fills geometry n) old.may_leave))
+    let one = subst (λ (n : ℕ). LeavesOnly old mid (After (Fills geometry n) old.crash_images))
     (sym generation) c.store_last.ensures.any_moment in
-    let holds : (image : Image) → mid.shows image
+    let holds : (image : DiskImage) → mid.shows image
     → HoldsWithZeros geometry h.generation bytes image =
     λ image shows. subst (λ (n : ℕ). HoldsWithZeros geometry n bytes image) (sym generation)
     (c.in_ok-store_last.ensures.holds bytes given image shows) in
@@ -52,26 +52,26 @@ returns-clause-any_moment g c = λ bytes given.
     let inside : 3 ≤ mid.sectors = let l = c.store_last.ensures.any_moment in let p = l.passes in
     let r = c.requires.places in omega (arith, p.sectors, r) in
     let placed =
-    subst (λ (k : ℕ). LeavesOnly mid new (λ image. mid.may_leave image
+    subst (λ (k : ℕ). LeavesOnly mid new (λ image. mid.crash_images image
     ⊎ After (IsTorn k c.sector.result) mid.shows image)) c.head_place.ensures
-    c.settle_sector.ensures.any_moment in
-    let two = subst (λ (l : List ℕ). LeavesOnly mid new (λ image. mid.may_leave image
+    c.write_durably.ensures.any_moment in
+    let two = subst (λ (l : List ℕ). LeavesOnly mid new (λ image. mid.crash_images image
     ⊎ After (IsTorn (head_place h.generation) l) mid.shows image)) c.sector.ensures placed in
     let done = finished geometry h bytes is len digest few old mid new inside one holds two in
     let at = subst (λ (n : ℕ).
-    LeavesOnly old new (After (Commits geometry n h.version bytes) old.may_leave)) generation
+    LeavesOnly old new (After (Commits geometry n h.version bytes) old.crash_images)) generation
     done in
     subst (λ (v : ℕ).
-    LeavesOnly old new (After (Commits geometry w.generation v bytes) old.may_leave))
+    LeavesOnly old new (After (Commits geometry w.generation v bytes) old.crash_images))
     c.head-head.ensures.version at
 
 pub returns-clause-done : goal.returns-clause-done
 returns-clause-done g c =
-    on_ok_weaker c.settle_sector.result
+    on_ok_weaker c.write_durably.result
     (λ written. λ bytes given.
     let old = g.D.Disk.medium c.args.disk.now in
     let mid = g.D.Disk.medium c.store_last.new.disk in
-    let new = g.D.Disk.medium c.settle_sector.new.disk in
+    let new = g.D.Disk.medium c.write_durably.new.disk in
     let w = c.args.self in
     let h = c.head-head.result in
     let geometry = c.args.geometry.now in
@@ -79,9 +79,9 @@ returns-clause-done g c =
     let digest = c.head-head.ensures.digest bytes given.hashed in
     let is = is_head h bytes digest c.head-head.ensures.small in
     let len = c.head-head.ensures.length ∙ sym given.count in
-    let one = subst (λ (n : ℕ). LeavesOnly old mid (After (Fills geometry n) old.may_leave))
+    let one = subst (λ (n : ℕ). LeavesOnly old mid (After (Fills geometry n) old.crash_images))
     (sym generation) c.store_last.ensures.any_moment in
-    let holds : (image : Image) → mid.shows image
+    let holds : (image : DiskImage) → mid.shows image
     → HoldsWithZeros geometry h.generation bytes image =
     λ image shows. subst (λ (n : ℕ). HoldsWithZeros geometry n bytes image) (sym generation)
     (c.in_ok-store_last.ensures.holds bytes given image shows) in
@@ -90,62 +90,62 @@ returns-clause-done g c =
     let inside : 3 ≤ mid.sectors = let l = c.store_last.ensures.any_moment in let p = l.passes in
     let r = c.requires.places in omega (arith, p.sectors, r) in
     let placed =
-    subst (λ (k : ℕ). Follows (IsWritten k c.sector.result) mid.shows new.may_leave)
+    subst (λ (k : ℕ). Follows (IsWritten k c.sector.result) mid.shows new.crash_images)
     c.head_place.ensures written in
     let two = subst (λ (l : List ℕ).
-    Follows (IsWritten (head_place h.generation) l) mid.shows new.may_leave) c.sector.ensures
+    Follows (IsWritten (head_place h.generation) l) mid.shows new.crash_images) c.sector.ensures
     placed in
     let done = replaced geometry h bytes is len digest few old mid new inside one holds two in
     let at = subst (λ (n : ℕ).
-    Follows (Replaces geometry n h.version bytes) old.may_leave new.may_leave) generation done
+    Follows (Replaces geometry n h.version bytes) old.crash_images new.crash_images) generation done
     in
-    subst (λ (v : ℕ). Follows (Replaces geometry w.generation v bytes) old.may_leave new.may_leave)
-    c.head-head.ensures.version at)
-    c.settle_sector.ensures.written
+    subst (λ (v : ℕ). Follows (Replaces geometry w.generation v bytes) old.crash_images
+    new.crash_images) c.head-head.ensures.version at)
+    c.write_durably.ensures.written
 
 pub returns-clause-counts : goal.returns-clause-counts
 returns-clause-counts g c =
     let old = g.D.Disk.medium c.args.disk.now in
     let mid = g.D.Disk.medium c.store_last.new.disk in
-    let new = g.D.Disk.medium c.settle_sector.new.disk in
+    let new = g.D.Disk.medium c.write_durably.new.disk in
     let leaves = c.store_last.ensures.any_moment in
     let p = leaves.passes in
     let few = unsynced_within (old.unsynced + 1) old mid
     (omega arith) p.later c.store_last.ensures.counts in
     counts_then (old.unsynced + 1) (max mid.unsynced 1) (old.unsynced + 1) old mid new (omega arith)
-    (omega (arith, few)) p.later c.store_last.ensures.counts c.settle_sector.ensures.counts
+    (omega (arith, few)) p.later c.store_last.ensures.counts c.write_durably.ensures.counts
 
 pub returns-clause-whole : goal.returns-clause-whole
 returns-clause-whole g c = λ is some.
     let old = g.D.Disk.medium c.args.disk.now in
     let mid = g.D.Disk.medium c.store_last.new.disk in
-    let new = g.D.Disk.medium c.settle_sector.new.disk in
+    let new = g.D.Disk.medium c.write_durably.new.disk in
     let leaves = c.store_last.ensures.any_moment in
     let p = leaves.passes in
     let one = c.in_ok-store_last.ensures.whole is some in
-    let counts = c.settle_sector.ensures.counts in
-    on_ok_weaker c.settle_sector.result
-    (λ settled. subst (λ (n : ℕ). new.unsynced_since old.moment n) one
+    let counts = c.write_durably.ensures.counts in
+    on_ok_weaker c.write_durably.result
+    (λ all_synced. subst (λ (n : ℕ). new.unsynced_since old.moment n) one
     (counts.keeps old.moment mid.unsynced p.later (mid.count_now old.moment p.later)))
-    c.settle_sector.ensures.settled
+    c.write_durably.ensures.all_synced
 
 pub returns-clause-spared : goal.returns-clause-spared
 returns-clause-spared g c = λ is.
     let old = g.D.Disk.medium c.args.disk.now in
     let mid = g.D.Disk.medium c.store_last.new.disk in
-    let new = g.D.Disk.medium c.settle_sector.new.disk in
+    let new = g.D.Disk.medium c.write_durably.new.disk in
     let w = c.args.self in
     let place = area_place c.args.geometry.now w.generation in
     let leaves = c.store_last.ensures.any_moment in
     let p = leaves.passes in
-    on_ok_weaker c.settle_sector.result
+    on_ok_weaker c.write_durably.result
     (λ written. spares_head place w.sectors (rounded_up (512 * w.sectors + w.filled))
     c.head_place.result c.sector.result old mid new (omega (
       arith,
       c.head_place.ensures,
     )) p.later
-    (c.in_ok-store_last.ensures.spared is) written c.settle_sector.ensures.counts)
-    c.settle_sector.ensures.written
+    (c.in_ok-store_last.ensures.spared is) written c.write_durably.ensures.counts)
+    c.write_durably.ensures.written
 
 pub returns-in_err-store_last-clause-calls : goal.returns-in_err-store_last-clause-calls
 returns-in_err-store_last-clause-calls g c =
@@ -162,13 +162,13 @@ pub returns-clause-calls : goal.returns-clause-calls
 returns-clause-calls g c =
     let old = g.D.Disk.medium c.args.disk.now in
     let mid = g.D.Disk.medium c.store_last.new.disk in
-    let new = g.D.Disk.medium c.settle_sector.new.disk in
+    let new = g.D.Disk.medium c.write_durably.new.disk in
     let w = c.args.self in
     let s = c.in_ok-store_last.ensures.calls in
-    let r = c.settle_sector.result in
+    let r = c.write_durably.result in
     let k = c.head_place.result in
     let here : k ≡ head_place w.generation = c.head_place.ensures
     ∙ ap (λ (n : ℕ). head_place n) c.head-head.ensures.generation in
-    let head = made_then s.0 (Sync ∷ WriteOf k ∷ Sync
-    ∷ []) r old mid new s.2.all c.settle_sector.ensures.calls in
-    (s.0, s.1, subst (λ (j : ℕ). MakesCalls (Sync ∷ WriteOf j ∷ Sync ∷ s.0) r old new) here head)
+    let head = performed_then s.0 (Sync ∷ WriteOf k ∷ Sync
+    ∷ []) r old mid new s.2.all c.write_durably.ensures.calls in
+    (s.0, s.1, subst (λ (j : ℕ). PerformsCalls (Sync ∷ WriteOf j ∷ Sync ∷ s.0) r old new) here head)

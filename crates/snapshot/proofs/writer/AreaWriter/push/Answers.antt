@@ -20,7 +20,7 @@ returns-in_err-at-clause-any_moment g c =
     let mid = g.D.Disk.medium c.loop-at.disk in
     let new = g.D.Disk.medium c.take_in.new.disk in
     let two = subst (λ (n : ℕ).
-    LeavesOnly mid new (After (Fills c.args.geometry.now n) mid.may_leave)) i.generation
+    LeavesOnly mid new (After (Fills c.args.geometry.now n) mid.crash_images)) i.generation
     c.take_in.ensures.any_moment in
     more_fills c.args.geometry.now c.args.self.now.generation old mid new i.leaves two
 
@@ -37,13 +37,13 @@ returns-in_err-at-clause-counts g c =
     let joined : length (take (length bytes - c.loop-at.at) (drop c.loop-at.at bytes))
     ≡ length bytes - c.loop-at.at = ap (λ (l : List ℕ). length l) rest
     ∙ length-drop c.loop-at.at bytes in
-    let left = length (take (length bytes - c.loop-at.at) (drop c.loop-at.at bytes)) in
+    let bytes_left = length (take (length bytes - c.loop-at.at) (drop c.loop-at.at bytes)) in
     let most = old.unsynced + (c.args.self.now.filled + length bytes) / 512 in
-    let few : mid.unsynced + (c.loop-at.self.filled + left) / 512 ≤ most =
+    let few : mid.unsynced + (c.loop-at.self.filled + bytes_left) / 512 ≤ most =
     sectors_left _ _ _ _ _ _ c.loop-at.at (length bytes) _ i.unsynced i.length i.within
     c.loop-at.self.open c.args.self.now.open joined in
     let p = i.leaves.passes in
-    counts_then most (mid.unsynced + (c.loop-at.self.filled + left) / 512) most old mid new
+    counts_then most (mid.unsynced + (c.loop-at.self.filled + bytes_left) / 512) most old mid new
     (omega arith) few p.later i.counts c.take_in.ensures.counts
 
 pub loop-at-preserved : goal.loop-at-preserved
@@ -53,7 +53,7 @@ loop-at-preserved g c =
     let mid = g.D.Disk.medium c.loop-at.disk in
     let new = g.D.Disk.medium c.take_in.new.disk in
     let two = subst (λ (n : ℕ).
-    LeavesOnly mid new (After (Fills c.args.geometry.now n) mid.may_leave)) i.generation
+    LeavesOnly mid new (After (Fills c.args.geometry.now n) mid.crash_images)) i.generation
     c.take_in.ensures.any_moment in
     let n = c.in_ok-at.field-0 in
     let ok = c.in_ok-at.ensures in

@@ -31,7 +31,7 @@ invariant-loop-at g l =
       spared : l.fn.self.writing ≡ Changes
           → SparesSectors (area_place l.geometry l.fn.self.generation) l.fn.self.sectors
           l.self.sectors old now;
-      leaves : LeavesOnly old now (After (Fills l.geometry l.fn.self.generation) old.may_leave);
+      leaves : LeavesOnly old now (After (Fills l.geometry l.fn.self.generation) old.crash_images);
     }
 
 abbrev pub decreases-loop-at : goal.decreases-loop-at

@@ -2,7 +2,7 @@ use Rattle.std.proofs.Common.{◌≡◌, ◌<◌, ◌+◌, ◌-◌, ◌*◌, ◌
 use Rattle.std.proofs.Common.{replicate, refl, sym, ap, subst, arith}
 use Rattle.std.proofs.lemmas.List.{append-nil, drop-replicate}
 use Rattle.std.proofs.lemmas.Result.{on_ok_weaker}
-use Rattle.sector_disk.specs.rules.Image.{IsWritten, IsTorn}
+use Rattle.sector_disk.specs.rules.DiskImage.{IsWritten, IsTorn}
 use Rattle.sector_disk.specs.rules.Medium.{BothFollow}
 use Rattle.disk_layout.specs.rules.Places.{area_place, rounded_up}
 use Rattle.disk_layout.specs.rules.Sectors.{bytes_from}
@@ -11,7 +11,7 @@ use Rattle.snapshot.specs.declared.writing.Writing.TheVariants.{Changes}
 use Rattle.snapshot.specs.Store.{IsStoredAs}
 use Rattle.snapshot.specs.Writing.{SparesSectors}
 use Rattle.snapshot.specs.rules.Calls.{AreStores}
-use Rattle.snapshot.proofs.StoreCalls.{stores_none, same_stores, makes_at}
+use Rattle.snapshot.proofs.StoreCalls.{stores_none, same_stores, performs_at}
 use Rattle.snapshot.proofs.SpareLemmas.{spares_none, spares_one}
 use Rattle.snapshot.proofs.AreaLemmas.{area_in}
 use Rattle.snapshot.proofs.WriterLemmas.{store_fills, stored_more, zeros_held}
@@ -155,4 +155,4 @@ returns-clause-calls g c =
     omega (arith, c.area_place.ensures) in
     let same = same_stores w.writing w.writing (place + w.sectors) (c.area_place.result + w.sectors)
     (rounded_up (512 * w.sectors + w.filled) - w.sectors) 1 refl at one in
-    makes_at c.store_sector.result old new same c.store_sector.ensures.calls
+    performs_at c.store_sector.result old new same c.store_sector.ensures.calls

@@ -1,7 +1,7 @@
 use Rattle.std.proofs.Common.{◌≡◌, ◌≤◌, ◌<◌, ◌+◌, ◌-◌, ◌/◌, ◌++◌, ◌∙◌, ℕ, List, length, take, sym}
 use Rattle.std.proofs.Common.{subst, arith, length-append}
 use Rattle.std.proofs.lemmas.List.{append-nil, length-take-le, take_all}
-use Rattle.sector_disk.specs.rules.Image.{IsWritten, IsTorn}
+use Rattle.sector_disk.specs.rules.DiskImage.{IsWritten, IsTorn}
 use Rattle.sector_disk.specs.rules.Medium.{BothFollow}
 use Rattle.guest_memory.specs.rules.Bytes.{with_part}
 use Rattle.disk_layout.specs.rules.Places.{area_place}

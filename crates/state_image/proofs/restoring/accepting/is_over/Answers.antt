@@ -1,5 +1,5 @@
 use Rattle.std.proofs.Common.{◌≡◌, ap, ◌∙◌, arith}
-use Rattle.wasi_calls.specs.rules.Held.{HeldHost}
+use Rattle.wasi_calls.specs.rules.Held.{HeldWasiState}
 use Rattle.state_image.proofs.Accepted.{all_over}
 use Rattle.state_image.proofs.restoring.accepting.is_over.Goals as goal
 use Rattle.machine.proofs.LoadingLemmas.Words.{empty_iff}
@@ -9,9 +9,9 @@ returns-then-is_empty c =
     let v = c.args.process.now in
     let count = rw c.machine-machine.ensures at c.frame_count.ensures in
     let first : c.first.result.now ≡ v.host.host.first =
-    c.first.ensures ∙ ap (λ (h : HeldHost). h.host.first) c.host-host.ensures in
+    c.first.ensures ∙ ap (λ (h : HeldWasiState). h.host.first) c.host-host.ensures in
     let second : c.second.result.now ≡ v.host.host.second =
-    c.second.ensures ∙ ap (λ (h : HeldHost). h.host.second) c.host-host.ensures in
+    c.second.ensures ∙ ap (λ (h : HeldWasiState). h.host.second) c.host-host.ensures in
     all_over v.machine.state.frames v.machine.state.later v.host.host.first v.host.host.second
     c.is_starting.result c.is_empty-then-is_empty.result
     (omega (arith, count, c.if-frame_count-gt0.false))

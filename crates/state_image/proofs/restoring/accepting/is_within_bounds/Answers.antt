@@ -3,7 +3,7 @@ use Rattle.std.proofs.Common.{arith}
 use Rattle.wasm_semantics.specs.Validity.{IsValid}
 use Rattle.machine.specs.rules.Values.{MachineValue}
 use Rattle.process_rules.specs.Processes.{Ending}
-use Rattle.state_image.specs.rules.Image.{ending_code}
+use Rattle.state_image.specs.rules.ProcessImage.{ending_code}
 use Rattle.state_image.specs.rules.Saving.{saved_of}
 use Rattle.state_image.proofs.Accepted.{bounds_of}
 use Rattle.state_image.proofs.restoring.accepting.is_within_bounds.Goals as goal

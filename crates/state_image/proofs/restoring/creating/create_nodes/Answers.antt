@@ -1,5 +1,5 @@
 use Rattle.std.proofs.Common.{map}
-use Rattle.state_image.specs.restoring.Told.{lent_whole}
+use Rattle.state_image.specs.restoring.SavedNodes.{lent_whole}
 use Rattle.state_image.proofs.RestoreLemmas.Lent.{shown_read, fault_of}
 use Rattle.state_image.proofs.RestoreLemmas.Hung.{false_true}
 use Rattle.state_image.proofs.RestoreLemmas.Made.{told_begins, can_be_created, node_made}

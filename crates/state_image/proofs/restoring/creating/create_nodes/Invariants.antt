@@ -1,5 +1,5 @@
 use Rattle.std.proofs.Common.{map, take}
-use Rattle.state_image.specs.restoring.Told.{lent_whole, IsMadeOf}
+use Rattle.state_image.specs.restoring.SavedNodes.{lent_whole, IsMadeOf}
 use Rattle.state_image.proofs.restoring.creating.create_nodes.Given as goal
 
 abbrev pub invariant-loop-place : goal.invariant-loop-place

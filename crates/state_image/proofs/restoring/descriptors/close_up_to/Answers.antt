@@ -1,5 +1,5 @@
 use Rattle.std.proofs.Common.{length, ap, arith}
-use Rattle.wasi_calls_rules.specs.Hosts.{Descriptor}
+use Rattle.wasi_calls_rules.specs.WasiStates.{Descriptor}
 use Rattle.state_image.proofs.RestoreLemmas.OpenAgain.{one_more_closed}
 use Rattle.state_image.proofs.restoring.descriptors.close_up_to.Goals as goal
 

@@ -1,12 +1,12 @@
 use Rattle.std.proofs.Common.{arith}
 use Rattle.state_image.proofs.RestoreLemmas.Lent.{fault_of}
-use Rattle.state_image.proofs.RestoreLemmas.OpenAgain.{one_more_stands, one_more_opened}
+use Rattle.state_image.proofs.RestoreLemmas.OpenAgain.{one_more_comes, one_more_opened}
 use Rattle.state_image.proofs.restoring.descriptors.open_descriptors.Goals as goal
 
 pub returns-in_err-open_descriptor-clause-refused :
     goal.returns-in_err-open_descriptor-clause-refused
 returns-in_err-open_descriptor-clause-refused c refused ds rest all many is =
-    let next = one_more_stands c.args.tree.now c.loop.counter c.loop.descriptors.items ds
+    let next = one_more_comes c.args.tree.now c.loop.counter c.loop.descriptors.items ds
     c.args.reader.now c.loop.reader rest c.loop.invariant all
     (omega (arith, c.loop-test.true, many)) is in
     c.in_err-open_descriptor.ensures.refused

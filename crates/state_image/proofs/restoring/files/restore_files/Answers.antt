@@ -1,9 +1,9 @@
 use Rattle.std.proofs.Common.{◌++◌, ◌≡◌, List, Some, Vec, Global, map, subst, sym}
-use Rattle.state_image.specs.rules.Image.{files_bytes}
+use Rattle.state_image.specs.rules.ProcessImage.{files_bytes}
 use Rattle.state_image.specs.declared.restoring.whole_node.WholeNode.{WholeNode}
 use Rattle.state_image.specs.restoring.Named.{NamedNode, AreNamedNodes}
 use Rattle.state_image.specs.restoring.Parts.{wholes_at}
-use Rattle.state_image.specs.restoring.Told.{lent_whole}
+use Rattle.state_image.specs.restoring.SavedNodes.{lent_whole}
 use Rattle.state_image.proofs.RestoreLemmas.Fronts.{files_made, no_number, no_nodes, files_told}
 use Rattle.state_image.proofs.RestoreLemmas.Lent.{fault_of}
 use Rattle.state_image.proofs.RestoreLemmas.Loops.{none_by, if_ok}

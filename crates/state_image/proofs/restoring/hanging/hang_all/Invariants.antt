@@ -1,5 +1,5 @@
 use Rattle.std.proofs.Common.{◌≡◌, ◌-◌, ◌^◌, map}
-use Rattle.state_image.specs.restoring.Told.{lent_whole}
+use Rattle.state_image.specs.restoring.SavedNodes.{lent_whole}
 use Rattle.state_image.specs.restoring.Hanging.{HangsUpTo}
 use Rattle.state_image.proofs.restoring.hanging.hang_all.Given as goal
 

@@ -1,6 +1,6 @@
 use Rattle.std.proofs.Common.{map, ◌∙◌}
 use Rattle.state_image.specs.rules.Fronts.{lent_entry}
-use Rattle.state_image.specs.restoring.Told.{lent_whole, listed_node}
+use Rattle.state_image.specs.restoring.SavedNodes.{lent_whole, listed_node}
 use Rattle.state_image.proofs.RestoreLemmas.Lent.{shown_at, shown_all, fault_of}
 use Rattle.state_image.proofs.RestoreLemmas.Hung.{entry_hung}
 use Rattle.state_image.proofs.RestoreLemmas.Refused.{can_be_taken, next_directory}

@@ -1,5 +1,5 @@
 use Rattle.std.proofs.Common.{◌≡◌, map, drop}
-use Rattle.state_image.specs.restoring.Told.{lent_whole, listed_node}
+use Rattle.state_image.specs.restoring.SavedNodes.{lent_whole, listed_node}
 use Rattle.state_image.proofs.restoring.hanging.listed_node.Given as goal
 
 abbrev pub invariant-loop-node : goal.invariant-loop-node

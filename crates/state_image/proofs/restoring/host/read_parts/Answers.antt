@@ -1,5 +1,6 @@
 use Rattle.state_image.proofs.RestoreLemmas.Lent.{fault_of}
-use Rattle.state_image.proofs.RestoreLemmas.HostAgain.{no_files_of_host, no_descriptors_of_host}
+use Rattle.state_image.proofs.RestoreLemmas.WasiStateAgain.{no_files_of_host}
+use Rattle.state_image.proofs.RestoreLemmas.WasiStateAgain.{no_descriptors_of_host}
 use Rattle.state_image.proofs.restoring.host.read_parts.Goals as goal
 
 pub returns-in_err-tree-clause-refused : goal.returns-in_err-tree-clause-refused

@@ -1,5 +1,5 @@
 use Rattle.state_image.proofs.RestoreLemmas.Lent.{fault_of}
-use Rattle.state_image.proofs.RestoreLemmas.HostAgain.{fault_of_host, host_of_parts}
+use Rattle.state_image.proofs.RestoreLemmas.WasiStateAgain.{fault_of_host, host_of_parts}
 use Rattle.state_image.proofs.restoring.host.restore_host.Goals as goal
 
 pub returns-in_err-parts-clause-refused : goal.returns-in_err-parts-clause-refused

@@ -2,7 +2,7 @@ use Rattle.std.proofs.Common.{◌≡◌, ◌-◌, map}
 use Rattle.wasm_syntax.specs.laws.ReadingItems.{items_at}
 use Rattle.wasm_syntax.proofs.Grammar.Loops.{with_front}
 use Rattle.state_image.specs.restoring.Parts.{whole_node_at}
-use Rattle.state_image.specs.restoring.Told.{lent_whole}
+use Rattle.state_image.specs.restoring.SavedNodes.{lent_whole}
 use Rattle.state_image.proofs.restoring.parts.read_nodes.Given as goal
 
 abbrev pub invariant-loop : goal.invariant-loop

@@ -1,6 +1,6 @@
 use Rattle.std.proofs.Common.{map, ap, ◌∙◌, arith}
 use Rattle.file_tree.specs.rules.Files.{Files}
-use Rattle.state_image.specs.restoring.Told.{lent_whole}
+use Rattle.state_image.specs.restoring.SavedNodes.{lent_whole}
 use Rattle.state_image.proofs.RestoreLemmas.Hung.{false_true}
 use Rattle.state_image.proofs.RestoreLemmas.Made.{next_told, nothing_hangs}
 use Rattle.state_image.proofs.RestoreLemmas.Ended.{named_again, all_stay}

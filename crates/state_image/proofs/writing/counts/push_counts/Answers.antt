@@ -1,6 +1,6 @@
 use Rattle.std.proofs.Common.{ap, ◌∙◌}
 use Rattle.wasi_abi.specs.rules.Layouts.{u64_bytes}
-use Rattle.wasi_calls.specs.rules.Held.{HeldHost}
+use Rattle.wasi_calls.specs.rules.Held.{HeldWasiState}
 use Rattle.state_image.proofs.Pushing.{pushes_on, pushes_exit, pushes_of}
 use Rattle.state_image.proofs.writing.counts.push_counts.Goals as goal
 
@@ -33,7 +33,7 @@ returns-in_err-push_u64-4 g c =
 pub returns : goal.returns
 returns g c =
     let time = c.last_monotonic.ensures
-    ∙ ap (λ (h : HeldHost). h.host.last_monotonic) c.host.ensures in
+    ∙ ap (λ (h : HeldWasiState). h.host.last_monotonic) c.host.ensures in
     pushes_on (pushes_of u64_bytes c.steps.ensures.value c.in_ok-push_u64.ensures)
     (pushes_on (pushes_of u64_bytes c.answers.ensures.value c.in_ok-push_u64-2.ensures)
     (pushes_on (pushes_of u64_bytes c.requests.ensures.value c.in_ok-push_u64-3.ensures)

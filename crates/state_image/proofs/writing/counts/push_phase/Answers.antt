@@ -1,7 +1,7 @@
 use Rattle.std.proofs.Common.{ℕ, List, [], ◌∷◌, ap, ◌∙◌}
 use Rattle.wasi_abi.specs.rules.Layouts.{u32_bytes}
-use Rattle.state_image.specs.rules.Image.{ending_code, flag_of}
-use Rattle.wasi_calls.specs.rules.Held.{HeldHost}
+use Rattle.state_image.specs.rules.ProcessImage.{ending_code, flag_of}
+use Rattle.wasi_calls.specs.rules.Held.{HeldWasiState}
 use Rattle.state_image.proofs.Pushing.{pushes_on, pushes_exit, pushes_of}
 use Rattle.state_image.proofs.writing.counts.push_phase.Goals as goal
 
@@ -24,7 +24,7 @@ pub returns : goal.returns
 returns g c =
     let code = c.code_of.ensures ∙ ap ending_code c.reached_end.ensures in
     let flag = c.flag_of.ensures
-    ∙ ap flag_of (c.has_input_ended.ensures ∙ ap (λ (h : HeldHost). h.host.input_ended)
+    ∙ ap flag_of (c.has_input_ended.ensures ∙ ap (λ (h : HeldWasiState). h.host.input_ended)
     c.host.ensures) in
     pushes_on (pushes_of one c.phase_of.ensures c.in_ok-push_u8.ensures)
     (pushes_on (pushes_of u32_bytes code c.in_ok-push_u32.ensures)

@@ -1,5 +1,5 @@
 use Rattle.std.proofs.Common.{◌≡◌, ◌≤◌, length, take}
-use Rattle.state_image.specs.rules.Image.{open_from}
+use Rattle.state_image.specs.rules.ProcessImage.{open_from}
 use Rattle.state_image.proofs.writing.descriptors.count_open.Given as goal
 
 abbrev pub invariant-loop-descriptor : goal.invariant-loop-descriptor

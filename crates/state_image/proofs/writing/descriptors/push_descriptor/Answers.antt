@@ -1,6 +1,6 @@
 use Rattle.std.proofs.Common.{◌∙◌}
 use Rattle.wasi_abi.specs.rules.Layouts.{u16_bytes, u64_bytes}
-use Rattle.state_image.specs.rules.Image.{target_bytes}
+use Rattle.state_image.specs.rules.ProcessImage.{target_bytes}
 use Rattle.state_image.proofs.Pushing.{pushes_on, pushes_exit, pushes_of}
 use Rattle.state_image.proofs.writing.descriptors.push_descriptor.Goals as goal
 

@@ -4,7 +4,7 @@ use Rattle.std.specs.List.{flat_map}
 use Rattle.std.proofs.lemmas.Option.{slice_get_read}
 use Rattle.wasi_abi.specs.rules.Layouts.{u32_bytes}
 use Rattle.file_tree.specs.rules.Files.{Files}
-use Rattle.state_image.specs.rules.Image.{open_from, descriptor_bytes}
+use Rattle.state_image.specs.rules.ProcessImage.{open_from, descriptor_bytes}
 use Rattle.state_image.proofs.Pushing.{pushes_exit, pushes_of}
 use Rattle.state_image.proofs.Opened.{pushes_opened, pushes_opened_exit, pushes_all_opened}
 use Rattle.state_image.proofs.writing.descriptors.push_descriptors.Goals as goal

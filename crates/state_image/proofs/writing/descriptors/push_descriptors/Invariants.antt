@@ -1,7 +1,7 @@
 use Rattle.std.proofs.Common.{◌++◌, length, take, Ok}
 use Rattle.std.specs.List.{flat_map}
 use Rattle.wasi_abi.specs.rules.Layouts.{u32_bytes}
-use Rattle.state_image.specs.rules.Image.{open_from, descriptor_bytes}
+use Rattle.state_image.specs.rules.ProcessImage.{open_from, descriptor_bytes}
 use Rattle.state_image.specs.rules.Sinks.{Pushes}
 use Rattle.state_image.proofs.writing.descriptors.push_descriptors.Given as goal
 

@@ -2,7 +2,7 @@ use Rattle.std.proofs.Common.{ℕ, ◌∷◌, sym}
 use Rattle.wasi_abi.specs.rules.Layouts.{u64_bytes}
 use Rattle.wasi_calls.specs.declared.descriptor.Names.{Names}
 use Rattle.wasi_calls.specs.Views.{target_of}
-use Rattle.state_image.specs.rules.Image.{target_bytes}
+use Rattle.state_image.specs.rules.ProcessImage.{target_bytes}
 use Rattle.state_image.proofs.Pushing.{pushes_of}
 use Rattle.state_image.proofs.writing.descriptors.push_target.Goals as goal
 
@@ -16,5 +16,5 @@ pub returns-in-Node : goal.returns-in-Node
 returns-in-Node g c =
     let fs = c.args.tree.now in
     pushes_of (λ (names : Names). target_bytes fs (target_of names)) (sym c.in-Node.is)
-    (pushes_of (λ (kind : ℕ). kind ∷ u64_bytes c.in-Node.node) c.kind_of.ensures
-    c.push_named-in-Node.ensures)
+    (pushes_of (λ (target_type : ℕ). target_type ∷ u64_bytes c.in-Node.node)
+    c.type_number_of.ensures c.push_named-in-Node.ensures)

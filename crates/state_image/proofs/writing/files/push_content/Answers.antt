@@ -1,5 +1,5 @@
 use Rattle.std.proofs.Common.{sym, ◌∙◌}
-use Rattle.state_image.specs.rules.Image.{content_bytes}
+use Rattle.state_image.specs.rules.ProcessImage.{content_bytes}
 use Rattle.state_image.proofs.Pushing.{pushes_of}
 use Rattle.state_image.proofs.NodesAt.{directory_held, file_held}
 use Rattle.state_image.proofs.writing.files.push_content.Goals as goal

@@ -1,7 +1,7 @@
 use Rattle.std.proofs.Common.{◌<◌, ◌≤◌, length, arith}
 use Rattle.wasi_abi.specs.rules.Layouts.{u32_bytes}
 use Rattle.file_tree.specs.rules.Files.{entries_of}
-use Rattle.state_image.specs.rules.Image.{entry_bytes}
+use Rattle.state_image.specs.rules.ProcessImage.{entry_bytes}
 use Rattle.state_image.proofs.Pushing.{pushes_exit, pushes_of}
 use Rattle.state_image.proofs.PushedItems.{item_at, front_more}
 use Rattle.state_image.proofs.PushedItems.{pushes_item, pushes_item_exit, pushes_items}

@@ -2,7 +2,7 @@ use Rattle.std.proofs.Common.{◌++◌, length, take, Ok}
 use Rattle.std.specs.List.{flat_map}
 use Rattle.wasi_abi.specs.rules.Layouts.{u32_bytes}
 use Rattle.file_tree.specs.rules.Files.{entries_of}
-use Rattle.state_image.specs.rules.Image.{entry_bytes}
+use Rattle.state_image.specs.rules.ProcessImage.{entry_bytes}
 use Rattle.state_image.specs.rules.Sinks.{Pushes}
 use Rattle.state_image.proofs.writing.files.push_entries.Given as goal
 

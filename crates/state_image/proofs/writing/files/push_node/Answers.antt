@@ -1,6 +1,6 @@
 use Rattle.std.proofs.Common.{ℕ, ◌++◌, sym}
 use Rattle.wasi_abi.specs.rules.Layouts.{u64_bytes}
-use Rattle.state_image.specs.rules.Image.{content_bytes}
+use Rattle.state_image.specs.rules.ProcessImage.{content_bytes}
 use Rattle.state_image.proofs.Pushing.{pushes_on, pushes_exit, pushes_of}
 use Rattle.state_image.proofs.writing.files.push_node.Goals as goal
 

@@ -1,6 +1,6 @@
 use Rattle.std.proofs.Common.{◌≤◌, length, sym, ◌∙◌, arith}
 use Rattle.wasi_abi.specs.rules.Layouts.{u32_bytes}
-use Rattle.state_image.specs.rules.Image.{node_bytes}
+use Rattle.state_image.specs.rules.ProcessImage.{node_bytes}
 use Rattle.state_image.proofs.Pushing.{pushes_exit, pushes_of}
 use Rattle.state_image.proofs.PushedItems.{front_more, pushes_item, pushes_item_exit, pushes_items}
 use Rattle.state_image.proofs.NodesAt.{has_number, numbered, node_found}

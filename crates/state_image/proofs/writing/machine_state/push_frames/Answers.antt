@@ -2,7 +2,7 @@ use Rattle.std.proofs.Common.{◌≤◌, length, reverse, sym, ◌∙◌, arith}
 use Rattle.std.proofs.lemmas.List.{length-reverse}
 use Rattle.wasi_abi.specs.rules.Layouts.{u32_bytes}
 use Rattle.machine.specs.rules.LentFrames.{lent_frame}
-use Rattle.state_image.specs.rules.Image.{place_bytes}
+use Rattle.state_image.specs.rules.ProcessImage.{place_bytes}
 use Rattle.state_image.proofs.Pushing.{pushes_exit, pushes_of}
 use Rattle.state_image.proofs.PushedItems.{front_more, pushes_item, pushes_item_exit, pushes_items}
 use Rattle.state_image.proofs.writing.machine_state.push_frames.Goals as goal

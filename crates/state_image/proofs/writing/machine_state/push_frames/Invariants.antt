@@ -1,7 +1,7 @@
 use Rattle.std.proofs.Common.{◌++◌, length, reverse, take, Ok}
 use Rattle.std.specs.List.{flat_map}
 use Rattle.wasi_abi.specs.rules.Layouts.{u32_bytes}
-use Rattle.state_image.specs.rules.Image.{place_bytes}
+use Rattle.state_image.specs.rules.ProcessImage.{place_bytes}
 use Rattle.state_image.specs.rules.Sinks.{Pushes}
 use Rattle.state_image.proofs.writing.machine_state.push_frames.Given as goal
 

@@ -1,6 +1,6 @@
 use Rattle.wasi_abi.specs.rules.Layouts.{u64_bytes}
 use Rattle.guest_memory.specs.rules.Memories.{LinearMemory}
-use Rattle.state_image.specs.rules.Image.{items_bytes, memory_bytes}
+use Rattle.state_image.specs.rules.ProcessImage.{items_bytes, memory_bytes}
 use Rattle.state_image.proofs.Pushing.{pushes_on, pushes_exit, pushes_of}
 use Rattle.state_image.proofs.writing.machine_state.push_machine.Goals as goal
 

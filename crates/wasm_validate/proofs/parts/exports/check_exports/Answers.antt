@@ -28,17 +28,17 @@ loop-export-preserved c =
     let e = c.export-item.result in
     let keys = c.loop-export.names.keys in
     let i = c.loop-export.export-index in
-    let left = drop (i + 1) c.args.exports.now in
+    let exports_left = drop (i + 1) c.args.exports.now in
     let remaining = next c.args.exports.now i e c.loop-export-test.true c.export-item.is in
     let P : List Export → Type 0 = AreNewNames keys in
-    let K : List (Bor (List ℕ)) → Type 0 = λ ks. AreNewNames ks left in
+    let K : List (Bor (List ℕ)) → Type 0 = λ ks. AreNewNames ks exports_left in
     let added : c.in_ok-is_new.is_new ≡ not (has_name keys c.as_slice.result) =
     c.in_ok-is_new.ensures.added in
     let put : c.insert.new.self.keys ≡ insert_key name_cmp keys c.as_slice.result =
     c.in_ok-is_new.ensures.keys in
     let new = new_from_absent keys c.as_slice.result (not_true _ (sym added
     ∙ c.if-not-is_new.false)) in
-    let one = one_more_name keys c.as_slice.result e left c.as_slice.ensures new in
+    let one = one_more_name keys c.as_slice.result e exports_left c.as_slice.ensures new in
     let names = c.loop-export.invariant.names in
     record {
       items = λ m functions s.

@@ -3,7 +3,7 @@ use Rattle.std.proofs.lemmas.List.{take_all}
 use Rattle.serde_json.specs.Data.{array}
 use Rattle.serde_json.specs.View.{items_of}
 use Rattle.serde_json.proofs.Views.{view-Array}
-use Rattle.wasi_calls_rules.specs.Hosts.{Descriptor}
+use Rattle.wasi_calls_rules.specs.WasiStates.{Descriptor}
 use Rattle.wasmhost_commands.specs.rules.InspectionValues.{descriptors_data}
 use Rattle.wasmhost_commands.proofs.ValueLemmas.{one_more_opened}
 use Rattle.wasmhost_commands.proofs.inspecting.host_values.descriptors_value.Goals as goal

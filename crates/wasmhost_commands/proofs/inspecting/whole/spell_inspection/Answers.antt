@@ -2,7 +2,7 @@ use Rattle.std.proofs.Common.{ℕ, ◌*◌, List, ◌++◌, subst, ◌∙◌}
 use Rattle.std.specs.Io.KnownBytes.{Appends}
 use Rattle.std.proofs.lemmas.Result.{on_ok_weaker}
 use Rattle.file_tree.specs.declared.limits.TheConstants.{UNIT_BYTES}
-use Rattle.wasi_calls.specs.rules.Held.{HeldHost}
+use Rattle.wasi_calls.specs.rules.Held.{HeldWasiState}
 use Rattle.disk_layout.specs.rules.Journal.{Record}
 use Rattle.wasmhost_commands.specs.rules.InspectionTexts.{snapshot_facts, host_facts, journal_facts}
 use Rattle.wasmhost_commands.specs.rules.ProcessTexts.{process_facts}
@@ -14,8 +14,8 @@ pub returns : goal.returns
 returns g c =
     let told = c.args.told.now in
     let contents = contents_facts told.process.host.host.version told.contents in
-    let snapshot = snapshot_facts told.generation told.image_bytes in
-    let process = process_facts told.process told.wish in
+    let snapshot = snapshot_facts told.generation told.process_image_bytes in
+    let process = process_facts told.process told.question in
     let host = host_facts (told.contents.config.files * UNIT_BYTES) told.process.host.host in
     let from = g.W.Write.contents c.args.out.now in
     let first = g.W.Write.contents c.spell_contents.new.out in
@@ -35,7 +35,7 @@ returns g c =
     (subst (λ (n : ℕ). Appends third fourth
     (host_facts (n * UNIT_BYTES) told.process.host.host))
     (c.from-room.ensures ∙ c.files.ensures.value)
-    (subst (λ (h : HeldHost). Appends third fourth
+    (subst (λ (h : HeldWasiState). Appends third fourth
     (host_facts (c.from-room.result * UNIT_BYTES) h.host)) c.host.ensures
     c.in_ok-spell_host.ensures)))
     (subst (λ (rs : List Record). Appends fourth last (journal_facts rs told.journal_left))

@@ -1,7 +1,7 @@
 use Rattle.std.proofs.Common.{ℕ, ◌*◌, List, ◌++◌, subst, ◌∙◌}
 use Rattle.std.proofs.lemmas.Result.{on_ok_weaker}
 use Rattle.file_tree.specs.declared.limits.TheConstants.{UNIT_BYTES}
-use Rattle.wasi_calls.specs.rules.Held.{HeldHost}
+use Rattle.wasi_calls.specs.rules.Held.{HeldWasiState}
 use Rattle.disk_layout.specs.rules.Journal.{Record}
 use Rattle.wasmhost_commands.specs.rules.InspectionValues.{Puts, host_members, journal_members}
 use Rattle.wasmhost_commands.specs.rules.InspectionValues.{snapshot_members}
@@ -14,8 +14,8 @@ pub returns : goal.returns
 returns c =
     let told = c.args.told.now in
     let contents = contents_members told.process.host.host.version told.contents in
-    let snapshot = snapshot_members told.generation told.image_bytes in
-    let process = process_members told.process told.wish in
+    let snapshot = snapshot_members told.generation told.process_image_bytes in
+    let process = process_members told.process told.question in
     let host = host_members (told.contents.config.files * UNIT_BYTES) told.process.host.host in
     let from = c.args.members.now.entries in
     let first = c.put_contents.new.members.entries in
@@ -34,7 +34,7 @@ returns c =
     (subst (λ (n : ℕ). Puts third fourth
     (host_members (n * UNIT_BYTES) told.process.host.host))
     (c.from-room.ensures ∙ c.files.ensures.value)
-    (subst (λ (h : HeldHost). Puts third fourth
+    (subst (λ (h : HeldWasiState). Puts third fourth
     (host_members (c.from-room.result * UNIT_BYTES) h.host)) c.host.ensures
     c.in_ok-put_host.ensures)))
     (subst (λ (rs : List Record). Puts fourth last (journal_members rs told.journal_left))

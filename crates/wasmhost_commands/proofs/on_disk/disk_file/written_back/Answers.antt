@@ -6,5 +6,5 @@ returns-in-Ok-clause-opened g c =
     let opened = c.args.disk in
     let disk = c.rewrite.new.disk in
     opened_as_asked opened disk c.args.rewrites c.if-not-rewrites.false
-    (is_written_back opened disk c.requires c.in-Ok.ensures.same c.in-Ok.ensures.settled
+    (is_written_back opened disk c.requires c.in-Ok.ensures.same c.in-Ok.ensures.all_synced
     c.in-Ok.ensures.any_moment.passes.sectors c.in-Ok.ensures.calls.all)

@@ -34,11 +34,11 @@ returns-in-Err-clause-failed g c =
 
 pub returns-then-taken-every-clause-done : goal.returns-then-taken-every-clause-done
 returns-then-taken-every-clause-done g c =
-    rw c.rest_on.ensures.quiet (within_rests g.D.Disk.medium g.S.Source.gives g.O.Outlet.takes _ _ _ _ _ c.loop-now.invariant
-    c.get.result c.get.ensures.value _ _ _ _ _ c.get-every.ensures.value c.in-Ok.now
-    c.in-Ok.ensures.carries c.in-Ok.ensures.done c.rest_on.result _ _ c.rest_on.ensures.rested
-    (slice_hears g.S.Source.gives g.O.Outlet.takes c.get.result _ _ _ _ _ _ c.in-Ok.now
-    c.is_process.ensures c.in-Ok.ensures.done)
+    rw c.rest_on.ensures.quiet (within_rests g.D.Disk.medium g.S.Source.gives g.O.Outlet.takes _ _ _
+    _ _ c.loop-now.invariant c.get.result c.get.ensures.value _ _ _ _ _
+    c.get-every.ensures.value c.in-Ok.now c.in-Ok.ensures.carries c.in-Ok.ensures.done
+    c.rest_on.result _ _ c.rest_on.ensures.rested (slice_hears g.S.Source.gives g.O.Outlet.takes
+    c.get.result _ _ _ _ _ _ c.in-Ok.now c.is_process.ensures c.in-Ok.ensures.done)
     (slice_takes g.S.Source.gives g.O.Outlet.takes c.get.result _ _ _ _ _ _ c.in-Ok.now
     c.is_process.ensures c.in-Ok.ensures.done)
     (λ spent. elim c.then-taken-every.branch [
@@ -49,11 +49,11 @@ returns-then-taken-every-clause-done g c =
 
 pub returns-then-taken-every-clause-failed : goal.returns-then-taken-every-clause-failed
 returns-then-taken-every-clause-failed g c =
-    rw c.rest_on.ensures.quiet (within_broken g.D.Disk.medium g.S.Source.gives g.O.Outlet.takes _ _ _ _ _ c.loop-now.invariant
-    c.get.result c.get.ensures.value _ _ _ _ _ c.get-every.ensures.value c.in-Ok.now
-    c.in-Ok.ensures.carries c.in-Ok.ensures.done c.rest_on.result _ _ c.rest_on.ensures.rested
-    (slice_hears g.S.Source.gives g.O.Outlet.takes c.get.result _ _ _ _ _ _ c.in-Ok.now
-    c.is_process.ensures c.in-Ok.ensures.done)
+    rw c.rest_on.ensures.quiet (within_broken g.D.Disk.medium g.S.Source.gives g.O.Outlet.takes _ _
+    _ _ _ c.loop-now.invariant c.get.result c.get.ensures.value _ _ _ _ _
+    c.get-every.ensures.value c.in-Ok.now c.in-Ok.ensures.carries c.in-Ok.ensures.done
+    c.rest_on.result _ _ c.rest_on.ensures.rested (slice_hears g.S.Source.gives g.O.Outlet.takes
+    c.get.result _ _ _ _ _ _ c.in-Ok.now c.is_process.ensures c.in-Ok.ensures.done)
     (slice_takes g.S.Source.gives g.O.Outlet.takes c.get.result _ _ _ _ _ _ c.in-Ok.now
     c.is_process.ensures c.in-Ok.ensures.done))
 

@@ -1,10 +1,10 @@
 use Rattle.std.proofs.Common.{◌∙◌, ap, subst}
 use Rattle.std.specs.Int.NonZero.{non_zero_u64_get}
 use Rattle.wasi_abi.specs.rules.Versions.{text_limit}
-use Rattle.wasi_calls.specs.rules.Held.{HeldHost}
+use Rattle.wasi_calls.specs.rules.Held.{HeldWasiState}
 use Rattle.process.specs.rules.Values.{ProcessValue}
-use Rattle.wasmhost_commands.specs.Lines.Answers.{standing}
-use Rattle.wasmhost_commands.specs.rules.DiskStatuses.{IsToldOnDisk}
+use Rattle.wasmhost_commands.specs.Lines.Answers.{source_state}
+use Rattle.wasmhost_commands.specs.rules.DiskStatuses.{IsReportedOnDisk}
 use Rattle.wasmhost_commands.specs.rules.ServedOnDisk.{disk_job}
 use Rattle.wasmhost_commands.proofs.OnDiskLemmas.{is_behind, has_gone, has_failed}
 use Rattle.wasmhost_commands.proofs.on_disk.serving.go_on.Goals as goal
@@ -12,7 +12,7 @@ use Rattle.wasmhost_commands.proofs.on_disk.serving.go_on.Goals as goal
 pub returns-in-Ok-clause-gone : goal.returns-in-Ok-clause-gone
 returns-in-Ok-clause-gone g c =
     let behind = c.go_on_behind.ensures in
-    has_gone g.D.Disk.medium (λ s. standing s.outside (text_limit s.requests.version) s.stream
+    has_gone g.D.Disk.medium (λ s. source_state s.outside (text_limit s.requests.version) s.stream
     s.requests.taken s.place (g.R.LineReader.unread s.requests.reader)
     (g.R.LineReader.has_failed s.requests.reader) s.fault) g.O.Outlet.takes
     (disk_job (non_zero_u64_get c.args.pace.fuel) (non_zero_u64_get c.args.pace.every)
@@ -22,7 +22,7 @@ returns-in-Ok-clause-gone g c =
     c.args.outlet.now c.live.new.outlet
     (is_behind g.R.LineReader.unread g.R.LineReader.has_failed behind.outside
     (ap text_limit (behind.version ∙ c.version-version.ensures
-    ∙ ap (λ (h : HeldHost). h.host.version) c.host.ensures
+    ∙ ap (λ (h : HeldWasiState). h.host.version) c.host.ensures
     ∙ ap (λ (p : ProcessValue). p.host.host.version) c.process.ensures))
     (behind.stream ∙ c.generation.ensures)
     (behind.taken ∙ c.requests-taken.ensures.value ∙ ap (λ p. p.requests) c.process-2.ensures)
@@ -32,7 +32,7 @@ returns-in-Ok-clause-gone g c =
 pub returns-in-Err-clause-gone : goal.returns-in-Err-clause-gone
 returns-in-Err-clause-gone g c =
     let behind = c.go_on_behind.ensures in
-    has_failed g.D.Disk.medium (λ s. standing s.outside (text_limit s.requests.version) s.stream
+    has_failed g.D.Disk.medium (λ s. source_state s.outside (text_limit s.requests.version) s.stream
     s.requests.taken s.place (g.R.LineReader.unread s.requests.reader)
     (g.R.LineReader.has_failed s.requests.reader) s.fault) g.O.Outlet.takes
     (disk_job (non_zero_u64_get c.args.pace.fuel) (non_zero_u64_get c.args.pace.every)
@@ -42,11 +42,11 @@ returns-in-Err-clause-gone g c =
     c.args.outlet.now c.live.new.outlet
     (is_behind g.R.LineReader.unread g.R.LineReader.has_failed behind.outside
     (ap text_limit (behind.version ∙ c.version-version.ensures
-    ∙ ap (λ (h : HeldHost). h.host.version) c.host.ensures
+    ∙ ap (λ (h : HeldWasiState). h.host.version) c.host.ensures
     ∙ ap (λ (p : ProcessValue). p.host.host.version) c.process.ensures))
     (behind.stream ∙ c.generation.ensures)
     (behind.taken ∙ c.requests-taken.ensures.value ∙ ap (λ p. p.requests) c.process-2.ensures)
     behind.place behind.reader behind.unfailed)
     c.in-Err.fault c.call_fault_of.result
-    (subst (λ l. IsToldOnDisk c.in-Err.fault l c.call_fault_of.result) c.fault.ensures
+    (subst (λ l. IsReportedOnDisk c.in-Err.fault l c.call_fault_of.result) c.fault.ensures
     c.call_fault_of.ensures) c.in-Err.ensures.lives

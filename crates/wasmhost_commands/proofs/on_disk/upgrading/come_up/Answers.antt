@@ -1,5 +1,8 @@
 use Rattle.std.proofs.Common.{arith, refl}
 use Rattle.ephemeral_worker.specs.declared.now.Now.TheVariants.{Waiting, Ended, Spent}
+use Rattle.wasmhost_commands.proofs.BreakLemmas.{slice_breaks_in}
+use Rattle.wasmhost_commands.proofs.HearingLemmas.{slice_hears_up_to}
+use Rattle.wasmhost_commands.proofs.TakingLemmas.{slice_heeds}
 use Rattle.wasmhost_commands.proofs.LivingLemmas.{slice_fewer}
 use Rattle.wasmhost_commands.proofs.UpgradingLemmas.{none_come, come_more, come_last}
 use Rattle.wasmhost_commands.proofs.UpgradingLemmas.{come_broken}
@@ -18,19 +21,34 @@ loop-how-smaller g c =
 pub loop-how-preserved : goal.loop-how-preserved
 loop-how-preserved g c =
     come_more g.D.Disk.medium g.S.Source.gives g.O.Outlet.takes _ _ _ c.loop-how.invariant _ _ _ _
-    (rw c.in-Ok-Spent.field-0-is at c.in-Ok-Spent.ensures.carries) c.in-Ok-Spent.ensures.room
+    (rw c.in-Ok-Spent.field-0-is at c.in-Ok-Spent.ensures.carries) c.is_process.ensures
+    (omega (arith)) (rw c.in-Ok-Spent.field-0-is at c.in-Ok-Spent.ensures.done)
+    c.in-Ok-Spent.ensures.room
 
 pub returns-in-Ok-Waiting-clause-comes : goal.returns-in-Ok-Waiting-clause-comes
 returns-in-Ok-Waiting-clause-comes g c =
     come_last g.D.Disk.medium g.S.Source.gives g.O.Outlet.takes _ _ _ c.loop-how.invariant _ _ _ _
     Waiting (rw c.in-Ok-Waiting.field-0-is at c.in-Ok-Waiting.ensures.carries)
+    c.is_process.ensures (rw c.in-Ok-Waiting.field-0-is at c.in-Ok-Waiting.ensures.done)
 
 pub returns-in-Ok-Ended-clause-comes : goal.returns-in-Ok-Ended-clause-comes
 returns-in-Ok-Ended-clause-comes g c =
     come_last g.D.Disk.medium g.S.Source.gives g.O.Outlet.takes _ _ _ c.loop-how.invariant _ _ _ _
     (Ended c.in-Ok-Ended.how) (rw c.in-Ok-Ended.field-0-is at c.in-Ok-Ended.ensures.carries)
+    c.is_process.ensures (rw c.in-Ok-Ended.field-0-is at c.in-Ok-Ended.ensures.done)
 
 pub returns-in-Err-clause-comes : goal.returns-in-Err-clause-comes
 returns-in-Err-clause-comes g c =
     come_broken g.D.Disk.medium g.S.Source.gives g.O.Outlet.takes _ _ _ c.loop-how.invariant _ _ _ _
     c.in-Err.fault c.in-Err.ensures.carries
+    (slice_hears_up_to g.S.Source.gives g.O.Outlet.takes 100000 _ _ _ _
+    c.loop-how.worker.process c.slice.new.self.process c.in-Err.fault c.loop-how.worker.has_failed
+    c.is_process.ensures c.in-Err.ensures.failed (λ e. (c.in-Err.ensures.refused e).3))
+    (slice_heeds g.S.Source.gives g.O.Outlet.takes 100000 _ _ _ _
+    c.loop-how.worker.process c.slice.new.self.process c.in-Err.fault c.loop-how.worker.has_failed
+    c.is_process.ensures c.in-Err.ensures.failed (λ e. (c.in-Err.ensures.refused e).0)
+    (λ e. (c.in-Err.ensures.refused e).4))
+    (slice_breaks_in g.S.Source.gives g.O.Outlet.takes 100000 _ _ _ _
+    c.loop-how.worker.process c.slice.new.self.process c.in-Err.fault c.loop-how.worker.has_failed
+    c.in-Err.ensures.failed (λ e. (c.in-Err.ensures.refused e).0)
+    (λ e. (c.in-Err.ensures.refused e).3) (λ e. (c.in-Err.ensures.refused e).4))

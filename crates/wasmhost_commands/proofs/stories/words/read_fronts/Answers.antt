@@ -23,8 +23,9 @@ loop-front-smaller c = some_shorter c.args.separator c.loop-front.rest.now c.in-
 
 pub loop-front-preserved : goal.loop-front-preserved
 loop-front-preserved c =
-    subst (λ l. option_map (λ more. l ++ more) (fronts_between c.args.separator c.in-Some-behind.next.now)
-    ≡ fronts_between c.args.separator c.args.text.now) (sym c.in_ok-push.ensures.pushed)
-    (next_front c.args.separator c.loop-front.fronts c.loop-front.rest.now _ _ _ c.loop-front.invariant
-    c.split_once.ensures.before c.split_once.ensures.after c.in-Some.front c.in-Some-behind.next.now
+    subst (λ l. option_map (λ more. l ++ more) (fronts_between c.args.separator
+    c.in-Some-behind.next.now) ≡ fronts_between c.args.separator c.args.text.now)
+    (sym c.in_ok-push.ensures.pushed) (next_front c.args.separator c.loop-front.fronts
+    c.loop-front.rest.now _ _ _ c.loop-front.invariant c.split_once.ensures.before
+    c.split_once.ensures.after c.in-Some.front c.in-Some-behind.next.now
     (sym c.read_front.ensures ∙ c.in-Some.is) (ap option_copied c.in-Some-behind.is))

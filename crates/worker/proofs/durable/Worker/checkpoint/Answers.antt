@@ -50,7 +50,7 @@ returns-in-Err-clause-carries g c =
     c.in-Err.ensures.same
     (fault_keeps g.D.Disk.medium c.self.inside.running c.self.inside.replayed
     c.self.inside.has_failed c.args.self.now c.self.view_is c.args.disk.now
-    c.save_telling-saved.new.disk c.images_fit_areas.ensures c.is_process.ensures
+    c.save_telling-saved.new.disk c.process_images_fit_areas.ensures c.is_process.ensures
     c.save_telling-saved.new.store
     c.in-Err.ensures.any_moment c.in-Err.ensures.asks c.in-Err.fault c.from.result c.from.ensures
     c.in-Err.ensures.cause)
@@ -66,7 +66,7 @@ pub returns-in-Err-clause-cause : goal.returns-in-Err-clause-cause
 returns-in-Err-clause-cause g c =
     fault_cause g.D.Disk.medium c.self.inside.running c.self.inside.replayed
     c.self.inside.has_failed c.args.self.now c.self.view_is c.args.disk.now
-    c.save_telling-saved.new.disk c.images_fit_areas.ensures c.is_process.ensures
+    c.save_telling-saved.new.disk c.process_images_fit_areas.ensures c.is_process.ensures
     c.save_telling-saved.new.store
     c.in-Err.ensures.any_moment c.in-Err.ensures.asks c.in-Err.fault c.from.result c.from.ensures
     c.in-Err.ensures.cause
@@ -75,8 +75,8 @@ pub returns-in-Err-clause-room : goal.returns-in-Err-clause-room
 returns-in-Err-clause-room g c =
     room_after g.D.Disk.medium c.self.inside.running c.self.inside.replayed
     c.self.inside.has_failed c.args.self.now c.self.view_is c.args.disk.now
-    c.save_telling-saved.new.disk c.save_telling-saved.new.store c.in-Err.ensures.stays c.in-Err.ensures.passes
-    c.requires
+    c.save_telling-saved.new.disk c.save_telling-saved.new.store c.in-Err.ensures.stays
+    c.in-Err.ensures.passes c.requires
 
 pub returns-clause-carries : goal.returns-clause-carries
 returns-clause-carries g c =
@@ -89,7 +89,7 @@ returns-clause-carries g c =
     c.self.inside.has_failed c.in_default.ensures.same
     (done_keeps g.D.Disk.medium c.self.inside.running c.self.inside.replayed
     c.self.inside.has_failed c.args.self.now c.self.view_is c.args.disk.now
-    c.save_telling-saved.new.disk c.images_fit_areas.ensures c.is_process.ensures
+    c.save_telling-saved.new.disk c.process_images_fit_areas.ensures c.is_process.ensures
     c.save_telling-saved.new.store
     c.in_default.ensures.any_moment c.in_default.ensures.asks c.if-self.false
     c.in_default.ensures.durable)

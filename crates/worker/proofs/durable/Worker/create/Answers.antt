@@ -39,46 +39,48 @@ returns-in_err-process-clause-calls g c =
 pub returns-clause-created : goal.returns-clause-created
 returns-clause-created g c =
     rw c.worker_of.ensures (laid_created g.D.Disk.medium c.args.wasm.now c.args.config.now
-    c.in_ok-process.process c.images_fit_areas.ensures c.in_ok-process.ensures.within
+    c.in_ok-process.process c.process_images_fit_areas.ensures c.in_ok-process.ensures.within
     c.in_ok-process.ensures.texts c.is_process.ensures c.in_ok-process.ensures.begun
-    c.lay_out-laid.result c.lay_out-laid.new.disk c.lay_out-laid.ensures.durable)
+    c.lay_out-laid.result c.lay_out-laid.new.disk c.lay_out-laid.ensures.lays_out.durable)
 
 pub returns-clause-refused : goal.returns-clause-refused
 returns-clause-refused g c =
     rw c.worker_of.ensures (laid_refused g.D.Disk.medium c.args.wasm.now c.args.config.now
-    c.in_ok-process.process c.images_fit_areas.ensures c.in_ok-process.ensures.within
+    c.in_ok-process.process c.process_images_fit_areas.ensures c.in_ok-process.ensures.within
     c.in_ok-process.ensures.texts c.is_process.ensures c.in_ok-process.ensures.begun
-    c.lay_out-laid.result c.args.disk.now c.lay_out-laid.new.disk c.lay_out-laid.ensures.cause)
+    c.lay_out-laid.result c.args.disk.now c.lay_out-laid.new.disk
+    c.lay_out-laid.ensures.lays_out.cause)
 
 pub returns-clause-untouched : goal.returns-clause-untouched
 returns-clause-untouched g c =
     rw c.worker_of.ensures (laid_untouched g.D.Disk.medium c.args.wasm.now c.args.config.now
-    c.in_ok-process.process c.images_fit_areas.ensures c.in_ok-process.ensures.within
+    c.in_ok-process.process c.process_images_fit_areas.ensures c.in_ok-process.ensures.within
     c.in_ok-process.ensures.texts c.is_process.ensures c.in_ok-process.ensures.begun
-    c.lay_out-laid.result c.args.disk.now c.lay_out-laid.new.disk c.lay_out-laid.ensures.cause
+    c.lay_out-laid.result c.args.disk.now c.lay_out-laid.new.disk
+    c.lay_out-laid.ensures.lays_out.cause
     (λ small. let refused = c.lay_out-laid.ensures.too_small small in refused.1)
     c.lay_out-laid.ensures.memory)
 
 pub returns-clause-carries : goal.returns-clause-carries
 returns-clause-carries g c =
     rw c.worker_of.ensures (laid_keeps g.D.Disk.medium c.args.wasm.now c.args.config.now
-    c.in_ok-process.process c.images_fit_areas.ensures c.in_ok-process.ensures.within
+    c.in_ok-process.process c.process_images_fit_areas.ensures c.in_ok-process.ensures.within
     c.in_ok-process.ensures.texts c.is_process.ensures c.in_ok-process.ensures.begun
     c.lay_out-laid.result c.args.disk.now c.lay_out-laid.new.disk
-    c.lay_out-laid.ensures.any_moment c.lay_out-laid.ensures.durable
+    c.lay_out-laid.ensures.lays_out.any_moment c.lay_out-laid.ensures.lays_out.durable
     (λ small. let refused = c.lay_out-laid.ensures.too_small small in refused.1)
-    c.lay_out-laid.ensures.asks)
+    c.lay_out-laid.ensures.lays_out.asks)
 
 pub returns-clause-calls : goal.returns-clause-calls
 returns-clause-calls g c =
     rw c.worker_of.ensures (laid_calls g.D.Disk.medium c.args.wasm.now c.args.config.now
-    c.in_ok-process.process c.images_fit_areas.ensures c.in_ok-process.ensures.within
+    c.in_ok-process.process c.process_images_fit_areas.ensures c.in_ok-process.ensures.within
     c.in_ok-process.ensures.texts c.is_process.ensures c.in_ok-process.ensures.begun
     c.lay_out-laid.result (g.D.Disk.medium c.args.disk.now)
-    (g.D.Disk.medium c.lay_out-laid.new.disk) c.lay_out-laid.ensures.calls)
+    (g.D.Disk.medium c.lay_out-laid.new.disk) c.lay_out-laid.ensures.lays_out.calls)
 
 pub returns-in_err-process-clause-counts : goal.returns-in_err-process-clause-counts
 returns-in_err-process-clause-counts g c = counts_same (g.D.Disk.medium c.args.disk.now) _
 
 pub returns-clause-counts : goal.returns-clause-counts
-returns-clause-counts g c = c.lay_out-laid.ensures.counts
+returns-clause-counts g c = c.lay_out-laid.ensures.lays_out.counts

@@ -13,7 +13,7 @@ use Rattle.worker.proofs.UpgradeTestLemmas.{too_small_said, not_caught_up_said, 
 use Rattle.worker.proofs.UpgradeTestLemmas.{never_small, never_behind}
 use Rattle.worker.proofs.UpgradeViews.{refused_carries, refused_fails, migrates_so, ends_so}
 use Rattle.worker.proofs.UpgradeViews.{done_carries, fault_carries, fault_fails, upgraded_so}
-use Rattle.worker.proofs.UpgradeViews.{left_so, calls_err_so, calls_ok_so, cause_so}
+use Rattle.worker.proofs.UpgradeViews.{faults_so, calls_err_so, calls_ok_so, cause_so}
 use Rattle.worker.proofs.WideningLemmas.{none_waits_upgraded}
 use Rattle.worker.proofs.durable.Worker.upgrade.Goals as goal
 
@@ -58,14 +58,14 @@ returns-in-Err-clause-carries g c =
     c.self.inside.replayed
     c.self.inside.has_failed c.args.self.now c.self.view_is
     c.args.disk.now c.args.disk.now c.is_process.ensures c.in-Err.fault c.in-Err.ensures.refused
-    c.images_fit_areas.ensures refl
+    c.process_images_fit_areas.ensures refl
 
 pub returns-in-Err-clause-migrates : goal.returns-in-Err-clause-migrates
 returns-in-Err-clause-migrates g c =
     nothing_migrates g.D.Disk.medium c.args.self.now c.args.disk.now
 
-pub returns-in-Err-clause-left : goal.returns-in-Err-clause-left
-returns-in-Err-clause-left g c =
+pub returns-in-Err-clause-after_fault : goal.returns-in-Err-clause-after_fault
+returns-in-Err-clause-after_fault g c =
     inl (ap (λ (w : DurableValue). w.process) c.self.view_is)
 
 pub returns-in-Err-clause-unsaved : goal.returns-in-Err-clause-unsaved
@@ -137,10 +137,10 @@ returns-in-Err-saved-clause-carries g c =
       process = c.save_in_two-saved.new.process;
     }) c.self.inside.replayed
     c.self.inside.has_failed c.args.self.now c.self.view_is
-    c.args.disk.now c.save_in_two-saved.new.disk c.is_process.ensures c.images_fit_areas.ensures
-    c.in_default.ensures.may c.in-Err-saved.ensures.any_moment c.in-Err-saved.ensures.asks
-    c.in-Err-saved.fault c.from.result c.from.ensures c.in-Err-saved.ensures.cause
-    c.in-Err-saved.ensures.left
+    c.args.disk.now c.save_in_two-saved.new.disk c.is_process.ensures
+    c.process_images_fit_areas.ensures c.in_default.ensures.may c.in-Err-saved.ensures.any_moment
+    c.in-Err-saved.ensures.asks c.in-Err-saved.fault c.from.result c.from.ensures
+    c.in-Err-saved.ensures.cause c.in-Err-saved.ensures.after_fault
 
 pub returns-in-Err-saved-clause-migrates : goal.returns-in-Err-saved-clause-migrates
 returns-in-Err-saved-clause-migrates g c =
@@ -150,18 +150,18 @@ returns-in-Err-saved-clause-migrates g c =
       process = c.save_in_two-saved.new.process;
     }) c.self.inside.replayed
     c.self.inside.has_failed c.args.self.now c.self.view_is
-    c.args.disk.now c.save_in_two-saved.new.disk c.is_process.ensures c.images_fit_areas.ensures
-    c.in_default.ensures.may c.in-Err-saved.ensures.bars
+    c.args.disk.now c.save_in_two-saved.new.disk c.is_process.ensures
+    c.process_images_fit_areas.ensures c.in_default.ensures.may c.in-Err-saved.ensures.bars
 
-pub returns-in-Err-saved-clause-left : goal.returns-in-Err-saved-clause-left
-returns-in-Err-saved-clause-left g c =
-    left_so c.self.inside.running
+pub returns-in-Err-saved-clause-after_fault : goal.returns-in-Err-saved-clause-after_fault
+returns-in-Err-saved-clause-after_fault g c =
+    faults_so c.self.inside.running
     (record c.self.inside.running {
       store = c.save_in_two-saved.new.store;
       process = c.save_in_two-saved.new.process;
     }) c.self.inside.replayed
     c.self.inside.has_failed c.args.self.now c.self.view_is
-    c.in-Err-saved.fault c.in-Err-saved.ensures.left
+    c.in-Err-saved.fault c.in-Err-saved.ensures.after_fault
 
 pub returns-in-Err-saved-clause-unsaved : goal.returns-in-Err-saved-clause-unsaved
 returns-in-Err-saved-clause-unsaved g c =
@@ -183,10 +183,10 @@ returns-in-Err-saved-clause-cause g c =
       process = c.save_in_two-saved.new.process;
     }) c.self.inside.replayed
     c.self.inside.has_failed c.args.self.now c.self.view_is
-    c.args.disk.now c.save_in_two-saved.new.disk c.is_process.ensures c.images_fit_areas.ensures
-    c.in_default.ensures.may c.in-Err-saved.ensures.any_moment c.in-Err-saved.ensures.asks
-    c.in-Err-saved.fault c.from.result c.from.ensures c.in-Err-saved.ensures.cause
-    c.in-Err-saved.ensures.left
+    c.args.disk.now c.save_in_two-saved.new.disk c.is_process.ensures
+    c.process_images_fit_areas.ensures c.in_default.ensures.may c.in-Err-saved.ensures.any_moment
+    c.in-Err-saved.ensures.asks c.in-Err-saved.fault c.from.result c.from.ensures
+    c.in-Err-saved.ensures.cause c.in-Err-saved.ensures.after_fault
 
 pub returns-in-Err-saved-clause-on_any_disk : goal.returns-in-Err-saved-clause-on_any_disk
 returns-in-Err-saved-clause-on_any_disk g c =
@@ -215,7 +215,8 @@ returns-in-Err-saved-clause-room g c =
     room_after g.D.Disk.medium c.self.inside.running c.self.inside.replayed
     c.self.inside.has_failed c.args.self.now c.self.view_is c.args.disk.now
     c.save_in_two-saved.new.disk
-    c.save_in_two-saved.new.store c.in-Err-saved.ensures.stays c.in-Err-saved.ensures.passes c.requires
+    c.save_in_two-saved.new.store c.in-Err-saved.ensures.stays
+    c.in-Err-saved.ensures.passes c.requires
 
 pub returns-in-Err-saved-clause-counts : goal.returns-in-Err-saved-clause-counts
 returns-in-Err-saved-clause-counts g c =
@@ -233,8 +234,9 @@ returns-clause-carries g c =
       process = c.save_in_two-saved.new.process;
     }) c.self.inside.replayed
     c.self.inside.has_failed c.args.self.now c.self.view_is
-    c.args.disk.now c.save_in_two-saved.new.disk c.is_process.ensures c.images_fit_areas.ensures
-    c.in_default.ensures.may c.in_default-saved.ensures.any_moment c.in_default-saved.ensures.asks
+    c.args.disk.now c.save_in_two-saved.new.disk c.is_process.ensures
+    c.process_images_fit_areas.ensures c.in_default.ensures.may
+    c.in_default-saved.ensures.any_moment c.in_default-saved.ensures.asks
     c.in_default-saved.ensures.done c.if-self.false refl c.in_default-saved.ensures.durable
 
 pub returns-clause-migrates : goal.returns-clause-migrates
@@ -245,8 +247,8 @@ returns-clause-migrates g c =
       process = c.save_in_two-saved.new.process;
     }) c.self.inside.replayed
     c.self.inside.has_failed c.args.self.now c.self.view_is
-    c.args.disk.now c.save_in_two-saved.new.disk c.is_process.ensures c.images_fit_areas.ensures
-    c.in_default.ensures.may c.in_default-saved.ensures.bars
+    c.args.disk.now c.save_in_two-saved.new.disk c.is_process.ensures
+    c.process_images_fit_areas.ensures c.in_default.ensures.may c.in_default-saved.ensures.bars
 
 pub returns-clause-ends : goal.returns-clause-ends
 returns-clause-ends g c =
@@ -256,8 +258,9 @@ returns-clause-ends g c =
       process = c.save_in_two-saved.new.process;
     }) c.self.inside.replayed
     c.self.inside.has_failed c.args.self.now c.self.view_is
-    c.args.disk.now c.save_in_two-saved.new.disk c.is_process.ensures c.images_fit_areas.ensures
-    c.in_default.ensures.may c.in_default-saved.ensures.durable c.in_default-saved.ensures.done
+    c.args.disk.now c.save_in_two-saved.new.disk c.is_process.ensures
+    c.process_images_fit_areas.ensures c.in_default.ensures.may c.in_default-saved.ensures.durable
+    c.in_default-saved.ensures.done
 
 pub returns-clause-done : goal.returns-clause-done
 returns-clause-done g c =

@@ -48,7 +48,7 @@ returns c =
     let same = c.as_slice.ensures.value in
     file_cut old keys len c.args.self.now c.self.view_is c.requires.held between new after size
     shorter f.full (subst (AreFullAt new) same z.full)
-    (f.left ∙ ap (λ (n : ℕ). take n (stored old keys)) c.chunks_of_size.ensures)
+    (f.kept ∙ ap (λ (n : ℕ). take n (stored old keys)) c.chunks_of_size.ensures)
     (subst (λ (ks : List ℕ). concat (stored new ks) ≡ take size (concat (stored between ks))
     ++ replicate (length ks * CHUNK_BYTES - size) 0) same z.cleared)
     (rekeys_join old between new keys after after f.others

@@ -55,12 +55,12 @@ invariant_of-self c =
     let named = c.take_key.ensures.named c.self.inside.order.items c.self.invariant.0.named in
     let after = hook_changed c.self.inside.slab c.self.inside.order.items names key n Removed
     c.index_mut.ensures.value named in
-    let left = key_left (address_at (with_value c.self.inside.slab key (with_hook Removed n)))
-    c.self.inside.order.items names key after
+    let address_gone = key_left (address_at (with_value c.self.inside.slab key
+    (with_hook Removed n))) c.self.inside.order.items names key after
     (new_address c.self.inside.slab key n Removed c.index_mut.ensures.value) in (
       hook_kept c.self.inside.slab c.self.inside.order.items c.self.inside.names.items names
           c.args.self.now c.args.place key n Removed c.self.invariant.0 at c.index_mut.ensures.value
-          left,
+          address_gone,
       c.take_key.ensures.fits,
       omega (arith, c.self.invariant.2, c.take_key.ensures.kept),
     )

@@ -4,7 +4,7 @@ use Rattle.wasm_semantics.specs.Typing.{body_context}
 use Rattle.wasm_validate.specs.laws.Checking.{Level, new_level, checked}
 use Rattle.wasm_validate.specs.laws.FirstFault.{fault_in}
 use Rattle.wasm_validate.proofs.BodyLemmas.Fails.{denies, denies_one}
-use Rattle.wasm_validate.proofs.BodyLemmas.FaultKinds.{first_index, first_limit, passed_fault}
+use Rattle.wasm_validate.proofs.BodyLemmas.FaultMeanings.{first_index, first_limit, passed_fault}
 use Rattle.wasm_validate.proofs.BodyLemmas.Untyped.{untyped}
 use Rattle.wasm_validate.proofs.BodyLemmas.Bodies.{body_sound, body_complete}
 use Rattle.wasm_validate.proofs.body.body.BodyChecker.check.Goals as goal
@@ -19,47 +19,47 @@ pub returns-in_err-steps-clause-typed : goal.returns-in_err-steps-clause-typed
 returns-in_err-steps-clause-typed c = λ c' context.
     let p = err_from_is_err_and c.from_residual-in_err-steps.result
     c.from_residual-in_err-steps.ensures.1 in
-    let kind = c.args.function_type.now in
+    let signature = c.args.function_type.now in
     let code = c.args.code.now in
     let r = c.result_of.result in
-    let bc = body_context c' kind code.locals in
+    let bc = body_context c' signature code.locals in
     let start = c.in_ok-begin.ensures.opened in
     let steps = c.in_err-steps.ensures bc (c.scope_of-scope.ensures c' context) in
     rw (p.1, p.2)
     (denies c.in_err-steps.field-0.0 (fault_in bc c.as_slice.result.now c.begin.new.self.levels)
     (checked bc c.as_slice.result.now c.begin.new.self.levels)
     (λ none body. some_not_none (checked bc code.body (new_level r r false ∷ [])) []
-    (body_complete c' kind code r c.result_of.ensures body)
+    (body_complete c' signature code r c.result_of.ensures body)
     (ap (λ z. checked bc z (new_level r r false ∷ [])) (sym c.as_slice.ensures)
     ∙ ap (λ z. checked bc c.as_slice.result.now z) (sym start) ∙ none))
     steps)
 
 pub returns-then-is_empty-clause-typed : goal.returns-then-is_empty-clause-typed
 returns-then-is_empty-clause-typed c = λ c' context.
-    let kind = c.args.function_type.now in
+    let signature = c.args.function_type.now in
     let code = c.args.code.now in
     let r = c.result_of.result in
-    let bc = body_context c' kind code.locals in
+    let bc = body_context c' signature code.locals in
     let start = c.in_ok-begin.ensures.opened in
     let steps = c.in_ok-steps.ensures bc (c.scope_of-scope.ensures c' context) in
     let closed = c.is_empty.ensures.0 c.if-is_empty.true in
-    body_sound c' kind code r c.result_of.ensures
+    body_sound c' signature code r c.result_of.ensures
     (ap (λ z. checked bc z (new_level r r false ∷ [])) (sym c.as_slice.ensures)
     ∙ ap (λ z. checked bc c.as_slice.result.now z) (sym start) ∙ steps
     ∙ ap (λ z. Some z) closed)
 
 pub returns-else-is_empty-clause-typed : goal.returns-else-is_empty-clause-typed
 returns-else-is_empty-clause-typed c = λ c' context body.
-    let kind = c.args.function_type.now in
+    let signature = c.args.function_type.now in
     let code = c.args.code.now in
     let r = c.result_of.result in
-    let bc = body_context c' kind code.locals in
+    let bc = body_context c' signature code.locals in
     let start = c.in_ok-begin.ensures.opened in
     let steps = c.in_ok-steps.ensures bc (c.scope_of-scope.ensures c' context) in
     let here = ap (λ z. checked bc z (new_level r r false ∷ [])) (sym c.as_slice.ensures)
     ∙ ap (λ z. checked bc c.as_slice.result.now z) (sym start) ∙ steps in
     let none = not_empty (checked bc code.body (new_level r r false ∷ [])) c.steps.new.self here
-    (body_complete c' kind code r c.result_of.ensures body) in
+    (body_complete c' signature code r c.result_of.ensures body) in
     let yes = c.is_empty.ensures.1 none in
     let no = c.if-is_empty.false in
     absurd (cc)
@@ -68,10 +68,10 @@ pub returns-in_err-steps-clause-fault : goal.returns-in_err-steps-clause-fault
 returns-in_err-steps-clause-fault c = λ c' context.
     let p = err_from_is_err_and c.from_residual-in_err-steps.result
     c.from_residual-in_err-steps.ensures.1 in
-    let kind = c.args.function_type.now in
+    let signature = c.args.function_type.now in
     let code = c.args.code.now in
     let r = c.result_of.result in
-    let bc = body_context c' kind code.locals in
+    let bc = body_context c' signature code.locals in
     let start = c.in_ok-begin.ensures.opened in
     let steps = c.in_err-steps.ensures bc (c.scope_of-scope.ensures c' context) in
     let checked_is = ap (λ z. checked bc z (new_level r r false ∷ [])) (sym c.as_slice.ensures)
@@ -81,24 +81,24 @@ returns-in_err-steps-clause-fault c = λ c' context.
     rw (p.1, p.2)
     (denies_one c.in_err-steps.field-0.0 (fault_in bc c.as_slice.result.now c.begin.new.self.levels)
     (checked bc c.as_slice.result.now c.begin.new.self.levels)
-    (λ none kind_is. untyped c' kind code r c.result_of.ensures
+    (λ none which_fault. untyped c' signature code r c.result_of.ensures
     (λ some. some_not_none (checked bc code.body (new_level r r false ∷ [])) [] some
-    (checked_is ∙ none)) (fault_is ∙ kind_is))
-    (λ kind_is. first_index bc code.body (new_level r r false ∷ []) (fault_is ∙ kind_is))
-    (λ kind_is. first_limit bc code.body (new_level r r false ∷ []) (fault_is ∙ kind_is))
+    (checked_is ∙ none)) (fault_is ∙ which_fault))
+    (λ which_fault. first_index bc code.body (new_level r r false ∷ []) (fault_is ∙ which_fault))
+    (λ which_fault. first_limit bc code.body (new_level r r false ∷ []) (fault_is ∙ which_fault))
     steps)
 
 pub returns-else-is_empty-clause-fault : goal.returns-else-is_empty-clause-fault
 returns-else-is_empty-clause-fault c = λ c' context.
-    let kind = c.args.function_type.now in
+    let signature = c.args.function_type.now in
     let code = c.args.code.now in
     let r = c.result_of.result in
-    let bc = body_context c' kind code.locals in
+    let bc = body_context c' signature code.locals in
     let start = c.in_ok-begin.ensures.opened in
     let steps = c.in_ok-steps.ensures bc (c.scope_of-scope.ensures c' context) in
     let here = ap (λ z. checked bc z (new_level r r false ∷ [])) (sym c.as_slice.ensures)
     ∙ ap (λ z. checked bc c.as_slice.result.now z) (sym start) ∙ steps in
-    untyped c' kind code r c.result_of.ensures
+    untyped c' signature code r c.result_of.ensures
     (λ passes. let none = not_empty
     (checked bc code.body
     (new_level r r false ∷ [])) c.steps.new.self here passes in let yes = c.is_empty.ensures.1 none

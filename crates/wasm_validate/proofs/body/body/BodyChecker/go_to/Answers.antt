@@ -33,9 +33,9 @@ returns-in_err-steps c = λ c' context has.
     in
     let p = c.args.position in
     let r = c.result_of-result_type.result in
-    let kind = c.args.function_type.now in
+    let signature = c.args.function_type.now in
     let code = c.args.code.now in
-    let bc = body_context c' kind code.locals in
+    let bc = body_context c' signature code.locals in
     let count = ap length c.as_slice-body.ensures in
     let other = c.if-position-body.false in
     let few = c.if-position-body-2.false in
@@ -47,7 +47,7 @@ returns-in_err-steps c = λ c' context has.
     let steps = c.in_err-steps.ensures bc (c.scope_of-scope.ensures c' context) in
     let fault = fault_in bc (take p c.as_slice-body.result.now) c.begin.new.self.levels in
     rw (e.1, e.2)
-    (fails_inside c' kind code r c.result_of-result_type.ensures has p low
+    (fails_inside c' signature code r c.result_of-result_type.ensures has p low
     c.in_err-steps.field-0.0 fault
     (subst (λ z. FailsToCheck c.in_err-steps.field-0.0 fault z) (sym path) steps))
 
@@ -55,9 +55,9 @@ pub returns : goal.returns
 returns c = λ c' context has.
     let p = c.args.position in
     let r = c.result_of-result_type.result in
-    let kind = c.args.function_type.now in
+    let signature = c.args.function_type.now in
     let code = c.args.code.now in
-    let bc = body_context c' kind code.locals in
+    let bc = body_context c' signature code.locals in
     let count = ap length c.as_slice-body.ensures in
     let other = c.if-position-body.false in
     let few = c.if-position-body-2.false in
@@ -69,5 +69,5 @@ returns c = λ c' context has.
     let steps = c.in_ok-steps.ensures bc (c.scope_of-scope.ensures c' context) in
     subst (λ z. TellsReach (Ok z) c.steps.new.self (body_shape bc has.sequence p))
     (sym c.are_reached.ensures)
-    (inside c' kind code r c.result_of-result_type.ensures has p low c.steps.new.self (path
+    (inside c' signature code r c.result_of-result_type.ensures has p low c.steps.new.self (path
     ∙ steps))

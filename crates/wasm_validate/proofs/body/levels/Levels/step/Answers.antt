@@ -4,7 +4,7 @@ use Rattle.wasm_syntax.specs.declared.instruction.Instruction.TheVariants as ins
 use Rattle.wasm_syntax.specs.rules.Sequence.{IsPlain}
 use Rattle.wasm_validate.specs.Body.Answers.{LevelsFollow}
 use Rattle.wasm_validate.proofs.BodyLemmas.Steps.{after_is}
-use Rattle.wasm_validate.proofs.BodyLemmas.FaultKinds.{fault_is}
+use Rattle.wasm_validate.proofs.BodyLemmas.FaultMeanings.{fault_is}
 use Rattle.wasm_validate.specs.laws.Checking.{labels_of, levels_after}
 use Rattle.wasm_validate.specs.laws.FirstFault.{fault_of}
 use Rattle.wasm_validate.proofs.body.levels.Levels.step.Goals as goal

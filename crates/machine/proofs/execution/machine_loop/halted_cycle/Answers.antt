@@ -1,0 +1,61 @@
+use Rattle.std.proofs.Common.{refl, arith}
+use Rattle.machine.proofs.CycleLemmas.Halted.{at_end, at_return}
+use Rattle.machine.proofs.CycleLemmas.Whole.{called_there, ended, indirect_there, one_frame_less}
+use Rattle.machine.proofs.CycleLemmas.Whole.{returned_from, spent, trapped_there}
+use Rattle.machine.proofs.execution.machine_loop.halted_cycle.Goals as goal
+
+pub returns-in-Spent-clause-cycles : goal.returns-in-Spent-clause-cycles
+returns-in-Spent-clause-cycles c = λ functions program d fuel advances.
+    spent c.args.code.now c.args.state.now functions program d fuel c.args.stop advances
+    c.in-Spent.is c.requires.runs
+
+pub leave_function-requires-clause-stands : goal.leave_function-requires-clause-stands
+leave_function-requires-clause-stands c =
+    (at_end c.args.code.now c.args.state.now c.args.stop c.requires.halted c.in-Ended.is).0
+
+pub leave_function-requires-clause-ends : goal.leave_function-requires-clause-ends
+leave_function-requires-clause-ends c =
+    (at_end c.args.code.now c.args.state.now c.args.stop c.requires.halted c.in-Ended.is).1
+
+pub returns-in-Ended-clause-cycles : goal.returns-in-Ended-clause-cycles
+returns-in-Ended-clause-cycles c = λ functions program d fuel advances.
+    ended c.args.code.now c.args.state.now functions program d fuel c.args.stop advances
+    c.in-Ended.is c.leave_function.new.state c.leave_function.ensures.exited
+
+pub returns-in-Ended-clause-less : goal.returns-in-Ended-clause-less
+returns-in-Ended-clause-less c =
+    one_frame_less c.args.state.now c.args.state.now c.leave_function.new.state
+    c.args.stop.fuel_left c.args.stop.fuel_left c.args.stop.fuel_left (refl, refl)
+    c.leave_function.ensures.less (omega arith) (omega arith)
+
+pub leave_function-requires-in-Return-clause-stands :
+    goal.leave_function-requires-in-Return-clause-stands
+leave_function-requires-in-Return-clause-stands c =
+    (at_return c.args.code.now c.args.state.now c.args.stop c.requires.halted c.in-Return.is).0
+
+pub leave_function-requires-in-Return-clause-ends :
+    goal.leave_function-requires-in-Return-clause-ends
+leave_function-requires-in-Return-clause-ends c =
+    (at_return c.args.code.now c.args.state.now c.args.stop c.requires.halted c.in-Return.is).1
+
+pub returns-in-Return-clause-cycles : goal.returns-in-Return-clause-cycles
+returns-in-Return-clause-cycles c = λ functions program d fuel advances.
+    returned_from c.args.code.now c.args.state.now functions program d fuel c.args.stop advances
+    c.in-Return.is c.leave_function-in-Return.new.state c.leave_function-in-Return.ensures.exited
+
+pub returns-in-Call-clause-cycles : goal.returns-in-Call-clause-cycles
+returns-in-Call-clause-cycles c = λ functions program d fuel advances.
+    called_there c.args.code.now c.args.state.now functions program d fuel c.args.stop advances
+    c.in-Call.function c.in-Call.is c.call.new.state c.call.result c.call.ensures.cycles
+
+pub returns-in-CallIndirect-clause-cycles : goal.returns-in-CallIndirect-clause-cycles
+returns-in-CallIndirect-clause-cycles c = λ functions program d fuel advances.
+    indirect_there c.args.code.now c.args.state.now functions program d fuel c.args.stop advances
+    c.in-CallIndirect.function_type c.in-CallIndirect.is c.call_indirect.new.state
+    c.call_indirect.result c.call_indirect.ensures.cycles
+
+pub returns-in-Trapped-clause-cycles : goal.returns-in-Trapped-clause-cycles
+returns-in-Trapped-clause-cycles c = λ functions program d fuel advances.
+    trapped_there c.args.code.now c.args.state.now functions program d fuel c.args.stop advances
+    c.in-Trapped.why c.in-Trapped.is c.trap.new.state c.trap.ensures.cleared c.trap.result
+    c.trap.ensures.traps

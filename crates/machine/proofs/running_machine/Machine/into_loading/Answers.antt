@@ -1,0 +1,18 @@
+use Rattle.std.proofs.Common.{sym, subst}
+use Rattle.machine.specs.rules.Values.{HoldsMemory}
+use Rattle.machine.proofs.Stopped.{still_holds}
+use Rattle.machine.proofs.LoadingLemmas.Parts.{loading_of}
+use Rattle.machine.proofs.running_machine.Machine.into_loading.Goals as goal
+
+pub invariant_of-result : goal.invariant_of-result
+invariant_of-result c =
+    let held = still_holds c.self.inside.code c.self.inside.state c.clear.new.state
+    c.self.inside.most_pages c.clear.ensures (subst HoldsMemory (sym c.self.view_is) c.requires) in
+    loading_of c.self.inside.code c.self.inside.state (record {
+      frames = c.clear.new.state.frames;
+      slots = c.clear.new.state.slots;
+      globals = c.clear-2.new.self;
+      memory = c.clear.new.state.memory;
+      later = c.clear.new.state.later;
+    }) c.self.inside.most_pages c.self.invariant c.clear.ensures.frames c.clear.ensures.slots
+    held.limit held.least

@@ -1,0 +1,18 @@
+use Rattle.std.proofs.Common.{◌<◌, length, sym, subst}
+use Rattle.machine.specs.rules.Values.{MachineValue}
+use Rattle.machine_frame.specs.rules.Threads.{places_of}
+use Rattle.machine_frame.proofs.Threads.Showing.{places_count}
+use Rattle.machine.proofs.Placed.{stacked}
+use Rattle.machine.proofs.running_machine.Machine.place.Goals as goal
+
+pub place_of-requires-clause-stacked : goal.place_of-requires-clause-stacked
+place_of-requires-clause-stacked c =
+    stacked c.self.inside.code c.self.inside.state c.self.inside.most_pages c.self.invariant
+
+pub place_of-requires-clause-inside : goal.place_of-requires-clause-inside
+place_of-requires-clause-inside c =
+    let s = c.self.inside.state in
+    let P : MachineValue → Type 0 = λ v. c.args.index < length v.state.frames in
+    let there : c.args.index < length (places_of s.frames s.slots) =
+    subst P (sym c.self.view_is) c.requires in
+    subst (λ z. c.args.index < z) (places_count s.frames s.slots) there

@@ -1,0 +1,20 @@
+use Rattle.std.proofs.Common.{sym, subst}
+use Rattle.machine.specs.rules.Values.{MachineValue, HoldsMemory}
+use Rattle.machine.specs.rules.Runs.{TellsWaiting}
+use Rattle.machine.proofs.Ran.{stands_for_some}
+use Rattle.machine.proofs.Telling.{tells}
+use Rattle.machine.proofs.running_machine.Machine.waits.Goals as goal
+
+pub waiting_call-requires : goal.waiting_call-requires
+waiting_call-requires c =
+    let holds = subst HoldsMemory (sym c.self.view_is) c.requires in
+    stands_for_some c.self.inside.code c.self.inside.state c.self.inside.state
+    c.self.inside.most_pages c.self.invariant holds c.is_memory.ensures.shape
+    c.is_memory.ensures.bytes
+
+pub returns : goal.returns
+returns c =
+    let P : MachineValue → Type 0 = λ v. TellsWaiting v c.waiting_call.result in
+    subst P c.self.view_is (tells c.self.inside.code c.self.inside.state c.self.inside.most_pages
+    c.self.invariant c.is_memory.ensures.shape c.is_memory.ensures.bytes c.waiting_call.result
+    c.waiting_call.ensures)

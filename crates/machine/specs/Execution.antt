@@ -1,0 +1,5 @@
+pub mod ByRegisterCode
+pub mod Codes
+pub mod Pauses
+pub mod Cycles
+pub mod Waiting

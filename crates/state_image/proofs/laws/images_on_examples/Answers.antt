@@ -1,5 +1,0 @@
-use Rattle.state_image.proofs.ExamplesHold.{images}
-use Rattle.state_image.proofs.laws.images_on_examples.Goals as goal
-
-pub returns : goal.returns
-returns c = images

@@ -1,0 +1,366 @@
+-- What is owed for a step: records on the disk, and then lines that are released.
+use Rattle.std.proofs.Common.{◌≡◌, ℕ, suc, ◌+◌, ◌-◌, ◌≤◌, List, [], ◌++◌, length, drop}
+use Rattle.std.proofs.Common.{refl, sym, ap, ◌∙◌, subst, arith}
+use Rattle.std.proofs.lemmas.List.{append-nil}
+use Rattle.process_rules.specs.Processes.{ProcessState}
+use Rattle.process.specs.rules.Values.{ProcessValue, ShowsProcess, waiting_in}
+use Rattle.sector_disk.specs.rules.Medium.{Medium}
+use Rattle.state_image.specs.rules.Saving.{saved_of}
+use Rattle.disk_layout.specs.rules.Journal.{Record}
+use Rattle.record_replay.specs.rules.Calls.{Taking, Exchange, all_taken}
+use Rattle.record_replay.specs.rules.Calls.{last_refused}
+use Rattle.record_replay.specs.rules.Waiting.{ReleasesAll, ReleasesSome}
+use Rattle.record_replay.proofs.Emitted.{waiting_behind, released_whole, released_none}
+use Rattle.restart_theorem.specs.Lives.{Slice, Fails, OfDisk, OfOutlet}
+use Rattle.restart_theorem.specs.Courses.{Stage, Broken}
+use Rattle.restart_theorem.specs.Promises.{Promise}
+use Rattle.restart_theorem.specs.Holds.{StaysWithin}
+use Rattle.worker_store.specs.laws.Underway.{IsUnderWay}
+use Rattle.worker_store.specs.laws.Pieces.{IsForetold, AreDone}
+use Rattle.worker_store.specs.laws.Telling.{AddsLines}
+use Rattle.worker_store.specs.laws.Carried.{count_at, IsCarried}
+use Rattle.worker_store.specs.laws.Raised.{SyncsAreHeld, AreOnRecord}
+use Rattle.worker_store.specs.laws.Turns.{GoesOnFrom, LeavesBegun}
+use Rattle.worker_store.proofs.LawLemmas.Carrying.{carried_keeps, barrier_carries}
+use Rattle.worker_store.proofs.LawLemmas.Carrying.{barrier_carries_on}
+use Rattle.worker_store.proofs.LawLemmas.Raising.{all_syncs_are_held, ended_carries}
+use Rattle.worker_store.proofs.LawLemmas.Saving.{ends_promise_no_less}
+use Rattle.worker_store.proofs.LawLemmas.Telling.{all_lines_are_told, lines_are_told_in_vain}
+use Rattle.worker_store.proofs.LawLemmas.TurnLemmas.{told_still_holds, parts_leave_begun}
+use Rattle.worker_store.proofs.LawLemmas.TurnLemmas.{turns_join}
+use Rattle.worker_store.proofs.LawLemmas.TurnLemmas.{rests_go_on, lines_carry, same_no_more}
+use Rattle.worker_store.specs.declared.fault.StoreFault.{StoreFault}
+use Rattle.worker_store.specs.declared.fault.StoreFault.TheVariants as store
+use Rattle.worker_store.specs.declared.store.WorkerStore.{WorkerStore}
+use Rattle.worker_store.specs.rules.Calls.{LeavesFronts, StoresAll, BarrierFails}
+use Rattle.worker_store.specs.rules.Stores.{IsStoreOf}
+use Rattle.ephemeral_worker.specs.declared.fault.SliceFault.TheVariants as slice
+use Rattle.worker.specs.declared.fault.WorkFault.TheVariants.{Work}
+use Rattle.worker.specs.declared.running_worker.RunningWorker.{RunningWorker}
+use Rattle.worker.specs.rules.WorkFaults.{fault_of_store}
+use Rattle.worker.specs.rules.OpenWorkers.{IsOnDisk, IsAbreast}
+use Rattle.worker.specs.rules.DurableCalls.{ComesOf, HasCauseAt}
+use Rattle.worker.specs.DurableTurns.{Course, IsOwingTurn, TurnGoes}
+use Rattle.worker.specs.DurableTurns.{TurnFails, slice_end, told_lines_of, Flushes}
+use Rattle.worker.specs.DurableTurns.{FlushesInVain}
+use Rattle.worker.proofs.AbreastLemmas.{abreast_on, told_changes_none}
+use Rattle.worker.proofs.SavingLemmas.{barrier_fault}
+use Rattle.worker.proofs.DurableLemmas.OnDisk.{reached_now, fewer_syncs}
+use Rattle.worker.proofs.DurableLemmas.Bounds.{fronts_within}
+use Rattle.worker.proofs.DurableLemmas.Ends.{ends_on, fails_at_call, failed_end}
+use Rattle.worker.proofs.DurableLemmas.Ends.{broken_open}
+use Rattle.worker.proofs.DurableLemmas.Ends.{carried_on, not_open, disk_cause}
+
+-- ---- the barrier
+
+-- a barrier of an open worker fails by the disk alone
+barrier_comes : (c : Course) (promise : Promise) (p : ProcessState) (step latest : ℕ)
+    (before : WorkerStore) (process : ProcessValue) (old new : Medium) (fault : StoreFault)
+    → IsOnDisk c.code c.config c.guest promise p step latest before old
+    → BarrierFails before old new fault → ComesOf (fault_of_store fault) OfDisk
+barrier_comes c promise p step latest before process old new (store.Disk fault) is fails = refl
+barrier_comes c promise p step latest before process old new store.Full is fails =
+    absurd (barrier_fault c.code c.config is.point before is.records is.pending is.last is.now
+    process old new is.stores store.Full fails)
+barrier_comes c promise p step latest before process old new store.Failed is fails =
+    absurd (barrier_fault c.code c.config is.point before is.records is.pending is.last is.now
+    process old new is.stores store.Failed fails)
+barrier_comes c promise p step latest before process old new store.TooLong is fails = absurd fails
+barrier_comes c promise p step latest before process old new store.TooBig is fails = absurd fails
+barrier_comes c promise p step latest before process old new store.Damaged is fails = absurd fails
+barrier_comes c promise p step latest before process old new store.Memory is fails = absurd fails
+barrier_comes c promise p step latest before process old new (store.Layout fault) is fails =
+    absurd fails
+
+-- and that has a cause
+barrier_cause : (c : Course) (promise : Promise) (p : ProcessState) (step latest : ℕ)
+    (before : WorkerStore) (process : ProcessValue) (old new : Medium) (fault : StoreFault)
+    → IsOnDisk c.code c.config c.guest promise p step latest before old
+    → BarrierFails before old new fault
+    → HasCauseAt (fault_of_store fault) c.guest c.config process old new
+barrier_cause c promise p step latest before process old new (store.Disk fault) is fails =
+    disk_cause c promise p step latest before process process old new fault is
+    (barrier_fault c.code c.config is.point before is.records is.pending is.last is.now process old
+    new is.stores (store.Disk fault) fails)
+barrier_cause c promise p step latest before process old new store.Full is fails = tt
+barrier_cause c promise p step latest before process old new store.Failed is fails = tt
+barrier_cause c promise p step latest before process old new store.TooLong is fails = tt
+barrier_cause c promise p step latest before process old new store.TooBig is fails = tt
+barrier_cause c promise p step latest before process old new store.Damaged is fails = tt
+barrier_cause c promise p step latest before process old new store.Memory is fails = absurd fails
+barrier_cause c promise p step latest before process old new (store.Layout fault) is fails = tt
+
+-- the same worker with another store
+abbrev pub with_store : RunningWorker → WorkerStore → RunningWorker
+with_store w after = record w { store = after }
+
+module _ {D : Type 0} (medium : D → Medium) (c : Course) (promise : Promise) (stage : Stage)
+    (p : ProcessState) (w : RunningWorker) (after : WorkerStore) (disk disk' : D)
+    (owing : IsOwingTurn c promise stage p w (medium disk))
+    (fronts : LeavesFronts w.store (medium disk) (medium disk')) where
+  -- no image is of a later generation
+  barrier_bounds : (later : ℕ) → promise.events ≤ later
+      → StaysWithin later (medium disk) (medium disk')
+  barrier_bounds later le =
+      let is = owing.on_disk in
+      let stores = is.stores in
+      let early = is.early in
+      fronts_within c.code c.config is.point later (medium disk) (medium disk') stores.sectors
+      is.records is.pending is.last (omega (arith, early, le))
+      (fronts c.code c.config is.point is.records is.pending is.last is.now is.stores)
+
+  -- it fails
+  pub barrier_in_vain : (fault : StoreFault)
+      → BarrierFails w.store (medium disk) (medium disk') fault
+      → TurnFails c promise stage (fault_of_store fault) [] (with_store w after) (medium disk)
+      (medium disk')
+  barrier_in_vain fault fails =
+      let is = owing.on_disk in
+      let point = is.point in
+      let held : ℕ = length promise.kept in
+      let told : w.process.steps ≡ p.steps = (let shows = owing.shows in shows.steps) in
+      let here : w.process.steps - 1 ≤ p.steps - 1 = omega (arith, told) in
+      let later = ended_carries medium c.code c.config promise point w.store.journal is.records
+      is.pending is.last is.now (Slice c.fuel) (Fails OfDisk) held (saved_of w.process) disk
+      is.carried refl
+      (λ count. refl)
+      (fewer_syncs c.code c.config promise (count_at point is.records) (p.steps - 1)
+      (w.process.steps - 1) here is.syncs) in (
+        OfDisk,
+        barrier_comes c promise p (p.steps - 1) promise.events w.store w.process (medium disk)
+            (medium disk') fault is fails,
+        barrier_cause c promise p (p.steps - 1) promise.events w.store w.process (medium disk)
+            (medium disk') fault is fails,
+        fails_at_call medium c promise stage (with_store w after) disk disk' OfDisk held
+            owing.opened
+            (failed_end c promise stage p (with_store w after) _ held OfDisk
+            (broken_open c promise stage p _ _ w (medium disk) owing) owing.shows owing.module_is
+            tt tt)
+            (barrier_carries medium c.code c.config promise
+            (slice_end promise c.fuel (Fails OfDisk) held w) point w.store.journal is.records
+            is.pending is.last is.now disk disk'
+            (ends_promise_no_less promise (Slice c.fuel) (Fails OfDisk) held
+            (saved_of w.process)) later
+            (fronts c.code c.config point is.records is.pending is.last is.now is.stores))
+            (barrier_bounds (promise.events + 1) (omega arith)),
+      )
+
+  module _ (all : StoresAll w.store after (medium disk) (medium disk')) where
+    stored : IsStoreOf owing.on_disk.point after
+        (owing.on_disk.records ++ owing.on_disk.pending) [] owing.on_disk.now owing.on_disk.now
+        (medium disk')
+    stored = let is = owing.on_disk in
+        all c.code c.config is.point is.records is.pending is.last is.now is.stores
+
+    carried_all : IsCarried promise owing.on_disk.point after.journal
+        (owing.on_disk.records ++ owing.on_disk.pending) [] owing.on_disk.now owing.on_disk.now
+        (medium disk')
+    carried_all = let is = owing.on_disk in
+        barrier_carries_on medium c.code c.config promise is.point w.store.journal after.journal
+        is.records is.pending is.last is.now disk disk' is.carried stored.journaled
+
+    -- after it the part goes on
+    barrier_goes : GoesOnFrom c.code c.config promise promise (medium disk) (medium disk')
+    barrier_goes = let is = owing.on_disk in
+        carried_on medium c promise disk disk' owing.opened
+        (barrier_carries medium c.code c.config promise promise is.point w.store.journal is.records
+        is.pending is.last is.now disk disk' (same_no_more promise) is.carried
+        (fronts c.code c.config is.point is.records is.pending is.last is.now is.stores))
+
+    -- ---- the lines
+
+    drops : drop w.process.host.released p.host.lines ≡ waiting_in w.process
+    drops = waiting_behind w.process c.guest p owing.shows
+
+    module _ (promise' : Promise) (adds : AddsLines promise (length p.host.lines) promise') where
+      lines_carried : IsCarried promise' owing.on_disk.point after.journal
+          (owing.on_disk.records ++ owing.on_disk.pending) [] owing.on_disk.now owing.on_disk.now
+          (medium disk')
+      lines_carried =
+          let is = owing.on_disk in
+          let by = reached_now medium c.code c.config c.guest promise p (p.steps - 1)
+          promise.events w.store disk is in
+          lines_carry medium c.code c.config promise promise' is.point after.journal
+          (is.records ++ is.pending) [] is.now is.now p p.steps disk' carried_all is.on_record
+          by.reached adds
+
+      -- all syncs are held now
+      syncs_now : (step : ℕ) → SyncsAreHeld c.code c.config promise'.kept
+          (count_at owing.on_disk.point (owing.on_disk.records ++ owing.on_disk.pending)) step
+      syncs_now step =
+          let is = owing.on_disk in
+          all_syncs_are_held c.code c.config promise' is.point (is.records ++ is.pending) step
+          (adds.kept ∙ is.on_record)
+
+      goes_told : (stage' : Stage) → LeavesBegun promise promise' stage stage'
+          → GoesOnFrom c.code c.config promise promise' (medium disk) (medium disk')
+      goes_told stage' begun =
+          turns_join medium c.code c.config promise promise promise' disk disk' disk' barrier_goes
+          (rests_go_on medium c.code c.config promise promise' disk' owing.opened
+          (begun.opened ∙ owing.opened) begun.no_more
+          (told_still_holds c.code c.config promise promise' (length p.host.lines) adds)
+          (carried_keeps medium c.code c.config promise' owing.on_disk.point after.journal
+          (owing.on_disk.records ++ owing.on_disk.pending) [] owing.on_disk.now owing.on_disk.now
+          disk' lines_carried))
+
+      on_disk_told : promise.events ≤ promise'.events
+          → IsOnDisk c.code c.config c.guest promise' p p.steps promise'.events after
+          (medium disk')
+      on_disk_told more =
+          let is = owing.on_disk in
+          let whole : List Record = is.records ++ is.pending in
+          let early = is.early in
+          record {
+            point = is.point;
+            same = is.same;
+            records = whole;
+            pending = [];
+            last = is.now;
+            now = is.now;
+            stores = stored;
+            carried = lines_carried;
+            on_record = subst (λ l. AreOnRecord promise' is.point l) (sym (append-nil whole))
+                (adds.kept ∙ is.on_record);
+            n = is.n;
+            runs = is.runs;
+            syncs = syncs_now p.steps;
+            early = omega (arith, early, more);
+          }
+
+    module _ {O : Type 0} (takes : Taking O) (w' : RunningWorker) (outlet outlet' : O)
+        (same_store : w'.store ≡ after) (same_says : w'.is_abreast ≡ w.is_abreast) where
+      -- all lines are released
+      pub lines_flushed : ReleasesAll takes w.process w'.process outlet outlet'
+          → IsForetold stage (told_lines_of (all_taken (suc w.process.host.released)
+          (waiting_in w.process)))
+          → TurnGoes c promise stage (told_lines_of (all_taken (suc w.process.host.released)
+          (waiting_in w.process))) w' (medium disk) (medium disk')
+      lines_flushed released foretold =
+          let told = all_lines_are_told c.code c.config c.guest promise stage c.fuel
+          w.process.host.released p (waiting_in w.process) owing.way drops foretold in
+          let made = told.0 in
+          let leaves = parts_leave_begun c.code c.config promise made.promise' stage made.stage'
+          (told_lines_of (all_taken (suc w.process.host.released) (waiting_in w.process)))
+          made.done in
+          let shown = released.released.shows c.guest p owing.shows in
+          let none_left = released_none takes w.process w'.process outlet outlet' released in
+          let adds = made.adds in
+          record {
+            promise' = made.promise';
+            stage' = made.stage';
+            process = p;
+            done = made.done;
+            onward = goes_told made.promise' made.adds made.stage' leaves;
+            bounded = barrier_bounds made.promise'.events adds.events;
+            running = record {
+              opened = leaves.opened ∙ owing.opened;
+              texts = owing.texts;
+              shows = shown;
+              module_is = ap (λ (v : ProcessValue). v.machine.guest) released.released.is
+                  ∙ owing.module_is;
+              way = subst (λ n. IsUnderWay c.code c.config c.guest made.promise' made.stage' c.fuel
+                  n p) (sym (released_whole w'.process c.guest p shown none_left)) told.1;
+              began = leaves.step ∙ owing.began;
+              on_disk = subst (λ s. IsOnDisk c.code c.config c.guest made.promise' p p.steps
+                  made.promise'.events s (medium disk')) (sym same_store)
+                  (on_disk_told made.promise' made.adds adds.events);
+              synced = same_below made.promise'.synced promise.synced p.steps adds.synced
+                  owing.synced;
+              abreast = subst (λ says. IsAbreast made.promise' made.stage' p says)
+                  (sym same_says)
+                  (abreast_told made.promise' adds made.stage' made.done owing.abreast);
+            };
+          }
+        where
+          abreast_told : (promise' : Promise) → AddsLines promise (length p.host.lines) promise'
+              → (stage' : Stage)
+              → (done : AreDone c.code c.config promise stage (told_lines_of
+              (all_taken (suc w.process.host.released) (waiting_in w.process))) promise' stage')
+              → IsAbreast promise stage p w.is_abreast → IsAbreast promise' stage' p w.is_abreast
+          abreast_told promise' adds stage' done is =
+              abreast_on promise promise' stage stage' p p w.is_abreast adds.begun (omega arith)
+              (ap (λ (s : Stage). s.is_abreast) done.stage_is
+              ∙ told_changes_none (all_taken (suc w.process.host.released) (waiting_in w.process))
+              (told_lines_of (all_taken (suc w.process.host.released) (waiting_in w.process)))
+              done.events stage done.are refl) is
+
+          same_below : (a b n : ℕ) → a ≡ b → b ≤ n → a ≤ n
+          same_below a b n e le = omega (arith, e, le)
+
+      -- one is refused
+      pub lines_in_vain : (some : ReleasesSome takes w.process w'.process outlet outlet')
+          → IsForetold stage (told_lines_of (last_refused (suc w.process.host.released) some.told
+          some.line))
+          → TurnFails c promise stage (Work slice.Outlet) (told_lines_of
+          (last_refused (suc w.process.host.released) some.told some.line)) w' (medium disk)
+          (medium disk')
+      lines_in_vain some foretold =
+          let told = lines_are_told_in_vain c.code c.config c.guest promise stage c.fuel
+          w.process.host.released p some.told some.others some.line owing.way
+          (drops ∙ some.waiting) foretold in
+          let made = told.0 in
+          let exchanges : List Exchange =
+          told_lines_of (last_refused (suc w.process.host.released) some.told some.line) in
+          let leaves = parts_leave_begun c.code c.config promise made.promise' stage made.stage'
+          exchanges made.done in
+          let shown : ShowsProcess w'.process c.guest p =
+          subst (λ v. ShowsProcess v c.guest p) (sym some.same) owing.shows in
+          let module_is : w'.process.machine.guest ≡ c.code =
+          ap (λ (v : ProcessValue). v.machine.guest) some.same ∙ owing.module_is in
+          let adds = made.adds in
+          let more = adds.events in
+          let is = owing.on_disk in (
+            OfOutlet,
+            refl,
+            tt,
+            ends_on medium c promise made.promise' stage made.stage' exchanges w' disk disk'
+                (Fails OfOutlet) (length promise.kept) made.done
+                (failed_end c made.promise' made.stage' p w' (Broken OfOutlet)
+                (length promise.kept) OfOutlet told.1 shown module_is refl tt)
+                (goes_told made.promise' made.adds made.stage' leaves)
+                (barrier_bounds (made.promise'.events + 1) (omega (arith, more))) is.point
+                after.journal
+                (is.records ++ is.pending) [] is.now is.now
+                (lines_carried made.promise' made.adds)
+                (syncs_now made.promise' made.adds (w'.process.steps - 1))
+                (λ e. absurd (not_open OfOutlet e)),
+          )
+
+-- ---- both
+
+module _ {D O : Type 0} (medium : D → Medium) (takes : Taking O) (w : RunningWorker)
+    (after : WorkerStore) (disk disk' : D)
+    (fronts : LeavesFronts w.store (medium disk) (medium disk')) where
+  pub flush_not_stored : (fault : StoreFault) (outlet : O)
+      → BarrierFails w.store (medium disk) (medium disk') fault
+      → FlushesInVain takes w (fault_of_store fault) (with_store w after) (medium disk)
+      (medium disk') outlet outlet
+  flush_not_stored fault outlet fails = (
+    [],
+    refl,
+    λ c promise stage p owing foretold.
+        barrier_in_vain medium c promise stage p w after disk disk' owing fronts fault fails,
+  )
+
+  module _ (all : StoresAll w.store after (medium disk) (medium disk')) (w' : RunningWorker)
+      (outlet outlet' : O) (same_store : w'.store ≡ after)
+      (same_says : w'.is_abreast ≡ w.is_abreast) where
+    pub flushes_all : ReleasesAll takes w.process w'.process outlet outlet'
+        → Flushes takes w w' (medium disk) (medium disk') outlet outlet'
+    flushes_all released = (
+      all_taken (suc w.process.host.released) (waiting_in w.process),
+      released.told,
+      λ c promise stage p owing foretold.
+          lines_flushed medium c promise stage p w after disk disk' owing fronts all takes w' outlet
+          outlet' same_store same_says released foretold,
+    )
+
+    pub flushes_some : ReleasesSome takes w.process w'.process outlet outlet'
+        → FlushesInVain takes w (Work slice.Outlet) w' (medium disk) (medium disk') outlet outlet'
+    flushes_some some = (
+      last_refused (suc w.process.host.released) some.told some.line,
+      some.refused,
+      λ c promise stage p owing foretold.
+          lines_in_vain medium c promise stage p w after disk disk' owing fronts all takes w' outlet
+          outlet' same_store same_says some foretold,
+    )

@@ -1,0 +1,59 @@
+use Rattle.std.proofs.Common.{◌+◌, ap, refl, inl}
+use Rattle.std.proofs.lemmas.Result.{err_from_is_err_and}
+use Rattle.worker.proofs.DurableLemmas.Advancing.{says_abreast}
+use Rattle.worker.proofs.DurableLemmas.Asking.{asks_turn, asks_nothing, room_said}
+use Rattle.worker.proofs.DurableLemmas.Slicing.{once_if_ok}
+use Rattle.worker.proofs.DurableLemmas.InVain.{hears_in_vain}
+use Rattle.worker.proofs.StoreTurnLemmas.{hears_runs, runs_join}
+use Rattle.worker.proofs.running_worker.RunningWorker.ask.Goals as goal
+
+pub returns-in_err-make_room-clause-asks : goal.returns-in_err-make_room-clause-asks
+returns-in_err-make_room-clause-asks g c =
+    let p = err_from_is_err_and c.from_residual.result c.from_residual.ensures.1 in
+    rw (p.1, p.2) (asks_nothing g.D.Disk.medium g.S.Source.gives c.args.self.now
+    c.make_room.new.self c.args.question c.in_err-make_room.field-0.0 c.args.disk.now
+    c.make_room.new.disk c.args.source.now c.in_err-make_room.ensures.fails)
+
+pub returns-clause-once : goal.returns-clause-once
+returns-clause-once g c =
+    once_if_ok g.S.Source.gives c.args.self.now (says_abreast c.make_room.new.self)
+    c.hear.new.self c.args.question (c.steps-step.result + 1) c.hear.result c.args.source.now
+    c.hear.new.source
+    c.in_ok-make_room.ensures.same c.hear.ensures.hears
+
+pub returns-clause-asks : goal.returns-clause-asks
+returns-clause-asks g c =
+    asks_turn g.D.Disk.medium g.S.Source.gives c.args.self.now
+    (says_abreast c.make_room.new.self) c.hear.new.self c.args.question (c.steps-step.result + 1)
+    c.args.disk.now c.make_room.new.disk c.args.source.now c.hear.new.source
+    (room_said g.D.Disk.medium c.args.self.now c.make_room.new.self c.args.disk.now
+    c.make_room.new.disk c.in_ok-make_room.ensures.made) c.in_ok-make_room.ensures.same refl
+    (ap (λ n. n + 1) c.steps-step.ensures.value) c.hear.result c.hear.ensures.hears
+
+pub returns-in_err-make_room-clause-failed : goal.returns-in_err-make_room-clause-failed
+returns-in_err-make_room-clause-failed g c =
+    let p = err_from_is_err_and c.from_residual.result c.from_residual.ensures.1 in
+    rw (p.1, p.2) (inl (
+      c.in_err-make_room.ensures.failed,
+      c.in_err-make_room.ensures.same,
+      refl,
+    ))
+
+pub returns-clause-failed : goal.returns-clause-failed
+returns-clause-failed g c =
+    hears_in_vain g.S.Source.gives c.args.self.now (says_abreast c.make_room.new.self)
+    c.hear.new.self c.args.question (c.steps-step.result + 1) c.hear.result c.args.source.now
+    c.hear.new.source c.in_ok-make_room.ensures.same c.hear.ensures.hears
+
+pub returns-in_err-make_room-clause-runs : goal.returns-in_err-make_room-clause-runs
+returns-in_err-make_room-clause-runs g c =
+    let p = err_from_is_err_and c.from_residual.result c.from_residual.ensures.1 in
+    rw (p.1, p.2) c.in_err-make_room.ensures.runs
+
+pub returns-clause-runs : goal.returns-clause-runs
+returns-clause-runs g c =
+    let disk = g.D.Disk.medium c.make_room.new.disk in
+    runs_join c.args.self.now.store c.make_room.new.self.store (g.D.Disk.medium c.args.disk.now)
+    disk c.in_ok-make_room.ensures.runs c.hear.new.self.store c.hear.result disk
+    (hears_runs c.make_room.new.self.store c.hear.new.self.store c.hear.result disk
+    c.hear.ensures.kept)

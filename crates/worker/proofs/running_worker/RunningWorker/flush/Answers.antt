@@ -1,0 +1,109 @@
+use Rattle.std.proofs.Common.{refl, inl, inr}
+use Rattle.std.proofs.lemmas.Result.{err_from_is_err_and}
+use Rattle.ephemeral_worker.specs.declared.fault.SliceFault.TheVariants as slice
+use Rattle.worker.specs.declared.fault.WorkFault.TheVariants.{Work}
+use Rattle.worker.specs.declared.running_worker.RunningWorker.{RunningWorker}
+use Rattle.worker.proofs.DurableLemmas.Flushing.{flush_not_stored, flushes_all}
+use Rattle.worker.proofs.DurableLemmas.Flushing.{flushes_some}
+use Rattle.worker.proofs.DurableLemmas.InVain.{no_memory, no_number}
+use Rattle.worker.proofs.StoreTurnLemmas.{barrier_went, barrier_failed, goes_stop}
+use Rattle.worker.proofs.PayingLemmas.{paid, paid_in_vain}
+use Rattle.worker.proofs.running_worker.RunningWorker.flush.Goals as goal
+
+pub returns-in_err-barrier-clause-fails : goal.returns-in_err-barrier-clause-fails
+returns-in_err-barrier-clause-fails g c =
+    let p = err_from_is_err_and c.from_residual.result c.from_residual.ensures.1 in
+    rw (p.1, p.2) (flush_not_stored g.D.Disk.medium g.O.Outlet.takes c.args.self.now
+    c.barrier.new.self c.args.disk.now c.barrier.new.disk c.in_err-barrier.ensures.stores.any_moment
+    c.in_err-barrier.field-0.0 c.args.outlet.now c.in_err-barrier.ensures.stores.cause)
+
+pub returns-in_err-release_waiting-clause-fails : goal.returns-in_err-release_waiting-clause-fails
+returns-in_err-release_waiting-clause-fails g c =
+    let p = err_from_is_err_and c.from_residual-in_err-release_waiting.result
+    c.from_residual-in_err-release_waiting.ensures.1 in
+    let new : RunningWorker = record c.args.self.now {
+      process = c.release_waiting.new.process;
+      store = c.barrier.new.self;
+    } in
+    rw (p.1, p.2) (flushes_some g.D.Disk.medium g.O.Outlet.takes c.args.self.now
+    c.barrier.new.self c.args.disk.now c.barrier.new.disk c.in_ok-barrier.ensures.stores.any_moment
+    c.in_ok-barrier.ensures.stores.durable new c.args.outlet.now c.release_waiting.new.outlet refl
+    refl
+    c.in_err-release_waiting.ensures.some)
+
+pub returns-clause-flushes : goal.returns-clause-flushes
+returns-clause-flushes g c =
+    let new : RunningWorker = record c.args.self.now {
+      process = c.release_waiting.new.process;
+      store = c.barrier.new.self;
+    } in
+    flushes_all g.D.Disk.medium g.O.Outlet.takes c.args.self.now c.barrier.new.self
+    c.args.disk.now c.barrier.new.disk c.in_ok-barrier.ensures.stores.any_moment
+    c.in_ok-barrier.ensures.stores.durable new c.args.outlet.now c.release_waiting.new.outlet refl
+    refl
+    c.in_ok-release_waiting.ensures.all
+
+pub returns-in_err-barrier-clause-failed : goal.returns-in_err-barrier-clause-failed
+returns-in_err-barrier-clause-failed g c =
+    let p = err_from_is_err_and c.from_residual.result c.from_residual.ensures.1 in
+    rw (p.1, p.2) (inl (
+      c.in_err-barrier.field-0.0,
+      refl,
+      no_memory c.args.self.now.store (g.D.Disk.medium c.args.disk.now)
+          (g.D.Disk.medium c.barrier.new.disk) c.in_err-barrier.field-0.0
+          c.in_err-barrier.ensures.stores.cause,
+      no_number c.args.self.now.store (g.D.Disk.medium c.args.disk.now)
+          (g.D.Disk.medium c.barrier.new.disk) c.in_err-barrier.field-0.0
+          c.in_err-barrier.ensures.stores.cause,
+      refl,
+      refl,
+    ))
+
+pub returns-in_err-release_waiting-clause-failed :
+    goal.returns-in_err-release_waiting-clause-failed
+returns-in_err-release_waiting-clause-failed g c =
+    let p = err_from_is_err_and c.from_residual-in_err-release_waiting.result
+    c.from_residual-in_err-release_waiting.ensures.1 in
+    rw (p.1, p.2) (inr (refl, c.in_err-release_waiting.ensures.some))
+
+pub returns-in_err-barrier-clause-runs : goal.returns-in_err-barrier-clause-runs
+returns-in_err-barrier-clause-runs g c =
+    let p = err_from_is_err_and c.from_residual.result c.from_residual.ensures.1 in
+    let failed = c.in_err-barrier.ensures in
+    rw (p.1, p.2) (barrier_failed g.D.Disk.medium c.args.self.now.store c.barrier.new.self
+    c.args.disk.now c.barrier.new.disk c.in_err-barrier.field-0.0 failed.stores failed.full)
+
+pub returns-in_err-release_waiting-clause-runs : goal.returns-in_err-release_waiting-clause-runs
+returns-in_err-release_waiting-clause-runs g c =
+    let p = err_from_is_err_and c.from_residual-in_err-release_waiting.result
+    c.from_residual-in_err-release_waiting.ensures.1 in
+    let done = c.in_ok-barrier.ensures in
+    rw (p.1, p.2) (goes_stop c.args.self.now.store c.barrier.new.self
+    (g.D.Disk.medium c.args.disk.now) (g.D.Disk.medium c.barrier.new.disk)
+    (barrier_went g.D.Disk.medium c.args.self.now.store c.barrier.new.self c.args.disk.now
+    c.barrier.new.disk tt done.stores done.full done.quiet) (Work slice.Outlet) tt)
+
+pub returns-clause-runs : goal.returns-clause-runs
+returns-clause-runs g c =
+    let done = c.in_ok-barrier.ensures in
+    barrier_went g.D.Disk.medium c.args.self.now.store c.barrier.new.self c.args.disk.now
+    c.barrier.new.disk tt done.stores done.full done.quiet
+
+pub returns-in_err-barrier-clause-asks : goal.returns-in_err-barrier-clause-asks
+returns-in_err-barrier-clause-asks g c =
+    let p = err_from_is_err_and c.from_residual.result c.from_residual.ensures.1 in
+    rw p.1 (paid_in_vain g.D.Disk.medium c.args.self.now.store c.args.disk.now
+    c.barrier.new.disk c.in_err-barrier.ensures.quiet c.in_err-barrier.ensures.stores.asks)
+
+pub returns-in_err-release_waiting-clause-asks : goal.returns-in_err-release_waiting-clause-asks
+returns-in_err-release_waiting-clause-asks g c =
+    let p = err_from_is_err_and c.from_residual-in_err-release_waiting.result
+    c.from_residual-in_err-release_waiting.ensures.1 in
+    rw p.1 (paid_in_vain g.D.Disk.medium c.args.self.now.store c.args.disk.now
+    c.barrier.new.disk c.in_ok-barrier.ensures.quiet c.in_ok-barrier.ensures.stores.asks)
+
+pub returns-clause-asks : goal.returns-clause-asks
+returns-clause-asks g c =
+    paid g.D.Disk.medium c.args.self.now.store c.barrier.new.self c.args.disk.now
+    c.barrier.new.disk c.in_ok-barrier.ensures.quiet c.in_ok-barrier.ensures.stores.asks
+    c.in_ok-barrier.ensures.stores.stored

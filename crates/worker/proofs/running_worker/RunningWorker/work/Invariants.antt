@@ -1,0 +1,11 @@
+use Rattle.ephemeral_worker.proofs.Ending.{measure}
+use Rattle.worker.proofs.DurableLemmas.Slicing.{InSlice}
+use Rattle.worker.proofs.running_worker.RunningWorker.work.Given as goal
+
+abbrev pub invariant-loop-self : goal.invariant-loop-self
+invariant-loop-self g l =
+    InSlice g.D.Disk.medium g.S.Source.gives g.O.Outlet.takes l.fn.self l.self l.fuel l.first
+    l.fn.disk l.disk l.fn.source l.source l.fn.outlet l.outlet
+
+abbrev pub decreases-loop-self : goal.decreases-loop-self
+decreases-loop-self g l = measure l.fuel l.first l.self.process

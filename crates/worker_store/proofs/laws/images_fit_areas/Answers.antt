@@ -1,6 +1,0 @@
-use Rattle.std.proofs.Common.{arith}
-use Rattle.worker_store.proofs.laws.images_fit_areas.Goals as goal
-
-pub returns : goal.returns
-returns c m config s wasm typed =
-    let few = c.images_have_room.ensures.room m config s typed in omega (arith, few)
