@@ -2,7 +2,7 @@
 use Rattle.std.proofs.Common.{◌≡◌, ℕ, ◌≤◌, ◌^◌, List, sym, ◌∙◌, subst}
 use Rattle.wasm_syntax.specs.declared.types.FunctionType.{FunctionType}
 use Rattle.wasm_syntax.specs.declared.module.Module.{Module}
-use Rattle.wasm_semantics.specs.Validity.{AreFunctionTypes}
+use Rattle.wasm_semantics.specs.Validity.{IsValid, AreFunctionTypes}
 use Rattle.wasm_semantics.specs.Configuration.{Program, Store, Configuration}
 use Rattle.wasm_semantics.specs.Instantiation.{IsProgram, calls_of, Begins}
 use Rattle.wasm_semantics.specs.Steps.{ReducesTo}
@@ -31,6 +31,11 @@ module _ (pages : ℕ) (m : Module) (b : MachineStart) (few : pages
     configuration = first h.linkable.store (calls_of m.start h.linkable.entry);
     stands = h.stands h.functions h.program h.types h.is_program;
   }
+
+  pub begin_valid : IsValid m
+  begin_valid =
+      let start = h.stands h.functions h.program h.types h.is_program in
+      subst IsValid h.guest start.is_code.valid
 
   module _ (state : State) (paused : Paused) (pauses : Pauses b.code b.state 0 paused state) where
     reduces : (functions : List FunctionType) (program : Program) → AreFunctionTypes m functions

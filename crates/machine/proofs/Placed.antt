@@ -1,4 +1,4 @@
--- Where the words of a machine's frames lie.
+-- Where the words of a machine's frames lie, and that its module is valid.
 use Rattle.std.proofs.Common.{◌≡◌, ℕ, ◌*◌, ◌≤◌, ◌^◌, min, List, [], ◌∷◌, length, Option, Some}
 use Rattle.std.proofs.Common.{None, refl, sym, ◌∙◌, arith}
 use Rattle.std.specs.Prelude.{replicate}
@@ -11,7 +11,7 @@ use Rattle.guest_memory.specs.rules.Memories.{zeroed}
 use Rattle.guest_memory.proofs.Lists.{all_replicate}
 use Rattle.wasm_semantics.specs.Configuration.{Program}
 use Rattle.wasm_semantics.specs.Instantiation.{most_pages_of}
-use Rattle.wasm_semantics.specs.Validity.{module_context, memories_of}
+use Rattle.wasm_semantics.specs.Validity.{IsValid, module_context, memories_of}
 use Rattle.machine_frame.specs.rules.Stacked.{AreStacked}
 use Rattle.machine_frame.proofs.Threads.Showing.{frames_stacked}
 use Rattle.machine.specs.declared.execution.code.Executable.{Executable}
@@ -59,3 +59,9 @@ stacked code s most machine =
     let some = reduced_zeroed code s most machine machine.functions machine.program machine.is in
     frames_stacked (module_context code.«module» machine.functions) machine.program s.frames
     s.slots some.configuration.thread some.stands.stands.frames
+
+pub valid_module : (code : Executable) (s : State) (most : ℕ) → IsMachine code s most
+    → IsValid code.«module»
+valid_module code s most machine =
+    let some = reduced_zeroed code s most machine machine.functions machine.program machine.is in
+    some.stands.is_code.valid

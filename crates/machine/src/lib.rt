@@ -3,8 +3,9 @@
 //!
 //! # Promises
 //!
-//! - `link`: the machine shows where the module begins (`begun`). A fault names the first thing
-//!   that isn't there (`refused`), and unless memory runs out the module can't be linked (`only`).
+//! - `link`: the machine shows where the module begins (`begun`), which is valid (`valid`). A fault
+//!   names the first thing that isn't there (`refused`), and unless memory runs out the module
+//!   can't be linked (`only`).
 //! - `Machine::run`: on so much fuel it comes to where that many counted steps lead. It pauses
 //!   spent, at a call of the host, ended or trapped, as the rules say (`runs`).
 //! - `finish`: what the host's answer makes of the configuration that waits is then shown
@@ -17,11 +18,11 @@
 //!   That is the numbers of the globals, the frames from the outermost one in, and whether `_start`
 //!   is still to be called. None of them runs anything or takes memory.
 //! - `slot_count`: how many slots the frames have together, at most 69,632 (`count`, `bound`).
-//! - `into_loading` takes frames, slots, globals and calls to come away, so that others can be put
-//!   in their place. `push_frame` and `push_slot` do so from the outermost frame in, and so do
-//!   `push_global`, `push_start` and `set_memory`. Each does exactly that (`pushed`, `set`), or
-//!   changes nothing (`kept`). `Unfit` is told at once where there is no room (`full`), or no such
-//!   function or memory (`none`, `refused`).
+//! - `into_loading` takes frames, slots, globals and calls to come away (`emptied`), so that others
+//!   can be put in their place. `push_frame` and `push_slot` do so from the outermost frame in, and
+//!   so do `push_global`, `push_start` and `set_memory`. Each does exactly that (`pushed`, `set`),
+//!   or changes nothing (`kept`). `Unfit` is told at once where there is no room (`full`), or no
+//!   such function or memory (`none`, `refused`).
 //! - `finish` of `Loading` gives the machine with these parts (`same`), which then shows some
 //!   configuration (`shows`). `Unfit` comes only where they show none (`refused`). Types, heights
 //!   and calls that wait are those of typing at each frame's position.

@@ -1,6 +1,7 @@
 //! From a module to a machine.
 
-ghost use Rattle.std.specs.Prelude.{◌≤◌, IfOk, IfErr};
+ghost use Rattle.std.specs.Prelude.{◌≤◌, IfOk, IfErr, OnOk};
+ghost use Rattle.wasm_semantics.specs.Validity.{IsValid};
 ghost use Rattle.wasm_semantics.specs.Linking.{IsLinkable};
 ghost use Rattle.machine.specs.rules.Offers.{offer};
 ghost use Rattle.machine.specs.rules.Refusals.{IsRefused, LinkDenies};
@@ -19,6 +20,7 @@ use wasm_validate::ValidModule;
 pub fn link(alloc: Global, module: ValidModule, pages: u32) -> Result<Machine, LinkFault>
     requires pages { pages ≤ MOST_PAGES }
     ensures begun { IfOk result (HasBegun pages «module») }
+    ensures valid { OnOk result (IsValid «module») }
     ensures refused { IfErr result (IsRefused pages «module») }
     ensures only { IfErr result (LinkDenies (IsLinkable offer pages «module»)) }
 {

@@ -31,7 +31,8 @@ impl Model for Machine {
     ghost invariant = { λ m. IsMachine m.code m.state m.most_pages };
 }
 
-/// What holds of a memory by its type.
+/// What holds of a memory by its type. The invariant of `Machine` can't say it, since `memory_mut`
+/// lends its memory.
 pub(crate) fn is_memory(memory: &Memory)
     ensures shape { IsWithinLimit memory.now }
     ensures bytes { AllByRecursion IsByte memory.now.bytes }

@@ -1,7 +1,6 @@
 //! A process, and what is known of it.
 
 ghost use Rattle.std.specs.Prelude.{◌≡◌, ◌+◌, ◌<◌, ◌≤◌, ◌^◌, IfOk, IfErr, length, option_map};
-ghost use Rattle.wasm_semantics.specs.Validity.{IsValid};
 ghost use Rattle.wasm_semantics.specs.Linking.{IsLinkable};
 ghost use Rattle.machine.specs.rules.Offers.{offer};
 ghost use Rattle.machine.specs.rules.Refusals.{IsRefused, LinkDenies};
@@ -15,13 +14,6 @@ use std::marker::Model;
 use wasi_abi::{Config, Version};
 use wasi_calls::{Line, WasiState};
 use wasm_validate::ValidModule;
-
-/// What holds of a module by its type.
-fn is_valid(module: &ValidModule)
-    ensures { IsValid «module».now }
-{
-    let _ = module.module();
-}
 
 /// A module that runs under a configuration. Contracts see its machine, its host, how far it has
 /// come and how it ended.
@@ -57,10 +49,10 @@ impl Process {
     /// fault is the first in the order of `LinkFault`.
     pub fn start(alloc: Global, module: ValidModule, config: Config) -> Result<Process, LinkFault>
         ensures started { IfOk result (HasStarted «module» config) }
+        ensures shows { IfOk result IsProcess }
         ensures refused { IfErr result (IsRefused config.pages «module») }
         ensures only { IfErr result (LinkDenies (IsLinkable offer config.pages «module»)) }
     {
-        is_valid(&module);
         let machine = link(alloc, module, config.pages())?;
         let mut host = WasiState::new(alloc, config, Version::One)?;
         let ended = end_with_program(alloc, &machine, &mut host);
@@ -129,7 +121,8 @@ impl Process {
 
     /// How it has ended, if it has.
     pub fn reached_end(&self) -> Option<ProcessEnd>
-        ensures { option_map ending_of result ≡ self.now.ended }
+        ensures value { option_map ending_of result ≡ self.now.ended }
+        ensures shows { IsProcess self.now }
     {
         self.ended
     }

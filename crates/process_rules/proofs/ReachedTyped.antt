@@ -23,7 +23,7 @@ use Rattle.wasm_semantics.specs.Instantiation.{AreCallees, Begins}
 use Rattle.wasm_semantics.specs.Linking.{Offer, IsItemOffered, IsOffered}
 use Rattle.wasm_semantics.specs.Steps.{counted_step, stopped, IsReduced, IsEnded}
 use Rattle.wasm_semantics.specs.Typed.{IsTypedProgram, IsTypedMemory, IsTyped}
-use Rattle.wasm_semantics.specs.Typed.{IsSound}
+use Rattle.wasm_semantics.specs.laws.Soundness.{IsSound}
 use Rattle.wasm_semantics.proofs.Soundness.Beginning.{begins_typed}
 use Rattle.wasm_semantics.proofs.Soundness.AdministrativeSound.{never_stuck_holds, answers_typed}
 use Rattle.wasm_semantics.proofs.Soundness.AdministrativeSound.{reduces_typed, goes_typed}

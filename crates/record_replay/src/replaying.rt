@@ -1,7 +1,7 @@
 //! A process takes the answers that are on record.
 
 ghost use Rattle.std.specs.Prelude.{◌≡◌, ◌+◌, [], ◌∷◌, IfOk, IfErr, OnOk};
-ghost use Rattle.process.specs.rules.Values.{waiting_in};
+ghost use Rattle.process.specs.rules.Values.{IsProcess, waiting_in};
 ghost use Rattle.record_replay.specs.Plays.{RunsToStep};
 ghost use Rattle.record_replay.specs.rules.Replays.{Replays, ReplaysInVain};
 
@@ -26,6 +26,7 @@ pub fn replay<O: Outlet>(
         (λ r. Replays O.takes process records.now r.0 outlet.old outlet.new) }
     ensures counted { IfOk result (λ r. r.0.steps ≡ process.steps + r.1) }
     ensures guest { IfOk result (λ r. r.0.machine.guest ≡ process.machine.guest) }
+    ensures shows { IfOk result (λ r. IsProcess r.0) }
     ensures stopped { IfErr result
         (λ why. ReplaysInVain O.takes process records.now why outlet.old outlet.new) }
 {
@@ -45,6 +46,7 @@ fn play_all<O: Outlet>(
         (Replays O.takes process.old records.now process.new outlet.old outlet.new) }
     ensures counted { IfOk result (λ count. process.new.steps ≡ process.old.steps + count) }
     ensures guest { OnOk result (process.new.machine.guest ≡ process.old.machine.guest) }
+    ensures shows { OnOk result (IsProcess process.new) }
     ensures stopped { IfErr result
         (λ why. ReplaysInVain O.takes process.old records.now why outlet.old outlet.new) }
 {

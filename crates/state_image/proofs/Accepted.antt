@@ -8,26 +8,22 @@ use Rattle.std.specs.List.{AllByRecursion}
 use Rattle.std.proofs.lemmas.Grind.{reverse_onto}
 use Rattle.std.proofs.lemmas.List.{reverse-reverse, length-reverse}
 use Rattle.std.proofs.lemmas.Bool.{both_ways}
-use Rattle.std.proofs.lemmas.List.Sums.{sum_by-cons}
 use Rattle.std.proofs.lemmas.Option.{slice_get_within, same_Some}
 use borrow.Author.Count.{below_more}
-use Rattle.wasm_syntax.specs.declared.limits.TheConstants.{GLOBALS}
 use Rattle.wasm_syntax.specs.declared.module.Module.{Module}
 use Rattle.wasm_syntax.specs.declared.module.ExportItem.TheVariants as export
 use Rattle.wasm_semantics.specs.Validity.{IsValid}
 use Rattle.wasm_semantics.specs.Linking.{HasEntry}
 use Rattle.wasm_semantics.specs.Typed.{IsTypedMemory}
 use Rattle.wasm_semantics.proofs.Soundness.Beginning.{programs_typed}
-use Rattle.machine_slots.specs.declared.slots.TheConstants.{SLOTS}
-use Rattle.machine_slots.specs.rules.Places.{ShownFrame, MachineState}
-use Rattle.machine_frame.specs.rules.Fitting.{slots_held}
+use Rattle.machine_slots.specs.rules.Places.{ShownFrame}
 use Rattle.machine.specs.rules.Loading.{ShowsSome}
 use Rattle.machine.specs.rules.Values.{MachineValue}
 use Rattle.process_rules.specs.Processes.{Ending}
 use Rattle.process_rules.proofs.OneStart.{item_number, entry_once}
-use Rattle.state_image.specs.rules.ProcessImage.{Saved, ending_code}
+use Rattle.state_image.specs.rules.ProcessImage.{Saved}
 use Rattle.state_image.specs.rules.WellTyped.{EntryPoints, IsCalled, IsOutermost, IsAlive}
-use Rattle.state_image.specs.rules.WellTyped.{IsPlaceWithin, slots_in, IsWithinBounds}
+use Rattle.state_image.specs.rules.WellTyped.{IsPlaceWithin}
 use Rattle.state_image.specs.restoring.Processes.{MayCome}
 use Rattle.state_image.proofs.Machines.{all_reversed}
 use Rattle.state_image.proofs.ShownBounds.{memory_few}
@@ -158,13 +154,7 @@ one_within places i p e all =
 
 -- ---- bounds
 
-held_in : (places : List ShownFrame) → slots_in places ≡ slots_held places
-held_in [] = refl
-held_in (place ∷ places) =
-    let all = sum_by-cons (λ (f : ShownFrame). length f.slots) place places in
-    omega (arith, all, held_in places)
-
-memory_within : (v : MachineValue) → IsValid v.guest → ShowsSome v
+pub memory_within : (v : MachineValue) → IsValid v.guest → ShowsSome v
     → length v.state.memory ≤ 2 ^ 32
 memory_within v valid some =
     let is = some.shows.is in
@@ -173,19 +163,6 @@ memory_within v valid some =
     let shows = some.shows.shows in
     memory_few some.program v.state.memory
     (subst (IsTypedMemory some.program) (sym shows.memory) shows.typed.store.memory) typed.pages
-
-pub bounds_of : (s : Saved) (v : MachineValue) → s.machine ≡ v.state → IsValid v.guest
-    → ShowsSome v → ending_code s.ended < 2 ^ 32 → slots_held v.state.frames ≤ SLOTS
-    → length v.state.globals ≤ GLOBALS → AllByRecursion IsPlaceWithin v.state.frames
-    → IsWithinBounds s
-bounds_of s v same valid some code slots globals places =
-    let slots' : slots_in v.state.frames ≤ SLOTS = omega (arith, held_in v.state.frames, slots) in
-    let state : MachineState → Type 0 = λ m. (length m.globals ≤ GLOBALS)
-    × AllByRecursion IsPlaceWithin m.frames × (slots_in m.frames ≤ SLOTS)
-    × (length m.memory ≤ 2 ^ 32) in
-    let here = subst state (sym same)
-    (globals, places, slots', memory_within v valid some) in
-    record { code = code; globals = here.0; places = here.1; slots = here.2; memory = here.3 }
 
 -- ---- alive
 

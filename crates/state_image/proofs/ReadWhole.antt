@@ -197,6 +197,7 @@ module _ (linked : MachineValue) (config : Settings)
 
   module _ (v : MachineValue) (behind new : List ℕ) (held : HeldWasiState)
       (read : IsReadMachine linked p.end.phase mid behind v) (shows : ShowsSome v)
+      (slots : slots_in v.state.frames ≤ SLOTS)
       (host : IsRestoredWasiState config p held behind new) where
     abbrev t : Saved
     t = saved_of (process_behind p v held)
@@ -228,8 +229,10 @@ module _ (linked : MachineValue) (config : Settings)
 
     pub read_process : IsReadProcess linked config old new (process_behind p v held)
     read_process = record {
+      valid = valid;
       same = read.same;
       shows = shows;
+      slots = slots;
       later = ended_so v.guest p.end.phase v.state.later read.later;
       progress = has.fits t is_progress;
       machine = read.within;

@@ -36,10 +36,11 @@ use Rattle.state_image.specs.rules.Parts.{read_phase}
 use Rattle.state_image.specs.rules.Restored.{SavedShowsIn, IsRestored}
 use Rattle.state_image.specs.rules.Saving.{saved_of}
 use Rattle.state_image.specs.rules.WellTyped.{EntryPoints, IsCalled, IsOutermost, IsAlive}
-use Rattle.state_image.specs.rules.WellTyped.{IsConfigured, IsWellTyped}
+use Rattle.state_image.specs.rules.WellTyped.{IsConfigured, IsWithinBounds, IsWellTyped}
 use Rattle.state_image.specs.restoring.Machines.{AreToCome}
 use Rattle.state_image.specs.restoring.Processes.{MayCome, IsReadProcess}
 use Rattle.state_image.specs.restoring.Processes.{MayBeAccepted}
+use Rattle.state_image.proofs.Accepted.{memory_within}
 use Rattle.state_image.proofs.Behind.{told_behind}
 use Rattle.state_image.proofs.WasiStateWithin.{places_within}
 use Rattle.state_image.proofs.ReachedWellTyped.{no_places}
@@ -321,7 +322,8 @@ module _ (linked : MachineValue) (config : Settings)
         record {
           outermost = subst Q (sym from.same.guest) (subst P entries x.outermost);
           alive = x.alive;
-          bounds = x.bounds;
+          globals = x.bounds.globals;
+          places = x.bounds.places;
           unread = x.unread;
           next = x.next;
         }
@@ -476,6 +478,16 @@ module _ (linked : MachineValue) (config : Settings)
         subst (λ (z : Module). IsOutermost (record { start = z.start; entry = entry })
         v.machine.state.later v.machine.state.frames) from.same.guest may.outermost
 
+    is_within_bounds : MayBeAccepted v.machine.guest entry (saved_of v)
+        → IsWithinBounds (saved_of v)
+    is_within_bounds may = record {
+      code = from.progress.code;
+      globals = may.globals;
+      places = may.places;
+      slots = from.slots;
+      memory = memory_within v.machine (subst IsValid (sym from.same.guest) valid) from.shows;
+    }
+
     well_typed : IsProcess v → MayBeAccepted v.machine.guest entry (saved_of v)
         → IsWellTyped m config (saved_of v)
     well_typed is may = record {
@@ -495,7 +507,7 @@ module _ (linked : MachineValue) (config : Settings)
       lines = has_numbers is;
       answers = is.few_answers;
       requests = is.few_requests;
-      bounds = may.bounds;
+      bounds = is_within_bounds may;
       unread = may.unread;
       next = may.next;
     }

@@ -39,7 +39,8 @@ use Rattle.wasm_semantics.proofs.Heights.{heights_small}
 use Rattle.machine_slots.specs.declared.slots.TheConstants.{SLOTS}
 use Rattle.machine_slots.specs.rules.Places.{ShownFrame, HaveShape, all_below, slots_of, IsCallOf}
 use Rattle.machine_slots.specs.rules.Places.{ShowsRunning, IsFrameOf, ShowsCallers, ShowsThread}
-use Rattle.machine_frame.specs.rules.Fitting.{slots_held, FewHeld}
+use Rattle.machine_frame.specs.rules.Stacked.{slots_held}
+use Rattle.machine_frame.specs.laws.Fitting.{FewHeld}
 use Rattle.machine_frame.proofs.Threads.Words.{values_count}
 use Rattle.machine.specs.rules.Offers.{offer}
 use Rattle.machine.proofs.InstanceLemmas.Offered.{no_globals}

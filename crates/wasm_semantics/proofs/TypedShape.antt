@@ -18,8 +18,9 @@ use Rattle.wasm_semantics.specs.Configuration.{Main, Second}
 use Rattle.wasm_semantics.specs.Types.{IsOf, takes_of, gives_of, results_of}
 use Rattle.wasm_semantics.specs.Typing.{Context, HasInstructionType, HasType}
 use Rattle.wasm_semantics.specs.Shapes.{Shape, LabelShape, ShapeOf, type_of, in_place_of}
-use Rattle.wasm_semantics.specs.Shapes.{types_behind, shape_at, body_shape, AreTypedShapes}
-use Rattle.wasm_semantics.specs.Shapes.{IsTypedShape, ReachedShapesAreTyped}
+use Rattle.wasm_semantics.specs.Shapes.{types_behind, shape_at, body_shape}
+use Rattle.wasm_semantics.specs.laws.TypedShapes.{AreTypedShapes, IsTypedShape}
+use Rattle.wasm_semantics.specs.laws.TypedShapes.{ReachedShapesAreTyped}
 
 -- typed, where there is a shape
 abbrev pub IsTypedIf : Context → Option Shape → Type 0

@@ -1,7 +1,7 @@
 -- The shape that typing gives to each position of a body that it reaches. It has the labels around
 -- it, the types of the operands, and what remains of the innermost sequence. Code after
 -- `unreachable`, `br`, `br_table` and `return`, up to the end of its block, is not reached.
-use Rattle.std.specs.Prelude.{◌≡◌, ℕ, zero, suc, ◌+◌, ◌-◌, nat_le, ◌==◌, List, [], ◌∷◌, ◌++◌}
+use Rattle.std.specs.Prelude.{ℕ, zero, suc, ◌+◌, ◌-◌, nat_le, ◌==◌, List, [], ◌∷◌, ◌++◌}
 use Rattle.std.specs.Prelude.{length, drop, Option, Some, None, option_map, slice_get}
 use Rattle.std.specs.Prelude.{if◌then◌else◌}
 use Rattle.std.specs.Option.{option_and_then}
@@ -17,7 +17,7 @@ use Rattle.wasm_syntax.specs.rules.Sequence.{spelled}
 use Rattle.wasm_semantics.specs.Configuration.{Part, Main, Second}
 use Rattle.wasm_semantics.specs.Types.{conversion_gives, loaded_type, takes_of, gives_of}
 use Rattle.wasm_semantics.specs.Types.{results_of}
-use Rattle.wasm_semantics.specs.Typing.{Context, HasType}
+use Rattle.wasm_semantics.specs.Typing.{Context}
 
 -- A label: what a branch to it takes, and what is executed then. Then the types of the values below
 -- its block, what follows the block, and which part of its instruction this is.
@@ -113,29 +113,3 @@ body_shape c body p =
       rest = Stop;
     })
     else None
-
--- ---- typed shapes
-
--- the labels around a sequence that leaves `out` lead to the end of the function
-abbrev pub AreTypedShapes : Context → List (List ValueType) → List LabelShape → List ValueType
-    → Type 0
-AreTypedShapes c [] [] out = out ≡ c.returns
-AreTypedShapes c (ts ∷ tss) (ShapeOf takes target below after which ∷ labels) out =
-    (end : List ValueType) × (takes ≡ ts) × HasType c tss after (out ++ below) end
-    × HasType c tss target (ts ++ below) end × AreTypedShapes c tss labels end
-AreTypedShapes c [] (label ∷ labels) out = ⊥
-AreTypedShapes c (ts ∷ tss) [] out = ⊥
-
--- a shape that is typed, with its labels
-pub record IsTypedShape (c : Context) (s : Shape) : Type 0 where
-  pub branches : List (List ValueType)
-  pub out : List ValueType
-  pub typed_rest : HasType c branches s.rest s.operands out
-  pub typed_labels : AreTypedShapes c branches s.labels out
-
--- In a typed body the shape at each position that typing reaches is typed.
-abbrev pub ReachedShapesAreTyped : Type 0
-ReachedShapesAreTyped =
-    (c : Context) (body : Sequence) (p : ℕ) (s : Shape)
-    → HasType c (c.returns ∷ []) body [] c.returns → body_shape c body p ≡ Some s
-    → IsTypedShape c s

@@ -2,15 +2,15 @@
 //! they ensure is the law.
 
 ghost use Rattle.wasm_semantics.specs.Configuration.{Store};
-ghost use Rattle.wasm_semantics.specs.Shapes.{ReachedShapesAreTyped};
+ghost use Rattle.wasm_semantics.specs.laws.TypedShapes.{ReachedShapesAreTyped};
 ghost use Rattle.wasm_semantics.specs.laws.Laws.{OneSequence, OneRun, HeightsAreSmall};
 ghost use Rattle.wasm_semantics.specs.laws.Examples.{TypingExamples, HelloRuns, StepExamples};
 ghost use Rattle.wasm_semantics.specs.laws.LimitExamples.{StackExamples, BranchExamples};
 ghost use Rattle.wasm_semantics.specs.laws.LimitExamples.{TableExamples, MemoryGrows};
 ghost use Rattle.wasm_semantics.specs.laws.LimitExamples.{MoveExamples};
-ghost use Rattle.wasm_semantics.specs.Typed.{NeverStuck, AdministrativeTyped, AnswersTyped};
-ghost use Rattle.wasm_semantics.specs.Typed.{StepsTyped};
-ghost use Rattle.wasm_semantics.specs.Typed.{ProgramsTyped, BeginsTyped};
+ghost use Rattle.wasm_semantics.specs.laws.Soundness.{NeverStuck, AdministrativeTyped};
+ghost use Rattle.wasm_semantics.specs.laws.Soundness.{AnswersTyped, StepsTyped, ProgramsTyped};
+ghost use Rattle.wasm_semantics.specs.laws.Soundness.{BeginsTyped};
 
 /// In a typed body each position that typing reaches has a typed shape.
 pub fn reached_shapes_are_typed()

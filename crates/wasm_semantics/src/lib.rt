@@ -25,7 +25,7 @@
 //! `counted_step`, `administrative_step`, `Steps` (`Steps.antt`); `Begins` (`Instantiation.antt`);
 //! `IsLinkable` (`Linking.antt`); `IsAccepted` (`Acceptance.antt`); `body_shape` (`Shapes.antt`);
 //! `IsTyped` (`Typed.antt`). Where the standard leaves a choice, `grown` and `is_exhausted` say
-//! which one is taken.
+//! which one is taken. What each law says is in `specs/laws/`.
 //!
 //! # Who may touch what
 //!

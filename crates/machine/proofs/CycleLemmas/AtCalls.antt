@@ -23,7 +23,7 @@ use Rattle.machine_jumps.specs.Moves.{HasOpcode, IsFirst, IsTypedBody}
 use Rattle.machine_jumps.proofs.MovesHold.{opcodes_first, no_opcode_behind}
 use Rattle.machine_frame.specs.declared.rules.frame.StackFrame.{StackFrame}
 use Rattle.machine_frame.specs.rules.Threads.{AreFrames, context_of}
-use Rattle.machine_frame.specs.rules.laws.Threads.{Top, HasTaken}
+use Rattle.machine_frame.specs.laws.Threads.{Top, HasTaken}
 use Rattle.machine_frame.proofs.Threads.Entering.{IsCalling, taken, under}
 use Rattle.machine_frame.proofs.Threads.Calling.{direct, indirect}
 use Rattle.machine.specs.Routines.Routines.{opcodes_in, tables_in}

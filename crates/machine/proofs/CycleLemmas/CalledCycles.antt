@@ -15,7 +15,7 @@ use Rattle.wasm_semantics.specs.Steps.{counted_step, IsEnded}
 use Rattle.machine_slots.specs.declared.limits.TheConstants.{FRAMES, HELD_VALUES}
 use Rattle.machine_frame.specs.rules.Walks.{here, counted}
 use Rattle.machine_frame.specs.rules.Threads.{PartsStandFor}
-use Rattle.machine_frame.specs.rules.laws.Threads.{CallLeads}
+use Rattle.machine_frame.specs.laws.Threads.{CallLeads}
 use Rattle.machine_frame.proofs.Threads.Calling.{calls_lead}
 use Rattle.machine.specs.Routines.Routines.{opcodes_in, tables_in}
 use Rattle.machine.specs.declared.routines.routine.Routine.{Routine}

@@ -27,7 +27,7 @@ use Rattle.wasm_semantics.specs.Steps.{counted_step, IsCounted}
 use Rattle.machine_slots.specs.declared.limits.TheConstants.{FRAMES, HELD_VALUES}
 use Rattle.machine.specs.rules.Offers.{offer, offered_call, imported_call}
 use Rattle.machine_frame.specs.rules.Threads.{IsOwn, MachineParts, PartsStandFor}
-use Rattle.machine_frame.specs.rules.laws.Threads.{CallLeads}
+use Rattle.machine_frame.specs.laws.Threads.{CallLeads}
 use Rattle.machine.specs.laws.Routines.{IsNumberedCallee}
 use Rattle.machine.proofs.RoutineLemmas.Numbers.{functions_numbered}
 use Rattle.machine.specs.declared.execution.code.Executable.{Executable}

@@ -20,7 +20,7 @@ use Rattle.machine_frame.specs.rules.Walks.{here, administrative}
 use Rattle.machine_frame.specs.declared.rules.frame.StackFrame.{StackFrame}
 use Rattle.machine_frame.specs.rules.Threads.{IsOwn, PartsStandFor, AreFrames, AreWaiting}
 use Rattle.machine_frame.specs.rules.Threads.{context_of}
-use Rattle.machine_frame.specs.rules.laws.Threads.{frames_behind, results_left}
+use Rattle.machine_frame.specs.laws.Threads.{frames_behind, results_left}
 use Rattle.machine_frame.proofs.Threads.Hosting.{host_calls}
 use Rattle.machine_frame.proofs.Threads.Returning.{bodies_end, returns_lead}
 use Rattle.machine.specs.declared.routines.routine.Routine.{Routine}

@@ -9,7 +9,7 @@ use Rattle.wasi_abi.specs.declared.call.Call.{Call}
 use Rattle.wasm_semantics.specs.Validity.{module_context}
 use Rattle.wasm_semantics.specs.Configuration.{Callee, Program, Configuration, Traps}
 use Rattle.wasm_semantics.specs.Steps.{counted_step, signature_of}
-use Rattle.machine_frame.specs.rules.laws.Threads.{CallLeads, EntryLeads}
+use Rattle.machine_frame.specs.laws.Threads.{CallLeads, EntryLeads}
 use Rattle.machine_frame.proofs.Threads.Calling.{indirect_calls_lead}
 use Rattle.machine.specs.Routines.Routines.{opcodes_in, tables_in}
 use Rattle.machine.specs.declared.execution.code.Executable.{Executable}

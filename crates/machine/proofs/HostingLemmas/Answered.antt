@@ -11,7 +11,7 @@ use Rattle.wasm_semantics.specs.Configuration.{Imported, Program, Thread, Config
 use Rattle.wasm_semantics.specs.Steps.{counted_step, answered}
 use Rattle.wasm_semantics.specs.Typed.{IsTypedMemory}
 use Rattle.machine_frame.specs.declared.rules.frame.StackFrame.{StackFrame}
-use Rattle.machine_frame.specs.rules.laws.Threads.{HasTaken}
+use Rattle.machine_frame.specs.laws.Threads.{HasTaken}
 use Rattle.machine_frame.proofs.Threads.Hosting.{answers_lead}
 use Rattle.machine.specs.Routines.Routines.{opcodes_in, tables_in}
 use Rattle.machine.specs.declared.execution.code.Executable.{Executable}

@@ -33,7 +33,7 @@ use Rattle.machine_slots.specs.rules.Places.{ShownFrame, IsCallOf}
 use Rattle.machine_jumps.specs.Jumps.{HasShape}
 use Rattle.machine_jumps.specs.Moves.{opcodes_of, HasOpcode, IsFirst, IsTypedBody}
 use Rattle.machine_jumps.proofs.MovesHold.{opcodes_first, no_opcode_behind}
-use Rattle.machine_frame.specs.rules.Fitting.{AreWordsOf, FitsRunning, FitsWaiting, IsOwnPlace}
+use Rattle.machine_frame.specs.laws.Fitting.{AreWordsOf, FitsRunning, FitsWaiting, IsOwnPlace}
 use Rattle.machine_frame.proofs.Threads.Waiting.{none_behind}
 use Rattle.machine_frame.specs.rules.Threads.{IsOwn}
 use Rattle.machine.specs.laws.Routines.{IsNumberedCallee}

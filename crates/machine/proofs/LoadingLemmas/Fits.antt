@@ -11,7 +11,7 @@ use Rattle.wasm_semantics.specs.Typing.{Context}
 use Rattle.wasm_semantics.specs.Validity.{module_context}
 use Rattle.wasm_semantics.specs.Configuration.{Program}
 use Rattle.wasm_semantics.specs.Typed.{IsEntry}
-use Rattle.machine_frame.specs.rules.Fitting.{FitFrames, FitsProgram}
+use Rattle.machine_frame.specs.laws.Fitting.{FitFrames, FitsProgram}
 use Rattle.machine_frame.specs.rules.Threads.{places_of, machine_state_of}
 use Rattle.machine_frame.proofs.Threads.Fitting.{shown_fits, fits_shown}
 use Rattle.machine_frame.proofs.Threads.Showing.{places_count, shown_frames}

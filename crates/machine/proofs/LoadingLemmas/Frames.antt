@@ -15,8 +15,8 @@ use Rattle.machine_slots.specs.declared.limits.TheConstants.{HELD_VALUES}
 use Rattle.machine_frame.specs.declared.rules.frame.StackFrame.{StackFrame}
 use Rattle.machine_frame.specs.rules.Stacked.{AreStacked}
 use Rattle.machine_frame.specs.rules.Threads.{places_of}
-use Rattle.machine_frame.specs.rules.Fitting.{IsOwnPlace, FitCallers, FitFrames, FewHeld}
-use Rattle.machine_frame.specs.rules.Fitting.{slots_held}
+use Rattle.machine_frame.specs.laws.Fitting.{IsOwnPlace, FitCallers, FitFrames, FewHeld}
+use Rattle.machine_frame.specs.rules.Stacked.{slots_held}
 use Rattle.machine_frame.proofs.Threads.Showing.{parts_of}
 use Rattle.machine.specs.Loading.Checks.{FitsTop, FitsBelow}
 use Rattle.machine.proofs.LoadingLemmas.Words.{front_there}

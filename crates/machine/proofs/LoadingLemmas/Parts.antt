@@ -13,7 +13,7 @@ use Rattle.machine_slots.specs.declared.slots.TheConstants.{SLOTS}
 use Rattle.machine_frame.specs.declared.rules.frame.StackFrame.{StackFrame}
 use Rattle.machine_frame.specs.rules.Stacked.{AreStacked}
 use Rattle.machine_frame.specs.rules.Threads.{places_of}
-use Rattle.machine_frame.specs.rules.Fitting.{slots_held}
+use Rattle.machine_frame.specs.rules.Stacked.{slots_held}
 use Rattle.machine.specs.declared.execution.code.Executable.{Executable}
 use Rattle.machine.specs.declared.execution.state.State.{State}
 use Rattle.machine.specs.declared.loading.fault.LoadFault.{LoadFault}

@@ -7,7 +7,7 @@ use Rattle.wasi_abi.specs.declared.call.Call.{Call}
 use Rattle.wasi_abi.specs.rules.Calls.{parameters_of}
 use Rattle.wasm_semantics.specs.Configuration.{Program, Thread, Configuration, Asks}
 use Rattle.wasm_semantics.specs.Steps.{counted_step}
-use Rattle.machine_frame.specs.rules.laws.Threads.{HasTaken}
+use Rattle.machine_frame.specs.laws.Threads.{HasTaken}
 use Rattle.machine.specs.declared.execution.code.Executable.{Executable}
 use Rattle.machine.specs.declared.execution.state.State.{State}
 use Rattle.machine.specs.declared.execution.pause.HostCall.{HostCall}

@@ -10,8 +10,8 @@ use Rattle.wasm_semantics.specs.Typed.{IsEntry}
 use Rattle.wasm_validate.specs.declared.parts.context.ModuleContext.{ModuleContext}
 use Rattle.wasm_validate.specs.Parts.Contexts.{IsContextOf}
 use Rattle.machine_slots.specs.rules.Places.{ShownFrame}
-use Rattle.machine_frame.specs.rules.Fitting.{AreWordsOf, IsOwnPlace, place_context, FitsRunning}
-use Rattle.machine_frame.specs.rules.Fitting.{FitsWaiting, FewHeld}
+use Rattle.machine_frame.specs.laws.Fitting.{AreWordsOf, IsOwnPlace, place_context, FitsRunning}
+use Rattle.machine_frame.specs.laws.Fitting.{FitsWaiting, FewHeld}
 use Rattle.machine_frame.specs.rules.Threads.{places_of}
 use Rattle.machine.specs.declared.execution.code.Executable.{Executable}
 use Rattle.machine.specs.declared.execution.state.State.{State}

@@ -5,7 +5,7 @@ ghost use Rattle.wasm_syntax.specs.declared.types.FunctionType.{FunctionType as 
 ghost use Rattle.guest_memory.specs.rules.Bytes.{page_size};
 ghost use Rattle.wasm_semantics.specs.Configuration.{Program};
 ghost use Rattle.wasm_semantics.specs.Validity.{module_context};
-ghost use Rattle.machine_frame.specs.rules.Fitting.{FitsProgram};
+ghost use Rattle.machine_frame.specs.laws.Fitting.{FitsProgram};
 ghost use Rattle.machine_frame.specs.rules.Stacked.{AreStacked};
 ghost use Rattle.machine_frame.specs.rules.Threads.{machine_state_of};
 ghost use Rattle.machine.specs.Execution.Codes.{IsExecutable, parts_of_state};

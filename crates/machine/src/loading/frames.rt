@@ -1,7 +1,7 @@
 //! Whether frames fit the program, each with the one above it.
 
 ghost use Rattle.std.specs.Prelude.{◌≡◌, IfOk};
-ghost use Rattle.machine_frame.specs.rules.Fitting.{FitFrames};
+ghost use Rattle.machine_frame.specs.laws.Fitting.{FitFrames};
 ghost use Rattle.machine_frame.specs.rules.Stacked.{AreStacked};
 ghost use Rattle.machine_frame.specs.rules.Threads.{places_of};
 ghost use Rattle.machine.specs.rules.LentFrames.{lent_frame};

@@ -32,6 +32,7 @@ impl Model for Loading {
 }
 
 impl Machine {
+    ghost use Rattle.wasm_semantics.specs.Validity.{IsValid};
     ghost use Rattle.machine.specs.rules.Values.{HoldsMemory};
     ghost use Rattle.machine.specs.rules.Loading.{emptied};
 
@@ -39,7 +40,8 @@ impl Machine {
     /// place. Module, table and memory remain. No memory is taken.
     pub fn into_loading(self) -> Loading
         requires { HoldsMemory self }
-        ensures { result ≡ emptied self }
+        ensures emptied { result ≡ emptied self }
+        ensures valid { IsValid self.guest }
     {
         let Machine {
             code,
@@ -64,7 +66,7 @@ impl Loading {
     ghost use Rattle.machine_slots.specs.rules.Places.{ShownFrame};
     ghost use Rattle.machine_slots.specs.declared.limits.TheConstants.{FRAMES};
     ghost use Rattle.machine_slots.specs.declared.slots.TheConstants.{SLOTS};
-    ghost use Rattle.machine_frame.specs.rules.Fitting.{slots_held};
+    ghost use Rattle.machine_frame.specs.rules.Stacked.{slots_held};
     ghost use Rattle.machine.specs.declared.loading.fault.LoadFault.TheVariants.{Unfit};
     ghost use Rattle.machine.specs.rules.Values.{least_of, with_memory};
     ghost use Rattle.machine.specs.rules.Loading.{BytesDenied, IsSlotPushed, LoadDenies, ShowsSome};

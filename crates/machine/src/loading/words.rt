@@ -4,7 +4,7 @@ ghost use Rattle.std.specs.Prelude.{◌≡◌, ◌≤◌, ◌↔◌, ◌++◌, L
 ghost use Rattle.std.specs.Prelude.{slice_get, take};
 ghost use Rattle.wasm_syntax.specs.declared.types.ValueType.{ValueType as TheValueType};
 ghost use Rattle.wasm_semantics.specs.Types.{IsOf, value_of, value_type_of};
-ghost use Rattle.machine_frame.specs.rules.Fitting.{AreWordsOf};
+ghost use Rattle.machine_frame.specs.laws.Fitting.{AreWordsOf};
 
 use wasm_syntax::{GlobalType, ValueType};
 use wasm_validate::OperandTypes;

@@ -14,8 +14,9 @@ use Rattle.wasm_syntax.specs.rules.Sequence.{spelled}
 use Rattle.wasm_semantics.specs.Types.{AreOf, results_of}
 use Rattle.wasm_semantics.specs.Typing.{Context, IsLabel}
 use Rattle.wasm_semantics.specs.Configuration.{Part, Main, Second, Label, LabelOf}
-use Rattle.wasm_semantics.specs.Shapes.{Shape, LabelShape, ShapeOf, AreTypedShapes, types_behind}
-use Rattle.wasm_semantics.specs.Shapes.{shape_at, body_shape}
+use Rattle.wasm_semantics.specs.Shapes.{Shape, LabelShape, ShapeOf, types_behind, shape_at}
+use Rattle.wasm_semantics.specs.Shapes.{body_shape}
+use Rattle.wasm_semantics.specs.laws.TypedShapes.{AreTypedShapes}
 use Rattle.wasm_semantics.specs.Steps.{held_below}
 use Rattle.wasm_semantics.specs.laws.Laws.{labels_height}
 use Rattle.wasm_semantics.proofs.Soundness.Values.{are_both, topmost_are}
@@ -26,8 +27,8 @@ use Rattle.machine_jumps.specs.Jumps.{HasShape, IsJump}
 use Rattle.machine_jumps.specs.Tables.{HasJump, entry}
 use Rattle.machine_jumps.proofs.MovesHold.{plain_leads_on}
 use Rattle.machine_frame.specs.rules.FramePosition.{IsTypedAt}
-use Rattle.machine_frame.specs.rules.laws.FramePosition.{Branches, BranchesLead, ConditionsLead}
-use Rattle.machine_frame.specs.rules.laws.FramePosition.{TablesLead}
+use Rattle.machine_frame.specs.laws.FramePosition.{Branches, BranchesLead, ConditionsLead}
+use Rattle.machine_frame.specs.laws.FramePosition.{TablesLead}
 use Rattle.machine_frame.proofs.FramePosition.Counts.{below_count}
 use Rattle.machine_frame.proofs.FramePosition.LeadingOn.{shape_of, typed_there, condition_on}
 use Rattle.machine_jumps.proofs.Low.{one_result as result_one}

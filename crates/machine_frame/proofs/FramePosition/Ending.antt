@@ -16,7 +16,7 @@ use Rattle.machine_jumps.specs.Jumps.{HasShape, IsExit}
 use Rattle.machine_jumps.specs.Tables.{HasJump, entry}
 use Rattle.machine_jumps.proofs.MovesHold.{end_leads_out}
 use Rattle.machine_frame.specs.rules.FramePosition.{IsTypedAt}
-use Rattle.machine_frame.specs.rules.laws.FramePosition.{EndsLeadOut, PartsLeadOut}
+use Rattle.machine_frame.specs.laws.FramePosition.{EndsLeadOut, PartsLeadOut}
 
 -- The values at the end of a sequence have joined those below its label, of the types that they
 -- have there.

@@ -10,7 +10,8 @@ use Rattle.wasm_syntax.specs.rules.Sequence.{Sequence, InIf, InIfElse, Plain}
 use Rattle.wasm_semantics.specs.Types.{AreOf, results_of}
 use Rattle.wasm_semantics.specs.Typing.{Context}
 use Rattle.wasm_semantics.specs.Configuration.{Part, Main, Second, Label}
-use Rattle.wasm_semantics.specs.Shapes.{Shape, LabelShape, ShapeOf, IsTypedShape, types_behind}
+use Rattle.wasm_semantics.specs.Shapes.{Shape, LabelShape, ShapeOf, types_behind}
+use Rattle.wasm_semantics.specs.laws.TypedShapes.{IsTypedShape}
 use Rattle.wasm_semantics.specs.Steps.{block_label}
 use Rattle.wasm_semantics.specs.Effects.{Gives}
 use Rattle.wasm_semantics.proofs.TypedShape.{reached_shapes_typed}
@@ -22,9 +23,9 @@ use Rattle.machine_jumps.specs.Tables.{HasJump, entry}
 use Rattle.machine_jumps.proofs.MovesHold.{plain_leads_on, block_leads_in, loop_leads_in}
 use Rattle.machine_jumps.proofs.MovesHold.{if_leads_in, choice_leads_in}
 use Rattle.machine_frame.specs.rules.FramePosition.{IsTypedAt}
-use Rattle.machine_frame.specs.rules.laws.FramePosition.{Condition, EffectsLeadOn, BlocksLeadIn}
-use Rattle.machine_frame.specs.rules.laws.FramePosition.{LoopsLeadIn}
-use Rattle.machine_frame.specs.rules.laws.FramePosition.{IfsLeadIn, ChoicesLeadIn}
+use Rattle.machine_frame.specs.laws.FramePosition.{Condition, EffectsLeadOn, BlocksLeadIn}
+use Rattle.machine_frame.specs.laws.FramePosition.{LoopsLeadIn}
+use Rattle.machine_frame.specs.laws.FramePosition.{IfsLeadIn, ChoicesLeadIn}
 use Rattle.machine_frame.proofs.FramePosition.Effects.{effect_behind, table_stays}
 
 -- ---- what typing knows of a frame

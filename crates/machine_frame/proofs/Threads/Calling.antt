@@ -30,8 +30,8 @@ use Rattle.machine_jumps.specs.Moves.{HasOpcode}
 use Rattle.machine_frame.specs.declared.rules.frame.StackFrame as threads
 use Rattle.machine_frame.specs.rules.Threads.{context_of, IsReadyProgram, MachineParts}
 use Rattle.machine_frame.specs.rules.Threads.{PartsStandFor}
-use Rattle.machine_frame.specs.rules.laws.Threads.{Top, EntryLeads, CallLeads, CallsLead}
-use Rattle.machine_frame.specs.rules.laws.Threads.{IndirectCallsLead}
+use Rattle.machine_frame.specs.laws.Threads.{Top, EntryLeads, CallLeads, CallsLead}
+use Rattle.machine_frame.specs.laws.Threads.{IndirectCallsLead}
 use Rattle.machine_frame.proofs.Threads.Running.{frames_run}
 use Rattle.machine_frame.proofs.Threads.CountedSteps.{reduced_before, with_rest, with_values}
 use Rattle.machine_frame.proofs.Threads.CountedSteps.{call_counted}

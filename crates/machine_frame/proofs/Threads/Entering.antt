@@ -29,7 +29,7 @@ use Rattle.machine_frame.proofs.FramePosition.Positions.{entry_is_typed}
 use Rattle.machine_frame.specs.declared.rules.frame.StackFrame as threads
 use Rattle.machine_frame.specs.rules.Threads.{IsOwn, context_of, AreWaiting, MachineParts}
 use Rattle.machine_frame.specs.rules.Threads.{PartsStandFor}
-use Rattle.machine_frame.specs.rules.laws.Threads.{CallLeads}
+use Rattle.machine_frame.specs.laws.Threads.{CallLeads}
 use Rattle.machine_frame.proofs.Threads.Words.{values_count, waiting_words, waiting_frames}
 use Rattle.machine_frame.proofs.Threads.CountedSteps.{counted_typed}
 use Rattle.machine_frame.proofs.Threads.Waiting.{words_above}

@@ -16,7 +16,8 @@ use Rattle.wasm_semantics.specs.Types.{value_type_of}
 use Rattle.wasm_semantics.specs.Typing.{Context, HasType, body_context}
 use Rattle.wasm_semantics.specs.Configuration.{Own, Program, Store, Label, LabelOf, FrameOf}
 use Rattle.wasm_semantics.specs.Configuration.{Thread}
-use Rattle.wasm_semantics.specs.Shapes.{LabelShape, ShapeOf, AreTypedShapes}
+use Rattle.wasm_semantics.specs.Shapes.{LabelShape, ShapeOf}
+use Rattle.wasm_semantics.specs.laws.TypedShapes.{AreTypedShapes}
 use Rattle.wasm_semantics.specs.Steps.{held_by, held_below, exited_by}
 use Rattle.wasm_semantics.specs.Typed.{IsTypedMemory, IsTypedProgram, IsTypedThread}
 use Rattle.wasm_semantics.specs.Typed.{AreTypedLabels, IsEntry}
@@ -27,9 +28,9 @@ use Rattle.machine_slots.specs.rules.Places.{HaveShape, all_below, slots_of, hel
 use Rattle.machine_slots.specs.rules.Places.{ShownFrame, ShowsCallers, ShowsThread}
 use Rattle.machine_slots.specs.declared.limits.TheConstants.{HELD_VALUES}
 use Rattle.machine_slots.proofs.Branches.{held_all}
-use Rattle.machine_frame.specs.rules.Fitting.{AreWordsOf, FitCallers, FitFrames, slots_held}
-use Rattle.machine_frame.specs.rules.Fitting.{FewHeld}
-use Rattle.machine_frame.specs.rules.laws.Fitting.{ShownFits, FitsIsShown}
+use Rattle.machine_frame.specs.laws.Fitting.{AreWordsOf, FitCallers, FitFrames, FewHeld}
+use Rattle.machine_frame.specs.rules.Stacked.{slots_held}
+use Rattle.machine_frame.specs.laws.Fitting.{ShownFits, FitsIsShown}
 use Rattle.machine_frame.proofs.Threads.Words.{values_count}
 
 -- ---- words and values

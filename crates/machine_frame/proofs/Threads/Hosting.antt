@@ -34,7 +34,7 @@ use Rattle.machine_frame.specs.declared.rules.frame.StackFrame as threads
 use Rattle.machine_frame.specs.rules.Threads.{IsOwn, context_of, AreWaiting, AreFrames}
 use Rattle.machine_frame.specs.rules.Threads.{IsReadyProgram}
 use Rattle.machine_frame.specs.rules.Threads.{MachineParts, PartsStandFor}
-use Rattle.machine_frame.specs.rules.laws.Threads.{Top, HasTaken, HostCalls, AnswersLead}
+use Rattle.machine_frame.specs.laws.Threads.{Top, HasTaken, HostCalls, AnswersLead}
 use Rattle.machine_frame.proofs.Threads.Words.{same_parts}
 use Rattle.machine_frame.proofs.Threads.Running.{frames_run}
 use Rattle.machine_frame.proofs.Threads.Waiting.{gives_back}

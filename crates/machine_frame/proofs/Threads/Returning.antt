@@ -22,8 +22,8 @@ use Rattle.machine_frame.proofs.FramePosition.Positions.{is_typed_somewhere}
 use Rattle.machine_frame.specs.declared.rules.frame.StackFrame.{StackFrame}
 use Rattle.machine_frame.specs.rules.Threads.{context_of, IsReadyProgram, MachineParts}
 use Rattle.machine_frame.specs.rules.Threads.{PartsStandFor}
-use Rattle.machine_frame.specs.rules.laws.Threads.{Top, WordsReturned, frames_behind, ReturnsLead}
-use Rattle.machine_frame.specs.rules.laws.Threads.{BodiesEnd}
+use Rattle.machine_frame.specs.laws.Threads.{Top, WordsReturned, frames_behind, ReturnsLead}
+use Rattle.machine_frame.specs.laws.Threads.{BodiesEnd}
 use Rattle.machine_frame.proofs.Threads.Words.{values_count, frame_holds}
 use Rattle.machine_frame.proofs.Threads.Running.{frames_run}
 use Rattle.machine_frame.proofs.Threads.Waiting.{none_behind, executes, frame_ends, fewer_held}

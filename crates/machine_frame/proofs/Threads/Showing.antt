@@ -17,7 +17,7 @@ use Rattle.machine_slots.proofs.TypedFrames.{slots_words, words_slots}
 use Rattle.machine_frame.specs.declared.rules.frame.StackFrame.{StackFrame}
 use Rattle.machine_frame.specs.rules.Stacked.{AreStacked}
 use Rattle.machine_frame.specs.rules.Threads.{AreWaiting, AreFrames, places_of}
-use Rattle.machine_frame.specs.rules.laws.Threads.{ReducedIsShown, ShownStands}
+use Rattle.machine_frame.specs.laws.Threads.{ReducedIsShown, ShownStands}
 
 -- ---- the words of a frame, apart from those below
 

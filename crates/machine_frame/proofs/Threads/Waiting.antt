@@ -27,7 +27,7 @@ use Rattle.machine_jumps.proofs.MovesHold.{opcodes_first, no_opcode_behind, plai
 use Rattle.machine_frame.specs.rules.FramePosition.{IsTypedAt}
 use Rattle.machine_frame.specs.declared.rules.frame.StackFrame.{StackFrame}
 use Rattle.machine_frame.specs.rules.Threads.{WaitsAt, IsOwn, context_of, AreWaiting, AreFrames}
-use Rattle.machine_frame.specs.rules.laws.Threads.{WordsReturned, frames_behind}
+use Rattle.machine_frame.specs.laws.Threads.{WordsReturned, frames_behind}
 use Rattle.machine_frame.proofs.Threads.Words.{one_fall}
 
 -- ---- what remains at an opcode

@@ -1,6 +1,7 @@
--- Where the words of each frame lie.
-use Rattle.std.specs.Prelude.{◌≡◌, ℕ, suc, List, [], ◌∷◌, ◌++◌, length, reverse, Option, Some, None}
-use Rattle.std.specs.Prelude.{slice_get}
+-- Where the words of each frame lie, and how many slots frames have.
+use Rattle.std.specs.Prelude.{◌≡◌, ℕ, suc, ◌+◌, List, [], ◌∷◌, ◌++◌, length, reverse, Option, Some}
+use Rattle.std.specs.Prelude.{None, slice_get}
+use Rattle.machine_slots.specs.rules.Places.{ShownFrame}
 use Rattle.machine_frame.specs.declared.rules.frame.StackFrame.{StackFrame}
 
 -- Each frame's words lie above those of the frames that wait, and its base is how many those are.
@@ -18,3 +19,8 @@ end_of (Some frame) count = frame.base
 -- where the words end of the frame with this number, counted from the outermost one
 abbrev pub slots_end : List StackFrame → List ℕ → ℕ → ℕ
 slots_end frames words i = end_of (slice_get (reverse frames) (suc i)) (length words)
+
+-- how many slots these frames have
+abbrev pub slots_held : List ShownFrame → ℕ
+slots_held [] = 0
+slots_held (place ∷ places) = length place.slots + slots_held places

@@ -1,23 +1,23 @@
 //! Laws over all programs, bodies and frames. The functions do nothing: what they ensure is the
 //! law.
 
-ghost use Rattle.machine_frame.specs.rules.Walks.{WalksAreSteps, WalksReduce, WalksCompose};
-ghost use Rattle.machine_frame.specs.rules.Walks.{WalksAreTyped};
-ghost use Rattle.machine_frame.specs.rules.laws.FramePosition.{OpcodesRemain, IsTypedSomewhere};
-ghost use Rattle.machine_frame.specs.rules.laws.FramePosition.{LabelsEnd};
-ghost use Rattle.machine_frame.specs.rules.laws.FramePosition.{OperandsAreFew, EntryIsTyped};
-ghost use Rattle.machine_frame.specs.rules.laws.FramePosition.{EffectsLeadOn};
-ghost use Rattle.machine_frame.specs.rules.laws.FramePosition.{BlocksLeadIn, LoopsLeadIn};
-ghost use Rattle.machine_frame.specs.rules.laws.FramePosition.{IfsLeadIn};
-ghost use Rattle.machine_frame.specs.rules.laws.FramePosition.{ChoicesLeadIn, BranchesLead};
-ghost use Rattle.machine_frame.specs.rules.laws.FramePosition.{ConditionsLead};
-ghost use Rattle.machine_frame.specs.rules.laws.FramePosition.{TablesLead, EndsLeadOut};
-ghost use Rattle.machine_frame.specs.rules.laws.FramePosition.{PartsLeadOut};
-ghost use Rattle.machine_frame.specs.rules.laws.Fitting.{ShownFits, FitsIsShown};
-ghost use Rattle.machine_frame.specs.rules.laws.Threads.{ReducedIsShown, ShownStands, FramesRun};
-ghost use Rattle.machine_frame.specs.rules.laws.Threads.{RunsStand, CallsLead, IndirectCallsLead};
-ghost use Rattle.machine_frame.specs.rules.laws.Threads.{ReturnsLead, BodiesEnd, HostCalls};
-ghost use Rattle.machine_frame.specs.rules.laws.Threads.{AnswersLead};
+ghost use Rattle.machine_frame.specs.laws.Walks.{WalksAreSteps, WalksReduce, WalksCompose};
+ghost use Rattle.machine_frame.specs.laws.Walks.{WalksAreTyped};
+ghost use Rattle.machine_frame.specs.laws.FramePosition.{OpcodesRemain, IsTypedSomewhere};
+ghost use Rattle.machine_frame.specs.laws.FramePosition.{LabelsEnd};
+ghost use Rattle.machine_frame.specs.laws.FramePosition.{OperandsAreFew, EntryIsTyped};
+ghost use Rattle.machine_frame.specs.laws.FramePosition.{EffectsLeadOn};
+ghost use Rattle.machine_frame.specs.laws.FramePosition.{BlocksLeadIn, LoopsLeadIn};
+ghost use Rattle.machine_frame.specs.laws.FramePosition.{IfsLeadIn};
+ghost use Rattle.machine_frame.specs.laws.FramePosition.{ChoicesLeadIn, BranchesLead};
+ghost use Rattle.machine_frame.specs.laws.FramePosition.{ConditionsLead};
+ghost use Rattle.machine_frame.specs.laws.FramePosition.{TablesLead, EndsLeadOut};
+ghost use Rattle.machine_frame.specs.laws.FramePosition.{PartsLeadOut};
+ghost use Rattle.machine_frame.specs.laws.Fitting.{ShownFits, FitsIsShown};
+ghost use Rattle.machine_frame.specs.laws.Threads.{ReducedIsShown, ShownStands, FramesRun};
+ghost use Rattle.machine_frame.specs.laws.Threads.{RunsStand, CallsLead, IndirectCallsLead};
+ghost use Rattle.machine_frame.specs.laws.Threads.{ReturnsLead, BodiesEnd, HostCalls};
+ghost use Rattle.machine_frame.specs.laws.Threads.{AnswersLead};
 
 /// Walks, and the steps that they are.
 pub fn walks_are_steps()

@@ -25,8 +25,8 @@
 //!
 //! In `specs/rules/`: `Walks` (`Walks.antt`); `IsRoutine`, `IsTypedAt`, `Around`, `FrameShows`
 //! (`FramePosition.antt`); `AreFrames`, `IsReadyProgram`, `MachineParts`, `PartsStandFor`,
-//! `machine_state_of` (`Threads.antt`); `FitsProgram` (`Fitting.antt`); `AreStacked`
-//! (`Stacked.antt`). What each law says is in `specs/rules/laws/`.
+//! `machine_state_of` (`Threads.antt`); `AreStacked` (`Stacked.antt`). What each law says is in
+//! `specs/laws/`. `FitsProgram` (`specs/laws/Fitting.antt`) is a second form of `Shows`.
 //!
 //! # Who may touch what
 //!

@@ -9,7 +9,8 @@ use Rattle.wasm_semantics.specs.Validity.{AreFunctionTypes, module_context, IsVa
 use Rattle.wasm_semantics.specs.Configuration.{Program, Configuration, Traps}
 use Rattle.wasm_semantics.specs.Linking.{Offer, IsLinkable}
 use Rattle.wasm_semantics.specs.Steps.{counted_step, stopped, IsReduced, IsEnded, Steps}
-use Rattle.wasm_semantics.specs.Typed.{IsTyped, OffersNoEntry}
+use Rattle.wasm_semantics.specs.Typed.{IsTyped}
+use Rattle.wasm_semantics.specs.laws.Soundness.{OffersNoEntry}
 use Rattle.wasi_abi.specs.declared.call.Call.{Call}
 use Rattle.wasi_abi.specs.rules.Calls.{module_name, name_of, call_type_of}
 use Rattle.wasi_abi.specs.rules.Configs.{Settings}

@@ -15,7 +15,7 @@ use Rattle.process_rules.proofs.OneStart.{entry_once, item_number}
 use Rattle.machine_slots.specs.declared.limits.TheConstants.{FRAMES}
 use Rattle.machine_slots.specs.declared.slots.TheConstants.{SLOTS}
 use Rattle.machine_slots.specs.rules.Places.{ShownFrame, MachineState}
-use Rattle.machine_frame.specs.rules.Fitting.{slots_held}
+use Rattle.machine_frame.specs.rules.Stacked.{slots_held}
 use Rattle.machine.specs.declared.loading.fault.LoadFault.TheVariants as load
 use Rattle.machine.specs.rules.Loading.{emptied, with_call, ShowsSome, BytesDenied}
 use Rattle.machine.specs.rules.Values.{MachineValue, IsSameMachine, least_of}

@@ -7,7 +7,7 @@ use Rattle.wasm_semantics.specs.Linking.{HasEntry}
 use Rattle.machine_slots.specs.declared.limits.TheConstants.{FRAMES}
 use Rattle.machine_slots.specs.declared.slots.TheConstants.{SLOTS}
 use Rattle.machine_slots.specs.rules.Places.{ShownFrame}
-use Rattle.machine_frame.specs.rules.Fitting.{slots_held}
+use Rattle.machine_frame.specs.rules.Stacked.{slots_held}
 use Rattle.machine.specs.declared.loading.fault.LoadFault.{LoadFault}
 use Rattle.machine.specs.declared.loading.fault.LoadFault.TheVariants as load
 use Rattle.machine.specs.rules.Loading.{with_frames}

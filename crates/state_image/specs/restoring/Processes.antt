@@ -1,12 +1,16 @@
 -- Processes that are made again of what an image tells (this project's own).
 use Rattle.std.specs.Prelude.{◌≡◌, ◌≢◌, ◌⊎◌, ℕ, ◌+◌, ◌≤◌, ◌<◌, ◌^◌, List, [], ◌∷◌, ◌++◌, length}
 use Rattle.std.specs.Prelude.{Option, Some, None}
+use Rattle.std.specs.List.{AllByRecursion}
+use Rattle.wasm_syntax.specs.declared.limits.TheConstants.{GLOBALS}
 use Rattle.wasm_syntax.specs.declared.module.Module.{Module}
+use Rattle.wasm_semantics.specs.Validity.{IsValid}
 use Rattle.wasm_semantics.specs.Linking.{HasEntry}
 use Rattle.wasi_abi.specs.rules.Configs.{Settings}
 use Rattle.wasi_abi.specs.rules.Versions.{text_limit}
 use Rattle.wasi_calls_rules.specs.WasiStates.{IsWasiState}
 use Rattle.wasi_calls.specs.rules.Held.{HeldWasiState}
+use Rattle.machine_slots.specs.declared.slots.TheConstants.{SLOTS}
 use Rattle.machine.specs.declared.instance.fault.LinkFault.{LinkFault}
 use Rattle.machine.specs.declared.instance.fault.LinkFault.TheVariants as link
 use Rattle.machine.specs.rules.Loading.{ShowsSome}
@@ -25,7 +29,8 @@ use Rattle.state_image.specs.rules.ProcessImage.{streams_bytes, process_image}
 use Rattle.state_image.specs.rules.Parts.{counts_of, read_phase, read_end_of, streams_of, texts_of}
 use Rattle.state_image.specs.rules.Ranges.{FitsCounts, FitsCode, FitsStreams, HasMachine}
 use Rattle.state_image.specs.rules.Saving.{saved_of}
-use Rattle.state_image.specs.rules.WellTyped.{IsOutermost, IsAlive, IsConfigured, IsWithinBounds}
+use Rattle.state_image.specs.rules.WellTyped.{IsOutermost, IsAlive, IsConfigured}
+use Rattle.state_image.specs.rules.WellTyped.{IsPlaceWithin, slots_in}
 use Rattle.state_image.specs.restoring.Machines.{AreToCome}
 
 -- ---- what is before the machine
@@ -82,8 +87,10 @@ MayCome m later = (later ≡ []) ⊎ ((entry : ℕ) × HasEntry m entry × (late
 -- This process was read from bytes in front of others, into a linked machine.
 pub record IsReadProcess (linked : MachineValue) (config : Settings) (old new : List ℕ)
     (v : ProcessValue) : Type 0 where
+  pub valid : IsValid linked.guest
   pub same : IsSameMachine linked v.machine
   pub shows : ShowsSome v.machine
+  pub slots : slots_in v.machine.state.frames ≤ SLOTS
   pub later : AreToCome v.machine.guest (read_phase v.ended v.machine.state.later)
       v.machine.state.later
   pub progress : FitsProgress (saved_of v)
@@ -99,7 +106,8 @@ pub record MayBeAccepted (m : Module) (entry : ℕ) (s : Saved) : Type 0 where
   pub outermost : IsOutermost (record { start = m.start; entry = entry }) s.machine.later
       s.machine.frames
   pub alive : IsAlive s.ended s
-  pub bounds : IsWithinBounds s
+  pub globals : length s.machine.globals ≤ GLOBALS
+  pub places : AllByRecursion IsPlaceWithin s.machine.frames
   pub unread : length s.unread ≤ text_limit s.version + 1
   pub next : s.files.next ≤ s.steps + 2
 

@@ -1,21 +1,16 @@
 //! Whether a process that was read from an image is one that is accepted.
 
-ghost use Rattle.std.specs.Prelude.{◌≡◌, ◌↔◌, ◌≤◌, ◌<◌, ◌+◌, ◌^◌, ℕ, IsTrue, [], Some};
-ghost use Rattle.std.specs.Prelude.{option_map, length};
+ghost use Rattle.std.specs.Prelude.{◌≡◌, ◌↔◌, ◌≤◌, ◌+◌, ℕ, IsTrue, [], Some, length};
 ghost use Rattle.std.specs.List.{AllByRecursion};
 ghost use Rattle.wasm_semantics.specs.Linking.{HasEntry};
 ghost use Rattle.wasi_abi.specs.rules.Versions.{text_limit};
 ghost use Rattle.machine.specs.rules.LentFrames.{lent_frame};
-ghost use Rattle.machine.specs.rules.Loading.{ShowsSome};
-ghost use Rattle.process.specs.rules.Values.{ending_of};
-ghost use Rattle.state_image.specs.rules.ProcessImage.{ending_code};
 ghost use Rattle.state_image.specs.rules.Saving.{saved_of};
-ghost use Rattle.state_image.specs.rules.WellTyped.{IsOutermost, IsCalled, IsAlive};
-ghost use Rattle.state_image.specs.rules.WellTyped.{IsWithinBounds, IsPlaceWithin};
+ghost use Rattle.state_image.specs.rules.WellTyped.{IsOutermost, IsCalled, IsAlive, IsPlaceWithin};
 ghost use Rattle.state_image.specs.restoring.Processes.{MayCome, MayBeAccepted};
 
 use machine::{FramePlace, Machine, entry_of};
-use process::{Process, ProcessEnd};
+use process::Process;
 use wasm_syntax::limits::{FUNCTIONS, GLOBALS, INSTRUCTIONS};
 
 /// Whether the host calls this function: `_start`, or the start function while `_start` is to come.
@@ -102,31 +97,11 @@ fn are_places_within(machine: &Machine) -> bool
 
 /// Whether there are no more globals than a module within the limits has, and frames are within
 /// them too.
-fn is_within_bounds(process: &Process) -> bool
-    requires { ShowsSome process.now.machine }
-    ensures { IsTrue result ↔ IsWithinBounds (saved_of process.now) }
+fn is_within_limits(machine: &Machine) -> bool
+    ensures { IsTrue result ↔ (length machine.now.state.globals ≤ GLOBALS)
+        × AllByRecursion IsPlaceWithin machine.now.state.frames }
 {
-    let machine = process.machine();
-    let _module = machine.module().module();
-    let _slots = machine.slot_count();
-    has_code(process.reached_end());
     machine.globals().len() <= GLOBALS && are_places_within(machine)
-}
-
-/// The code of an end has 32 bits. This is for proofs alone: nothing is done.
-fn has_code(ended: Option<ProcessEnd>)
-    ensures { ending_code (option_map ending_of ended) < 2 ^ 32 }
-{
-    match ended {
-        Some(ProcessEnd::Exited(code)) => is_code(code),
-        Some(ProcessEnd::Trapped(_)) | None => {}
-    }
-}
-
-fn is_code(code: u32)
-    ensures { code < 2 ^ 32 }
-{
-    let _ = code;
 }
 
 /// Whether no more bytes are unread than a request has with its newline.
@@ -147,18 +122,18 @@ fn has_next_in_time(process: &Process) -> bool
 
 /// Whether the process, which was made of what an image tells, is one whose image is accepted.
 pub fn may_be_accepted(process: &Process) -> bool
-    requires shows { ShowsSome process.now.machine }
-    requires later { MayCome process.now.machine.guest process.now.machine.state.later }
+    requires { MayCome process.now.machine.guest process.now.machine.state.later }
     ensures { (entry : ℕ) → HasEntry process.now.machine.guest entry → IsTrue result
         ↔ MayBeAccepted process.now.machine.guest entry (saved_of process.now) }
 {
-    if !is_outermost(process.machine()) {
+    let machine = process.machine();
+    if !is_outermost(machine) {
         return false;
     }
     if !is_alive(process) {
         return false;
     }
-    if !is_within_bounds(process) {
+    if !is_within_limits(machine) {
         return false;
     }
     if !is_unread_short(process) {

@@ -1,7 +1,6 @@
 //! The host of an image, made again.
 
 ghost use Rattle.std.specs.Prelude.{◌≡◌, ◌≢◌, ◌<◌, ◌^◌, ◌++◌, ℕ, List, IfOk, Err};
-ghost use Rattle.file_tree.specs.rules.Files.{IsFiles};
 ghost use Rattle.wasi_calls_rules.specs.WasiStates.{WasiState as TheWasiState, IsWasiState};
 ghost use Rattle.state_image.specs.declared.restoring.fault.RestoreFault.TheVariants as fault;
 ghost use Rattle.state_image.specs.restoring.SavedHosts.{IsRestoredWasiState, IsSavedHost};
@@ -14,7 +13,6 @@ use crate::restoring::descriptors::restore_descriptors;
 use crate::restoring::fault::RestoreFault;
 use crate::restoring::files::restore_files;
 use crate::restoring::progress::Progress;
-use file_tree::Tree;
 use std::alloc::Global;
 use wasi_abi::Config;
 use wasi_calls::{PartsFault, WasiState, WasiStateParts};
@@ -49,7 +47,8 @@ fn read_parts(
         → IsWasiState h → h.files.next < 2 ^ 64 → reader.old ≢ host_bytes h ++ rest }
 {
     let tree = restore_files(alloc, reader)?;
-    are_within(&tree);
+    let _nodes = tree.len();
+    let _next = tree.next();
     let descriptors = restore_descriptors(alloc, &tree, reader)?;
     Ok(WasiStateParts {
         tree,
@@ -61,16 +60,6 @@ fn read_parts(
         second: Vec::from_slice(alloc, progress.streams.second)?,
         released: progress.counts.lines,
     })
-}
-
-/// The files of a tree and their next number are within their bounds. This is for proofs alone:
-/// nothing is done.
-fn are_within(tree: &Tree)
-    ensures files { IsFiles tree.now }
-    ensures next { tree.now.next < 2 ^ 64 }
-{
-    let _nodes = tree.len();
-    let _next = tree.next();
 }
 
 impl From<PartsFault> for RestoreFault {

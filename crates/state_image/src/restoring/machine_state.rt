@@ -7,7 +7,7 @@ ghost use Rattle.wasm_semantics.specs.Validity.{IsValid};
 ghost use Rattle.wasi_abi.specs.rules.Layouts.{u64_bytes};
 ghost use Rattle.machine_slots.specs.declared.slots.TheConstants.{SLOTS};
 ghost use Rattle.machine_slots.specs.rules.Places.{ShownFrame};
-ghost use Rattle.machine_frame.specs.rules.Fitting.{slots_held};
+ghost use Rattle.machine_frame.specs.rules.Stacked.{slots_held};
 ghost use Rattle.machine.specs.rules.Loading.{emptied, ShowsSome};
 ghost use Rattle.machine.specs.rules.Values.{MachineValue, HoldsMemory, least_of};
 ghost use Rattle.state_image.specs.declared.restoring.fault.RestoreFault.TheVariants as fault;
@@ -49,8 +49,8 @@ pub fn restore_machine(
     phase: ReadPhase,
     reader: &mut ProcessImageReader,
 ) -> Result<Machine, RestoreFault>
-    requires holds { HoldsMemory machine }
-    requires valid { IsValid machine.guest }
+    requires { HoldsMemory machine }
+    ensures valid { IsValid machine.guest }
     ensures made { IfOk result (IsReadMachine machine phase reader.old reader.new) }
     ensures shows { IfOk result ShowsSome }
     ensures slots { IfOk result (λ m. slots_in m.state.frames ≤ SLOTS) }

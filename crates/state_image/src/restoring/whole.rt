@@ -1,7 +1,6 @@
 //! The process of an image, made again.
 
 ghost use Rattle.std.specs.Prelude.{◌≡◌, ◌≢◌, ◌↔◌, ℕ, [], IsTrue, IfOk, Err};
-ghost use Rattle.wasm_semantics.specs.Validity.{IsValid};
 ghost use Rattle.wasm_semantics.specs.Linking.{HasEntry, IsLinkable};
 ghost use Rattle.machine.specs.rules.Loading.{ShowsSome};
 ghost use Rattle.machine.specs.rules.Offers.{offer};
@@ -56,10 +55,10 @@ pub fn restore_into(
 ) -> Result<Process, RestoreFault>
     requires { HasBegun config.pages machine.guest machine }
     ensures restored { IfOk result (IsRestored machine.guest config bytes.now) }
+    ensures shows { IfOk result IsProcess }
     ensures refused { result ≡ Err fault.NotAnImage → (s : Saved)
         → IsWellTyped machine.guest config s → bytes.now ≢ process_image s }
 {
-    is_valid(&machine);
     let mut reader = ProcessImageReader::new(bytes);
     let process = read_process(alloc, machine, config, &mut reader)?;
     if is_accepted(&process, &reader) {
@@ -71,25 +70,15 @@ pub fn restore_into(
 
 /// Whether nothing is left after a process that was read, and it is one whose image is accepted.
 fn is_accepted(process: &Process, reader: &ProcessImageReader) -> bool
-    requires shows { ShowsSome process.now.machine }
-    requires later { MayCome process.now.machine.guest process.now.machine.state.later }
-    ensures is { IsProcess process.now }
-    ensures exact { (entry : ℕ) → HasEntry process.now.machine.guest entry → IsTrue result
+    requires { MayCome process.now.machine.guest process.now.machine.state.later }
+    ensures { (entry : ℕ) → HasEntry process.now.machine.guest entry → IsTrue result
         ↔ ((reader.now ≡ []) × MayBeAccepted process.now.machine.guest entry
         (saved_of process.now)) }
 {
-    let _steps = process.steps();
     if !reader.is_empty() {
         return false;
     }
     may_be_accepted(process)
-}
-
-/// The module of a machine is valid. This is for proofs alone: nothing is done.
-fn is_valid(machine: &Machine)
-    ensures { IsValid machine.now.guest }
-{
-    let _module = machine.module().module();
 }
 
 /// The process whose image is next, in the place of what the machine shows.
@@ -99,9 +88,9 @@ fn read_process(
     config: Config,
     reader: &mut ProcessImageReader,
 ) -> Result<Process, RestoreFault>
-    requires begun { HasBegun config.pages machine.guest machine }
-    requires valid { IsValid machine.guest }
+    requires { HasBegun config.pages machine.guest machine }
     ensures read { IfOk result (IsReadProcess machine config reader.old reader.new) }
+    ensures shows { IfOk result IsProcess }
     ensures refused { result ≡ Err fault.NotAnImage → (s : Saved)
         → IsWellTyped machine.guest config s → reader.old ≢ process_image s }
 {
@@ -123,6 +112,7 @@ fn put_together(
     requires shows { ShowsSome machine }
     requires linked { HasLinkableGuest machine }
     ensures made { IfOk result (λ p. p ≡ process_behind progress.now machine host) }
+    ensures shows { IfOk result IsProcess }
     ensures refused { result ≡ Err fault.NotAnImage
         → IsProcess (process_behind progress.now machine host) → ⊥ }
 {

@@ -17,9 +17,10 @@ use Rattle.wasm_semantics.specs.Steps.{returned, entered, exited, begun, exited_
 use Rattle.wasm_semantics.specs.Steps.{IsReduced}
 use Rattle.wasm_semantics.specs.Steps.{IsEnded, IsCounted, ReducesTo, here, on, Advances, none}
 use Rattle.wasm_semantics.specs.Steps.{more, answered}
-use Rattle.wasm_semantics.specs.Typed.{IsTypedProgram, IsTypedMemory, IsTypedStore}
-use Rattle.wasm_semantics.specs.Typed.{AreTypedLabels, IsTypedThread, IsEntry, IsTyped, IsSound}
-use Rattle.wasm_semantics.specs.Typed.{NeverStuck, AdministrativeTyped, AnswersTyped, StepsTyped}
+use Rattle.wasm_semantics.specs.Typed.{IsTypedProgram, IsTypedMemory, IsTypedStore, AreTypedLabels}
+use Rattle.wasm_semantics.specs.Typed.{IsTypedThread, IsEntry, IsTyped}
+use Rattle.wasm_semantics.specs.laws.Soundness.{IsSound, NeverStuck, AdministrativeTyped}
+use Rattle.wasm_semantics.specs.laws.Soundness.{AnswersTyped, StepsTyped}
 use Rattle.wasm_semantics.proofs.Soundness.Values.{are_both}
 use Rattle.wasm_semantics.proofs.Soundness.ControlSound.{returned_typed, entered_typed}
 use Rattle.wasm_semantics.proofs.Soundness.CountedSound.{never_stuck}

@@ -40,9 +40,9 @@ use Rattle.wasm_semantics.specs.Instantiation.{AreInitial, offset_of, with_entri
 use Rattle.wasm_semantics.specs.Instantiation.{filled_table, filled_memory, empty_table}
 use Rattle.wasm_semantics.specs.Instantiation.{empty_memory, IsInitialStore, calls_of}
 use Rattle.wasm_semantics.specs.Linking.{Offer, IsItemOffered, IsOffered, FitsPages, IsLinkable}
-use Rattle.wasm_semantics.specs.Typed.{IsTypedCallee, IsTypedProgram, IsTypedMemory}
-use Rattle.wasm_semantics.specs.Typed.{IsTypedEntry, IsTypedStore, IsEntry, IsTyped}
-use Rattle.wasm_semantics.specs.Typed.{OffersNoEntry, ProgramsTyped, BeginsTyped}
+use Rattle.wasm_semantics.specs.Typed.{IsTypedCallee, IsTypedProgram, IsTypedMemory, IsTypedEntry}
+use Rattle.wasm_semantics.specs.Typed.{IsTypedStore, IsEntry, IsTyped}
+use Rattle.wasm_semantics.specs.laws.Soundness.{OffersNoEntry, ProgramsTyped, BeginsTyped}
 use Rattle.wasm_semantics.proofs.Soundness.MemoryBytes.{memory_with_part}
 use Rattle.wasm_semantics.proofs.Soundness.CountedSound.{callee_at}
 use Rattle.wasm_semantics.proofs.Soundness.AdministrativeSound.{reduces_typed}

@@ -17,8 +17,9 @@ use Rattle.wasm_semantics.specs.Configuration.{Callee, Imported, Own, Program, P
 use Rattle.wasm_semantics.specs.Configuration.{LabelOf, Frame, FrameOf, Thread, Configuration}
 use Rattle.wasm_semantics.specs.Configuration.{Goes, Traps}
 use Rattle.wasm_semantics.specs.Steps.{branch, returned, called, signature_of, zero_of}
-use Rattle.wasm_semantics.specs.Typed.{IsTypedCallee, IsTypedProgram, AreTypedLabels}
-use Rattle.wasm_semantics.specs.Typed.{IsTypedFrame, IsTypedThread, IsTyped, IsSound}
+use Rattle.wasm_semantics.specs.Typed.{IsTypedCallee, IsTypedProgram, AreTypedLabels, IsTypedFrame}
+use Rattle.wasm_semantics.specs.Typed.{IsTypedThread, IsTyped}
+use Rattle.wasm_semantics.specs.laws.Soundness.{IsSound}
 use Rattle.wasm_semantics.proofs.Soundness.Values.{are_both, topmost_are, zeros_are, reverse_are}
 
 -- ---- branches

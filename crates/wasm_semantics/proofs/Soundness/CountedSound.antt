@@ -25,8 +25,9 @@ use Rattle.wasm_semantics.specs.Steps.{topmost, branch, returned, called, calls,
 use Rattle.wasm_semantics.specs.Steps.{signature_of, goes_on, where_some, after_effect, execute}
 use Rattle.wasm_semantics.specs.Steps.{inside, counted_step_of, counted_step, exited_by, IsReduced}
 use Rattle.wasm_semantics.specs.Steps.{IsEnded}
-use Rattle.wasm_semantics.specs.Typed.{IsTypedProgram, IsTypedStore, IsTypedEntry}
-use Rattle.wasm_semantics.specs.Typed.{AreTypedLabels, IsTypedThread, IsEntry, IsTyped, IsSound}
+use Rattle.wasm_semantics.specs.Typed.{IsTypedProgram, IsTypedStore, IsTypedEntry, AreTypedLabels}
+use Rattle.wasm_semantics.specs.Typed.{IsTypedThread, IsEntry, IsTyped}
+use Rattle.wasm_semantics.specs.laws.Soundness.{IsSound}
 use Rattle.wasm_semantics.proofs.Soundness.Values.{topmost_are}
 use Rattle.wasm_semantics.proofs.Soundness.EffectSound.{EffectHas, effect_has}
 use Rattle.wasm_semantics.proofs.Soundness.ControlSound.{branch_has, chosen_label}

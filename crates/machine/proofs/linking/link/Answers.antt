@@ -1,7 +1,7 @@
 use Rattle.std.proofs.Common.{ℕ, sym, subst}
 use Rattle.machine.specs.Insides.{seen, IsMachine}
 use Rattle.machine.specs.rules.Runs.{HasBegun}
-use Rattle.machine.proofs.Linked.{begin_stands, linked_machine, linked_begun}
+use Rattle.machine.proofs.Linked.{begin_stands, begin_valid, linked_machine, linked_begun}
 use Rattle.machine.proofs.linking.link.Goals as goal
 
 pub go_on-requires : goal.go_on-requires
@@ -24,3 +24,8 @@ returns-clause-begun c =
     subst P (sym c.limit-most_pages.ensures)
     (linked_begun c.args.pages c.args.«module» c.in_ok-code.field-0 c.requires.pages
     c.in_ok-code.ensures.begun c.go_on.new.state c.go_on.result c.go_on.ensures)
+
+pub returns-clause-valid : goal.returns-clause-valid
+returns-clause-valid c =
+    begin_valid c.args.pages c.args.«module» c.in_ok-code.field-0 c.requires.pages
+    c.in_ok-code.ensures.begun

@@ -5,7 +5,7 @@ use Rattle.wasm_semantics.specs.Types.{value_type_of}
 use Rattle.wasm_semantics.specs.Typed.{IsEntry}
 use Rattle.wasm_semantics.specs.Validity.{module_context}
 use Rattle.wasm_validate.proofs.PartLemmas.Lookups.{is_false}
-use Rattle.machine_frame.specs.rules.Fitting.{AreWordsOf}
+use Rattle.machine_frame.specs.laws.Fitting.{AreWordsOf}
 use Rattle.machine.proofs.loading.fits.fits_around.Goals as goal
 
 pub returns-then-not-are_globals : goal.returns-then-not-are_globals

@@ -1,6 +1,6 @@
 use Rattle.std.proofs.Common.{◌++◌, length, refl, sym, subst, arith, length-append}
 use Rattle.std.proofs.lemmas.Bool.Decides.{nat_tests}
-use Rattle.machine_frame.specs.rules.Fitting.{AreWordsOf}
+use Rattle.machine_frame.specs.laws.Fitting.{AreWordsOf}
 use Rattle.machine.proofs.LoadingLemmas.Words.{words_count, both, first_of, second_of}
 use Rattle.machine.proofs.loading.words.words_behind.Goals as goal
 

@@ -1,5 +1,7 @@
 use Rattle.std.proofs.Common.{sym, subst}
-use Rattle.machine.specs.rules.Values.{HoldsMemory}
+use Rattle.wasm_semantics.specs.Validity.{IsValid}
+use Rattle.machine.specs.rules.Values.{MachineValue, HoldsMemory}
+use Rattle.machine.proofs.Placed.{valid_module}
 use Rattle.machine.proofs.Stopped.{still_holds}
 use Rattle.machine.proofs.LoadingLemmas.Parts.{loading_of}
 use Rattle.machine.proofs.running_machine.Machine.into_loading.Goals as goal
@@ -16,3 +18,10 @@ invariant_of-result c =
       later = c.clear.new.state.later;
     }) c.self.inside.most_pages c.self.invariant c.clear.ensures.frames c.clear.ensures.slots
     held.limit held.least
+
+pub returns-clause-valid : goal.returns-clause-valid
+returns-clause-valid c =
+    let P : MachineValue → Type 0 = λ v. IsValid v.guest in
+    subst P c.self.view_is
+    (valid_module c.self.inside.code c.self.inside.state c.self.inside.most_pages
+    c.self.invariant)

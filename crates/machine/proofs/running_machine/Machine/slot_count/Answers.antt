@@ -1,5 +1,5 @@
 use Rattle.std.proofs.Common.{◌≡◌, sym, ◌∙◌, subst}
-use Rattle.machine_frame.specs.rules.Fitting.{slots_held}
+use Rattle.machine_frame.specs.rules.Stacked.{slots_held}
 use Rattle.machine.specs.rules.Values.{MachineValue}
 use Rattle.machine.proofs.Placed.{stacked}
 use Rattle.machine.proofs.LoadingLemmas.Frames.{held_count}

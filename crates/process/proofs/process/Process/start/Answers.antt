@@ -6,7 +6,7 @@ use Rattle.process.proofs.process.Process.start.Goals as goal
 pub invariant_of-result : goal.invariant_of-result
 invariant_of-result c =
     let P : ℕ → Type 0 = λ n. HasBegun n c.args.«module» c.in_ok-machine.machine in
-    is_process c.args.«module» c.args.config c.is_valid.ensures c.in_ok-machine.machine
+    is_process c.args.«module» c.args.config c.in_ok-machine.ensures.valid c.in_ok-machine.machine
     (subst P c.pages.ensures.value c.in_ok-machine.ensures.begun)
     c.in_ok-host.host c.end_with_program-ended.new.host c.in_ok-host.ensures
     c.end_with_program-ended.result c.end_with_program-ended.ensures.ends
@@ -15,8 +15,17 @@ invariant_of-result c =
 pub returns-clause-started : goal.returns-clause-started
 returns-clause-started c =
     let P : ℕ → Type 0 = λ n. HasBegun n c.args.«module» c.in_ok-machine.machine in
-    has_started c.args.«module» c.args.config c.is_valid.ensures c.in_ok-machine.machine
+    has_started c.args.«module» c.args.config c.in_ok-machine.ensures.valid c.in_ok-machine.machine
     (subst P c.pages.ensures.value c.in_ok-machine.ensures.begun)
     c.in_ok-host.host c.end_with_program-ended.new.host c.in_ok-host.ensures
     c.end_with_program-ended.result c.end_with_program-ended.ensures.ends
     c.end_with_program-ended.ensures.host
+
+pub returns-clause-shows : goal.returns-clause-shows
+returns-clause-shows c =
+    let P : ℕ → Type 0 = λ n. HasBegun n c.args.«module» c.in_ok-machine.machine in
+    is_process c.args.«module» c.args.config c.in_ok-machine.ensures.valid c.in_ok-machine.machine
+    (subst P c.pages.ensures.value c.in_ok-machine.ensures.begun)
+    c.in_ok-host.host c.end_with_program-ended.new.host c.in_ok-host.ensures
+    c.end_with_program-ended.result c.end_with_program-ended.ensures.ends
+    c.end_with_program-ended.ensures.few

@@ -9,20 +9,20 @@ use Rattle.state_image.proofs.restoring.machine_state.restore_machine.Goals as g
 
 pub load_parts-requires : goal.load_parts-requires
 load_parts-requires c =
-    emptied_once c.args.machine c.into_loading-loading.result c.into_loading-loading.ensures
+    emptied_once c.args.machine c.into_loading-loading.result c.into_loading-loading.ensures.emptied
 
 pub returns-in_err-load_parts-clause-refused : goal.returns-in_err-load_parts-clause-refused
 returns-in_err-load_parts-clause-refused c refused v rest read few shows =
     c.in_err-load_parts.ensures.refused
     (fault_of c.from_residual.result _ c.from_residual.ensures.1 refused) v rest
-    (read_emptied c.args.machine c.into_loading-loading.result c.into_loading-loading.ensures
-    c.args.phase c.args.reader.now rest v read) few shows
+    (read_emptied c.args.machine c.into_loading-loading.result
+    c.into_loading-loading.ensures.emptied c.args.phase c.args.reader.now rest v read) few shows
 
 pub returns-in_err-restored-clause-refused : goal.returns-in_err-restored-clause-refused
 returns-in_err-restored-clause-refused c refused v rest read few shows =
     not_shown c.args.phase c.args.machine c.load_parts.new.machine v c.args.reader.now
-    c.load_parts.new.reader rest c.requires.valid
-    (read_linked c.args.machine c.into_loading-loading.result c.into_loading-loading.ensures
+    c.load_parts.new.reader rest c.into_loading-loading.ensures.valid
+    (read_linked c.args.machine c.into_loading-loading.result c.into_loading-loading.ensures.emptied
     c.args.phase c.args.reader.now c.load_parts.new.reader c.load_parts.new.machine
     c.in_ok-load_parts.ensures.made) read
     (subst (LoadDenies c.load_parts.new.machine)
@@ -33,7 +33,7 @@ pub returns-clause-made : goal.returns-clause-made
 returns-clause-made c =
     subst (IsReadMachine c.args.machine c.args.phase c.args.reader.now c.load_parts.new.reader)
     (sym c.in_ok-restored.ensures.same)
-    (read_linked c.args.machine c.into_loading-loading.result c.into_loading-loading.ensures
+    (read_linked c.args.machine c.into_loading-loading.result c.into_loading-loading.ensures.emptied
     c.args.phase c.args.reader.now c.load_parts.new.reader c.load_parts.new.machine
     c.in_ok-load_parts.ensures.made)
 

@@ -13,15 +13,15 @@ returns-in_default-clause-refused c refused s w e =
 
 pub returns-in_err-machine-clause-refused : goal.returns-in_err-machine-clause-refused
 returns-in_err-machine-clause-refused c refused s w e =
-    no_machine c.args.machine c.args.config c.requires.begun c.requires.valid c.in-Some.progress
-    c.args.reader.now c.read_progress.new.reader c.in-Some.ensures s w e
+    no_machine c.args.machine c.args.config c.requires c.in_err-machine.ensures.valid
+    c.in-Some.progress c.args.reader.now c.read_progress.new.reader c.in-Some.ensures s w e
     (c.in_err-machine.ensures.refused
     (fault_of c.from_residual.result _ c.from_residual.ensures.1
     refused))
 
 pub returns-in_err-host-clause-refused : goal.returns-in_err-host-clause-refused
 returns-in_err-host-clause-refused c refused s w e =
-    no_host c.args.machine c.args.config c.requires.begun c.requires.valid c.in-Some.progress
+    no_host c.args.machine c.args.config c.requires c.in_ok-machine.ensures.valid c.in-Some.progress
     c.args.reader.now c.read_progress.new.reader c.in-Some.ensures s w e c.in_ok-machine.machine
     c.restore_machine.new.reader c.in_ok-machine.ensures.made
     (c.in_err-host.ensures.refused
@@ -31,11 +31,11 @@ pub returns-clause-read : goal.returns-clause-read
 returns-clause-read c =
     let linked = c.args.machine in
     let v = process_behind c.in-Some.progress c.in_ok-machine.machine c.in_ok-host.host in
-    let is = read_process linked c.args.config c.requires.begun c.requires.valid
+    let is = read_process linked c.args.config c.requires c.in_ok-machine.ensures.valid
     c.in-Some.progress c.args.reader.now c.read_progress.new.reader c.in-Some.ensures
     c.in_ok-machine.machine c.restore_machine.new.reader c.restore_host.new.reader
     c.in_ok-host.host c.in_ok-machine.ensures.made c.in_ok-machine.ensures.shows
-    c.in_ok-host.ensures.made in
+    c.in_ok-machine.ensures.slots c.in_ok-host.ensures.made in
     if_ok (λ (p : ProcessValue). p ≡ v)
     (IsReadProcess linked c.args.config c.args.reader.now c.restore_host.new.reader)
     c.put_together.result c.put_together.ensures.made
@@ -44,8 +44,9 @@ returns-clause-read c =
 
 pub returns-clause-refused : goal.returns-clause-refused
 returns-clause-refused c refused s w e =
-    no_process c.args.machine c.args.config c.requires.begun c.requires.valid c.in-Some.progress
-    c.args.reader.now c.read_progress.new.reader c.in-Some.ensures c.in_ok-machine.machine
-    c.restore_machine.new.reader c.restore_host.new.reader c.in_ok-host.host
-    c.in_ok-machine.ensures.made c.in_ok-machine.ensures.shows c.in_ok-host.ensures.made
+    no_process c.args.machine c.args.config c.requires c.in_ok-machine.ensures.valid
+    c.in-Some.progress c.args.reader.now c.read_progress.new.reader c.in-Some.ensures
+    c.in_ok-machine.machine c.restore_machine.new.reader c.restore_host.new.reader c.in_ok-host.host
+    c.in_ok-machine.ensures.made c.in_ok-machine.ensures.shows
+    c.in_ok-machine.ensures.slots c.in_ok-host.ensures.made
     (c.put_together.ensures.refused refused) s w e

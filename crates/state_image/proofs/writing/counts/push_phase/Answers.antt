@@ -15,14 +15,14 @@ returns-in_err-push_u8 g c =
 
 pub returns-in_err-push_u32 : goal.returns-in_err-push_u32
 returns-in_err-push_u32 g c =
-    let code = c.code_of.ensures ∙ ap ending_code c.reached_end.ensures in
+    let code = c.code_of.ensures ∙ ap ending_code c.reached_end.ensures.value in
     pushes_on (pushes_of one c.phase_of.ensures c.in_ok-push_u8.ensures)
     (pushes_exit _ _ c.from_residual-in_err-push_u32.ensures.1
     (pushes_of u32_bytes code c.in_err-push_u32.ensures))
 
 pub returns : goal.returns
 returns g c =
-    let code = c.code_of.ensures ∙ ap ending_code c.reached_end.ensures in
+    let code = c.code_of.ensures ∙ ap ending_code c.reached_end.ensures.value in
     let flag = c.flag_of.ensures
     ∙ ap flag_of (c.has_input_ended.ensures ∙ ap (λ (h : HeldWasiState). h.host.input_ended)
     c.host.ensures) in

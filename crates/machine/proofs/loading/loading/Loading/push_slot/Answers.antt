@@ -1,6 +1,6 @@
 use Rattle.std.proofs.Common.{◌≡◌, ◌≢◌, ◌⊎◌, [], IfErr, OnOk, subst}
 use Rattle.machine_slots.specs.declared.slots.TheConstants.{SLOTS}
-use Rattle.machine_frame.specs.rules.Fitting.{slots_held}
+use Rattle.machine_frame.specs.rules.Stacked.{slots_held}
 use Rattle.machine.specs.declared.loading.fault.LoadFault.TheVariants.{Unfit}
 use Rattle.machine.specs.Insides.{seen}
 use Rattle.machine.specs.rules.Values.{MachineValue}

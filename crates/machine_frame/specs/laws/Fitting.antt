@@ -1,18 +1,20 @@
--- Which places, with their slots, show some thread.
+-- Which places, with their slots, show some thread. It is a second form of `Shows`: what fits a
+-- program is what shows some configuration of it.
 use Rattle.std.specs.Prelude.{◌≡◌, ◌≢◌, ℕ, ◌+◌, ◌≤◌, List, [], ◌∷◌, ◌++◌, length, map, reverse}
-use Rattle.std.specs.Prelude.{Some, slice_get}
+use Rattle.std.specs.Prelude.{Option, Some, slice_get}
 use Rattle.std.specs.List.{AllByRecursion}
 use Rattle.wasm_syntax.specs.declared.types.ValueType.{ValueType}
 use Rattle.wasm_syntax.specs.declared.types.FunctionType.{FunctionType}
 use Rattle.wasm_syntax.specs.rules.Sequence.{Sequence, Stop}
 use Rattle.wasm_semantics.specs.Types.{IsOf, value_of, value_type_of}
 use Rattle.wasm_semantics.specs.Typing.{Context, body_context}
-use Rattle.wasm_semantics.specs.Configuration.{Own, Program}
+use Rattle.wasm_semantics.specs.Configuration.{Own, Program, Configuration}
 use Rattle.wasm_semantics.specs.Shapes.{Shape, body_shape}
-use Rattle.wasm_semantics.specs.Typed.{IsTypedMemory, IsEntry}
+use Rattle.wasm_semantics.specs.Typed.{IsTypedMemory, IsEntry, IsTypedEntry, IsTypedProgram}
 use Rattle.wasm_validate.specs.rules.Operands.{types_below, types_in}
-use Rattle.machine_slots.specs.rules.Places.{IsCallOf, ShownFrame, IsFrameOf, MachineState}
+use Rattle.machine_slots.specs.rules.Places.{IsCallOf, ShownFrame, IsFrameOf, MachineState, Shows}
 use Rattle.machine_slots.specs.declared.limits.TheConstants.{FRAMES, HELD_VALUES}
+use Rattle.machine_frame.specs.rules.Stacked.{slots_held}
 
 -- the words are numbers of values of these types, one by one
 abbrev pub AreWordsOf : List ValueType → List ℕ → Type 0
@@ -69,11 +71,6 @@ FitFrames c program (place ∷ places) =
 
 -- ---- limits
 
--- how many slots these frames have
-abbrev pub slots_held : List ShownFrame → ℕ
-slots_held [] = 0
-slots_held (place ∷ places) = length place.slots + slots_held places
-
 -- the locals of the running frame, and all slots of those that wait
 abbrev pub FewHeld : Program → List ShownFrame → Type 0
 FewHeld program [] = Unit {0}
@@ -93,3 +90,20 @@ pub record FitsProgram (c : Context) (program : Program) (state : MachineState) 
   pub frames : FitFrames c program state.frames
   pub few_frames : length state.frames ≤ FRAMES
   pub few_values : FewHeld program state.frames
+
+-- ---- laws
+
+-- What shows some configuration fits the program.
+abbrev pub ShownFits : Type 0
+ShownFits =
+    (c : Context) (program : Program) (table : List (Option ℕ)) (state : MachineState)
+    (d : Configuration)
+    → Shows c program table state d → FitsProgram c program state
+
+-- What fits a typed program shows some configuration of it, with any table of its functions.
+abbrev pub FitsIsShown : Type 0
+FitsIsShown =
+    (c : Context) (program : Program) (table : List (Option ℕ)) (state : MachineState)
+    → IsTypedProgram c program → AllByRecursion (IsTypedEntry program) table
+    → FitsProgram c program state
+    → (d : Configuration) × Shows c program table state d

@@ -1,3 +1,0 @@
-pub mod FramePosition
-pub mod Threads
-pub mod Fitting
