@@ -7,7 +7,7 @@ ghost use Rattle.disk_layout.specs.rules.Places.{total_sectors};
 ghost use Rattle.disk_layout.specs.rules.Journal.{record_bytes, payload_of, scan};
 ghost use Rattle.disk_layout.specs.rules.Stored.{OnlyReads};
 ghost use Rattle.journal.specs.rules.Barriers.{StoresKept};
-ghost use Rattle.journal.specs.rules.State.{state, room_of};
+ghost use Rattle.journal.specs.rules.State.{state, failed_journal, room_of};
 ghost use Rattle.journal.specs.rules.Steps.{RecordFits};
 ghost use Rattle.wasi_abi.specs.rules.Versions.{text_limit};
 
@@ -97,6 +97,20 @@ impl Journal {
         *generation
     }
 
+    /// Whether a call has failed.
+    pub fn has_failed(&self) -> bool
+        ensures { result ≡ self.now.has_failed }
+    {
+        self.has_failed
+    }
+
+    /// From now on each call answers `Failed`, as after an error.
+    pub fn fail(&mut self)
+        ensures { self.new ≡ failed_journal self.old }
+    {
+        self.has_failed = true;
+    }
+
     /// How many more bytes of records there is room for.
     pub fn room(&self, geometry: &Geometry) -> usize
         ensures { result ≡ room_of geometry.now self.now }
@@ -117,6 +131,8 @@ impl Journal {
         ensures stays { self.new ≡ state self.old.version self.old.generation self.old.used
             self.new.kept self.new.has_failed }
         ensures failed { (result ≡ Err JournalFault.Failed) ↔ (self.old.has_failed ≡ true) }
+        ensures refused { self.old.has_failed ≡ true
+            → (result ≡ Err JournalFault.Failed) × (self.new ≡ self.old) }
         ensures too_long { (result ≡ Err JournalFault.TooLong)
             ↔ ((self.old.has_failed ≡ false)
             × (text_limit self.old.version < length (payload_of entry.now.answer))) }
@@ -158,6 +174,8 @@ impl Journal {
         ensures quiet { length self.old.kept ≡ 0 → disk.new ≡ disk.old }
         ensures untouched { (result ≡ Err JournalFault.Full) ⊎ (result ≡ Err JournalFault.Failed)
             → disk.new ≡ disk.old }
+        ensures refused { self.old.has_failed ≡ true
+            → (result ≡ Err JournalFault.Failed) × (self.new ≡ self.old) × (disk.new ≡ disk.old) }
     {
         if self.has_failed {
             return Err(JournalFault::Failed);

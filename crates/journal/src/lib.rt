@@ -19,20 +19,20 @@
 //! - `count_filled` gives how many sectors the records of a generation fill (`counts`). It only
 //!   reads. `laws::what_is_held_fills`: they are as many as the journal has written. So the others
 //!   are what a next barrier can write (`full`).
-//! - After an error of `append` or `barrier`, each call of these answers `Failed` (`err`,
-//!   `failed`). Whatever `append` answers, version, generation and sectors are as before
-//!   (`stays`).
+//! - After an error of `append` or `barrier`, and after `fail`, each call of these answers `Failed`
+//!   and changes nothing (`err`, `failed`, `refused`). `has_failed` says so. Whatever `append`
+//!   answers, version, generation and sectors are as before (`stays`).
 //! - `laws::what_is_held_is_scanned`: a scan gives what is held, and nothing of a generation that
 //!   no sector shows. `laws::worked_examples`: records that fit, what is held, and what a barrier
 //!   may leave.
 //!
 //! # Definitions to read
 //!
-//! In `specs/rules/`: `JournalState`, `room_of` (`State.antt`); `HoldsRecords`, `IsOn`,
-//! `AppendsFront`, `RecordFits`, `barrier_calls` (`Steps.antt`); `StoresKept`, which is what
-//! `barrier` does (`Barriers.antt`); `sectors_for` (`Packed.antt`), `sectors_filled`
-//! (`Filled.antt`). Of `disk_layout`: `record_bytes` and `scan` (`specs/rules/Journal.antt`). Of
-//! `wasi_abi`: `Version`.
+//! In `specs/rules/`: `JournalState`, `failed_journal`, `room_of` (`State.antt`); `HoldsRecords`,
+//! `IsOn`, `AppendsFront`, `RecordFits`, `ShowsEarlierThan`, `barrier_calls` (`Steps.antt`);
+//! `StoresKept`, which is what `barrier` does (`Barriers.antt`); `sectors_for` (`Packed.antt`),
+//! `sectors_filled` (`Filled.antt`). Of `disk_layout`: `record_bytes` and `scan`
+//! (`specs/rules/Journal.antt`). Of `wasi_abi`: `Version`.
 //!
 //! # Who may touch what
 //!
@@ -44,7 +44,8 @@
 //! # Choices
 //!
 //! - Any error, a refusal included, makes a journal or the snapshots failed: every later call
-//!   answers `Failed`.
+//!   answers `Failed`. A worker has one such flag, that of its journal: who finds another error
+//!   calls `fail`.
 //! - `append` takes a record by reference, since the worker still needs the answer.
 //! - The versions differ in the limit of a payload and in the bytes of its length. Code asks which
 //!   one it is where a length is written or read, and nowhere else.

@@ -14,7 +14,7 @@ use Rattle.wasmhost_commands.specs.declared.lines.fault.LineFault.{LineFault}
 use Rattle.wasmhost_commands.specs.rules.Outside.{ComeFrom, request_in, requests_in}
 use Rattle.wasmhost_commands.specs.rules.Outside.{words_in}
 use Rattle.wasmhost_commands.specs.rules.Requests.{GiveUpTo}
-use Rattle.wasmhost_commands.specs.rules.Answered.{AreOfLines, AnswersComeFromTheLines}
+use Rattle.wasmhost_commands.specs.laws.Answered.{AreOfLines, AnswersComeFromTheLines}
 use Rattle.wasmhost_commands.specs.rules.ServedOnDisk.{handing}
 use Rattle.wasmhost_commands.specs.Lines.Answers.{SourceState, HandsNext, HandsAnswer, Finds}
 use Rattle.wasmhost_commands.specs.Lines.Answers.{LeavesFault}

@@ -36,12 +36,12 @@ use Rattle.wasmhost_commands.specs.rules.BrokenLives.{LeavesNoLine, steps_among}
 use Rattle.wasmhost_commands.specs.rules.ServedOnDisk.{LivesOnDisk, HasBrokenOff}
 use Rattle.wasmhost_commands.specs.rules.ServedOnDisk.{ServesOnDisk, over, broken}
 use Rattle.wasmhost_commands.specs.rules.ServedOnDisk.{unopened as is_unopened}
-use Rattle.wasmhost_commands.specs.rules.DiskCauses.{IsRefusedAmong, HasRefused, MeetsBadLineAt}
-use Rattle.wasmhost_commands.specs.rules.DiskCauses.{LacksAnswerAt, LacksMemoryAt}
-use Rattle.wasmhost_commands.specs.rules.DiskCauses.{IsStuck, IsFailing, IsWanting}
-use Rattle.wasmhost_commands.specs.rules.DiskCauses.{IsAtItsEnd, IsUnanswering, HasToldItsLines}
-use Rattle.wasmhost_commands.specs.rules.DiskCauses.{IsOverOnDisk, FailsOnDisk, opening, calling}
-use Rattle.wasmhost_commands.specs.rules.DiskCauses.{AsksInVain, SaysOnDisk, StatusesHaveCauses}
+use Rattle.wasmhost_commands.specs.laws.DiskCauses.{IsRefusedAmong, HasRefused, MeetsBadLineAt}
+use Rattle.wasmhost_commands.specs.laws.DiskCauses.{LacksAnswerAt, LacksMemoryAt}
+use Rattle.wasmhost_commands.specs.laws.DiskCauses.{IsStuck, IsFailing, IsWanting}
+use Rattle.wasmhost_commands.specs.laws.DiskCauses.{IsAtItsEnd, IsUnanswering, HasToldItsLines}
+use Rattle.wasmhost_commands.specs.laws.DiskCauses.{IsOverOnDisk, FailsOnDisk, opening, calling}
+use Rattle.wasmhost_commands.specs.laws.DiskCauses.{AsksInVain, SaysOnDisk, StatusesHaveCauses}
 use Rattle.wasmhost_commands.proofs.LineLemmas.Passing.{up_to_map}
 use Rattle.wasmhost_commands.proofs.PrintedLemmas.{lines_told}
 use Rattle.wasmhost_commands.proofs.RefusalLemmas.{refusals_have_reasons}

@@ -1,6 +1,6 @@
 -- What a writer took of a text, one write after another.
 use Rattle.std.proofs.Common.{◌≡◌, true, ℕ, ◌-◌, List, [], ◌++◌, length, take, drop, None, Some}
-use Rattle.std.proofs.Common.{Ok, Err, refl, sym, ap, ◌∙◌, append_assoc, append-nil, subst}
+use Rattle.std.proofs.Common.{Ok, Err, refl, sym, ap, ◌∙◌, append_assoc}
 use Rattle.std.proofs.Common.{take-append-drop}
 use Rattle.std.proofs.lemmas.List.{take_rest}
 use Rattle.std.specs.Prelude.{Option, Result, IsErr, OnErr, OnOk}

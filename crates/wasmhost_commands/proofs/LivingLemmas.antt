@@ -23,9 +23,8 @@ use Rattle.worker.specs.rules.DurableCalls.{SliceCarries, CheckpointCarries}
 use Rattle.worker.specs.rules.LifeWords.{Act, Slice, Checkpoint}
 use Rattle.worker.specs.rules.Outlets.{TakesEach, HeedsOutlet, SaysOutletFault}
 use Rattle.worker.proofs.OutletLemmas.{none_told, takes_both, heeds_on}
-use Rattle.worker.specs.laws.OneLife.{no_more, sliced, slice_failed, saved}
-use Rattle.worker.specs.laws.OneLife.{saving_failed}
-use Rattle.worker.specs.laws.Outcomes.{outcome_after}
+use Rattle.worker.specs.rules.OneLife.{no_more, sliced, slice_failed, saved, saving_failed}
+use Rattle.worker.specs.rules.Outcomes.{outcome_after}
 use Rattle.wasmhost_commands.specs.rules.BrokenLives.{BreaksOff, SlicesLead, steps_among}
 use Rattle.wasmhost_commands.specs.rules.Hearings.{AsksUnless, IsOfSource}
 use Rattle.wasmhost_commands.specs.rules.Paces.{round_of, IsPaced, last, more}

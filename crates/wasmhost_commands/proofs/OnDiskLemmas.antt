@@ -21,7 +21,7 @@ use Rattle.worker.specs.rules.Outlets.{HeedsOutlet, IsOutletFault, SaysOutletFau
 use Rattle.worker.specs.rules.RecoverFaults.{wants_memory}
 use Rattle.worker.specs.rules.Recoveries.{IsNoWorker, Recovers, RecoveryCarries}
 use Rattle.worker.proofs.OutletLemmas.{heeds_on, each_taken}
-use Rattle.worker.specs.laws.OneLife.{recovered, opened, unopened}
+use Rattle.worker.specs.rules.OneLife.{recovered, opened, unopened}
 use Rattle.wasmhost_commands.specs.declared.lines.fault.LineFault.{LineFault}
 use Rattle.wasmhost_commands.specs.declared.lines.fault.LineFault.TheVariants as line
 use Rattle.wasmhost_commands.specs.declared.lines.outside.Outside.{Outside}
@@ -37,7 +37,7 @@ use Rattle.wasmhost_commands.specs.rules.DiskStatuses.{status_of_disk, status_of
 use Rattle.wasmhost_commands.specs.rules.DiskStatuses.{status_of_recovery}
 use Rattle.wasmhost_commands.specs.rules.Statuses.{status_of_line}
 use Rattle.wasmhost_commands.specs.rules.LastWords.{ended_by, last_words}
-use Rattle.worker.specs.laws.Outcomes.{outcome_after}
+use Rattle.worker.specs.rules.Outcomes.{outcome_after}
 use Rattle.wasmhost_commands.specs.rules.ServedOnDisk.{DiskJob, source_behind, handing}
 use Rattle.wasmhost_commands.specs.rules.ServedOnDisk.{IsOnlySynced, IsUnopenedRun, LivesOnDisk}
 use Rattle.wasmhost_commands.specs.rules.Printers.{PrinterState, IsSaid, SaysText, TellsPerson}

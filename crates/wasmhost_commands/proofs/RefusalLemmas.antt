@@ -13,10 +13,10 @@ use Rattle.ephemeral_worker.specs.rules.Slices.{handed_by, handed}
 use Rattle.wasmhost_commands.specs.declared.lines.fault.LineFault.{LineFault}
 use Rattle.wasmhost_commands.specs.rules.Outside.{ComeFrom, requests_in, words_of}
 use Rattle.wasmhost_commands.specs.rules.Requests.{GiveUpTo}
-use Rattle.wasmhost_commands.specs.rules.Answered.{NoneIsLeftAtTheEnd}
+use Rattle.wasmhost_commands.specs.laws.Answered.{NoneIsLeftAtTheEnd}
 use Rattle.wasmhost_commands.specs.rules.ServedOnDisk.{handing}
-use Rattle.wasmhost_commands.specs.rules.DiskCauses.{IsRefusedAmong, HasRefused}
-use Rattle.wasmhost_commands.specs.rules.DiskCauses.{RefusalsHaveReasons}
+use Rattle.wasmhost_commands.specs.laws.DiskCauses.{IsRefusedAmong, HasRefused}
+use Rattle.wasmhost_commands.specs.laws.DiskCauses.{RefusalsHaveReasons}
 use Rattle.wasmhost_commands.specs.Lines.Answers.{SourceState, HandsNext, HandsAnswer, LeavesFault}
 use Rattle.wasmhost_commands.specs.Lines.Answers.{IsRefusedFor}
 use Rattle.wasmhost_commands.proofs.AnsweredLemmas.{at_end, leaves_some}

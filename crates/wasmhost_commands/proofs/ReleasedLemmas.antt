@@ -7,7 +7,7 @@ use Rattle.record_replay.specs.rules.Calls.{Exchange, Asks, Tells}
 use Rattle.worker.specs.laws.OneLife.{released_in, taken_in}
 use Rattle.worker.specs.laws.Uncut.{AreTrue}
 use Rattle.wasmhost_commands.specs.rules.Texts.{printed}
-use Rattle.wasmhost_commands.specs.rules.Printed.{released_lines, ReleasedLinesArePrinted}
+use Rattle.wasmhost_commands.specs.laws.Printed.{released_lines, ReleasedLinesArePrinted}
 use Rattle.wasmhost_commands.specs.rules.Printers.{IsPrinted}
 use Rattle.wasmhost_commands.specs.rules.Prints.{printing}
 use Rattle.wasmhost_commands.proofs.LineLemmas.Printed.{prints_both, prints_nothing}

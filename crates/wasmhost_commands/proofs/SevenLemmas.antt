@@ -1,5 +1,5 @@
 -- When the status of a run or of an upgrade is 7.
-use Rattle.std.proofs.Common.{◌≡◌, ◌≢◌, ◌⊎◌, inl, inr, ℕ, Bool, true, false, List, [], ◌∷◌, Some}
+use Rattle.std.proofs.Common.{◌≡◌, ◌≢◌, ◌⊎◌, inl, inr, ℕ, Bool, true, false, List, [], ◌∷◌}
 use Rattle.std.proofs.Common.{Ok, Err, refl, sym, ap, ◌∙◌, subst, arith}
 use Rattle.std.specs.Prelude.{Option, Result, if◌then◌else◌}
 use Rattle.std.specs.List.{AllByRecursion}
@@ -24,7 +24,7 @@ use Rattle.wasmhost_commands.specs.rules.DiskStatuses.{IsReportedOnDisk, opening
 use Rattle.wasmhost_commands.specs.rules.DiskStatuses.{status_on_disk}
 use Rattle.wasmhost_commands.specs.rules.DiskStatuses.{status_of_call}
 use Rattle.wasmhost_commands.specs.rules.LastWords.{ended_by, last_words}
-use Rattle.wasmhost_commands.specs.rules.Printed.{SevenIsAFailedWrite}
+use Rattle.wasmhost_commands.specs.laws.Printed.{SevenIsAFailedWrite}
 use Rattle.wasmhost_commands.specs.rules.Printers.{PrinterState, IsPrinted, StopsPrinting, IsSaid}
 use Rattle.wasmhost_commands.specs.rules.Prints.{printing}
 use Rattle.wasmhost_commands.specs.rules.Refusals.{HeedsRefusal}

@@ -8,9 +8,9 @@ use Rattle.ephemeral_worker.specs.declared.now.Now.{Now}
 use Rattle.worker.specs.declared.recover_fault.RecoverFault.{RecoverFault}
 use Rattle.worker.specs.rules.DurableValues.{DurableValue}
 use Rattle.worker.specs.rules.LifeWords.{Act}
-use Rattle.worker.specs.laws.OneLife.{CallsInOrder, no_more, sliced, slice_failed, saved}
-use Rattle.worker.specs.laws.OneLife.{saving_failed, was_upgraded, upgrade_failed}
-use Rattle.worker.specs.laws.Outcomes.{outcome_after}
+use Rattle.worker.specs.rules.OneLife.{CallsInOrder, no_more, sliced, slice_failed, saved}
+use Rattle.worker.specs.rules.OneLife.{saving_failed, was_upgraded, upgrade_failed}
+use Rattle.worker.specs.rules.Outcomes.{outcome_after}
 use Rattle.process.specs.rules.Values.{ProcessValue}
 use Rattle.worker.specs.declared.fault.WorkFault.{WorkFault}
 use Rattle.wasmhost_commands.specs.rules.BrokenLives.{BreaksOffFrom}

@@ -19,13 +19,14 @@ use Rattle.worker.specs.declared.recover_fault.RecoverFault.{RecoverFault}
 use Rattle.worker.specs.declared.recover_fault.RecoverFault.TheVariants as recover
 use Rattle.worker.specs.rules.DurableValues.{DurableValue, without_disk}
 use Rattle.worker.specs.rules.DurableCalls.{SliceCarries, UpgradeCarries}
+use Rattle.worker.specs.rules.DurableFailures.{HasSliceCause}
 use Rattle.worker.specs.rules.LifeWords.{Slice, Upgrade}
 use Rattle.worker.specs.rules.Outlets.{TakesEach, HeedsOutlet, IsOutletFault, SaysOutletFault}
 use Rattle.worker.specs.rules.Recoveries.{Recovers, RecoveryCarries}
-use Rattle.worker.specs.rules.Upgrades.{UpgradeFails, HasUpgradeCause}
-use Rattle.worker.specs.laws.OneLife.{no_more, slice_failed, was_upgraded, upgrade_failed}
-use Rattle.worker.specs.laws.OneLife.{recovered, opened}
-use Rattle.worker.specs.laws.Outcomes.{outcome_after}
+use Rattle.worker.specs.rules.Upgrades.{UpgradeFails, HasUpgradeCause, IsNotCaughtUp}
+use Rattle.worker.specs.rules.OneLife.{no_more, slice_failed, was_upgraded, upgrade_failed}
+use Rattle.worker.specs.rules.OneLife.{recovered, opened}
+use Rattle.worker.specs.rules.Outcomes.{outcome_after}
 use Rattle.worker.proofs.OutletLemmas.{takes_both, heeds_on, each_taken}
 use Rattle.wasmhost_commands.specs.Livings.{Scene, scene, AreCalled}
 use Rattle.wasmhost_commands.specs.ComingUp.{ComesUp, EndsRun, IsUpgradedFrom}
@@ -38,7 +39,7 @@ use Rattle.wasmhost_commands.specs.rules.Hearings.{AsksUnless, IsOfSource}
 use Rattle.wasmhost_commands.specs.rules.Printers.{PrinterState, IsSaid, TellsPerson}
 use Rattle.wasmhost_commands.specs.rules.ServedOnDisk.{recovered_line}
 use Rattle.wasmhost_commands.specs.rules.Upgradings.{LivesToUpgrade, UpgradesOnDisk, from_list}
-use Rattle.wasmhost_commands.specs.rules.Upgradings.{IsOfUpgrade, undone_then}
+use Rattle.wasmhost_commands.specs.rules.Upgradings.{IsOfUpgrade, IsOfCaughtUp, undone_then}
 use Rattle.wasmhost_commands.proofs.BreakLemmas.{slice_more, breaks_in_join}
 use Rattle.wasmhost_commands.proofs.HearingLemmas.{asked_on, asked_so_far, slice_hears}
 use Rattle.wasmhost_commands.proofs.LivingLemmas.{IsWithin, none_taken, within_more, slices_lead}
@@ -60,6 +61,20 @@ of_upgrade w old new (work.Work (slice.Refused why)) unfailed cause = cause
 of_upgrade w old new (work.Disk why) unfailed cause = tt
 of_upgrade w old new (work.Store why) unfailed cause = tt
 of_upgrade w old new (work.Upgrade why) unfailed cause = tt
+
+-- one that has caught up isn't told that it hasn't
+of_caught_up : (w : DurableValue) (old new : Medium) (why : WorkFault) → w.is_abreast ≡ true
+    → HasUpgradeCause w old new why → IsOfCaughtUp why
+of_caught_up w old new why abreast cause same =
+    let is : IsNotCaughtUp w =
+    subst (λ (e : WorkFault). HasUpgradeCause w old new e) same cause in
+    let behind = is.behind in absurd (cc)
+
+-- nor is one in a slice
+of_slice : (w : DurableValue) (old new : Medium) (why : WorkFault) → HasSliceCause w old new why
+    → IsOfCaughtUp why
+of_slice w old new why cause same =
+    subst (λ (e : WorkFault). HasSliceCause w old new e) same cause
 
 -- none is the outlet's
 upgrade_is_other : (why : WorkFault) → IsOfUpgrade why → IsOutletsCall why → ⊥
@@ -130,8 +145,9 @@ module _ {D S O : Type 0} (medium : D → Medium) (gives : Giving S) (takes : Ta
     so_many = so_far.within (so_far.count + 1) (omega arith)
 
     pub come_last : (said : Now) → Slicing (Ok said) → IsProcess here.worker.process → Sliced said
+        → (said ≢ now.Spent → w'.is_abreast ≡ true)
         → ComesUp medium gives takes fuel from (Ok said) (scene w' disk' source' outlet')
-    come_last said carries is slices = record {
+    come_last said carries is slices abreast = record {
       count = so_far.count + 1;
       heard = asked_on gives ⊥ from.source here.source source' so_many.heard
           (slice_heard said is slices);
@@ -140,6 +156,7 @@ module _ {D S O : Type 0} (medium : D → Medium) (gives : Giving S) (takes : Ta
       leads = slices_lead medium gives takes fuel so_far.count from here.worker w' here.disk disk'
           here.source source' here.outlet outlet' so_many.leads said carries;
       unfailed = slices.has_not_failed;
+      abreast = abreast;
     }
 
     pub come_broken : (why : WorkFault) → Slicing (Err why)
@@ -147,8 +164,9 @@ module _ {D S O : Type 0} (medium : D → Medium) (gives : Giving S) (takes : Ta
         → HeedsOutlet takes (IsOutletsCall why) here.outlet outlet'
         → BreaksInSliceFrom gives takes here.worker.process fuel fuel why here.source source'
         here.outlet outlet'
+        → HasSliceCause here.worker (medium here.disk) (medium disk') why
         → ComesUp medium gives takes fuel from (Err why) (scene w' disk' source' outlet')
-    come_broken why carries heard heeded breaks = record {
+    come_broken why carries heard heeded breaks cause = record {
       count = so_far.count + 1;
       heard = asked_on gives (IsOfSource (Err (recover.Worker why))) from.source here.source
           source' so_many.heard heard;
@@ -168,6 +186,7 @@ module _ {D S O : Type 0} (medium : D → Medium) (gives : Giving S) (takes : Ta
           (turned so_far.count (Slice fuel) rest)
           (so_many.leads.behind (Slice fuel ∷ rest) (Err (recover.Worker why)) disk' source'
           outlet' (slice_failed carries));
+      caught_up = of_slice here.worker (medium here.disk) (medium disk') why cause;
     }
 
   -- ---- the upgrade
@@ -198,8 +217,9 @@ module _ {D S O : Type 0} (medium : D → Medium) (gives : Giving S) (takes : Ta
         → (SaysOutletFault (undone_then result) → ⊥)
         → EndsRun medium gives takes from result comes.count to.source to.outlet
         (outcome_after now.Spent (after_slices result last))
+        → IfErr result IsOfCaughtUp
         → IsUpgradedFrom medium gives takes from result disk' to.outlet
-    ended result last other ends = record {
+    ended result last other ends caught_up = record {
       count = comes.count;
       source = to.source;
       heard = asked_so_far gives (IsOfSource (undone_then result)) from.source
@@ -207,6 +227,7 @@ module _ {D S O : Type 0} (medium : D → Medium) (gives : Giving S) (takes : Ta
       heeded = inl (comes.taken, other);
       done = after_slices result last;
       ends = ends;
+      caught_up = caught_up;
     }
 
     pub then_ended : (result : Result (Unit {0}) WorkFault) (outlet' : O) → outlet' ≡ to.outlet
@@ -216,12 +237,13 @@ module _ {D S O : Type 0} (medium : D → Medium) (gives : Giving S) (takes : Ta
         → IsUpgradedFrom medium gives takes from result disk' outlet'
     then_ended (Ok done) outlet' quiet carries fails cause =
         rw quiet (ended (Ok done) (was_upgraded carries no_more) (λ told. told)
-        (run_on (Ok done) (was_upgraded carries no_more) refl))
+        (run_on (Ok done) (was_upgraded carries no_more) refl) tt)
     then_ended (Err why) outlet' quiet carries fails cause =
         let is : IsOfUpgrade why =
         of_upgrade to.worker (medium to.disk) (medium disk') why comes.unfailed cause in
         rw quiet (ended (Err why) (upgrade_failed carries fails) (upgrade_is_other why is)
-        (inr (is, run_on (Err why) (upgrade_failed carries fails) refl)))
+        (inr (is, run_on (Err why) (upgrade_failed carries fails) refl))
+        (of_caught_up to.worker (medium to.disk) (medium disk') why (comes.abreast over) cause))
 
   pub not_come : (from to : Scene D S O) (why : WorkFault)
       → ComesUp medium gives takes 100000 from (Err why) to
@@ -233,6 +255,7 @@ module _ {D S O : Type 0} (medium : D → Medium) (gives : Giving S) (takes : Ta
     heeded = comes.heeded;
     done = comes.done (Upgrade ∷ []);
     ends = inl comes.breaks;
+    caught_up = comes.caught_up;
   }
 
 module _ {D O : Type 0} (medium : D → Medium) (takes : Taking O) where
@@ -317,6 +340,7 @@ module _ {D O : Type 0} (medium : D → Medium) (takes : Taking O) where
           inr (other.0, λ image leaves bytes config. other.1)) done.ends,
       tells,
       subst (λ t. IsSaid (status_on_disk t) between status err') is says,
+      done.caught_up,
     )
 
 -- the version of a worker, as its process and its host say it

@@ -1,5 +1,5 @@
 -- What a watcher was told, where a run ends well. Where it doesn't the status isn't 0.
-use Rattle.std.proofs.Common.{◌≡◌, ◌≢◌, inl, inr, ℕ, Bool, true, false, ◌≤◌, lit≤, arith}
+use Rattle.std.proofs.Common.{◌≢◌, inl, inr, ℕ, Bool, true, false, ◌≤◌, lit≤, arith}
 use Rattle.std.specs.Prelude.{IsTrue, if◌then◌else◌}
 use Rattle.sector_disk.specs.declared.fault.DiskFault.{DiskFault}
 use Rattle.sector_disk.specs.declared.fault.DiskFault.TheVariants as disk

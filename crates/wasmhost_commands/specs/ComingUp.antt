@@ -1,5 +1,6 @@
 -- The parts of a life that ends by an upgrade.
-use Rattle.std.specs.Prelude.{◌≡◌, ◌≢◌, ◌⊎◌, ℕ, List, ◌++◌, replicate, Result, Ok, Err, false}
+use Rattle.std.specs.Prelude.{◌≡◌, ◌≢◌, ◌⊎◌, ℕ, List, ◌++◌, replicate, Result, Ok, Err, IfErr}
+use Rattle.std.specs.Prelude.{false, true}
 use Rattle.sector_disk.specs.rules.Medium.{Medium}
 use Rattle.record_replay.specs.rules.Calls.{Giving, Taking}
 use Rattle.ephemeral_worker.specs.declared.now.Now.{Now}
@@ -8,16 +9,17 @@ use Rattle.worker.specs.declared.fault.WorkFault.{WorkFault}
 use Rattle.worker.specs.declared.recover_fault.RecoverFault.TheVariants as recover
 use Rattle.worker.specs.rules.LifeWords.{Act, Slice}
 use Rattle.worker.specs.rules.Outlets.{TakesEach, HeedsOutlet, IsOutletFault, SaysOutletFault}
-use Rattle.worker.specs.laws.Outcomes.{outcome_after}
+use Rattle.worker.specs.rules.Outcomes.{outcome_after}
 use Rattle.wasmhost_commands.specs.Livings.{Scene, AreCalled, ActsLead}
 use Rattle.wasmhost_commands.specs.rules.BrokenLives.{BreaksInSliceFrom, steps_among}
 use Rattle.wasmhost_commands.specs.rules.Hearings.{AsksUnless, IsOfSource}
 use Rattle.wasmhost_commands.specs.rules.Upgradings.{IsOfUpgrade, undone_then, upgrade_slices}
-use Rattle.wasmhost_commands.specs.rules.Upgradings.{upgrade_acts}
+use Rattle.wasmhost_commands.specs.rules.Upgradings.{upgrade_acts, IsOfCaughtUp}
 
 module _ {D S O : Type 0} (medium : D → Medium) (gives : Giving S) (takes : Taking O) where
   -- Slices of this fuel lead from there to there, and the last one has answered this. No question
-  -- was refused, and no line. The worker hasn't failed.
+  -- was refused, and no line. The worker hasn't failed. Unless the fuel was spent, no line is
+  -- beyond its process.
   pub record HasComeUp (fuel : ℕ) (from : Scene D S O) (said : Now) (to : Scene D S O) : Type 0
     where
       pub count : ℕ
@@ -25,6 +27,7 @@ module _ {D S O : Type 0} (medium : D → Medium) (gives : Giving S) (takes : Ta
       pub taken : TakesEach takes from.outlet to.outlet
       pub leads : ActsLead medium gives takes (replicate count (Slice fuel)) from said to
       pub unfailed : to.worker.has_failed ≡ false
+      pub abreast : said ≢ now.Spent → to.worker.is_abreast ≡ true
 
   -- One of them has failed, whatever was to be done after it. No question was refused, unless it is
   -- the source's error, and no line, unless it is the outlet's.
@@ -38,6 +41,7 @@ module _ {D S O : Type 0} (medium : D → Medium) (gives : Giving S) (takes : Ta
     pub done : (rest : List Act) → AreCalled medium gives takes
         (replicate count (Slice fuel) ++ rest) from (Err (recover.Worker why)) to.disk to.source
         to.outlet
+    pub caught_up : IsOfCaughtUp why
 
   -- the one or the other
   abbrev pub ComesUp : ℕ → Scene D S O → Result Now WorkFault → Scene D S O → Type 0
@@ -54,6 +58,7 @@ module _ {D S O : Type 0} (medium : D → Medium) (gives : Giving S) (takes : Ta
 
   -- All that an upgrade needs was done, and then it; or so much of that, up to this error. No
   -- question was refused, unless that is the source's, and no line, unless it is the outlet's.
+  -- The error isn't that the worker hadn't caught up.
   pub record IsUpgradedFrom (from : Scene D S O) (result : Result (Unit {0}) WorkFault) (disk : D)
       (outlet : O) : Type 0 where
     pub count : ℕ
@@ -63,3 +68,4 @@ module _ {D S O : Type 0} (medium : D → Medium) (gives : Giving S) (takes : Ta
     pub done : AreCalled medium gives takes (upgrade_acts count) from (undone_then result) disk
         source outlet
     pub ends : EndsRun from result count source outlet (outcome_after now.Spent done)
+    pub caught_up : IfErr result IsOfCaughtUp

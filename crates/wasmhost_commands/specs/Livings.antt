@@ -1,5 +1,5 @@
 -- The parts of a life on a disk: calls that were made of an open worker, and those that may follow.
-use Rattle.std.specs.Prelude.{◌≡◌, ◌≢◌, ℕ, ◌-◌, ◌^◌, ◌≤◌, Bool, List, [], ◌++◌, Option, Result, Ok}
+use Rattle.std.specs.Prelude.{◌≡◌, ◌≢◌, ℕ, ◌-◌, ◌^◌, ◌≤◌, Bool, List, [], ◌++◌, Result, Ok}
 use Rattle.std.specs.Prelude.{Err, IfOk, IfErr}
 use Rattle.process_rules.specs.Processes.{ProcessState, Guest}
 use Rattle.process.specs.rules.Values.{ShowsProcess}
@@ -16,11 +16,11 @@ use Rattle.worker.specs.rules.Checkpoints.{CheckpointFails, HasCheckpointCause}
 use Rattle.worker.specs.rules.LifeWords.{Act}
 use Rattle.worker.specs.rules.Outlets.{TakesEach, HeedsOutlet, IsOutletFault}
 use Rattle.worker.specs.rules.Outlets.{SaysOutletFault}
-use Rattle.worker.specs.laws.OneLife.{CallsInOrder}
+use Rattle.worker.specs.rules.OneLife.{CallsInOrder}
 use Rattle.wasmhost_commands.specs.declared.on_disk.fault.OnDiskFault.{OnDiskFault}
 use Rattle.wasmhost_commands.specs.Lines.Answers.{SourceState}
 use Rattle.wasmhost_commands.specs.rules.DiskStatuses.{IsReportedOnDisk}
-use Rattle.worker.specs.laws.Outcomes.{outcome_after}
+use Rattle.worker.specs.rules.Outcomes.{outcome_after}
 use Rattle.wasmhost_commands.specs.rules.BrokenLives.{BreaksOffFrom, SlicesLead, steps_among}
 use Rattle.wasmhost_commands.specs.rules.Hearings.{AsksUnless, IsOfSource}
 use Rattle.wasmhost_commands.specs.rules.Paces.{round_of, IsPaced}

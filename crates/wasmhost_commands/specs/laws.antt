@@ -2,3 +2,6 @@ pub mod Examples
 pub mod Words
 pub mod Drafts
 pub mod CutRuns
+pub mod DiskCauses
+pub mod Answered
+pub mod Printed

@@ -1,17 +1,14 @@
-pub mod Answered
 pub mod Bounds
 pub mod BrokenLives
 pub mod CommandLine
 pub mod Commands
 pub mod Creations
-pub mod DiskCauses
 pub mod DiskStatuses
 pub mod Hearings
 pub mod Numbers
 pub mod Openings
 pub mod Outside
 pub mod Paces
-pub mod Printed
 pub mod Printers
 pub mod Prints
 pub mod Refusals

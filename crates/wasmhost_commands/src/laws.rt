@@ -2,11 +2,11 @@
 
 ghost use Rattle.worker.specs.laws.Replies.{LivesEndAsSaid};
 ghost use Rattle.worker.specs.laws.Uncut.{LivesGoOnUncut};
-ghost use Rattle.wasmhost_commands.specs.rules.Answered.{AnswersComeFromTheLines};
-ghost use Rattle.wasmhost_commands.specs.rules.Answered.{NoneIsLeftAtTheEnd};
-ghost use Rattle.wasmhost_commands.specs.rules.DiskCauses.{RefusalsHaveReasons, StatusesHaveCauses};
-ghost use Rattle.wasmhost_commands.specs.rules.Printed.{ReleasedLinesArePrinted};
-ghost use Rattle.wasmhost_commands.specs.rules.Printed.{SevenIsAFailedWrite, TakenLinesArePrinted};
+ghost use Rattle.wasmhost_commands.specs.laws.Answered.{AnswersComeFromTheLines};
+ghost use Rattle.wasmhost_commands.specs.laws.Answered.{NoneIsLeftAtTheEnd};
+ghost use Rattle.wasmhost_commands.specs.laws.DiskCauses.{RefusalsHaveReasons, StatusesHaveCauses};
+ghost use Rattle.wasmhost_commands.specs.laws.Printed.{ReleasedLinesArePrinted};
+ghost use Rattle.wasmhost_commands.specs.laws.Printed.{SevenIsAFailedWrite, TakenLinesArePrinted};
 ghost use Rattle.wasmhost_commands.specs.rules.ServedOnDisk.{handing};
 ghost use Rattle.wasmhost_commands.specs.laws.Examples.{CreateOrderExamples, HelpExamples};
 ghost use Rattle.wasmhost_commands.specs.laws.Examples.{OptionMistakes, PathExamples, PathMistakes};

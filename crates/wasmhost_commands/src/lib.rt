@@ -48,9 +48,10 @@
 //! - `upgrade_worker`: all that is done of a worker of version 1 is one life, without an answer:
 //!   slices, and an upgrade after one that has said that the worker waits or has ended
 //!   (`HasRunOn`). Where a call of it fails, its process is where that slice's own clause says, or
-//!   the error is one that an upgrade may answer (`HasFailedAt`). Of a worker of version 2 all that
-//!   is done is a recovery (`upgrades`). The status is 7 where the outlet has refused a line, and
-//!   else only where a write of `err` has failed (`refusal`).
+//!   the error is one that an upgrade may answer (`HasFailedAt`). It is never that the worker
+//!   hadn't caught up (`IsOfCaughtUp`). Of a worker of version 2 all that is done is a recovery
+//!   (`upgrades`). The status is 7 where the outlet has refused a line, and else only where a write
+//!   of `err` has failed (`refusal`).
 //! - `survey`: the survey of a worker's disk is printed, or what keeps it from that is told
 //!   (`shows`). Of a disk that stands for a worker the line is that worker's (`stands`). Nothing is
 //!   changed on the disk, but that it is synced.
@@ -122,16 +123,15 @@
 //! `TellsFile`, `TellsFilesOf` (`LookedFiles.antt`);
 //! `RunStart`, `RunEnd`, `ServesOnDisk`, `LivesOnDisk`, `HasOutcome`, `HasBrokenOff`,
 //! `source_behind` (`ServedOnDisk.antt`); `BreaksOff`, `LeavesNoLine`, `TellsItsLines`
-//! (`BrokenLives.antt`); `SaysOnDisk`, `HasToldItsLines` (`DiskCauses.antt`); `HeedsRefusal`
-//! (`Refusals.antt`); `UpgradesOnDisk`, `LivesToUpgrade`, `HasRunOn`, `HasFailedAt`
-//! (`Upgradings.antt`); `IsPaced` (`Paces.antt`);
+//! (`BrokenLives.antt`); `HeedsRefusal` (`Refusals.antt`); `UpgradesOnDisk`, `LivesToUpgrade`,
+//! `HasRunOn`, `HasFailedAt`, `IsOfCaughtUp` (`Upgradings.antt`); `IsPaced` (`Paces.antt`);
 //! `status_on_disk`, `opening_fault`, `IsReportedOnDisk` (`DiskStatuses.antt`);
 //! `PrinterState`, `IsSaid`, `SaysText`, `HeedsBoth`, `TellsPerson` (`Printers.antt`);
 //! `said_by`, `AreLivesOf`, `IsScript` (`Scripts.antt`); `lines_of` (`Pieces.antt`); `story_text`,
 //! `TellsStory` (`Stories.antt`); `cut_at`, `cuts_to`, `AreTextsOf`, `IsSwept` (`Sweeps.antt`),
-//! `TellsSweep` (`SweepTexts.antt`). Beside these:
-//! `all_printed`, `SevenIsAFailedWrite` (`specs/rules/Printed.antt`), and `PrintsOneLine`
-//! (`specs/rules/Prints.antt`).
+//! `TellsSweep` (`SweepTexts.antt`); `PrintsOneLine` (`Prints.antt`).
+//! In `specs/laws/`, what the laws say: `SaysOnDisk`, `HasToldItsLines` (`DiskCauses.antt`);
+//! `AreOfLines` (`Answered.antt`); `all_printed`, `SevenIsAFailedWrite` (`Printed.antt`).
 //!
 //! # Who may touch what
 //!

@@ -15,9 +15,9 @@ use Rattle.process_rules.specs.Runs.{Kept, Next, Wants, next_of, LeadsTo, Moves,
 use Rattle.process_rules.specs.Runs.{none, step, take as takes, widen}
 use Rattle.process_rules.proofs.Growing.{runs_emit}
 use Rattle.sector_disk.specs.rules.Medium.{Medium}
-use Rattle.record_replay.specs.rules.Calls.{Begun, Exchange, Asks, Tells}
+use Rattle.record_replay.specs.rules.Calls.{Begun, Exchange, Tells}
 use Rattle.restart_theorem.specs.Lives.{Event}
-use Rattle.restart_theorem.specs.Courses.{Stage, stage_after, next_stage}
+use Rattle.restart_theorem.specs.Courses.{Stage, stage_after}
 use Rattle.restart_theorem.specs.Promises.{Promise}
 use Rattle.restart_theorem.specs.Exchanges.{AreEvents, none as no_exchange, told, asked}
 use Rattle.restart_theorem.proofs.Fronts.{LeadsOn, fronts_lead_on}

@@ -16,8 +16,8 @@ use Rattle.worker.specs.rules.Checkpoints.{CheckpointFails}
 use Rattle.worker.specs.rules.DurableCalls.{SliceCarries, CheckpointCarries, UpgradeCarries}
 use Rattle.worker.specs.rules.Upgrades.{UpgradeFails}
 use Rattle.worker.specs.rules.DurableValues.{DurableValue}
-use Rattle.worker.specs.laws.OneLife.{CallsInOrder, no_more, sliced, slice_failed, saved}
-use Rattle.worker.specs.laws.OneLife.{saving_failed, was_upgraded, upgrade_failed}
+use Rattle.worker.specs.rules.OneLife.{CallsInOrder, no_more, sliced, slice_failed, saved}
+use Rattle.worker.specs.rules.OneLife.{saving_failed, was_upgraded, upgrade_failed}
 use Rattle.worker.specs.declared.story.life.PlannedAct.{PlannedAct}
 use Rattle.worker.specs.rules.Planned.{act_of}
 use Rattle.worker.specs.LifeCalls.{DoesAct}

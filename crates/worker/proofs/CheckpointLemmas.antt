@@ -1,5 +1,5 @@
 -- A checkpoint, as an event of a life, and what its disk holds.
-use Rattle.std.proofs.Common.{◌≡◌, ℕ, ◌+◌, ◌≤◌, [], ◌++◌, length, Bool, true, false, refl, sym, ap}
+use Rattle.std.proofs.Common.{◌≡◌, ℕ, ◌+◌, ◌≤◌, [], ◌++◌, length, true, false, refl, sym, ap}
 use Rattle.std.proofs.Common.{subst, arith}
 use Rattle.std.specs.Prelude.{Ok, Err}
 use Rattle.process_rules.specs.Runs.{none}
@@ -17,6 +17,7 @@ use Rattle.snapshot.proofs.StoreCalls.{some_none}
 use Rattle.restart_theorem.specs.Lives.{Checkpoint}
 use Rattle.worker_store.proofs.LawLemmas.Acts.{checkpoints_save}
 use Rattle.worker_store.specs.declared.fault.StoreFault.{StoreFault}
+use Rattle.worker_store.specs.declared.fault.StoreFault.TheVariants as store
 use Rattle.worker_store.specs.declared.store.WorkerStore.{WorkerStore}
 use Rattle.worker_store.specs.laws.Laws.{ProcessImagesFitAreas}
 use Rattle.worker_store.specs.rules.Calls.{StoresNext}
@@ -25,21 +26,22 @@ use Rattle.worker.specs.declared.fault.WorkFault.{WorkFault}
 use Rattle.worker.specs.rules.WorkFaults.{fault_of_store}
 use Rattle.worker.specs.rules.DurableValues.{DurableValue, durable_of}
 use Rattle.worker.specs.rules.DurableCalls.{CheckpointCarries}
-use Rattle.worker.specs.rules.Savings.{LeavesFrontOrNext, SaveFails, SaveCalls}
+use Rattle.worker.specs.rules.Savings.{HasSaveCause, LeavesFrontOrNext, SaveFails, SaveCalls}
 use Rattle.worker.specs.rules.CallCounts.{most_saving}
 use Rattle.worker.specs.rules.Checkpoints.{CheckpointFails, CheckpointCalls, IsSavedIn}
+use Rattle.worker.specs.rules.Checkpoints.{HasCheckpointCause}
 use Rattle.worker.proofs.SavingActLemmas.{SavesShown, saving_done, saving_fault, saving_fails}
 use Rattle.worker.proofs.DurableLemmas.OnDisk.{room_now}
 
 -- ---- an open worker
 
 -- A checkpoint saves the process as it is, and keeps nothing besides.
-checkpoint_saves_shown : (running : RunningWorker) (replayed : ℕ) (flag flag' : Bool)
-    (after_store : WorkerStore) (disk : Medium) → IsProcess running.process
-    → SavesShown Checkpoint (durable_of running replayed flag)
-    (durable_of (record running { store = after_store }) replayed flag') disk
-checkpoint_saves_shown running replayed flag flag' after_store disk is m config guest promise stage
-    p opened = (
+checkpoint_saves_shown : (running : RunningWorker) (replayed : ℕ) (after_store : WorkerStore)
+    (disk : Medium) → IsProcess running.process
+    → SavesShown Checkpoint (durable_of running replayed)
+    (durable_of (record running { store = after_store }) replayed) disk
+checkpoint_saves_shown running replayed after_store disk is m config guest promise stage p
+    opened = (
       [],
       p,
       record {
@@ -56,41 +58,41 @@ checkpoint_saves_shown running replayed flag flag' after_store disk is m config 
     )
 
 -- how its disk is left
-module _ {D : Type 0} (medium : D → Medium) (running : RunningWorker) (replayed : ℕ) (flag : Bool)
+module _ {D : Type 0} (medium : D → Medium) (running : RunningWorker) (replayed : ℕ)
     (disk disk' : D) (fit : ProcessImagesFitAreas) (is : IsProcess running.process)
     (after_store : WorkerStore)
     (leaves : LeavesFrontOrNext running.store running.process (medium disk) (medium disk'))
     (few : CallsUpTo (most_saving (medium disk).sectors) (medium disk) (medium disk')) where
-  pub done_carries : flag ≡ false
+  pub done_carries : after_store.journal.has_failed ≡ false
       → StoresNext running.store after_store running.process (medium disk) (medium disk')
-      → CheckpointCarries (durable_of running replayed flag) (Ok tt)
-      (durable_of (record running { store = after_store }) replayed flag) (medium disk)
+      → CheckpointCarries (durable_of running replayed) (Ok tt)
+      (durable_of (record running { store = after_store }) replayed) (medium disk)
       (medium disk')
   done_carries works stores =
-      saving_done medium Checkpoint (durable_of running replayed flag)
-      (durable_of (record running { store = after_store }) replayed flag) disk disk' fit
-      (checkpoint_saves_shown running replayed flag flag after_store (medium disk) is) leaves few
+      saving_done medium Checkpoint (durable_of running replayed)
+      (durable_of (record running { store = after_store }) replayed) disk disk' fit
+      (checkpoint_saves_shown running replayed after_store (medium disk) is) leaves few
       tt works refl stores
 
   pub fault_carries : (fault : StoreFault)
       → SaveFails running.store running.process (medium disk) (medium disk') fault
-      → CheckpointCarries (durable_of running replayed flag) (Err (fault_of_store fault))
-      (durable_of (record running { store = after_store }) replayed true) (medium disk)
+      → CheckpointCarries (durable_of running replayed) (Err (fault_of_store fault))
+      (durable_of (record running { store = after_store }) replayed) (medium disk)
       (medium disk')
   fault_carries fault fails =
-      saving_fault medium Checkpoint (durable_of running replayed flag)
-      (durable_of (record running { store = after_store }) replayed true) disk disk' fit
-      (checkpoint_saves_shown running replayed flag true after_store (medium disk) is) leaves few
+      saving_fault medium Checkpoint (durable_of running replayed)
+      (durable_of (record running { store = after_store }) replayed) disk disk' fit
+      (checkpoint_saves_shown running replayed after_store (medium disk) is) leaves few
       fault fails
 
   pub fault_fails : (fault : StoreFault)
       → SaveFails running.store running.process (medium disk) (medium disk') fault
-      → CheckpointFails (durable_of running replayed flag) (medium disk) (medium disk')
+      → CheckpointFails (durable_of running replayed) (medium disk) (medium disk')
       (fault_of_store fault)
   fault_fails fault fails =
-      saving_fails medium Checkpoint (durable_of running replayed flag)
-      (durable_of (record running { store = after_store }) replayed true) disk disk' fit
-      (checkpoint_saves_shown running replayed flag true after_store (medium disk) is) leaves few
+      saving_fails medium Checkpoint (durable_of running replayed)
+      (durable_of (record running { store = after_store }) replayed) disk disk' fit
+      (checkpoint_saves_shown running replayed after_store (medium disk) is) leaves few
       fault fails
 
 -- ---- a worker that has failed
@@ -118,10 +120,24 @@ failed_calls old why disk = (
   },
 )
 
+-- ---- whatever is on the disk
+
+checkpoint_cause : (running : RunningWorker) (replayed : ℕ) (old new : Medium) (fault : StoreFault)
+    → HasSaveCause running.store running.process old new fault
+    → HasCheckpointCause (durable_of running replayed) old new (fault_of_store fault)
+checkpoint_cause running replayed old new store.TooBig cause = cause
+checkpoint_cause running replayed old new store.Full cause = cause
+checkpoint_cause running replayed old new store.TooLong cause = absurd cause
+checkpoint_cause running replayed old new store.Damaged cause = absurd cause
+checkpoint_cause running replayed old new (store.Layout why) cause = absurd cause
+checkpoint_cause running replayed old new (store.Disk why) cause = cause
+checkpoint_cause running replayed old new store.Memory cause = absurd cause
+checkpoint_cause running replayed old new store.Failed cause = cause
+
 -- ---- as contracts see it
 
-module _ {D : Type 0} (medium : D → Medium) (running : RunningWorker) (replayed : ℕ) (flag : Bool)
-    (old : DurableValue) (is_old : durable_of running replayed flag ≡ old) (disk disk' : D) where
+module _ {D : Type 0} (medium : D → Medium) (running : RunningWorker) (replayed : ℕ)
+    (old : DurableValue) (is_old : durable_of running replayed ≡ old) (disk disk' : D) where
   pub room_for : total_sectors old.store.geometry ≤ (medium disk).sectors
       → total_sectors running.store.geometry ≤ (medium disk).sectors
   room_for room = subst (λ (w : DurableValue).
@@ -142,10 +158,11 @@ module _ {D : Type 0} (medium : D → Medium) (running : RunningWorker) (replaye
 
   pub saved_in : (after_store : WorkerStore)
       → after_store.journal.generation ≡ running.store.journal.generation + 1
-      → IsSavedIn old (durable_of (record running { store = after_store }) replayed flag)
-  saved_in after_store numbered = subst (λ (w : DurableValue).
-      IsSavedIn w (durable_of (record running { store = after_store }) replayed flag)) is_old
-      (record { process = refl; replayed = refl; unfailed = refl; generation = numbered })
+      → after_store.journal.has_failed ≡ running.store.journal.has_failed
+      → IsSavedIn old (durable_of (record running { store = after_store }) replayed)
+  saved_in after_store numbered works = subst (λ (w : DurableValue).
+      IsSavedIn w (durable_of (record running { store = after_store }) replayed)) is_old
+      (record { process = refl; replayed = refl; unfailed = works; generation = numbered })
 
   pub calls_err : (fault : StoreFault) (why : WorkFault)
       → SaveCalls {T = Unit {0}} running.store running.process (Err fault) (medium disk)
@@ -161,33 +178,42 @@ module _ {D : Type 0} (medium : D → Medium) (running : RunningWorker) (replaye
       CheckpointCalls {E = WorkFault} w (Ok done) (medium disk) (medium disk')) is_old
       (let makes = made.2 in (made.0, made.1, record { all = makes.all; begun = makes.begun }))
 
+  pub cause_on_any_disk : (fault : StoreFault) (why : WorkFault) → why ≡ fault_of_store fault
+      → HasSaveCause running.store running.process (medium disk) (medium disk') fault
+      → HasCheckpointCause old (medium disk) (medium disk') why
+  cause_on_any_disk fault why same cause =
+      subst (λ (e : WorkFault). HasCheckpointCause old (medium disk) (medium disk') e) (sym same)
+      (subst (λ (w : DurableValue). HasCheckpointCause w (medium disk) (medium disk')
+      (fault_of_store fault)) is_old
+      (checkpoint_cause running replayed (medium disk) (medium disk') fault cause))
+
   module _ (fit : ProcessImagesFitAreas) (is : IsProcess running.process)
       (after_store : WorkerStore) (leaves : LeavesFrontOrNext running.store running.process
       (medium disk) (medium disk')) (few : CallsUpTo (most_saving (medium disk).sectors)
       (medium disk) (medium disk')) where
-    pub done_keeps : flag ≡ false
+    pub done_keeps : after_store.journal.has_failed ≡ false
         → StoresNext running.store after_store running.process (medium disk) (medium disk')
         → CheckpointCarries old (Ok tt)
-        (durable_of (record running { store = after_store }) replayed flag) (medium disk)
+        (durable_of (record running { store = after_store }) replayed) (medium disk)
         (medium disk')
     done_keeps works stores = subst (λ (w : DurableValue). CheckpointCarries w (Ok tt)
-        (durable_of (record running { store = after_store }) replayed flag) (medium disk)
+        (durable_of (record running { store = after_store }) replayed) (medium disk)
         (medium disk')) is_old
-        (done_carries medium running replayed flag disk disk' fit is after_store leaves few works
+        (done_carries medium running replayed disk disk' fit is after_store leaves few works
         stores)
 
     module _ (fault : StoreFault) (why : WorkFault) (same : why ≡ fault_of_store fault)
         (fails : SaveFails running.store running.process (medium disk) (medium disk') fault) where
       pub fault_keeps : CheckpointCarries old (Err why)
-          (durable_of (record running { store = after_store }) replayed true) (medium disk)
+          (durable_of (record running { store = after_store }) replayed) (medium disk)
           (medium disk')
       fault_keeps = subst (λ (e : WorkFault). CheckpointCarries old (Err e)
-          (durable_of (record running { store = after_store }) replayed true) (medium disk)
+          (durable_of (record running { store = after_store }) replayed) (medium disk)
           (medium disk')) (sym same)
           (subst (λ (w : DurableValue). CheckpointCarries w (Err (fault_of_store fault))
-          (durable_of (record running { store = after_store }) replayed true) (medium disk)
+          (durable_of (record running { store = after_store }) replayed) (medium disk)
           (medium disk')) is_old
-          (fault_carries medium running replayed flag disk disk' fit is after_store leaves few fault
+          (fault_carries medium running replayed disk disk' fit is after_store leaves few fault
           fails))
 
       pub fault_cause : CheckpointFails old (medium disk) (medium disk') why
@@ -195,5 +221,5 @@ module _ {D : Type 0} (medium : D → Medium) (running : RunningWorker) (replaye
           CheckpointFails old (medium disk) (medium disk') e) (sym same)
           (subst (λ (w : DurableValue).
           CheckpointFails w (medium disk) (medium disk') (fault_of_store fault)) is_old
-          (fault_fails medium running replayed flag disk disk' fit is after_store leaves few fault
+          (fault_fails medium running replayed disk disk' fit is after_store leaves few fault
           fails))

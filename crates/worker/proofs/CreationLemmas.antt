@@ -37,9 +37,8 @@ use Rattle.restart_theorem.specs.Courses.{at_first}
 use Rattle.restart_theorem.specs.Promises.{Promise, after}
 use Rattle.restart_theorem.specs.Holds.{IsNothingYet, DiskImageHolds, IsBounded, StaysWithin}
 use Rattle.restart_theorem.proofs.Disks.{blank_is_within, stands_within}
-use Rattle.worker_store.specs.laws.Savepoints.{Savepoint, places}
-use Rattle.worker_store.specs.laws.Commits.{BeginsAtPoint}
-use Rattle.worker_store.specs.laws.Carried.{IsHeldAt}
+use Rattle.worker_store.specs.rules.Savepoints.{Savepoint, places, BeginsAtPoint}
+use Rattle.worker_store.specs.rules.Carried.{IsHeldAt}
 use Rattle.worker_store.specs.laws.CallEnds.{IsSavedAs}
 use Rattle.worker_store.specs.laws.AtHand.{IsFirstOf}
 use Rattle.worker_store.specs.laws.Anew.{OpensAtFirst}
@@ -305,7 +304,7 @@ module _ {D : Type 0} (medium : D → Medium) (bytes : List ℕ) (config : Setti
           started = begun.started;
           generation = is_stored.journaled.generation ∙ of_first.generation;
           none_replayed = refl;
-          unfailed = refl;
+          unfailed = is_stored.works;
           abreast = refl;
           geometry = is_stored.geometry
               ∙ ap (λ (wasm : List ℕ). geometry_of config (length wasm)) of_first.wasm;
@@ -389,7 +388,7 @@ module _ {D : Type 0} (medium : D → Medium) (bytes : List ℕ) (config : Setti
           kept = (life.0, tt);
           anew = (refl, counted ∙ no_steps);
           opened = record {
-            works = refl;
+            works = is_stored.works;
             opened = refl;
             shows = shows;
             module_is = begun.started.guest;

@@ -21,7 +21,8 @@ use Rattle.restart_theorem.specs.Lives.End.{Failed as failed}
 use Rattle.restart_theorem.specs.Courses.{HasDiskFault, HasStopped, HasNotStopped}
 use Rattle.restart_theorem.specs.Between.{NextFinds, IsFoundAfterCut}
 use Rattle.worker.specs.declared.recover_fault.RecoverFault.{RecoverFault}
-use Rattle.worker.specs.laws.OneLife.{EndsBy, IsCauseOf, IsLater, undone_acts}
+use Rattle.worker.specs.rules.OneLife.{IsCauseOf, undone_acts}
+use Rattle.worker.specs.laws.OneLife.{EndsBy, IsLater}
 use Rattle.worker.specs.declared.story.report.LifeEnd.{LifeEnd}
 use Rattle.worker.specs.declared.story.report.LifeEnd.TheVariants.{Finished, Stopped}
 use Rattle.worker.specs.declared.story.report.LifeEnd.TheVariants.{Failed}

@@ -1,22 +1,14 @@
--- What is found on a disk, step by step.
-use Rattle.std.proofs.Common.{◌≡◌, ℕ, ◌+◌, ◌≤◌, List, refl, sym, subst, arith}
-use Rattle.std.specs.Prelude.{Result, Ok, Err, IfErr, Vec}
-use Rattle.std.specs.declared.alloc.Global.{Global}
-use Rattle.wasm_syntax.specs.declared.module.Module.{Module}
-use Rattle.wasi_abi.specs.rules.Configs.{Settings}
-use Rattle.process_rules.specs.Processes.{ProcessState}
-use Rattle.process.specs.rules.Values.{ProcessValue, IsProcess}
+-- What a search of a disk does, and what its errors say.
+use Rattle.std.proofs.Common.{ℕ, ◌+◌, ◌≤◌, arith}
+use Rattle.std.specs.Prelude.{Result, Ok, Err, IfErr}
+use Rattle.process.specs.rules.Values.{IsProcess}
 use Rattle.sector_disk.specs.rules.DiskImage.{DiskImage}
 use Rattle.sector_disk.specs.rules.Medium.{Medium, CallsUpTo}
 use Rattle.disk_layout.specs.declared.fault.LayoutFault.TheVariants as layout
-use Rattle.disk_layout.specs.declared.geometry.Geometry.{Geometry}
 use Rattle.disk_layout.specs.declared.reading.contents.Contents.{Contents}
-use Rattle.disk_layout.specs.rules.Journal.{Record}
+use Rattle.disk_layout.specs.rules.Places.{total_sectors}
 use Rattle.disk_layout.specs.rules.Stored.{OnlyReads}
 use Rattle.disk_layout.proofs.ReadLemmas.{no_reads, reads_then}
-use Rattle.restart_theorem.specs.Stands.{IsNumbered}
-use Rattle.restart_theorem.proofs.NumbersKept.{records_keep_numbers}
-use Rattle.worker_store.specs.laws.Savepoints.{Savepoint, places, IsAtSavepoint}
 use Rattle.worker_store.specs.declared.read_fault.ReadFault.{ReadFault}
 use Rattle.worker_store.specs.declared.read_fault.ReadFault.TheVariants as read
 use Rattle.worker_store.specs.rules.ReadFaults.{HasReadCause}
@@ -25,14 +17,12 @@ use Rattle.worker.specs.declared.found.Found.{Found}
 use Rattle.worker.specs.declared.recover_fault.RecoverFault.{RecoverFault}
 use Rattle.worker.specs.declared.fault.WorkFault.TheVariants as work
 use Rattle.worker.specs.declared.recover_fault.RecoverFault.TheVariants as recover
-use Rattle.machine_loader.specs.declared.fault.ModuleFault.{ModuleFault}
-use Rattle.state_image.specs.declared.restoring.fault.RestoreFault.{RestoreFault}
 use Rattle.snapshot.specs.declared.fault.SnapshotFault.TheVariants as snapshot
 use Rattle.journal.specs.declared.fault.JournalFault.TheVariants as journal
 use Rattle.worker.specs.rules.RecoverFaults.{fault_of_read}
 use Rattle.worker.specs.rules.Recoveries.{SaysNothing, SaysNoWorker, SaysNoWorkerOr}
 use Rattle.worker.specs.rules.Recoveries.{MarksDecide}
-use Rattle.worker.specs.Findings.{IsFoundAt, IsRestoredAt, HasSearchCause, Searches}
+use Rattle.worker.specs.Findings.{HasSearchCause, Searches}
 
 -- errors of what is read, and of a recovery
 abbrev pub unread : (T : Type 0) → ReadFault → Result T ReadFault
@@ -67,11 +57,6 @@ unread_says T P (read.Snapshot snapshot.Memory) gives = tt
 unread_says T P (read.Journal journal.Memory) gives = tt
 unread_says T P other gives = absurd gives
 
--- no matter by which name
-pub unread_as : (T : Type 0) (P : T → Type 0) (fault : ReadFault) (e : RecoverFault)
-    → e ≡ fault_of_read fault → GivesOr P (unread T fault) → SaysNothing e
-unread_as T P fault e is gives = subst SaysNothing (sym is) (unread_says T P fault gives)
-
 -- ---- when an error comes
 
 read_cause : (old new : Medium) (fault : ReadFault) → HasReadCause old new fault
@@ -81,23 +66,6 @@ read_cause old new (read.Layout fault) cause = cause
 read_cause old new (read.Snapshot fault) cause = cause
 read_cause old new (read.Journal fault) cause = cause
 
--- it isn't read
-pub unread_cause : (old new : Medium) (fault : ReadFault) (e : RecoverFault)
-    → e ≡ fault_of_read fault → HasReadCause old new fault → HasSearchCause old new e
-unread_cause old new fault e is cause =
-    subst (λ (f : RecoverFault). HasSearchCause old new f) (sym is) (read_cause old new fault cause)
-
--- the module isn't accepted, or the image is that of no process
-pub unaccepted_cause : (old new : Medium) (fault : ModuleFault) (e : RecoverFault)
-    → e ≡ recover.Module fault → HasSearchCause old new e
-unaccepted_cause old new fault e is =
-    subst (λ (f : RecoverFault). HasSearchCause old new f) (sym is) tt
-
-pub unmade_cause : (old new : Medium) (fault : RestoreFault) (e : RecoverFault)
-    → e ≡ recover.ProcessImage fault → HasSearchCause old new e
-unmade_cause old new fault e is =
-    subst (λ (f : RecoverFault). HasSearchCause old new f) (sym is) tt
-
 -- other things were read before
 cause_later : (old mid new : Medium) → old.faults ≤ mid.faults → (why : RecoverFault)
     → HasSearchCause mid new why → HasSearchCause old new why
@@ -105,7 +73,7 @@ cause_later old mid new earlier (recover.Worker (work.Disk fault)) cause =
     omega (arith, earlier, cause)
 cause_later old mid new earlier other cause = cause
 
-pub later_so : (old mid new : Medium) → OnlyReads old mid → (result : Result Found RecoverFault)
+later_so : (old mid new : Medium) → OnlyReads old mid → (result : Result Found RecoverFault)
     → IfErr result (HasSearchCause mid new) → IfErr result (HasSearchCause old new)
 later_so old mid new reads (Ok found) cause = tt
 later_so old mid new reads (Err why) cause =
@@ -113,27 +81,44 @@ later_so old mid new reads (Err why) cause =
     let earlier : old.faults ≤ mid.faults = passes.faults in
     cause_later old mid new earlier why cause
 
--- ---- what each step does, whatever it finds
+-- ---- what a search does, whatever it finds
 
--- it has read so much, and the next step goes on
+-- it has read so much, and goes on
 pub searches_on : (first second most : ℕ) (old mid new : Medium)
     (result : Result Found RecoverFault) → first + second ≤ most → OnlyReads old mid
     → CallsUpTo first old mid → Searches second result mid new → Searches most result old new
 searches_on first second most old mid new result few reads asked searches = record {
   reads = reads_then old mid new reads searches.reads;
   room = searches.room;
+  shows = searches.shows;
   cause = later_so old mid new reads result searches.cause;
   asks = let more = searches.asks in omega (arith, few, asked, more);
 }
 
+-- all was read
+pub searched : (most : ℕ) (old new : Medium) (found : Found)
+    → total_sectors found.geometry ≤ old.sectors → OnlyReads old new → CallsUpTo most old new
+    → IsProcess found.process → Searches most (Ok found) old new
+searched most old new found room reads asked shows =
+    let leaves = reads.leaves in
+    let same = leaves.passes.sectors in
+    record {
+      reads = reads;
+      room = omega (arith, room, same);
+      shows = shows;
+      cause = tt;
+      asks = asked;
+    }
+
 -- a reading fails
-pub searches_in_vain : (first most : ℕ) (old new : Medium) (fault : ReadFault) (e : RecoverFault)
-    → first ≤ most → OnlyReads old new → CallsUpTo first old new → e ≡ fault_of_read fault
-    → HasReadCause old new fault → Searches most (Err e) old new
-searches_in_vain first most old new fault e few reads asked is cause = record {
+pub searches_in_vain : (first most : ℕ) (old new : Medium) (fault : ReadFault) → first ≤ most
+    → OnlyReads old new → CallsUpTo first old new → HasReadCause old new fault
+    → Searches most (Err (fault_of_read fault)) old new
+searches_in_vain first most old new fault few reads asked cause = record {
   reads = reads;
   room = tt;
-  cause = unread_cause old new fault e is cause;
+  shows = tt;
+  cause = read_cause old new fault cause;
   asks = omega (arith, few, asked);
 }
 
@@ -143,44 +128,10 @@ pub searches_no_more : (most : ℕ) (m : Medium) (e : RecoverFault) → HasSearc
 searches_no_more most m e cause = record {
   reads = no_reads m;
   room = tt;
+  shows = tt;
   cause = cause;
   asks = omega arith;
 }
-
--- ---- what is found
-
--- all that was read
-module _ {m : Module} {settings : Settings} (point : Savepoint m settings) (geometry : Geometry)
-    (generation : ℕ) (process : ProcessValue) (placed : geometry ≡ places point)
-    (numbered : generation ≡ point.generation) (restored : IsRestoredAt point process) where
-  pub found_at : (bytes : List ℕ) (records : Vec Record Global) (are : List Record)
-      → records.items ≡ are → IsProcess process
-      → IsFoundAt point.wasm point are (record {
-        geometry = geometry;
-        generation = generation;
-        process_image = bytes;
-        process = process;
-        records = records;
-      })
-  found_at bytes records are is some = record {
-    spelled = refl;
-    geometry = placed;
-    generation = numbered;
-    records_are = is;
-    saved = restored.saved;
-    shows = restored.shows;
-    module_is = restored.module_is;
-    some = some;
-    none_waits = restored.none_waits;
-    texts = restored.texts;
-  }
-
--- the saved process has its numbers, since the last one has
-pub saved_numbers : {m : Module} {config : Settings} (point : Savepoint m config)
-    (records : List Record) (last : ProcessState) (disk : DiskImage)
-    → IsAtSavepoint point records last disk → IsNumbered point.process
-saved_numbers point records last disk at =
-    records_keep_numbers point.reached.guest point.process last records at.recorded at.numbers
 
 -- ---- marks
 
@@ -191,12 +142,9 @@ marks_there disk contents r tells own =
     record { only = λ says. absurd (own says); always = λ blank. absurd (tells.always blank) }
 
 -- they weren't
-pub marks_unread : (disk : DiskImage) (fault : ReadFault) (e : RecoverFault)
-    → e ≡ fault_of_read fault → TellsMarks disk (Err fault)
-    → MarksDecide disk (unfound Found e)
-marks_unread disk fault e is tells =
-    subst (λ (f : RecoverFault). MarksDecide disk (unfound Found f)) (sym is)
-    (record {
-      only = λ says. tells.only (says_denied Contents Found fault says);
-      always = λ blank. denied_says Contents Found fault (tells.always blank);
-    })
+pub marks_unread : (disk : DiskImage) (fault : ReadFault) → TellsMarks disk (Err fault)
+    → MarksDecide disk (unfound Found (fault_of_read fault))
+marks_unread disk fault tells = record {
+  only = λ says. tells.only (says_denied Contents Found fault says);
+  always = λ blank. denied_says Contents Found fault (tells.always blank);
+}

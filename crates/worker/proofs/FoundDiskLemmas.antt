@@ -1,10 +1,9 @@
--- What is found on any disk, step by step.
+-- What is found on any disk.
 use Rattle.std.proofs.Common.{◌≡◌, ◌≢◌, ◌∙◌, inl, inr, ℕ, List, refl, sym, subst}
 use Rattle.std.specs.Prelude.{Ok, Err, Vec}
 use Rattle.std.specs.declared.alloc.Global.{Global}
 use Rattle.wasm_syntax.specs.declared.module.Module.{Module}
 use Rattle.wasm_semantics.specs.Acceptance.{IsAccepted}
-use Rattle.wasi_abi.specs.rules.Configs.{Settings}
 use Rattle.machine.specs.rules.Offers.{offer}
 use Rattle.machine.specs.rules.Values.{MachineValue}
 use Rattle.machine_loader.specs.declared.fault.ModuleFault.{ModuleFault}
@@ -20,70 +19,61 @@ use Rattle.state_image.specs.rules.Saving.{saved_of}
 use Rattle.state_image.specs.rules.WellTyped.{IsWellTyped}
 use Rattle.sector_disk.specs.rules.DiskImage.{DiskImage}
 use Rattle.disk_layout.specs.declared.fault.LayoutFault.TheVariants as layout
-use Rattle.disk_layout.specs.declared.geometry.Geometry.{Geometry}
 use Rattle.disk_layout.specs.declared.reading.contents.Contents.{Contents}
 use Rattle.wasi_abi.specs.declared.version.Version.{Version}
 use Rattle.disk_layout.specs.rules.Held.{GivesContents}
 use Rattle.disk_layout.specs.rules.Journal.{Record, scan}
 use Rattle.journal.specs.declared.fault.JournalFault.TheVariants as journal
 use Rattle.snapshot.specs.declared.fault.SnapshotFault.TheVariants as snapshot
+use Rattle.worker_store.specs.declared.newest.NewestProcessImage.{NewestProcessImage}
 use Rattle.worker_store.specs.declared.read_fault.ReadFault.{ReadFault}
 use Rattle.worker_store.specs.declared.read_fault.ReadFault.TheVariants as read
 use Rattle.worker_store.specs.rules.AnyDisk.{TellsContents, TellsNewest, TellsRecords}
 use Rattle.worker_store.specs.rules.AnyDisk.{NamesProcessImage}
-use Rattle.worker.specs.declared.recover_fault.RecoverFault.{RecoverFault}
 use Rattle.worker.specs.declared.recover_fault.RecoverFault.TheVariants as recover
 use Rattle.worker.specs.rules.RecoverFaults.{fault_of_read}
 use Rattle.worker.specs.rules.ShownDisks.{HoldsModule, HoldsNamedProcessImage, ShowsFault}
-use Rattle.worker.specs.FoundDisks.{IsMachineIn, IsRestoredIn, IsFoundIn}
+use Rattle.worker.specs.FoundDisks.{IsRestoredIn, IsFoundIn}
 use Rattle.worker.proofs.RestoringLemmas.{unrestored}
 
 -- ---- configuration and module
 
+-- they weren't read
 module _ (sectors : ℕ) (disk : DiskImage) where
-  unread : (fault : ReadFault) → TellsContents sectors disk (Err fault)
+  pub contents_unread : (fault : ReadFault) → TellsContents sectors disk (Err fault)
       → ShowsFault sectors disk (fault_of_read fault)
-  unread (read.Layout layout.NotAWorker) tells = tells
-  unread (read.Layout layout.Version) tells = inl tells
-  unread (read.Layout layout.TooSmall) tells = tells
-  unread (read.Layout layout.Damaged) tells = inl tells
-  unread (read.Layout layout.Memory) tells = tells
-  unread (read.Layout (layout.Disk fault)) tells = absurd tells
-  unread (read.Disk fault) tells = tt
-  unread (read.Snapshot fault) tells = absurd tells
-  unread (read.Journal fault) tells = absurd tells
-
-  -- they weren't read
-  pub contents_unread : (fault : ReadFault) (e : RecoverFault) → e ≡ fault_of_read fault
-      → TellsContents sectors disk (Err fault) → ShowsFault sectors disk e
-  contents_unread fault e is tells =
-      subst (λ (f : RecoverFault). ShowsFault sectors disk f) (sym is) (unread fault tells)
+  contents_unread (read.Layout layout.NotAWorker) tells = tells
+  contents_unread (read.Layout layout.Version) tells = inl tells
+  contents_unread (read.Layout layout.TooSmall) tells = tells
+  contents_unread (read.Layout layout.Damaged) tells = inl tells
+  contents_unread (read.Layout layout.Memory) tells = tells
+  contents_unread (read.Layout (layout.Disk fault)) tells = absurd tells
+  contents_unread (read.Disk fault) tells = tt
+  contents_unread (read.Snapshot fault) tells = absurd tells
+  contents_unread (read.Journal fault) tells = absurd tells
 
 -- they were
 module _ (sectors : ℕ) (disk : DiskImage) (contents : Contents)
-    (whole : GivesContents sectors disk (Ok contents)) (pages : ℕ) (wasm : List ℕ) where
+    (whole : GivesContents sectors disk (Ok contents)) (pages : ℕ) (wasm : List ℕ)
+    (same_pages : pages ≡ contents.config.pages) (same_wasm : wasm ≡ contents.wasm) where
   -- the module isn't accepted
-  pub module_refused : pages ≡ contents.config.pages → wasm ≡ contents.wasm
-      → (fault : ModuleFault) (e : RecoverFault) → e ≡ recover.Module fault
-      → IsReported pages wasm fault → ModuleFaultDenies fault (HasNoAcceptedModule pages wasm)
-      → ShowsFault sectors disk e
-  module_refused same_pages same_wasm fault e is told denies =
-      subst (λ (f : RecoverFault). ShowsFault sectors disk f) (sym is)
-      (record {
-        contents = contents;
-        whole = whole;
-        told = subst (λ n. IsReported n contents.wasm fault) same_pages
-            (subst (λ (w : List ℕ). IsReported pages w fault) same_wasm told);
-        none = subst (λ n. ModuleFaultDenies fault (HasNoAcceptedModule n contents.wasm)) same_pages
-            (subst (λ (w : List ℕ). ModuleFaultDenies fault (HasNoAcceptedModule pages w)) same_wasm
-            denies);
-      })
+  pub module_refused : (fault : ModuleFault) → IsReported pages wasm fault
+      → ModuleFaultDenies fault (HasNoAcceptedModule pages wasm)
+      → ShowsFault sectors disk (recover.Module fault)
+  module_refused fault told denies = record {
+    contents = contents;
+    whole = whole;
+    told = subst (λ n. IsReported n contents.wasm fault) same_pages
+        (subst (λ (w : List ℕ). IsReported pages w fault) same_wasm told);
+    none = subst (λ n. ModuleFaultDenies fault (HasNoAcceptedModule n contents.wasm)) same_pages
+        (subst (λ (w : List ℕ). ModuleFaultDenies fault (HasNoAcceptedModule pages w)) same_wasm
+        denies);
+  }
 
   -- it is
-  module _ (same_pages : pages ≡ contents.config.pages) (same_wasm : wasm ≡ contents.wasm)
-      (machine : MachineValue) (accepts : Accepts pages wasm machine) where
-    abbrev pub module_held : HoldsModule sectors disk
-    module_held = record {
+  module _ (machine : MachineValue) (accepts : Accepts pages wasm machine) where
+    abbrev holds : HoldsModule sectors disk
+    holds = record {
       contents = contents;
       whole = whole;
       module_is = accepts.spelled;
@@ -92,135 +82,108 @@ module _ (sectors : ℕ) (disk : DiskImage) (contents : Contents)
           accepts.accepted);
     }
 
-    pub machine_held : IsMachineIn module_held contents.geometry contents.config machine
-    machine_held = record {
-      placed = refl;
-      configured = refl;
-      linked = let begun = accepts.begun in begun.guest;
-    }
+    linked : machine.guest ≡ accepts.spelled
+    linked = let begun = accepts.begun in begun.guest
 
--- ---- the newest head, and its image
+    -- the newest image wasn't read
+    pub newest_unread : (fault : ReadFault) → TellsNewest contents.geometry disk (Err fault)
+        → ShowsFault sectors disk (fault_of_read fault)
+    newest_unread (read.Layout layout.Version) tells = inr (holds, tells)
+    newest_unread (read.Layout layout.Damaged) tells =
+        inr (record { holds = holds; odds = tells })
+    newest_unread (read.Snapshot snapshot.Damaged) tells = record { holds = holds; none = tells }
+    newest_unread (read.Snapshot snapshot.Memory) tells = (holds, tells)
+    newest_unread (read.Disk fault) tells = tt
+    newest_unread other tells = absurd tells
 
-module _ (sectors : ℕ) (disk : DiskImage) (holds : HoldsModule sectors disk) (geometry : Geometry)
-    (placed : geometry ≡ holds.contents.geometry) where
-  no_newest : (fault : ReadFault)
-      → TellsNewest holds.contents.geometry disk (Err fault)
-      → ShowsFault sectors disk (fault_of_read fault)
-  no_newest (read.Layout layout.Version) tells = inr (holds, tells)
-  no_newest (read.Layout layout.Damaged) tells = inr (record { holds = holds; odds = tells })
-  no_newest (read.Snapshot snapshot.Damaged) tells = record { holds = holds; none = tells }
-  no_newest (read.Snapshot snapshot.Memory) tells = (holds, tells)
-  no_newest (read.Disk fault) tells = tt
-  no_newest other tells = absurd tells
-
-  pub newest_unread : (fault : ReadFault) (e : RecoverFault) → e ≡ fault_of_read fault
-      → TellsNewest geometry disk (Err fault) → ShowsFault sectors disk e
-  newest_unread fault e is tells =
-      subst (λ (f : RecoverFault). ShowsFault sectors disk f) (sym is)
-      (no_newest fault
-      (subst (λ (p : Geometry). TellsNewest p disk (Err fault)) placed tells))
-
-module _ (sectors : ℕ) (disk : DiskImage) (holds : HoldsModule sectors disk) (geometry : Geometry)
-    (config : Settings) (machine : MachineValue)
-    (is_machine : IsMachineIn holds geometry config machine) (generation : ℕ) (version : Version)
-    (bytes : List ℕ) (newest : NamesProcessImage geometry disk generation version bytes)
-    (marked : IsMarkedOtherwise version bytes → ⊥) (read : List ℕ) (same : read ≡ bytes) where
-  named : NamesProcessImage holds.contents.geometry disk generation version bytes
-  named = subst (λ (p : Geometry). NamesProcessImage p disk generation version bytes)
-      is_machine.placed newest
-
-  abbrev named_process_image : HoldsNamedProcessImage sectors disk
-  named_process_image = record {
-    holds = holds;
-    generation = generation;
-    version = version;
-    bytes = bytes;
-    newest = named;
-    marked = marked;
-  }
-
-  -- the process that was made of it is of its version
-  its_version : (v : ProcessValue) → bytes ≡ process_image (saved_of v)
-      → (saved_of v).version ≡ version
-  its_version v is =
-      marked_as version (saved_of v)
-      (λ other. marked (subst (λ (b : List ℕ). IsMarkedOtherwise version b) (sym is) other))
-
-  -- its process was made again
-  pub restored_in : (v : ProcessValue) → IsRestored machine.guest config read v
-      → IsRestoredIn holds geometry generation v
-  restored_in v restored = record {
-    placed = is_machine.placed;
-    bytes = bytes;
-    newest = subst (λ w. NamesProcessImage holds.contents.geometry disk generation w bytes)
-        (sym (its_version v (sym same ∙ restored.is))) named;
-    restored = subst (λ (z : Module). IsRestored z holds.contents.config bytes v)
-        is_machine.linked
-        (subst (λ (s : Settings). IsRestored machine.guest s bytes v) is_machine.configured
-        (subst (λ (b : List ℕ). IsRestored machine.guest config b v) same restored));
-  }
-
-  no_process : (fault : RestoreFault)
-      → (unrestored fault ≡ Err restore.NotAnImage → (s : Saved)
-      → IsWellTyped holds.module_is holds.contents.config s → bytes ≢ process_image s)
-      → ShowsFault sectors disk (recover.ProcessImage fault)
-  unfolding named_process_image
-  no_process restore.NotAnImage other = record { named = named_process_image; other = other refl }
-  no_process restore.Memory other = named_process_image
-
-  pub process_unmade : (fault : RestoreFault) (e : RecoverFault) → e ≡ recover.ProcessImage fault
-      → (unrestored fault ≡ Err restore.NotAnImage → (s : Saved)
-      → IsWellTyped machine.guest config s → read ≢ process_image s)
-      → ShowsFault sectors disk e
-  process_unmade fault e is refused =
-      subst (λ (f : RecoverFault). ShowsFault sectors disk f) (sym is)
-      (no_process fault
-      (λ no s typed. subst (λ (b : List ℕ). b ≢ process_image s) same
-      (refused no s
-      (subst (λ (z : Module). IsWellTyped z config s) (sym is_machine.linked)
-      (subst (λ (c : Settings). IsWellTyped holds.module_is c s) (sym is_machine.configured)
-      typed)))))
-
--- ---- the records
-
-module _ (sectors : ℕ) (disk : DiskImage) (holds : HoldsModule sectors disk) (geometry : Geometry)
-    (generation : ℕ) (process : ProcessValue)
-    (restored : IsRestoredIn holds geometry generation process) where
-  abbrev version : Version
-  version = (saved_of process).version
-
-  no_records : (fault : ReadFault) → TellsRecords geometry version generation disk (Err fault)
-      → ShowsFault sectors disk (fault_of_read fault)
-  no_records (read.Journal journal.Memory) tells =
-      let again = restored.restored in
-      record {
+    -- it was
+    module _ (newest : NewestProcessImage) (tells : TellsNewest contents.geometry disk (Ok newest))
+        (bytes : List ℕ) (same : bytes ≡ newest.process_image) where
+      abbrev named : HoldsNamedProcessImage sectors disk
+      named = record {
         holds = holds;
-        generation = generation;
-        saved = saved_of process;
-        well_typed = again.well_typed;
-        newest = subst (λ (b : List ℕ). NamesProcessImage holds.contents.geometry disk generation
-            version b) again.is restored.newest;
+        generation = newest.generation;
+        version = newest.version;
+        bytes = newest.process_image;
+        newest = tells.0;
+        marked = tells.1;
       }
-  no_records (read.Disk fault) tells = tt
-  no_records other tells = absurd tells
 
-  pub records_unread : (fault : ReadFault) (e : RecoverFault) → e ≡ fault_of_read fault
-      → TellsRecords geometry version generation disk (Err fault) → ShowsFault sectors disk e
-  records_unread fault e is tells =
-      subst (λ (f : RecoverFault). ShowsFault sectors disk f) (sym is) (no_records fault tells)
+      no_process : (fault : RestoreFault)
+          → (unrestored fault ≡ Err restore.NotAnImage → (s : Saved)
+          → IsWellTyped accepts.spelled contents.config s → newest.process_image ≢ process_image s)
+          → ShowsFault sectors disk (recover.ProcessImage fault)
+      unfolding named
+      no_process restore.NotAnImage other = record { named = named; other = other refl }
+      no_process restore.Memory other = named
 
-  pub all_found : (bytes : List ℕ) (records : Vec Record Global)
-      → TellsRecords geometry version generation disk (Ok records)
-      → IsFoundIn sectors disk (record {
-        geometry = geometry;
-        generation = generation;
-        process_image = bytes;
-        process = process;
-        records = records;
-      })
-  all_found bytes records tells = record {
-    holds = holds;
-    process = restored;
-    scanned = sym (subst (λ (p : Geometry). records.items
-        ≡ scan p version disk generation) restored.placed tells);
-  }
+      -- its process wasn't made again
+      pub process_unmade : (fault : RestoreFault)
+          → (unrestored fault ≡ Err restore.NotAnImage → (s : Saved)
+          → IsWellTyped machine.guest contents.config s → bytes ≢ process_image s)
+          → ShowsFault sectors disk (recover.ProcessImage fault)
+      process_unmade fault refused =
+          no_process fault (λ no s typed. subst (λ (b : List ℕ). b ≢ process_image s) same
+          (refused no s
+          (subst (λ (z : Module). IsWellTyped z contents.config s) (sym linked) typed)))
+
+      -- it was
+      module _ (v : ProcessValue) (restored : IsRestored machine.guest contents.config bytes v)
+          (known : Version) (same_version : known ≡ (saved_of v).version) where
+        -- the process that was made of it is of its version
+        its_version : (saved_of v).version ≡ newest.version
+        its_version =
+            marked_as newest.version (saved_of v)
+            (λ other. tells.1 (subst (λ (b : List ℕ). IsMarkedOtherwise newest.version b)
+            (sym (sym same ∙ restored.is)) other))
+
+        restored_in : IsRestoredIn holds contents.geometry newest.generation v
+        restored_in = record {
+          placed = refl;
+          bytes = newest.process_image;
+          newest = subst (λ w. NamesProcessImage contents.geometry disk newest.generation w
+              newest.process_image) (sym its_version) tells.0;
+          restored = subst (λ (z : Module). IsRestored z contents.config newest.process_image v)
+              linked
+              (subst (λ (b : List ℕ). IsRestored machine.guest contents.config b v) same restored);
+        }
+
+        no_records : (fault : ReadFault)
+            → TellsRecords contents.geometry (saved_of v).version newest.generation disk (Err fault)
+            → ShowsFault sectors disk (fault_of_read fault)
+        no_records (read.Journal journal.Memory) tells =
+            let again = restored_in.restored in
+            record {
+              holds = holds;
+              generation = newest.generation;
+              saved = saved_of v;
+              well_typed = again.well_typed;
+              newest = subst (λ (b : List ℕ). NamesProcessImage contents.geometry disk
+                  newest.generation (saved_of v).version b) again.is restored_in.newest;
+            }
+        no_records (read.Disk fault) tells = tt
+        no_records other tells = absurd tells
+
+        pub records_unread : (fault : ReadFault)
+            → TellsRecords contents.geometry known newest.generation disk (Err fault)
+            → ShowsFault sectors disk (fault_of_read fault)
+        records_unread fault tells =
+            no_records fault (subst (λ w. TellsRecords contents.geometry w newest.generation disk
+            (Err fault)) same_version tells)
+
+        pub all_found : (records : Vec Record Global)
+            → TellsRecords contents.geometry known newest.generation disk (Ok records)
+            → IsFoundIn sectors disk (record {
+              geometry = contents.geometry;
+              generation = newest.generation;
+              process_image = newest.process_image;
+              process = v;
+              records = records;
+            })
+        all_found records tells = record {
+          holds = holds;
+          process = restored_in;
+          image = sym same ∙ restored.is;
+          scanned = sym (subst (λ w. records.items
+              ≡ scan contents.geometry w disk newest.generation) same_version tells);
+        }

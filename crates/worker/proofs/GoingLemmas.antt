@@ -34,9 +34,9 @@ use Rattle.restart_theorem.proofs.Disks.{blank_is_within}
 use Rattle.restart_theorem.proofs.NextLives.{found_is_as_long, next_life_finds_it}
 use Rattle.restart_theorem.proofs.NextLives.{next_life_is_within}
 use Rattle.worker.specs.declared.recover_fault.RecoverFault.{RecoverFault}
-use Rattle.worker.specs.laws.OneLife.{CameTrue, IsLifeOver, IsLifeOf, IsLater, opened_in}
-use Rattle.worker.specs.laws.OneLife.{shown_first, CallsMakeLives, released_in}
-use Rattle.worker.specs.laws.OneLife.{undone_acts}
+use Rattle.worker.specs.rules.OneLife.{opened_in, shown_first, undone_acts}
+use Rattle.worker.specs.laws.OneLife.{CameTrue, IsLifeOver, IsLifeOf, IsLater, CallsMakeLives}
+use Rattle.worker.specs.laws.OneLife.{released_in}
 use Rattle.worker.specs.declared.story.LivedOn.{LivedOn}
 use Rattle.worker.specs.declared.story.fault.StoryFault.{StoryFault}
 use Rattle.worker.specs.declared.story.hearing.HeardLines.{HeardLines}
@@ -48,7 +48,7 @@ use Rattle.worker.specs.declared.story.report.LifeEnd.{LifeEnd}
 use Rattle.worker.specs.declared.story.report.LifeReport.{LifeReport}
 use Rattle.worker.specs.rules.Planned.{inputs_of, act_of, said_of, takes_but}
 use Rattle.worker.specs.rules.Planned.{number_refused}
-use Rattle.worker_store.specs.laws.Pieces.{Foretell}
+use Rattle.worker_store.specs.rules.BetweenCalls.{Foretell}
 use Rattle.record_replay.specs.declared.refusing.RefusingOutlet.{RefusingOutlet}
 use Rattle.record_replay.specs.rules.Lists.{inner_outlet, until_fault}
 use Rattle.worker.specs.rules.CallCounts.{most_calls, CallsForEvents}

@@ -14,7 +14,7 @@ use Rattle.record_replay.specs.declared.refusing.RefusingOutlet.{RefusingOutlet}
 use Rattle.record_replay.specs.rules.Lists.{KeepsLine, inner_outlet, until_fault}
 use Rattle.restart_theorem.specs.Courses.{first_taken, without_first}
 use Rattle.restart_theorem.specs.Exchanges.{was_taken, release_of}
-use Rattle.worker_store.specs.laws.Pieces.{Foretell}
+use Rattle.worker_store.specs.rules.BetweenCalls.{Foretell}
 use Rattle.worker.specs.laws.OneLife.{released_in}
 use Rattle.worker.specs.declared.story.hearing.HeardLines.{HeardLines}
 use Rattle.worker.specs.rules.Planned.{said_of, takes_but}

@@ -1,6 +1,6 @@
 -- What a look into a disk tells, by what was found there.
 use Rattle.std.proofs.Common.{◌≡◌, inl, inr, ℕ, ◌*◌, ◌<◌, ◌≤◌, refl, sym, ap, subst, arith, ◌∙◌}
-use Rattle.std.specs.Prelude.{List, Option, Result, Ok, Err, IfErr}
+use Rattle.std.specs.Prelude.{List, length, Option, Result, Ok, Err, IfErr}
 use Rattle.wasi_abi.specs.declared.answer.Question.{Question}
 use Rattle.sector_disk.specs.declared.fault.DiskFault.{DiskFault}
 use Rattle.sector_disk.specs.rules.DiskImage.{DiskImage}
@@ -14,12 +14,8 @@ use Rattle.disk_layout.specs.declared.reading.contents.Contents.{Contents}
 use Rattle.disk_layout.specs.rules.Held.{GivesContents}
 use Rattle.disk_layout.specs.rules.Stored.{OnlyReads}
 use Rattle.disk_layout.proofs.ReadingLemmas.HeldLemmas.{one_answer}
-use Rattle.state_image.specs.rules.ProcessImage.{IsMarkedOtherwise, process_image}
-use Rattle.state_image.proofs.Marks.{own_mark}
-use Rattle.state_image.specs.rules.Saving.{saved_of}
 use Rattle.worker.specs.declared.fault.WorkFault.TheVariants.{Disk, Store, Upgrade, Work}
 use Rattle.worker.specs.declared.found.Found.{Found}
-use Rattle.worker.specs.declared.inspecting.Measures.{Measures}
 use Rattle.worker.specs.declared.inspection.Inspection.{Inspection}
 use Rattle.worker.specs.declared.recover_fault.RecoverFault.{RecoverFault}
 use Rattle.worker.specs.declared.recover_fault.RecoverFault.TheVariants as recover
@@ -29,7 +25,7 @@ use Rattle.worker.specs.rules.ShownDisks.{ShowsFault}
 use Rattle.worker.specs.rules.Questions.{TellsQuestion}
 use Rattle.worker.specs.Findings.{HasSearchCause}
 use Rattle.worker.specs.FoundDisks.{IsFoundIn}
-use Rattle.worker.specs.Inspecting.{AreMeasuresOf, MeasuresFound, TellsFound, inspection_of}
+use Rattle.worker.specs.Inspecting.{CountsLeft, TellsFound, inspection_of}
 use Rattle.worker.proofs.AnswerLemmas.{held_in}
 use Rattle.worker.proofs.RecoveryLemmas.Results.{sync_faulted}
 use Rattle.worker.proofs.RecoveryLemmas.There.{leaves_join}
@@ -48,62 +44,41 @@ module _ (sectors : ℕ) (disk : DiskImage) (contents : Contents) (found : Found
       same_ok : (a b : Contents) → (let x : Result Contents LayoutFault = Ok a in x) ≡ Ok b → a ≡ b
       same_ok a b e = cc
 
-  is_inspected : (question : Option Question) (measures : Measures)
-      → TellsQuestion found.process question → AreMeasuresOf disk found measures
-      → IsInspected (held_in sectors disk found at) (inspection_of contents found question measures)
-  is_inspected question measures tells are =
+  is_inspected : (question : Option Question) (left : ℕ) → TellsQuestion found.process question
+      → left ≡ sectors_left found.geometry disk found.generation
+      → IsInspected (held_in sectors disk found at) (inspection_of contents found question left)
+  is_inspected question left tells counts =
       let restored = at.process.restored in
       record {
         contents = same_contents;
         generation = refl;
-        process_image_bytes = are.process_image_bytes;
+        process_image_bytes = ap (λ (b : List ℕ). length b) at.image;
         module_is = restored.guest;
         saved = refl;
         none_waits = restored.none_waits;
         question = tells;
         records = refl;
-        journal_left = are.journal_left
+        journal_left = counts
             ∙ ap (λ (g : Geometry). sectors_left g disk found.generation) at.process.placed;
       }
 
-  -- what couldn't be measured says nothing else of the disk
-  unmeasured : (why : RecoverFault) → MeasuresFound disk found (Err why)
-      → ShowsFault sectors disk why
-  unmeasured why (inl is) =
-      let holds = at.holds in
-      let restored = at.process.restored in
-      subst (λ (e : RecoverFault). ShowsFault sectors disk e) (sym is)
-      (record {
-        holds = holds;
-        generation = found.generation;
-        version = (saved_of found.process).version;
-        bytes = at.process.bytes;
-        newest = at.process.newest;
-        marked = λ other.
-            own_mark (saved_of found.process)
-            (subst (λ (b : List ℕ). IsMarkedOtherwise (saved_of found.process).version b)
-            restored.is other);
-      })
-  unmeasured why (inr (fault, is)) =
-      subst (λ (e : RecoverFault). ShowsFault sectors disk e) (sym is) tt
-
-  pub found_is_told : (measured : Result Measures RecoverFault)
-      (result : Result Inspection RecoverFault) → MeasuresFound disk found measured
-      → TellsFound contents found measured result → InspectsDisk sectors disk result
-  found_is_told (Ok measures) result are (question, tells, is) =
+  pub found_is_told : (left : Result ℕ RecoverFault) (result : Result Inspection RecoverFault)
+      → CountsLeft found.geometry found.generation disk left
+      → TellsFound contents found left result → InspectsDisk sectors disk result
+  found_is_told (Ok left) result counts (question, tells, is) =
       subst (λ (r : Result Inspection RecoverFault). InspectsDisk sectors disk r) (sym is)
-      (held_in sectors disk found at, is_inspected question measures tells are)
-  found_is_told (Err why) result faults (question, tells, is) =
+      (held_in sectors disk found at, is_inspected question left tells counts)
+  found_is_told (Err why) result (fault, failed) (question, tells, is) =
       subst (λ (r : Result Inspection RecoverFault). InspectsDisk sectors disk r) (sym is)
-      (unmeasured why faults)
+      (subst (λ (e : RecoverFault). ShowsFault sectors disk e) (sym failed) tt)
 
--- an error of what was found is one of its measures
-pub measuring_cause : (P : RecoverFault → Type 0) (contents : Contents) (found : Found)
-    (measured : Result Measures RecoverFault) (result : Result Inspection RecoverFault)
-    → IfErr measured P → TellsFound contents found measured result → IfErr result P
-measuring_cause P contents found (Ok measures) result cause (question, tells, is) =
+-- an error of what was found is one of the count
+pub counting_cause : (P : RecoverFault → Type 0) (contents : Contents) (found : Found)
+    (left : Result ℕ RecoverFault) (result : Result Inspection RecoverFault)
+    → IfErr left P → TellsFound contents found left result → IfErr result P
+counting_cause P contents found (Ok left) result cause (question, tells, is) =
     subst (λ (r : Result Inspection RecoverFault). IfErr r P) (sym is) tt
-measuring_cause P contents found (Err why) result cause (question, tells, is) =
+counting_cause P contents found (Err why) result cause (question, tells, is) =
     subst (λ (r : Result Inspection RecoverFault). IfErr r P) (sym is) cause
 
 -- a cause since a later moment is one since an earlier one
@@ -121,11 +96,11 @@ cause_since old mid new (recover.ProcessImage fault) later cause = cause
 cause_since old mid new (recover.Journal fault) later cause = cause
 cause_since old mid new (recover.Replay fault) later cause = cause
 
-pub measured_since : (old mid new : Medium) (measured : Result Measures RecoverFault)
-    → old.faults ≤ mid.faults → IfErr measured (HasSearchCause mid new)
-    → IfErr measured (HasSearchCause old new)
-measured_since old mid new (Ok measures) later cause = tt
-measured_since old mid new (Err why) later cause = cause_since old mid new why later cause
+pub counted_since : (old mid new : Medium) (left : Result ℕ RecoverFault)
+    → old.faults ≤ mid.faults → IfErr left (HasSearchCause mid new)
+    → IfErr left (HasSearchCause old new)
+counted_since old mid new (Ok left) later cause = tt
+counted_since old mid new (Err why) later cause = cause_since old mid new why later cause
 
 -- ---- a sync, and then reads
 

@@ -1,19 +1,17 @@
 -- The migration theorem: the disk of a worker of version 1, while it is upgraded.
-use Rattle.std.proofs.Common.{◌≡◌, ◌⊎◌, ℕ, zero, suc, ◌+◌, List, [], ◌∷◌, ◌++◌, length, take, refl}
+use Rattle.std.proofs.Common.{◌≡◌, ◌⊎◌, ℕ, zero, suc, List, [], ◌∷◌, ◌++◌, take, refl}
 use Rattle.std.proofs.Common.{sym, ap, ◌∙◌, subst, inl, inr, ⊎_elim, false}
 use Rattle.std.specs.Prelude.{map}
 use Rattle.std.proofs.lemmas.List.{append-nil}
 use Rattle.wasm_syntax.specs.declared.module.Module.{Module}
-use Rattle.wasi_abi.specs.declared.version.Version.{Version}
 use Rattle.wasi_abi.specs.declared.version.Version.TheVariants.{One, Two}
 use Rattle.wasi_abi.specs.rules.Configs.{Settings}
 use Rattle.process_rules.specs.Processes.{ProcessState, Guest}
-use Rattle.process_rules.specs.Runs.{Kept, Given, Wider, widened, Runs, Reaches, version_after}
+use Rattle.process_rules.specs.Runs.{Kept, Given, Wider, widened, version_after}
 use Rattle.process_rules.specs.Runs.{none as no_step, widen}
 use Rattle.process_rules.proofs.ReachedStates.{reached_versions}
 use Rattle.process.specs.rules.Values.{ProcessValue, IsProcess}
 use Rattle.state_image.specs.rules.ProcessImage.{Saved}
-use Rattle.state_image.specs.rules.Saving.{saved_of}
 use Rattle.sector_disk.specs.rules.DiskImage.{DiskImage}
 use Rattle.sector_disk.specs.rules.Medium.{Medium, LeavesOnly}
 use Rattle.sector_disk.proofs.Moments.{leaves_weaker, leaves_only, started}
@@ -24,15 +22,14 @@ use Rattle.restart_theorem.specs.Stands.{StandsFor}
 use Rattle.restart_theorem.specs.Courses.{Stage}
 use Rattle.restart_theorem.specs.Promises.{Promise}
 use Rattle.restart_theorem.specs.Holds.{HoldsPromise, DiskImageHolds, IsUnopened}
-use Rattle.worker_store.specs.laws.Savepoints.{Savepoint, IsAtSavepoint}
-use Rattle.worker_store.specs.laws.Commits.{BeginsAtPoint}
+use Rattle.worker_store.specs.rules.Savepoints.{Savepoint, IsAtSavepoint, BeginsAtPoint}
 use Rattle.worker_store.specs.laws.Laws.{ProcessImagesFitAreas}
 use Rattle.worker_store.proofs.LawLemmas.Carrying.{barrier_carries}
 use Rattle.worker_store.proofs.LawLemmas.TurnLemmas.{same_no_more}
 use Rattle.worker_store.specs.declared.store.WorkerStore.{WorkerStore}
 use Rattle.worker_store.specs.rules.Calls.{LeavesFronts, StoresAll, LeavesOneOfTwo, StoresNext}
 use Rattle.worker.specs.rules.DurableValues.{DurableValue}
-use Rattle.worker.specs.rules.OpenWorkers.{IsOpenOn, IsOnDisk}
+use Rattle.worker.specs.rules.OpenWorkers.{IsOpenOn}
 use Rattle.worker.specs.rules.Upgrades.{StandsInOne, LeadsInOne, StandsInTwo, Migrates, EndsInTwo}
 use Rattle.worker.specs.rules.Upgrades.{upgraded}
 use Rattle.worker.specs.Upgrading.{BarsAndCommits}

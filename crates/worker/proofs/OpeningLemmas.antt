@@ -15,8 +15,8 @@ use Rattle.worker.specs.declared.recover_fault.RecoverFault.TheVariants as recov
 use Rattle.worker.specs.rules.DurableCreations.{CreationKeeps, IsNotCreatedOn}
 use Rattle.worker.specs.rules.DurableValues.{DurableValue}
 use Rattle.worker.specs.rules.Recoveries.{IsNoWorker, Recovers, RecoveryCarries}
-use Rattle.worker.specs.laws.OneLife.{BeginsLife, CallsInOrder, recovered, created}
-use Rattle.worker.specs.laws.OneLife.{opened, unopened, undone_acts}
+use Rattle.worker.specs.rules.OneLife.{BeginsLife, CallsInOrder, recovered, created, opened}
+use Rattle.worker.specs.rules.OneLife.{unopened, undone_acts}
 use Rattle.worker.specs.declared.story.living.LivedOnce.{LivedOnce}
 use Rattle.worker.specs.declared.story.opening.OpenedWorker.{OpenedWorker}
 use Rattle.worker.specs.declared.story.report.Opening.{Opening}

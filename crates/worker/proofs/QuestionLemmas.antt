@@ -1,17 +1,15 @@
 -- What the next step of a process wants.
-use Rattle.std.proofs.Common.{◌≡◌, ℕ, List, Option, Some, None, refl, sym, ap, subst, ◌∙◌}
-use Rattle.std.specs.Prelude.{Ok, Err, Result}
-use Rattle.wasi_abi.specs.declared.answer.Answer.{Answer}
+use Rattle.std.proofs.Common.{◌≡◌, ℕ, List, Option, Some, None, ap, subst}
+use Rattle.std.specs.Prelude.{Ok, Err}
 use Rattle.wasi_abi.specs.declared.answer.Question.{Question}
 use Rattle.wasi_abi.specs.declared.call.Call.{Call}
 use Rattle.wasi_calls_rules.specs.WasiStates.{WasiState}
-use Rattle.wasi_calls_rules.specs.Checks.{Bytes, Halt, Ruling, Refuses, Ends, Asks as Inquires}
+use Rattle.wasi_calls_rules.specs.Checks.{Bytes, Ruling, Refuses, Ends, Asks as Inquires}
 use Rattle.wasi_calls_rules.specs.CallRules.{call_rule}
 use Rattle.wasi_calls.specs.rules.Held.{HeldWasiState, ShowsWasiState}
 use Rattle.wasi_calls.specs.rules.Calls.{question_of}
 use Rattle.machine.specs.rules.Values.{MachineValue}
 use Rattle.process_rules.specs.Processes.{ProcessState, Guest}
-use Rattle.process_rules.specs.Runs.{Wants, next_of}
 use Rattle.process.specs.Parts.{ShowsParts, IsAtCall}
 use Rattle.process.proofs.Performing.{next_is}
 use Rattle.process.proofs.Waiting.{wants_no_answer}

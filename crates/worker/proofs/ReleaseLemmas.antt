@@ -65,26 +65,26 @@ module _ {O : Type 0} (takes : Taking O) (old new : ProcessValue) (o p : O)
 
 -- what holds of a worker holds of it after a release of nothing
 pub process_back : (P : DurableValue → Type 0) (process process' : ProcessValue)
-    (store : WorkerStore) (abreast : Bool) (replayed : ℕ) (failed : Bool) → process' ≡ process
+    (store : WorkerStore) (abreast : Bool) (replayed : ℕ) → process' ≡ process
     → P (record {
       process = process;
       store = store;
       is_abreast = abreast;
       replayed = replayed;
-      has_failed = failed;
+      has_failed = store.journal.has_failed;
     })
     → P (record {
       process = process';
       store = store;
       is_abreast = abreast;
       replayed = replayed;
-      has_failed = failed;
+      has_failed = store.journal.has_failed;
     })
-process_back P process process' store abreast replayed failed same holds =
+process_back P process process' store abreast replayed same holds =
     subst (λ (v : ProcessValue). P (record {
       process = v;
       store = store;
       is_abreast = abreast;
       replayed = replayed;
-      has_failed = failed;
+      has_failed = store.journal.has_failed;
     })) (sym same) holds

@@ -1,16 +1,16 @@
 -- The process of a savepoint, made again of the bytes of its module and of its image.
 use Rattle.std.proofs.Common.{◌≡◌, ◌≢◌, ℕ, ◌+◌, ◌<◌, ◌≤◌, ◌^◌, List, Bool, true, false, refl, sym}
-use Rattle.std.proofs.Common.{◌∙◌, subst, arith}
-use Rattle.std.specs.Prelude.{Result, Err}
-use Rattle.std.specs.List.{AllByRecursion}
+use Rattle.std.proofs.Common.{ap, ◌∙◌, subst, arith}
+use Rattle.std.specs.Prelude.{Result, Err, Vec}
+use Rattle.std.specs.declared.alloc.Global.{Global}
 use Rattle.wasm_syntax.specs.declared.module.Module.{Module}
 use Rattle.wasm_syntax.specs.rules.Modules.{IsModule}
 use Rattle.wasm_syntax.proofs.Grammar.Exact.{some_is}
 use Rattle.wasm_syntax.proofs.Grammar.Whole.{module_complete}
-use Rattle.wasi_abi.specs.rules.Answers.{AreBytes}
+use Rattle.wasi_abi.specs.declared.version.Version.{Version}
 use Rattle.wasi_abi.specs.rules.Configs.{Settings}
 use Rattle.wasi_calls_rules.specs.laws.Laws.{IsOfBytes}
-use Rattle.process_rules.specs.Processes.{host_of}
+use Rattle.process_rules.specs.Processes.{ProcessState, host_of}
 use Rattle.process_rules.proofs.Growing.{runs_count}
 use Rattle.machine.specs.rules.Values.{MachineValue}
 use Rattle.machine.specs.rules.Runs.{HasBegun}
@@ -18,21 +18,24 @@ use Rattle.machine_loader.specs.declared.fault.ModuleFault.{ModuleFault}
 use Rattle.machine_loader.specs.rules.Acceptance.{Accepts, ModuleFaultDenies, HasNoAcceptedModule}
 use Rattle.machine_loader.specs.rules.Acceptance.{is_want}
 use Rattle.machine_loader.proofs.Wants.{no_want}
-use Rattle.disk_layout.specs.declared.geometry.Geometry.{Geometry}
-use Rattle.process.specs.rules.Values.{ProcessValue}
+use Rattle.sector_disk.specs.rules.DiskImage.{DiskImage}
+use Rattle.disk_layout.specs.declared.reading.contents.Contents.{Contents}
+use Rattle.disk_layout.specs.rules.Journal.{Record}
+use Rattle.process.specs.rules.Values.{ProcessValue, ShowsProcess, IsProcess}
 use Rattle.state_image.specs.declared.restoring.fault.RestoreFault.{RestoreFault}
 use Rattle.state_image.specs.declared.restoring.fault.RestoreFault.TheVariants as restore
-use Rattle.state_image.specs.laws.Laws.{ReachedIsWellTyped, RestoredShowsReached}
+use Rattle.state_image.specs.laws.Laws.{RestoredShowsReached}
 use Rattle.state_image.specs.rules.ProcessImage.{Saved, process_image}
 use Rattle.state_image.specs.rules.Restored.{IsRestored}
+use Rattle.state_image.specs.rules.Saving.{saved_of}
 use Rattle.state_image.specs.rules.WellTyped.{IsWellTyped}
+use Rattle.state_image.proofs.ReachedWellTyped.{reached_is_well_typed}
 use Rattle.restart_theorem.specs.Stands.{IsNumbered}
-use Rattle.worker_store.specs.laws.Savepoints.{Savepoint}
-use Rattle.worker.specs.declared.recover_fault.RecoverFault.{RecoverFault}
+use Rattle.restart_theorem.proofs.NumbersKept.{records_keep_numbers}
+use Rattle.worker_store.specs.rules.Savepoints.{Savepoint, IsAtSavepoint}
 use Rattle.worker.specs.declared.recover_fault.RecoverFault.TheVariants as recover
 use Rattle.worker.specs.rules.Recoveries.{SaysNothing}
-use Rattle.worker.specs.Findings.{IsLinkedAt, IsRestoredAt}
-use Rattle.worker.proofs.TextLemmas.{texts_of}
+use Rattle.worker.specs.Findings.{IsContentOf, IsFoundAt}
 
 abbrev pub unrestored : RestoreFault → Result ProcessValue RestoreFault
 unrestored fault = Err fault
@@ -45,11 +48,17 @@ few_pages pages few = omega (arith, few)
 fewer_steps : (a b c : ℕ) → c ≡ a + b → c < 2 ^ 63 → b < 2 ^ 63
 fewer_steps a b c is small = omega (arith, is, small)
 
-module _ {m : Module} {config : Settings} (point : Savepoint m config)
-    (numbers : IsNumbered point.process) (texts : IsOfBytes (host_of config)) where
+module _ {m : Module} {config : Settings} {point : Savepoint m config} {records : List Record}
+    {last : ProcessState} {disk : DiskImage} (at : IsAtSavepoint point records last disk)
+    (texts : IsOfBytes (host_of config)) where
   few : config.pages ≤ 2 ^ 16
   few = let within = point.settings in let range = within.in_range in
       let pages = range.pages in few_pages config.pages pages.1
+
+  -- the saved process has its numbers, since the last one has
+  numbers : IsNumbered point.process
+  numbers = records_keep_numbers point.reached.guest point.process last records at.recorded
+      at.numbers
 
   small : point.steps < 2 ^ 63
   small = let reached = point.reached in
@@ -58,26 +67,20 @@ module _ {m : Module} {config : Settings} (point : Savepoint m config)
       numbers.steps
 
   -- its image is an accepted one
-  pub typed_point : ReachedIsWellTyped → IsWellTyped m config point.saved
-  typed_point law =
-      law point.wasm m config point.functions point.front point.steps point.process point.table
-      point.saved point.accepted few texts point.reached small numbers.lines point.function_types
-      point.shown
+  typed_point : IsWellTyped m config point.saved
+  typed_point =
+      reached_is_well_typed point.wasm m config point.functions point.front point.steps
+      point.process point.table point.saved point.accepted few texts point.reached small
+      numbers.lines point.function_types point.shown
 
   -- what is restored of it is its process
-  pub restored_point : RestoredShowsReached → (v : ProcessValue)
-      → IsRestored m config (process_image point.saved) v → IsRestoredAt point v
+  restored_point : RestoredShowsReached → (v : ProcessValue)
+      → IsRestored m config (process_image point.saved) v
+      → (saved_of v ≡ point.saved) × ShowsProcess v point.reached.guest point.process
   restored_point law v restored =
-      let shown = law point.wasm m config point.functions point.front point.steps point.process
-      point.table point.saved v point.accepted few texts point.reached small numbers.lines
-      point.function_types point.shown restored in
-      record {
-        saved = shown.0;
-        shows = shown.1;
-        module_is = restored.guest;
-        none_waits = restored.none_waits;
-        texts = texts;
-      }
+      law point.wasm m config point.functions point.front point.steps
+      point.process point.table point.saved v point.accepted few texts point.reached small
+      numbers.lines point.function_types point.shown restored
 
 -- ---- the module
 
@@ -95,77 +98,97 @@ begun_machine config pages wasm machine same accepts =
     subst (λ n. HasBegun n machine.guest machine) same
     (subst (λ (m : Module). HasBegun pages m machine) (sym begun.guest) begun)
 
-module _ {m : Module} {settings : Settings} (point : Savepoint m settings) (pages : ℕ)
-    (wasm : List ℕ) (same_wasm : wasm ≡ point.wasm) where
-  -- it is of the module of each savepoint with these bytes
-  pub same_module : (machine : MachineValue) → Accepts pages wasm machine → machine.guest ≡ m
-  same_module machine accepts =
-      let begun = accepts.begun in
-      let accepted = accepts.accepted in
-      let is_accepted = point.accepted in
-      begun.guest
-      ∙ one_module point.wasm accepts.spelled m
-      (subst (λ (w : List ℕ). IsModule w accepts.spelled) same_wasm accepted.spelled)
-      is_accepted.spelled
+-- ---- what was read where a savepoint is
+
+module _ {m : Module} {config : Settings} {point : Savepoint m config} {records : List Record}
+    {last : ProcessState} {disk : DiskImage} (at : IsAtSavepoint point records last disk)
+    (contents : Contents) (content : IsContentOf point contents) (pages : ℕ) (wasm : List ℕ)
+    (same_pages : pages ≡ contents.config.pages) (same_wasm : wasm ≡ contents.wasm) where
+  its_wasm : contents.wasm ≡ point.wasm
+  its_wasm = ap (λ (c : Contents). c.wasm) content
+
+  its_config : contents.config ≡ config
+  its_config = ap (λ (c : Contents). c.config) content
 
   -- a refused module is that of no savepoint
   refused_by : (fault : ModuleFault) → ModuleFaultDenies fault (HasNoAcceptedModule pages wasm)
-      → pages ≡ settings.pages → (want : Bool) → is_want fault ≡ want
-      → SaysNothing (recover.Module fault)
-  refused_by fault denies same_pages true is = is
-  refused_by fault denies same_pages false is =
-      absurd (subst (λ n. HasNoAcceptedModule n point.wasm) same_pages
-      (subst (λ (w : List ℕ). HasNoAcceptedModule pages w) same_wasm
+      → (want : Bool) → is_want fault ≡ want → SaysNothing (recover.Module fault)
+  refused_by fault denies true is = is
+  refused_by fault denies false is =
+      absurd (subst (λ n. HasNoAcceptedModule n point.wasm)
+      (same_pages ∙ ap (λ (s : Settings). s.pages) its_config)
+      (subst (λ (w : List ℕ). HasNoAcceptedModule pages w) (same_wasm ∙ its_wasm)
       (no_want fault (HasNoAcceptedModule pages wasm) is denies)) m point.accepted)
 
-  pub unaccepted : (fault : ModuleFault) (e : RecoverFault) → pages ≡ settings.pages
-      → e ≡ recover.Module fault → ModuleFaultDenies fault (HasNoAcceptedModule pages wasm)
-      → SaysNothing e
-  unaccepted fault e same_pages is denies =
-      subst SaysNothing (sym is) (refused_by fault denies same_pages (is_want fault) refl)
+  pub unaccepted : (fault : ModuleFault) → ModuleFaultDenies fault (HasNoAcceptedModule pages wasm)
+      → SaysNothing (recover.Module fault)
+  unaccepted fault denies = refused_by fault denies (is_want fault) refl
 
--- ---- the image
+  module _ (machine : MachineValue) (accepts : Accepts pages wasm machine)
+      (texts : IsOfBytes (host_of contents.config)) (bytes : List ℕ)
+      (same_bytes : bytes ≡ process_image point.saved) where
+    -- the machine is of the savepoint's module
+    linked : machine.guest ≡ m
+    linked =
+        let begun = accepts.begun in
+        let accepted = accepts.accepted in
+        let is_accepted = point.accepted in
+        begun.guest
+        ∙ one_module point.wasm accepts.spelled m
+        (subst (λ (w : List ℕ). IsModule w accepts.spelled) (same_wasm ∙ its_wasm)
+        accepted.spelled)
+        is_accepted.spelled
 
-module _ {m : Module} {settings : Settings} (point : Savepoint m settings)
-    (numbers : IsNumbered point.process) (geometry : Geometry) (config : Settings)
-    (machine : MachineValue) (linked : IsLinkedAt point geometry config machine)
-    (arguments : AllByRecursion AreBytes config.arguments)
-    (environment : AllByRecursion AreBytes config.environment) (bytes : List ℕ)
-    (same_bytes : bytes ≡ process_image point.saved) where
-  texts_at : IsOfBytes (host_of settings)
-  texts_at = subst (λ (s : Settings). IsOfBytes (host_of s)) linked.configured
-      (texts_of config arguments environment)
+    its_texts : IsOfBytes (host_of config)
+    its_texts = subst (λ (s : Settings). IsOfBytes (host_of s)) its_config texts
 
-  pub restored_at : RestoredShowsReached → (v : ProcessValue)
-      → IsRestored machine.guest config bytes v → IsRestoredAt point v
-  restored_at law v restored =
-      let one = subst (λ (b : List ℕ). IsRestored machine.guest config b v) same_bytes restored in
-      let two = subst (λ (s : Settings). IsRestored machine.guest s (process_image point.saved) v)
-      linked.configured one in
-      restored_point point numbers texts_at law v
-      (subst (λ (z : Module). IsRestored z settings (process_image point.saved) v)
-      linked.linked two)
+    -- no other image is that of a savepoint
+    pub unmade : (fault : RestoreFault)
+        → (unrestored fault ≡ Err restore.NotAnImage → (s : Saved)
+        → IsWellTyped machine.guest contents.config s → bytes ≢ process_image s)
+        → SaysNothing (recover.ProcessImage fault)
+    unmade restore.Memory refused = tt
+    unmade restore.NotAnImage refused =
+        absurd (refused refl point.saved
+        (subst (λ (s : Settings). IsWellTyped machine.guest s point.saved) (sym its_config)
+        (subst (λ (z : Module). IsWellTyped z config point.saved) (sym linked)
+        (typed_point at its_texts))) same_bytes)
 
-  -- no other image is that of a savepoint
-  refused_at : ReachedIsWellTyped
-      → ((s : Saved) → IsWellTyped machine.guest config s → bytes ≢ process_image s) → ⊥
-  refused_at law refused =
-      let one = subst (λ (z : Module). IsWellTyped z settings point.saved) (sym linked.linked)
-      (typed_point point numbers texts_at law) in
-      refused point.saved
-      (subst (λ (s : Settings). IsWellTyped machine.guest s point.saved) (sym linked.configured)
-      one) same_bytes
+    -- its process was made again
+    module _ (law : RestoredShowsReached) (v : ProcessValue)
+        (restored : IsRestored machine.guest contents.config bytes v) where
+      again : (saved_of v ≡ point.saved) × ShowsProcess v point.reached.guest point.process
+      again =
+          let one = subst (λ (b : List ℕ). IsRestored machine.guest contents.config b v)
+          same_bytes restored in
+          let two = subst (λ (s : Settings). IsRestored machine.guest s
+          (process_image point.saved) v) its_config one in
+          restored_point at its_texts law v
+          (subst (λ (z : Module). IsRestored z config (process_image point.saved) v) linked two)
 
-  failed_at : ReachedIsWellTyped → (fault : RestoreFault)
-      → (unrestored fault ≡ Err restore.NotAnImage → (s : Saved)
-      → IsWellTyped machine.guest config s → bytes ≢ process_image s)
-      → SaysNothing (recover.ProcessImage fault)
-  failed_at law restore.NotAnImage refused = absurd (refused_at law (refused refl))
-  failed_at law restore.Memory refused = tt
+      pub its_version : (known : Version) → known ≡ (saved_of v).version
+          → known ≡ point.saved.version
+      its_version known same = same ∙ ap (λ (s : Saved). s.version) again.0
 
-  pub unrestored_at : ReachedIsWellTyped → (fault : RestoreFault) (e : RecoverFault)
-      → e ≡ recover.ProcessImage fault
-      → (unrestored fault ≡ Err restore.NotAnImage → (s : Saved)
-      → IsWellTyped machine.guest config s → bytes ≢ process_image s)
-      → SaysNothing e
-  unrestored_at law fault e is refused = subst SaysNothing (sym is) (failed_at law fault refused)
+      -- and its records were read
+      pub found_at : (generation : ℕ) → generation ≡ point.generation → (image : List ℕ)
+          (read : Vec Record Global) → read.items ≡ records → IsProcess v
+          → IsFoundAt contents.wasm point records (record {
+            geometry = contents.geometry;
+            generation = generation;
+            process_image = image;
+            process = v;
+            records = read;
+          })
+      found_at generation numbered image read are some = record {
+        spelled = sym its_wasm;
+        geometry = ap (λ (c : Contents). c.geometry) content;
+        generation = numbered;
+        records_are = are;
+        saved = again.0;
+        shows = again.1;
+        module_is = restored.guest ∙ linked;
+        some = some;
+        none_waits = restored.none_waits;
+        texts = its_texts;
+      }

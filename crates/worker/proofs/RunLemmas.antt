@@ -26,7 +26,7 @@ use Rattle.worker.specs.declared.story.report.LifeReport.{LifeReport}
 use Rattle.worker.specs.declared.story.report.Opening.{Opening}
 use Rattle.worker.specs.declared.story.report.Opening.TheVariants.{Created, Recovered}
 use Rattle.worker.specs.declared.story.report.Opening.TheVariants.{Unopened}
-use Rattle.worker.specs.laws.OneLife.{shown_first}
+use Rattle.worker.specs.rules.OneLife.{shown_first}
 use Rattle.worker.specs.rules.DurableValues.{DurableValue}
 use Rattle.worker.specs.rules.Planned.{act_of, number_refused}
 use Rattle.worker.specs.rules.Recoveries.{Recovers}

@@ -30,11 +30,10 @@ use Rattle.restart_theorem.specs.Courses.{Stage, Open, MayFail, next_stage}
 use Rattle.restart_theorem.specs.Promises.{Promise, after, MayPlead}
 use Rattle.restart_theorem.specs.Holds.{StaysWithin}
 use Rattle.restart_theorem.specs.Exchanges.{none as no_exchange}
-use Rattle.worker_store.specs.laws.Savepoints.{Savepoint}
+use Rattle.worker_store.specs.rules.Savepoints.{Savepoint}
 use Rattle.worker_store.specs.laws.Acts.{SavesWith, ShowsItsVersion, MayBeKept, keeping_more}
 use Rattle.worker_store.specs.laws.CallEnds.{IsSavedAs, HasBound, ComesAtOnce, IsSavingNext}
-use Rattle.worker_store.specs.laws.Carried.{count_at, IsHeldAt}
-use Rattle.worker_store.specs.laws.Raised.{SyncsAreHeld}
+use Rattle.worker_store.specs.rules.Carried.{count_at, IsHeldAt, SyncsAreHeld}
 use Rattle.worker_store.specs.laws.AtHand.{IsNextOf}
 use Rattle.worker_store.specs.laws.Saves.{IsSavingAt, IsSavedBy}
 use Rattle.worker_store.proofs.LawLemmas.Acts.{saving_ends_alike, acts_may_fail}

@@ -20,9 +20,7 @@ use Rattle.journal.specs.rules.Packed.{sectors_for}
 use Rattle.journal.specs.rules.Steps.{barrier_calls}
 use Rattle.snapshot.specs.rules.Calls.{with_head}
 use Rattle.snapshot.proofs.StoreCalls.{some_none}
-use Rattle.worker_store.specs.laws.Barriers.{IsAtFront}
-use Rattle.worker_store.specs.laws.Savepoints.{Savepoint}
-use Rattle.worker_store.specs.laws.Saves.{IsAtFrontOrNext}
+use Rattle.worker_store.specs.rules.Savepoints.{IsAtFront, Savepoint, IsAtFrontOrNext}
 use Rattle.worker_store.proofs.LawLemmas.Saving.{save_at_any_moment}
 use Rattle.worker_store.specs.declared.fault.StoreFault.{StoreFault}
 use Rattle.worker_store.specs.declared.fault.StoreFault.TheVariants as store
@@ -124,8 +122,7 @@ module _ (m : Module) (config : Settings) (point : Savepoint m config) (before :
       let synced = is.all_synced.unsynced in inl (omega (arith, few, synced))
   barrier_fault (store.Disk fault) (inr failed) = inr (inr (inr failed))
   barrier_fault store.Memory fails = absurd fails
-  barrier_fault store.Failed (inl failed) = let works = is.works in absurd (cc)
-  barrier_fault store.Failed (inr failed) = let works = is.journal_works in absurd (cc)
+  barrier_fault store.Failed failed = let works = is.works in absurd (cc)
 
   module _ (between : WorkerStore) (new : Medium) (stays : IsOfStore before between)
       (passes : Passes old mid (λ image. Unit {0}))

@@ -1,7 +1,7 @@
 -- What the parts of a slice do to a store and its disk, one after another.
 use Rattle.std.proofs.Common.{◌≡◌, ◌⊎◌, ℕ, zero, suc, ◌+◌, ◌-◌, ◌<◌, ◌≤◌, List, [], ◌++◌, length}
 use Rattle.std.proofs.Common.{drop, refl, sym, ap, ◌∙◌, subst, inl, inr, ⊎_elim, arith}
-use Rattle.std.proofs.Common.{append_assoc}
+use Rattle.std.proofs.Common.{append_assoc, Bool, true, false}
 use Rattle.std.proofs.lemmas.Bool.{cases_lt}
 use Rattle.std.proofs.lemmas.List.{append-nil}
 use Rattle.std.specs.Prelude.{◌*◌, Result, Ok, Err, IfErr}
@@ -26,12 +26,15 @@ use Rattle.worker_store.specs.declared.store.WorkerStore.{WorkerStore}
 use Rattle.worker_store.specs.rules.Calls.{AppendFails, BarrierFails, CommitFails, CommitCalls}
 use Rattle.worker_store.specs.rules.Effects.{StoresPending, CommitsProcess}
 use Rattle.worker_store.specs.rules.Stores.{IsOfStore, begun_store, with_record}
-use Rattle.worker_store.specs.rules.Stores.{with_stored}
+use Rattle.worker_store.specs.rules.Stores.{with_stored, failed_store}
+use Rattle.ephemeral_worker.specs.declared.now.Now.{Now}
 use Rattle.ephemeral_worker.specs.declared.fault.SliceFault.TheVariants as slice
 use Rattle.ephemeral_worker.specs.rules.Refusals.{slice_fault}
 use Rattle.worker.specs.declared.fault.WorkFault.{WorkFault}
 use Rattle.worker.specs.declared.fault.WorkFault.TheVariants.{Work, Disk, Store, Upgrade}
-use Rattle.worker.specs.rules.DurableFailures.{LacksRoom}
+use Rattle.worker.specs.declared.running_worker.RunningWorker.{RunningWorker}
+use Rattle.worker.specs.rules.DurableFailures.{HasSliceCause, LacksRoom}
+use Rattle.worker.specs.rules.DurableValues.{DurableValue, durable_of}
 use Rattle.worker.specs.rules.WorkFaults.{fault_of_store}
 use Rattle.worker.specs.rules.Savings.{HasSaveCause}
 use Rattle.worker.specs.rules.SliceCalls.{AreSliceCalls, AreLastCalls, AreBarrierCalls}
@@ -73,6 +76,11 @@ goes_none store disk = record {
   calls = refl;
 }
 
+-- where the second works if the first does, and has failed, the first has
+failed_with : (a b : Bool) → (a ≡ false → b ≡ false) → b ≡ true → a ≡ true
+failed_with true b works failed = refl
+failed_with false b works failed = let no = works refl in absurd (cc)
+
 -- where the disk lacks room now, it did before
 lacked : (places : Geometry) (old new : Medium) → Passes old new (λ image. Unit {0})
     → new.unsynced ≤ old.unsynced → LacksRoom places new → LacksRoom places old
@@ -95,7 +103,8 @@ module _ (a b : WorkerStore) (d e : Medium) (one : StoreGoes a b d e) where
         (subst (λ (g : Geometry). LacksRoom g e) one.geometry lacks))
     caused_since (Disk fault) (inr failed) =
         let faults = one.passes.faults in inr (omega (arith, failed, faults))
-    caused_since (Work slice.Failed) failed = λ is. failed (one.works is)
+    caused_since (Work slice.Failed) failed =
+        failed_with a.journal.has_failed b.journal.has_failed one.works failed
     caused_since (Work slice.Source) cause = tt
     caused_since (Work slice.Outlet) cause = tt
     caused_since (Work slice.Memory) cause = tt
@@ -265,10 +274,7 @@ module _ (old new : WorkerStore) (disk disk' : Medium) (stays : IsOfStore old ne
     passes = passes;
     unsynced = fewer;
     counts = counts;
-    works = λ unfailed. record {
-      works = ap (λ (s : WorkerStore). s.has_failed) is ∙ unfailed.works;
-      journal_works = ap (λ (s : WorkerStore). s.journal.has_failed) is;
-    };
+    works = λ worked. ap (λ (s : WorkerStore). s.journal.has_failed) is;
     made = barrier_calls old.geometry old.journal ++ [];
     are = barrier new.journal.generation [] (barrier_calls old.geometry old.journal)
         (led old new stays) (are_barrier old.geometry old.journal within);
@@ -287,10 +293,7 @@ module _ (old new : WorkerStore) (disk disk' : Medium) (stays : IsOfStore old ne
   barrier_cause (store.Disk fault) (inl few) (inr (inr failed, same)) = absurd (cc)
   barrier_cause (store.Disk fault) (inr failed) place = inr failed
   barrier_cause store.Memory fails place = absurd fails
-  barrier_cause store.Failed (inl failed) place =
-      λ is. (let works = is.works in absurd (cc))
-  barrier_cause store.Failed (inr failed) place =
-      λ is. (let works = is.journal_works in absurd (cc))
+  barrier_cause store.Failed failed place = failed
 
   barrier_stops : (fault : StoreFault) → BarrierFails old disk disk' fault
       → HasPlace old fault disk disk'
@@ -362,10 +365,7 @@ module _ (old new : WorkerStore) (process : ProcessValue) (disk disk' : Medium)
         passes = passes;
         unsynced = (let synced = all_synced.unsynced in omega (arith, synced));
         counts = commit_counts old.geometry disk disk' counts;
-        works = λ unfailed. record {
-          works = ap (λ (s : WorkerStore). s.has_failed) is;
-          journal_works = ap (λ (s : WorkerStore). s.journal.has_failed) is;
-        };
+        works = λ worked. ap (λ (s : WorkerStore). s.journal.has_failed) is;
         made = with_head (g + 1) calls.0 ++ [];
         are = subst (λ n. AreSliceCalls old.geometry g n (with_head (g + 1) calls.0 ++ []))
             (sym numbered)
@@ -384,17 +384,17 @@ module _ (old new : WorkerStore) (process : ProcessValue) (disk disk' : Medium)
   commit_cause (store.Disk fault) (inr (inl no_room)) = inl (inr (inr no_room))
   commit_cause (store.Disk fault) (inr (inr failed)) = inr failed
   commit_cause store.Memory fails = absurd fails
-  commit_cause store.Failed failed = λ is. (let works = is.works in absurd (cc))
+  commit_cause store.Failed failed = failed
 
   commit_stops : (fault : StoreFault) → new.geometry ≡ old.geometry
-      → new.journal ≡ old.journal → CommitFails old process disk disk' fault
+      → new ≡ failed_store old → CommitFails old process disk disk' fault
       → CommitCalls {T = Unit {0}} old.geometry (old.journal.generation + 1) process (Err fault)
       disk disk' → StoreStops old new (fault_of_store fault) disk disk'
   commit_stops fault same unchanged fails calls =
       let g : ℕ = old.journal.generation in
       let begun = calls.2.begun in
       let numbered : new.journal.generation ≡ g =
-      ap (λ (j : JournalState). j.generation) unchanged in
+      ap (λ (s : WorkerStore). s.journal.generation) unchanged in
       record {
         geometry = same;
         passes = passes;
@@ -441,10 +441,7 @@ barrier_save_cause old process disk disk' (store.Layout fault) fails = absurd fa
 barrier_save_cause old process disk disk' (store.Disk fault) (inl few) = inl few
 barrier_save_cause old process disk disk' (store.Disk fault) (inr failed) = inr (inr (inr failed))
 barrier_save_cause old process disk disk' store.Memory fails = absurd fails
-barrier_save_cause old process disk disk' store.Failed (inl failed) =
-    λ is. (let works = is.works in absurd (cc))
-barrier_save_cause old process disk disk' store.Failed (inr failed) =
-    λ is. (let works = is.journal_works in absurd (cc))
+barrier_save_cause old process disk disk' store.Failed failed = failed
 
 module _ (a b : WorkerStore) (process : ProcessValue) (d e f : Medium) (one : StoreGoes a b d e)
     (stays : IsOfStore a b) where
@@ -475,7 +472,7 @@ module _ (a b : WorkerStore) (process : ProcessValue) (d e f : Medium) (one : St
       inr (inr (inr (omega (arith, failed, faults))))
   commit_fault_cause store.Memory fails = absurd fails
   commit_fault_cause store.Failed failed =
-      λ is. (let works = (one.works is).works in absurd (cc))
+      failed_with a.journal.has_failed b.journal.has_failed one.works failed
 
   pub commit_save_cause : (result : Said) → IfErr result (λ why. CommitFails b process e f why)
       → IfErr result (λ why. HasSaveCause a process d f why)
@@ -539,10 +536,7 @@ pub append_hears : (old new : WorkerStore) (r : Record) → IsOfStore old new
     → new ≡ with_record old r → StoreHears old new
 append_hears old new r stays is = record {
   stays = stays;
-  works = λ unfailed. record {
-    works = ap (λ (s : WorkerStore). s.has_failed) is ∙ unfailed.works;
-    journal_works = ap (λ (s : WorkerStore). s.journal.has_failed) is;
-  };
+  works = λ worked. ap (λ (s : WorkerStore). s.journal.has_failed) is;
 }
 
 pub append_cause : (old : WorkerStore) (r : Record) (fault : StoreFault) → AppendFails old r fault
@@ -554,9 +548,7 @@ append_cause old r store.Damaged fails = absurd fails
 append_cause old r (store.Layout fault) fails = absurd fails
 append_cause old r (store.Disk fault) fails = absurd fails
 append_cause old r store.Memory fails = tt
-append_cause old r store.Failed (inl failed) = λ is. (let works = is.works in absurd (cc))
-append_cause old r store.Failed (inr failed) =
-    λ is. (let works = is.journal_works in absurd (cc))
+append_cause old r store.Failed failed = failed
 
 pub taken_cause : (old : WorkerStore) (why : ProcessFault)
     → HasHearingCause old (Work (slice_fault why))
@@ -570,3 +562,51 @@ taken_cause old stop.StepsSpent = tt
 pub failed_slice_calls : (T : Type 0) (store : WorkerStore) (disk : Medium) (why : WorkFault)
     → SliceCalls {T = T} (Err why) store store disk disk
 failed_slice_calls T store disk why = ([], [], none, inl (0, 0, omega arith, refl), 0, refl)
+
+-- of a worker that stops there, and has failed then
+stopped_slice_calls : (T : Type 0) (old new after : WorkerStore) (disk disk' : Medium)
+    (why : WorkFault) → StoreStops old new why disk disk' → after ≡ failed_store new
+    → SliceCalls {T = T} (Err why) old after disk disk'
+stopped_slice_calls T old new after disk disk' why stops is =
+    subst (λ (s : WorkerStore). SliceCalls {T = T} (Err why) old s disk disk') (sym is)
+    (stops.made, stops.last, stops.are, stops.last_are, stops.left_out, stops.calls)
+
+-- why it stops
+slice_cause : (running : RunningWorker) (replayed : ℕ) (disk disk' : Medium) (why : WorkFault)
+    → HasTurnCause running.store disk disk' why
+    → HasSliceCause (durable_of running replayed) disk disk' why
+slice_cause running replayed disk disk' (Disk fault) cause = cause
+slice_cause running replayed disk disk' (Work slice.Failed) cause = cause
+slice_cause running replayed disk disk' (Work slice.Source) cause = tt
+slice_cause running replayed disk disk' (Work slice.Outlet) cause = tt
+slice_cause running replayed disk disk' (Work slice.Memory) cause = tt
+slice_cause running replayed disk disk' (Work (slice.Refused why)) cause = tt
+slice_cause running replayed disk disk' (Store store.Full) cause = tt
+slice_cause running replayed disk disk' (Store store.TooLong) cause = tt
+slice_cause running replayed disk disk' (Store store.TooBig) cause = tt
+slice_cause running replayed disk disk' (Store store.Damaged) cause = cause
+slice_cause running replayed disk disk' (Store (store.Layout fault)) cause = cause
+slice_cause running replayed disk disk' (Store (store.Disk fault)) cause = cause
+slice_cause running replayed disk disk' (Store store.Memory) cause = cause
+slice_cause running replayed disk disk' (Store store.Failed) cause = cause
+slice_cause running replayed disk disk' (Upgrade fault) cause = cause
+
+module _ (running : RunningWorker) (replayed : ℕ) (old : DurableValue)
+    (is_old : durable_of running replayed ≡ old) (after : WorkerStore)
+    (disk disk' : Medium) where
+  pub calls_done : (now : Now) → StoreGoes running.store after disk disk'
+      → SliceCalls {E = WorkFault} (Ok now) old.store after disk disk'
+  calls_done now goes = subst (λ (w : DurableValue).
+      SliceCalls {E = WorkFault} (Ok now) w.store after disk disk') is_old
+      (goes.made, goes.are, goes.calls)
+
+  module _ (why : WorkFault) (stops : StoreStops running.store after why disk disk') where
+    pub calls_in_vain : (last : WorkerStore) → last ≡ failed_store after
+        → SliceCalls {T = Now} (Err why) old.store last disk disk'
+    calls_in_vain last is = subst (λ (w : DurableValue).
+        SliceCalls {T = Now} (Err why) w.store last disk disk') is_old
+        (stopped_slice_calls Now running.store after last disk disk' why stops is)
+
+    pub has_slice_cause : HasSliceCause old disk disk' why
+    has_slice_cause = subst (λ (w : DurableValue). HasSliceCause w disk disk' why) is_old
+        (slice_cause running replayed disk disk' why stops.cause)

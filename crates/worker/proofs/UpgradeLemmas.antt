@@ -31,20 +31,20 @@ use Rattle.restart_theorem.specs.Courses.{Stage}
 use Rattle.restart_theorem.specs.Promises.{Promise, MayPlead}
 use Rattle.worker_store.specs.laws.CallEnds.{HasBound}
 use Rattle.worker_store.specs.laws.Laws.{ProcessImagesFitAreas}
-use Rattle.worker_store.specs.laws.Saves.{IsAtFrontOrNext}
+use Rattle.worker_store.specs.rules.Savepoints.{IsAtFrontOrNext}
 use Rattle.worker_store.proofs.LawLemmas.Acts.{upgrades_save, upgrades_widen}
 use Rattle.worker_store.proofs.LawLemmas.Saving.{front_of_none}
 use Rattle.worker_store.specs.declared.fault.StoreFault.{StoreFault}
 use Rattle.worker_store.specs.declared.fault.StoreFault.TheVariants as store
 use Rattle.worker_store.specs.declared.store.WorkerStore.{WorkerStore}
 use Rattle.worker_store.specs.rules.Calls.{StoresNext}
-use Rattle.worker_store.specs.rules.Stores.{IsUnfailed}
 use Rattle.worker.specs.declared.fault.WorkFault.{WorkFault}
 use Rattle.worker.specs.declared.fault.WorkFault.TheVariants as work
 use Rattle.worker.specs.declared.upgrade_fault.UpgradeFault.TheVariants.{JournalTooSmall}
 use Rattle.worker.specs.declared.upgrade_fault.UpgradeFault.TheVariants.{NotCaughtUp}
 use Rattle.worker.specs.rules.WorkFaults.{fault_of_store}
-use Rattle.worker.specs.rules.DurableValues.{DurableValue}
+use Rattle.worker.specs.declared.running_worker.RunningWorker.{RunningWorker}
+use Rattle.worker.specs.rules.DurableValues.{DurableValue, durable_of}
 use Rattle.worker.specs.rules.DurableCalls.{ComesOf, UpgradeCarries}
 use Rattle.worker.specs.rules.OpenWorkers.{IsOpenOn}
 use Rattle.worker.specs.rules.Savings.{LeavesFrontOrNext, SaveCalls, SaveFails, HasSaveCause}
@@ -54,7 +54,7 @@ use Rattle.worker.specs.rules.Upgrades.{upgraded, UpgradeCalls, IsUpgradeFault, 
 use Rattle.worker.specs.rules.Upgrades.{UpgradeFails, HasUpgradeCause, Migrates, IsTooSmall}
 use Rattle.worker.specs.rules.Upgrades.{IsNotCaughtUp}
 use Rattle.worker.specs.Upgrading.{AfterFault}
-use Rattle.worker.proofs.SavingActLemmas.{SavesProcess, SavesShown, save_fault, saving_done}
+use Rattle.worker.proofs.SavingActLemmas.{SavesShown, save_fault, saving_done}
 use Rattle.worker.proofs.SavingActLemmas.{saving_fault, save_pleaded}
 use Rattle.worker.proofs.DurableLemmas.OnDisk.{room_now}
 use Rattle.worker.proofs.WideningLemmas.{one_or_two, upgraded_version, upgraded_two}
@@ -382,15 +382,14 @@ upgrade_calls_ok w done old new made =
 
 -- ---- whatever is on the disk
 
-pub upgrade_cause : (w : DurableValue) (old new : Medium) (fault : StoreFault)
-    → (w.has_failed ≡ false → IsUnfailed w.store) → w.has_failed ≡ false
-    → HasSaveCause w.store (upgraded w.process) old new fault
-    → HasUpgradeCause w old new (fault_of_store fault)
-upgrade_cause w old new store.TooBig unfailed works cause = cause
-upgrade_cause w old new store.Full unfailed works cause = cause
-upgrade_cause w old new store.TooLong unfailed works cause = absurd cause
-upgrade_cause w old new store.Damaged unfailed works cause = absurd cause
-upgrade_cause w old new (store.Layout why) unfailed works cause = absurd cause
-upgrade_cause w old new (store.Disk why) unfailed works cause = cause
-upgrade_cause w old new store.Memory unfailed works cause = absurd cause
-upgrade_cause w old new store.Failed unfailed works cause = absurd (cause (unfailed works))
+pub upgrade_cause : (running : RunningWorker) (replayed : ℕ) (old new : Medium)
+    (fault : StoreFault) → HasSaveCause running.store (upgraded running.process) old new fault
+    → HasUpgradeCause (durable_of running replayed) old new (fault_of_store fault)
+upgrade_cause running replayed old new store.TooBig cause = cause
+upgrade_cause running replayed old new store.Full cause = cause
+upgrade_cause running replayed old new store.TooLong cause = absurd cause
+upgrade_cause running replayed old new store.Damaged cause = absurd cause
+upgrade_cause running replayed old new (store.Layout why) cause = absurd cause
+upgrade_cause running replayed old new (store.Disk why) cause = cause
+upgrade_cause running replayed old new store.Memory cause = absurd cause
+upgrade_cause running replayed old new store.Failed cause = cause

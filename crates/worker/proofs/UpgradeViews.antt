@@ -1,17 +1,12 @@
 -- An upgrade, as its contract sees it.
-use Rattle.std.proofs.Common.{◌≡◌, ◌⊎◌, ℕ, ◌+◌, ◌≤◌, Bool, true, false, refl, sym, ap, ◌∙◌, subst}
-use Rattle.std.proofs.Common.{inl, inr}
-use Rattle.std.specs.Prelude.{Result, Ok, Err}
-use Rattle.wasm_syntax.specs.declared.module.Module.{Module}
-use Rattle.wasi_abi.specs.declared.version.Version.TheVariants.{One}
-use Rattle.process_rules.specs.Processes.{ProcessState, Guest}
+use Rattle.std.proofs.Common.{◌≡◌, ◌⊎◌, ℕ, ◌+◌, false, refl, sym, ap, ◌∙◌, subst}
+use Rattle.std.specs.Prelude.{Ok, Err}
 use Rattle.process_rules.specs.Runs.{widened}
 use Rattle.process.specs.rules.Values.{ProcessValue, ShowsProcess, IsProcess}
 use Rattle.sector_disk.specs.rules.Medium.{Medium, CallsUpTo}
 use Rattle.worker_store.specs.declared.fault.StoreFault.{StoreFault}
 use Rattle.worker_store.specs.laws.Laws.{ProcessImagesFitAreas}
 use Rattle.worker_store.specs.rules.Calls.{StoresNext}
-use Rattle.worker_store.specs.rules.Stores.{IsUnfailed}
 use Rattle.worker.specs.declared.fault.WorkFault.{WorkFault}
 use Rattle.worker.specs.declared.fault.WorkFault.TheVariants.{Upgrade}
 use Rattle.worker.specs.declared.running_worker.RunningWorker.{RunningWorker}
@@ -33,27 +28,27 @@ use Rattle.worker.proofs.UpgradeLemmas.{upgrade_calls_err, upgrade_calls_ok}
 use Rattle.worker.proofs.WideningLemmas.{upgraded_version, shows_upgraded}
 
 module _ {D : Type 0} (medium : D → Medium) (running after : RunningWorker) (replayed : ℕ)
-    (flag : Bool) (old : DurableValue) (is_old : durable_of running replayed flag ≡ old)
+    (old : DurableValue) (is_old : durable_of running replayed ≡ old)
     (disk disk' : D) (is : IsProcess running.process) where
   -- ---- it is refused
 
   module _ (fault : UpgradeFault) (refused : IsUpgradeRefused running fault) where
     pub refused_carries : ProcessImagesFitAreas → after.process ≡ running.process
-        → UpgradeCarries old (Err (Upgrade fault)) (durable_of after replayed true) (medium disk)
+        → UpgradeCarries old (Err (Upgrade fault)) (durable_of after replayed) (medium disk)
         (medium disk)
     refused_carries fit same =
         subst (λ (w : DurableValue). UpgradeCarries w (Err (Upgrade fault))
-        (durable_of after replayed true) (medium disk) (medium disk)) is_old (by fault refused)
+        (durable_of after replayed) (medium disk) (medium disk)) is_old (by fault refused)
       where
         by : (fault : UpgradeFault) → IsUpgradeRefused running fault
-            → UpgradeCarries (durable_of running replayed flag) (Err (Upgrade fault))
-            (durable_of after replayed true) (medium disk) (medium disk)
+            → UpgradeCarries (durable_of running replayed) (Err (Upgrade fault))
+            (durable_of after replayed) (medium disk) (medium disk)
         by upgrade.JournalTooSmall small =
-            too_small_carries medium (durable_of running replayed flag)
-            (durable_of after replayed true) disk fit is same small
+            too_small_carries medium (durable_of running replayed)
+            (durable_of after replayed) disk fit is same small
         by upgrade.NotCaughtUp behind =
-            not_caught_up_carries medium (durable_of running replayed flag)
-            (durable_of after replayed true) disk fit is same
+            not_caught_up_carries medium (durable_of running replayed)
+            (durable_of after replayed) disk fit is same
             (record { takes = behind.0; version = behind.1; behind = behind.2 })
 
     pub refused_fails : after.process ≡ running.process
@@ -63,7 +58,7 @@ module _ {D : Type 0} (medium : D → Medium) (running after : RunningWorker) (r
         (Upgrade fault)) is_old (by fault refused)
       where
         by : (fault : UpgradeFault) → IsUpgradeRefused running fault
-            → UpgradeFails (durable_of running replayed flag) after.process (medium disk)
+            → UpgradeFails (durable_of running replayed) after.process (medium disk)
             (medium disk) (Upgrade fault)
         by upgrade.JournalTooSmall small m config guest promise stage p opened = (small, same)
         by upgrade.NotCaughtUp behind m config guest promise stage p opened =
@@ -75,7 +70,7 @@ module _ {D : Type 0} (medium : D → Medium) (running after : RunningWorker) (r
     pub migrates_so : BarsAndCommits medium running.store running.process after.process disk disk'
         → Migrates medium old disk disk'
     migrates_so bars = subst (λ (w : DurableValue). Migrates medium w disk disk') is_old
-        (migrates medium (durable_of running replayed flag) disk disk' fit is may.takes
+        (migrates medium (durable_of running replayed) disk disk' fit is may.takes
         after.process bars)
 
     pub ends_so : StoresNext running.store after.store after.process (medium disk) (medium disk')
@@ -83,36 +78,37 @@ module _ {D : Type 0} (medium : D → Medium) (running after : RunningWorker) (r
         → EndsInTwo old (medium disk) (medium disk')
     ends_so stores same = subst (λ (w : DurableValue). EndsInTwo w (medium disk) (medium disk'))
         is_old
-        (ends_in_two medium (durable_of running replayed flag) disk disk' fit is may.takes
+        (ends_in_two medium (durable_of running replayed) disk disk' fit is may.takes
         after.store
         (subst (λ (v : ProcessValue). StoresNext running.store after.store v (medium disk)
         (medium disk')) same stores))
 
     module _ (leaves : LeavesFrontOrNext running.store after.process (medium disk) (medium disk'))
         (few : CallsUpTo (most_saving (medium disk).sectors) (medium disk) (medium disk')) where
-      pub done_carries : after.process ≡ upgraded running.process → flag ≡ false
+      pub done_carries : after.process ≡ upgraded running.process
+          → after.store.journal.has_failed ≡ false
           → after.is_abreast ≡ running.is_abreast
           → StoresNext running.store after.store after.process (medium disk) (medium disk')
-          → UpgradeCarries old (Ok tt) (durable_of after replayed flag) (medium disk)
+          → UpgradeCarries old (Ok tt) (durable_of after replayed) (medium disk)
           (medium disk')
       done_carries same works says stores =
-          subst (λ (w : DurableValue). UpgradeCarries w (Ok tt) (durable_of after replayed flag)
+          subst (λ (w : DurableValue). UpgradeCarries w (Ok tt) (durable_of after replayed)
           (medium disk) (medium disk')) is_old
-          (upgrade_carries medium (durable_of running replayed flag)
-          (durable_of after replayed flag) disk disk' fit is may.takes may.abreast leaves few same
+          (upgrade_carries medium (durable_of running replayed)
+          (durable_of after replayed) disk disk' fit is may.takes may.abreast leaves few same
           works says stores)
 
       module _ (fault : StoreFault) (why : WorkFault) (same : why ≡ fault_of_store fault)
           (fails : SaveFails running.store after.process (medium disk) (medium disk') fault)
           (after_fault : AfterFault fault running.store running.process after.process) where
-        pub fault_carries : UpgradeCarries old (Err why) (durable_of after replayed true)
+        pub fault_carries : UpgradeCarries old (Err why) (durable_of after replayed)
             (medium disk) (medium disk')
         fault_carries = subst (λ (e : WorkFault). UpgradeCarries old (Err e)
-            (durable_of after replayed true) (medium disk) (medium disk')) (sym same)
+            (durable_of after replayed) (medium disk) (medium disk')) (sym same)
             (subst (λ (w : DurableValue). UpgradeCarries w (Err (fault_of_store fault))
-            (durable_of after replayed true) (medium disk) (medium disk')) is_old
-            (upgrade_fault_carries medium (durable_of running replayed flag)
-            (durable_of after replayed true) disk disk' fit is may.takes may.abreast leaves few
+            (durable_of after replayed) (medium disk) (medium disk')) is_old
+            (upgrade_fault_carries medium (durable_of running replayed)
+            (durable_of after replayed) disk disk' fit is may.takes may.abreast leaves few
             fault fails after_fault))
 
         pub fault_fails : UpgradeFails old after.process (medium disk) (medium disk') why
@@ -120,20 +116,21 @@ module _ {D : Type 0} (medium : D → Medium) (running after : RunningWorker) (r
             (medium disk') e) (sym same)
             (subst (λ (w : DurableValue). UpgradeFails w after.process (medium disk)
             (medium disk') (fault_of_store fault)) is_old
-            (upgrade_fault_fails medium (durable_of running replayed flag)
-            (durable_of after replayed true) disk disk' fit is may.takes may.abreast leaves few
+            (upgrade_fault_fails medium (durable_of running replayed)
+            (durable_of after replayed) disk disk' fit is may.takes may.abreast leaves few
             fault fails after_fault))
 
 -- ---- the worker
 
-module _ (running after : RunningWorker) (replayed : ℕ) (flag : Bool) (old : DurableValue)
-    (is_old : durable_of running replayed flag ≡ old) where
+module _ (running after : RunningWorker) (replayed : ℕ) (old : DurableValue)
+    (is_old : durable_of running replayed ≡ old) where
   pub upgraded_so : after.process ≡ upgraded running.process
       → after.is_abreast ≡ running.is_abreast
       → after.store.journal.generation ≡ running.store.journal.generation + 1
-      → IsUpgradedIn old (durable_of after replayed flag)
-  upgraded_so same says numbered =
-      subst (λ (w : DurableValue). IsUpgradedIn w (durable_of after replayed flag)) is_old
+      → after.store.journal.has_failed ≡ running.store.journal.has_failed
+      → IsUpgradedIn old (durable_of after replayed)
+  upgraded_so same says numbered works =
+      subst (λ (w : DurableValue). IsUpgradedIn w (durable_of after replayed)) is_old
       (record {
         process = same;
         version = ap (λ (v : ProcessValue). v.host.host.version) same
@@ -143,7 +140,7 @@ module _ (running after : RunningWorker) (replayed : ℕ) (flag : Bool) (old : D
             (shows_upgraded running.process narrow guest p shows);
         abreast = says;
         replayed = refl;
-        unfailed = refl;
+        unfailed = works;
         generation = numbered;
       })
 
@@ -156,27 +153,26 @@ module _ (running after : RunningWorker) (replayed : ℕ) (flag : Bool) (old : D
 
 -- ---- calls, and whatever is on the disk
 
-module _ (running : RunningWorker) (replayed : ℕ) (flag : Bool) (old : DurableValue)
-    (is_old : durable_of running replayed flag ≡ old) (disk disk' : Medium) where
+module _ (running : RunningWorker) (replayed : ℕ) (old : DurableValue)
+    (is_old : durable_of running replayed ≡ old) (disk disk' : Medium) where
   pub calls_err_so : (fault : StoreFault) (why : WorkFault)
       → SaveCalls {T = Unit {0}} running.store (upgraded running.process) (Err fault) disk disk'
       → UpgradeCalls {T = Unit {0}} old (Err why) disk disk'
   calls_err_so fault why made = subst (λ (w : DurableValue).
       UpgradeCalls {T = Unit {0}} w (Err why) disk disk') is_old
-      (upgrade_calls_err (durable_of running replayed flag) fault why disk disk' made)
+      (upgrade_calls_err (durable_of running replayed) fault why disk disk' made)
 
   pub calls_ok_so : (done : Unit {0})
       → SaveCalls running.store (upgraded running.process) (Ok done) disk disk'
       → UpgradeCalls {E = WorkFault} old (Ok done) disk disk'
   calls_ok_so done made = subst (λ (w : DurableValue).
       UpgradeCalls {E = WorkFault} w (Ok done) disk disk') is_old
-      (upgrade_calls_ok (durable_of running replayed flag) done disk disk' made)
+      (upgrade_calls_ok (durable_of running replayed) done disk disk' made)
 
   pub cause_so : (fault : StoreFault) (why : WorkFault) → why ≡ fault_of_store fault
-      → (flag ≡ false → IsUnfailed running.store) → flag ≡ false
       → HasSaveCause running.store (upgraded running.process) disk disk' fault
       → HasUpgradeCause old disk disk' why
-  cause_so fault why same unfailed works cause =
+  cause_so fault why same cause =
       subst (λ (e : WorkFault). HasUpgradeCause old disk disk' e) (sym same)
       (subst (λ (w : DurableValue). HasUpgradeCause w disk disk' (fault_of_store fault)) is_old
-      (upgrade_cause (durable_of running replayed flag) disk disk' fault unfailed works cause))
+      (upgrade_cause running replayed disk disk' fault cause))

@@ -30,7 +30,8 @@ use Rattle.restart_theorem.specs.Courses.{Stage, Open, phase_ended, next_stage}
 use Rattle.restart_theorem.specs.Promises.{Promise, after, IsEnding}
 use Rattle.restart_theorem.specs.Holds.{KeepsPromise, StaysWithin}
 use Rattle.worker_store.specs.laws.Underway.{IsUnderWay}
-use Rattle.worker_store.specs.laws.Pieces.{IsForetold, AreDone}
+use Rattle.worker_store.specs.rules.BetweenCalls.{IsForetold}
+use Rattle.worker_store.specs.laws.Pieces.{AreDone}
 use Rattle.worker_store.specs.laws.Turns.{GoesOnFrom}
 use Rattle.ephemeral_worker.specs.declared.now.Now.{Now}
 use Rattle.ephemeral_worker.specs.declared.fault.SliceFault.TheVariants as slice
@@ -126,7 +127,7 @@ pub record TurnEnds (c : Course) (promise : Promise) (stage : Stage) (reply : Re
   pub goes_on : phase_ended reply ≡ Open → (replayed : ℕ) → (q : ProcessState)
       × IsOpenOn c.code c.config c.guest (slice_end between c.fuel reply held w)
       (next_stage inside (Ended (Slice c.fuel) reply held (saved_of w.process))) q
-      (durable_of w replayed false) disk'
+      (durable_of w replayed) disk'
 
 -- an error ends it
 abbrev pub TurnFails : Course → Promise → Stage → WorkFault → List Exchange → RunningWorker → Medium

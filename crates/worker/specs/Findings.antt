@@ -4,20 +4,15 @@ use Rattle.wasm_syntax.specs.declared.module.Module.{Module}
 use Rattle.wasi_abi.specs.rules.Configs.{Settings}
 use Rattle.wasi_calls_rules.specs.laws.Laws.{IsOfBytes}
 use Rattle.process_rules.specs.Processes.{ProcessState, host_of}
-use Rattle.machine.specs.rules.Values.{MachineValue}
-use Rattle.process.specs.rules.Values.{ProcessValue, ShowsProcess, IsProcess, waiting_in}
-use Rattle.process.specs.rules.Values.{lines_in}
+use Rattle.process.specs.rules.Values.{ShowsProcess, IsProcess, waiting_in, lines_in}
 use Rattle.sector_disk.specs.rules.DiskImage.{DiskImage}
 use Rattle.sector_disk.specs.rules.Medium.{Medium, CallsUpTo}
-use Rattle.disk_layout.specs.declared.geometry.Geometry.{Geometry}
 use Rattle.disk_layout.specs.declared.reading.contents.Contents.{Contents}
 use Rattle.disk_layout.specs.rules.Journal.{Record}
 use Rattle.disk_layout.specs.rules.Places.{total_sectors}
 use Rattle.disk_layout.specs.rules.Stored.{OnlyReads}
-use Rattle.worker_store.specs.declared.newest.NewestProcessImage.{NewestProcessImage}
-use Rattle.state_image.specs.rules.ProcessImage.{process_image}
 use Rattle.state_image.specs.rules.Saving.{saved_of}
-use Rattle.worker_store.specs.laws.Savepoints.{Savepoint, places, IsAtSavepoint}
+use Rattle.worker_store.specs.rules.Savepoints.{Savepoint, places, IsAtSavepoint}
 use Rattle.worker.specs.declared.found.Found.{Found}
 use Rattle.worker.specs.declared.fault.WorkFault.TheVariants.{Disk}
 use Rattle.worker.specs.declared.recover_fault.RecoverFault.{RecoverFault}
@@ -78,16 +73,15 @@ HasSearchCause old new (Worker other) = ⊥
 HasSearchCause old new (Replay fault) = ⊥
 HasSearchCause old new other = IsOfItsLayer other
 
--- What each step of a search does, whatever it finds.
+-- What a search does, whatever it finds.
 pub record Searches (most : ℕ) (result : Result Found RecoverFault) (old new : Medium) : Type 0
   where
     pub reads : OnlyReads old new
     -- the disk has room for the places of what is found
     pub room : IfOk result (λ found. total_sectors found.geometry ≤ new.sectors)
+    pub shows : IfOk result (λ found. IsProcess found.process)
     pub cause : IfErr result (HasSearchCause old new)
     pub asks : CallsUpTo most old new
-
--- ---- in steps
 
 -- its configuration and its module were read
 abbrev pub IsContentOf : {m : Module} {config : Settings} → Savepoint m config → Contents → Type 0
@@ -100,51 +94,3 @@ FindsBehind contents disk result =
     (m : Module) (config : Settings) (point : Savepoint m config) (records : List Record)
     (last : ProcessState) → IsAtSavepoint point records last disk → IsContentOf point contents
     → FindsPoint contents.wasm point records result
-
--- its module is that of a machine
-pub record IsLinkedAt {m : Module} {settings : Settings} (point : Savepoint m settings)
-    (geometry : Geometry) (config : Settings) (machine : MachineValue) : Type 0 where
-  pub placed : geometry ≡ places point
-  pub configured : config ≡ settings
-  pub linked : machine.guest ≡ m
-
--- what is there then
-abbrev pub FindsLinked : Geometry → Settings → MachineValue → DiskImage → Result Found RecoverFault
-    → Type 0
-FindsLinked geometry config machine disk result =
-    (m : Module) (settings : Settings) (point : Savepoint m settings) (records : List Record)
-    (last : ProcessState) → IsAtSavepoint point records last disk
-    → IsLinkedAt point geometry config machine → FindsPoint point.wasm point records result
-
--- its image was read
-pub record IsSnapshotOf {m : Module} {config : Settings} (point : Savepoint m config)
-    (snapshot : NewestProcessImage) : Type 0 where
-  pub generation : snapshot.generation ≡ point.generation
-  pub bytes : snapshot.process_image ≡ process_image point.saved
-
--- what is there then
-abbrev pub FindsSnapshot : Geometry → Settings → MachineValue → NewestProcessImage → DiskImage
-    → Result Found RecoverFault → Type 0
-FindsSnapshot geometry config machine snapshot disk result =
-    (m : Module) (settings : Settings) (point : Savepoint m settings) (records : List Record)
-    (last : ProcessState) → IsAtSavepoint point records last disk
-    → IsLinkedAt point geometry config machine → IsSnapshotOf point snapshot
-    → FindsPoint point.wasm point records result
-
--- its process was made again
-pub record IsRestoredAt {m : Module} {config : Settings} (point : Savepoint m config)
-    (process : ProcessValue) : Type 0 where
-  pub saved : saved_of process ≡ point.saved
-  pub shows : ShowsProcess process point.reached.guest point.process
-  pub module_is : process.machine.guest ≡ m
-  pub none_waits : waiting_in process ≡ []
-  pub texts : IsOfBytes (host_of config)
-
--- what is after the snapshot
-abbrev pub FindsRecords : Geometry → ℕ → ProcessValue → DiskImage
-    → Result Found RecoverFault → Type 0
-FindsRecords geometry generation process disk result =
-    (m : Module) (settings : Settings) (point : Savepoint m settings) (records : List Record)
-    (last : ProcessState) → IsAtSavepoint point records last disk → geometry ≡ places point
-    → generation ≡ point.generation → IsRestoredAt point process
-    → FindsPoint point.wasm point records result

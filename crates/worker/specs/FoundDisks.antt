@@ -1,8 +1,7 @@
--- What is found on any disk, before anything is told or written, step by step.
+-- What is found on any disk, before anything is told or written.
 use Rattle.std.specs.Prelude.{◌≡◌, ℕ, List, Result, Ok, Err}
-use Rattle.wasi_abi.specs.rules.Configs.{Settings}
-use Rattle.machine.specs.rules.Values.{MachineValue}
 use Rattle.process.specs.rules.Values.{ProcessValue}
+use Rattle.state_image.specs.rules.ProcessImage.{process_image}
 use Rattle.state_image.specs.rules.Restored.{IsRestored}
 use Rattle.sector_disk.specs.rules.DiskImage.{DiskImage}
 use Rattle.disk_layout.specs.declared.geometry.Geometry.{Geometry}
@@ -10,8 +9,7 @@ use Rattle.disk_layout.specs.declared.reading.contents.Contents.{Contents}
 use Rattle.disk_layout.specs.rules.Held.{GivesContents}
 use Rattle.disk_layout.specs.rules.Journal.{scan}
 use Rattle.state_image.specs.rules.Saving.{saved_of}
-use Rattle.worker_store.specs.declared.newest.NewestProcessImage.{NewestProcessImage}
-use Rattle.worker_store.specs.rules.AnyDisk.{NamesProcessImage, TellsNewest}
+use Rattle.worker_store.specs.rules.AnyDisk.{NamesProcessImage}
 use Rattle.worker.specs.declared.found.Found.{Found}
 use Rattle.worker.specs.declared.recover_fault.RecoverFault.{RecoverFault}
 use Rattle.worker.specs.rules.ShownDisks.{HoldsModule, ShowsFault}
@@ -25,10 +23,12 @@ pub record IsRestoredIn {sectors : ℕ} {disk : DiskImage} (holds : HoldsModule 
       (saved_of process).version bytes
   pub restored : IsRestored holds.module_is holds.contents.config bytes process
 
--- That was found, and the records of its generation, of the version of the process.
+-- That was found, with the bytes of its image, and the records of its generation, of the version
+-- of the process.
 pub record IsFoundIn (sectors : ℕ) (disk : DiskImage) (found : Found) : Type 0 where
   pub holds : HoldsModule sectors disk
   pub process : IsRestoredIn holds found.geometry found.generation found.process
+  pub image : found.process_image ≡ process_image (saved_of found.process)
   pub scanned : scan holds.contents.geometry (saved_of found.process).version disk found.generation
       ≡ found.records.items
 
@@ -37,36 +37,7 @@ abbrev pub FindsIn : ℕ → DiskImage → Result Found RecoverFault → Type 0
 FindsIn sectors disk (Ok found) = IsFoundIn sectors disk found
 FindsIn sectors disk (Err why) = ShowsFault sectors disk why
 
--- ---- in steps
-
 -- configuration and module were read
 abbrev pub FindsBehindIn : Contents → DiskImage → Result Found RecoverFault → Type 0
 FindsBehindIn contents disk result =
     (sectors : ℕ) → GivesContents sectors disk (Ok contents) → FindsIn sectors disk result
-
--- the machine is that of the module that the disk holds
-pub record IsMachineIn {sectors : ℕ} {disk : DiskImage} (holds : HoldsModule sectors disk)
-    (geometry : Geometry) (config : Settings) (machine : MachineValue) : Type 0 where
-  pub placed : geometry ≡ holds.contents.geometry
-  pub configured : config ≡ holds.contents.config
-  pub linked : machine.guest ≡ holds.module_is
-
-abbrev pub FindsLinkedIn : Geometry → Settings → MachineValue → DiskImage
-    → Result Found RecoverFault → Type 0
-FindsLinkedIn geometry config machine disk result =
-    (sectors : ℕ) (holds : HoldsModule sectors disk) → IsMachineIn holds geometry config machine
-    → FindsIn sectors disk result
-
--- the newest image was read too
-abbrev pub FindsSnapshotIn : Geometry → Settings → MachineValue → NewestProcessImage → DiskImage
-    → Result Found RecoverFault → Type 0
-FindsSnapshotIn geometry config machine snapshot disk result =
-    (sectors : ℕ) (holds : HoldsModule sectors disk) → IsMachineIn holds geometry config machine
-    → TellsNewest geometry disk (Ok snapshot) → FindsIn sectors disk result
-
--- its process was made again
-abbrev pub FindsRecordsIn : Geometry → ℕ → ProcessValue → DiskImage → Result Found RecoverFault
-    → Type 0
-FindsRecordsIn geometry generation process disk result =
-    (sectors : ℕ) (holds : HoldsModule sectors disk)
-    → IsRestoredIn holds geometry generation process → FindsIn sectors disk result

@@ -1,5 +1,5 @@
 -- The worker of a process for which a disk was laid out.
-use Rattle.std.specs.Prelude.{true, false, Result, Ok, Err}
+use Rattle.std.specs.Prelude.{true, Result, Ok, Err}
 use Rattle.process.specs.rules.Values.{ProcessValue}
 use Rattle.worker_store.specs.declared.fault.StoreFault.{StoreFault}
 use Rattle.worker_store.specs.declared.store.WorkerStore.{WorkerStore}
@@ -14,7 +14,7 @@ fresh_of v store = record {
   store = store;
   is_abreast = true;
   replayed = 0;
-  has_failed = false;
+  has_failed = store.journal.has_failed;
 }
 
 -- of what laying it out has answered

@@ -1,5 +1,5 @@
 -- The calls of one life, each as its clause says, on any disk.
-use Rattle.std.specs.Prelude.{◌≡◌, ℕ, Bool, true, false, List, [], ◌∷◌, Option}
+use Rattle.std.specs.Prelude.{◌≡◌, ℕ, Bool, true, false, List, ◌∷◌, Option}
 use Rattle.std.specs.Prelude.{Result, Ok, Err}
 use Rattle.wasi_abi.specs.rules.Configs.{Settings}
 use Rattle.sector_disk.specs.rules.DiskImage.{DiskImage}
@@ -10,8 +10,8 @@ use Rattle.worker.specs.declared.fault.WorkFault.{WorkFault}
 use Rattle.worker.specs.declared.recover_fault.RecoverFault.{RecoverFault}
 use Rattle.worker.specs.declared.recover_fault.RecoverFault.TheVariants as recover
 use Rattle.worker.specs.rules.DurableValues.{DurableValue}
-use Rattle.worker.specs.laws.OneLife.{CallsInOrder, BeginsLife, IsOneLife, shown_first}
-use Rattle.worker.specs.laws.OneLife.{undone_acts}
+use Rattle.worker.specs.rules.OneLife.{CallsInOrder, BeginsLife, IsOneLife, shown_first}
+use Rattle.worker.specs.rules.OneLife.{undone_acts}
 use Rattle.worker.specs.declared.story.living.LivedOnce.{LivedOnce}
 use Rattle.worker.specs.declared.story.opening.OpenedWorker.{OpenedWorker}
 use Rattle.worker.specs.declared.story.report.Opening.{Opening}

@@ -1,12 +1,12 @@
 -- What the parts of a slice do to a store and its disk, whatever is on that.
-use Rattle.std.specs.Prelude.{◌≡◌, ◌⊎◌, ℕ, ◌+◌, ◌<◌, ◌≤◌, List, [], ◌∷◌, ◌++◌, drop, Result}
-use Rattle.std.specs.Prelude.{Ok, Err}
+use Rattle.std.specs.Prelude.{◌≡◌, ◌⊎◌, ℕ, ◌+◌, ◌<◌, ◌≤◌, true, false, List, [], ◌∷◌, ◌++◌, drop}
+use Rattle.std.specs.Prelude.{Result, Ok, Err}
 use Rattle.sector_disk.specs.declared.disk_call.DiskCall.{DiskCall}
 use Rattle.sector_disk.specs.rules.Medium.{Medium, Passes}
 use Rattle.worker_store.specs.declared.fault.StoreFault.{StoreFault}
 use Rattle.worker_store.specs.declared.fault.StoreFault.TheVariants as store
 use Rattle.worker_store.specs.declared.store.WorkerStore.{WorkerStore}
-use Rattle.worker_store.specs.rules.Stores.{IsOfStore, IsUnfailed}
+use Rattle.worker_store.specs.rules.Stores.{IsOfStore}
 use Rattle.ephemeral_worker.specs.declared.fault.SliceFault.TheVariants as slice
 use Rattle.worker.specs.declared.fault.WorkFault.{WorkFault}
 use Rattle.worker.specs.declared.fault.WorkFault.TheVariants.{Work, Disk, Store, Upgrade}
@@ -21,7 +21,7 @@ pub record StoreGoes (old new : WorkerStore) (disk disk' : Medium) : Type 0 wher
   pub passes : Passes disk disk' (λ _. Unit {0})
   pub unsynced : disk'.unsynced ≤ disk.unsynced
   pub counts : CountsInSlice old.geometry disk disk'
-  pub works : IsUnfailed old → IsUnfailed new
+  pub works : old.journal.has_failed ≡ false → new.journal.has_failed ≡ false
   pub made : List DiskCall
   pub are : AreSliceCalls old.geometry old.journal.generation new.journal.generation made
   pub calls : disk'.calls ≡ made ++ disk.calls
@@ -30,7 +30,7 @@ pub record StoreGoes (old new : WorkerStore) (disk disk' : Medium) : Type 0 wher
 abbrev pub HasTurnCause : WorkerStore → Medium → Medium → WorkFault → Type 0
 HasTurnCause old disk disk' (Disk fault) =
     LacksRoom old.geometry disk ⊎ (disk.faults < disk'.faults)
-HasTurnCause old disk disk' (Work slice.Failed) = IsUnfailed old → ⊥
+HasTurnCause old disk disk' (Work slice.Failed) = old.journal.has_failed ≡ true
 HasTurnCause old disk disk' (Work other) = Unit {0}
 HasTurnCause old disk disk' (Store store.Full) = Unit {0}
 HasTurnCause old disk disk' (Store store.TooLong) = Unit {0}
@@ -67,7 +67,7 @@ StoreSaves (Err fault) old new disk disk' = StoreStops old new (fault_of_store f
 -- why an answer isn't kept, for which the disk isn't asked
 abbrev pub HasHearingCause : WorkerStore → WorkFault → Type 0
 HasHearingCause old (Disk fault) = ⊥
-HasHearingCause old (Work slice.Failed) = IsUnfailed old → ⊥
+HasHearingCause old (Work slice.Failed) = old.journal.has_failed ≡ true
 HasHearingCause old (Work other) = Unit {0}
 HasHearingCause old (Store store.Full) = Unit {0}
 HasHearingCause old (Store store.TooLong) = Unit {0}
@@ -77,7 +77,7 @@ HasHearingCause old (Upgrade fault) = ⊥
 -- an answer is heard, without a call of the disk
 pub record StoreHears (old new : WorkerStore) : Type 0 where
   pub stays : IsOfStore old new
-  pub works : IsUnfailed old → IsUnfailed new
+  pub works : old.journal.has_failed ≡ false → new.journal.has_failed ≡ false
 
 -- it isn't
 pub record StoreHearsNone (old new : WorkerStore) (why : WorkFault) : Type 0 where

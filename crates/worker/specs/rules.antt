@@ -3,11 +3,14 @@ pub mod Checkpoints
 pub mod DurableCalls
 pub mod DurableCreations
 pub mod DurableFailures
+pub mod Effects
 pub mod WorkFaults
 pub mod DurableValues
 pub mod Inspections
 pub mod LifeWords
+pub mod OneLife
 pub mod OpenWorkers
+pub mod Outcomes
 pub mod Outlets
 pub mod Planned
 pub mod RecoverFaults

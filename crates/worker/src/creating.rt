@@ -4,18 +4,16 @@ ghost use Rattle.std.specs.Prelude.{◌≡◌, [], IfErr, IfOk};
 ghost use Rattle.wasi_abi.specs.rules.Configs.{AreSettingsWithinLimits};
 ghost use Rattle.wasi_calls_rules.specs.laws.Laws.{IsOfBytes};
 ghost use Rattle.process_rules.specs.Processes.{host_of};
-ghost use Rattle.process.specs.rules.Values.{waiting_in};
+ghost use Rattle.process.specs.rules.Values.{IsProcess, waiting_in};
 ghost use Rattle.ephemeral_worker.specs.Turns.{working};
 ghost use Rattle.ephemeral_worker.specs.rules.Faults.{IsRefusedByWorker};
 ghost use Rattle.ephemeral_worker.specs.rules.Values.{IsCreated};
-ghost use Rattle.worker_store.specs.rules.Stores.{IsUnfailed};
 ghost use Rattle.worker.specs.Laying.{worker_laid};
 
 use crate::copying::copy_config;
 use crate::durable::Worker;
 use crate::fault::WorkFault;
 use crate::running_worker::RunningWorker;
-use crate::saving::is_process;
 use ephemeral_worker::SliceFault;
 use machine_loader::read;
 use process::Process;
@@ -28,6 +26,7 @@ use worker_store::{StoreFault, WorkerStore, lay_out};
 /// The process of the module that the bytes spell, as it begins. It has a configuration of its own.
 fn begin(alloc: Global, wasm: &[u8], config: &Config) -> Result<Process, SliceFault>
     ensures begun { IfOk result (λ process. IsCreated wasm.now config.now (working process)) }
+    ensures shows { IfOk result IsProcess }
     ensures within { IfOk result (λ _. AreSettingsWithinLimits config.now) }
     ensures texts { IfOk result (λ _. IsOfBytes (host_of config.now)) }
     ensures refused { IfErr result (IsRefusedByWorker config.now.pages wasm.now) }
@@ -41,6 +40,7 @@ fn begin(alloc: Global, wasm: &[u8], config: &Config) -> Result<Process, SliceFa
 /// The process of the module that the bytes spell, as it begins.
 fn start(alloc: Global, wasm: &[u8], config: Config) -> Result<Process, SliceFault>
     ensures begun { IfOk result (λ process. IsCreated wasm.now config (working process)) }
+    ensures shows { IfOk result IsProcess }
     ensures refused { IfErr result (IsRefusedByWorker config.pages wasm.now) }
 {
     let module = read(alloc, wasm)?;
@@ -54,8 +54,7 @@ fn worker_of(
     process: Process,
     laid: Result<WorkerStore, StoreFault>,
 ) -> Result<Worker, WorkFault>
-    requires none_waits { waiting_in process ≡ [] }
-    requires works { IfOk laid (λ store. IsUnfailed store) }
+    requires { waiting_in process ≡ [] }
     ensures { result ≡ worker_laid process laid }
 {
     match laid {
@@ -67,7 +66,6 @@ fn worker_of(
                 is_abreast: true,
             },
             replayed: 0,
-            has_failed: false,
         }),
         Err(fault) => Err(WorkFault::from(fault)),
     }
@@ -114,7 +112,6 @@ impl Worker {
     {
         let process = begin(alloc, wasm, config)?;
         process_images_fit_areas();
-        is_process(&process);
         let laid = lay_out(alloc, disk, config, wasm, &process);
         worker_of(alloc, process, laid)
     }

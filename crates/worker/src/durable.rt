@@ -8,12 +8,11 @@ use std::marker::Model;
 
 /// A process that is run slice by slice, whose answers are kept on a disk. It keeps no disk: each
 /// call is handed the one that it was created on or recovered from. After any error each call
-/// answers `Failed`.
+/// answers `Failed`: the journal of its store keeps whether there was one.
 #[derive(Drop)]
 pub struct Worker {
     pub(crate) running: RunningWorker,
     pub(crate) replayed: u64,
-    pub(crate) has_failed: bool,
 }
 
 impl Model for Worker {
@@ -21,9 +20,9 @@ impl Model for Worker {
 
     ghost Value = { DurableValue };
 
-    ghost view = { λ w. durable_of w.running w.replayed w.has_failed };
+    ghost view = { λ w. durable_of w.running w.replayed };
 
-    ghost invariant = { λ w. IsDurable (durable_of w.running w.replayed w.has_failed) };
+    ghost invariant = { λ w. IsDurable (durable_of w.running w.replayed) };
 }
 
 impl Worker {

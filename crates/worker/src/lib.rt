@@ -40,6 +40,8 @@
 //!   promised of the worker that is open on its disk is kept (`carries`). For its exchanges, and
 //!   its end by Ok or by any error, are events that keep it. A cut at any moment leaves what holds
 //!   all that was promised before. Without an error the worker is open on the disk again.
+//! - Where a slice answers that the worker waits or has ended, no line is beyond its process
+//!   (`abreast`).
 //! - Where a slice fails, it has run so far as `ephemeral_worker: EphemeralWorker::slice` does, and
 //!   it stops at what failed (`failed`). Of a worker that is open on its disk some faults don't
 //!   come (`carries`).
@@ -55,9 +57,9 @@
 //!   moment leaves a disk that stands for a worker of the one version or of the other. Up to the
 //!   end of the barrier it is version 1, and holds all that was promised. From then on it is
 //!   version 1 with all answers, or version 2 (`migrates`), and after Ok version 2 alone (`ends`).
-//!   It is refused before anything is asked of the disk where the journal is too small
-//!   (`too_small`). So is a worker of version 1 beyond whose process an earlier life may have told
-//!   lines (`not_caught_up`). Whatever was promised is kept (`carries`).
+//!   It is refused before anything is asked of the disk where the journal is too small. So is a
+//!   worker of version 1 beyond whose process an earlier life may have told lines (`in_the_way`).
+//!   Whatever was promised is kept (`carries`).
 //! - Whatever is on the disk, a slice, a checkpoint, an upgrade and a recovery answer a fault of
 //!   the disk only for its cause, and `Failed` only of a worker that had failed before
 //!   (`on_any_disk`).
@@ -72,7 +74,8 @@
 //!   promised. `laws::uncut_lives_go_on`: where the power isn't cut in it, its outlet has taken
 //!   each line, or it ended by one that was refused. `laws::lives_end_as_said`: where no call has
 //!   failed either, it has ended or waits as its last slice says.
-//! - After an error no call does anything (`fails`, `refused`): each answers `Failed`.
+//! - After an error no call does anything (`fails`, `refused`): each answers `Failed`. The journal
+//!   of its store keeps whether there was one.
 //! - A recovery, a creation, a checkpoint and an upgrade begin few calls of the disk (`asks`), and
 //!   so does a slice before each of its exchanges and its end (`carries`).
 //! - `story` (module `story`) runs any list of lives on one disk in memory, and tells them
@@ -80,7 +83,8 @@
 //!
 //! # Definitions to read
 //!
-//! In `specs/rules/`: `DurableValue` (`DurableValues.antt`); `IsOnDisk`, `IsOpenOn`
+//! In `specs/rules/`: what each call does (`Effects.antt`, and of a creation
+//! `DurableCreations.antt`); `DurableValue` (`DurableValues.antt`); `IsOnDisk`, `IsOpenOn`
 //! (`OpenWorkers.antt`); `CallCarries`, `SliceCarries`, `IsReplyOf`, `HasCauseOf`
 //! (`DurableCalls.antt`); `IsCreatedOn`, `IsNotCreatedOn`, `CreationCalls`, `CreationKeeps`
 //! (`DurableCreations.antt`); `Recovers`, `RecoversFrom`, `Revives`, `OpeningCalls`,
@@ -92,11 +96,12 @@
 //! (`DurableFailures.antt`); `SliceCalls` (`SliceCalls.antt`); `CheckpointCalls`,
 //! `CheckpointFails`, `HasCheckpointCause` (`Checkpoints.antt`); `IsUpgradedIn`, `UpgradeCalls`,
 //! `UpgradeFails`, `HasUpgradeCause`, `StandsInOne`, `LeadsInOne`, `StandsInTwo`, `Migrates`,
-//! `EndsInTwo` (`Upgrades.antt`); `CountsInSlice`, `CountsInRecovery` (`Unsynced.antt`);
-//! `fault_of_store` (`WorkFaults.antt`); `fault_of_read`, `wants_memory`, `LayerWantsMemory`,
-//! `IsOfItsLayer` (`RecoverFaults.antt`); `most_calls`, `CallsForEvents` (`CallCounts.antt`);
-//! `inputs_of` (`Planned.antt`), `TellsLives` (`StoryDisks.antt`). They speak in the words of
-//! `restart_theorem` and `worker_store`.
+//! `EndsInTwo`, `RefusesUpgrade` (`Upgrades.antt`); `CountsInSlice`, `CountsInRecovery`
+//! (`Unsynced.antt`); `fault_of_store` (`WorkFaults.antt`); `fault_of_read`, `wants_memory`,
+//! `LayerWantsMemory`, `IsOfItsLayer` (`RecoverFaults.antt`); `most_calls`, `CallsForEvents`
+//! (`CallCounts.antt`); `IsOneLife`, `CallsInOrder`, `BeginsLife`, `IsCauseOf` (`OneLife.antt`);
+//! `life_outcome` (`Outcomes.antt`); `inputs_of` (`Planned.antt`), `TellsLives`
+//! (`StoryDisks.antt`). They speak in the words of `restart_theorem` and `worker_store`.
 //!
 //! # Who may touch what
 //!

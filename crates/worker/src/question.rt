@@ -6,7 +6,6 @@ ghost use Rattle.process.specs.Parts.{IsRunning, ShowsParts};
 ghost use Rattle.process_rules.specs.Processes.{Guest, ProcessState};
 ghost use Rattle.worker.specs.rules.Questions.{HasQuestion, TellsQuestion};
 
-use crate::saving::is_process;
 use machine::Machine;
 use process::Process;
 use wasi_abi::Question;
@@ -34,7 +33,6 @@ fn next_question(machine: &Machine, host: &WasiState) -> Option<Question>
 pub(crate) fn wanted_by(process: &Process) -> Option<Question>
     ensures { TellsQuestion process.now result }
 {
-    is_process(process);
     if process.reached_end().is_some() {
         return None;
     }

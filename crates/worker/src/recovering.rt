@@ -1,7 +1,7 @@
 //! A worker that is recovered from its disk.
 
 ghost use Rattle.std.specs.Prelude.{◌≡◌, ◌≤◌, []};
-ghost use Rattle.process.specs.rules.Values.{IsProcess, waiting_in};
+ghost use Rattle.process.specs.rules.Values.{waiting_in};
 ghost use Rattle.disk_layout.specs.rules.Places.{total_sectors};
 ghost use Rattle.worker.specs.Revivals.{OpensNext, OpensAgain, RevivesFound};
 
@@ -29,14 +29,7 @@ pub(crate) struct LastSnapshot {
 }
 
 impl Worker {
-    ghost use Rattle.std.specs.Prelude.{IfErr, IfOk};
-    ghost use Rattle.worker.specs.rules.Outlets.{HeedsOutlet, SaysOutletFault};
-    ghost use Rattle.worker.specs.rules.Recoveries.{HasRecoveryCause, Recovers};
-    ghost use Rattle.worker.specs.rules.Recoveries.{RecoveryCarries};
-    ghost use Rattle.worker.specs.rules.ShownDisks.{RecoversAsShown};
-    ghost use Rattle.worker.specs.rules.CallCounts.{most_recovering};
-    ghost use Rattle.sector_disk.specs.rules.Medium.{CallsUpTo};
-    ghost use Rattle.worker.specs.rules.Unsynced.{CountsInRecovery};
+    ghost use Rattle.worker.specs.rules.Effects.{RecoversWorker};
 
     /// The worker that the disk stands for goes on. Syncs the disk, and reads what it shows. Then
     /// the process takes the answers on record, and each line that it emits on the way is released.
@@ -46,36 +39,9 @@ impl Worker {
         disk: &mut D,
         outlet: &mut O,
     ) -> Result<Worker, RecoverFault>
-        // Nothing is written or told before a good sync. What the disk then shows decides the
-        // result.
-        ensures recovers { Recovers D.medium O.takes result disk.old disk.new outlet.old
-            outlet.new }
-
-        // Whatever is on the disk, the result is what the newest head and all after it say, and
-        // what is refused there is left as it is.
-        ensures shown { RecoversAsShown D.medium O.takes result disk.old disk.new outlet.old
-            outlet.new }
-
-        // Whatever was promised is kept, by Ok or by any error.
-        ensures carries { RecoveryCarries O.takes result (D.medium disk.old) (D.medium disk.new)
-            outlet.old outlet.new }
-        ensures room { IfOk result (λ w.
-            total_sectors w.store.geometry ≤ (D.medium disk.new).sectors) }
-
-        // Whatever is on the disk, a fault of the disk has its cause, and nothing has failed
-        // before.
-        ensures on_any_disk { IfErr result (λ why. HasRecoveryCause (D.medium disk.old)
-            (D.medium disk.new) why) }
-        ensures asks { CallsUpTo (most_recovering (D.medium disk.old).sectors)
-            (D.medium disk.old) (D.medium disk.new) }
-
-        // Whatever is on the disk, the outlet took each line; or it refused the last one, and the
-        // error says so.
-        ensures heeds { HeedsOutlet O.takes (SaysOutletFault result) outlet.old outlet.new }
-
-        // At no moment were there more unsynced writes than before, or than an area's and its
-        // head.
-        ensures counts { CountsInRecovery result (D.medium disk.old) (D.medium disk.new) }
+        // Nothing is written or told before a good sync. Whatever was promised is kept, by Ok or by
+        // any error.
+        ensures { RecoversWorker D.medium O.takes result disk.old disk.new outlet.old outlet.new }
     {
         process_images_fit_areas();
         if let Err(fault) = disk.sync() {
@@ -114,7 +80,7 @@ fn revive<D: Disk, O: Outlet>(
         process_image,
     };
     match replay(alloc, process, records.as_slice(), outlet) {
-        Ok((process, replayed)) => { open_again(alloc, disk, last, process, replayed) }
+        Ok((process, replayed)) => open_again(alloc, disk, last, process, replayed),
         Err(fault) => Err(RecoverFault::from(fault)),
     }
 }
@@ -129,11 +95,9 @@ fn open_again<D: Disk>(
 ) -> Result<Worker, RecoverFault>
     requires sectors { total_sectors last.geometry ≤ (D.medium disk.old).sectors }
     requires none_waits { waiting_in process ≡ [] }
-    ensures opens { OpensAgain last.geometry last.generation process replayed result
+    ensures { OpensAgain last.geometry last.generation process replayed result
         (D.medium disk.old) (D.medium disk.new) }
-    ensures some { IsProcess process }
 {
-    is_process(&process);
     match open_next(alloc, disk, last, &process) {
         Ok(store) => Ok(Worker {
             running: RunningWorker {
@@ -143,7 +107,6 @@ fn open_again<D: Disk>(
                 is_abreast: false,
             },
             replayed,
-            has_failed: false,
         }),
         Err(fault) => Err(fault),
     }

@@ -59,7 +59,7 @@ pub(crate) fn save<D: Disk>(
     ensures runs { StoreSaves result store.old store.new (D.medium disk.old) (D.medium disk.new) }
     ensures on_any_disk { IfErr result (λ e. HasSaveCause store.old process.now
         (D.medium disk.old) (D.medium disk.new) e) }
-    ensures fails { OnErr result (store.new.has_failed ≡ true) }
+    ensures fails { OnErr result (store.new.journal.has_failed ≡ true) }
     ensures stays { store.new.geometry ≡ store.old.geometry }
     ensures passes { Passes (D.medium disk.old) (D.medium disk.new) (λ _. Unit {0}) }
     ensures asks { CallsUpTo (most_saving (D.medium disk.old).sectors) (D.medium disk.old)
@@ -122,7 +122,7 @@ pub(crate) fn save_telling<D: Disk, O: Outlet>(
     ensures runs { StoreSaves result store.old store.new (D.medium disk.old) (D.medium disk.new) }
     ensures on_any_disk { IfErr result (λ e. HasSaveCause store.old process.old
         (D.medium disk.old) (D.medium disk.new) e) }
-    ensures fails { OnErr result (store.new.has_failed ≡ true) }
+    ensures fails { OnErr result (store.new.journal.has_failed ≡ true) }
     ensures stays { store.new.geometry ≡ store.old.geometry }
     ensures passes { Passes (D.medium disk.old) (D.medium disk.new) (λ _. Unit {0}) }
     ensures asks { CallsUpTo (most_saving (D.medium disk.old).sectors) (D.medium disk.old)

@@ -1,6 +1,6 @@
 //! Slices of a worker on its disk.
 
-ghost use Rattle.std.specs.Prelude.{◌≡◌, ◌≤◌, [], IfErr, IfOk};
+ghost use Rattle.std.specs.Prelude.{◌≡◌, ◌≢◌, ◌≤◌, [], true, IfErr, IfOk};
 ghost use Rattle.process.specs.rules.Values.{waiting_in};
 ghost use Rattle.disk_layout.specs.rules.Places.{total_sectors};
 ghost use Rattle.ephemeral_worker.specs.rules.Slices.{Slices};
@@ -31,6 +31,7 @@ impl RunningWorker {
         requires sectors { total_sectors self.old.store.geometry ≤ (D.medium disk.old).sectors }
         ensures done { IfOk result (λ now. Slices S.gives O.takes (working self.old.process) fuel
             now (working self.new.process) source.old source.new outlet.old outlet.new) }
+        ensures abreast { IfOk result (λ now. now ≢ Now.Spent → self.new.is_abreast ≡ true) }
         ensures works { WorksOn S.gives O.takes self.old fuel result self.new
             (D.medium disk.old) (D.medium disk.new) source.old source.new outlet.old outlet.new }
         ensures failed { IfErr result (λ why. SlicesOnDiskInVain S.gives O.takes self.old.process
@@ -61,12 +62,8 @@ impl RunningWorker {
 }
 
 impl Worker {
-    ghost use Rattle.std.specs.Prelude.{true, false, Err, OnErr};
-    ghost use Rattle.worker.specs.rules.DurableValues.{without_disk};
-    ghost use Rattle.worker.specs.rules.DurableCalls.{SliceCarries};
-    ghost use Rattle.worker.specs.rules.DurableFailures.{HasSliceCause};
-    ghost use Rattle.worker.specs.rules.SliceCalls.{SliceCalls};
-    ghost use Rattle.worker.specs.rules.Unsynced.{CountsInSlice};
+    ghost use Rattle.std.specs.Prelude.{Err};
+    ghost use Rattle.worker.specs.rules.Effects.{RunsSlice};
 
     /// Takes at most `fuel` steps: answers from the source, lines to the outlet. Before a line is
     /// released all answers are on the disk, and so they are before a sync of the guest returns.
@@ -81,46 +78,21 @@ impl Worker {
     ) -> Result<Now, WorkFault>
         requires { total_sectors self.old.store.geometry ≤ (D.medium disk.old).sectors }
 
-        // It runs as a worker does that has no disk.
-        ensures done { IfOk result (λ now. Slices S.gives O.takes (without_disk self.old) fuel now
-            (without_disk self.new) source.old source.new outlet.old outlet.new) }
-
-        // Whatever was promised is kept, by Ok or by any error.
-        ensures carries { SliceCarries S.gives O.takes self.old fuel result self.new
-            (D.medium disk.old) (D.medium disk.new) source.old source.new outlet.old outlet.new }
-        ensures fails { OnErr result (self.new.has_failed ≡ true) }
-
-        // Its calls of the disk: barriers and saves. The generation is one more by each save that
-        // has succeeded, and by nothing else.
-        ensures calls { SliceCalls result self.old.store self.new.store (D.medium disk.old)
-            (D.medium disk.new) }
-        ensures replayed { self.new.replayed ≡ self.old.replayed }
-
-        // So far it has run as a worker that has no disk.
-        ensures failed { self.old.has_failed ≡ false
-            → IfErr result (λ why. SlicesOnDiskInVain S.gives O.takes self.old.process fuel why
-            self.new.process source.old source.new outlet.old outlet.new) }
+        // It runs as a worker does that has no disk. Whatever was promised is kept, by Ok or by any
+        // error.
+        ensures runs { RunsSlice S.gives O.takes fuel self.old self.new result (D.medium disk.old)
+            (D.medium disk.new) source.old source.new outlet.old outlet.new }
         ensures refused { self.old.has_failed ≡ true
             → (result ≡ Err (WorkFault.Work SliceFault.Failed)) × (self.new ≡ self.old)
             × (disk.new ≡ disk.old) × (source.new ≡ source.old) × (outlet.new ≡ outlet.old) }
-
-        // Whatever is on the disk, a fault of the disk has its cause, and `Failed` too.
-        ensures on_any_disk { IfErr result (λ why. HasSliceCause self.old (D.medium disk.old)
-            (D.medium disk.new) why) }
-        ensures room { total_sectors self.new.store.geometry ≤ (D.medium disk.new).sectors }
-
-        // At no moment were there more unsynced writes than before and the journal's, or an area's
-        // and its head.
-        ensures counts { CountsInSlice self.old.store.geometry (D.medium disk.old)
-            (D.medium disk.new) }
     {
-        if self.has_failed {
+        if self.running.store.has_failed() {
             return Err(WorkFault::Work(SliceFault::Failed));
         }
         match self.running.work(disk, fuel, source, outlet) {
             Ok(now) => Ok(now),
             Err(fault) => {
-                self.has_failed = true;
+                self.running.store.fail();
                 Err(fault)
             }
         }

@@ -1,7 +1,7 @@
 //! The turns of a slice of a worker on its disk. Each takes steps up to where something is owed or
 //! asked, and does what that wants of the disk and of the outside.
 
-ghost use Rattle.std.specs.Prelude.{◌≡◌, ◌≤◌, IfErr, IfOk, OnErr, OnOk, Ok};
+ghost use Rattle.std.specs.Prelude.{◌≡◌, ◌≤◌, IfErr, IfOk, OnErr, OnOk, Ok, true};
 ghost use Rattle.process.specs.rules.Values.{IsProcess};
 ghost use Rattle.sector_disk.specs.rules.Medium.{CallsUpTo};
 ghost use Rattle.disk_layout.specs.rules.Places.{total_sectors};
@@ -65,6 +65,7 @@ impl RunningWorker {
         ensures once { IfOk result (λ is_there. AsksOnce S.gives question self.old.process
             (Ok is_there) self.new.process source.old source.new) }
         ensures released { self.new.process.host.released ≡ self.old.process.host.released }
+        ensures abreast { OnOk result (self.new.is_abreast ≡ true) }
         ensures asks { AsksTurn S.gives self.old question result self.new (D.medium disk.old)
             (D.medium disk.new) source.old source.new }
         ensures failed { IfErr result (λ why. AsksVainly S.gives self.old question why self.new

@@ -36,15 +36,10 @@ impl RunningWorker {
 }
 
 impl Worker {
-    ghost use Rattle.std.specs.Prelude.{◌≡◌, ◌⊎◌, ◌≤◌, Err, false, true, OnErr};
+    ghost use Rattle.std.specs.Prelude.{◌≡◌, ◌≤◌, Err, true};
     ghost use Rattle.disk_layout.specs.rules.Places.{total_sectors};
-    ghost use Rattle.sector_disk.specs.rules.Medium.{CallsUpTo};
-    ghost use Rattle.worker.specs.rules.CallCounts.{most_saving};
-    ghost use Rattle.worker.specs.rules.DurableCalls.{UpgradeCarries};
-    ghost use Rattle.worker.specs.rules.Unsynced.{CountsInSlice};
-    ghost use Rattle.worker.specs.rules.Upgrades.{EndsInTwo, HasUpgradeCause, IsNotCaughtUp};
-    ghost use Rattle.worker.specs.rules.Upgrades.{IsTooSmall, IsUpgradedIn, Migrates, UpgradeCalls};
-    ghost use Rattle.worker.specs.rules.Upgrades.{UpgradeFails, upgraded};
+    ghost use Rattle.worker.specs.rules.Effects.{UpgradesWorker};
+    ghost use Rattle.worker.specs.rules.Upgrades.{Migrates, RefusesUpgrade};
 
     /// Puts all answers on the disk, releases each line that waits, in order, and then saves the
     /// process in version 2, as a snapshot of the next generation. From then on a request, and the
@@ -61,64 +56,30 @@ impl Worker {
     ) -> Result<(), WorkFault>
         requires { total_sectors self.old.store.geometry ≤ (D.medium disk.old).sectors }
 
-        // Whatever was promised is kept, by Ok or by any error; once it has answered Ok, also that
-        // each later life is of version 2, and none comes after this process.
-        ensures carries { UpgradeCarries self.old result self.new (D.medium disk.old)
+        // Whatever was promised is kept, by Ok or by any error. After Ok the process and the disk
+        // are of version 2.
+        ensures upgrades { UpgradesWorker self.old self.new result (D.medium disk.old)
             (D.medium disk.new) }
 
-        // At each moment the disk stands for a worker of the one version or of the other, and once
-        // it has answered Ok, for one of version 2.
+        // At each moment the disk stands for a worker of the one version or of the other.
         ensures migrates { Migrates D.medium self.old disk.old disk.new }
-        ensures ends { OnOk result (EndsInTwo self.old (D.medium disk.old) (D.medium disk.new)) }
-
-        // The process is in version 2, and else as it was. After an error it may be.
-        ensures done { OnOk result (IsUpgradedIn self.old self.new) }
-        ensures after_fault { OnErr result ((self.new.process ≡ self.old.process)
-            ⊎ (self.new.process ≡ upgraded self.old.process)) }
-        ensures unsaved { OnErr result
-            (self.new.store.journal.generation ≡ self.old.store.journal.generation) }
 
         // No line waits between two calls, so none is released.
         ensures quiet { outlet.new ≡ outlet.old }
-        ensures replayed { self.new.replayed ≡ self.old.replayed }
-        ensures fails { OnErr result (self.new.has_failed ≡ true) }
 
-        // Its calls: those of a barrier, and then those of a commit. After an error these are
-        // begun.
-        ensures calls { UpgradeCalls self.old result (D.medium disk.old) (D.medium disk.new) }
-
-        // Each error has its cause, of a worker that is open on the disk and of any other.
-        ensures cause { IfErr result (λ e. UpgradeFails self.old self.new.process
-            (D.medium disk.old) (D.medium disk.new) e) }
-        ensures on_any_disk { IfErr result (λ e.
-            HasUpgradeCause self.old (D.medium disk.old) (D.medium disk.new) e) }
+        // It is refused before anything is asked of the disk.
         ensures refused { self.old.has_failed ≡ true
             → (result ≡ Err (WorkFault.Work SliceFault.Failed)) × (self.new ≡ self.old)
             × (disk.new ≡ disk.old) }
-
-        // It is refused before anything is asked of the disk.
-        ensures too_small { self.old.has_failed ≡ false → IsTooSmall self.old
-            → (result ≡ Err (WorkFault.Upgrade UpgradeFault.JournalTooSmall))
-            × (self.new.process ≡ self.old.process) × (disk.new ≡ disk.old) }
-        ensures not_caught_up { self.old.has_failed ≡ false → IsNotCaughtUp self.old
-            → (result ≡ Err (WorkFault.Upgrade UpgradeFault.NotCaughtUp))
-            × (self.new.process ≡ self.old.process) × (disk.new ≡ disk.old) }
-        ensures room { total_sectors self.new.store.geometry ≤ (D.medium disk.new).sectors }
-        ensures asks { CallsUpTo (most_saving (D.medium disk.old).sectors) (D.medium disk.old)
-            (D.medium disk.new) }
-
-        // At no moment were there more unsynced writes than before and the journal's, or an area's
-        // and its head.
-        ensures counts { CountsInSlice self.old.store.geometry (D.medium disk.old)
-            (D.medium disk.new) }
+        ensures in_the_way { RefusesUpgrade self.old result self.new disk.old disk.new }
     {
-        if self.has_failed {
+        if self.running.store.has_failed() {
             return Err(WorkFault::Work(SliceFault::Failed));
         }
         process_images_fit_areas();
         is_process(&self.running.process);
         if let Err(fault) = self.running.test_upgrade() {
-            self.has_failed = true;
+            self.running.store.fail();
             return Err(WorkFault::Upgrade(fault));
         }
         let running = &mut self.running;
@@ -130,7 +91,7 @@ impl Worker {
             outlet,
         );
         if let Err(fault) = saved {
-            self.has_failed = true;
+            self.running.store.fail();
             return Err(WorkFault::from(fault));
         }
         Ok(())

@@ -1,6 +1,5 @@
--- Why a record isn't appended.
-use Rattle.std.proofs.Common.{◌≡◌, ◌<◌, ◌≤◌, length, true, false, refl, sym, subst, ⊎_elim}
-use Rattle.std.proofs.Common.{inr}
+-- Why a record isn't appended, and what a store answers whose journal has failed.
+use Rattle.std.proofs.Common.{◌≡◌, ◌<◌, ◌≤◌, length, true, false, refl, sym, ap, ◌∙◌, subst, ⊎_elim}
 use Rattle.std.specs.Prelude.{◌↔◌, Result, Err}
 use Rattle.std.proofs.lemmas.Bool.{cases_lt, false_from_ne_true}
 use Rattle.sector_disk.specs.declared.fault.DiskFault.{DiskFault}
@@ -10,6 +9,7 @@ use Rattle.journal.specs.declared.fault.JournalFault.{JournalFault}
 use Rattle.journal.specs.declared.fault.JournalFault.TheVariants as journal
 use Rattle.journal.specs.rules.State.{room_of}
 use Rattle.worker_store.specs.declared.fault.StoreFault.{StoreFault}
+use Rattle.worker_store.specs.declared.fault.StoreFault.TheVariants.{Failed}
 use Rattle.worker_store.specs.declared.store.WorkerStore.{WorkerStore}
 use Rattle.worker_store.specs.rules.Calls.{AppendFails}
 use Rattle.worker_store.specs.rules.Faults.{fault_of_journal}
@@ -69,6 +69,15 @@ module _ (store : WorkerStore) (r : Record) where
       subst (λ (f : StoreFault). AppendFails store r f) (sym same)
       (fits_but failed too_long full)
   append_fails journal.Failed e same failed too_long full no_disk =
-      subst (λ (f : StoreFault). AppendFails store r f) (sym same) (inr (failed.0 refl))
+      subst (λ (f : StoreFault). AppendFails store r f) (sym same) (failed.0 refl)
   append_fails (journal.Disk disk) e same failed too_long full no_disk =
       absurd (no_disk disk refl)
+
+-- where its journal answers that it has failed, so does the store
+pub store_refuses : (fault : JournalFault) (e : StoreFault) → e ≡ fault_of_journal fault
+    → refusal fault ≡ refusal journal.Failed
+    → ◌≡◌ {A = Result (Unit {0}) StoreFault} (Err e) (Err Failed)
+store_refuses fault e is refused =
+    let same : fault ≡ journal.Failed = cc in
+    let failed : e ≡ Failed = is ∙ ap fault_of_journal same in
+    cc

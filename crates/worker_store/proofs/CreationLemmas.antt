@@ -22,7 +22,7 @@ use Rattle.disk_layout.specs.rules.Contents.{contents_sectors}
 use Rattle.disk_layout.proofs.ContentsLemmas.{holds_what_is_written}
 use Rattle.restart_theorem.specs.Stands.{IsBlank}
 use Rattle.worker_store.specs.laws.Creations.{AwaitsHead, HasNoSuper, zero_sector}
-use Rattle.worker_store.specs.laws.Moments.{LeavesAll}
+use Rattle.worker_store.specs.rules.Savepoints.{LeavesAll}
 use Rattle.worker_store.proofs.LawLemmas.Creating.{zeros_keep_blank, zeros_take_super}
 use Rattle.worker_store.proofs.LawLemmas.Creating.{runs_keep_no_super}
 use Rattle.worker_store.proofs.LawLemmas.Creating.{no_super_is_blank, zero_runs_await_head}

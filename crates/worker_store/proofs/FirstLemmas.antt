@@ -26,10 +26,8 @@ use Rattle.snapshot.specs.rules.Steps.{Commits, Replaces}
 use Rattle.state_image.specs.rules.ProcessImage.{Saved, process_image}
 use Rattle.state_image.specs.rules.Saving.{saved_of}
 use Rattle.restart_theorem.specs.Stands.{IsBlank}
-use Rattle.worker_store.specs.laws.Savepoints.{Savepoint, places}
-use Rattle.worker_store.specs.laws.Commits.{BeginsAtPoint}
+use Rattle.worker_store.specs.rules.Savepoints.{Savepoint, places, BeginsAtPoint, LeavesAll}
 use Rattle.worker_store.specs.laws.Creations.{AwaitsHead, AwaitsSuper, HasNoSuper, super_of_point}
-use Rattle.worker_store.specs.laws.Moments.{LeavesAll}
 use Rattle.worker_store.proofs.LawLemmas.Creating.{first_commit_keeps_no_super}
 use Rattle.worker_store.proofs.LawLemmas.Creating.{first_commit_awaits_super}
 use Rattle.worker_store.proofs.LawLemmas.Creating.{super_begins, whole_super_begins}
@@ -190,7 +188,7 @@ module _ (geometry : Geometry) (count : ℕ) where
 -- ---- the store
 
 pub first_stored : {D : Type 0} (medium : D → Medium) (settings : Settings) (wasm : List ℕ)
-    (process : ProcessValue) (store : WorkerStore) (new : D) → store.has_failed ≡ false
+    (process : ProcessValue) (store : WorkerStore) (new : D)
     → store.geometry ≡ geometry_of settings (length wasm)
     → store.journal ≡ state (saved_of process).version 1 0 [] false
     → total_sectors store.geometry ≤ (medium new).sectors
@@ -198,10 +196,9 @@ pub first_stored : {D : Type 0} (medium : D → Medium) (settings : Settings) (w
     → ((m : Module) (point : Savepoint m settings) → IsFirstPoint wasm process point
     → LeavesAll (medium new) (BeginsAtPoint point))
     → StoresFirst settings wasm process store (medium new)
-first_stored medium settings wasm process store new works placed fresh sectors all_synced begins m
-    point
+first_stored medium settings wasm process store new placed fresh sectors all_synced begins m point
     first =
-    begun_stored medium m settings point store new 1 (sym first.generation) (omega arith) works
+    begun_stored medium m settings point store new 1 (sym first.generation) (omega arith)
     (placed ∙ ap (λ w. geometry_of settings (length w)) (sym first.wasm))
     (fresh ∙ ap (λ (s : Saved). state s.version 1 0 [] false) (sym first.saved)) sectors all_synced
     (begins m point first) first.numbers

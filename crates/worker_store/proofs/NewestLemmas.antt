@@ -26,7 +26,7 @@ use Rattle.worker_store.specs.declared.newest.NewestProcessImage.{NewestProcessI
 use Rattle.worker_store.specs.declared.read_fault.ReadFault.{ReadFault}
 use Rattle.worker_store.specs.declared.read_fault.ReadFault.TheVariants as read
 use Rattle.worker_store.specs.laws.Readings.{FindsSaved}
-use Rattle.worker_store.specs.laws.Savepoints.{Savepoint, places, IsAtSavepoint}
+use Rattle.worker_store.specs.rules.Savepoints.{Savepoint, places, IsAtSavepoint}
 use Rattle.worker_store.specs.rules.Readings.{ReadsNewest}
 use Rattle.worker_store.proofs.LawLemmas.Reading.{finds_newest_point, finds_the_point}
 use Rattle.worker_store.proofs.LawLemmas.Reading.{reads_undamaged}

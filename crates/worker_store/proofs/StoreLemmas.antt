@@ -1,7 +1,7 @@
 -- The calls of a store, by the laws of the worker on its disk.
 use Rattle.std.proofs.Common.{◌≡◌, ◌<◌, ◌≤◌, ◌⊎◌, ◌^◌, ℕ, ◌+◌, List, [], ◌++◌}
 use Rattle.std.proofs.Common.{length}
-use Rattle.std.proofs.Common.{refl, sym, ap, ◌∙◌, subst, inr, ⊎_elim, arith, false, Err}
+use Rattle.std.proofs.Common.{refl, sym, ap, ◌∙◌, subst, ⊎_elim, arith, Bool, true, false, Err}
 use Rattle.std.proofs.lemmas.List.{length-append}
 use Rattle.sector_disk.specs.rules.DiskImage.{DiskImage}
 use Rattle.sector_disk.specs.rules.Medium.{Medium, After, Follows, IsAllSynced, LeavesOnly}
@@ -22,10 +22,8 @@ use Rattle.disk_layout.specs.rules.Places.{geometry_of}
 use Rattle.wasm_syntax.specs.declared.module.Module.{Module}
 use Rattle.wasi_abi.specs.rules.Configs.{Settings}
 use Rattle.restart_theorem.specs.Stands.{IsNumbered}
-use Rattle.worker_store.specs.laws.Commits.{BeginsAtPoint}
-use Rattle.worker_store.specs.laws.Moments.{LeavesAll}
-use Rattle.worker_store.specs.laws.Savepoints.{Savepoint, places}
-use Rattle.worker_store.specs.laws.Journaled.{IsJournaled}
+use Rattle.worker_store.specs.rules.Savepoints.{BeginsAtPoint, LeavesAll, Savepoint, places}
+use Rattle.worker_store.specs.rules.Savepoints.{IsJournaled}
 use Rattle.worker_store.proofs.LawLemmas.Keeping.{barrier_at_any_moment, barrier_in_the_end}
 use Rattle.worker_store.proofs.LawLemmas.Keeping.{append_goes_on, begins_journaled}
 use Rattle.worker_store.proofs.LawLemmas.Passing.{commit_at_any_moment, commit_in_the_end}
@@ -33,7 +31,7 @@ use Rattle.worker_store.proofs.LawLemmas.Passing.{commit_keeps_at_any_moment}
 use Rattle.worker_store.proofs.LawLemmas.Passing.{commit_keeps_in_the_end}
 use Rattle.worker_store.specs.declared.store.WorkerStore.{WorkerStore}
 use Rattle.worker_store.specs.laws.Laws.{AppendStores}
-use Rattle.worker_store.specs.rules.Stores.{IsStoreOf}
+use Rattle.worker_store.specs.rules.Stores.{IsStoreOf, failed_store}
 use Rattle.worker_store.specs.rules.Calls.{LeavesBeforeOrNext, LeavesPointOrNext, StoresAgain}
 use Rattle.worker_store.specs.rules.Calls.{LeavesFronts, StoresAll, LeavesOneOfTwo, StoresNext}
 use Rattle.worker_store.specs.rules.Calls.{BarrierFails}
@@ -50,8 +48,7 @@ module _ {D : Type 0} (medium : D → Medium) where
       let more = length-append store.journal.kept (record_bytes store.journal.version r) in
       let many = ap (λ (g : Geometry). g.journal_sectors) is.geometry in
       record {
-        works = is.works;
-        journal_works = refl;
+        works = refl;
         geometry = is.geometry;
         journaled =
             append_goes_on medium m config point store.journal
@@ -88,7 +85,7 @@ module _ {D : Type 0} (medium : D → Medium) where
 
     pub barrier_stores : (after : WorkerStore) (used : ℕ)
         → after.journal ≡ state before.journal.version before.journal.generation used [] false
-        → after.geometry ≡ before.geometry → after.has_failed ≡ false
+        → after.geometry ≡ before.geometry
         → ((records kept : List Record)
         → IsOn before.geometry before.journal.version before.journal.generation
         before.journal.used before.journal.kept records kept (medium old).crash_images
@@ -98,7 +95,7 @@ module _ {D : Type 0} (medium : D → Medium) where
         → (length before.journal.kept ≡ 0) ⊎ IsAllSynced (medium new)
         → (length before.journal.kept ≡ 0 → new ≡ old)
         → StoresAll before after (medium old) (medium new)
-    barrier_stores after used e same works durable all_synced quiet m config point
+    barrier_stores after used e same durable all_synced quiet m config point
         records pending last now is =
         let journal = before.journal in
         let journaled = is.journaled in
@@ -110,8 +107,7 @@ module _ {D : Type 0} (medium : D → Medium) where
         let p = all.passes in
         let none = ap (λ (j : JournalState). length j.kept) e in
         record {
-          works = works;
-          journal_works = ap (λ (j : JournalState). j.has_failed) e;
+          works = ap (λ (j : JournalState). j.has_failed) e;
           geometry = same ∙ is.geometry;
           journaled =
               barrier_in_the_end medium m config point journal after.journal records pending last
@@ -134,20 +130,19 @@ module _ {D : Type 0} (medium : D → Medium) where
   -- a disk that begins at a savepoint, with a fresh journal
   pub begun_stored : (m : Module) (config : Settings) (point : Savepoint m config)
       (store : WorkerStore)
-      (new : D) (g : ℕ) → g ≡ point.generation → g < 2 ^ 63 → store.has_failed ≡ false
+      (new : D) (g : ℕ) → g ≡ point.generation → g < 2 ^ 63
       → store.geometry ≡ places point → store.journal ≡ state point.saved.version g 0 [] false
       → total_sectors store.geometry ≤ (medium new).sectors → IsAllSynced (medium new)
       → LeavesAll (medium new) (BeginsAtPoint point) → IsNumbered point.process
       → IsStoreOf point store [] [] point.process point.process (medium new)
-  begun_stored m config point store new g numbered early works placed e sectors all_synced begins
+  begun_stored m config point store new g numbered early placed e sectors all_synced begins
       numbers =
       let below : point.generation < 2 ^ 63 = subst (λ k. k < 2 ^ 63) numbered early in
       let fresh : store.journal ≡ state point.saved.version point.generation 0 [] false =
       e ∙ ap (λ k. state point.saved.version k 0 [] false) numbered in
       let none = ap (λ (j : JournalState). length j.kept) e in
       record {
-        works = works;
-        journal_works = ap (λ (j : JournalState). j.has_failed) e;
+        works = ap (λ (j : JournalState). j.has_failed) e;
         geometry = placed;
         journaled = subst (λ (j : JournalState).
             IsJournaled point j [] [] point.process point.process (medium new)) (sym fresh)
@@ -185,14 +180,14 @@ module _ {D : Type 0} (medium : D → Medium) where
 
     pub commit_stores : (after : WorkerStore)
         → after.journal ≡ state (saved_of process).version n 0 [] false
-        → after.geometry ≡ before.geometry → after.has_failed ≡ false
+        → after.geometry ≡ before.geometry
         → (medium new).sectors ≡ (medium old).sectors
         → Follows (Replaces before.geometry n (version_number (saved_of process).version)
         (process_image (saved_of process)))
         (medium old).crash_images (medium new).crash_images
         → IsAllSynced (medium new) → n < 2 ^ 63
         → StoresNext before after process (medium old) (medium new)
-    commit_stores after e same works sectors done all_synced early m config point next
+    commit_stores after e same sectors done all_synced early m config point next
         records pending last now is is_next saved =
         let journaled = is.journaled in
         let whose = journaled.generation in
@@ -214,7 +209,7 @@ module _ {D : Type 0} (medium : D → Medium) where
         (sym saved) done))) in
         let room = is.sectors in
         let where_it_is = same ∙ is.geometry in
-        begun_stored m config next after new n numbered early works (where_it_is ∙ place)
+        begun_stored m config next after new n numbered early (where_it_is ∙ place)
         (e ∙ ap (λ (s : Saved). state s.version n 0 [] false) (sym saved))
         (subst (λ (g : Geometry). total_sectors g ≤ (medium new).sectors) (sym where_it_is)
         (omega (arith, room, sectors))) all_synced begins is_next.numbers
@@ -259,14 +254,14 @@ module _ {D : Type 0} (medium : D → Medium) where
 
     pub reopening_stores : (store : WorkerStore)
         → store.journal ≡ state (saved_of process).version g 0 [] false
-        → store.geometry ≡ geometry → store.has_failed ≡ false
+        → store.geometry ≡ geometry
         → total_sectors geometry ≤ (medium new).sectors
         → Follows (Replaces geometry g (version_number (saved_of process).version)
         (process_image (saved_of process)))
         (medium old).crash_images (medium new).crash_images
         → IsAllSynced (medium new) → g < 2 ^ 63
         → StoresAgain geometry g process store (medium old) (medium new)
-    reopening_stores store e same works sectors done all_synced early m config next
+    reopening_stores store e same sectors done all_synced early m config next
         kept n again all =
         let begins = commit_keeps_in_the_end medium m config next kept n old new all
         (subst (λ (p : Geometry).
@@ -277,7 +272,7 @@ module _ {D : Type 0} (medium : D → Medium) where
         (medium old).crash_images (medium new).crash_images) (sym again.generation)
         (subst (λ s. Follows (Replaces geometry g (version_number s.version) (process_image s))
         (medium old).crash_images (medium new).crash_images) (sym again.saved) done))) in
-        begun_stored m config next store new g (sym again.generation) early works
+        begun_stored m config next store new g (sym again.generation) early
         (same ∙ again.placed)
         (e ∙ ap (λ (s : Saved). state s.version g 0 [] false) (sym again.saved))
         (subst (λ (p : Geometry). total_sectors p ≤ (medium new).sectors) (sym same) sectors)
@@ -293,7 +288,7 @@ barrier_fault store after old new of_journal.Full stores = let full = stores.ful
 barrier_fault store after old new of_journal.TooLong stores = absurd (stores.not_too_long refl)
 barrier_fault store after old new (of_journal.Disk fault) stores = stores.cause fault refl
 barrier_fault store after old new of_journal.Memory stores = absurd (stores.no_memory refl)
-barrier_fault store after old new of_journal.Failed stores = inr (stores.failed.0 refl)
+barrier_fault store after old new of_journal.Failed stores = stores.failed.0 refl
 
 pub barrier_fails_so : (store : WorkerStore) (after : JournalState) (old new : Medium)
     (fault : JournalFault) (e : StoreFault) → e ≡ fault_of_journal fault
@@ -302,3 +297,11 @@ pub barrier_fails_so : (store : WorkerStore) (after : JournalState) (old new : M
 barrier_fails_so store after old new fault e is stores =
     subst (λ (f : StoreFault). BarrierFails store old new f) (sym is)
     (barrier_fault store after old new fault stores)
+
+-- ---- what a failure changes
+
+-- of a store that has failed, nothing
+pub failed_before : (store : WorkerStore) → store.journal.has_failed ≡ true
+    → store ≡ failed_store store
+failed_before store failed =
+    ap (λ (b : Bool). record store { journal = record store.journal { has_failed = b } }) failed

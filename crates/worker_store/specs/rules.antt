@@ -1,5 +1,8 @@
 pub mod Faults
 pub mod ReadFaults
+pub mod Savepoints
+pub mod Carried
+pub mod BetweenCalls
 pub mod Stores
 pub mod Calls
 pub mod Creations

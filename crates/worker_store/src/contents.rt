@@ -9,7 +9,7 @@ ghost use Rattle.disk_layout.specs.rules.Places.{config_bytes, geometry_of, roun
 ghost use Rattle.disk_layout.specs.rules.Places.{total_sectors};
 ghost use Rattle.restart_theorem.specs.Stands.{IsBlank};
 ghost use Rattle.worker_store.specs.laws.Creations.{AwaitsHead, HasNoSuper};
-ghost use Rattle.worker_store.specs.laws.Moments.{LeavesAll};
+ghost use Rattle.worker_store.specs.rules.Savepoints.{LeavesAll};
 ghost use Rattle.worker_store.specs.rules.Creations.{behind_calls, contents_calls, behind_sectors};
 
 use crate::zeros::write_zeros;

@@ -10,9 +10,7 @@ ghost use Rattle.disk_layout.specs.rules.Places.{total_sectors};
 ghost use Rattle.disk_layout.specs.rules.Unsynced.{most_unsynced};
 ghost use Rattle.state_image.specs.rules.ProcessImage.{process_image};
 ghost use Rattle.state_image.specs.rules.Saving.{saved_of};
-ghost use Rattle.worker_store.specs.laws.Savepoints.{Savepoint};
-ghost use Rattle.worker_store.specs.laws.Commits.{BeginsAtPoint};
-ghost use Rattle.worker_store.specs.laws.Moments.{LeavesAll};
+ghost use Rattle.worker_store.specs.rules.Savepoints.{Savepoint, BeginsAtPoint, LeavesAll};
 ghost use Rattle.worker_store.specs.rules.Creations.{LaysOutDisk, LeavesBlankOrFirst, IsFirstPoint};
 ghost use Rattle.worker_store.specs.rules.Creations.{CreationFails, creation_calls};
 
@@ -60,7 +58,6 @@ pub fn lay_out<D: Disk>(
     Ok(WorkerStore {
         geometry,
         journal: Journal::fresh(alloc, process.version(), 1),
-        has_failed: false,
     })
 }
 
@@ -88,7 +85,8 @@ fn lay_worker<D: Disk>(
     ensures passes { Passes (D.medium disk.old) (D.medium disk.new) (λ _. Unit {0}) }
     ensures no_memory { IfErr result (λ e. e ≢ StoreFault.Memory) }
     ensures calls { PerformsCalls (creation_calls geometry.now
-        (length (process_image (saved_of process.now)))) result (D.medium disk.old) (D.medium disk.new) }
+        (length (process_image (saved_of process.now)))) result (D.medium disk.old)
+        (D.medium disk.new) }
     ensures cause { IfErr result (λ e.
         CreationFails geometry.now process.now (D.medium disk.old) (D.medium disk.new) e) }
     ensures asks { CallsUpTo ((D.medium disk.old).sectors + 9) (D.medium disk.old)

@@ -34,8 +34,9 @@
 //!   creation there are no more than before and one, or than ever wait for a sync (`counts`,
 //!   `most_unsynced`). A disk that takes that many has room for it (`cause`).
 //! - `laws::process_images_fit_areas`: the image of a well-typed process is never too big.
-//! - Each error comes only for its cause (`cause`). After an error of a store each of its calls
-//!   answers `Failed`, and touches neither disk nor store (`fails`, `refused`).
+//! - Each error comes only for its cause (`cause`). After an error of a store, and after `fail`,
+//!   each of its calls answers `Failed`, and touches neither disk nor store (`fails`, `refused`).
+//!   `has_failed` says so: it is the flag of its journal.
 //! - What becomes of any store is told too. Where it is laid out, opened or committed, a generation
 //!   begins (`begun`). Behind a barrier all its records are on the disk (`stored`). After an error
 //!   its places and its generation are as before (`stays`, `unchanged`).
@@ -96,18 +97,17 @@
 //!
 //! # Definitions to read
 //!
-//! In `specs/rules/`: `IsStoreOf`, `begun_store`, `with_record`, `with_stored` (`Stores.antt`);
-//! what each call does (`Effects.antt`, and `LaysOutDisk` of `Creations.antt`), what it leaves, and
-//! when each error comes (`Calls.antt`, `Creations.antt`, `Readings.antt`, `AnyDisk.antt`); faults
-//! of the crates below (`Faults.antt`, `ReadFaults.antt`). Words that they take from `specs/laws/`:
-//! `Savepoint`, `IsAtSavepoint` (`Savepoints.antt`), `IsAtFront` (`Barriers.antt`),
-//! `BeginsAtPoint` and `StandsBefore` (`Commits.antt`).
+//! In `specs/rules/`: `Savepoint`, `IsAtSavepoint`, `BeginsAtPoint`, `IsAtFront`, `StandsBefore`,
+//! `IsJournaled` (`Savepoints.antt`); `IsStoreOf`, `begun_store`, `with_record`, `with_stored`,
+//! `failed_store` (`Stores.antt`); what each call does (`Effects.antt`, and `LaysOutDisk` of
+//! `Creations.antt`), what it leaves, and when each error comes (`Calls.antt`, `Creations.antt`,
+//! `Readings.antt`, `AnyDisk.antt`); faults of the crates below (`Faults.antt`, `ReadFaults.antt`).
+//! Contracts of `worker` speak of `IsHeldAt`, `IsCarried`, `AreOnRecord` and `SyncsAreHeld`
+//! (`Carried.antt`), and of `IsBetween` and `IsForetold` (`BetweenCalls.antt`).
 //!
-//! All else in `specs/laws/` are second forms of what `restart_theorem`, `journal`, `snapshot` and
+//! In `specs/laws/` are second forms of what `restart_theorem`, `journal`, `snapshot` and
 //! `disk_layout` define. Nobody has to believe them. They are `AwaitsHead` and `AwaitsSuper`
-//! (`Creations.antt`), `IsJournaled` (`Journaled.antt`), `IsHeldAt`, `SavesFront` and `IsCarried`
-//! (`Carried.antt`), `IsSaving` and `SavesWith` (`Acts.antt`), `SyncsAreHeld` and `AreOnRecord`
-//! (`Raised.antt`).
+//! (`Creations.antt`), `SavesFront` (`Carried.antt`), `IsSaving` and `SavesWith` (`Acts.antt`).
 //!
 //! # Who may touch what
 //!

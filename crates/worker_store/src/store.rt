@@ -11,12 +11,12 @@ use std::alloc::Global;
 use wasi_abi::Version;
 
 /// Where a worker's records and snapshots go. It keeps no disk: each call that touches one is
-/// handed it. After an error each call answers `Failed`, and touches neither disk nor store.
+/// handed it. After an error each call answers `Failed`, and touches neither disk nor store. Its
+/// journal keeps whether there was one.
 #[derive(Drop)]
 pub struct WorkerStore {
     pub(crate) geometry: Geometry,
     pub(crate) journal: Journal,
-    pub(crate) has_failed: bool,
 }
 
 impl WorkerStore {
@@ -29,7 +29,7 @@ impl WorkerStore {
     ghost use Rattle.journal.specs.rules.Steps.{RecordFits};
     ghost use Rattle.worker_store.specs.rules.Calls.{AppendFails};
     ghost use Rattle.worker_store.specs.rules.Effects.{ReopensStore, StoresPending, CommitsProcess};
-    ghost use Rattle.worker_store.specs.rules.Stores.{IsOfStore, with_record};
+    ghost use Rattle.worker_store.specs.rules.Stores.{IsOfStore, failed_store, with_record};
 
     /// Opens the store of a worker that a recovery has brought back to this process, from the disk
     /// that stands for it. It is committed as this generation, one more than that of the newest
@@ -54,8 +54,21 @@ impl WorkerStore {
         Ok(WorkerStore {
             geometry: *geometry,
             journal: Journal::fresh(alloc, process.version(), generation),
-            has_failed: false,
         })
+    }
+
+    /// Whether a call has failed.
+    pub fn has_failed(&self) -> bool
+        ensures { result ≡ self.now.journal.has_failed }
+    {
+        self.journal.has_failed()
+    }
+
+    /// From now on each call answers `Failed`, as after an error.
+    pub fn fail(&mut self)
+        ensures { self.new ≡ failed_store self.old }
+    {
+        self.journal.fail();
     }
 
     /// The version of the records.
@@ -95,15 +108,11 @@ impl WorkerStore {
             ≤ room_of self.old.geometry self.old.journal) }
         ensures cause { IfErr result (λ e. AppendFails self.old entry.now e) }
         ensures stays { IsOfStore self.old self.new }
-        ensures fails { OnErr result (self.new.has_failed ≡ true) }
-        ensures refused { self.old.has_failed ≡ true
+        ensures fails { OnErr result (self.new.journal.has_failed ≡ true) }
+        ensures refused { self.old.journal.has_failed ≡ true
             → (result ≡ Err StoreFault.Failed) × (self.new ≡ self.old) }
     {
-        if self.has_failed {
-            return Err(StoreFault::Failed);
-        }
         if let Err(fault) = self.journal.append(&self.geometry, entry) {
-            self.has_failed = true;
             return Err(StoreFault::from(fault));
         }
         Ok(())
@@ -122,14 +131,10 @@ impl WorkerStore {
             < sectors_for (length self.old.journal.kept)
             → ((result ≡ Err StoreFault.Full) ⊎ (result ≡ Err StoreFault.Failed))
             × (disk.new ≡ disk.old) }
-        ensures refused { self.old.has_failed ≡ true
+        ensures refused { self.old.journal.has_failed ≡ true
             → (result ≡ Err StoreFault.Failed) × (self.new ≡ self.old) × (disk.new ≡ disk.old) }
     {
-        if self.has_failed {
-            return Err(StoreFault::Failed);
-        }
         if let Err(fault) = self.journal.barrier(disk, &self.geometry) {
-            self.has_failed = true;
             return Err(StoreFault::from(fault));
         }
         Ok(())
@@ -148,16 +153,16 @@ impl WorkerStore {
         requires { total_sectors self.old.geometry ≤ (D.medium disk.old).sectors }
         ensures commits { CommitsProcess process.now self.old self.new result (D.medium disk.old)
             (D.medium disk.new) }
-        ensures refused { self.old.has_failed ≡ true
+        ensures refused { self.old.journal.has_failed ≡ true
             → (result ≡ Err StoreFault.Failed) × (self.new ≡ self.old) × (disk.new ≡ disk.old) }
     {
-        if self.has_failed {
+        if self.has_failed() {
             return Err(StoreFault::Failed);
         }
         let next = self.journal.generation().saturating_add(1);
         let written = write_snapshot(disk, &self.geometry, next, Writing::Changes, process, None);
         if let Err(fault) = written {
-            self.has_failed = true;
+            self.fail();
             return Err(StoreFault::from(fault));
         }
         self.journal = Journal::fresh(alloc, process.version(), next);

@@ -1,16 +1,10 @@
 -- Laws of the journal (this project's own).
-use Rattle.std.specs.Prelude.{◌≡◌, ℕ, ◌+◌, ◌<◌, List, []}
+use Rattle.std.specs.Prelude.{◌≡◌, ℕ, List, []}
 use Rattle.wasi_abi.specs.declared.version.Version.{Version}
-use Rattle.sector_disk.specs.rules.DiskImage.{DiskImage, sector_at}
-use Rattle.disk_layout.specs.rules.Places.{Geometry, journal_place}
-use Rattle.disk_layout.specs.rules.Sectors.{shown_generation}
+use Rattle.sector_disk.specs.rules.DiskImage.{DiskImage}
+use Rattle.disk_layout.specs.rules.Places.{Geometry}
 use Rattle.disk_layout.specs.rules.Journal.{Record, scan}
-use Rattle.journal.specs.rules.Steps.{HoldsRecords, AllRecordsFit}
-
--- each sector of the journal shows an earlier generation
-abbrev pub ShowsEarlierThan : Geometry → ℕ → DiskImage → Type 0
-ShowsEarlierThan geometry g image = (k : ℕ) → k < geometry.journal_sectors
-    → shown_generation (1 + k) (sector_at image (journal_place geometry + k)) < g
+use Rattle.journal.specs.rules.Steps.{HoldsRecords, AllRecordsFit, ShowsEarlierThan}
 
 -- a journal of a generation that no sector shows has no records yet
 abbrev pub FreshHoldsNone : Type 0

@@ -11,7 +11,7 @@ use Rattle.journal.specs.declared.fault.JournalFault.{JournalFault}
 use Rattle.journal.specs.declared.fault.JournalFault.TheVariants.{Full, TooLong, Memory, Failed}
 use Rattle.journal.specs.declared.fault.JournalFault.TheVariants.{Disk}
 use Rattle.journal.specs.rules.Packed.{sectors_for}
-use Rattle.journal.specs.rules.State.{JournalState, state}
+use Rattle.journal.specs.rules.State.{JournalState, state, failed_journal}
 use Rattle.journal.specs.rules.Steps.{AppendsFront, IsOn, HoldsRecords, barrier_calls}
 
 -- The records that only memory holds are put into the next sectors, and synced.
@@ -21,8 +21,7 @@ pub record StoresKept (geometry : Geometry) (before after : JournalState)
   pub ok : OnOk result (after ≡ state before.version before.generation
       (before.used + sectors_for (length before.kept)) [] false)
   -- after an error it holds all of them
-  pub err : OnErr result (after
-      ≡ state before.version before.generation before.used before.kept true)
+  pub err : OnErr result (after ≡ failed_journal before)
   -- an earlier call has failed
   pub failed : (result ≡ Err Failed) ↔ (before.has_failed ≡ true)
   -- they take more sectors than the journal has left

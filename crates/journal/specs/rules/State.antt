@@ -1,5 +1,5 @@
 -- What a journal holds beside its disk (this project's own).
-use Rattle.std.specs.Prelude.{ℕ, ◌-◌, ◌*◌, Bool, List, length}
+use Rattle.std.specs.Prelude.{ℕ, ◌-◌, ◌*◌, Bool, true, List, length}
 use Rattle.wasi_abi.specs.declared.version.Version.{Version}
 use Rattle.disk_layout.specs.rules.Places.{Geometry}
 use Rattle.disk_layout.specs.declared.journal_sectors.TheConstants.{PAYLOAD_SIZE}
@@ -22,6 +22,10 @@ state version generation used kept has_failed = record {
   kept = kept;
   has_failed = has_failed;
 }
+
+-- a call has failed, and all else is as before
+abbrev pub failed_journal : JournalState → JournalState
+failed_journal s = record s { has_failed = true }
 
 -- how many more bytes there is room for
 abbrev pub room_of : Geometry → JournalState → ℕ

@@ -66,6 +66,11 @@ abbrev pub ShowsNoneAfter : Geometry → ℕ → DiskImage → Type 0
 ShowsNoneAfter geometry g image = (k : ℕ) → k < geometry.journal_sectors
     → shown_generation (1 + k) (sector_at image (journal_place geometry + k)) ≤ g
 
+-- each sector of the journal shows an earlier generation
+abbrev pub ShowsEarlierThan : Geometry → ℕ → DiskImage → Type 0
+ShowsEarlierThan geometry g image = (k : ℕ) → k < geometry.journal_sectors
+    → shown_generation (1 + k) (sector_at image (journal_place geometry + k)) < g
+
 -- a scan of the new image gives the records, and a prefix of those kept after them; no other sector
 -- is changed
 pub record AppendsFront (geometry : Geometry) (v : Version) (g used : ℕ)

@@ -6,7 +6,7 @@ use Rattle.std.specs.Io.KnownBytes.{Appends}
 use Rattle.std.proofs.lemmas.List.{append_assoc, append-nil}
 use Rattle.wasmhost_commands.specs.rules.Printers.{PrinterState, IsPrinted}
 use Rattle.wasmhost_commands.specs.rules.Texts.{printed}
-use Rattle.wasmhost_commands.specs.rules.Printed.{all_printed, TakenLinesArePrinted}
+use Rattle.wasmhost_commands.specs.laws.Printed.{all_printed, TakenLinesArePrinted}
 
 pub appends_nothing : (o : Option (List ℕ)) → Appends o o []
 appends_nothing None = tt

@@ -16,14 +16,14 @@ use Rattle.worker.specs.rules.DurableValues.{DurableValue}
 use Rattle.worker.specs.rules.LifeWords.{Act, by_recovery}
 use Rattle.worker.specs.rules.Outlets.{HeedsOutlet, IsOutletFault, SaysOutletFault}
 use Rattle.worker.specs.rules.Recoveries.{IsNoWorker, IsJustSynced, RecoveryCarries}
-use Rattle.worker.specs.laws.OneLife.{IsOneLife}
+use Rattle.worker.specs.rules.OneLife.{IsOneLife}
 use Rattle.wasmhost_commands.specs.declared.lines.outside.Outside.{Outside}
 use Rattle.wasmhost_commands.specs.declared.on_disk.fault.OnDiskFault.{OnDiskFault}
 use Rattle.wasmhost_commands.specs.Lines.Answers.{SourceState, source_state, HandsNext}
 use Rattle.wasmhost_commands.specs.rules.BrokenLives.{BreaksOffFrom, steps_among}
 use Rattle.wasmhost_commands.specs.rules.DiskStatuses.{IsReportedOnDisk, opening_fault}
 use Rattle.wasmhost_commands.specs.rules.DiskStatuses.{status_on_disk}
-use Rattle.worker.specs.laws.Outcomes.{life_outcome}
+use Rattle.worker.specs.rules.Outcomes.{life_outcome}
 use Rattle.wasmhost_commands.specs.rules.Hearings.{AsksUnless, IsOfSource}
 use Rattle.wasmhost_commands.specs.rules.Paces.{IsPaced}
 use Rattle.wasmhost_commands.specs.rules.Printers.{PrinterState, IsSaid, SaysText, TellsPerson}

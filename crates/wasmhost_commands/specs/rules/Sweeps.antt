@@ -1,6 +1,6 @@
 -- What `wasmhost sweep` runs and compares: a script's lives, and then the same lives with the power
 -- cut at each call of one of them (this project's own).
-use Rattle.std.specs.Prelude.{◌≡◌, ℕ, zero, suc, ◌+◌, ◌-◌, ◌<◌, ◌≤◌, length, map, take}
+use Rattle.std.specs.Prelude.{◌≡◌, ℕ, zero, suc, ◌+◌, ◌-◌, ◌<◌, length, map, take}
 use Rattle.std.specs.Prelude.{drop, unwrap_or, slice_get, List, [], ◌∷◌, ◌++◌, Option, Some, None}
 use Rattle.std.specs.Prelude.{option_and_then, option_map, codes}
 use Rattle.std.specs.List.{All, Contains, flat_map}

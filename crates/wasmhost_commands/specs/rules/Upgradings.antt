@@ -11,14 +11,15 @@ use Rattle.record_replay.specs.rules.Lists.{HandsOut}
 use Rattle.ephemeral_worker.specs.declared.now.Now.TheVariants.{Spent}
 use Rattle.worker.specs.declared.fault.WorkFault.{WorkFault}
 use Rattle.worker.specs.declared.fault.WorkFault.TheVariants as work
+use Rattle.worker.specs.declared.upgrade_fault.UpgradeFault.TheVariants.{NotCaughtUp}
 use Rattle.worker.specs.declared.recover_fault.RecoverFault.{RecoverFault}
 use Rattle.worker.specs.declared.recover_fault.RecoverFault.TheVariants as recover
 use Rattle.worker.specs.rules.DurableValues.{DurableValue}
 use Rattle.worker.specs.rules.LifeWords.{Act, Slice, Upgrade, by_recovery}
 use Rattle.worker.specs.rules.Outlets.{TakesEach, HeedsOutlet, SaysOutletFault}
 use Rattle.worker.specs.rules.Recoveries.{RecoveryCarries}
-use Rattle.worker.specs.laws.OneLife.{IsOneLife}
-use Rattle.worker.specs.laws.Outcomes.{life_outcome}
+use Rattle.worker.specs.rules.OneLife.{IsOneLife}
+use Rattle.worker.specs.rules.Outcomes.{life_outcome}
 use Rattle.wasmhost_commands.specs.declared.on_disk.upgrading.Upgraded.{Upgraded}
 use Rattle.wasmhost_commands.specs.declared.on_disk.upgrading.Upgraded.TheVariants.{Now, Before}
 use Rattle.wasmhost_commands.specs.rules.BrokenLives.{BreaksInSliceFrom, steps_among}
@@ -54,6 +55,10 @@ undone_then (Err why) = Err (recover.Worker why)
 abbrev pub IsOfUpgrade : WorkFault → Type 0
 IsOfUpgrade (work.Work why) = ⊥
 IsOfUpgrade other = ⊤
+
+-- any error but that lines beyond the worker's process may have been told
+abbrev pub IsOfCaughtUp : WorkFault → Type 0
+IsOfCaughtUp why = why ≢ work.Upgrade NotCaughtUp
 
 -- the exit status so far, which is 0 where there was no error
 abbrev pub status_so_far : {T : Type 0} → Result T ℕ → ℕ
@@ -110,7 +115,7 @@ pub record IsOfTwoBefore {D O : Type 0} (medium : D → Medium) (takes : Taking 
 
 -- A worker of version 1 has run on, and was upgraded, or it was of version 2 before: a person is
 -- told that it was recovered, where one reads along. Or it isn't opened, or a call of its life has
--- failed. Then the status says why.
+-- failed. Then the status says why. It is never that the worker hadn't caught up.
 abbrev pub UpgradesOnDisk : {D O : Type 0} → (D → Medium) → Taking O → Result Upgraded ℕ → D → D
     → O → O → PrinterState → PrinterState → Type 0
 UpgradesOnDisk medium takes (Ok Now) found last outlet outlet' err err' =
@@ -126,4 +131,4 @@ UpgradesOnDisk medium takes (Err status) found last outlet outlet' err err' =
     × (lives : LivesToUpgrade medium takes (Err (recover.Worker why)) found last outlet outlet')
     × HasFailedAt lives why
     × TellsPerson (recovered_line lives.worker) err between
-    × IsSaid (status_on_disk (call_fault why)) between status err')
+    × IsSaid (status_on_disk (call_fault why)) between status err' × IsOfCaughtUp why)

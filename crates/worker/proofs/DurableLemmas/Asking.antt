@@ -1,7 +1,7 @@
 -- Room is made, and the source is asked.
 use Rattle.std.proofs.Common.{◌≡◌, ◌⊎◌, ℕ, ◌+◌, ◌≤◌, List, [], refl, sym, ap, ◌∙◌, subst, inl}
 use Rattle.std.proofs.Common.{⊎_elim, arith, Bool, true, false, Some, None, Ok, Err}
-use Rattle.std.specs.Prelude.{Result}
+use Rattle.std.specs.Prelude.{OnOk, Result}
 use Rattle.wasi_abi.specs.declared.answer.Question.{Question}
 use Rattle.wasi_abi.specs.declared.answer.Answer.{Answer}
 use Rattle.sector_disk.specs.rules.Medium.{Medium}
@@ -235,6 +235,25 @@ module _ {D S : Type 0} (medium : D → Medium) (gives : Giving S) (old mid new 
       → Hears gives mid question step result new source source'
       → AsksTurn gives old question result new (medium disk) (medium disk') source source'
   asks_turn result h = hears_so h.said result h.asked h.hears
+
+-- The worker still says so where the source has answered, or has none.
+heard_abreast : (old : RunningWorker) (question : Question) (step : ℕ) (said : SourceSaid)
+    (is_there : Bool) (new : RunningWorker) → HearsBy old question step said (Ok is_there) new
+    → new.is_abreast ≡ old.is_abreast
+heard_abreast old question step (Err e) is_there new h =
+    ap (λ (w : RunningWorker). w.is_abreast) h.1
+heard_abreast old question step (Ok None) is_there new h =
+    ap (λ (w : RunningWorker). w.is_abreast) h.1
+heard_abreast old question step (Ok (Some a)) is_there new h =
+    let takes = h.1 in takes.abreast_same
+
+pub hears_abreast : {S : Type 0} (gives : Giving S) (old new : RunningWorker)
+    (question : Question) (step : ℕ) (result : Result Bool WorkFault) (source source' : S)
+    → Hears gives old question step result new source source'
+    → OnOk result (new.is_abreast ≡ old.is_abreast)
+hears_abreast gives old new question step (Ok is_there) source source' h =
+    heard_abreast old question step h.said is_there new h.hears
+hears_abreast gives old new question step (Err why) source source' h = tt
 
 -- no room was made
 pub asks_nothing : {D S : Type 0} (medium : D → Medium) (gives : Giving S) (old new : RunningWorker)

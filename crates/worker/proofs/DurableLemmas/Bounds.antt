@@ -18,10 +18,8 @@ use Rattle.restart_theorem.specs.Promises.{Promise, promised}
 use Rattle.restart_theorem.specs.Exchanges.{AreEvents, none, asked}
 use Rattle.restart_theorem.specs.Holds.{IsBounded, KeepsBounds, StaysWithin}
 use Rattle.restart_theorem.proofs.Disks.{stands_within}
-use Rattle.worker_store.specs.laws.Savepoints.{Savepoint, places, IsAtSavepoint}
-use Rattle.worker_store.specs.laws.Barriers.{IsAtFront}
-use Rattle.worker_store.specs.laws.Commits.{IsNextPoint, BeginsAtPoint}
-use Rattle.worker_store.specs.laws.Saves.{IsAtFrontOrNext}
+use Rattle.worker_store.specs.rules.Savepoints.{Savepoint, places, IsAtSavepoint, IsAtFront}
+use Rattle.worker_store.specs.rules.Savepoints.{IsNextPoint, BeginsAtPoint, IsAtFrontOrNext}
 use Rattle.worker_store.specs.laws.Pieces.{AreDone}
 use Rattle.worker_store.proofs.LawLemmas.Points.{point_stands}
 use Rattle.worker_store.specs.declared.store.WorkerStore.{WorkerStore}

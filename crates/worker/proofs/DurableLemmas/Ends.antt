@@ -1,6 +1,6 @@
 -- How a slice of a worker on its disk ends.
 use Rattle.std.proofs.Common.{◌≡◌, ℕ, ◌+◌, ◌-◌, ◌≤◌, List, [], length, refl}
-use Rattle.std.proofs.Common.{ap, subst, arith, true, false, Some, inl, inr, ◌*◌}
+use Rattle.std.proofs.Common.{ap, subst, arith, true, Some, inl, inr, ◌*◌}
 use Rattle.std.proofs.lemmas.List.{take_all}
 use Rattle.wasi_calls_rules.specs.laws.Laws.{IsOfBytes}
 use Rattle.process_rules.specs.Processes.{ProcessState, Guest, host_of}
@@ -21,12 +21,11 @@ use Rattle.restart_theorem.specs.Courses.{Stage, Phase, Open, MayFail, phase_end
 use Rattle.restart_theorem.specs.Promises.{Promise, synced_by, IsEnding}
 use Rattle.restart_theorem.specs.Holds.{KeepsPromise, CarriesPromise, StaysWithin}
 use Rattle.restart_theorem.specs.Exchanges.{none}
-use Rattle.worker_store.specs.laws.Savepoints.{Savepoint, places}
+use Rattle.worker_store.specs.rules.Savepoints.{Savepoint, places}
 use Rattle.worker_store.specs.laws.Underway.{IsInItsSlice, IsBroken}
 use Rattle.worker_store.specs.laws.CallEnds.{HasBound}
 use Rattle.worker_store.specs.laws.Pieces.{AreDone}
-use Rattle.worker_store.specs.laws.Carried.{count_at, IsCarried}
-use Rattle.worker_store.specs.laws.Raised.{SyncsAreHeld}
+use Rattle.worker_store.specs.rules.Carried.{count_at, IsCarried, SyncsAreHeld}
 use Rattle.worker_store.specs.laws.Turns.{GoesOnFrom}
 use Rattle.worker_store.proofs.LawLemmas.AtHand.{shown_is_saved}
 use Rattle.worker_store.proofs.LawLemmas.CallEnds.{failed_slices_end, calls_leave_between}
@@ -150,7 +149,7 @@ module _ {D : Type 0} (medium : D → Medium) (c : Course) where
         → (phase_ended reply ≡ Open → (replayed : ℕ) → (q : ProcessState)
         × IsOpenOn c.code c.config c.guest (slice_end between c.fuel reply held w)
         (next_stage inside (Ended (Slice c.fuel) reply held (saved_of w.process))) q
-        (durable_of w replayed false) (medium disk'))
+        (durable_of w replayed) (medium disk'))
         → TurnEnds c promise stage reply exchanges w (medium disk) (medium disk')
     ends_on goes bounded point journal records pending last now carried syncs goes_on =
         let later = ended_carries medium c.code c.config between point journal records pending last
@@ -257,12 +256,13 @@ pub open_again : {D : Type 0} (medium : D → Medium) (c : Course) (promise : Pr
     (next_stage stage (Ended (Slice c.fuel) reply held (saved_of w.process))) p w.is_abreast
     → IsOpenOn c.code c.config c.guest (slice_end promise c.fuel reply held w)
     (next_stage stage (Ended (Slice c.fuel) reply held (saved_of w.process))) p
-    (durable_of w replayed false) (medium disk)
+    (durable_of w replayed) (medium disk)
 open_again medium c promise stage p latest w disk reply held replayed opened texts shows module_is
     none_waits slice line heard passed synced early on_disk told over abreast =
     let counted : w.process.steps ≡ p.steps = shows.steps in
+    let stores = on_disk.stores in
     record {
-      works = refl;
+      works = stores.works;
       opened = opened;
       texts = texts;
       shows = shows;

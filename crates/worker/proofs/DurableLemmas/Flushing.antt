@@ -16,10 +16,10 @@ use Rattle.restart_theorem.specs.Courses.{Stage, Broken}
 use Rattle.restart_theorem.specs.Promises.{Promise}
 use Rattle.restart_theorem.specs.Holds.{StaysWithin}
 use Rattle.worker_store.specs.laws.Underway.{IsUnderWay}
-use Rattle.worker_store.specs.laws.Pieces.{IsForetold, AreDone}
+use Rattle.worker_store.specs.rules.BetweenCalls.{IsForetold}
+use Rattle.worker_store.specs.laws.Pieces.{AreDone}
 use Rattle.worker_store.specs.laws.Telling.{AddsLines}
-use Rattle.worker_store.specs.laws.Carried.{count_at, IsCarried}
-use Rattle.worker_store.specs.laws.Raised.{SyncsAreHeld, AreOnRecord}
+use Rattle.worker_store.specs.rules.Carried.{count_at, IsCarried, SyncsAreHeld, AreOnRecord}
 use Rattle.worker_store.specs.laws.Turns.{GoesOnFrom, LeavesBegun}
 use Rattle.worker_store.proofs.LawLemmas.Carrying.{carried_keeps, barrier_carries}
 use Rattle.worker_store.proofs.LawLemmas.Carrying.{barrier_carries_on}

@@ -34,9 +34,9 @@ use Rattle.restart_theorem.specs.Holds.{StaysWithin}
 use Rattle.restart_theorem.specs.Exchanges.{none as no_exchange, asked}
 use Rattle.worker_store.specs.laws.Underway.{IsUnderWay, IsBroken, IsAtQuestion}
 use Rattle.worker_store.specs.laws.CallEnds.{HasBound}
-use Rattle.worker_store.specs.laws.Pieces.{IsForetold, AreDone}
-use Rattle.worker_store.specs.laws.Carried.{count_at, IsCarried}
-use Rattle.worker_store.specs.laws.Raised.{SyncsAreHeld, AreOnRecord}
+use Rattle.worker_store.specs.rules.BetweenCalls.{IsForetold}
+use Rattle.worker_store.specs.laws.Pieces.{AreDone}
+use Rattle.worker_store.specs.rules.Carried.{count_at, IsCarried, SyncsAreHeld, AreOnRecord}
 use Rattle.worker_store.specs.laws.Turns.{GoesOnFrom}
 use Rattle.restart_theorem.proofs.Fronts.{said_widens_none}
 use Rattle.worker_store.proofs.LawLemmas.AtHand.{shown_is_saved, shown_is_numbered}
@@ -368,17 +368,11 @@ module _ {D : Type 0} (medium : D → Medium) (c : Course) (promise : Promise) (
         needs_memory same (inr (question, asking.wants)),
         kept_once same OfMemory tt tt,
       )
-      lacks_by step store.Failed room (inl failed) same =
+      lacks_by step store.Failed room failed same =
           let running = asking.running in
           let is = running.on_disk in
           let stores = is.stores in
           let works = stores.works in
-          absurd (cc)
-      lacks_by step store.Failed room (inr failed) same =
-          let running = asking.running in
-          let is = running.on_disk in
-          let stores = is.stores in
-          let works = stores.journal_works in
           absurd (cc)
       lacks_by step store.TooBig room h same = absurd h
       lacks_by step store.Damaged room h same = absurd h

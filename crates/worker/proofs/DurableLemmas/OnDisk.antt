@@ -16,8 +16,7 @@ use Rattle.disk_layout.specs.rules.Journal.{TakesRecords}
 use Rattle.restart_theorem.specs.Lives.{Act, Reply, Ended, kept_by_end}
 use Rattle.restart_theorem.specs.Promises.{Promise, after, saved_by, synced_by}
 use Rattle.restart_theorem.specs.Holds.{KeepsPromise}
-use Rattle.worker_store.specs.laws.Carried.{count_at}
-use Rattle.worker_store.specs.laws.Raised.{SyncsAreHeld}
+use Rattle.worker_store.specs.rules.Carried.{count_at, SyncsAreHeld}
 use Rattle.worker_store.proofs.LawLemmas.AtHand.{version_stays, version_shown}
 use Rattle.worker_store.proofs.LawLemmas.Carrying.{carried_keeps, all_is_held}
 use Rattle.worker_store.proofs.LawLemmas.Raising.{carried_is_reached, quiet_syncs_are_held}

@@ -20,10 +20,9 @@ use Rattle.restart_theorem.specs.Lives.{Slice, Fails, Cause, OfDisk, OfBounds}
 use Rattle.restart_theorem.specs.Courses.{Stage, Open, MayFail}
 use Rattle.restart_theorem.specs.Promises.{Promise}
 use Rattle.restart_theorem.specs.Holds.{StaysWithin}
-use Rattle.worker_store.specs.laws.Savepoints.{Savepoint}
+use Rattle.worker_store.specs.rules.Savepoints.{Savepoint}
 use Rattle.worker_store.specs.laws.CallEnds.{HasBound}
-use Rattle.worker_store.specs.laws.Carried.{count_at}
-use Rattle.worker_store.specs.laws.Raised.{AreOnRecord}
+use Rattle.worker_store.specs.rules.Carried.{count_at, AreOnRecord}
 use Rattle.worker_store.specs.laws.Turns.{GoesOnFrom}
 use Rattle.worker_store.proofs.LawLemmas.Raising.{up_to_all}
 use Rattle.worker_store.proofs.LawLemmas.Carrying.{begins_carried}

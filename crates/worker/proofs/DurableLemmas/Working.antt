@@ -1,7 +1,7 @@
 -- The turns of a slice of a worker on its disk, one after another.
 use Rattle.std.proofs.Common.{◌≡◌, ℕ, ◌+◌, ◌-◌, ◌≤◌, List, [], ◌∷◌, ◌++◌, refl, sym, ap}
 use Rattle.std.proofs.Common.{◌∙◌}
-use Rattle.std.proofs.Common.{subst, arith, Bool, true, false, Ok, Err, ◌*◌, length, length-append}
+use Rattle.std.proofs.Common.{subst, arith, true, false, Ok, Err, ◌*◌, length, length-append}
 use Rattle.std.specs.Prelude.{Result}
 use Rattle.wasm_syntax.specs.declared.module.Module.{Module}
 use Rattle.wasi_abi.specs.declared.answer.Question.{Question}
@@ -23,7 +23,7 @@ use Rattle.restart_theorem.specs.Courses.{Stage, Open, phase_ended, next_stage, 
 use Rattle.restart_theorem.specs.Promises.{Promise}
 use Rattle.restart_theorem.specs.Holds.{CarriesPromise, StaysWithin}
 use Rattle.worker_store.specs.laws.Underway.{IsUnderWay}
-use Rattle.worker_store.specs.laws.Pieces.{IsForetold}
+use Rattle.worker_store.specs.rules.BetweenCalls.{IsForetold}
 use Rattle.worker_store.specs.laws.Turns.{LeavesBegun}
 use Rattle.worker_store.proofs.LawLemmas.CallEnds.{slices_begin}
 use Rattle.worker_store.proofs.LawLemmas.Pieces.{parts_join, parts_are_foretold, ends_join}
@@ -31,6 +31,7 @@ use Rattle.worker_store.proofs.LawLemmas.TurnLemmas.{turns_join, turns_carry, pa
 use Rattle.record_replay.proofs.Emitted.{released_whole}
 use Rattle.ephemeral_worker.specs.declared.now.Now.{Now}
 use Rattle.ephemeral_worker.specs.declared.now.Now.TheVariants as now
+use Rattle.worker_store.specs.declared.store.WorkerStore.{WorkerStore}
 use Rattle.worker.specs.declared.fault.WorkFault.{WorkFault}
 use Rattle.worker.specs.declared.fault.WorkFault.TheVariants.{Work}
 use Rattle.worker.specs.declared.running_worker.RunningWorker.{RunningWorker}
@@ -388,8 +389,8 @@ module _ {D S O : Type 0} (medium : D → Medium) (gives : Giving S) (takes : Ta
 -- a worker that is open begins a slice
 begins : (m : Module) (config : Settings) (guest : Guest) (promise : Promise) (stage : Stage)
     (p : ProcessState) (acts : List Act) (running : RunningWorker) (replayed fuel : ℕ)
-    (failed : Bool) (disk : Medium)
-    → IsOpenOn m config guest promise stage p (durable_of running replayed failed) disk
+    (disk : Medium)
+    → IsOpenOn m config guest promise stage p (durable_of running replayed) disk
     → stage.acts ≡ Slice fuel ∷ acts
     → IsBetweenTurns (record {
       code = m;
@@ -398,7 +399,7 @@ begins : (m : Module) (config : Settings) (guest : Guest) (promise : Promise) (s
       fuel = fuel;
       first = running.process.steps;
     }) promise stage p running disk
-begins m config guest promise stage p acts running replayed fuel failed disk open_on next_act =
+begins m config guest promise stage p acts running replayed fuel disk open_on next_act =
     let shows = open_on.shows in
     let between = open_on.between in
     record {
@@ -416,16 +417,16 @@ begins m config guest promise stage p acts running replayed fuel failed disk ope
       abreast = open_on.abreast;
     }
 
--- how a slice ends is how its call does
+-- how a slice ends is how its call does; after an error its store may be another one
 module _ {D : Type 0} (medium : D → Medium) (c : Course) (promise : Promise) (stage : Stage)
-    (reply : Reply) (exchanges : List Exchange) (w : RunningWorker) (replayed : ℕ) (failed : Bool)
-    (disk disk' : D)
+    (reply : Reply) (exchanges : List Exchange) (w : RunningWorker) (store : WorkerStore)
+    (replayed : ℕ) (disk disk' : D)
     (ends : TurnEnds c promise stage reply exchanges w (medium disk) (medium disk'))
     (few : CallsForEvents (length exchanges + 1) (medium disk) (medium disk')) where
-  call_carries : (phase_ended reply ≡ Open → failed ≡ false)
+  call_carries : (phase_ended reply ≡ Open → store ≡ w.store)
       → CallCarries c.code c.config c.guest promise stage (Slice c.fuel) reply
-      (durable_of w replayed failed) (medium disk) (medium disk') exchanges
-  call_carries works =
+      (durable_of (record w { store = store }) replayed) (medium disk) (medium disk') exchanges
+  call_carries same =
       let done = ends.done in
       let joined = ends_join c.code c.config promise ends.between stage ends.inside exchanges
       (Ended (Slice c.fuel) reply ends.held (saved_of w.process)) done ends.ending in
@@ -445,28 +446,33 @@ module _ {D : Type 0} (medium : D → Medium) (c : Course) (promise : Promise) (
               again.0,
               subst (λ z. IsOpenOn c.code c.config c.guest z (stage_after stage (done.events
                   ++ Ended (Slice c.fuel) reply ends.held (saved_of w.process) ∷ [])) again.0
-                  (durable_of w replayed failed) (medium disk')) (sym joined.1)
+                  (durable_of (record w { store = store }) replayed) (medium disk'))
+                  (sym joined.1)
                   (subst (λ z. IsOpenOn c.code c.config c.guest
                   (slice_end ends.between c.fuel reply ends.held w) z again.0
-                  (durable_of w replayed failed) (medium disk')) (sym joined.2)
-                  (subst (λ b. IsOpenOn c.code c.config c.guest
+                  (durable_of (record w { store = store }) replayed) (medium disk'))
+                  (sym joined.2)
+                  (subst (λ (s : WorkerStore). IsOpenOn c.code c.config c.guest
                   (slice_end ends.between c.fuel reply ends.held w)
                   (next_stage ends.inside
                   (Ended (Slice c.fuel) reply ends.held (saved_of w.process))) again.0
-                  (durable_of w replayed b) (medium disk')) (sym (works over)) again.1)),
+                  (durable_of (record w { store = s }) replayed) (medium disk'))
+                  (sym (same over)) again.1)),
             );
       }
 
 module _ {D S O : Type 0} (medium : D → Medium) (gives : Giving S) (takes : Taking O)
-    (old new : RunningWorker) (replayed fuel : ℕ) (before after : Bool) (disk disk' : D)
-    (source source' : S) (outlet outlet' : O) where
-  carries_by : (result : Result Now WorkFault) → ((reply : Reply) → IsReplyOf result reply
-      → phase_ended reply ≡ Open → after ≡ false)
+    (old new : RunningWorker) (replayed fuel : ℕ) (disk disk' : D) (source source' : S)
+    (outlet outlet' : O) where
+  carries_by : (store : WorkerStore) (result : Result Now WorkFault)
+      → ((reply : Reply) → IsReplyOf result reply → phase_ended reply ≡ Open
+      → store ≡ new.store)
       → WorksOn gives takes old fuel result new (medium disk) (medium disk') source source' outlet
       outlet'
-      → SliceCarries gives takes (durable_of old replayed before) fuel result
-      (durable_of new replayed after) (medium disk) (medium disk') source source' outlet outlet'
-  carries_by result works worked = (
+      → SliceCarries gives takes (durable_of old replayed) fuel result
+      (durable_of (record new { store = store }) replayed) (medium disk) (medium disk') source
+      source' outlet outlet'
+  carries_by store result same worked = (
     worked.0,
     worked.1,
     λ m config guest promise stage p acts open_on next_act foretold.
@@ -478,30 +484,31 @@ module _ {D S O : Type 0} (medium : D → Medium) (gives : Giving S) (takes : Ta
           first = old.process.steps;
         } in
         let ended = worked.2 c promise stage p refl refl
-        (begins m config guest promise stage p acts old replayed fuel before (medium disk) open_on
+        (begins m config guest promise stage p acts old replayed fuel (medium disk) open_on
         next_act) foretold in (
           ended.0,
           ended.1,
           ended.2,
-          call_carries medium c promise stage ended.0 worked.0 new replayed after disk disk'
-              ended.3 worked.3 (works ended.0 ended.1),
+          call_carries medium c promise stage ended.0 worked.0 new store replayed disk disk'
+              ended.3 worked.3 (same ended.0 ended.1),
         ),
   )
 
-  pub slice_carries : (why : Now) → after ≡ false
+  pub slice_carries : (why : Now)
       → WorksOn gives takes old fuel (Ok why) new (medium disk) (medium disk') source source'
       outlet outlet'
-      → SliceCarries gives takes (durable_of old replayed before) fuel (Ok why)
-      (durable_of new replayed after) (medium disk) (medium disk') source source' outlet outlet'
-  slice_carries why works worked = carries_by (Ok why) (λ reply is over. works) worked
+      → SliceCarries gives takes (durable_of old replayed) fuel (Ok why) (durable_of new replayed)
+      (medium disk) (medium disk') source source' outlet outlet'
+  slice_carries why worked = carries_by new.store (Ok why) (λ reply is over. refl) worked
 
-  pub slice_fails : (why : WorkFault)
+  pub slice_fails : (store : WorkerStore) (why : WorkFault)
       → WorksOn gives takes old fuel (Err why) new (medium disk) (medium disk') source source'
       outlet outlet'
-      → SliceCarries gives takes (durable_of old replayed before) fuel (Err why)
-      (durable_of new replayed after) (medium disk) (medium disk') source source' outlet outlet'
-  slice_fails why worked =
-      carries_by (Err why)
+      → SliceCarries gives takes (durable_of old replayed) fuel (Err why)
+      (durable_of (record new { store = store }) replayed) (medium disk) (medium disk') source
+      source' outlet outlet'
+  slice_fails store why worked =
+      carries_by store (Err why)
       (λ reply is over. absurd (not_open is.0 (ap phase_ended (sym is.2) ∙ over))) worked
 
 -- one that has failed is not open

@@ -20,7 +20,7 @@ use Rattle.restart_theorem.specs.Promises.{Promise, after, promised, IsKept, Are
 use Rattle.restart_theorem.specs.Holds.{IsBounded, KeepsPromise, KeepsBounds}
 use Rattle.restart_theorem.specs.Holds.{StaysWithin}
 use Rattle.restart_theorem.specs.Exchanges.{AreEvents}
-use Rattle.worker_store.specs.laws.Pieces.{IsForetold}
+use Rattle.worker_store.specs.rules.BetweenCalls.{IsForetold}
 use Rattle.worker_store.proofs.LawLemmas.Pieces.{parts_are_foretold}
 use Rattle.worker_store.proofs.LawLemmas.Passing.{crashed_in_the_end}
 use Rattle.ephemeral_worker.specs.declared.now.Now.{Now}
@@ -35,7 +35,8 @@ use Rattle.worker.specs.rules.OpenWorkers.{IsOpenOn}
 use Rattle.worker.specs.rules.DurableCalls.{ComesOf, IsReplyOf}
 use Rattle.worker.specs.rules.DurableCalls.{TakesTooFew}
 use Rattle.worker.specs.rules.DurableCalls.{HasCauseAt, CallCarries}
-use Rattle.worker.specs.laws.OneLife.{IsLater, opened_in, released_in}
+use Rattle.worker.specs.rules.OneLife.{opened_in}
+use Rattle.worker.specs.laws.OneLife.{IsLater, released_in}
 use Rattle.worker.proofs.CallCountLemmas.{calls_longer}
 use Rattle.worker.proofs.LifeLemmas.Joined.{events_as_many}
 use Rattle.worker.proofs.LifeLemmas.Joined.{stage_join, promised_join, kept_split}

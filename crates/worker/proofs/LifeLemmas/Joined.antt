@@ -10,7 +10,8 @@ use Rattle.restart_theorem.specs.Lives.{told_in}
 use Rattle.restart_theorem.specs.Courses.{Stage, next_stage, stage_after}
 use Rattle.restart_theorem.specs.Promises.{Promise, after, promised, AreKept}
 use Rattle.restart_theorem.specs.Exchanges.{release_of, was_taken, AreEvents, none, told, asked}
-use Rattle.worker.specs.laws.OneLife.{opened_in, released_in}
+use Rattle.worker.specs.rules.OneLife.{opened_in}
+use Rattle.worker.specs.laws.OneLife.{released_in}
 
 pub stage_join : (stage : Stage) (first rest : List Event)
     → stage_after stage (first ++ rest) ≡ stage_after (stage_after stage first) rest

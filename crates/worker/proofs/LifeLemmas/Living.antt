@@ -47,11 +47,9 @@ use Rattle.worker.specs.declared.recover_fault.RecoverFault.{RecoverFault}
 use Rattle.worker.specs.declared.recover_fault.RecoverFault.TheVariants as recover
 use Rattle.worker.specs.rules.CallCounts.{CallsForEvents}
 use Rattle.worker.specs.rules.DurableValues.{DurableValue}
-use Rattle.worker.specs.laws.OneLife.{opened, unopened}
-use Rattle.worker.specs.laws.OneLife.{IsLater, CameTrue, IsLifeOver, opened_in, shown_first}
-use Rattle.worker.specs.laws.OneLife.{released_in}
-use Rattle.worker.specs.laws.OneLife.{IsCauseOf, EndsBy, IsLifeOf, CallsMakeLives}
-use Rattle.worker.specs.laws.OneLife.{AnythingComesTrue}
+use Rattle.worker.specs.rules.OneLife.{opened, unopened, opened_in, shown_first, IsCauseOf}
+use Rattle.worker.specs.laws.OneLife.{IsLater, CameTrue, IsLifeOver, released_in, EndsBy, IsLifeOf}
+use Rattle.worker.specs.laws.OneLife.{CallsMakeLives, AnythingComesTrue}
 use Rattle.worker.proofs.CallCountLemmas.{calls_longer, calls_then}
 use Rattle.worker.proofs.LifeLemmas.Joined.{stage_join, promised_join}
 use Rattle.worker.proofs.LifeLemmas.Joined.{told_join, opened_before, shown_before}

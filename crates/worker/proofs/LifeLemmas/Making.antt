@@ -15,7 +15,7 @@ use Rattle.restart_theorem.specs.Courses.{Stage, Open, phase_ended, stage_after,
 use Rattle.restart_theorem.specs.Promises.{Promise, after, promised, IsKept, AreKept}
 use Rattle.restart_theorem.specs.Holds.{KeepsPromise, KeepsBounds}
 use Rattle.restart_theorem.proofs.Promised.{calls_join}
-use Rattle.worker_store.specs.laws.Pieces.{IsForetold}
+use Rattle.worker_store.specs.rules.BetweenCalls.{IsForetold}
 use Rattle.worker_store.proofs.LawLemmas.Pieces.{parts_are_foretold}
 use Rattle.worker.specs.declared.fault.WorkFault.{WorkFault}
 use Rattle.worker.specs.declared.recover_fault.RecoverFault.{RecoverFault}
@@ -24,10 +24,10 @@ use Rattle.worker.specs.rules.CallCounts.{CallsForEvents}
 use Rattle.worker.specs.rules.DurableValues.{DurableValue}
 use Rattle.worker.specs.rules.OpenWorkers.{IsOpenOn}
 use Rattle.worker.specs.rules.DurableCalls.{CallCarries}
-use Rattle.worker.specs.laws.OneLife.{IsLater, CallsInOrder, no_more, sliced, slice_failed}
-use Rattle.worker.specs.laws.OneLife.{saved}
-use Rattle.worker.specs.laws.OneLife.{saving_failed, was_upgraded, upgrade_failed}
-use Rattle.worker.specs.laws.OneLife.{IsCauseOf, opened_in, released_in}
+use Rattle.worker.specs.rules.OneLife.{CallsInOrder, no_more, sliced, slice_failed, saved}
+use Rattle.worker.specs.rules.OneLife.{saving_failed, was_upgraded, upgrade_failed, IsCauseOf}
+use Rattle.worker.specs.rules.OneLife.{opened_in}
+use Rattle.worker.specs.laws.OneLife.{IsLater, released_in}
 use Rattle.worker.proofs.CallCountLemmas.{calls_none, calls_then}
 use Rattle.worker.proofs.LifeLemmas.Joined.{told_join}
 use Rattle.worker.proofs.LifeLemmas.Joined.{released_join, opened_behind}

@@ -25,7 +25,7 @@ use Rattle.restart_theorem.specs.Courses.{Stage, Phase, Shut, at_first}
 use Rattle.restart_theorem.specs.Courses.{stage_after, HasFailed, IsCutIn}
 use Rattle.restart_theorem.specs.Promises.{Promise, as_begun, after, promised, AreKept, OpensAnew}
 use Rattle.restart_theorem.specs.Holds.{IsNothingYet, KeepsPromise, KeepsBounds}
-use Rattle.worker_store.specs.laws.Pieces.{IsForetold}
+use Rattle.worker_store.specs.rules.BetweenCalls.{IsForetold}
 use Rattle.worker_store.proofs.LawLemmas.Pieces.{parts_are_foretold}
 use Rattle.worker_store.specs.declared.fault.StoreFault.TheVariants as store
 use Rattle.record_replay.specs.declared.fault.ReplayFault.TheVariants as replay
@@ -45,8 +45,9 @@ use Rattle.worker.specs.rules.Recoveries.{SaysNoWorker, Recovers}
 use Rattle.worker.specs.rules.Recoveries.{Reopens, ReopensInVain, FindsNone, ReopensOrNot}
 use Rattle.worker.specs.rules.Recoveries.{EndsInVain}
 use Rattle.worker.specs.rules.Recoveries.{MayNotReopen}
-use Rattle.worker.specs.laws.OneLife.{BeginsLife, recovered, created, opened_by, IsCauseOf}
-use Rattle.worker.specs.laws.OneLife.{IsLater, opened_in, released_in}
+use Rattle.worker.specs.rules.OneLife.{BeginsLife, recovered, created, opened_by, IsCauseOf}
+use Rattle.worker.specs.rules.OneLife.{opened_in}
+use Rattle.worker.specs.laws.OneLife.{IsLater, released_in}
 use Rattle.worker.proofs.CallCountLemmas.{calls_once}
 use Rattle.worker.proofs.LifeLemmas.Joined.{stage_join, kept_split, counts_grow, told_join}
 use Rattle.worker.proofs.LifeLemmas.Joined.{opened_behind, told_are, none_opens, acts_stay}

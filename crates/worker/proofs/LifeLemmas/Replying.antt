@@ -19,15 +19,15 @@ use Rattle.restart_theorem.specs.Promises.{Promise, as_begun, after, promised, I
 use Rattle.restart_theorem.specs.Exchanges as exchanged
 use Rattle.restart_theorem.specs.Exchanges.{AreEvents}
 use Rattle.restart_theorem.proofs.Promised.{calls_join}
-use Rattle.worker_store.specs.laws.Pieces.{IsForetold}
+use Rattle.worker_store.specs.rules.BetweenCalls.{IsForetold}
 use Rattle.worker_store.proofs.LawLemmas.Pieces.{parts_are_foretold}
 use Rattle.worker.specs.declared.recover_fault.RecoverFault.{RecoverFault}
 use Rattle.worker.specs.rules.DurableValues.{DurableValue}
 use Rattle.worker.specs.rules.OpenWorkers.{IsOpenOn}
 use Rattle.worker.specs.rules.DurableCalls.{IsReplyOf, CallCarries, call_events}
-use Rattle.worker.specs.laws.OneLife.{CallsInOrder, no_more, sliced, slice_failed, saved}
-use Rattle.worker.specs.laws.OneLife.{saving_failed, was_upgraded, upgrade_failed}
-use Rattle.worker.specs.laws.OneLife.{opened, unopened}
+use Rattle.worker.specs.rules.OneLife.{CallsInOrder, no_more, sliced, slice_failed, saved}
+use Rattle.worker.specs.rules.OneLife.{saving_failed, was_upgraded, upgrade_failed, opened}
+use Rattle.worker.specs.rules.OneLife.{unopened}
 use Rattle.worker.specs.laws.OneLife.{released_in}
 use Rattle.worker.specs.laws.Uncut.{uncut}
 use Rattle.worker.proofs.LifeLemmas.Joined.{stage_join, told_join, told_are, acts_stay}
@@ -35,7 +35,7 @@ use Rattle.worker.proofs.LifeLemmas.Joined.{kept_split, released_join, promised_
 use Rattle.worker.proofs.LifeLemmas.Called.{slices_go}
 use Rattle.worker.proofs.LifeLemmas.Opening.{opening}
 use Rattle.worker.proofs.LifeLemmas.Living.{anything_comes_true, told_alone}
-use Rattle.worker.specs.laws.Outcomes.{outcome_after}
+use Rattle.worker.specs.rules.Outcomes.{outcome_after}
 use Rattle.worker.specs.laws.Replies.{reply_of, reply_after, LastSliceEnds, LivesEndAsSaid}
 
 -- ---- events

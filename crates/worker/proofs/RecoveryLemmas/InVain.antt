@@ -27,10 +27,10 @@ use Rattle.restart_theorem.specs.Promises.{Promise}
 use Rattle.restart_theorem.specs.Holds.{DiskImageHolds, KeepsPromise, CarriesPromise, IsBounded}
 use Rattle.restart_theorem.specs.Holds.{KeepsBounds, StaysWithin}
 use Rattle.restart_theorem.specs.Exchanges.{none as no_event}
-use Rattle.worker_store.specs.laws.Pieces.{IsForetold}
+use Rattle.worker_store.specs.rules.BetweenCalls.{IsForetold}
 use Rattle.worker_store.specs.laws.Telling.{ArePerformed, AddsLines}
 use Rattle.worker_store.specs.laws.Reopening.{IsReviving}
-use Rattle.worker_store.specs.laws.Carried.{count_at, IsHeldAt}
+use Rattle.worker_store.specs.rules.Carried.{count_at, IsHeldAt}
 use Rattle.worker_store.proofs.LawLemmas.Carrying.{held_at_holds_promise}
 use Rattle.worker_store.proofs.LawLemmas.Passing.{crashed_in_the_end}
 use Rattle.worker_store.proofs.LawLemmas.Recovering.{retold_is_held}

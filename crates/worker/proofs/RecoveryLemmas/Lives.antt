@@ -27,8 +27,8 @@ use Rattle.record_replay.proofs.Recordings.{recorded_runs}
 use Rattle.restart_theorem.specs.Lives.{Inputs}
 use Rattle.restart_theorem.specs.Courses.{at_first}
 use Rattle.restart_theorem.specs.Promises.{Promise}
-use Rattle.worker_store.specs.laws.Savepoints.{Savepoint, places}
-use Rattle.worker_store.specs.laws.Carried.{answers_at, count_at, IsHeldAt}
+use Rattle.worker_store.specs.rules.Savepoints.{Savepoint, places}
+use Rattle.worker_store.specs.rules.Carried.{answers_at, count_at, IsHeldAt}
 use Rattle.worker_store.specs.laws.Reopening.{IsReviving}
 use Rattle.worker_store.proofs.LawLemmas.Carrying.{up_to_map}
 use Rattle.worker_store.proofs.LawLemmas.Fronts.{front_kept}

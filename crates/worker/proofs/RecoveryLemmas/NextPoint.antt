@@ -21,9 +21,10 @@ use Rattle.record_replay.specs.rules.Calls.{Taking}
 use Rattle.record_replay.specs.rules.Replays.{Replays, ReplaysInVain}
 use Rattle.restart_theorem.specs.Promises.{Promise}
 use Rattle.restart_theorem.specs.Holds.{IsBounded}
-use Rattle.worker_store.specs.laws.Savepoints.{Savepoint, IsAtSavepoint, StandsBySaved}
-use Rattle.worker_store.specs.laws.Commits.{BeginsAtPoint, StandsBefore}
-use Rattle.worker_store.specs.laws.Carried.{answers_at}
+use Rattle.worker_store.specs.rules.Savepoints.{Savepoint, IsAtSavepoint, BeginsAtPoint}
+use Rattle.worker_store.specs.rules.Savepoints.{StandsBefore}
+use Rattle.worker_store.specs.laws.Savepoints.{StandsBySaved}
+use Rattle.worker_store.specs.rules.Carried.{answers_at}
 use Rattle.worker_store.specs.laws.AtHand.{IsNextOf}
 use Rattle.worker_store.proofs.LawLemmas.AtHand.{next_is_at_hand, version_at_hand}
 use Rattle.worker_store.proofs.LawLemmas.Points.{by_point}

@@ -14,9 +14,10 @@ use Rattle.restart_theorem.specs.Courses.{Stage, at_first, next_stage, stage_aft
 use Rattle.restart_theorem.specs.Promises.{Promise, after, IsOpening}
 use Rattle.restart_theorem.specs.Holds.{DiskImageHolds, KeepsPromise, CarriesPromise, KeepsBounds}
 use Rattle.restart_theorem.specs.Holds.{StaysWithin}
-use Rattle.worker_store.specs.laws.Savepoints.{Savepoint}
-use Rattle.worker_store.specs.laws.CallEnds.{IsSavedAs, IsBetween}
-use Rattle.worker_store.specs.laws.Carried.{answers_at, count_at}
+use Rattle.worker_store.specs.rules.Savepoints.{Savepoint}
+use Rattle.worker_store.specs.rules.BetweenCalls.{IsBetween}
+use Rattle.worker_store.specs.laws.CallEnds.{IsSavedAs}
+use Rattle.worker_store.specs.rules.Carried.{answers_at, count_at}
 use Rattle.worker_store.specs.laws.Recovered.{OpensAtNext}
 use Rattle.worker_store.proofs.LawLemmas.AtHand.{shown_is_saved, same_within}
 use Rattle.worker_store.proofs.LawLemmas.Carrying.{answers_count, begins_carried, first_on_record}

@@ -17,10 +17,9 @@ use Rattle.restart_theorem.specs.Promises.{Promise}
 use Rattle.restart_theorem.specs.Holds.{HoldsPromise, IsUnopened, KeepsPromise}
 use Rattle.restart_theorem.specs.Holds.{IsBounded, KeepsBounds}
 use Rattle.restart_theorem.proofs.Disks.{stands_within}
-use Rattle.worker_store.specs.laws.Savepoints.{Savepoint, places, point_of, IsAtSavepoint}
-use Rattle.worker_store.specs.laws.Savepoints.{StandsBySaved}
-use Rattle.worker_store.specs.laws.Moments.{LeavesAll}
-use Rattle.worker_store.specs.laws.Carried.{answers_at, IsHeldAt}
+use Rattle.worker_store.specs.rules.Savepoints.{Savepoint, places, IsAtSavepoint, LeavesAll}
+use Rattle.worker_store.specs.laws.Savepoints.{point_of, StandsBySaved}
+use Rattle.worker_store.specs.rules.Carried.{answers_at, IsHeldAt}
 use Rattle.worker_store.proofs.LawLemmas.Carrying.{promise_is_held_at}
 use Rattle.worker_store.proofs.LawLemmas.Points.{by_point, is_at_its_savepoint}
 use Rattle.worker_store.proofs.LawLemmas.Points.{read_alike_is_at_savepoint}

@@ -15,11 +15,11 @@ use Rattle.restart_theorem.specs.Courses.{at_first}
 use Rattle.restart_theorem.specs.Promises.{Promise}
 use Rattle.restart_theorem.specs.Holds.{DiskImageHolds, KeepsPromise, CarriesPromise, IsBounded}
 use Rattle.restart_theorem.specs.Holds.{KeepsBounds}
-use Rattle.worker_store.specs.laws.Savepoints.{Savepoint, IsAtSavepoint}
-use Rattle.worker_store.specs.laws.Commits.{BeginsAtPoint}
-use Rattle.worker_store.specs.laws.Pieces.{IsForetold}
+use Rattle.worker_store.specs.rules.Savepoints.{Savepoint, IsAtSavepoint, BeginsAtPoint}
+use Rattle.worker_store.specs.rules.BetweenCalls.{IsForetold}
 use Rattle.worker_store.specs.laws.Telling.{ArePerformed, AddsLines}
-use Rattle.worker_store.specs.laws.Carried.{count_at, IsHeldAt, PromisesNoMore}
+use Rattle.worker_store.specs.rules.Carried.{count_at, IsHeldAt}
+use Rattle.worker_store.specs.laws.Carried.{PromisesNoMore}
 use Rattle.worker_store.specs.laws.Reopening.{IsReviving}
 use Rattle.worker_store.proofs.LawLemmas.Carrying.{commit_carries, first_on_record, first_up_to}
 use Rattle.worker_store.proofs.LawLemmas.Recovering.{retold_is_held}

@@ -20,9 +20,10 @@ use Rattle.ephemeral_worker.specs.declared.now.Now.{Now}
 use Rattle.ephemeral_worker.specs.declared.now.Now.TheVariants as now
 use Rattle.worker.specs.declared.recover_fault.RecoverFault.{RecoverFault}
 use Rattle.worker.specs.rules.DurableValues.{DurableValue}
-use Rattle.worker.specs.laws.OneLife.{IsOneLife, released_in}
+use Rattle.worker.specs.rules.OneLife.{IsOneLife}
+use Rattle.worker.specs.laws.OneLife.{released_in}
 use Rattle.worker.specs.laws.Uncut.{uncut}
-use Rattle.worker.specs.laws.Outcomes.{life_outcome}
+use Rattle.worker.specs.rules.Outcomes.{life_outcome}
 
 -- what a slice has answered, in the words of a life
 abbrev pub reply_of : Now → Reply

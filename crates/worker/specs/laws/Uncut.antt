@@ -14,8 +14,8 @@ use Rattle.restart_theorem.specs.Promises.{Promise, promised_by, IsLived}
 use Rattle.restart_theorem.specs.Holds.{KeepsPromise, KeepsBounds}
 use Rattle.worker.specs.declared.recover_fault.RecoverFault.{RecoverFault}
 use Rattle.worker.specs.rules.DurableValues.{DurableValue}
-use Rattle.worker.specs.laws.OneLife.{IsOneLife, IsLifeOver, EndsBy, released_in, said_in}
-use Rattle.worker.specs.laws.OneLife.{taken_in}
+use Rattle.worker.specs.rules.OneLife.{IsOneLife}
+use Rattle.worker.specs.laws.OneLife.{IsLifeOver, EndsBy, released_in, said_in, taken_in}
 
 -- each of these is true
 abbrev pub AreTrue : List Bool → Type 0

@@ -20,7 +20,7 @@ use Rattle.restart_theorem.specs.Courses.{Stage, Open, phase_ended, stage_after}
 use Rattle.restart_theorem.specs.Promises.{Promise, promised, AreKept}
 use Rattle.restart_theorem.specs.Holds.{CarriesPromise, StaysWithin}
 use Rattle.restart_theorem.specs.Exchanges.{AreEvents}
-use Rattle.worker_store.specs.laws.Pieces.{IsForetold}
+use Rattle.worker_store.specs.rules.BetweenCalls.{IsForetold}
 use Rattle.worker_store.specs.declared.fault.StoreFault.TheVariants as store
 use Rattle.ephemeral_worker.specs.declared.now.Now.{Now}
 use Rattle.ephemeral_worker.specs.declared.now.Now.TheVariants as now

@@ -2,12 +2,12 @@
 use Rattle.std.specs.Prelude.{◌≡◌, ℕ, Bool, false, []}
 use Rattle.process.specs.rules.Values.{ProcessValue, waiting_in}
 use Rattle.worker_store.specs.declared.store.WorkerStore.{WorkerStore}
-use Rattle.worker_store.specs.rules.Stores.{IsUnfailed}
 use Rattle.worker.specs.declared.running_worker.RunningWorker.{RunningWorker}
 use Rattle.ephemeral_worker.specs.rules.Values.{WorkerValue}
 
 -- Its process, its store, whether the process has come to the last line that was ever told, how
--- many steps were replayed when it was recovered, and whether a call of it has failed.
+-- many steps were replayed when it was recovered, and whether a call of it has failed: that is the
+-- flag of its store's journal.
 pub record DurableValue : Type 0 where
   pub process : ProcessValue
   pub store : WorkerStore
@@ -16,18 +16,18 @@ pub record DurableValue : Type 0 where
   pub has_failed : Bool
 
 -- of its parts
-abbrev pub durable_of : RunningWorker → ℕ → Bool → DurableValue
-durable_of running replayed has_failed = record {
+abbrev pub durable_of : RunningWorker → ℕ → DurableValue
+durable_of running replayed = record {
   process = running.process;
   store = running.store;
   is_abreast = running.is_abreast;
   replayed = replayed;
-  has_failed = has_failed;
+  has_failed = running.store.journal.has_failed;
 }
 
--- until a call has failed no line waits between two calls, and none of its store has failed
+-- until a call has failed no line waits between two calls
 abbrev pub IsDurable : DurableValue → Type 0
-IsDurable w = w.has_failed ≡ false → (waiting_in w.process ≡ []) × IsUnfailed w.store
+IsDurable w = w.has_failed ≡ false → waiting_in w.process ≡ []
 
 -- the same worker without its disk
 abbrev pub without_disk : DurableValue → WorkerValue

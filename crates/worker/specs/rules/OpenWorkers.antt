@@ -10,10 +10,9 @@ use Rattle.sector_disk.specs.rules.Medium.{Medium}
 use Rattle.disk_layout.specs.rules.Journal.{Record}
 use Rattle.restart_theorem.specs.Courses.{Stage}
 use Rattle.restart_theorem.specs.Promises.{Promise}
-use Rattle.worker_store.specs.laws.Savepoints.{Savepoint}
-use Rattle.worker_store.specs.laws.CallEnds.{IsBetween}
-use Rattle.worker_store.specs.laws.Carried.{count_at, IsCarried}
-use Rattle.worker_store.specs.laws.Raised.{SyncsAreHeld, AreOnRecord}
+use Rattle.worker_store.specs.rules.Savepoints.{Savepoint}
+use Rattle.worker_store.specs.rules.BetweenCalls.{IsBetween}
+use Rattle.worker_store.specs.rules.Carried.{count_at, IsCarried, SyncsAreHeld, AreOnRecord}
 use Rattle.worker_store.specs.declared.store.WorkerStore.{WorkerStore}
 use Rattle.worker_store.specs.rules.Stores.{IsStoreOf}
 use Rattle.worker.specs.rules.DurableValues.{DurableValue}

@@ -32,7 +32,7 @@ use Rattle.restart_theorem.specs.Promises.{Promise, promised, AreKept}
 use Rattle.restart_theorem.specs.Holds.{IsUnopened, DiskImageHolds, KeepsPromise, CarriesPromise}
 use Rattle.restart_theorem.specs.Holds.{KeepsBounds, StaysWithin}
 use Rattle.restart_theorem.specs.Exchanges.{AreEvents}
-use Rattle.worker_store.specs.laws.Pieces.{IsForetold}
+use Rattle.worker_store.specs.rules.BetweenCalls.{IsForetold}
 use Rattle.worker_store.specs.declared.fault.StoreFault.TheVariants as store
 use Rattle.worker.specs.declared.fault.WorkFault.TheVariants.{Disk, Store}
 use Rattle.worker.specs.declared.recover_fault.RecoverFault.{RecoverFault}

@@ -1,6 +1,6 @@
 -- What a barrier and a commit, one after the other, do to a store and its disk (this project's
 -- own).
-use Rattle.std.specs.Prelude.{◌≡◌, ◌⊎◌, ◌+◌, ◌-◌, ◌*◌, ◌<◌, ◌≤◌, List, ◌++◌, length, Result}
+use Rattle.std.specs.Prelude.{◌≡◌, ◌⊎◌, ◌+◌, ◌-◌, ◌*◌, ◌<◌, ◌≤◌, true, List, ◌++◌, length, Result}
 use Rattle.wasm_syntax.specs.declared.module.Module.{Module}
 use Rattle.wasi_abi.specs.declared.numbers.TheConstants.{NUMBERS_END}
 use Rattle.wasi_abi.specs.rules.Configs.{Settings}
@@ -17,13 +17,11 @@ use Rattle.journal.specs.rules.Packed.{sectors_for}
 use Rattle.journal.specs.rules.Steps.{barrier_calls}
 use Rattle.snapshot.specs.declared.writing.Writing.TheVariants.{Changes}
 use Rattle.snapshot.specs.rules.Calls.{AreStores, with_head}
-use Rattle.worker_store.specs.laws.Savepoints.{Savepoint}
-use Rattle.worker_store.specs.laws.Commits.{IsNextPoint}
-use Rattle.worker_store.specs.laws.Saves.{IsAtFrontOrNext}
+use Rattle.worker_store.specs.rules.Savepoints.{Savepoint, IsNextPoint, IsAtFrontOrNext}
 use Rattle.worker_store.specs.declared.fault.StoreFault.{StoreFault}
 use Rattle.worker_store.specs.declared.fault.StoreFault.TheVariants.{TooBig, Full, Disk, Failed}
 use Rattle.worker_store.specs.declared.store.WorkerStore.{WorkerStore}
-use Rattle.worker_store.specs.rules.Stores.{IsStoreOf, IsUnfailed}
+use Rattle.worker_store.specs.rules.Stores.{IsStoreOf}
 
 -- a cut at any moment leaves a prefix of the records that are pending, or the new snapshot
 abbrev pub LeavesFrontOrNext : WorkerStore → ProcessValue → Medium → Medium → Type 0
@@ -65,7 +63,7 @@ HasSaveCause store process old new Full = store.geometry.journal_sectors - store
 HasSaveCause store process old new (Disk fault) =
     (spare old < sectors_for (length store.journal.kept))
     ⊎ (spare old < store.geometry.area_sectors) ⊎ (old.room ≡ 0) ⊎ (old.faults < new.faults)
-HasSaveCause store process old new Failed = IsUnfailed store → ⊥
+HasSaveCause store process old new Failed = store.journal.has_failed ≡ true
 HasSaveCause store process old new other = ⊥
 
 -- so it is of every store of a worker on this disk

@@ -33,7 +33,7 @@ use Rattle.worker.specs.declared.story.report.LifeEnd.TheVariants.{Failed}
 use Rattle.worker.specs.declared.story.report.LifeReport.{LifeReport}
 use Rattle.worker.specs.declared.story.report.Opening.{Opening}
 use Rattle.worker.specs.declared.story.report.Opening.TheVariants.{Recovered}
-use Rattle.worker.specs.laws.OneLife.{IsOneLife, shown_first, undone_acts}
+use Rattle.worker.specs.rules.OneLife.{IsOneLife, shown_first, undone_acts}
 use Rattle.worker.specs.rules.DurableValues.{DurableValue}
 use Rattle.worker.specs.rules.Planned.{inputs_of, act_of, number_refused}
 use Rattle.worker.specs.rules.Told.{TellsOpening, TellsEach, BeginFewCalls}

@@ -2,14 +2,13 @@
 use Rattle.std.specs.Prelude.{◌≡◌, ◌≤◌, ℕ, ◌+◌, ◌*◌, List, [], ◌∷◌, length, map, Option, Some}
 use Rattle.std.specs.Prelude.{None}
 use Rattle.state_image.specs.rules.ProcessImage.{Saved, process_image}
-use Rattle.disk_layout.specs.rules.Places.{geometry_of, total_sectors}
 use Rattle.record_replay.specs.declared.line_list.NumberedLine.{NumberedLine}
 use Rattle.record_replay.specs.rules.Lists.{numbered}
 use Rattle.restart_theorem.specs.Lives.{Release, told_in}
 use Rattle.restart_theorem.specs.Lives.{Beginning, Recovers, Creates, End, Life}
 use Rattle.restart_theorem.specs.Lives.End.{Finished as finished, Stopped as stopped}
 use Rattle.restart_theorem.specs.Lives.End.{Failed as failed}
-use Rattle.worker.specs.laws.OneLife.{opened_in, IsCauseOf}
+use Rattle.worker.specs.rules.OneLife.{opened_in, IsCauseOf}
 use Rattle.worker.specs.declared.story.report.Opening.{Opening}
 use Rattle.worker.specs.declared.story.report.Opening.TheVariants.{Created, Recovered}
 use Rattle.worker.specs.declared.story.report.Opening.TheVariants.{Unopened}

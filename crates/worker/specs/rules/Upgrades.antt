@@ -1,7 +1,7 @@
 -- What an upgrade does to a worker and its disk: how a worker of version 1 becomes one of version 2
 -- (this project's own).
 use Rattle.std.specs.Prelude.{◌≡◌, ◌⊎◌, ℕ, ◌+◌, ◌-◌, ◌*◌, ◌≤◌, ◌<◌, false, true, List, [], ◌∷◌}
-use Rattle.std.specs.Prelude.{◌++◌, length, take, Result, Ok, Err}
+use Rattle.std.specs.Prelude.{◌++◌, length, take, Result, Err}
 use Rattle.wasm_syntax.specs.declared.module.Module.{Module}
 use Rattle.wasi_abi.specs.declared.numbers.TheConstants.{NUMBERS_END}
 use Rattle.wasi_abi.specs.declared.version.Version.{Version}
@@ -30,6 +30,7 @@ use Rattle.worker_store.specs.declared.fault.StoreFault.TheVariants as store
 use Rattle.ephemeral_worker.specs.declared.fault.SliceFault.TheVariants as slice
 use Rattle.worker.specs.declared.fault.WorkFault.{WorkFault}
 use Rattle.worker.specs.declared.fault.WorkFault.TheVariants.{Work, Disk, Store, Upgrade}
+use Rattle.worker.specs.declared.upgrade_fault.UpgradeFault.{UpgradeFault}
 use Rattle.worker.specs.declared.upgrade_fault.UpgradeFault.TheVariants.{JournalTooSmall}
 use Rattle.worker.specs.declared.upgrade_fault.UpgradeFault.TheVariants.{NotCaughtUp}
 use Rattle.worker.specs.rules.DurableValues.{DurableValue}
@@ -78,12 +79,24 @@ pub record IsNotCaughtUp (w : DurableValue) : Type 0 where
   pub version : w.process.host.host.version ≡ One
   pub behind : w.is_abreast ≡ false
 
--- When each error comes of a worker that is open: one of these two, first the first one. Or the
--- number of the generation is at its end, or the disk failed, or it surely takes too few writes
--- between two syncs. No memory is taken.
+-- what is in the way of an upgrade
+abbrev pub IsInTheWay : UpgradeFault → DurableValue → Type 0
+IsInTheWay JournalTooSmall w = IsTooSmall w
+IsInTheWay NotCaughtUp w = IsNotCaughtUp w
+
+-- A worker that hasn't failed is refused for what is in the way, before anything is asked of the
+-- disk. Its process is as it was.
+abbrev pub RefusesUpgrade : {D : Type 0} → DurableValue → Result (Unit {0}) WorkFault
+    → DurableValue → D → D → Type 0
+RefusesUpgrade old result new disk disk' =
+    (why : UpgradeFault) → old.has_failed ≡ false → IsInTheWay why old
+    → (result ≡ Err (Upgrade why)) × (new.process ≡ old.process) × (disk' ≡ disk)
+
+-- When each error comes of a worker that is open: of these two, first the first one. Or the number
+-- of the generation is at its end, or the disk failed, or it surely takes too few writes between
+-- two syncs. No memory is taken.
 abbrev pub IsUpgradeFault : DurableValue → Medium → Medium → WorkFault → Type 0
-IsUpgradeFault w old new (Upgrade JournalTooSmall) = IsTooSmall w
-IsUpgradeFault w old new (Upgrade NotCaughtUp) = IsNotCaughtUp w
+IsUpgradeFault w old new (Upgrade why) = IsInTheWay why w
 IsUpgradeFault w old new (Store store.TooBig) = NUMBERS_END ≤ w.store.journal.generation + 1
 IsUpgradeFault w old new (Disk fault) =
     (old.room < sectors_for (length w.store.journal.kept))
@@ -107,8 +120,7 @@ UpgradeFails w after old new fault =
 -- last good sync. The worker says that it has failed only where it had failed before.
 abbrev pub HasUpgradeCause : DurableValue → Medium → Medium → WorkFault → Type 0
 HasUpgradeCause w old new (Work slice.Failed) = w.has_failed ≡ true
-HasUpgradeCause w old new (Upgrade JournalTooSmall) = IsTooSmall w
-HasUpgradeCause w old new (Upgrade NotCaughtUp) = IsNotCaughtUp w
+HasUpgradeCause w old new (Upgrade why) = IsInTheWay why w
 HasUpgradeCause w old new (Store store.TooBig) = (NUMBERS_END ≤ w.store.journal.generation + 1)
     ⊎ (SECTOR_SIZE * w.store.geometry.area_sectors
     < length (process_image (saved_of (upgraded w.process))))

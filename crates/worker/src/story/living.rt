@@ -3,7 +3,7 @@
 ghost use Rattle.std.specs.Prelude.{◌≤◌, map, Some, IfOk, OnOk};
 ghost use Rattle.state_image.specs.rules.Saving.{saved_of};
 ghost use Rattle.disk_layout.specs.rules.Places.{total_sectors};
-ghost use Rattle.worker.specs.laws.OneLife.{CallsInOrder, undone_acts};
+ghost use Rattle.worker.specs.rules.OneLife.{CallsInOrder, undone_acts};
 ghost use Rattle.worker.specs.rules.Planned.{act_of};
 ghost use Rattle.worker.specs.rules.Told.{TellsOpening};
 ghost use Rattle.worker.specs.LifeCalls.{TellsGeneration};

@@ -11,8 +11,9 @@ use Rattle.restart_theorem.specs.Stands.{IsBlank}
 use Rattle.restart_theorem.specs.Lives.{Opened}
 use Rattle.restart_theorem.specs.Promises.{Promise, after}
 use Rattle.restart_theorem.specs.Holds.{IsNothingYet, DiskImageHolds}
-use Rattle.worker_store.specs.laws.Commits.{BeginsAtPoint}
-use Rattle.worker_store.specs.laws.Carried.{IsHeldAt, PromisesNoMore}
+use Rattle.worker_store.specs.rules.Savepoints.{BeginsAtPoint}
+use Rattle.worker_store.specs.rules.Carried.{IsHeldAt}
+use Rattle.worker_store.specs.laws.Carried.{PromisesNoMore}
 use Rattle.worker_store.specs.laws.Anew.{CreationOpens}
 use Rattle.worker_store.proofs.LawLemmas.Carrying.{held_at_holds_promise, fresh_is_held}
 use Rattle.worker_store.proofs.LawLemmas.Carrying.{opening_is_held}

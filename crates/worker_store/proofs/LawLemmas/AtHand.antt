@@ -9,7 +9,7 @@ use Rattle.wasm_semantics.specs.Validity.{AreFunctionTypes, module_context}
 use Rattle.wasi_abi.specs.declared.version.Version.TheVariants.{One}
 use Rattle.wasi_abi.specs.rules.Configs.{Settings}
 use Rattle.wasi_calls_rules.specs.WasiStates.{WasiState}
-use Rattle.process_rules.specs.Processes.{ProcessState, Guest, IsStart}
+use Rattle.process_rules.specs.Processes.{ProcessState, Guest}
 use Rattle.process.specs.rules.Values.{ProcessValue, ShowsProcess}
 use Rattle.process_rules.specs.Runs.{Kept, Given, Wider, Runs, none, version_after}
 use Rattle.process_rules.proofs.ReachedStates.{reached_versions}
@@ -21,8 +21,8 @@ use Rattle.state_image.proofs.Shown.{saves_shown}
 use Rattle.disk_layout.specs.rules.Journal.{Record, TakesRecords}
 use Rattle.record_replay.specs.rules.Records.{Recorded, given_in}
 use Rattle.record_replay.proofs.Recordings.{recorded_runs}
-use Rattle.worker_store.specs.laws.Savepoints.{Savepoint}
-use Rattle.worker_store.specs.laws.Carried.{answers_at}
+use Rattle.worker_store.specs.rules.Savepoints.{Savepoint}
+use Rattle.worker_store.specs.rules.Carried.{answers_at}
 use Rattle.worker_store.specs.laws.AtHand.{ShownIsSaved, ShownIsNumbered, NextIsAtHand}
 use Rattle.worker_store.specs.laws.AtHand.{FirstIsAtHand, VersionStays}
 use Rattle.worker_store.proofs.LawLemmas.Reopening.{no_lines}

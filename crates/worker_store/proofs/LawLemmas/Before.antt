@@ -8,10 +8,9 @@ use Rattle.sector_disk.specs.rules.DiskImage.{DiskImage}
 use Rattle.disk_layout.specs.rules.Places.{Geometry, geometry_of}
 use Rattle.wasi_abi.specs.rules.Versions.{version_number}
 use Rattle.snapshot.specs.rules.Steps.{Fills, Commits, Replaces}
-use Rattle.worker_store.specs.laws.Savepoints.{Savepoint, IsAtSavepoint, point_of}
-use Rattle.worker_store.specs.laws.Savepoints.{StandsBySaved}
-use Rattle.worker_store.specs.laws.Commits.{IsNextPoint, StandsBefore, FillingKeepsWorker}
-use Rattle.worker_store.specs.laws.Commits.{CommitKeepsWorker, ReplacingBegins}
+use Rattle.worker_store.specs.rules.Savepoints.{Savepoint, IsAtSavepoint, IsNextPoint, StandsBefore}
+use Rattle.worker_store.specs.laws.Savepoints.{point_of, StandsBySaved}
+use Rattle.worker_store.specs.laws.Commits.{FillingKeepsWorker, CommitKeepsWorker, ReplacingBegins}
 use Rattle.worker_store.proofs.LawLemmas.Points.{by_point, is_at_its_savepoint}
 use Rattle.worker_store.proofs.LawLemmas.Replacing.{filling_keeps_point, commit_leaves_one_of_two}
 use Rattle.worker_store.proofs.LawLemmas.Replacing.{commit_begins_next}

@@ -28,14 +28,12 @@ use Rattle.restart_theorem.specs.Lives.{Checkpoint, Done, Ended}
 use Rattle.restart_theorem.specs.Promises.{Promise, after, HoldsAll}
 use Rattle.restart_theorem.specs.Holds.{HoldsPromise, IsUnopened, DiskImageHolds, CarriesPromise}
 use Rattle.restart_theorem.proofs.Disks.{blank_stands_for_none}
-use Rattle.worker_store.specs.laws.Savepoints.{Savepoint, point_of, IsAtSavepoint, StandsBySaved}
-use Rattle.worker_store.specs.laws.Barriers.{IsAtFront}
-use Rattle.worker_store.specs.laws.Commits.{BeginsAtPoint}
-use Rattle.worker_store.specs.laws.Carried.{answers_at, count_at, IsHeldAt, IsCarried}
-use Rattle.worker_store.specs.laws.Carried.{HeldAtHoldsPromise}
-use Rattle.worker_store.specs.laws.Carried.{MarkedIsHeld, BlankIsUnopened, StaysCarried}
-use Rattle.worker_store.specs.laws.Carried.{PromiseIsHeldAt, PromisesNoMore, LessIsHeld}
-use Rattle.worker_store.specs.laws.Carried.{NextIsHeld, FreshIsHeld, SavedIsHeld}
+use Rattle.worker_store.specs.rules.Savepoints.{Savepoint, IsAtSavepoint, IsAtFront, BeginsAtPoint}
+use Rattle.worker_store.specs.laws.Savepoints.{point_of, StandsBySaved}
+use Rattle.worker_store.specs.rules.Carried.{answers_at, count_at, IsHeldAt, IsCarried}
+use Rattle.worker_store.specs.laws.Carried.{HeldAtHoldsPromise, MarkedIsHeld, BlankIsUnopened}
+use Rattle.worker_store.specs.laws.Carried.{StaysCarried, PromiseIsHeldAt, PromisesNoMore}
+use Rattle.worker_store.specs.laws.Carried.{LessIsHeld, NextIsHeld, FreshIsHeld, SavedIsHeld}
 use Rattle.worker_store.specs.laws.Carried.{OpeningIsHeld, PointIsAt, PointOpens, CarriedKeeps}
 use Rattle.worker_store.specs.laws.Carried.{BarrierCarries, BarrierCarriesOn, CommitCarries}
 use Rattle.worker_store.specs.laws.Carried.{SavepointCarries, CreationCarries, BeginsCarried}

@@ -24,8 +24,8 @@ use Rattle.wasi_abi.specs.rules.Versions.{version_number}
 use Rattle.disk_layout.proofs.StampLemmas.{shows_none}
 use Rattle.snapshot.specs.rules.Heads.{heads_to, IsReadyForHead}
 use Rattle.snapshot.proofs.AreaLemmas.{bytes_same, heads_move}
-use Rattle.worker_store.specs.laws.Savepoints.{Savepoint, places, StandsBySaved}
-use Rattle.worker_store.specs.laws.Commits.{BeginsAtPoint}
+use Rattle.worker_store.specs.rules.Savepoints.{Savepoint, places, BeginsAtPoint}
+use Rattle.worker_store.specs.laws.Savepoints.{StandsBySaved}
 use Rattle.worker_store.specs.laws.Creations.{zero_sector, NoSuperIsBlank}
 use Rattle.worker_store.specs.laws.Creations.{ZerosKeepBlank, ZerosTakeSuper, RunsKeepNoSuper}
 use Rattle.worker_store.specs.laws.Creations.{ZeroRunsAwaitHead}

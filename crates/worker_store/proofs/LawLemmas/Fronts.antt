@@ -21,7 +21,8 @@ use Rattle.record_replay.specs.rules.Records.{Recorded, none, more, given_in}
 use Rattle.record_replay.proofs.Recordings.{recorded_join}
 use Rattle.restart_theorem.specs.Stands.{IsNumbered}
 use Rattle.restart_theorem.proofs.NumbersKept.{records_keep_numbers}
-use Rattle.worker_store.specs.laws.Savepoints.{Savepoint, places, point_of, IsAtSavepoint}
+use Rattle.worker_store.specs.rules.Savepoints.{Savepoint, places, IsAtSavepoint}
+use Rattle.worker_store.specs.laws.Savepoints.{point_of}
 use Rattle.worker_store.specs.laws.Barriers.{RecordedOnce, BarrierLeavesFront, BarrierLeavesAll}
 use Rattle.worker_store.specs.laws.Barriers.{FrontStands, BarrierStands}
 use Rattle.worker_store.proofs.LawLemmas.Sectors.{worker_stays, process_image_below, contents_below}

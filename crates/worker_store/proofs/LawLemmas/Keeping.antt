@@ -11,7 +11,7 @@ use Rattle.journal.specs.rules.State.{JournalState}
 use Rattle.journal.specs.rules.Steps.{AppendsFront, HoldsRecords, RecordFits, AllRecordsFit}
 use Rattle.journal.specs.rules.Steps.{records_bytes, IsOn}
 use Rattle.record_replay.specs.rules.Records.{none}
-use Rattle.worker_store.specs.laws.Savepoints.{places}
+use Rattle.worker_store.specs.rules.Savepoints.{places}
 use Rattle.worker_store.specs.laws.Journaled.{BarrierAtAnyMoment, BarrierInTheEnd}
 use Rattle.worker_store.specs.laws.Journaled.{AppendGoesOn, StaysJournaled, BeginsJournaled}
 use Rattle.worker_store.proofs.LawLemmas.Fronts.{recorded_once, both_fit, barrier_leaves_front}

@@ -2,14 +2,13 @@
 use Rattle.sector_disk.specs.rules.DiskImage.{DiskImage}
 use Rattle.sector_disk.specs.rules.Medium.{Medium, After, Follows, LeavesOnly}
 use Rattle.sector_disk.proofs.Moments.{leaves_weaker, shows_crashed}
-use Rattle.worker_store.specs.laws.Moments.{LeavesAll, FillAtAnyMoment, CommitAtAnyMoment}
+use Rattle.worker_store.specs.rules.Savepoints.{LeavesAll}
+use Rattle.worker_store.specs.laws.Moments.{FillAtAnyMoment, CommitAtAnyMoment}
 use Rattle.worker_store.specs.laws.Moments.{FillKeepsAtAnyMoment, CommitKeepsAtAnyMoment}
-use Rattle.worker_store.specs.laws.Moments.{CommitKeepsInTheEnd}
-use Rattle.worker_store.specs.laws.Moments.{CommitInTheEnd, ZerosAtAnyMoment, ZerosInTheEnd}
-use Rattle.worker_store.specs.laws.Moments.{ZeroRunsInTheEnd}
-use Rattle.worker_store.specs.laws.Moments.{RunAtAnyMoment, FirstFillAtAnyMoment}
-use Rattle.worker_store.specs.laws.Moments.{FirstCommitAtAnyMoment, FirstCommitInTheEnd}
-use Rattle.worker_store.specs.laws.Moments.{SuperAtAnyMoment, SuperInTheEnd}
+use Rattle.worker_store.specs.laws.Moments.{CommitKeepsInTheEnd, CommitInTheEnd, ZerosAtAnyMoment}
+use Rattle.worker_store.specs.laws.Moments.{ZerosInTheEnd, ZeroRunsInTheEnd, RunAtAnyMoment}
+use Rattle.worker_store.specs.laws.Moments.{FirstFillAtAnyMoment, FirstCommitAtAnyMoment}
+use Rattle.worker_store.specs.laws.Moments.{FirstCommitInTheEnd, SuperAtAnyMoment, SuperInTheEnd}
 use Rattle.worker_store.proofs.LawLemmas.Replacing.{filling_keeps_point, commit_leaves_one_of_two}
 use Rattle.worker_store.proofs.LawLemmas.Replacing.{commit_begins_next}
 use Rattle.worker_store.proofs.LawLemmas.Before.{filling_keeps_worker, commit_keeps_worker}

@@ -7,8 +7,8 @@ use Rattle.restart_theorem.specs.Courses.{next_stage, stage_after}
 use Rattle.restart_theorem.specs.Promises.{after, promised, AreKept, IsKept}
 use Rattle.restart_theorem.specs.Exchanges.{AreEvents, none, told, asked}
 use Rattle.restart_theorem.proofs.Promised.{calls_join}
-use Rattle.worker_store.specs.laws.Pieces.{Foretell, IsForetold, PartsJoin}
-use Rattle.worker_store.specs.laws.Pieces.{PartsAreForetold, EndsJoin}
+use Rattle.worker_store.specs.rules.BetweenCalls.{Foretell, IsForetold}
+use Rattle.worker_store.specs.laws.Pieces.{PartsJoin, PartsAreForetold, EndsJoin}
 
 events_join : (first rest : List Exchange) (events others : List Event) → AreEvents first events
     → AreEvents rest others → AreEvents (first ++ rest) (events ++ others)

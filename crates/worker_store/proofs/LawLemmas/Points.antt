@@ -18,10 +18,9 @@ use Rattle.disk_layout.specs.rules.Journal.{Record, scan}
 use Rattle.wasi_abi.specs.rules.Versions.{version_number}
 use Rattle.record_replay.specs.rules.Records.{Recorded, none, more, given_in}
 use Rattle.restart_theorem.specs.Stands.{ShowsNoneLater}
-use Rattle.worker_store.specs.laws.Savepoints.{Savepoint, IsAtSavepoint, StandsBySaved}
-use Rattle.worker_store.specs.laws.Savepoints.{IsAtItsSavepoint, PointStands}
-use Rattle.worker_store.specs.laws.Savepoints.{ReadAlikeIsAtSavepoint}
-use Rattle.worker_store.specs.laws.Savepoints.{PointStandsAlone}
+use Rattle.worker_store.specs.rules.Savepoints.{Savepoint, IsAtSavepoint}
+use Rattle.worker_store.specs.laws.Savepoints.{StandsBySaved, IsAtItsSavepoint, PointStands}
+use Rattle.worker_store.specs.laws.Savepoints.{ReadAlikeIsAtSavepoint, PointStandsAlone}
 
 -- ---- records, one after another
 

@@ -34,12 +34,11 @@ use Rattle.restart_theorem.specs.Lives.{Act, Reply, Ended, kept_of_said}
 use Rattle.restart_theorem.specs.Promises.{Promise, after, saved_by, synced_by}
 use Rattle.restart_theorem.proofs.Fronts.{LeadsOn, fronts_lead_on, reached_counts, none_widens}
 use Rattle.restart_theorem.proofs.Fronts.{up_to_behind, said_widens_none}
-use Rattle.worker_store.specs.laws.Carried.{answers_at, count_at, IsCarried}
-use Rattle.worker_store.specs.laws.Savepoints.{Savepoint}
-use Rattle.worker_store.specs.laws.Raised.{SyncsAreHeld, AllSyncsAreHeld, QuietSyncsAreHeld}
-use Rattle.worker_store.specs.laws.Raised.{AnsweredSyncsAreHeld, ToldCarries, AskedCarries}
-use Rattle.worker_store.specs.laws.Raised.{EndedCarries, AppendCarries, AnswerIsOnRecord}
-use Rattle.worker_store.specs.laws.Raised.{CarriedIsReached, MovedSyncsAreHeld}
+use Rattle.worker_store.specs.rules.Carried.{answers_at, count_at, IsCarried, SyncsAreHeld}
+use Rattle.worker_store.specs.rules.Savepoints.{Savepoint}
+use Rattle.worker_store.specs.laws.Raised.{AllSyncsAreHeld, QuietSyncsAreHeld, AnsweredSyncsAreHeld}
+use Rattle.worker_store.specs.laws.Raised.{ToldCarries, AskedCarries, EndedCarries, AppendCarries}
+use Rattle.worker_store.specs.laws.Raised.{AnswerIsOnRecord, CarriedIsReached, MovedSyncsAreHeld}
 use Rattle.worker_store.proofs.LawLemmas.Acts.{same_rest}
 use Rattle.worker_store.proofs.LawLemmas.Carrying.{answers_count, within_of}
 

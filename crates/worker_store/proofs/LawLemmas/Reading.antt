@@ -18,7 +18,7 @@ use Rattle.disk_layout.proofs.ReadingLemmas.WrittenLemmas.{reads_what_is_written
 use Rattle.snapshot.specs.rules.Heads.{FindsHead}
 use Rattle.snapshot.proofs.AreaLemmas.{one_newest}
 use Rattle.snapshot.proofs.LawLemmas.{shows_one}
-use Rattle.worker_store.specs.laws.Savepoints.{Savepoint, places, IsAtSavepoint}
+use Rattle.worker_store.specs.rules.Savepoints.{Savepoint, places, IsAtSavepoint}
 use Rattle.worker_store.specs.laws.Readings.{ReadsTheModule, FindsThePoint, ReadsThePoint}
 use Rattle.worker_store.specs.laws.Readings.{ReadsUndamaged, FindsNewestPoint, ScansTheRecords}
 

@@ -23,9 +23,9 @@ use Rattle.restart_theorem.proofs.Fronts.{reached_counts, up_to_front}
 use Rattle.restart_theorem.specs.Lives.{Opened}
 use Rattle.restart_theorem.specs.Promises.{Promise, after, HoldsAll}
 use Rattle.restart_theorem.specs.Holds.{HoldsPromise, DiskImageHolds}
-use Rattle.worker_store.specs.laws.Savepoints.{Savepoint, IsAtSavepoint, StandsBySaved}
-use Rattle.worker_store.specs.laws.Commits.{BeginsAtPoint}
-use Rattle.worker_store.specs.laws.Carried.{answers_at, count_at, IsHeldAt}
+use Rattle.worker_store.specs.rules.Savepoints.{Savepoint, IsAtSavepoint, BeginsAtPoint}
+use Rattle.worker_store.specs.laws.Savepoints.{StandsBySaved}
+use Rattle.worker_store.specs.rules.Carried.{answers_at, count_at, IsHeldAt}
 use Rattle.worker_store.specs.laws.Recovered.{RetoldIsHeld, RecoveryOpens}
 use Rattle.worker_store.proofs.LawLemmas.Points.{by_point}
 use Rattle.worker_store.proofs.LawLemmas.Carrying.{held_at_holds_promise, less_is_held}

@@ -20,7 +20,7 @@ use Rattle.restart_theorem.specs.Lives.{Release, Told}
 use Rattle.restart_theorem.specs.Courses.{Stage, Unheard, first_taken, next_stage}
 use Rattle.restart_theorem.specs.Courses.{IsLast, IsToldIn, ComesAfter, phase_refused}
 use Rattle.restart_theorem.specs.Promises.{Promise, after, HoldsAll, IsTelling}
-use Rattle.worker_store.specs.laws.Pieces.{IsForetold}
+use Rattle.worker_store.specs.rules.BetweenCalls.{IsForetold}
 use Rattle.worker_store.specs.laws.Telling.{ArePerformed}
 use Rattle.worker_store.specs.laws.Reopening.{IsReviving, LinesAreRetold, LinesAreRetoldInVain}
 use Rattle.worker_store.specs.laws.Reopening.{LivesOpen, FreshHoldsNothing, FreshLivesBegin}

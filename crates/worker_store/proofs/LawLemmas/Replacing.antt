@@ -13,17 +13,16 @@ use Rattle.disk_layout.specs.rules.Places.{journal_place}
 use Rattle.disk_layout.specs.rules.Sectors.{Head, HasWorker, IsNewest, shown_generation}
 use Rattle.disk_layout.specs.rules.Journal.{Record}
 use Rattle.wasi_abi.specs.rules.Versions.{version_number}
-use Rattle.journal.specs.rules.Steps.{HoldsRecords}
-use Rattle.journal.specs.laws.Laws.{ShowsEarlierThan}
+use Rattle.journal.specs.rules.Steps.{HoldsRecords, ShowsEarlierThan}
 use Rattle.snapshot.specs.rules.Heads.{heads_to, IsReadyForHead}
 use Rattle.snapshot.specs.rules.Steps.{KeepsNewest, HasNew, IsOutsideArea}
 use Rattle.snapshot.proofs.AreaLemmas.{parity}
 use Rattle.record_replay.specs.rules.Records.{none}
 use Rattle.restart_theorem.specs.Stands.{IsNumbered}
-use Rattle.worker_store.specs.laws.Savepoints.{Savepoint, places, IsAtSavepoint}
-use Rattle.worker_store.specs.laws.Commits.{BeginsAtPoint, NewPointBegins, PointIsReady}
-use Rattle.worker_store.specs.laws.Commits.{FillingKeepsPoint, IsNextPoint, CommitLeavesOneOfTwo}
-use Rattle.worker_store.specs.laws.Commits.{CommitBeginsNext}
+use Rattle.worker_store.specs.rules.Savepoints.{Savepoint, places, IsAtSavepoint, BeginsAtPoint}
+use Rattle.worker_store.specs.rules.Savepoints.{IsNextPoint}
+use Rattle.worker_store.specs.laws.Commits.{NewPointBegins, PointIsReady, FillingKeepsPoint}
+use Rattle.worker_store.specs.laws.Commits.{CommitLeavesOneOfTwo, CommitBeginsNext}
 use Rattle.worker_store.proofs.LawLemmas.Sectors.{SameSector, worker_stays, scan_stays}
 use Rattle.worker_store.proofs.LawLemmas.Sectors.{none_later_of}
 use Rattle.worker_store.proofs.LawLemmas.Sectors.{none_after_of}

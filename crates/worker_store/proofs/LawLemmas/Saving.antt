@@ -18,15 +18,13 @@ use Rattle.record_replay.specs.rules.Records.{Recorded, none}
 use Rattle.restart_theorem.specs.Lives.{Act, Checkpoint, Done, Fails, Cause, Ended}
 use Rattle.restart_theorem.specs.Promises.{Promise, after, synced_by}
 use Rattle.restart_theorem.specs.Holds.{HoldsPromise, DiskImageHolds, CarriesPromise}
-use Rattle.worker_store.specs.laws.Savepoints.{Savepoint, IsAtSavepoint}
-use Rattle.worker_store.specs.laws.Barriers.{IsAtFront}
-use Rattle.worker_store.specs.laws.Commits.{BeginsAtPoint}
+use Rattle.worker_store.specs.rules.Savepoints.{Savepoint, IsAtSavepoint, IsAtFront, BeginsAtPoint}
+use Rattle.worker_store.specs.rules.Savepoints.{IsAtFrontOrNext}
 use Rattle.worker_store.specs.laws.Acts.{SavesWith, keeping_more}
-use Rattle.worker_store.specs.laws.Carried.{IsHeldAt, IsCarried, SavesFront, count_at}
-use Rattle.worker_store.specs.laws.Raised.{SyncsAreHeld}
-use Rattle.worker_store.specs.laws.Saves.{IsAtFrontOrNext, SaveAtAnyMoment, SaveCarries}
-use Rattle.worker_store.specs.laws.Saves.{IsSavingAt, promise_saved, DoneSavesCarry}
-use Rattle.worker_store.specs.laws.Saves.{FailedSavesCarry, EndsPromiseNoLess}
+use Rattle.worker_store.specs.rules.Carried.{IsHeldAt, IsCarried, count_at, SyncsAreHeld}
+use Rattle.worker_store.specs.laws.Carried.{SavesFront}
+use Rattle.worker_store.specs.laws.Saves.{SaveAtAnyMoment, SaveCarries, IsSavingAt, promise_saved}
+use Rattle.worker_store.specs.laws.Saves.{DoneSavesCarry, FailedSavesCarry, EndsPromiseNoLess}
 use Rattle.worker_store.proofs.LawLemmas.Acts.{saving_ends_alike}
 use Rattle.worker_store.proofs.LawLemmas.Carrying.{carries, front_is_held, all_is_held}
 use Rattle.worker_store.proofs.LawLemmas.Carrying.{next_is_held}

@@ -16,7 +16,7 @@ use Rattle.restart_theorem.specs.Courses.{Stage, Broken, first_taken, next_stage
 use Rattle.restart_theorem.specs.Promises.{Promise, heard_by, after, IsTelling}
 use Rattle.restart_theorem.specs.Exchanges.{was_taken, release_of, none, told}
 use Rattle.worker_store.specs.laws.Underway.{IsUnderWay, IsBroken}
-use Rattle.worker_store.specs.laws.Pieces.{IsForetold}
+use Rattle.worker_store.specs.rules.BetweenCalls.{IsForetold}
 use Rattle.worker_store.specs.laws.Telling.{AddsLines, ArePerformed, AllLinesAreTold}
 use Rattle.worker_store.specs.laws.Telling.{LinesAreToldInVain}
 use Rattle.worker_store.proofs.LawLemmas.Underway.{lines_are_told, taken_lines_go_on}

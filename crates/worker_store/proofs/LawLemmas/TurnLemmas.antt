@@ -26,8 +26,9 @@ use Rattle.restart_theorem.specs.Holds.{HoldsPromise, IsUnopened, DiskImageHolds
 use Rattle.record_replay.proofs.Recordings.{recorded_count}
 use Rattle.restart_theorem.proofs.Fronts.{reached_counts, up_to_behind, said_widens_none}
 use Rattle.restart_theorem.specs.Exchanges.{was_taken, release_of, AreEvents, none, told, asked}
-use Rattle.worker_store.specs.laws.Carried.{PromisesNoMore, answers_at, count_at}
-use Rattle.worker_store.specs.laws.Raised.{SyncsAreHeld, MoreCarries}
+use Rattle.worker_store.specs.rules.Carried.{answers_at, count_at, SyncsAreHeld}
+use Rattle.worker_store.specs.laws.Carried.{PromisesNoMore}
+use Rattle.worker_store.specs.laws.Raised.{MoreCarries}
 use Rattle.worker_store.specs.laws.Turns.{ToldStillHolds, AskedStillHolds}
 use Rattle.worker_store.specs.laws.Turns.{EndedStillHolds, LeavesBegun, PartsLeaveBegun, GoesOnFrom}
 use Rattle.worker_store.specs.laws.Turns.{TurnsJoin, TurnsCarry, RestsGoOn, LinesCarry}

@@ -8,10 +8,8 @@ use Rattle.restart_theorem.specs.Stands.{IsBlank}
 use Rattle.restart_theorem.specs.Lives.{Opened}
 use Rattle.restart_theorem.specs.Promises.{Promise, after}
 use Rattle.restart_theorem.specs.Holds.{IsNothingYet, CarriesPromise}
-use Rattle.worker_store.specs.laws.Savepoints.{Savepoint, IsAtSavepoint}
-use Rattle.worker_store.specs.laws.Commits.{BeginsAtPoint}
-use Rattle.worker_store.specs.laws.Moments.{LeavesAll}
-use Rattle.worker_store.specs.laws.Carried.{IsHeldAt}
+use Rattle.worker_store.specs.rules.Savepoints.{Savepoint, IsAtSavepoint, BeginsAtPoint, LeavesAll}
+use Rattle.worker_store.specs.rules.Carried.{IsHeldAt}
 
 -- the disk of a worker that is created holds what its opening promises
 pub record OpensAtFirst {m : Module} {config : Settings} (promise : Promise) (shown : Saved)

@@ -13,10 +13,10 @@ use Rattle.disk_layout.specs.rules.Journal.{Record, TakesRecords}
 use Rattle.record_replay.specs.rules.Records.{Recorded}
 use Rattle.restart_theorem.specs.Stands.{IsNumbered}
 use Rattle.restart_theorem.specs.Promises.{Promise}
-use Rattle.worker_store.specs.laws.Savepoints.{Savepoint}
-use Rattle.worker_store.specs.laws.Commits.{IsNextPoint}
+use Rattle.worker_store.specs.rules.Savepoints.{Savepoint, IsNextPoint}
 use Rattle.worker_store.specs.laws.CallEnds.{IsSavedAs}
-use Rattle.worker_store.specs.laws.Carried.{answers_at, SavesFront}
+use Rattle.worker_store.specs.rules.Carried.{answers_at}
+use Rattle.worker_store.specs.laws.Carried.{SavesFront}
 
 -- What is saved of a process is each process of the rules that it shows,
 abbrev pub ShownIsSaved : Type 0

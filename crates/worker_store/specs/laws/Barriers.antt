@@ -1,5 +1,5 @@
 -- What a barrier leaves of an image that stands for a worker.
-use Rattle.std.specs.Prelude.{◌≡◌, ℕ, ◌+◌, ◌≤◌, List, [], ◌∷◌, ◌++◌, length, map, take, Some}
+use Rattle.std.specs.Prelude.{◌≡◌, ℕ, ◌+◌, List, [], ◌∷◌, ◌++◌, length, map, take, Some}
 use Rattle.wasm_syntax.specs.declared.module.Module.{Module}
 use Rattle.wasi_abi.specs.declared.answer.Answer.{Answer}
 use Rattle.wasi_abi.specs.rules.Configs.{Settings}
@@ -11,8 +11,8 @@ use Rattle.disk_layout.specs.rules.Journal.{Record}
 use Rattle.journal.specs.rules.Steps.{AppendsFront, HoldsRecords, AllRecordsFit}
 use Rattle.record_replay.specs.rules.Records.{Recorded, given_in}
 use Rattle.restart_theorem.specs.Stands.{IsNumbered, StandsFor}
-use Rattle.worker_store.specs.laws.Savepoints.{Savepoint, places, point_of, IsAtSavepoint}
-use Rattle.worker_store.specs.laws.Savepoints.{StandsBySaved}
+use Rattle.worker_store.specs.rules.Savepoints.{Savepoint, places, IsAtSavepoint, IsAtFront}
+use Rattle.worker_store.specs.laws.Savepoints.{point_of, StandsBySaved}
 
 -- ---- records
 
@@ -24,16 +24,6 @@ RecordedOnce =
     → Recorded guest p (records ++ record { step = s.steps; answer = a } ∷ []) s
 
 -- ---- an image
-
--- It is at this savepoint, with these records and a prefix of those after them.
-pub record IsAtFront {m : Module} {config : Settings} (point : Savepoint m config)
-    (records : List Record) (last : ProcessState) (pending : List Record) (disk : DiskImage)
-    : Type 0 where
-  pub count : ℕ
-  pub within : count ≤ length pending
-  pub process : ProcessState
-  pub recorded : Recorded point.reached.guest last (take count pending) process
-  pub at : IsAtSavepoint point (records ++ take count pending) process disk
 
 -- Whatever a barrier has left, the image stands for a prefix of the pending records.
 abbrev pub BarrierLeavesFront : Type 0

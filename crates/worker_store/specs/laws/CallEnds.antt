@@ -20,6 +20,7 @@ use Rattle.restart_theorem.specs.Courses.{phase_ended}
 use Rattle.restart_theorem.specs.Promises.{Promise, after, MayPlead, IsEnding}
 use Rattle.worker_store.specs.laws.Acts.{SavesWith, ShowsItsVersion}
 use Rattle.worker_store.specs.laws.Underway.{IsUnderWay, IsBroken}
+use Rattle.worker_store.specs.rules.BetweenCalls.{IsBetween}
 
 -- A process comes to another one by these, without a step and without a line.
 pub record ComesAtOnce (guest : Guest) (p : ProcessState) (more : List Kept) (q : ProcessState)
@@ -102,21 +103,12 @@ module _ (m : Module) (config : Settings) (guest : Guest) where
 
   -- ---- an act that saves
 
-  -- The process between two calls: it has taken all kept answers, and all its lines were told.
-  pub record IsBetween (promise : Promise) (stage : Stage) (p : ProcessState) : Type 0 where
-    pub start : ProcessState
-    pub begins : IsStart m config guest start
-    pub runs : Runs guest start promise.kept p.steps p
-    pub is_open : stage.phase ≡ Open
-    pub step : stage.step ≡ p.steps
-    pub line : stage.line ≡ Some (length p.host.lines)
-
   -- An act that saves is next, and this is the process that it saves. No sync of the guest has
   -- returned beyond it. If what is kept besides widens it, the journal takes each record of version
   -- 2.
   pub record IsSavingNext (promise : Promise) (stage : Stage) (act : Act) (more : List Kept)
       (p q : ProcessState) (shown : Saved) : Type 0 where
-    pub between : IsBetween promise stage p
+    pub between : IsBetween m config guest promise stage p
     pub comes : ComesAtOnce guest p more q
     pub saved : IsSavedAs q shown
     pub saves : SavesWith promise act more shown
@@ -155,7 +147,7 @@ module _ (m : Module) (config : Settings) (guest : Guest) where
   abbrev pub SlicesBegin : Type 0
   SlicesBegin =
       (promise : Promise) (stage : Stage) (fuel : ℕ) (acts : List Act) (p : ProcessState)
-      → IsBetween promise stage p → stage.acts ≡ Slice fuel ∷ acts
+      → IsBetween m config guest promise stage p → stage.acts ≡ Slice fuel ∷ acts
       → length p.host.lines ≤ promise.heard → promise.passed ≤ length p.host.lines
       → IsUnderWay m config guest promise stage fuel (length p.host.lines) p
 
@@ -166,5 +158,5 @@ module _ (m : Module) (config : Settings) (guest : Guest) where
       (p : ProcessState) (shown : Saved) (start : ProcessState) → IsStart m config guest start
       → Runs guest start (after promise (Ended act reply held shown)).kept p.steps p
       → stage.line ≡ Some (length p.host.lines) → shown.steps ≡ p.steps → phase_ended reply ≡ Open
-      → IsBetween (after promise (Ended act reply held shown))
+      → IsBetween m config guest (after promise (Ended act reply held shown))
       (next_stage stage (Ended act reply held shown)) p

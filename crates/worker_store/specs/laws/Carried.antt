@@ -1,5 +1,5 @@
 -- What a worker's disk holds of what was promised, between the calls of the disk and within each.
-use Rattle.std.specs.Prelude.{◌≡◌, ◌⊎◌, ℕ, ◌+◌, ◌≤◌, true, List, [], ◌++◌, length, map, take, drop}
+use Rattle.std.specs.Prelude.{◌≡◌, ◌⊎◌, ℕ, ◌≤◌, true, List, [], ◌++◌, length, take, drop}
 use Rattle.wasm_syntax.specs.declared.module.Module.{Module}
 use Rattle.wasi_abi.specs.rules.Configs.{Settings}
 use Rattle.process_rules.specs.Processes.{ProcessState}
@@ -10,43 +10,21 @@ use Rattle.sector_disk.specs.rules.Medium.{Medium, LeavesOnly}
 use Rattle.disk_layout.specs.rules.Sectors.{HasMarks}
 use Rattle.disk_layout.specs.rules.Journal.{Record}
 use Rattle.journal.specs.rules.State.{JournalState}
-use Rattle.record_replay.specs.rules.Records.{Recorded, given_in}
 use Rattle.restart_theorem.specs.Stands.{IsBlank}
 use Rattle.restart_theorem.specs.Lives.{Act, Done, Opened, Ended}
 use Rattle.restart_theorem.specs.Courses.{Stage, Shut, IsLast}
-use Rattle.restart_theorem.specs.Promises.{Promise, after, HoldsAll, IsAt, IsOpening}
+use Rattle.restart_theorem.specs.Promises.{Promise, after, IsAt, IsOpening}
 use Rattle.restart_theorem.specs.Holds.{HoldsPromise, IsNothingYet, DiskImageHolds, KeepsPromise}
 use Rattle.restart_theorem.specs.Holds.{CarriesPromise}
-use Rattle.worker_store.specs.laws.Savepoints.{Savepoint, point_of, IsAtSavepoint}
-use Rattle.worker_store.specs.laws.Barriers.{IsAtFront}
-use Rattle.worker_store.specs.laws.Commits.{BeginsAtPoint}
-use Rattle.worker_store.specs.laws.Journaled.{IsJournaled}
+use Rattle.worker_store.specs.rules.Savepoints.{Savepoint, IsAtSavepoint, IsAtFront, BeginsAtPoint}
+use Rattle.worker_store.specs.rules.Savepoints.{IsJournaled}
+use Rattle.worker_store.specs.laws.Savepoints.{point_of}
 use Rattle.worker_store.specs.laws.Acts.{SavesWith, keeping_more}
+use Rattle.worker_store.specs.rules.Carried.{answers_at, IsHeldAt, IsCarried}
 
 -- ---- a savepoint and its records
 
--- the answers of a savepoint and of these records
-abbrev pub answers_at : {m : Module} {config : Settings} → Savepoint m config → List Record
-    → List Kept
-answers_at point records = point.front ++ map given_in records
-
--- how many they are
-abbrev pub count_at : {m : Module} {config : Settings} → Savepoint m config → List Record → ℕ
-count_at point records = length point.front + length records
-
--- A creation was begun. A savepoint and its records, which lead to this process, hold all that is
--- promised. They have the first of the kept answers. An outlet has taken the lines of the
--- savepoint, and those that are told no more are among them.
-pub record IsHeldAt {m : Module} {config : Settings} (promise : Promise)
-    (point : Savepoint m config) (records : List Record) (last : ProcessState) : Type 0 where
-  pub created : promise.was_created ≡ true
-  pub front : take (count_at point records) promise.kept ≡ answers_at point records
-  pub recorded : Recorded point.reached.guest point.process records last
-  pub holds : HoldsAll m config promise.kept promise (count_at point records) last.steps
-  pub heard : point.saved.lines ≤ promise.heard
-  pub passed : promise.passed ≤ point.saved.lines
-
--- What is there holds what is promised,
+-- What is at a savepoint with its records holds what these hold,
 abbrev pub HeldAtHoldsPromise : Type 0
 HeldAtHoldsPromise =
     (m : Module) (config : Settings) (promise : Promise) (point : Savepoint m config)
@@ -54,7 +32,7 @@ HeldAtHoldsPromise =
     → IsHeldAt promise point records last → IsAtSavepoint point records last disk
     → HoldsPromise m config promise promise disk
 
--- and what holds it is there.
+-- and what holds all that is promised is at such a savepoint, with such records.
 abbrev pub PromiseIsHeldAt : Type 0
 PromiseIsHeldAt =
     (m : Module) (config : Settings) (promise : Promise) (disk : DiskImage)
@@ -151,18 +129,7 @@ PointOpens =
 
 -- ---- a disk
 
--- An open worker between two calls of its disk. All that is promised is held by the savepoint and
--- the records on the disk. These, and then the pending ones, are of the first of the kept answers.
-pub record IsCarried {m : Module} {config : Settings} (promise : Promise)
-    (point : Savepoint m config) (journal : JournalState) (records pending : List Record)
-    (last now : ProcessState) (disk : Medium) : Type 0 where
-  pub journaled : IsJournaled point journal records pending last now disk
-  pub held : IsHeldAt promise point records last
-  pub answers : take (count_at point (records ++ pending)) promise.kept
-      ≡ answers_at point (records ++ pending)
-  pub up_to : IsNarrowTo (drop (count_at point (records ++ pending)) promise.kept) now.steps
-
--- a cut now leaves what holds all that is promised
+-- A cut of the disk of an open worker leaves what holds all that is promised.
 abbrev pub CarriedKeeps : {D : Type 0} → (D → Medium) → Type 0
 CarriedKeeps {D} medium =
     (m : Module) (config : Settings) (promise : Promise) (point : Savepoint m config)

@@ -1,5 +1,5 @@
 -- What a commit leaves of an image that stands for a worker.
-use Rattle.std.specs.Prelude.{◌≡◌, ◌⊎◌, ℕ, ◌+◌, List, []}
+use Rattle.std.specs.Prelude.{◌⊎◌, ℕ, ◌+◌, List}
 use Rattle.wasm_syntax.specs.declared.module.Module.{Module}
 use Rattle.wasi_abi.specs.rules.Configs.{Settings}
 use Rattle.process_rules.specs.Processes.{ProcessState}
@@ -9,19 +9,15 @@ use Rattle.sector_disk.specs.rules.DiskImage.{DiskImage}
 use Rattle.disk_layout.specs.rules.Sectors.{HasWorker}
 use Rattle.disk_layout.specs.rules.Journal.{Record}
 use Rattle.wasi_abi.specs.rules.Versions.{version_number}
-use Rattle.journal.specs.laws.Laws.{ShowsEarlierThan}
+use Rattle.journal.specs.rules.Steps.{ShowsEarlierThan}
 use Rattle.snapshot.specs.rules.Heads.{IsReadyForHead}
 use Rattle.snapshot.specs.rules.Steps.{HasNew, Fills, Commits, Replaces}
-use Rattle.restart_theorem.specs.Stands.{IsNumbered, StandsFor}
-use Rattle.worker_store.specs.laws.Savepoints.{Savepoint, places, IsAtSavepoint}
+use Rattle.restart_theorem.specs.Stands.{IsNumbered}
+use Rattle.worker_store.specs.rules.Savepoints.{Savepoint, places, IsAtSavepoint, IsNextPoint}
+use Rattle.worker_store.specs.rules.Savepoints.{BeginsAtPoint, StandsBefore}
 
--- It is at this savepoint without records, and no sector of the journal shows the generation.
-pub record BeginsAtPoint {m : Module} {config : Settings} (point : Savepoint m config)
-    (disk : DiskImage) : Type 0 where
-  pub at : IsAtSavepoint point [] point.process disk
-  pub earlier : ShowsEarlierThan (places point) point.generation disk
-
--- where a new head and its image are there, over a journal of earlier generations
+-- An image begins at a savepoint where the new head and its image are there, over a journal of
+-- earlier generations.
 abbrev pub NewPointBegins : Type 0
 NewPointBegins =
     (m : Module) (config : Settings) (point : Savepoint m config) (disk : DiskImage)
@@ -46,13 +42,6 @@ FillingKeepsPoint =
     → Fills (places point) (point.generation + 1) old new
     → IsAtSavepoint point records last new
 
--- of the same bytes of the module, and of the next generation; its numbers are below their ends
-pub record IsNextPoint {m : Module} {config : Settings} (point next : Savepoint m config)
-    : Type 0 where
-  pub wasm : next.wasm ≡ point.wasm
-  pub generation : next.generation ≡ point.generation + 1
-  pub numbers : IsNumbered next.process
-
 -- whatever a commit of another savepoint has left, it is at the one or at the other
 abbrev pub CommitLeavesOneOfTwo : Type 0
 CommitLeavesOneOfTwo =
@@ -74,15 +63,6 @@ CommitBeginsNext =
     → BeginsAtPoint next new
 
 -- ---- whatever it stands by
-
--- It stands for these answers at this step, by the generation before that of the savepoint, whose
--- numbers are below their ends.
-pub record StandsBefore {m : Module} {config : Settings} (next : Savepoint m config)
-    (kept : List Kept) (n : ℕ) (disk : DiskImage) : Type 0 where
-  pub stands : StandsFor disk m config kept n
-  pub wasm : next.wasm ≡ stands.wasm
-  pub generation : next.generation ≡ stands.generation + 1
-  pub numbers : IsNumbered next.process
 
 -- Until the savepoint is there, it stands for the same.
 abbrev pub FillingKeepsWorker : Type 0

@@ -12,12 +12,12 @@ use Rattle.disk_layout.specs.rules.Places.{Geometry, geometry_of, config_bytes, 
 use Rattle.disk_layout.specs.rules.Sectors.{SectorsHold, super_bytes}
 use Rattle.disk_layout.specs.declared.geometry.TheConstants.{MODULE_PLACE}
 use Rattle.wasi_abi.specs.rules.Versions.{version_number}
-use Rattle.journal.specs.laws.Laws.{ShowsEarlierThan}
+use Rattle.journal.specs.rules.Steps.{ShowsEarlierThan}
 use Rattle.snapshot.specs.rules.Heads.{HasNone, heads_to}
 use Rattle.snapshot.specs.rules.Steps.{HasNew, Fills, Commits, Replaces}
 use Rattle.restart_theorem.specs.Stands.{IsNumbered, IsBlank}
-use Rattle.worker_store.specs.laws.Savepoints.{Savepoint, places, StandsBySaved}
-use Rattle.worker_store.specs.laws.Commits.{BeginsAtPoint}
+use Rattle.worker_store.specs.rules.Savepoints.{Savepoint, places, BeginsAtPoint}
+use Rattle.worker_store.specs.laws.Savepoints.{StandsBySaved}
 
 abbrev pub zero_sector : List ℕ
 zero_sector = padding SECTOR_SIZE

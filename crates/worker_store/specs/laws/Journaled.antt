@@ -9,27 +9,10 @@ use Rattle.sector_disk.specs.rules.DiskImage.{DiskImage}
 use Rattle.sector_disk.specs.rules.Medium.{Medium, After, LeavesOnly}
 use Rattle.disk_layout.specs.rules.Journal.{Record, record_bytes}
 use Rattle.journal.specs.rules.State.{JournalState, state}
-use Rattle.journal.specs.rules.Steps.{AppendsFront, HoldsRecords, RecordFits, IsOn}
-use Rattle.record_replay.specs.rules.Records.{Recorded}
+use Rattle.journal.specs.rules.Steps.{AppendsFront, HoldsRecords, RecordFits}
 use Rattle.restart_theorem.specs.Stands.{IsNumbered}
-use Rattle.worker_store.specs.laws.Savepoints.{Savepoint, places, IsAtSavepoint}
-use Rattle.worker_store.specs.laws.Barriers.{IsAtFront}
-use Rattle.worker_store.specs.laws.Commits.{BeginsAtPoint}
-
--- Whatever a cut leaves of the disk is at this savepoint, with these records, which lead to the
--- first process. The journal holds them, and in memory those after them, which lead on to the
--- second process. Its numbers are below their ends. The records are of the savepoint's version.
-pub record IsJournaled {m : Module} {config : Settings} (point : Savepoint m config)
-    (journal : JournalState) (records pending : List Record) (last now : ProcessState)
-    (disk : Medium) : Type 0 where
-  pub version : journal.version ≡ point.saved.version
-  pub generation : journal.generation ≡ point.generation
-  pub at_savepoint : (image : DiskImage) → disk.crash_images image
-      → IsAtSavepoint point records last image
-  pub on : IsOn (places point) journal.version journal.generation journal.used journal.kept records
-      pending disk.crash_images
-  pub recorded : Recorded point.reached.guest last pending now
-  pub numbers : IsNumbered now
+use Rattle.worker_store.specs.rules.Savepoints.{Savepoint, places, IsAtFront, BeginsAtPoint}
+use Rattle.worker_store.specs.rules.Savepoints.{IsJournaled}
 
 -- a cut at any moment of a barrier leaves a prefix of the pending records
 abbrev pub BarrierAtAnyMoment : {D : Type 0} → (D → Medium) → Type 0

@@ -17,14 +17,10 @@ use Rattle.disk_layout.specs.declared.geometry.TheConstants.{MODULE_PLACE}
 use Rattle.wasi_abi.specs.rules.Versions.{version_number}
 use Rattle.snapshot.specs.rules.Steps.{Fills, Commits, Replaces}
 use Rattle.restart_theorem.specs.Stands.{IsNumbered, IsBlank}
-use Rattle.worker_store.specs.laws.Savepoints.{Savepoint, places, IsAtSavepoint}
-use Rattle.worker_store.specs.laws.Commits.{BeginsAtPoint, IsNextPoint, StandsBefore}
+use Rattle.worker_store.specs.rules.Savepoints.{Savepoint, places, IsAtSavepoint, BeginsAtPoint}
+use Rattle.worker_store.specs.rules.Savepoints.{IsNextPoint, StandsBefore, LeavesAll}
 use Rattle.worker_store.specs.laws.Creations.{zero_sector, HasNoSuper, AwaitsHead, AwaitsSuper}
 use Rattle.worker_store.specs.laws.Creations.{super_of_point}
-
--- each image that a cut may leave has P
-abbrev pub LeavesAll : Medium → (DiskImage → Type 0) → Type 0
-LeavesAll disk P = (image : DiskImage) → disk.crash_images image → P image
 
 -- ---- a commit
 

@@ -1,25 +1,13 @@
 -- Parts of a call, one after another: their exchanges are events that keep what was promised.
-use Rattle.std.specs.Prelude.{◌≡◌, Bool, List, [], ◌∷◌, ◌++◌}
+use Rattle.std.specs.Prelude.{◌≡◌, List, [], ◌∷◌, ◌++◌}
 use Rattle.wasm_syntax.specs.declared.module.Module.{Module}
 use Rattle.wasi_abi.specs.rules.Configs.{Settings}
-use Rattle.record_replay.specs.rules.Calls.{Exchange, Asks, Tells}
-use Rattle.restart_theorem.specs.Lives.{SourceSaid, Event}
-use Rattle.restart_theorem.specs.Courses.{Stage, first_said, first_taken, without_first}
-use Rattle.restart_theorem.specs.Courses.{next_stage, stage_after}
+use Rattle.record_replay.specs.rules.Calls.{Exchange}
+use Rattle.restart_theorem.specs.Lives.{Event}
+use Rattle.restart_theorem.specs.Courses.{Stage, next_stage, stage_after}
 use Rattle.restart_theorem.specs.Promises.{Promise, after, promised, AreKept, IsKept}
-use Rattle.restart_theorem.specs.Exchanges.{was_taken, AreEvents}
-
--- what a source is to say, and an outlet to take, is what they have said and taken
-abbrev pub Foretell : List SourceSaid → List Bool → List Exchange → Type 0
-Foretell says takes [] = Unit {0}
-Foretell says takes (Tells begun ∷ exchanges) =
-    (was_taken begun.said ≡ first_taken takes) × Foretell says (without_first takes) exchanges
-Foretell says takes (Asks ask ∷ exchanges) =
-    (ask.said ≡ first_said says) × Foretell (without_first says) takes exchanges
-
--- so it is with what a life is still to get
-abbrev pub IsForetold : Stage → List Exchange → Type 0
-IsForetold stage exchanges = Foretell stage.says stage.takes exchanges
+use Rattle.restart_theorem.specs.Exchanges.{AreEvents}
+use Rattle.worker_store.specs.rules.BetweenCalls.{IsForetold}
 
 -- The exchanges are events that keep what was promised, and lead to this promise and this stage.
 pub record AreDone (m : Module) (config : Settings) (promise : Promise) (stage : Stage)

@@ -9,7 +9,6 @@ use Rattle.wasi_abi.specs.declared.answer.Answer.{Answer}
 use Rattle.wasi_abi.specs.rules.Configs.{Settings}
 use Rattle.process_rules.specs.Processes.{ProcessState, Guest}
 use Rattle.process_rules.specs.Runs.{Kept, Given, Wants, next_of, Moves, Runs, Reaches}
-use Rattle.process_rules.specs.Behind.{AnswersBehindSync}
 use Rattle.process_rules.specs.Owing.{RunsQuietly}
 use Rattle.state_image.specs.rules.ProcessImage.{Saved}
 use Rattle.sector_disk.specs.rules.Medium.{Medium}
@@ -18,24 +17,13 @@ use Rattle.journal.specs.rules.State.{JournalState}
 use Rattle.restart_theorem.specs.Lives.{Act, Reply, Release, SourceSaid, Told, Asked, Ended}
 use Rattle.restart_theorem.specs.Lives.{kept_of_said, kept_by_end}
 use Rattle.restart_theorem.specs.Promises.{Promise, after, saved_by, synced_by}
-use Rattle.worker_store.specs.laws.Savepoints.{Savepoint}
-use Rattle.worker_store.specs.laws.Journaled.{IsJournaled}
-use Rattle.worker_store.specs.laws.Carried.{answers_at, count_at, IsCarried}
+use Rattle.worker_store.specs.rules.Savepoints.{Savepoint, IsJournaled}
+use Rattle.worker_store.specs.rules.Carried.{count_at, IsCarried, AreOnRecord, SyncsAreHeld}
 use Rattle.worker_store.specs.laws.Acts.{MayBeKept, keeping_more}
 
 -- ---- syncs of the guest
 
--- the answers behind syncs of the guest up to this step are among the first so many
-abbrev pub SyncsAreHeld : Module → Settings → List Kept → ℕ → ℕ → Type 0
-SyncsAreHeld m config kept held steps =
-    (k a : ℕ) → k ≤ steps → AnswersBehindSync m config kept k a → a ≤ held
-
--- all kept answers are those of the savepoint and of these records
-abbrev pub AreOnRecord : {m : Module} {config : Settings} → Promise → Savepoint m config
-    → List Record → Type 0
-AreOnRecord promise point records = promise.kept ≡ answers_at point records
-
--- Where they are on the disk, those behind any sync are held.
+-- Where all kept answers are on the disk, those behind any sync are held.
 abbrev pub AllSyncsAreHeld : Type 0
 AllSyncsAreHeld =
     (m : Module) (config : Settings) (promise : Promise) (point : Savepoint m config)

@@ -18,7 +18,7 @@ use Rattle.snapshot.specs.declared.fault.SnapshotFault.TheVariants.{Damaged}
 use Rattle.snapshot.specs.declared.newest.Snapshot.{Snapshot}
 use Rattle.snapshot.specs.rules.Heads.{FindsHead}
 use Rattle.snapshot.specs.rules.Newest.{FindsNewest, ReadsProcessImage}
-use Rattle.worker_store.specs.laws.Savepoints.{Savepoint, places, IsAtSavepoint}
+use Rattle.worker_store.specs.rules.Savepoints.{Savepoint, places, IsAtSavepoint}
 
 -- Configuration and module are read, if no out of memory and no fault of the disk is in the way.
 abbrev pub ReadsTheModule : Type 0

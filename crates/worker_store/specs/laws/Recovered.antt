@@ -9,10 +9,9 @@ use Rattle.disk_layout.specs.rules.Journal.{Record}
 use Rattle.restart_theorem.specs.Lives.{Opened}
 use Rattle.restart_theorem.specs.Promises.{Promise, after}
 use Rattle.restart_theorem.specs.Holds.{CarriesPromise}
-use Rattle.worker_store.specs.laws.Savepoints.{Savepoint, IsAtSavepoint}
-use Rattle.worker_store.specs.laws.Commits.{BeginsAtPoint}
-use Rattle.worker_store.specs.laws.Moments.{LeavesAll}
-use Rattle.worker_store.specs.laws.Carried.{PromisesNoMore, IsHeldAt, SavesFront}
+use Rattle.worker_store.specs.rules.Savepoints.{Savepoint, IsAtSavepoint, BeginsAtPoint, LeavesAll}
+use Rattle.worker_store.specs.rules.Carried.{IsHeldAt}
+use Rattle.worker_store.specs.laws.Carried.{PromisesNoMore, SavesFront}
 use Rattle.worker_store.specs.laws.Telling.{AddsLines}
 
 -- What a savepoint and its records hold, they hold still once lines of their process were told.

@@ -15,9 +15,9 @@ use Rattle.restart_theorem.specs.Courses.{Stage, Shut, Unheard, at_first, next_s
 use Rattle.restart_theorem.specs.Courses.{IsLast}
 use Rattle.restart_theorem.specs.Promises.{Promise, after, HoldsAll, IsOpening}
 use Rattle.restart_theorem.specs.Holds.{IsNothingYet}
-use Rattle.worker_store.specs.laws.Pieces.{IsForetold}
+use Rattle.worker_store.specs.rules.BetweenCalls.{IsForetold, IsBetween}
 use Rattle.worker_store.specs.laws.Telling.{ArePerformed}
-use Rattle.worker_store.specs.laws.CallEnds.{IsSavedAs, IsBetween}
+use Rattle.worker_store.specs.laws.CallEnds.{IsSavedAs}
 
 module _ (m : Module) (config : Settings) (guest : Guest) where
   -- A life that hasn't opened has come to this process, on so many of the kept answers. So many of

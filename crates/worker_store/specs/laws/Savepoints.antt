@@ -1,57 +1,15 @@
--- What a disk image stands by, apart from the image itself: a savepoint, and records after it.
-use Rattle.std.specs.Prelude.{◌≡◌, ℕ, List, [], ◌++◌, length, map, Option}
+-- What an image that is at a savepoint stands for, by the savepoint and the records after it.
+use Rattle.std.specs.Prelude.{◌≡◌, ℕ, List, [], ◌++◌, map}
 use Rattle.wasm_syntax.specs.declared.module.Module.{Module}
-use Rattle.wasm_syntax.specs.declared.types.FunctionType.{FunctionType}
-use Rattle.wasm_semantics.specs.Acceptance.{IsAccepted}
-use Rattle.wasm_semantics.specs.Validity.{AreFunctionTypes, module_context}
-use Rattle.wasi_abi.specs.rules.Configs.{Settings, AreSettingsWithinLimits}
-use Rattle.machine.specs.rules.Offers.{offer}
+use Rattle.wasi_abi.specs.rules.Configs.{Settings}
 use Rattle.process_rules.specs.Processes.{ProcessState}
-use Rattle.process_rules.specs.Runs.{Kept, Reaches}
-use Rattle.state_image.specs.rules.ProcessImage.{Saved, SavedShowsProcess, process_image}
+use Rattle.process_rules.specs.Runs.{Kept}
+use Rattle.state_image.specs.rules.ProcessImage.{process_image}
 use Rattle.sector_disk.specs.rules.DiskImage.{DiskImage}
-use Rattle.disk_layout.specs.rules.Places.{Geometry, geometry_of}
-use Rattle.disk_layout.specs.rules.Sectors.{HasWorker, HoldsProcessImage}
-use Rattle.disk_layout.specs.rules.Journal.{Record, TakesRecords, scan}
-use Rattle.wasi_abi.specs.rules.Versions.{version_number}
-use Rattle.record_replay.specs.rules.Records.{Recorded, given_in}
-use Rattle.restart_theorem.specs.Stands.{ShowsNoneLater, IsNumbered, StandsFor}
-
--- The bytes of a module, which are accepted, and a process to which it comes on these answers, as
--- it is saved in a generation. The journal takes the longest record of its version.
-pub record Savepoint (m : Module) (config : Settings) : Type 0 where
-  pub wasm : List ℕ
-  pub accepted : IsAccepted offer config.pages wasm m
-  pub settings : AreSettingsWithinLimits config
-  pub generation : ℕ
-  pub saved : Saved
-  pub front : List Kept
-  pub steps : ℕ
-  pub process : ProcessState
-  pub reached : Reaches m config front steps process
-  pub functions : List FunctionType
-  pub function_types : AreFunctionTypes m functions
-  pub table : List (Option ℕ)
-  pub shown : SavedShowsProcess (module_context m functions) reached.guest.program table saved
-      process
-  pub room : TakesRecords saved.version config.journal
-
--- where things lie on a disk with this savepoint
-abbrev pub places : {m : Module} {config : Settings} → Savepoint m config → Geometry
-places {config = config} point = geometry_of config (length point.wasm)
-
--- The savepoint is on the disk, and these are the records of its journal, which lead from its
--- process to this one. Head and records are of the version of the savepoint. The numbers of this
--- process are below their ends.
-pub record IsAtSavepoint {m : Module} {config : Settings} (point : Savepoint m config)
-    (records : List Record) (last : ProcessState) (disk : DiskImage) : Type 0 where
-  pub worker : HasWorker config point.wasm disk
-  pub holds : HoldsProcessImage (places point) disk point.generation
-      (version_number point.saved.version) (process_image point.saved)
-  pub scanned : scan (places point) point.saved.version disk point.generation ≡ records
-  pub recorded : Recorded point.reached.guest point.process records last
-  pub numbers : IsNumbered last
-  pub none_later : ShowsNoneLater (places point) disk point.generation
+use Rattle.disk_layout.specs.rules.Journal.{Record}
+use Rattle.record_replay.specs.rules.Records.{given_in}
+use Rattle.restart_theorem.specs.Stands.{StandsFor}
+use Rattle.worker_store.specs.rules.Savepoints.{Savepoint, IsAtSavepoint}
 
 -- what an image stands by
 abbrev pub point_of : {disk : DiskImage} {m : Module} {config : Settings} {kept : List Kept} {n : ℕ}

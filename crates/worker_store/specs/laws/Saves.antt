@@ -5,30 +5,20 @@ use Rattle.wasi_abi.specs.rules.Configs.{Settings}
 use Rattle.process_rules.specs.Processes.{ProcessState}
 use Rattle.process_rules.specs.Runs.{Kept}
 use Rattle.state_image.specs.rules.ProcessImage.{Saved}
-use Rattle.sector_disk.specs.rules.DiskImage.{DiskImage}
 use Rattle.sector_disk.specs.rules.Medium.{Medium, LeavesOnly}
 use Rattle.disk_layout.specs.rules.Journal.{Record}
 use Rattle.journal.specs.rules.State.{JournalState}
 use Rattle.restart_theorem.specs.Lives.{Act, Reply, Done, Fails, Cause, Ended}
 use Rattle.restart_theorem.specs.Promises.{Promise, after, synced_by}
 use Rattle.restart_theorem.specs.Holds.{CarriesPromise}
-use Rattle.worker_store.specs.laws.Savepoints.{Savepoint, IsAtSavepoint}
-use Rattle.worker_store.specs.laws.Barriers.{IsAtFront}
-use Rattle.worker_store.specs.laws.Commits.{BeginsAtPoint}
-use Rattle.worker_store.specs.laws.Journaled.{IsJournaled}
-use Rattle.worker_store.specs.laws.Moments.{LeavesAll}
+use Rattle.worker_store.specs.rules.Savepoints.{Savepoint, IsAtSavepoint, IsAtFront, BeginsAtPoint}
+use Rattle.worker_store.specs.rules.Savepoints.{IsJournaled, LeavesAll, IsAtFrontOrNext}
 use Rattle.worker_store.specs.laws.Acts.{SavesWith, keeping_more}
-use Rattle.worker_store.specs.laws.Carried.{PromisesNoMore, SavesFront, IsHeldAt, IsCarried}
-use Rattle.worker_store.specs.laws.Carried.{count_at}
-use Rattle.worker_store.specs.laws.Raised.{SyncsAreHeld}
+use Rattle.worker_store.specs.rules.Carried.{IsHeldAt, IsCarried, count_at, SyncsAreHeld}
+use Rattle.worker_store.specs.laws.Carried.{PromisesNoMore, SavesFront}
 
--- it stands for a prefix of the pending records, or begins at the next savepoint
-abbrev pub IsAtFrontOrNext : {m : Module} {config : Settings} → Savepoint m config
-    → Savepoint m config → List Record → ProcessState → List Record → DiskImage → Type 0
-IsAtFrontOrNext point next records last pending disk =
-    IsAtFront point records last pending disk ⊎ BeginsAtPoint next disk
-
--- A cut at any moment of a barrier, and then of a commit, leaves that.
+-- A cut at any moment of a barrier, and then of a commit, leaves a prefix of the pending records,
+-- or the next savepoint.
 abbrev pub SaveAtAnyMoment : {D : Type 0} → (D → Medium) → Type 0
 SaveAtAnyMoment {D} medium =
     (m : Module) (config : Settings) (point next : Savepoint m config) (journal : JournalState)

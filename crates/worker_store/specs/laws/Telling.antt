@@ -9,7 +9,8 @@ use Rattle.restart_theorem.specs.Lives.{OfOutlet}
 use Rattle.restart_theorem.specs.Courses.{Stage, Broken}
 use Rattle.restart_theorem.specs.Promises.{Promise}
 use Rattle.worker_store.specs.laws.Underway.{IsUnderWay, IsBroken}
-use Rattle.worker_store.specs.laws.Pieces.{IsForetold, AreDone}
+use Rattle.worker_store.specs.rules.BetweenCalls.{IsForetold}
+use Rattle.worker_store.specs.laws.Pieces.{AreDone}
 
 -- Nothing is promised in between but that lines were told, up to this one.
 pub record AddsLines (promise : Promise) (line : ℕ) (promise' : Promise) : Type 0 where

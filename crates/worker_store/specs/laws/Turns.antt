@@ -16,10 +16,10 @@ use Rattle.restart_theorem.specs.Lives.{Act, Reply, SourceSaid, Asked, Ended, ke
 use Rattle.restart_theorem.specs.Courses.{Stage}
 use Rattle.restart_theorem.specs.Promises.{Promise, after}
 use Rattle.restart_theorem.specs.Holds.{DiskImageHolds, KeepsPromise, CarriesPromise}
-use Rattle.worker_store.specs.laws.Savepoints.{Savepoint}
-use Rattle.worker_store.specs.laws.Carried.{PromisesNoMore, IsCarried}
+use Rattle.worker_store.specs.rules.Savepoints.{Savepoint}
+use Rattle.worker_store.specs.rules.Carried.{IsCarried, AreOnRecord}
+use Rattle.worker_store.specs.laws.Carried.{PromisesNoMore}
 use Rattle.worker_store.specs.laws.Pieces.{AreDone}
-use Rattle.worker_store.specs.laws.Raised.{AreOnRecord}
 use Rattle.worker_store.specs.laws.Telling.{AddsLines}
 
 -- ---- what is promised

@@ -19,10 +19,8 @@ use Rattle.disk_layout.specs.rules.Places.{area_place, rounded_up}
 use Rattle.snapshot.specs.declared.writing.Writing.TheVariants.{Changes}
 use Rattle.snapshot.specs.rules.Calls.{PerformsStoresAndHead}
 use Rattle.restart_theorem.specs.Stands.{IsNumbered}
-use Rattle.worker_store.specs.laws.Savepoints.{Savepoint, IsAtSavepoint, places}
-use Rattle.worker_store.specs.laws.Moments.{LeavesAll}
-use Rattle.worker_store.specs.laws.Barriers.{IsAtFront}
-use Rattle.worker_store.specs.laws.Commits.{BeginsAtPoint, IsNextPoint, StandsBefore}
+use Rattle.worker_store.specs.rules.Savepoints.{Savepoint, IsAtSavepoint, places, LeavesAll}
+use Rattle.worker_store.specs.rules.Savepoints.{IsAtFront, BeginsAtPoint, IsNextPoint, StandsBefore}
 use Rattle.worker_store.specs.declared.fault.StoreFault.{StoreFault}
 use Rattle.worker_store.specs.declared.fault.StoreFault.TheVariants.{Full, TooLong, TooBig, Disk}
 use Rattle.worker_store.specs.declared.fault.StoreFault.TheVariants.{Memory, Failed}
@@ -38,7 +36,7 @@ AppendFails store r Full = (length (payload_of r.answer) ≤ text_limit store.jo
 AppendFails store r TooLong = text_limit store.journal.version < length (payload_of r.answer)
 AppendFails store r Memory = (length (payload_of r.answer) ≤ text_limit store.journal.version)
     × (length (record_bytes store.journal.version r) ≤ room_of store.geometry store.journal)
-AppendFails store r Failed = (store.has_failed ≡ true) ⊎ (store.journal.has_failed ≡ true)
+AppendFails store r Failed = store.journal.has_failed ≡ true
 AppendFails store r other = ⊥
 
 -- ---- barrier
@@ -64,8 +62,7 @@ BarrierFails store old new Full = (0 < length store.journal.kept)
     < store.journal.used + sectors_for (length store.journal.kept))
 BarrierFails store old new (Disk fault) = (spare old < sectors_for (length store.journal.kept))
     ⊎ (old.faults < new.faults)
-BarrierFails store old new Failed =
-    (store.has_failed ≡ true) ⊎ (store.journal.has_failed ≡ true)
+BarrierFails store old new Failed = store.journal.has_failed ≡ true
 BarrierFails store old new other = ⊥
 
 -- ---- commit
@@ -104,7 +101,7 @@ CommitFails store process old new TooBig = (NUMBERS_END ≤ store.journal.genera
     ⊎ (SECTOR_SIZE * store.geometry.area_sectors < length (process_image (saved_of process)))
 CommitFails store process old new (Disk fault) = (spare old < store.geometry.area_sectors)
     ⊎ (old.room ≡ 0) ⊎ (old.faults < new.faults)
-CommitFails store process old new Failed = store.has_failed ≡ true
+CommitFails store process old new Failed = store.journal.has_failed ≡ true
 CommitFails store process old new other = ⊥
 
 -- ---- a commit whatever the disk stands by

@@ -17,7 +17,7 @@ use Rattle.worker_store.specs.rules.Calls.{LeavesFronts, StoresAll, BarrierFails
 use Rattle.worker_store.specs.rules.Calls.{StoresNext, CommitCalls, CommitFails}
 use Rattle.worker_store.specs.rules.Calls.{LeavesBeforeOrNext, LeavesPointOrNext, StoresAgain}
 use Rattle.worker_store.specs.rules.Calls.{ReopeningFails}
-use Rattle.worker_store.specs.rules.Stores.{IsOfStore, begun_store, with_stored}
+use Rattle.worker_store.specs.rules.Stores.{IsOfStore, begun_store, with_stored, failed_store}
 
 -- The records that are pending are put on the disk, and synced.
 pub record StoresPending (before after : WorkerStore) (result : Result (Unit {0}) StoreFault)
@@ -34,7 +34,7 @@ pub record StoresPending (before after : WorkerStore) (result : Result (Unit {0}
   pub calls : PerformsCalls (barrier_calls before.geometry before.journal) result old new
   pub cause : IfErr result (λ e. BarrierFails before old new e)
   -- after an error the store has failed, and its places and its generation stay in any case
-  pub fails : OnErr result (after.has_failed ≡ true)
+  pub fails : OnErr result (after.journal.has_failed ≡ true)
   pub stays : IsOfStore before after
   -- time goes on, and the disk has as many sectors and as much room
   pub passes : Passes old new (λ _. Unit {0})
@@ -53,10 +53,9 @@ pub record CommitsProcess (process : ProcessValue) (before after : WorkerStore)
   -- sectors of the image, a sync, the head, and a sync; after an error these calls are begun
   pub calls : CommitCalls before.geometry (before.journal.generation + 1) process result old new
   pub cause : IfErr result (λ e. CommitFails before process old new e)
-  -- after an error the store has failed, with its journal as before, and its places stay in any
-  -- case
-  pub fails : OnErr result (after.has_failed ≡ true)
-  pub unchanged : OnErr result (after.journal ≡ before.journal)
+  -- after an error the store has failed, and is else as before; its places stay in any case
+  pub fails : OnErr result (after.journal.has_failed ≡ true)
+  pub unchanged : OnErr result (after ≡ failed_store before)
   pub stays : after.geometry ≡ before.geometry
   -- after Ok a generation begins, in the version of the process
   pub numbered : OnOk result (after.journal.generation ≡ before.journal.generation + 1)

@@ -10,9 +10,8 @@ use Rattle.disk_layout.specs.declared.journal_sectors.TheConstants.{PAYLOAD_SIZE
 use Rattle.disk_layout.specs.rules.Places.{total_sectors}
 use Rattle.disk_layout.specs.rules.Journal.{Record, record_bytes}
 use Rattle.journal.specs.rules.Packed.{sectors_for}
-use Rattle.journal.specs.rules.State.{state}
-use Rattle.worker_store.specs.laws.Savepoints.{Savepoint, places}
-use Rattle.worker_store.specs.laws.Journaled.{IsJournaled}
+use Rattle.journal.specs.rules.State.{state, failed_journal}
+use Rattle.worker_store.specs.rules.Savepoints.{Savepoint, places, IsJournaled}
 use Rattle.worker_store.specs.declared.store.WorkerStore.{WorkerStore}
 
 -- No call has failed. Whatever a cut leaves of the disk is at this savepoint, with these records,
@@ -22,8 +21,7 @@ use Rattle.worker_store.specs.declared.store.WorkerStore.{WorkerStore}
 pub record IsStoreOf {m : Module} {config : Settings} (point : Savepoint m config)
     (store : WorkerStore)
     (records pending : List Record) (last now : ProcessState) (disk : Medium) : Type 0 where
-  pub works : store.has_failed ≡ false
-  pub journal_works : store.journal.has_failed ≡ false
+  pub works : store.journal.has_failed ≡ false
   pub geometry : store.geometry ≡ places point
   pub journaled : IsJournaled point store.journal records pending last now disk
   pub fits : length store.journal.kept
@@ -37,7 +35,6 @@ abbrev pub begun_store : Geometry → Version → ℕ → WorkerStore
 begun_store geometry version g = record {
   geometry = geometry;
   journal = state version g 0 [] false;
-  has_failed = false;
 }
 
 -- with one more record in memory
@@ -54,10 +51,9 @@ with_stored store = record store {
       (store.journal.used + sectors_for (length store.journal.kept)) [] false;
 }
 
--- no call has failed
-pub record IsUnfailed (store : WorkerStore) : Type 0 where
-  pub works : store.has_failed ≡ false
-  pub journal_works : store.journal.has_failed ≡ false
+-- a call has failed, and all else is as before
+abbrev pub failed_store : WorkerStore → WorkerStore
+failed_store store = record store { journal = failed_journal store.journal }
 
 -- it keeps the same places and the same generation
 pub record IsOfStore (before after : WorkerStore) : Type 0 where

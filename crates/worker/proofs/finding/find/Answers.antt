@@ -1,77 +1,87 @@
 use Rattle.std.proofs.Common.{◌≡◌, ◌*◌, [], arith}
+use Rattle.std.proofs.lemmas.Result.{err_from_is_err_and}
 use Rattle.sector_disk.proofs.Moments.{stays_shows}
 use Rattle.disk_layout.specs.declared.reading.contents.Contents.{Contents}
-use Rattle.worker_store.specs.laws.Savepoints.{places}
-use Rattle.worker.proofs.FindingLemmas.{unread_as, marks_there, marks_unread}
+use Rattle.worker_store.specs.rules.Savepoints.{places}
+use Rattle.worker.proofs.FindingLemmas.{unread_says, searches_on, searches_in_vain}
+use Rattle.worker.proofs.FindingLemmas.{marks_there, marks_unread}
 use Rattle.worker.proofs.FoundDiskLemmas.{contents_unread}
-use Rattle.worker.proofs.FindingLemmas.{searches_on, searches_in_vain}
 use Rattle.worker.proofs.finding.find.Goals as goal
 
-pub returns-in-Ok-clause-searches : goal.returns-in-Ok-clause-searches
-returns-in-Ok-clause-searches g c =
+-- ---- configuration and module weren't read
+
+pub returns-in_err-contents-clause-searches : goal.returns-in_err-contents-clause-searches
+returns-in_err-contents-clause-searches g c =
+    let p = err_from_is_err_and c.from_residual.result c.from_residual.ensures.1 in
+    let failed = c.in_err-contents.ensures in
+    let old = g.D.Disk.medium c.args.disk.now in
+    rw (p.1, p.2) (searches_in_vain old.sectors (2 * old.sectors) old
+    (g.D.Disk.medium c.read_worker.new.disk) c.in_err-contents.field-0.0 (omega arith)
+    failed.reads failed.asks failed.cause)
+
+pub returns-in_err-contents-clause-finds : goal.returns-in_err-contents-clause-finds
+returns-in_err-contents-clause-finds g c =
+    let p = err_from_is_err_and c.from_residual.result c.from_residual.ensures.1 in
+    rw (p.1, p.2) (
+      [],
+      λ image shown m config point records last at room.
+          unread_says Contents
+          (λ found. found
+          ≡ record { geometry = places point; config = config; wasm = point.wasm })
+          c.in_err-contents.field-0.0
+          (c.in_err-contents.ensures.gives image shown m config point records last at room),
+    )
+
+pub returns-in_err-contents-clause-shows : goal.returns-in_err-contents-clause-shows
+returns-in_err-contents-clause-shows g c =
+    let p = err_from_is_err_and c.from_residual.result c.from_residual.ensures.1 in
+    let was = g.D.Disk.medium c.args.disk.now in
+    rw (p.1, p.2) (λ image shown. contents_unread was.sectors image c.in_err-contents.field-0.0
+    (c.in_err-contents.ensures.tells image shown))
+
+pub returns-in_err-contents-clause-marks : goal.returns-in_err-contents-clause-marks
+returns-in_err-contents-clause-marks g c =
+    let p = err_from_is_err_and c.from_residual.result c.from_residual.ensures.1 in
+    rw (p.1, p.2) (λ image shown. marks_unread image c.in_err-contents.field-0.0
+    (c.in_err-contents.ensures.marks image shown))
+
+-- ---- they were
+
+pub returns-clause-searches : goal.returns-clause-searches
+returns-clause-searches g c =
+    let read = c.in_ok-contents.ensures in
     let old = g.D.Disk.medium c.args.disk.now in
     let mid = g.D.Disk.medium c.read_worker.new.disk in
-    let leaves = c.in-Ok.ensures.reads.leaves in
+    let leaves = read.reads.leaves in
     let same = leaves.passes.sectors in
     searches_on old.sectors mid.sectors (2 * old.sectors) old mid
     (g.D.Disk.medium c.find_linked.new.disk) c.find_linked.result (omega (arith, same))
-    c.in-Ok.ensures.reads c.in-Ok.ensures.asks c.find_linked.ensures.searches
+    read.reads read.asks c.find_linked.ensures.searches
 
-pub returns-in-Err-clause-searches : goal.returns-in-Err-clause-searches
-returns-in-Err-clause-searches g c =
-    let old = g.D.Disk.medium c.args.disk.now in
-    searches_in_vain old.sectors (2 * old.sectors) old (g.D.Disk.medium c.read_worker.new.disk)
-    c.in-Err.fault c.from.result (omega arith) c.in-Err.ensures.reads c.in-Err.ensures.asks
-    c.from.ensures c.in-Err.ensures.cause
-
-pub returns-in-Ok-clause-finds : goal.returns-in-Ok-clause-finds
-returns-in-Ok-clause-finds g c = (
-  c.in-Ok.contents.wasm,
+pub returns-clause-finds : goal.returns-clause-finds
+returns-clause-finds g c = (
+  c.in_ok-contents.contents.wasm,
   λ image shown m config point records last at room.
-      let searches = c.find_linked.ensures.searches in
-      let reads = searches.reads in
+      let reads = c.find_linked.ensures.searches.reads in
       let before = stays_shows (g.D.Disk.medium c.read_worker.new.disk)
       (g.D.Disk.medium c.find_linked.new.disk) reads.stays image shown in
       c.find_linked.ensures.finds image shown m config point records last at
-      (c.in-Ok.ensures.gives image before m config point records last at room),
+      (c.in_ok-contents.ensures.gives image before m config point records last at room),
 )
 
-pub returns-in-Ok-clause-marks : goal.returns-in-Ok-clause-marks
-returns-in-Ok-clause-marks g c = λ image shown.
-    let searches = c.find_linked.ensures.searches in
-    let reads = searches.reads in
+pub returns-clause-shows : goal.returns-clause-shows
+returns-clause-shows g c = λ image shown.
+    let was = g.D.Disk.medium c.args.disk.now in
+    let reads = c.find_linked.ensures.searches.reads in
     let before = stays_shows (g.D.Disk.medium c.read_worker.new.disk)
     (g.D.Disk.medium c.find_linked.new.disk) reads.stays image shown in
-    marks_there image c.in-Ok.contents c.find_linked.result (c.in-Ok.ensures.marks image before)
-    c.find_linked.ensures.own
+    c.find_linked.ensures.shows image shown was.sectors
+    (c.in_ok-contents.ensures.tells image before)
 
-pub returns-in-Err-clause-finds : goal.returns-in-Err-clause-finds
-returns-in-Err-clause-finds g c = (
-  [],
-  λ image shown m config point records last at room.
-      unread_as Contents
-      (λ found. found
-      ≡ record { geometry = places point; config = config; wasm = point.wasm }) c.in-Err.fault
-      c.from.result c.from.ensures
-      (c.in-Err.ensures.gives image shown m config point records last at room),
-)
-
-pub returns-in-Err-clause-marks : goal.returns-in-Err-clause-marks
-returns-in-Err-clause-marks g c = λ image shown.
-    marks_unread image c.in-Err.fault c.from.result c.from.ensures
-    (c.in-Err.ensures.marks image shown)
-
-pub returns-in-Ok-clause-shows : goal.returns-in-Ok-clause-shows
-returns-in-Ok-clause-shows g c = λ image shown.
-    let was = g.D.Disk.medium c.args.disk.now in
-    let searches = c.find_linked.ensures.searches in
-    let reads = searches.reads in
+pub returns-clause-marks : goal.returns-clause-marks
+returns-clause-marks g c = λ image shown.
+    let reads = c.find_linked.ensures.searches.reads in
     let before = stays_shows (g.D.Disk.medium c.read_worker.new.disk)
     (g.D.Disk.medium c.find_linked.new.disk) reads.stays image shown in
-    c.find_linked.ensures.shows image shown was.sectors (c.in-Ok.ensures.tells image before)
-
-pub returns-in-Err-clause-shows : goal.returns-in-Err-clause-shows
-returns-in-Err-clause-shows g c = λ image shown.
-    let was = g.D.Disk.medium c.args.disk.now in
-    contents_unread was.sectors image c.in-Err.fault c.from.result c.from.ensures
-    (c.in-Err.ensures.tells image shown)
+    marks_there image c.in_ok-contents.contents c.find_linked.result
+    (c.in_ok-contents.ensures.marks image before) c.find_linked.ensures.own

@@ -1,52 +1,273 @@
-use Rattle.std.proofs.Common.{List, ℕ, sym, ap, ◌∙◌, subst}
-use Rattle.wasi_abi.specs.rules.Configs.{Settings}
+use Rattle.std.proofs.Common.{◌≡◌, ◌+◌, List, ℕ, ap, ◌∙◌, subst, arith}
+use Rattle.std.specs.Prelude.{Ok, Err, Vec}
+use Rattle.std.specs.declared.alloc.Global.{Global}
+use Rattle.std.specs.List.{AllByRecursion}
+use Rattle.std.proofs.lemmas.Result.{err_from_is_err_and}
+use Rattle.wasi_abi.specs.rules.Answers.{AreBytes}
+use Rattle.sector_disk.proofs.Moments.{stays_shows}
 use Rattle.disk_layout.specs.declared.reading.contents.Contents.{Contents}
-use Rattle.worker.specs.Findings.{FindsPoint}
-use Rattle.worker.proofs.RestoringLemmas.{begun_machine, same_module, unaccepted}
-use Rattle.worker.proofs.FoundDiskLemmas.{module_refused, module_held, machine_held}
-use Rattle.worker.proofs.FindingLemmas.{searches_no_more, unaccepted_cause}
+use Rattle.disk_layout.specs.rules.Journal.{Record}
+use Rattle.state_image.specs.rules.ProcessImage.{process_image as process_image_of}
+use Rattle.worker_store.specs.declared.newest.NewestProcessImage.{NewestProcessImage}
+use Rattle.worker.specs.declared.found.Found.{Found}
+use Rattle.worker.specs.declared.recover_fault.RecoverFault.TheVariants as recover
+use Rattle.worker.specs.rules.RecoverFaults.{fault_of_read}
+use Rattle.worker.proofs.TextLemmas.{texts_of}
+use Rattle.worker.proofs.RestoringLemmas.{begun_machine, unaccepted, unmade, its_version, found_at}
+use Rattle.worker.proofs.FindingLemmas.{says_denied, unread_says, searches_on, searched}
+use Rattle.worker.proofs.FindingLemmas.{searches_in_vain, searches_no_more}
+use Rattle.worker.proofs.FoundDiskLemmas.{module_refused, newest_unread, process_unmade}
+use Rattle.worker.proofs.FoundDiskLemmas.{records_unread, all_found}
 use Rattle.worker.proofs.finding.find_linked.Goals as goal
 
-pub find_saved-requires-clause-begun : goal.find_saved-requires-clause-begun
-find_saved-requires-clause-begun g c =
-    begun_machine c.args.contents.config c.pages.result c.as_slice.result.now c.in-Ok.machine
-    c.pages.ensures.value c.in-Ok.ensures.accepted
+pub restore_into-requires : goal.restore_into-requires
+restore_into-requires g c =
+    begun_machine c.args.contents.config c.pages.result c.as_slice-3.result.now
+    c.in_ok-machine.machine c.pages.ensures.value c.in_ok-machine.ensures.accepted
 
-pub returns-in-Ok-clause-finds : goal.returns-in-Ok-clause-finds
-returns-in-Ok-clause-finds g c = λ image shown m config point records last at content.
-    let same = ap (λ (s : Contents). s.wasm) content in
-    subst (λ (w : List ℕ). FindsPoint w point records c.find_saved.result) (sym same)
-    (c.find_saved.ensures.finds image shown m config point records last at (record {
-      placed = ap (λ (s : Contents). s.geometry) content;
-      configured = ap (λ (s : Contents). s.config) content;
-      linked = same_module point c.pages.result c.as_slice.result.now (c.as_slice.ensures ∙ same)
-          c.in-Ok.machine c.in-Ok.ensures.accepted;
-    }))
+-- ---- the module isn't accepted
 
-pub returns-in-Err-clause-finds : goal.returns-in-Err-clause-finds
-returns-in-Err-clause-finds g c = λ image shown m config point records last at content.
-    unaccepted point c.pages.result c.as_slice.result.now
-    (c.as_slice.ensures ∙ ap (λ (s : Contents). s.wasm) content) c.in-Err.fault c.from.result
-    (c.pages.ensures.value
-    ∙ ap (λ (s : Contents). (let t : Settings = s.config in t.pages)) content)
-    c.from.ensures c.in-Err.ensures.only
-
-pub returns-in-Ok-clause-shows : goal.returns-in-Ok-clause-shows
-returns-in-Ok-clause-shows g c = λ image shown sectors whole.
-    c.find_saved.ensures.shows image shown sectors
-    (module_held sectors image c.args.contents whole c.pages.result c.as_slice.result.now
-    c.pages.ensures.value c.as_slice.ensures c.in-Ok.machine c.in-Ok.ensures.accepted)
-    (machine_held sectors image c.args.contents whole c.pages.result c.as_slice.result.now
-    c.pages.ensures.value c.as_slice.ensures c.in-Ok.machine c.in-Ok.ensures.accepted)
-
-pub returns-in-Err-clause-shows : goal.returns-in-Err-clause-shows
-returns-in-Err-clause-shows g c = λ image shown sectors whole.
-    module_refused sectors image c.args.contents whole c.pages.result c.as_slice.result.now
-    c.pages.ensures.value c.as_slice.ensures c.in-Err.fault c.from.result c.from.ensures
-    c.in-Err.ensures.reported c.in-Err.ensures.only
-
-pub returns-in-Err-clause-searches : goal.returns-in-Err-clause-searches
-returns-in-Err-clause-searches g c =
+pub returns-in_err-machine-clause-searches : goal.returns-in_err-machine-clause-searches
+returns-in_err-machine-clause-searches g c =
+    let p = err_from_is_err_and c.from_residual.result c.from_residual.ensures.1 in
     let m = g.D.Disk.medium c.args.disk.now in
-    searches_no_more m.sectors m c.from.result (unaccepted_cause m m c.in-Err.fault c.from.result
-    c.from.ensures)
+    rw (p.1, p.2) (searches_no_more m.sectors m (recover.Module c.in_err-machine.field-0.0) tt)
+
+pub returns-in_err-machine-clause-finds : goal.returns-in_err-machine-clause-finds
+returns-in_err-machine-clause-finds g c =
+    let p = err_from_is_err_and c.from_residual.result c.from_residual.ensures.1 in
+    rw (p.1, p.2) (λ image shown m config point records last at content.
+    unaccepted at c.args.contents content c.pages.result c.as_slice-3.result.now
+    c.pages.ensures.value c.as_slice-3.ensures c.in_err-machine.field-0.0
+    c.in_err-machine.ensures.only)
+
+pub returns-in_err-machine-clause-shows : goal.returns-in_err-machine-clause-shows
+returns-in_err-machine-clause-shows g c =
+    let p = err_from_is_err_and c.from_residual.result c.from_residual.ensures.1 in
+    rw (p.1, p.2) (λ image shown sectors whole.
+    module_refused sectors image c.args.contents whole c.pages.result c.as_slice-3.result.now
+    c.pages.ensures.value c.as_slice-3.ensures c.in_err-machine.field-0.0
+    c.in_err-machine.ensures.reported c.in_err-machine.ensures.only)
+
+pub returns-in_err-machine-clause-own : goal.returns-in_err-machine-clause-own
+returns-in_err-machine-clause-own g c =
+    let p = err_from_is_err_and c.from_residual.result c.from_residual.ensures.1 in
+    rw (p.1, p.2) (λ says. says)
+
+-- ---- the newest image wasn't read
+
+pub returns-in_err-newest-clause-searches : goal.returns-in_err-newest-clause-searches
+returns-in_err-newest-clause-searches g c =
+    let p = err_from_is_err_and c.from_residual-in_err-newest.result
+    c.from_residual-in_err-newest.ensures.1 in
+    let failed = c.in_err-newest.ensures in
+    let old = g.D.Disk.medium c.args.disk.now in
+    let room = c.requires in
+    rw (p.1, p.2) (searches_in_vain (c.args.contents.geometry.area_sectors + 2) old.sectors old
+    (g.D.Disk.medium c.read_newest.new.disk) c.in_err-newest.field-0.0 (omega (arith, room))
+    failed.reads failed.asks failed.cause)
+
+pub returns-in_err-newest-clause-finds : goal.returns-in_err-newest-clause-finds
+returns-in_err-newest-clause-finds g c =
+    let p = err_from_is_err_and c.from_residual-in_err-newest.result
+    c.from_residual-in_err-newest.ensures.1 in
+    rw (p.1, p.2) (λ image shown m config point records last at content.
+    unread_says NewestProcessImage
+    (λ found. (found.generation ≡ point.generation) × (found.version ≡ point.saved.version)
+    × (found.process_image ≡ process_image_of point.saved)) c.in_err-newest.field-0.0
+    (c.in_err-newest.ensures.finds image shown m config point records last at
+    (ap (λ (s : Contents). s.geometry) content)))
+
+pub returns-in_err-newest-clause-shows : goal.returns-in_err-newest-clause-shows
+returns-in_err-newest-clause-shows g c =
+    let p = err_from_is_err_and c.from_residual-in_err-newest.result
+    c.from_residual-in_err-newest.ensures.1 in
+    rw (p.1, p.2) (λ image shown sectors whole.
+    newest_unread sectors image c.args.contents whole c.pages.result c.as_slice-3.result.now
+    c.pages.ensures.value c.as_slice-3.ensures c.in_ok-machine.machine
+    c.in_ok-machine.ensures.accepted c.in_err-newest.field-0.0
+    (c.in_err-newest.ensures.tells image shown))
+
+pub returns-in_err-newest-clause-own : goal.returns-in_err-newest-clause-own
+returns-in_err-newest-clause-own g c =
+    let p = err_from_is_err_and c.from_residual-in_err-newest.result
+    c.from_residual-in_err-newest.ensures.1 in
+    rw (p.1, p.2) (λ says. c.in_err-newest.ensures.own
+    (says_denied NewestProcessImage Found c.in_err-newest.field-0.0 says))
+
+-- ---- its process wasn't made again
+
+pub returns-in_err-process-clause-searches : goal.returns-in_err-process-clause-searches
+returns-in_err-process-clause-searches g c =
+    let p = err_from_is_err_and c.from_residual-in_err-process.result
+    c.from_residual-in_err-process.ensures.1 in
+    let read = c.in_ok-newest.ensures in
+    let old = g.D.Disk.medium c.args.disk.now in
+    let mid = g.D.Disk.medium c.read_newest.new.disk in
+    let fault = recover.ProcessImage c.in_err-process.field-0.0 in
+    let room = c.requires in
+    rw (p.1, p.2) (searches_on (c.args.contents.geometry.area_sectors + 2) 0 old.sectors old mid
+    mid (Err fault) (omega (arith, room)) read.reads read.asks (searches_no_more 0 mid fault tt))
+
+pub returns-in_err-process-clause-finds : goal.returns-in_err-process-clause-finds
+returns-in_err-process-clause-finds g c =
+    let p = err_from_is_err_and c.from_residual-in_err-process.result
+    c.from_residual-in_err-process.ensures.1 in
+    let texts = texts_of c.args.contents.config
+    (subst (λ (l : List (List ℕ)). AllByRecursion AreBytes l)
+    (c.as_slice.ensures ∙ c.arguments.ensures.value) c.are_texts_of_bytes.ensures)
+    (subst (λ (l : List (List ℕ)). AllByRecursion AreBytes l)
+    (c.as_slice-2.ensures ∙ c.environment.ensures.value) c.are_texts_of_bytes-2.ensures) in
+    rw (p.1, p.2) (λ image shown m config point records last at content.
+    let found = c.in_ok-newest.ensures.finds image shown m config point records last at
+    (ap (λ (s : Contents). s.geometry) content) in
+    unmade at c.args.contents content c.pages.result c.as_slice-3.result.now
+    c.pages.ensures.value c.as_slice-3.ensures c.in_ok-machine.machine
+    c.in_ok-machine.ensures.accepted texts c.as_slice-4.result.now
+    (c.as_slice-4.ensures ∙ found.2) c.in_err-process.field-0.0 c.in_err-process.ensures.refused)
+
+pub returns-in_err-process-clause-shows : goal.returns-in_err-process-clause-shows
+returns-in_err-process-clause-shows g c =
+    let p = err_from_is_err_and c.from_residual-in_err-process.result
+    c.from_residual-in_err-process.ensures.1 in
+    rw (p.1, p.2) (λ image shown sectors whole.
+    process_unmade sectors image c.args.contents whole c.pages.result c.as_slice-3.result.now
+    c.pages.ensures.value c.as_slice-3.ensures c.in_ok-machine.machine
+    c.in_ok-machine.ensures.accepted c.in_ok-newest.newest
+    (c.in_ok-newest.ensures.tells image shown) c.as_slice-4.result.now c.as_slice-4.ensures
+    c.in_err-process.field-0.0 c.in_err-process.ensures.refused)
+
+pub returns-in_err-process-clause-own : goal.returns-in_err-process-clause-own
+returns-in_err-process-clause-own g c =
+    let p = err_from_is_err_and c.from_residual-in_err-process.result
+    c.from_residual-in_err-process.ensures.1 in
+    rw (p.1, p.2) (λ says. says)
+
+-- ---- the records weren't read
+
+pub returns-in_err-records-clause-searches : goal.returns-in_err-records-clause-searches
+returns-in_err-records-clause-searches g c =
+    let p = err_from_is_err_and c.from_residual-in_err-records.result
+    c.from_residual-in_err-records.ensures.1 in
+    let read = c.in_ok-newest.ensures in
+    let failed = c.in_err-records.ensures in
+    let old = g.D.Disk.medium c.args.disk.now in
+    let mid = g.D.Disk.medium c.read_newest.new.disk in
+    let new = g.D.Disk.medium c.read_records.new.disk in
+    let geometry = c.args.contents.geometry in
+    let room = c.requires in
+    rw (p.1, p.2) (searches_on (geometry.area_sectors + 2) geometry.journal_sectors old.sectors
+    old mid new (Err (fault_of_read c.in_err-records.field-0.0)) (omega (arith, room)) read.reads
+    read.asks (searches_in_vain geometry.journal_sectors geometry.journal_sectors mid new
+    c.in_err-records.field-0.0 (omega arith) failed.reads failed.asks failed.cause))
+
+pub returns-in_err-records-clause-finds : goal.returns-in_err-records-clause-finds
+returns-in_err-records-clause-finds g c =
+    let p = err_from_is_err_and c.from_residual-in_err-records.result
+    c.from_residual-in_err-records.ensures.1 in
+    let texts = texts_of c.args.contents.config
+    (subst (λ (l : List (List ℕ)). AllByRecursion AreBytes l)
+    (c.as_slice.ensures ∙ c.arguments.ensures.value) c.are_texts_of_bytes.ensures)
+    (subst (λ (l : List (List ℕ)). AllByRecursion AreBytes l)
+    (c.as_slice-2.ensures ∙ c.environment.ensures.value) c.are_texts_of_bytes-2.ensures) in
+    rw (p.1, p.2) (λ image shown m config point records last at content.
+    let reads = c.in_err-records.ensures.reads in
+    let before = stays_shows (g.D.Disk.medium c.read_newest.new.disk)
+    (g.D.Disk.medium c.read_records.new.disk) reads.stays image shown in
+    let placed = ap (λ (s : Contents). s.geometry) content in
+    let found = c.in_ok-newest.ensures.finds image before m config point records last at placed in
+    unread_says (Vec Record Global) (λ read. read.items ≡ records) c.in_err-records.field-0.0
+    (c.in_err-records.ensures.scans image shown m config point records last at placed
+    (its_version at c.args.contents content c.pages.result c.as_slice-3.result.now
+    c.pages.ensures.value c.as_slice-3.ensures c.in_ok-machine.machine
+    c.in_ok-machine.ensures.accepted texts c.as_slice-4.result.now
+    (c.as_slice-4.ensures ∙ found.2) c.restored_processes_are_the_saved.ensures
+    c.in_ok-process.process c.in_ok-process.ensures.restored
+    c.version.result c.version.ensures) found.0))
+
+pub returns-in_err-records-clause-shows : goal.returns-in_err-records-clause-shows
+returns-in_err-records-clause-shows g c =
+    let p = err_from_is_err_and c.from_residual-in_err-records.result
+    c.from_residual-in_err-records.ensures.1 in
+    rw (p.1, p.2) (λ image shown sectors whole.
+    let reads = c.in_err-records.ensures.reads in
+    let before = stays_shows (g.D.Disk.medium c.read_newest.new.disk)
+    (g.D.Disk.medium c.read_records.new.disk) reads.stays image shown in
+    records_unread sectors image c.args.contents whole c.pages.result c.as_slice-3.result.now
+    c.pages.ensures.value c.as_slice-3.ensures c.in_ok-machine.machine
+    c.in_ok-machine.ensures.accepted c.in_ok-newest.newest
+    (c.in_ok-newest.ensures.tells image before) c.as_slice-4.result.now c.as_slice-4.ensures
+    c.in_ok-process.process c.in_ok-process.ensures.restored c.version.result c.version.ensures
+    c.in_err-records.field-0.0 (c.in_err-records.ensures.tells image shown))
+
+pub returns-in_err-records-clause-own : goal.returns-in_err-records-clause-own
+returns-in_err-records-clause-own g c =
+    let p = err_from_is_err_and c.from_residual-in_err-records.result
+    c.from_residual-in_err-records.ensures.1 in
+    rw (p.1, p.2) (λ says. c.in_err-records.ensures.own
+    (says_denied (Vec Record Global) Found c.in_err-records.field-0.0 says))
+
+-- ---- all was read
+
+pub returns-clause-searches : goal.returns-clause-searches
+returns-clause-searches g c =
+    let newest = c.in_ok-newest.ensures in
+    let read = c.in_ok-records.ensures in
+    let old = g.D.Disk.medium c.args.disk.now in
+    let mid = g.D.Disk.medium c.read_newest.new.disk in
+    let new = g.D.Disk.medium c.read_records.new.disk in
+    let geometry = c.args.contents.geometry in
+    let found : Found = record {
+      geometry = geometry;
+      generation = c.in_ok-newest.newest.generation;
+      process_image = c.in_ok-newest.newest.process_image;
+      process = c.in_ok-process.process;
+      records = c.in_ok-records.records;
+    } in
+    let leaves = newest.reads.leaves in
+    let same = leaves.passes.sectors in
+    let room = c.requires in
+    searches_on (geometry.area_sectors + 2) geometry.journal_sectors old.sectors old mid new
+    (Ok found) (omega (arith, room)) newest.reads newest.asks
+    (searched geometry.journal_sectors mid new found (omega (arith, room, same)) read.reads
+    read.asks c.in_ok-process.ensures.shows)
+
+pub returns-clause-finds : goal.returns-clause-finds
+returns-clause-finds g c = λ image shown m config point records last at content.
+    let texts = texts_of c.args.contents.config
+    (subst (λ (l : List (List ℕ)). AllByRecursion AreBytes l)
+    (c.as_slice.ensures ∙ c.arguments.ensures.value) c.are_texts_of_bytes.ensures)
+    (subst (λ (l : List (List ℕ)). AllByRecursion AreBytes l)
+    (c.as_slice-2.ensures ∙ c.environment.ensures.value) c.are_texts_of_bytes-2.ensures) in
+    let reads = c.in_ok-records.ensures.reads in
+    let before = stays_shows (g.D.Disk.medium c.read_newest.new.disk)
+    (g.D.Disk.medium c.read_records.new.disk) reads.stays image shown in
+    let placed = ap (λ (s : Contents). s.geometry) content in
+    let found = c.in_ok-newest.ensures.finds image before m config point records last at placed in
+    let version = its_version at c.args.contents content c.pages.result c.as_slice-3.result.now
+    c.pages.ensures.value c.as_slice-3.ensures c.in_ok-machine.machine
+    c.in_ok-machine.ensures.accepted texts c.as_slice-4.result.now
+    (c.as_slice-4.ensures ∙ found.2) c.restored_processes_are_the_saved.ensures
+    c.in_ok-process.process c.in_ok-process.ensures.restored
+    c.version.result c.version.ensures in
+    found_at at c.args.contents content c.pages.result c.as_slice-3.result.now
+    c.pages.ensures.value c.as_slice-3.ensures c.in_ok-machine.machine
+    c.in_ok-machine.ensures.accepted texts c.as_slice-4.result.now
+    (c.as_slice-4.ensures ∙ found.2) c.restored_processes_are_the_saved.ensures
+    c.in_ok-process.process c.in_ok-process.ensures.restored
+    c.in_ok-newest.newest.generation found.0 c.in_ok-newest.newest.process_image
+    c.in_ok-records.records
+    (c.in_ok-records.ensures.scans image shown m config point records last at placed version
+    found.0) c.in_ok-process.ensures.shows
+
+pub returns-clause-shows : goal.returns-clause-shows
+returns-clause-shows g c = λ image shown sectors whole.
+    let reads = c.in_ok-records.ensures.reads in
+    let before = stays_shows (g.D.Disk.medium c.read_newest.new.disk)
+    (g.D.Disk.medium c.read_records.new.disk) reads.stays image shown in
+    all_found sectors image c.args.contents whole c.pages.result c.as_slice-3.result.now
+    c.pages.ensures.value c.as_slice-3.ensures c.in_ok-machine.machine
+    c.in_ok-machine.ensures.accepted c.in_ok-newest.newest
+    (c.in_ok-newest.ensures.tells image before) c.as_slice-4.result.now c.as_slice-4.ensures
+    c.in_ok-process.process c.in_ok-process.ensures.restored c.version.result c.version.ensures
+    c.in_ok-records.records (c.in_ok-records.ensures.tells image shown)

@@ -2,12 +2,11 @@ use Rattle.std.proofs.Common.{refl}
 use Rattle.worker.proofs.inspecting.tell_found.Goals as goal
 
 pub returns-in-Ok : goal.returns-in-Ok
-returns-in-Ok c = λ found generation process records. (
+returns-in-Ok c = (
   c.wanted_by-question.result,
-  rw process c.wanted_by-question.ensures,
-  rw generation (rw process (rw records (rw c.in-Ok.is refl))),
+  c.wanted_by-question.ensures,
+  rw (c.in-Ok.is, c.as_slice.ensures) refl,
 )
 
 pub returns-in-Err : goal.returns-in-Err
-returns-in-Err c = λ found generation process records.
-    (c.wanted_by-question.result, rw process c.wanted_by-question.ensures, rw c.in-Err.is refl)
+returns-in-Err c = (c.wanted_by-question.result, c.wanted_by-question.ensures, rw c.in-Err.is refl)

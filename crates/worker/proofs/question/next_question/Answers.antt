@@ -1,10 +1,8 @@
-use Rattle.std.proofs.Common.{◌≡◌, List, Option, ℕ, None, sym, subst, ap, ◌∙◌}
+use Rattle.std.proofs.Common.{List, Option, ℕ, None, sym, subst, ap, ◌∙◌}
 use Rattle.guest_memory.specs.rules.Memories.{LinearMemory}
 use Rattle.wasi_abi.specs.rules.Calls.{parameters_of}
-use Rattle.wasi_calls_rules.specs.WasiStates.{WasiState}
 use Rattle.wasi_calls_rules.specs.CallRules.{call_rule}
 use Rattle.wasi_calls.specs.rules.Calls.{AreArguments, question_of}
-use Rattle.wasi_calls.specs.rules.Held.{ShowsWasiState}
 use Rattle.machine.specs.declared.execution.pause.HostCall.{HostCall}
 use Rattle.machine.specs.rules.Runs.{TellsCall}
 use Rattle.process.specs.Parts.{IsAtCall}

@@ -1,7 +1,7 @@
 use Rattle.std.proofs.Common.{◌+◌, ap, ◌∙◌}
 use Rattle.std.proofs.lemmas.Result.{on_err_weaker, on_ok_weaker}
 use Rattle.sector_disk.proofs.Moments.{goes_on}
-use Rattle.journal.specs.rules.State.{JournalState}
+use Rattle.worker_store.specs.declared.store.WorkerStore.{WorkerStore}
 use Rattle.worker.proofs.SavingLemmas.{barrier_saves, commit_saves, commit_saved}
 use Rattle.worker.proofs.SavingLemmas.{barrier_calls_begun, commit_calls_behind}
 use Rattle.worker.proofs.SavingLemmas.{barrier_fails}
@@ -94,7 +94,7 @@ pub returns-clause-unnumbered : goal.returns-clause-unnumbered
 returns-clause-unnumbered g c =
     let stays = c.in_default.ensures.stores.stays in
     on_err_weaker c.commit.result
-    (λ same. ap (λ (j : JournalState). j.generation) same ∙ stays.generation)
+    (λ same. ap (λ (s : WorkerStore). s.journal.generation) same ∙ stays.generation)
     c.commit.ensures.commits.unchanged
 
 pub returns-clause-runs : goal.returns-clause-runs

@@ -1,9 +1,9 @@
-use Rattle.std.proofs.Common.{◌≡◌, ◌+◌, ◌<◌, sym, ap, ◌∙◌, subst, inl}
+use Rattle.std.proofs.Common.{◌+◌, ◌<◌, sym, ap, ◌∙◌, subst, inl}
 use Rattle.std.specs.Prelude.{IfErr}
 use Rattle.std.proofs.lemmas.Result.{on_err_weaker, on_ok_weaker}
 use Rattle.wasi_abi.specs.declared.numbers.TheConstants.{NUMBERS_END}
 use Rattle.sector_disk.proofs.Moments.{goes_on}
-use Rattle.journal.specs.rules.State.{JournalState}
+use Rattle.worker_store.specs.declared.store.WorkerStore.{WorkerStore}
 use Rattle.process.specs.rules.Values.{ProcessValue}
 use Rattle.worker.specs.rules.Savings.{SaveCalls, HasSaveCause}
 use Rattle.worker.specs.rules.Upgrades.{upgraded}
@@ -159,7 +159,7 @@ pub returns-clause-unnumbered : goal.returns-clause-unnumbered
 returns-clause-unnumbered g c =
     let stays = c.in_default.ensures.stores.stays in
     on_err_weaker c.commit.result
-    (λ same. ap (λ (j : JournalState). j.generation) same ∙ stays.generation)
+    (λ same. ap (λ (s : WorkerStore). s.journal.generation) same ∙ stays.generation)
     c.commit.ensures.commits.unchanged
 
 pub returns-clause-calls : goal.returns-clause-calls

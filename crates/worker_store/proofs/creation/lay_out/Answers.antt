@@ -1,4 +1,4 @@
-use Rattle.std.proofs.Common.{◌∙◌, [], length, refl, ap, arith, false, inl, rules}
+use Rattle.std.proofs.Common.{◌∙◌, [], length, ap, arith, false, inl, rules}
 use Rattle.std.proofs.lemmas.Grind.{common_steps}
 use Rattle.sector_disk.proofs.CallLemmas.{no_calls}
 use Rattle.sector_disk.proofs.Moments.{started, leaves_only}
@@ -67,12 +67,11 @@ returns-clause-lays_out g c =
       durable = let store : WorkerStore = record {
         geometry = c.of-geometry.result;
         journal = c.fresh.result;
-        has_failed = false;
       } in
           let p = c.lay_worker.ensures.passes in
           let ok = c.in_ok-lay_worker.ensures in
           first_stored g.D.Disk.medium c.args.config.now c.args.wasm.now c.args.process.now store
-          c.lay_worker.new.disk refl c.of-geometry.ensures
+          c.lay_worker.new.disk c.of-geometry.ensures
           (c.fresh.ensures ∙ ap (λ v. state v 1 0 [] false) c.version.ensures)
           (let t = c.if-sectors-total_sectors.false in let s = c.sectors.ensures in
           let all = c.total_sectors.ensures in

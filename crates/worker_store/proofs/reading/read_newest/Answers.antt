@@ -2,7 +2,7 @@ use Rattle.std.proofs.Common.{rules, ℕ, ap, sym, subst, inl, ◌∙◌}
 use Rattle.std.proofs.lemmas.Bool.{false≢true}
 use Rattle.disk_layout.specs.declared.head.Head.{Head}
 use Rattle.snapshot.specs.rules.Heads.{FindsHead}
-use Rattle.std.specs.Prelude.{Result, Ok, Err, List, ℕ, IsTrue, Option}
+use Rattle.std.specs.Prelude.{Result, Err, List, IsTrue, Option}
 use Rattle.sector_disk.proofs.Moments.{stays_shows}
 use Rattle.snapshot.specs.declared.fault.SnapshotFault.{SnapshotFault}
 use Rattle.snapshot.specs.declared.snapshots.Snapshots.{Snapshots}

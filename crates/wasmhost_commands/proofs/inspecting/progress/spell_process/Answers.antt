@@ -24,7 +24,7 @@ returns g c =
     (state_fact v.ended)
     (appends_both from first second (progress_facts v) (question_fact c.args.question)
     c.in_ok-spell_progress.ensures c.in_ok-spell_question.ensures)
-    (subst (λ (e : Option Ending). Appends second third (state_fact e)) c.reached_end.ensures
+    (subst (λ (e : Option Ending). Appends second third (state_fact e)) c.reached_end.ensures.value
     c.in_ok-spell_state.ensures))
     (subst (λ (m : MachineValue). Appends third last (machine_facts m.state))
     c.machine.ensures machine)) c.spell_machine.ensures

@@ -1,4 +1,4 @@
-use Rattle.std.proofs.Common.{◌≡◌, ℕ, List, [], ◌∷◌, ◌++◌, subst, ◌∙◌}
+use Rattle.std.proofs.Common.{ℕ, List, [], ◌∷◌, ◌++◌, subst, ◌∙◌}
 use Rattle.std.specs.Fmt.{decimal}
 use Rattle.wasmhost_commands.specs.rules.Texts.{letter_of}
 use Rattle.wasmhost_commands.specs.rules.Printers.{IsPrinted, StopsPrinting}

@@ -7,7 +7,6 @@ use Rattle.wasmhost_commands.proofs.LivingLemmas.{within_more, none_taken}
 use Rattle.wasmhost_commands.proofs.LivingLemmas.{within_fewer, slice_fewer}
 use Rattle.wasmhost_commands.proofs.on_disk.living.round.Goals as goal
 use Rattle.wasmhost_commands.proofs.on_disk.living.round.Goals.{then-taken-every-via-then-taken-every}
-use Rattle.wasmhost_commands.proofs.on_disk.living.round.Goals.{}
 use Rattle.wasmhost_commands.proofs.on_disk.living.round.Goals.{then-taken-every-via-else-taken-every+then-not-is_spent}
 
 pub loop-now-init : goal.loop-now-init
@@ -19,28 +18,28 @@ pub returns-in-Err-clause-failed : goal.returns-in-Err-clause-failed
 returns-in-Err-clause-failed g c =
     within_breaks g.D.Disk.medium g.S.Source.gives g.O.Outlet.takes _ _ _ _ _ c.loop-now.invariant
     c.get.result c.get.ensures.value _ _ _ _ _ c.get-every.ensures.value c.in-Err.fault
-    c.in-Err.ensures.carries
+    c.in-Err.ensures.runs.carries
     (slice_hears_up_to g.S.Source.gives g.O.Outlet.takes c.get.result _ _ _ _
     c.loop-now.worker.process c.slice.new.self.process c.in-Err.fault c.loop-now.worker.has_failed
-    c.is_process.ensures c.in-Err.ensures.failed (λ e. (c.in-Err.ensures.refused e).3))
+    c.is_process.ensures c.in-Err.ensures.runs.failed (λ e. (c.in-Err.ensures.refused e).3))
     (slice_heeds g.S.Source.gives g.O.Outlet.takes c.get.result _ _ _ _
     c.loop-now.worker.process c.slice.new.self.process c.in-Err.fault c.loop-now.worker.has_failed
-    c.is_process.ensures c.in-Err.ensures.failed (λ e. (c.in-Err.ensures.refused e).0)
+    c.is_process.ensures c.in-Err.ensures.runs.failed (λ e. (c.in-Err.ensures.refused e).0)
     (λ e. (c.in-Err.ensures.refused e).4))
     (slice_breaks_off g.S.Source.gives g.O.Outlet.takes c.get.result _ _ _ _
     c.loop-now.worker.process c.slice.new.self.process c.in-Err.fault c.loop-now.worker.has_failed
-    c.in-Err.ensures.failed (λ e. (c.in-Err.ensures.refused e).0)
+    c.in-Err.ensures.runs.failed (λ e. (c.in-Err.ensures.refused e).0)
     (λ e. (c.in-Err.ensures.refused e).3) (λ e. (c.in-Err.ensures.refused e).4))
 
 pub returns-then-taken-every-clause-done : goal.returns-then-taken-every-clause-done
 returns-then-taken-every-clause-done g c =
     rw c.rest_on.ensures.quiet (within_rests g.D.Disk.medium g.S.Source.gives g.O.Outlet.takes _ _ _
     _ _ c.loop-now.invariant c.get.result c.get.ensures.value _ _ _ _ _
-    c.get-every.ensures.value c.in-Ok.now c.in-Ok.ensures.carries c.in-Ok.ensures.done
+    c.get-every.ensures.value c.in-Ok.now c.in-Ok.ensures.runs.carries c.in-Ok.ensures.runs.done
     c.rest_on.result _ _ c.rest_on.ensures.rested (slice_hears g.S.Source.gives g.O.Outlet.takes
-    c.get.result _ _ _ _ _ _ c.in-Ok.now c.is_process.ensures c.in-Ok.ensures.done)
+    c.get.result _ _ _ _ _ _ c.in-Ok.now c.is_process.ensures c.in-Ok.ensures.runs.done)
     (slice_takes g.S.Source.gives g.O.Outlet.takes c.get.result _ _ _ _ _ _ c.in-Ok.now
-    c.is_process.ensures c.in-Ok.ensures.done)
+    c.is_process.ensures c.in-Ok.ensures.runs.done)
     (λ spent. elim c.then-taken-every.branch [
       | then-taken-every-via-then-taken-every w ↦ w.if-taken-every.true
       | then-taken-every-via-else-taken-every+then-not-is_spent w ↦
@@ -51,33 +50,34 @@ pub returns-then-taken-every-clause-failed : goal.returns-then-taken-every-claus
 returns-then-taken-every-clause-failed g c =
     rw c.rest_on.ensures.quiet (within_broken g.D.Disk.medium g.S.Source.gives g.O.Outlet.takes _ _
     _ _ _ c.loop-now.invariant c.get.result c.get.ensures.value _ _ _ _ _
-    c.get-every.ensures.value c.in-Ok.now c.in-Ok.ensures.carries c.in-Ok.ensures.done
+    c.get-every.ensures.value c.in-Ok.now c.in-Ok.ensures.runs.carries c.in-Ok.ensures.runs.done
     c.rest_on.result _ _ c.rest_on.ensures.rested (slice_hears g.S.Source.gives g.O.Outlet.takes
-    c.get.result _ _ _ _ _ _ c.in-Ok.now c.is_process.ensures c.in-Ok.ensures.done)
+    c.get.result _ _ _ _ _ _ c.in-Ok.now c.is_process.ensures c.in-Ok.ensures.runs.done)
     (slice_takes g.S.Source.gives g.O.Outlet.takes c.get.result _ _ _ _ _ _ c.in-Ok.now
-    c.is_process.ensures c.in-Ok.ensures.done))
+    c.is_process.ensures c.in-Ok.ensures.runs.done))
 
 pub loop-now-preserved : goal.loop-now-preserved
 loop-now-preserved g c =
     let before = c.loop-now.invariant.fewer in
     let other = c.if-taken-every.false in
     within_more g.D.Disk.medium g.S.Source.gives g.O.Outlet.takes _ _ _ _ _ c.loop-now.invariant
-    c.get.result c.get.ensures.value _ _ _ _ c.in-Ok.now c.in-Ok.ensures.carries
+    c.get.result c.get.ensures.value _ _ _ _ c.in-Ok.now c.in-Ok.ensures.runs.carries
     (slice_hears g.S.Source.gives g.O.Outlet.takes c.get.result _ _ _ _ _ _ c.in-Ok.now
-    c.is_process.ensures c.in-Ok.ensures.done)
+    c.is_process.ensures c.in-Ok.ensures.runs.done)
     (slice_takes g.S.Source.gives g.O.Outlet.takes c.get.result _ _ _ _ _ _ c.in-Ok.now
-    c.is_process.ensures c.in-Ok.ensures.done) c.in-Ok.ensures.done
+    c.is_process.ensures c.in-Ok.ensures.runs.done) c.in-Ok.ensures.runs.done
     (c.is_spent.ensures.0 c.if-not-is_spent.false) (omega (arith, before, other))
     (slice_fewer g.D.Disk.medium g.S.Source.gives g.O.Outlet.takes c.loop-now.worker
     c.slice.new.self c.get.result c.in-Ok.now _ _ _ _
-    c.is_process.ensures c.get.ensures.nonzero c.in-Ok.ensures.done
-    (c.is_spent.ensures.0 c.if-not-is_spent.false)) c.in-Ok.ensures.room
+    c.is_process.ensures c.get.ensures.nonzero c.in-Ok.ensures.runs.done
+    (c.is_spent.ensures.0 c.if-not-is_spent.false)) c.in-Ok.ensures.runs.room
 
 pub returns-then-taken-every-clause-fewer : goal.returns-then-taken-every-clause-fewer
 returns-then-taken-every-clause-fewer g c =
     within_fewer g.D.Disk.medium g.S.Source.gives g.O.Outlet.takes _ _ _ _ _ c.loop-now.invariant
     c.get.result c.get.ensures.value _ _ _ _ _ c.get-every.ensures.value c.in-Ok.now
-    c.in-Ok.ensures.carries c.in-Ok.ensures.done c.rest_on.result _ _ c.rest_on.ensures.rested
+    c.in-Ok.ensures.runs.carries c.in-Ok.ensures.runs.done c.rest_on.result _ _
+    c.rest_on.ensures.rested
     (slice_fewer g.D.Disk.medium g.S.Source.gives g.O.Outlet.takes c.loop-now.worker
     c.slice.new.self c.get.result c.in-Ok.now _ _ _ _
-    c.is_process.ensures c.get.ensures.nonzero c.in-Ok.ensures.done)
+    c.is_process.ensures c.get.ensures.nonzero c.in-Ok.ensures.runs.done)

@@ -13,8 +13,8 @@ returns-in-Ok g c =
     c.upgrade.new.disk c.upgrade.new.outlet) none
     (then_ended g.D.Disk.medium from_list g.O.Outlet.takes _ _ _ c.in-Ok.ensures.comes
     c.in-Ok.ensures.over c.upgrade.new.self c.upgrade.new.disk c.upgrade.result
-    c.upgrade.new.outlet c.upgrade.ensures.quiet c.upgrade.ensures.carries
-    c.upgrade.ensures.cause c.upgrade.ensures.on_any_disk)
+    c.upgrade.new.outlet c.upgrade.ensures.quiet c.upgrade.ensures.upgrades.carries
+    c.upgrade.ensures.upgrades.cause c.upgrade.ensures.upgrades.on_any_disk)
 
 pub returns : goal.returns
 returns g c =

@@ -1,12 +1,14 @@
-use Rattle.std.proofs.Common.{sym, ◌∙◌, ap, subst, true, Ok, Err}
+use Rattle.std.proofs.Common.{◌≡◌, sym, ◌∙◌, ap, refl, subst, true, Ok, Err}
 use Rattle.worker.specs.declared.fault.WorkFault.TheVariants.{Work}
 use Rattle.ephemeral_worker.specs.declared.fault.SliceFault.TheVariants as slice
 use Rattle.worker.specs.rules.DurableValues.{DurableValue}
 use Rattle.worker.proofs.CheckpointLemmas.{done_keeps, fault_keeps, fault_cause, room_for}
-use Rattle.worker.proofs.CheckpointLemmas.{room_after, saved_in}
+use Rattle.worker.proofs.CheckpointLemmas.{room_after, saved_in, cause_on_any_disk}
 use Rattle.worker.proofs.CheckpointLemmas.{calls_err, calls_ok, failed_carries}
 use Rattle.worker.proofs.CheckpointLemmas.{failed_fails}
 use Rattle.worker.proofs.CheckpointLemmas.{failed_calls}
+use Rattle.worker.proofs.RecoveryCallLemmas.{none_called}
+use Rattle.worker.specs.rules.CallCounts.{most_saving}
 use Rattle.worker.specs.rules.Checkpoints.{IsSavedIn}
 use Rattle.worker.specs.rules.DurableCalls.{CheckpointCarries}
 use Rattle.worker.specs.rules.Unsynced.{CountsInSlice}
@@ -18,118 +20,119 @@ pub save_telling-saved-requires-clause-sectors :
     goal.save_telling-saved-requires-clause-sectors
 save_telling-saved-requires-clause-sectors g c =
     room_for g.D.Disk.medium c.self.inside.running c.self.inside.replayed
-    c.self.inside.has_failed c.args.self.now c.self.view_is c.args.disk.now c.args.disk.now
+    c.args.self.now c.self.view_is c.args.disk.now c.args.disk.now
     c.requires
 
-pub returns-then-self-clause-carries : goal.returns-then-self-clause-carries
-returns-then-self-clause-carries g c =
+pub returns-then-has_failed-clause-saves : goal.returns-then-has_failed-clause-saves
+returns-then-has_failed-clause-saves g c =
+    let w = c.args.self.now in
     let disk = g.D.Disk.medium c.args.disk.now in
-    failed_carries c.args.self.now
-    (ap (λ (w : DurableValue). w.has_failed) (sym c.self.view_is) ∙ c.if-self.true) disk disk
-    (Work slice.Failed) c.args.self.now
+    let had_failed : w.has_failed ≡ true =
+    ap (λ (v : DurableValue). v.has_failed) (sym c.self.view_is) ∙ sym c.has_failed.ensures
+    ∙ c.if-has_failed.true in
+    record {
+      carries = failed_carries w had_failed disk disk (Work slice.Failed) w;
+      saved = tt;
+      process = refl;
+      keeps = record {
+        fails = had_failed;
+        unsaved = refl;
+        replayed = refl;
+        room = c.requires;
+        asks = none_called (most_saving disk.sectors) disk;
+        counts = counts_none w.store.geometry disk;
+      };
+      calls = failed_calls w (Work slice.Failed) disk;
+      cause = failed_fails w had_failed disk disk (Work slice.Failed);
+      on_any_disk = had_failed;
+    }
 
-pub returns-then-self-clause-calls : goal.returns-then-self-clause-calls
-returns-then-self-clause-calls g c =
-    failed_calls c.args.self.now (Work slice.Failed) (g.D.Disk.medium c.args.disk.now)
-
-pub returns-then-self-clause-cause : goal.returns-then-self-clause-cause
-returns-then-self-clause-cause g c =
+pub returns-in-Err-clause-saves : goal.returns-in-Err-clause-saves
+returns-in-Err-clause-saves g c =
+    let running = c.self.inside.running in
     let disk = g.D.Disk.medium c.args.disk.now in
-    failed_fails c.args.self.now
-    (ap (λ (w : DurableValue). w.has_failed) (sym c.self.view_is) ∙ c.if-self.true) disk disk
-    (Work slice.Failed)
-
-pub returns-in-Err-clause-carries : goal.returns-in-Err-clause-carries
-returns-in-Err-clause-carries g c =
-    process_back
-    (λ (w : DurableValue). CheckpointCarries c.args.self.now (Err c.from.result) w
-    (g.D.Disk.medium c.args.disk.now)
-    (g.D.Disk.medium c.save_telling-saved.new.disk))
-    c.self.inside.running.process c.save_telling-saved.new.process
-    c.save_telling-saved.new.store c.self.inside.running.is_abreast c.self.inside.replayed true
-    c.in-Err.ensures.same
-    (fault_keeps g.D.Disk.medium c.self.inside.running c.self.inside.replayed
-    c.self.inside.has_failed c.args.self.now c.self.view_is c.args.disk.now
-    c.save_telling-saved.new.disk c.process_images_fit_areas.ensures c.is_process.ensures
-    c.save_telling-saved.new.store
-    c.in-Err.ensures.any_moment c.in-Err.ensures.asks c.in-Err.fault c.from.result c.from.ensures
-    c.in-Err.ensures.cause)
-
-pub returns-in-Err-clause-calls : goal.returns-in-Err-clause-calls
-returns-in-Err-clause-calls g c =
-    calls_err g.D.Disk.medium c.self.inside.running c.self.inside.replayed
-    c.self.inside.has_failed c.args.self.now c.self.view_is c.args.disk.now
-    c.save_telling-saved.new.disk c.in-Err.fault c.from.result
-    c.in-Err.ensures.calls
-
-pub returns-in-Err-clause-cause : goal.returns-in-Err-clause-cause
-returns-in-Err-clause-cause g c =
-    fault_cause g.D.Disk.medium c.self.inside.running c.self.inside.replayed
-    c.self.inside.has_failed c.args.self.now c.self.view_is c.args.disk.now
-    c.save_telling-saved.new.disk c.process_images_fit_areas.ensures c.is_process.ensures
-    c.save_telling-saved.new.store
-    c.in-Err.ensures.any_moment c.in-Err.ensures.asks c.in-Err.fault c.from.result c.from.ensures
-    c.in-Err.ensures.cause
-
-pub returns-in-Err-clause-room : goal.returns-in-Err-clause-room
-returns-in-Err-clause-room g c =
-    room_after g.D.Disk.medium c.self.inside.running c.self.inside.replayed
-    c.self.inside.has_failed c.args.self.now c.self.view_is c.args.disk.now
-    c.save_telling-saved.new.disk c.save_telling-saved.new.store c.in-Err.ensures.stays
-    c.in-Err.ensures.passes c.requires
-
-pub returns-clause-carries : goal.returns-clause-carries
-returns-clause-carries g c =
-    process_back
-    (λ (w : DurableValue). CheckpointCarries c.args.self.now (Ok tt) w
-    (g.D.Disk.medium c.args.disk.now)
-    (g.D.Disk.medium c.save_telling-saved.new.disk))
-    c.self.inside.running.process c.save_telling-saved.new.process
-    c.save_telling-saved.new.store c.self.inside.running.is_abreast c.self.inside.replayed
-    c.self.inside.has_failed c.in_default.ensures.same
-    (done_keeps g.D.Disk.medium c.self.inside.running c.self.inside.replayed
-    c.self.inside.has_failed c.args.self.now c.self.view_is c.args.disk.now
-    c.save_telling-saved.new.disk c.process_images_fit_areas.ensures c.is_process.ensures
-    c.save_telling-saved.new.store
-    c.in_default.ensures.any_moment c.in_default.ensures.asks c.if-self.false
-    c.in_default.ensures.durable)
-
-pub returns-clause-saved : goal.returns-clause-saved
-returns-clause-saved g c =
-    process_back
-    (λ (w : DurableValue). IsSavedIn c.args.self.now w)
-    c.self.inside.running.process c.save_telling-saved.new.process
-    c.save_telling-saved.new.store c.self.inside.running.is_abreast c.self.inside.replayed
-    c.self.inside.has_failed c.in_default.ensures.same
-    (saved_in g.D.Disk.medium c.self.inside.running c.self.inside.replayed
-    c.self.inside.has_failed c.args.self.now c.self.view_is c.args.disk.now
-    c.save_telling-saved.new.disk c.save_telling-saved.new.store c.in_default.ensures.numbered)
-
-pub returns-clause-calls : goal.returns-clause-calls
-returns-clause-calls g c =
-    calls_ok g.D.Disk.medium c.self.inside.running c.self.inside.replayed
-    c.self.inside.has_failed c.args.self.now c.self.view_is c.args.disk.now
-    c.save_telling-saved.new.disk tt c.in_default.ensures.calls
-
-pub returns-clause-room : goal.returns-clause-room
-returns-clause-room g c =
-    room_after g.D.Disk.medium c.self.inside.running c.self.inside.replayed
-    c.self.inside.has_failed c.args.self.now c.self.view_is c.args.disk.now
-    c.save_telling-saved.new.disk c.save_telling-saved.new.store c.in_default.ensures.stays
-    c.in_default.ensures.passes c.requires
-
-pub returns-then-self-clause-counts : goal.returns-then-self-clause-counts
-returns-then-self-clause-counts g c =
-    counts_none c.args.self.now.store.geometry (g.D.Disk.medium c.args.disk.now)
-
-pub returns-in-Err-clause-counts : goal.returns-in-Err-clause-counts
-returns-in-Err-clause-counts g c =
+    let disk' = g.D.Disk.medium c.save_telling-saved.new.disk in
     let runs = c.in-Err.ensures.runs in
-    subst (λ (w : DurableValue). CountsInSlice w.store.geometry (g.D.Disk.medium c.args.disk.now)
-    (g.D.Disk.medium c.save_telling-saved.new.disk)) c.self.view_is runs.counts
+    record {
+      carries = process_back
+          (λ (w : DurableValue). CheckpointCarries c.args.self.now (Err c.from.result) w disk disk')
+          running.process c.save_telling-saved.new.process c.save_telling-saved.new.store
+          running.is_abreast c.self.inside.replayed c.in-Err.ensures.same
+          (fault_keeps g.D.Disk.medium running c.self.inside.replayed
+          c.args.self.now c.self.view_is c.args.disk.now c.save_telling-saved.new.disk
+          c.process_images_fit_areas.ensures c.is_process.ensures c.save_telling-saved.new.store
+          c.in-Err.ensures.any_moment c.in-Err.ensures.asks c.in-Err.fault c.from.result
+          c.from.ensures c.in-Err.ensures.cause);
+      saved = tt;
+      process = c.in-Err.ensures.same ∙ ap (λ (w : DurableValue). w.process) c.self.view_is;
+      keeps = record {
+        fails = c.in-Err.ensures.fails;
+        unsaved = c.in-Err.ensures.unnumbered
+            ∙ ap (λ (w : DurableValue). w.store.journal.generation) c.self.view_is;
+        replayed = ap (λ (w : DurableValue). w.replayed) c.self.view_is;
+        room = room_after g.D.Disk.medium running c.self.inside.replayed
+            c.args.self.now c.self.view_is c.args.disk.now
+            c.save_telling-saved.new.disk c.save_telling-saved.new.store c.in-Err.ensures.stays
+            c.in-Err.ensures.passes c.requires;
+        asks = c.in-Err.ensures.asks;
+        counts = subst (λ (w : DurableValue). CountsInSlice w.store.geometry disk disk')
+            c.self.view_is runs.counts;
+      };
+      calls = calls_err g.D.Disk.medium running c.self.inside.replayed
+          c.args.self.now c.self.view_is c.args.disk.now
+          c.save_telling-saved.new.disk c.in-Err.fault c.from.result c.in-Err.ensures.calls;
+      cause = fault_cause g.D.Disk.medium running c.self.inside.replayed
+          c.args.self.now c.self.view_is c.args.disk.now
+          c.save_telling-saved.new.disk c.process_images_fit_areas.ensures c.is_process.ensures
+          c.save_telling-saved.new.store c.in-Err.ensures.any_moment c.in-Err.ensures.asks
+          c.in-Err.fault c.from.result c.from.ensures c.in-Err.ensures.cause;
+      on_any_disk = cause_on_any_disk g.D.Disk.medium running c.self.inside.replayed
+          c.args.self.now c.self.view_is c.args.disk.now
+          c.save_telling-saved.new.disk c.in-Err.fault c.from.result c.from.ensures
+          c.in-Err.ensures.on_any_disk;
+    }
 
-pub returns-clause-counts : goal.returns-clause-counts
-returns-clause-counts g c =
+pub returns-clause-saves : goal.returns-clause-saves
+returns-clause-saves g c =
+    let running = c.self.inside.running in
+    let disk = g.D.Disk.medium c.args.disk.now in
+    let disk' = g.D.Disk.medium c.save_telling-saved.new.disk in
+    let before = sym c.has_failed.ensures ∙ c.if-has_failed.false in
     let runs = c.in_default.ensures.runs in
-    subst (λ (w : DurableValue). CountsInSlice w.store.geometry (g.D.Disk.medium c.args.disk.now)
-    (g.D.Disk.medium c.save_telling-saved.new.disk)) c.self.view_is runs.counts
+    record {
+      carries = process_back
+          (λ (w : DurableValue). CheckpointCarries c.args.self.now (Ok tt) w disk disk')
+          running.process c.save_telling-saved.new.process c.save_telling-saved.new.store
+          running.is_abreast c.self.inside.replayed
+          c.in_default.ensures.same
+          (done_keeps g.D.Disk.medium running c.self.inside.replayed
+          c.args.self.now c.self.view_is c.args.disk.now c.save_telling-saved.new.disk
+          c.process_images_fit_areas.ensures c.is_process.ensures c.save_telling-saved.new.store
+          c.in_default.ensures.any_moment c.in_default.ensures.asks (runs.works before)
+          c.in_default.ensures.durable);
+      saved = process_back (λ (w : DurableValue). IsSavedIn c.args.self.now w) running.process
+          c.save_telling-saved.new.process c.save_telling-saved.new.store running.is_abreast
+          c.self.inside.replayed c.in_default.ensures.same
+          (saved_in g.D.Disk.medium running c.self.inside.replayed
+          c.args.self.now c.self.view_is c.args.disk.now c.save_telling-saved.new.disk
+          c.save_telling-saved.new.store c.in_default.ensures.numbered
+          (runs.works before ∙ sym before));
+      process = c.in_default.ensures.same ∙ ap (λ (w : DurableValue). w.process) c.self.view_is;
+      keeps = record {
+        fails = tt;
+        unsaved = tt;
+        replayed = ap (λ (w : DurableValue). w.replayed) c.self.view_is;
+        room = room_after g.D.Disk.medium running c.self.inside.replayed
+            c.args.self.now c.self.view_is c.args.disk.now
+            c.save_telling-saved.new.disk c.save_telling-saved.new.store
+            c.in_default.ensures.stays c.in_default.ensures.passes c.requires;
+        asks = c.in_default.ensures.asks;
+        counts = subst (λ (w : DurableValue). CountsInSlice w.store.geometry disk disk')
+            c.self.view_is runs.counts;
+      };
+      calls = calls_ok g.D.Disk.medium running c.self.inside.replayed
+          c.args.self.now c.self.view_is c.args.disk.now
+          c.save_telling-saved.new.disk tt c.in_default.ensures.calls;
+      cause = tt;
+      on_any_disk = tt;
+    }

@@ -11,8 +11,8 @@ lay_out-laid-requires g c =
     short_enough c.args.wasm.now c.args.config.now c.in_ok-process.process
     c.in_ok-process.ensures.begun
 
-pub worker_of-requires-clause-none_waits : goal.worker_of-requires-clause-none_waits
-worker_of-requires-clause-none_waits g c =
+pub worker_of-requires : goal.worker_of-requires
+worker_of-requires g c =
     let begun = c.in_ok-process.ensures.begun in begun.started.none_waits
 
 pub returns-in_err-process-clause-refused : goal.returns-in_err-process-clause-refused
@@ -40,14 +40,14 @@ pub returns-clause-created : goal.returns-clause-created
 returns-clause-created g c =
     rw c.worker_of.ensures (laid_created g.D.Disk.medium c.args.wasm.now c.args.config.now
     c.in_ok-process.process c.process_images_fit_areas.ensures c.in_ok-process.ensures.within
-    c.in_ok-process.ensures.texts c.is_process.ensures c.in_ok-process.ensures.begun
+    c.in_ok-process.ensures.texts c.in_ok-process.ensures.shows c.in_ok-process.ensures.begun
     c.lay_out-laid.result c.lay_out-laid.new.disk c.lay_out-laid.ensures.lays_out.durable)
 
 pub returns-clause-refused : goal.returns-clause-refused
 returns-clause-refused g c =
     rw c.worker_of.ensures (laid_refused g.D.Disk.medium c.args.wasm.now c.args.config.now
     c.in_ok-process.process c.process_images_fit_areas.ensures c.in_ok-process.ensures.within
-    c.in_ok-process.ensures.texts c.is_process.ensures c.in_ok-process.ensures.begun
+    c.in_ok-process.ensures.texts c.in_ok-process.ensures.shows c.in_ok-process.ensures.begun
     c.lay_out-laid.result c.args.disk.now c.lay_out-laid.new.disk
     c.lay_out-laid.ensures.lays_out.cause)
 
@@ -55,7 +55,7 @@ pub returns-clause-untouched : goal.returns-clause-untouched
 returns-clause-untouched g c =
     rw c.worker_of.ensures (laid_untouched g.D.Disk.medium c.args.wasm.now c.args.config.now
     c.in_ok-process.process c.process_images_fit_areas.ensures c.in_ok-process.ensures.within
-    c.in_ok-process.ensures.texts c.is_process.ensures c.in_ok-process.ensures.begun
+    c.in_ok-process.ensures.texts c.in_ok-process.ensures.shows c.in_ok-process.ensures.begun
     c.lay_out-laid.result c.args.disk.now c.lay_out-laid.new.disk
     c.lay_out-laid.ensures.lays_out.cause
     (λ small. let refused = c.lay_out-laid.ensures.too_small small in refused.1)
@@ -65,7 +65,7 @@ pub returns-clause-carries : goal.returns-clause-carries
 returns-clause-carries g c =
     rw c.worker_of.ensures (laid_keeps g.D.Disk.medium c.args.wasm.now c.args.config.now
     c.in_ok-process.process c.process_images_fit_areas.ensures c.in_ok-process.ensures.within
-    c.in_ok-process.ensures.texts c.is_process.ensures c.in_ok-process.ensures.begun
+    c.in_ok-process.ensures.texts c.in_ok-process.ensures.shows c.in_ok-process.ensures.begun
     c.lay_out-laid.result c.args.disk.now c.lay_out-laid.new.disk
     c.lay_out-laid.ensures.lays_out.any_moment c.lay_out-laid.ensures.lays_out.durable
     (λ small. let refused = c.lay_out-laid.ensures.too_small small in refused.1)
@@ -75,7 +75,7 @@ pub returns-clause-calls : goal.returns-clause-calls
 returns-clause-calls g c =
     rw c.worker_of.ensures (laid_calls g.D.Disk.medium c.args.wasm.now c.args.config.now
     c.in_ok-process.process c.process_images_fit_areas.ensures c.in_ok-process.ensures.within
-    c.in_ok-process.ensures.texts c.is_process.ensures c.in_ok-process.ensures.begun
+    c.in_ok-process.ensures.texts c.in_ok-process.ensures.shows c.in_ok-process.ensures.begun
     c.lay_out-laid.result (g.D.Disk.medium c.args.disk.now)
     (g.D.Disk.medium c.lay_out-laid.new.disk) c.lay_out-laid.ensures.lays_out.calls)
 

@@ -2,6 +2,7 @@ use Rattle.std.proofs.Common.{◌+◌, ap, refl, inl}
 use Rattle.std.proofs.lemmas.Result.{err_from_is_err_and}
 use Rattle.worker.proofs.DurableLemmas.Advancing.{says_abreast}
 use Rattle.worker.proofs.DurableLemmas.Asking.{asks_turn, asks_nothing, room_said}
+use Rattle.worker.proofs.DurableLemmas.Asking.{hears_abreast}
 use Rattle.worker.proofs.DurableLemmas.Slicing.{once_if_ok}
 use Rattle.worker.proofs.DurableLemmas.InVain.{hears_in_vain}
 use Rattle.worker.proofs.StoreTurnLemmas.{hears_runs, runs_join}
@@ -20,6 +21,12 @@ returns-clause-once g c =
     c.hear.new.self c.args.question (c.steps-step.result + 1) c.hear.result c.args.source.now
     c.hear.new.source
     c.in_ok-make_room.ensures.same c.hear.ensures.hears
+
+pub returns-clause-abreast : goal.returns-clause-abreast
+returns-clause-abreast g c =
+    hears_abreast g.S.Source.gives (says_abreast c.make_room.new.self) c.hear.new.self
+    c.args.question (c.steps-step.result + 1) c.hear.result c.args.source.now c.hear.new.source
+    c.hear.ensures.hears
 
 pub returns-clause-asks : goal.returns-clause-asks
 returns-clause-asks g c =

@@ -1,4 +1,4 @@
-use Rattle.std.proofs.Common.{◌-◌, ap, arith, Bool, Ok, Err}
+use Rattle.std.proofs.Common.{◌-◌, ap, arith, refl, Bool, Ok, Err}
 use Rattle.std.proofs.lemmas.Result.{err_from_is_err_and}
 use Rattle.ephemeral_worker.proofs.Ending.{turning_counts, spent, over}
 use Rattle.worker.proofs.DurableLemmas.Slicing.{in_slice_none, spent_on, over_on, vain_on}
@@ -48,6 +48,9 @@ returns-in-Spent-clause-done g c =
     (ap (λ z. c.args.fuel - (z - c.steps-first.result)) c.steps.ensures.value)
     c.in_ok-advance.ensures.released (rw c.in-Spent.is at c.in_ok-advance.ensures.advances)
 
+pub returns-in-Spent-clause-abreast : goal.returns-in-Spent-clause-abreast
+returns-in-Spent-clause-abreast g c = λ other. absurd (other refl)
+
 pub returns-in-Spent-clause-works : goal.returns-in-Spent-clause-works
 returns-in-Spent-clause-works g c =
     spent_on _ _ _ _ _ c.advance.new.self _ _ _ _ _ _ _ _ _ c.loop-self.invariant
@@ -62,6 +65,9 @@ returns-in-Ended-clause-done g c =
     (ap (λ z. c.args.fuel - (z - c.steps-first.result)) c.steps.ensures.value)
     c.in_ok-advance.ensures.released c.in-Ended.how
     (rw c.in-Ended.is at c.in_ok-advance.ensures.advances)
+
+pub returns-in-Ended-clause-abreast : goal.returns-in-Ended-clause-abreast
+returns-in-Ended-clause-abreast g c = λ other. refl
 
 pub returns-in-Ended-clause-works : goal.returns-in-Ended-clause-works
 returns-in-Ended-clause-works g c =
@@ -119,6 +125,9 @@ returns-then-not-branch-clause-done g c =
     c.in_ok-advance.ensures.released c.in_ok-advance.ensures.guest c.in-Asks.question
     (rw c.in-Asks.is at c.in_ok-advance.ensures.advances) c.ask.new.self c.ask.new.disk
     c.ask.new.source (rw c.if-not-branch.true at c.in_ok-ask-in-Asks.ensures.once)
+
+pub returns-then-not-branch-clause-abreast : goal.returns-then-not-branch-clause-abreast
+returns-then-not-branch-clause-abreast g c = λ other. c.in_ok-ask-in-Asks.ensures.abreast
 
 pub returns-then-not-branch-clause-works : goal.returns-then-not-branch-clause-works
 returns-then-not-branch-clause-works g c =

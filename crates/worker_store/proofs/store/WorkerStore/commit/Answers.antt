@@ -1,4 +1,5 @@
-use Rattle.std.proofs.Common.{◌+◌, ◌<◌, ◌≤◌, ◌∙◌, [], length, refl, ap, arith, false, ⊎_elim, rules}
+use Rattle.std.proofs.Common.{◌≡◌, ◌+◌, ◌<◌, ◌≤◌, ◌∙◌, [], length, refl, sym, ap, arith, true}
+use Rattle.std.proofs.Common.{false, ⊎_elim, rules}
 use Rattle.std.proofs.lemmas.Grind.{common_steps}
 use Rattle.std.proofs.lemmas.Bool.{cases_lt}
 use Rattle.std.specs.Prelude.{Result, Err}
@@ -15,7 +16,7 @@ use Rattle.worker_store.specs.declared.fault.StoreFault.TheVariants.{Failed}
 use Rattle.worker_store.proofs.SavingLemmas.{none_performed, none_performed_still, stored_err}
 use Rattle.worker_store.proofs.SavingLemmas.{stored_ok}
 use Rattle.worker_store.specs.declared.store.WorkerStore.{WorkerStore}
-use Rattle.worker_store.proofs.StoreLemmas.{commit_leaves, commit_stores}
+use Rattle.worker_store.proofs.StoreLemmas.{commit_leaves, commit_stores, failed_before}
 use Rattle.worker_store.proofs.store.WorkerStore.commit.Goals as goal
 
 pub returns-in-Err-clause-commits : goal.returns-in-Err-clause-commits
@@ -46,9 +47,9 @@ returns-in-Err-clause-commits g c =
           let s = c.generation.ensures in omega (arith, late, e, s))) refl)
           (cases_lt s.journal.generation NUMBERS_END);
       cause = first_of (search rules, grind (arith, common_steps));
-      fails = search rules;
-      unchanged = search rules;
-      stays = search rules;
+      fails = ap (λ (s : WorkerStore). s.journal.has_failed) c.fail.ensures;
+      unchanged = c.fail.ensures;
+      stays = ap (λ (s : WorkerStore). s.geometry) c.fail.ensures;
       numbered = search rules;
       fresh = first_of (search rules, grind (arith, common_steps));
       begun = first_of (search rules, grind (arith, common_steps));
@@ -73,7 +74,6 @@ returns-clause-commits g c =
           let after : WorkerStore = record {
             geometry = before.geometry;
             journal = c.fresh.result;
-            has_failed = before.has_failed;
           } in
           let leaves = c.write_snapshot-written.ensures.any_moment in
           let p = leaves.passes in
@@ -83,7 +83,7 @@ returns-clause-commits g c =
           (λ below. let e = c.saturating_add-next.ensures in let s = c.generation.ensures in
           omega (arith, below, e, s))
           after (c.fresh.ensures ∙ ap (λ v. state v c.saturating_add-next.result 0 [] false)
-          c.version.ensures) refl c.if-self.false p.sectors ok.done ok.all_synced
+          c.version.ensures) refl p.sectors ok.done ok.all_synced
           (let early = ok.early in omega (arith, early));
       calls = let s = c.args.self.now in
           stored_ok {E = StoreFault} {F = SnapshotFault} s.geometry Changes
@@ -113,9 +113,10 @@ returns-clause-commits g c =
       counts = first_of (search rules, grind (arith, common_steps));
     }
 
-pub returns-then-self-clause-commits : goal.returns-then-self-clause-commits
-returns-then-self-clause-commits g c =
-    let failed = c.if-self.true in
+pub returns-then-has_failed-clause-commits : goal.returns-then-has_failed-clause-commits
+returns-then-has_failed-clause-commits g c =
+    let failed : c.args.self.now.journal.has_failed ≡ true =
+    sym c.has_failed.ensures ∙ c.if-has_failed.true in
     record {
       any_moment = λ m config point next records pending last now is is_next saved.
           (let works = is.works in absurd (cc));
@@ -125,9 +126,9 @@ returns-then-self-clause-commits g c =
           none_performed Changes (area_place s.geometry (s.journal.generation + 1))
           (rounded_up (length (process_image (saved_of c.args.process.now))))
           (s.journal.generation + 1) r (g.D.Disk.medium c.args.disk.now) refl;
-      cause = first_of (search rules, grind (arith, common_steps));
-      fails = search rules;
-      unchanged = search rules;
+      cause = failed;
+      fails = failed;
+      unchanged = failed_before c.args.self.now failed;
       stays = search rules;
       numbered = search rules;
       fresh = first_of (search rules, grind (arith, common_steps));
@@ -137,3 +138,15 @@ returns-then-self-clause-commits g c =
       asks = first_of (search rules, grind (arith, common_steps));
       counts = first_of (search rules, grind (arith, common_steps));
     }
+
+pub returns-in-Err-clause-refused : goal.returns-in-Err-clause-refused
+returns-in-Err-clause-refused g c failed =
+    let asked = c.has_failed.ensures in
+    let works = c.if-has_failed.false in
+    absurd (cc)
+
+pub returns-clause-refused : goal.returns-clause-refused
+returns-clause-refused g c failed =
+    let asked = c.has_failed.ensures in
+    let works = c.if-has_failed.false in
+    absurd (cc)

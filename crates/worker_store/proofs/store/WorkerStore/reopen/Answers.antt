@@ -67,7 +67,6 @@ returns g c =
       durable = let store : WorkerStore = record {
         geometry = c.args.geometry.now;
         journal = c.fresh.result;
-        has_failed = false;
       } in
           let leaves = c.write_snapshot-written.ensures.any_moment in
           let p = leaves.passes in
@@ -75,7 +74,6 @@ returns g c =
           reopening_stores g.D.Disk.medium c.args.geometry.now c.args.generation c.args.process.now
           c.args.disk.now c.write_snapshot-written.new.disk store
           (c.fresh.ensures ∙ ap (λ v. state v c.args.generation 0 [] false) c.version.ensures) refl
-          refl
           (let r = c.requires in omega (arith, r, p.sectors)) ok.done ok.all_synced
           (let early = ok.early in omega (arith, early));
       begun = first_of (search rules, grind (arith, common_steps));
@@ -88,7 +86,6 @@ returns g c =
       calls = let store : WorkerStore = record {
         geometry = c.args.geometry.now;
         journal = c.fresh.result;
-        has_failed = false;
       } in
           stored_ok {U = Unit {0}} {E = StoreFault} {F = SnapshotFault} c.args.geometry.now Changes
           (rounded_up (length (process_image (saved_of c.args.process.now)))) c.args.generation

@@ -8,9 +8,9 @@ use Rattle.ephemeral_worker.specs.declared.now.Now.TheVariants.{Spent}
 use Rattle.worker.specs.declared.recover_fault.RecoverFault.{RecoverFault}
 use Rattle.worker.specs.rules.DurableValues.{DurableValue}
 use Rattle.worker.specs.rules.LifeWords.{Act, Beginning}
-use Rattle.worker.specs.laws.OneLife.{CallsInOrder, no_more, sliced, slice_failed, saved}
-use Rattle.worker.specs.laws.OneLife.{saving_failed, was_upgraded, upgrade_failed}
-use Rattle.worker.specs.laws.OneLife.{IsOneLife, opened, unopened}
+use Rattle.worker.specs.rules.OneLife.{CallsInOrder, no_more, sliced, slice_failed, saved}
+use Rattle.worker.specs.rules.OneLife.{saving_failed, was_upgraded, upgrade_failed, IsOneLife}
+use Rattle.worker.specs.rules.OneLife.{opened, unopened}
 
 -- What the last slice of these calls has answered, of those without an error; where there is none,
 -- what was answered before them.

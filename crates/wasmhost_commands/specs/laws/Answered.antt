@@ -1,6 +1,6 @@
 -- Which answers a worker on a disk is given in a life: those of its reader's lines, in order, and
 -- the times and random bytes of the outside (this project's own).
-use Rattle.std.specs.Prelude.{◌≡◌, ℕ, ◌+◌, ⊤, List, [], ◌∷◌, ◌++◌, length, None, Ok}
+use Rattle.std.specs.Prelude.{◌≡◌, ◌+◌, ⊤, List, [], ◌∷◌, ◌++◌, length, None, Ok}
 use Rattle.wasi_abi.specs.declared.answer.Question.{Question}
 use Rattle.wasi_abi.specs.declared.answer.Question.TheVariants as questions
 use Rattle.process_rules.specs.Runs.{Kept}

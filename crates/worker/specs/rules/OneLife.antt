@@ -1,0 +1,146 @@
+-- The calls of one life, each as its clause says (this project's own).
+use Rattle.std.specs.Prelude.{◌≡◌, ℕ, List, [], ◌∷◌, Option, Some, None, Result, Ok, Err, IfErr}
+use Rattle.wasi_abi.specs.rules.Configs.{Settings}
+use Rattle.state_image.specs.rules.ProcessImage.{Saved}
+use Rattle.state_image.specs.rules.Saving.{saved_of}
+use Rattle.sector_disk.specs.rules.DiskImage.{DiskImage}
+use Rattle.sector_disk.specs.rules.Medium.{Medium}
+use Rattle.record_replay.specs.declared.fault.ReplayFault.TheVariants as replay
+use Rattle.record_replay.specs.rules.Calls.{Giving, Taking}
+use Rattle.restart_theorem.specs.Lives.{Act, Slice, Checkpoint, Upgrade, Cause, OfMemory, OfOutlet}
+use Rattle.restart_theorem.specs.Lives.{Event, Told, Asked, Opened, Ended, Beginning, Creates}
+use Rattle.restart_theorem.specs.Lives.Beginning.{Recovers as recovers}
+use Rattle.ephemeral_worker.specs.declared.now.Now.{Now}
+use Rattle.worker.specs.declared.fault.WorkFault.{WorkFault}
+use Rattle.worker.specs.declared.recover_fault.RecoverFault.{RecoverFault}
+use Rattle.worker.specs.declared.recover_fault.RecoverFault.TheVariants as recover
+use Rattle.worker.specs.rules.DurableValues.{DurableValue}
+use Rattle.worker.specs.rules.DurableCalls.{ComesOf, SliceCarries, CheckpointCarries}
+use Rattle.worker.specs.rules.DurableCalls.{UpgradeCarries}
+use Rattle.worker.specs.rules.Checkpoints.{CheckpointFails}
+use Rattle.worker.specs.rules.Upgrades.{UpgradeFails}
+use Rattle.worker.specs.rules.DurableCreations.{CreationKeeps, IsNotCreatedOn}
+use Rattle.worker.specs.rules.RecoverFaults.{LayerWantsMemory}
+use Rattle.worker.specs.rules.Recoveries.{SaysNoWorker, Recovers, RecoveryCarries}
+
+-- ---- the calls of a life
+
+-- Slices, checkpoints and upgrades of a worker that is open, one after another, each as its clause
+-- says. After an error there is no other one. What is then still to be done, or that error.
+pub data CallsInOrder {D S O : Type 0} (medium : D → Medium) (gives : Giving S) (takes : Taking O)
+    : List Act → DurableValue → D → S → O → Result (List Act) RecoverFault → D → S → O → Type 0
+  where
+    no_more : {acts : List Act} {w : DurableValue} {disk : D} {source : S} {outlet : O}
+        → CallsInOrder medium gives takes acts w disk source outlet (Ok acts) disk source outlet
+    sliced : {fuel : ℕ} {acts : List Act} {w w' : DurableValue} {disk disk' last : D}
+        {source source' source_last : S} {outlet outlet' outlet_last : O}
+        {undone : Result (List Act) RecoverFault} (said : Now)
+        → SliceCarries gives takes w fuel (Ok said) w' (medium disk) (medium disk') source source'
+        outlet outlet'
+        → CallsInOrder medium gives takes acts w' disk' source' outlet' undone last source_last
+        outlet_last
+        → CallsInOrder medium gives takes (Slice fuel ∷ acts) w disk source outlet undone last
+        source_last
+        outlet_last
+    slice_failed : {fuel : ℕ} {acts : List Act} {w w' : DurableValue} {why : WorkFault}
+        {disk last : D} {source source' : S} {outlet outlet' : O}
+        → SliceCarries gives takes w fuel (Err why) w' (medium disk) (medium last) source source'
+        outlet outlet'
+        → CallsInOrder medium gives takes (Slice fuel ∷ acts) w disk source outlet
+        (Err (recover.Worker why)) last source' outlet'
+    saved : {acts : List Act} {w w' : DurableValue} {disk disk' last : D} {source source_last : S}
+        {outlet outlet_last : O} {undone : Result (List Act) RecoverFault}
+        → CheckpointCarries w (Ok tt) w' (medium disk) (medium disk')
+        → CallsInOrder medium gives takes acts w' disk' source outlet undone last source_last
+        outlet_last
+        → CallsInOrder medium gives takes (Checkpoint ∷ acts) w disk source outlet undone last
+        source_last
+        outlet_last
+    saving_failed : {acts : List Act} {w w' : DurableValue} {why : WorkFault} {disk last : D}
+        {source : S} {outlet : O}
+        → CheckpointCarries w (Err why) w' (medium disk) (medium last)
+        → CheckpointFails w (medium disk) (medium last) why
+        → CallsInOrder medium gives takes (Checkpoint ∷ acts) w disk source outlet
+        (Err (recover.Worker why)) last source outlet
+    was_upgraded : {acts : List Act} {w w' : DurableValue} {disk disk' last : D}
+        {source source_last : S} {outlet outlet_last : O} {undone : Result (List Act) RecoverFault}
+        → UpgradeCarries w (Ok tt) w' (medium disk) (medium disk')
+        → CallsInOrder medium gives takes acts w' disk' source outlet undone last source_last
+        outlet_last
+        → CallsInOrder medium gives takes (Upgrade ∷ acts) w disk source outlet undone last
+        source_last
+        outlet_last
+    upgrade_failed : {acts : List Act} {w w' : DurableValue} {why : WorkFault} {disk last : D}
+        {source : S} {outlet : O}
+        → UpgradeCarries w (Err why) w' (medium disk) (medium last)
+        → UpgradeFails w w'.process (medium disk) (medium last) why
+        → CallsInOrder medium gives takes (Upgrade ∷ acts) w disk source outlet
+        (Err (recover.Worker why)) last source outlet
+
+-- what a creation answers, in the words of a recovery
+abbrev pub opened_by : Result DurableValue WorkFault → Result DurableValue RecoverFault
+opened_by (Ok w) = Ok w
+opened_by (Err why) = Err (recover.Worker why)
+
+-- A life begins by a recovery. Where that says that there is no worker, one is created of these
+-- bytes. The disk is one of the model: after the recovery there is an image that a cut may leave.
+pub data BeginsLife {D O : Type 0} (medium : D → Medium) (takes : Taking O) (bytes : List ℕ)
+    (config : Settings) : D → O → Beginning → Result DurableValue RecoverFault → D → O → Type 0
+  where
+    recovered : {result : Result DurableValue RecoverFault} {found disk : D} {outlet outlet' : O}
+        (image : DiskImage) → (medium disk).crash_images image → (SaysNoWorker result → ⊥)
+        → RecoveryCarries takes result (medium found) (medium disk) outlet outlet'
+        → BeginsLife medium takes bytes config found outlet recovers result disk outlet'
+    created : {found mid disk : D} {outlet outlet' : O} (none : Result DurableValue RecoverFault)
+        (result : Result DurableValue WorkFault) (image : DiskImage)
+        → (medium mid).crash_images image → SaysNoWorker none
+        → Recovers medium takes none found mid outlet outlet'
+        → RecoveryCarries takes none (medium found) (medium mid) outlet outlet'
+        → CreationKeeps bytes config result (medium mid) (medium disk)
+        → IfErr result (IsNotCreatedOn bytes config (medium mid) (medium disk))
+        → BeginsLife medium takes bytes config found outlet Creates (opened_by result) disk outlet'
+
+-- The calls of one life: how it begins, and the worker with which it opens. Then what is still to
+-- be done in the end, or the error that ended it.
+pub data IsOneLife {D S O : Type 0} (medium : D → Medium) (gives : Giving S) (takes : Taking O)
+    (bytes : List ℕ) (config : Settings) (acts : List Act) : D → S → O → Beginning
+    → Option DurableValue → Result (List Act) RecoverFault → D → S → O → Type 0 where
+  opened : {found disk last : D} {source source' : S} {outlet outlet' outlet_last : O}
+      {begins : Beginning} {w : DurableValue} {undone : Result (List Act) RecoverFault}
+      → BeginsLife medium takes bytes config found outlet begins (Ok w) disk outlet'
+      → CallsInOrder medium gives takes acts w disk source outlet' undone last source' outlet_last
+      → IsOneLife medium gives takes bytes config acts found source outlet begins
+      (Some w) undone last source' outlet_last
+  unopened : {found last : D} {source : S} {outlet outlet' : O} {begins : Beginning}
+      {why : RecoverFault}
+      → BeginsLife medium takes bytes config found outlet begins (Err why) last outlet'
+      → IsOneLife medium gives takes bytes config acts found source outlet begins None (Err why)
+      last
+      source outlet'
+
+-- nothing is left to be done, or an error ended it
+abbrev pub undone_acts : Result (Unit {0}) RecoverFault → Result (List Act) RecoverFault
+undone_acts (Ok done) = Ok []
+undone_acts (Err why) = Err why
+
+-- ---- what is read off a life
+
+-- what the worker showed when the life opened
+abbrev pub opened_in : List Event → Option Saved
+opened_in [] = None
+opened_in (Opened held shown ∷ events) = Some shown
+opened_in (Told r is_taken ∷ events) = opened_in events
+opened_in (Asked steps question said fits ∷ events) = opened_in events
+opened_in (Ended act reply held shown ∷ events) = opened_in events
+
+-- what a worker shows first, where a life opens with one
+abbrev pub shown_first : Option DurableValue → Option Saved
+shown_first None = None
+shown_first (Some w) = Some (saved_of w.process)
+
+-- what an error of an opening or of a call is in a life
+abbrev pub IsCauseOf : RecoverFault → Cause → Type 0
+IsCauseOf (recover.Worker why) cause = ComesOf why cause
+IsCauseOf (recover.Replay replay.Memory) cause = cause ≡ OfMemory
+IsCauseOf (recover.Replay replay.Outlet) cause = cause ≡ OfOutlet
+IsCauseOf other cause = LayerWantsMemory other × (cause ≡ OfMemory)
