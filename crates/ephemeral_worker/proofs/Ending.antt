@@ -563,6 +563,10 @@ module _ {S O : Type 0} (gives : Giving S) (takes : Taking O) where
     waiting_by (Ok None) answers = (answers.1, refl)
     waiting_by (Ok (Some a)) answers = absurd (not_taken answers.0 answers.2)
 
+    -- the process is as it was
+    pub stays_waiting : AsksOnce gives question mid (Ok false) new t u → new ≡ mid
+    stays_waiting once = (waiting_by once.said once.answers).0
+
     pub waiting : AsksOnce gives question mid (Ok false) new t u
         → Slices gives takes (working old) fuel ends.Waiting (working new) s u o q
     waiting once = let by = waiting_by once.said once.answers in

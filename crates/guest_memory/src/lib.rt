@@ -20,8 +20,9 @@
 //!   (`refused`).
 //! - `grow` puts pages of zeros after the others (`grown`), exactly where the limit allows it
 //!   (`there`).
-//! - `laws::are_bytes`: each `u8` is a number below 256. `laws::page_limits_are`: what `PAGE_SIZE`
-//!   and `MOST_PAGES` are.
+//! - `laws::are_bytes`: each `u8` is a number below 256. `laws::has_64_bits`: a `u64` is one below
+//!   2^64. `laws::memories_are_of_bytes`: a memory is whole pages of bytes, within its limit.
+//!   `laws::page_limits_are`: what `PAGE_SIZE` and `MOST_PAGES` are.
 //!
 //! # Definitions to read
 //!

@@ -1,13 +1,10 @@
 //! A machine and what it does.
 
 ghost use Rattle.std.specs.Prelude.{◌≡◌};
-ghost use Rattle.std.specs.List.{AllByRecursion};
-ghost use Rattle.guest_memory.specs.rules.Bytes.{IsByte};
-ghost use Rattle.guest_memory.specs.rules.Memories.{IsWithinLimit};
 
 use crate::execution::{Executable, HostCall, Paused, State, clear, go_on, waiting_call};
 use guest_memory::Memory;
-use guest_memory::laws::are_bytes;
+use guest_memory::laws::memories_are_of_bytes;
 use std::marker::Model;
 use wasm_validate::ValidModule;
 
@@ -31,16 +28,6 @@ impl Model for Machine {
     ghost invariant = { λ m. IsMachine m.code m.state m.most_pages };
 }
 
-/// What holds of a memory by its type. The invariant of `Machine` can't say it, since `memory_mut`
-/// lends its memory.
-pub(crate) fn is_memory(memory: &Memory)
-    ensures shape { IsWithinLimit memory.now }
-    ensures bytes { AllByRecursion IsByte memory.now.bytes }
-{
-    let _ = memory.len();
-    are_bytes(memory.bytes());
-}
-
 impl Machine {
     ghost use Rattle.machine.specs.rules.Values.{HoldsMemory, IsSameMachine, memory_of};
     ghost use Rattle.machine.specs.rules.Values.{without_thread};
@@ -58,7 +45,7 @@ impl Machine {
         ensures holds { HoldsMemory self.new }
         ensures runs { RunsOnFuel self.old fuel result self.new }
     {
-        is_memory(&self.state.memory);
+        memories_are_of_bytes(&self.state.memory);
         go_on(&self.code, &mut self.state, fuel)
     }
 
@@ -81,7 +68,7 @@ impl Machine {
         ensures holds { HoldsMemory self.new }
         ensures answers { Answers (call_results answer) self.old self.new }
     {
-        is_memory(&self.state.memory);
+        memories_are_of_bytes(&self.state.memory);
         crate::hosting::answer(&self.code, &mut self.state, answer);
         let _ = go_on(&self.code, &mut self.state, 0);
     }
@@ -91,7 +78,7 @@ impl Machine {
         requires { HoldsMemory self.now }
         ensures { TellsWaiting self.now result }
     {
-        is_memory(&self.state.memory);
+        memories_are_of_bytes(&self.state.memory);
         waiting_call(&self.code, &self.state)
     }
 

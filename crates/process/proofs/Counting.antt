@@ -4,6 +4,7 @@ use Rattle.std.proofs.Common.{[], Option, Some, None, refl, sym, ap, ◌∙◌, 
 use Rattle.std.specs.Prelude.{Result, Ok, Err}
 use Rattle.wasi_abi.specs.declared.answer.Answer.{Answer}
 use Rattle.wasi_abi.specs.declared.version.Version.{Version}
+use Rattle.wasi_abi.specs.rules.Versions.{widenings}
 use Rattle.wasi_calls_rules.specs.WasiStates.{Line, WasiState}
 use Rattle.wasi_calls.specs.rules.Held.{HeldWasiState, ShowsWasiState}
 use Rattle.machine.specs.rules.Values.{MachineValue}
@@ -19,8 +20,9 @@ use Rattle.process.specs.declared.stop.Stop.{Stop}
 use Rattle.process.specs.declared.stop.Stop.TheVariants as stop
 use Rattle.process.specs.declared.fault.ProcessFault.{ProcessFault}
 use Rattle.process.specs.declared.fault.ProcessFault.TheVariants as fault
-use Rattle.process.specs.rules.Values.{ProcessValue, ShowsProcess, process_of, waiting_in}
-use Rattle.process.specs.Parts.{ShowsParts}
+use Rattle.process.specs.rules.Values.{ProcessValue, ShowsProcess, IsProcess, process_of}
+use Rattle.process.specs.rules.Values.{waiting_in}
+use Rattle.process.specs.Parts.{ShowsParts, HasFewLines}
 use Rattle.process.specs.rules.Stops.{ComesQuietly, EndsFor, told}
 use Rattle.process.specs.Stretches.{Owes, ComesOn, ComesBy, ComesToShown}
 
@@ -184,6 +186,23 @@ module _ (old : ProcessValue) (machine : MachineValue) (held : HeldWasiState) (g
   same_version =
       let counted = comes_counted guest p come.process fuel n held.host.lines s come.comes in
       shown_version old.host held p come.process shows.host come.shows.host counted.version
+
+  -- its numbers can still be counted
+  pub is_process_after : old.steps + fuel < 2 ^ 63
+      → old.answers ≤ old.steps + widenings old.host.host.version → old.requests ≤ old.answers
+      → HasFewLines held → IsProcess after
+  is_process_after counted few_answers few_requests few_lines =
+      let within = comes_within guest p come.process fuel n held.host.lines (Some s) come.comes in
+      let same = ap widenings same_version in
+      record {
+        guest = guest;
+        process = come.process;
+        shows = shows_after;
+        few_steps = omega (arith, within, counted);
+        few_answers = omega (arith, few_answers, same);
+        few_requests = few_requests;
+        few_lines = few_lines;
+      }
 
   abbrev quiet : ComesOn guest p come.process n held.host.lines → ComesQuietly after guest p
   quiet h = record {

@@ -42,12 +42,14 @@ fn report_stop(stop: Result<Stop, ProcessFault>, is_cut: bool) -> Result<Stop, P
 
 impl Process {
     ghost use Rattle.process.specs.rules.Stops.{AdvancesProcess, GivesAnswer};
+    ghost use Rattle.process.specs.rules.Values.{IsProcess};
 
     /// Takes at most `fuel` steps, up to where something is owed to the outside, it has ended, or
     /// an answer is wanted. A step after which something is owed is the last one. Only a step of
     /// the host's calls takes memory.
     pub fn advance(&mut self, fuel: u64) -> Result<Stop, ProcessFault>
         ensures advances { AdvancesProcess self.old fuel result self.new }
+        ensures shows { IsProcess self.new }
         ensures released { self.new.host.released ≡ self.old.host.released }
         ensures guest { self.new.machine.guest ≡ self.old.machine.guest }
     {

@@ -1,3 +1,5 @@
+//! What a file was asked for.
+
 use crate::SECTOR_SIZE;
 
 /// A call that a file was asked for, with its answer. Its bytes are beside it in the log, and are

@@ -1,3 +1,5 @@
+//! Where a disk stops.
+
 /// The number of a call, from 1, and the front in bytes that it leaves if it is a write. A larger
 /// front than a sector is the whole write.
 #[derive(Clone, Copy, Debug)]

@@ -18,11 +18,12 @@
 //!   this field, and to what is after it.
 //! - `laws::process_images_are_in_order`: bytes are an image where its fields are in their order,
 //!   and only there.
-//! - `restoring::restore_files` reads the tree whose files are next in an image (`made`). Or it
-//!   says that no files with a next number of 64 bits are there (`refused`).
+//! - `restoring::restore_files` reads the tree whose files are next in an image (`made`). Its next
+//!   number has 64 bits (`next`). Or it says that no files with such a number are there
+//!   (`refused`).
 //! - `restoring::tree_of` makes a tree again of its next number and of what was told of its nodes
-//!   (`made`). Or it says that no files are told so (`refused`). `AreNamedNodes` says what is told
-//!   of files.
+//!   (`made`: `IsSavedFiles`). Or it says that no files are told so (`refused`). `AreNamedNodes`
+//!   says what is told of files.
 //! - `restoring::descriptor_of` makes the descriptor of which a record is told (`made`), or says
 //!   that there is none (`none`): `IsReadAs` of `Opened.antt`.
 //! - `restoring::restore_machine` puts the globals, frames and memory that are next in an image

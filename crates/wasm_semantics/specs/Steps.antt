@@ -1,7 +1,7 @@
 -- The rules of execution (Core Specification 1.0, section 4.4). A counted step executes one
 -- instruction. The others, the end of a label or a frame and the next call of the host, count
 -- nothing.
-use Rattle.std.specs.Prelude.{◌≡◌, ◌⊎◌, ℕ, zero, suc, ◌+◌, nat_lt, Bool, ◌||◌, List, [], ◌∷◌, ◌++◌}
+use Rattle.std.specs.Prelude.{◌≡◌, ℕ, zero, suc, ◌+◌, nat_lt, Bool, ◌||◌, List, [], ◌∷◌, ◌++◌}
 use Rattle.std.specs.Prelude.{length, map, reverse, drop, Option, Some, None, slice_get, unwrap_or}
 use Rattle.std.specs.Prelude.{if◌then◌else◌}
 use Rattle.std.specs.Option.{option_map}
@@ -238,10 +238,6 @@ IsCounted program c d = counted_step program c ≡ Goes d
 -- an administrative step leads from one configuration to the other
 abbrev pub IsAdministrative : Program → Configuration → Configuration → Type 0
 IsAdministrative program c d = administrative_step program c ≡ Some d
-
--- one small step
-abbrev pub Step : Program → Configuration → Configuration → Type 0
-Step program c d = IsCounted program c d ⊎ IsAdministrative program c d
 
 -- administrative steps lead from one configuration to the reduced other
 pub data ReducesTo (program : Program) : Configuration → Configuration → Type 0 where

@@ -152,9 +152,11 @@ module _ (guest : Guest) (p : ProcessState) (exchanges : List Exchange) (steps :
   cause_heard fuel (work.Upgrade why) h = absurd h
 
 module _ {S O : Type 0} (gives : Giving S) (takes : Taking O) (fuel : ℕ) (s t : S) (o p : O) where
-  pub slice_hears : (old new : WorkerValue) (why : Now) → IsProcess old.process
+  pub slice_hears : (old new : WorkerValue) (why : Now)
+      → (old.failed ≡ false → IsProcess old.process)
       → Slices gives takes old fuel why new s t o p → AsksUnless gives ⊥ s t
-  slice_hears old new why is slices =
+  slice_hears old new why shows slices =
+      let is = shows slices.had_not_failed in
       let works = slices.shown is.guest is.process is.shows in
       record {
         asks = asks_of works.0.exchanges;
@@ -179,10 +181,10 @@ module _ {S O : Type 0} (gives : Giving S) (takes : Taking O) (fuel : ℕ) (s t 
 
   -- a worker that had failed asks nothing
   pub slice_hears_up_to : (old new : ProcessValue) (why : WorkFault)
-      (has_failed : Bool) → IsProcess old
+      (has_failed : Bool) → (has_failed ≡ false → IsProcess old)
       → (has_failed ≡ false → SlicesOnDiskInVain gives takes old fuel why new s t o p)
       → (has_failed ≡ true → t ≡ s) → HearsUpTo why
-  slice_hears_up_to old new why false is breaks none =
-      break_hears old new why is (breaks refl)
-  slice_hears_up_to old new why true is breaks none =
+  slice_hears_up_to old new why false shows breaks none =
+      break_hears old new why (shows refl) (breaks refl)
+  slice_hears_up_to old new why true shows breaks none =
       record { asks = []; led = none refl; heard = inl tt }

@@ -1,7 +1,7 @@
 -- Slices and checkpoints of an open worker, one after another.
 use Rattle.std.proofs.Common.{◌≡◌, inl, ℕ, ◌+◌, ◌-◌, ◌^◌, ◌<◌, ◌≤◌, List, [], ◌∷◌}
 use Rattle.std.proofs.Common.{◌++◌, Ok, Err, refl, sym, ap, ◌∙◌, subst, arith, append_assoc}
-use Rattle.std.proofs.Common.{append-nil}
+use Rattle.std.proofs.Common.{append-nil, false}
 use Rattle.std.specs.Prelude.{Result, IfOk, IfErr, replicate}
 use Rattle.std.proofs.lemmas.List.{replicate_more}
 use Rattle.std.proofs.lemmas.Result.{IfErr-weaker}
@@ -236,11 +236,12 @@ module _ {D S O : Type 0} (medium : D → Medium) (gives : Giving S) (takes : Ta
 
   -- a slice whose fuel is spent leaves fewer steps
   pub slice_fewer : (w w' : DurableValue) (fuel : ℕ) (said : Now) (s t : S) (o p : O)
-      → IsProcess w.process → 0 < fuel
+      → (w.has_failed ≡ false → IsProcess w.process) → 0 < fuel
       → Slices gives takes (without_disk w) fuel said (without_disk w') s t o p
       → said ≡ now.Spent → steps_left w' < steps_left w
-  slice_fewer w w' fuel said s t o p is some slices spent =
-      fewer_left gives takes (without_disk w) (without_disk w') fuel s t o p is some
+  slice_fewer w w' fuel said s t o p shows some slices spent =
+      fewer_left gives takes (without_disk w) (without_disk w') fuel s t o p
+      (shows slices.had_not_failed) some
       (subst (λ z. Slices gives takes (without_disk w) fuel z (without_disk w') s t o p) spent
       slices)
 

@@ -150,9 +150,11 @@ module _ {O : Type 0} (takes : Taking O) where
     heeds_cause fuel (work.Upgrade why) h = absurd h
 
 module _ {S O : Type 0} (gives : Giving S) (takes : Taking O) (fuel : ℕ) (s t : S) (o p : O) where
-  pub slice_takes : (old new : WorkerValue) (why : Now) → IsProcess old.process
+  pub slice_takes : (old new : WorkerValue) (why : Now)
+      → (old.failed ≡ false → IsProcess old.process)
       → Slices gives takes old fuel why new s t o p → TakesEach takes o p
-  slice_takes old new why is slices =
+  slice_takes old new why shows slices =
+      let is = shows slices.had_not_failed in
       let works = slices.shown is.guest is.process is.shows in
       by_taken takes works.0.exchanges o p
       (by_leads is.guest is.process works.0.exchanges works.0.steps works.0.process works.0.leads)
@@ -160,16 +162,17 @@ module _ {S O : Type 0} (gives : Giving S) (takes : Taking O) (fuel : ℕ) (s t 
 
   -- a slice that fails, of a worker that had failed or not
   pub slice_heeds : (old new : ProcessValue) (why : WorkFault) (has_failed : Bool)
-      → IsProcess old
+      → (has_failed ≡ false → IsProcess old)
       → (has_failed ≡ false → SlicesOnDiskInVain gives takes old fuel why new s t o p)
       → (has_failed ≡ true
       → ◌≡◌ {A = Result Now WorkFault} (Err why) (Err (work.Work slice.Failed)))
       → (has_failed ≡ true → p ≡ o) → HeedsOutlet takes (IsOutletsCall why) o p
-  slice_heeds old new why false is vain failed silent =
+  slice_heeds old new why false shows vain failed silent =
+      let is = shows refl in
       let fails = vain refl is.guest is.process is.shows in
       heeds_cause takes is.guest is.process fails.0.exchanges fails.0.steps fails.0.process o p
       fails.0.exchanged.released fuel why fails.1
-  slice_heeds old new why true is vain failed silent = inl (
+  slice_heeds old new why true shows vain failed silent = inl (
     subst (TakesEach takes o) (sym (silent refl)) (none_told takes o),
     λ told. subst IsOutletsCall
         (same_fault gives takes why (work.Work slice.Failed) (failed refl)) told,

@@ -114,45 +114,47 @@ module _ {D S O : Type 0} (medium : D → Medium) (gives : Giving S) (takes : Ta
     Sliced said = Slices gives takes (without_disk here.worker) fuel said (without_disk w')
         here.source source' here.outlet outlet'
 
-    slice_heard : (said : Now) → IsProcess here.worker.process → Sliced said
-        → AsksUnless gives ⊥ here.source source'
-    slice_heard said is slices =
+    -- until a call has failed it shows a process
+    abbrev Shows : Type 0
+    Shows = here.worker.has_failed ≡ false → IsProcess here.worker.process
+
+    slice_heard : (said : Now) → Shows → Sliced said → AsksUnless gives ⊥ here.source source'
+    slice_heard said shows slices =
         slice_hears gives takes fuel here.source source' here.outlet outlet'
-        (without_disk here.worker) (without_disk w') said is slices
+        (without_disk here.worker) (without_disk w') said shows slices
 
-    slice_taken : (said : Now) → IsProcess here.worker.process → Sliced said
-        → TakesEach takes here.outlet outlet'
-    slice_taken said is slices =
+    slice_taken : (said : Now) → Shows → Sliced said → TakesEach takes here.outlet outlet'
+    slice_taken said shows slices =
         slice_takes gives takes fuel here.source source' here.outlet outlet'
-        (without_disk here.worker) (without_disk w') said is slices
+        (without_disk here.worker) (without_disk w') said shows slices
 
-    pub come_more : Slicing (Ok now.Spent) → IsProcess here.worker.process → 0 < fuel
-        → Sliced now.Spent → total_sectors w'.store.geometry ≤ (medium disk').sectors
+    pub come_more : Slicing (Ok now.Spent) → Shows → 0 < fuel → Sliced now.Spent
+        → total_sectors w'.store.geometry ≤ (medium disk').sectors
         → HasComeTo fuel from (scene w' disk' source' outlet')
-    come_more carries is some slices room = record {
+    come_more carries shows some slices room = record {
       count = so_far.count + 1;
       within = λ every few.
           within_more medium gives takes fuel every so_far.count from here
           (so_far.within every (omega (arith, few))) fuel refl w' disk' source' outlet' now.Spent
-          carries (slice_heard now.Spent is slices) (slice_taken now.Spent is slices) slices refl
-          few
+          carries (slice_heard now.Spent shows slices) (slice_taken now.Spent shows slices) slices
+          refl few
           (slice_fewer medium gives takes here.worker w' fuel now.Spent here.source source'
-          here.outlet outlet' is some slices refl) room;
+          here.outlet outlet' shows some slices refl) room;
       room = room;
     }
 
     so_many : IsWithin medium gives takes fuel (so_far.count + 1) so_far.count from here
     so_many = so_far.within (so_far.count + 1) (omega arith)
 
-    pub come_last : (said : Now) → Slicing (Ok said) → IsProcess here.worker.process → Sliced said
+    pub come_last : (said : Now) → Slicing (Ok said) → Shows → Sliced said
         → (said ≢ now.Spent → w'.is_abreast ≡ true)
         → ComesUp medium gives takes fuel from (Ok said) (scene w' disk' source' outlet')
-    come_last said carries is slices abreast = record {
+    come_last said carries shows slices abreast = record {
       count = so_far.count + 1;
       heard = asked_on gives ⊥ from.source here.source source' so_many.heard
-          (slice_heard said is slices);
+          (slice_heard said shows slices);
       taken = takes_both takes from.outlet here.outlet outlet' so_many.taken
-          (slice_taken said is slices);
+          (slice_taken said shows slices);
       leads = slices_lead medium gives takes fuel so_far.count from here.worker w' here.disk disk'
           here.source source' here.outlet outlet' so_many.leads said carries;
       unfailed = slices.has_not_failed;

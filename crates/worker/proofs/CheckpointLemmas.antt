@@ -1,5 +1,5 @@
 -- A checkpoint, as an event of a life, and what its disk holds.
-use Rattle.std.proofs.Common.{◌≡◌, ℕ, ◌+◌, ◌≤◌, [], ◌++◌, length, true, false, refl, sym, ap}
+use Rattle.std.proofs.Common.{◌≡◌, ℕ, ◌+◌, ◌≤◌, [], ◌++◌, length, true, false, refl, sym}
 use Rattle.std.proofs.Common.{subst, arith}
 use Rattle.std.specs.Prelude.{Ok, Err}
 use Rattle.process_rules.specs.Runs.{none}
@@ -152,9 +152,6 @@ module _ {D : Type 0} (medium : D → Medium) (running : RunningWorker) (replaye
       let sectors = passes.sectors in
       subst (λ (g : Geometry). total_sectors g ≤ (medium disk').sectors) (sym same)
       (omega (arith, first, sectors))
-
-  pub same_process : running.process ≡ old.process
-  same_process = ap (λ (w : DurableValue). w.process) is_old
 
   pub saved_in : (after_store : WorkerStore)
       → after_store.journal.generation ≡ running.store.journal.generation + 1

@@ -21,7 +21,6 @@ mod FindingLemmas
 pub mod LifeLemmas
 mod RestoringLemmas
 mod SurveyLemmas
-mod TextLemmas
 mod ActLemmas
 mod AddingLemmas
 mod OpeningLemmas
@@ -32,7 +31,6 @@ mod GoingLemmas
 mod RunLemmas
 pub mod StopLemmas
 mod FoundDiskLemmas
-mod ReleaseLemmas
 pub mod WantLemmas
 mod AnswerLemmas
 mod InspectionLemmas

@@ -3,12 +3,15 @@ use Rattle.std.proofs.Common.{◌≡◌, ◌≢◌, ℕ, ◌+◌, ◌<◌, ◌�
 use Rattle.std.proofs.Common.{ap, ◌∙◌, subst, arith}
 use Rattle.std.specs.Prelude.{Result, Err, Vec}
 use Rattle.std.specs.declared.alloc.Global.{Global}
+use Rattle.guest_memory.proofs.Lists.{all_with}
 use Rattle.wasm_syntax.specs.declared.module.Module.{Module}
 use Rattle.wasm_syntax.specs.rules.Modules.{IsModule}
 use Rattle.wasm_syntax.proofs.Grammar.Exact.{some_is}
 use Rattle.wasm_syntax.proofs.Grammar.Whole.{module_complete}
 use Rattle.wasi_abi.specs.declared.version.Version.{Version}
-use Rattle.wasi_abi.specs.rules.Configs.{Settings}
+use Rattle.wasi_abi.specs.rules.Answers.{AreBytes}
+use Rattle.wasi_abi.specs.rules.Configs.{Settings, IsText, IsEnvironmentEntry}
+use Rattle.wasi_abi.specs.rules.Configs.{AreSettingsWithinLimits}
 use Rattle.wasi_calls_rules.specs.laws.Laws.{IsOfBytes}
 use Rattle.process_rules.specs.Processes.{ProcessState, host_of}
 use Rattle.process_rules.proofs.Growing.{runs_count}
@@ -48,9 +51,24 @@ few_pages pages few = omega (arith, few)
 fewer_steps : (a b c : ℕ) → c ≡ a + b → c < 2 ^ 63 → b < 2 ^ 63
 fewer_steps a b c is small = omega (arith, is, small)
 
+-- what a host begins with is of bytes, since the texts of a configuration are
+begins_of_bytes : (config : Settings) → AreSettingsWithinLimits config → IsOfBytes (host_of config)
+begins_of_bytes config limits =
+    let texts = limits.texts in
+    record {
+      files = (record { path = tt; content = tt }, tt);
+      unread = tt;
+      arguments = all_with IsText IsText AreBytes config.arguments (λ text is _. is.are_bytes)
+          texts.arguments texts.arguments;
+      environment = all_with IsEnvironmentEntry IsEnvironmentEntry AreBytes config.environment
+          (λ text is _. is.0.are_bytes) texts.environment texts.environment;
+    }
+
 module _ {m : Module} {config : Settings} {point : Savepoint m config} {records : List Record}
-    {last : ProcessState} {disk : DiskImage} (at : IsAtSavepoint point records last disk)
-    (texts : IsOfBytes (host_of config)) where
+    {last : ProcessState} {disk : DiskImage} (at : IsAtSavepoint point records last disk) where
+  its_texts : IsOfBytes (host_of config)
+  its_texts = begins_of_bytes config point.settings
+
   few : config.pages ≤ 2 ^ 16
   few = let within = point.settings in let range = within.in_range in
       let pages = range.pages in few_pages config.pages pages.1
@@ -70,7 +88,7 @@ module _ {m : Module} {config : Settings} {point : Savepoint m config} {records 
   typed_point : IsWellTyped m config point.saved
   typed_point =
       reached_is_well_typed point.wasm m config point.functions point.front point.steps
-      point.process point.table point.saved point.accepted few texts point.reached small
+      point.process point.table point.saved point.accepted few its_texts point.reached small
       numbers.lines point.function_types point.shown
 
   -- what is restored of it is its process
@@ -79,7 +97,7 @@ module _ {m : Module} {config : Settings} {point : Savepoint m config} {records 
       → (saved_of v ≡ point.saved) × ShowsProcess v point.reached.guest point.process
   restored_point law v restored =
       law point.wasm m config point.functions point.front point.steps
-      point.process point.table point.saved v point.accepted few texts point.reached small
+      point.process point.table point.saved v point.accepted few its_texts point.reached small
       numbers.lines point.function_types point.shown restored
 
 -- ---- the module
@@ -124,8 +142,7 @@ module _ {m : Module} {config : Settings} {point : Savepoint m config} {records 
       → SaysNothing (recover.Module fault)
   unaccepted fault denies = refused_by fault denies (is_want fault) refl
 
-  module _ (machine : MachineValue) (accepts : Accepts pages wasm machine)
-      (texts : IsOfBytes (host_of contents.config)) (bytes : List ℕ)
+  module _ (machine : MachineValue) (accepts : Accepts pages wasm machine) (bytes : List ℕ)
       (same_bytes : bytes ≡ process_image point.saved) where
     -- the machine is of the savepoint's module
     linked : machine.guest ≡ m
@@ -139,9 +156,6 @@ module _ {m : Module} {config : Settings} {point : Savepoint m config} {records 
         accepted.spelled)
         is_accepted.spelled
 
-    its_texts : IsOfBytes (host_of config)
-    its_texts = subst (λ (s : Settings). IsOfBytes (host_of s)) its_config texts
-
     -- no other image is that of a savepoint
     pub unmade : (fault : RestoreFault)
         → (unrestored fault ≡ Err restore.NotAnImage → (s : Saved)
@@ -152,7 +166,7 @@ module _ {m : Module} {config : Settings} {point : Savepoint m config} {records 
         absurd (refused refl point.saved
         (subst (λ (s : Settings). IsWellTyped machine.guest s point.saved) (sym its_config)
         (subst (λ (z : Module). IsWellTyped z config point.saved) (sym linked)
-        (typed_point at its_texts))) same_bytes)
+        (typed_point at))) same_bytes)
 
     -- its process was made again
     module _ (law : RestoredShowsReached) (v : ProcessValue)
@@ -163,7 +177,7 @@ module _ {m : Module} {config : Settings} {point : Savepoint m config} {records 
           same_bytes restored in
           let two = subst (λ (s : Settings). IsRestored machine.guest s
           (process_image point.saved) v) its_config one in
-          restored_point at its_texts law v
+          restored_point at law v
           (subst (λ (z : Module). IsRestored z config (process_image point.saved) v) linked two)
 
       pub its_version : (known : Version) → known ≡ (saved_of v).version
@@ -190,5 +204,5 @@ module _ {m : Module} {config : Settings} {point : Savepoint m config} {records 
         module_is = restored.guest ∙ linked;
         some = some;
         none_waits = restored.none_waits;
-        texts = its_texts;
+        texts = its_texts at;
       }

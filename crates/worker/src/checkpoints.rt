@@ -2,7 +2,7 @@
 
 use crate::durable::Worker;
 use crate::fault::WorkFault;
-use crate::saving::{is_process, save_telling};
+use crate::saving::save;
 use ephemeral_worker::SliceFault;
 use record_replay::Outlet;
 use sector_disk::Disk;
@@ -13,13 +13,13 @@ impl Worker {
     ghost use Rattle.disk_layout.specs.rules.Places.{total_sectors};
     ghost use Rattle.worker.specs.rules.Effects.{SavesWorker};
 
-    /// Puts all answers on the disk, releases each line that waits, in order, and then saves the
-    /// process, as a snapshot of the next generation. What the guest does next is the same with it
-    /// or without.
+    /// Puts all answers on the disk, and then saves the process, as a snapshot of the next
+    /// generation. What the guest does next is the same with it or without. No line waits between
+    /// two calls, so none is released.
     pub fn checkpoint<D: Disk, O: Outlet>(
         &mut self,
         disk: &mut D,
-        outlet: &mut O,
+        _outlet: &mut O,
     ) -> Result<(), WorkFault>
         requires { total_sectors self.old.store.geometry ≤ (D.medium disk.old).sectors }
 
@@ -27,8 +27,8 @@ impl Worker {
         ensures saves { SavesWorker self.old self.new result (D.medium disk.old)
             (D.medium disk.new) }
 
-        // No line waits between two calls, so none is released.
-        ensures quiet { outlet.new ≡ outlet.old }
+        // The outlet is left alone.
+        ensures quiet { _outlet.new ≡ _outlet.old }
         ensures refused { self.old.has_failed ≡ true
             → (result ≡ Err (WorkFault.Work SliceFault.Failed)) × (self.new ≡ self.old)
             × (disk.new ≡ disk.old) }
@@ -37,15 +37,8 @@ impl Worker {
             return Err(WorkFault::Work(SliceFault::Failed));
         }
         process_images_fit_areas();
-        is_process(&self.running.process);
         let running = &mut self.running;
-        let saved = save_telling(
-            running.alloc,
-            disk,
-            &mut running.store,
-            &mut running.process,
-            outlet,
-        );
+        let saved = save(running.alloc, disk, &mut running.store, &running.process);
         // Only the store fails here, and says so from then on.
         if let Err(fault) = saved {
             return Err(WorkFault::from(fault));

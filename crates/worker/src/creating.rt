@@ -54,7 +54,8 @@ fn worker_of(
     process: Process,
     laid: Result<WorkerStore, StoreFault>,
 ) -> Result<Worker, WorkFault>
-    requires { waiting_in process ≡ [] }
+    requires none_waits { waiting_in process ≡ [] }
+    requires shows { IsProcess process }
     ensures { result ≡ worker_laid process laid }
 {
     match laid {

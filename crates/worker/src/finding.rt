@@ -1,8 +1,6 @@
 //! What is on a worker's disk, read before anything is told or written.
 
 ghost use Rattle.std.specs.Prelude.{◌*◌, ◌≤◌};
-ghost use Rattle.std.specs.List.{AllByRecursion};
-ghost use Rattle.wasi_abi.specs.rules.Answers.{AreBytes};
 ghost use Rattle.sector_disk.specs.rules.DiskImage.{DiskImage};
 ghost use Rattle.disk_layout.specs.rules.Places.{total_sectors};
 ghost use Rattle.worker.specs.rules.Recoveries.{MarksDecide, SaysNoWorker};
@@ -12,13 +10,11 @@ ghost use Rattle.worker.specs.FoundDisks.{FindsIn, FindsBehindIn};
 use crate::found::Found;
 use crate::recover_fault::RecoverFault;
 use disk_layout::Contents;
-use guest_memory::laws::are_bytes;
 use machine_loader::accept;
 use sector_disk::Disk;
 use state_image::laws::restored_processes_are_the_saved;
 use state_image::restoring::restore_into;
 use std::alloc::Global;
-use wasm_syntax::ItemList;
 use worker_store::{read_newest, read_records, read_worker};
 
 /// The process that was saved last, made again, and the records after it. It only reads: what is
@@ -60,8 +56,6 @@ pub(crate) fn find_linked<D: Disk>(
         wasm,
     } = contents;
     restored_processes_are_the_saved();
-    are_texts_of_bytes(config.arguments().as_slice());
-    are_texts_of_bytes(config.environment().as_slice());
     let machine = accept(alloc, wasm.as_slice(), config.pages())?;
     let newest = read_newest(alloc, disk, &geometry)?;
     let process = restore_into(alloc, machine, config, newest.process_image.as_slice())?;
@@ -73,13 +67,4 @@ pub(crate) fn find_linked<D: Disk>(
         process,
         records,
     })
-}
-
-/// Texts are of bytes. This is for proofs alone: nothing is done.
-fn are_texts_of_bytes(texts: &[ItemList<u8>])
-    ensures { AllByRecursion AreBytes texts.now }
-{
-    for text in texts {
-        are_bytes(text.as_slice());
-    }
 }

@@ -41,18 +41,17 @@
 //!   its end by Ok or by any error, are events that keep it. A cut at any moment leaves what holds
 //!   all that was promised before. Without an error the worker is open on the disk again.
 //! - Where a slice answers that the worker waits or has ended, no line is beyond its process
-//!   (`abreast`).
+//!   (`abreast`). Until a call has failed, the numbers of its process can be counted (`shows`).
 //! - Where a slice fails, it has run so far as `ephemeral_worker: EphemeralWorker::slice` does, and
 //!   it stops at what failed (`failed`). Of a worker that is open on its disk some faults don't
 //!   come (`carries`).
 //! - By Ok and by any error, a slice asks the disk for barriers and saves alone. The generation is
 //!   one more by each save that has succeeded, and by nothing else (`calls`). How much was replayed
 //!   stays (`replayed`), and the disk has room for the next call (`room`).
-//! - `Worker::checkpoint` is a barrier, the release of each line that waits, and a commit. No line
-//!   waits between two calls, so it releases none (`quiet`). It keeps what was promised too
-//!   (`carries`), and after its Ok no later life comes after it (`saved`). Its calls of the disk
-//!   are told (`calls`), and each error has its cause (`cause`). After an error the generation is
-//!   as it was (`unsaved`).
+//! - `Worker::checkpoint` is a barrier and a commit. No line waits between two calls, so none is
+//!   released (`quiet`). It keeps what was promised too (`carries`), and after its Ok no later life
+//!   comes after it (`saved`). Its calls of the disk are told (`calls`), and each error has its
+//!   cause (`cause`). After an error the generation is as it was (`unsaved`).
 //! - `Worker::upgrade` is the same, and the process is saved in version 2 (`done`). A cut at any
 //!   moment leaves a disk that stands for a worker of the one version or of the other. Up to the
 //!   end of the barrier it is version 1, and holds all that was promised. From then on it is
@@ -123,8 +122,8 @@
 //! - **A recovery's fault is that of the layer that has found it** (`RecoverFault`). So it says
 //!   which one wants memory. `RecoverFault::Worker` is left for what any call says: here a fault of
 //!   the disk, or a next generation that is too big.
-//! - **A checkpoint is handed the outlet**: a barrier, the release of each line that waits, and a
-//!   commit. No line waits between two calls, so it releases none.
+//! - **A checkpoint and an upgrade are handed the outlet**, as a slice is. No line waits between
+//!   two calls, so they release none.
 //! - **An upgrade never changes a line that was told.** In version 2 a call for random bytes may
 //!   succeed that failed in version 1. So a worker that was recovered before the end of an earlier
 //!   life might tell a line once more with another text. It is upgraded only once it has asked, or

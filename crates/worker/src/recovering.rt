@@ -1,7 +1,7 @@
 //! A worker that is recovered from its disk.
 
 ghost use Rattle.std.specs.Prelude.{◌≡◌, ◌≤◌, []};
-ghost use Rattle.process.specs.rules.Values.{waiting_in};
+ghost use Rattle.process.specs.rules.Values.{IsProcess, waiting_in};
 ghost use Rattle.disk_layout.specs.rules.Places.{total_sectors};
 ghost use Rattle.worker.specs.Revivals.{OpensNext, OpensAgain, RevivesFound};
 
@@ -11,7 +11,6 @@ use crate::finding::find;
 use crate::found::Found;
 use crate::recover_fault::RecoverFault;
 use crate::running_worker::RunningWorker;
-use crate::saving::is_process;
 use disk_layout::Geometry;
 use process::Process;
 use record_replay::{Outlet, replay};
@@ -48,10 +47,7 @@ impl Worker {
             return Err(RecoverFault::from(fault));
         }
         match find(alloc, disk) {
-            Ok(found) => {
-                is_process(&found.process);
-                revive(alloc, disk, found, outlet)
-            }
+            Ok(found) => revive(alloc, disk, found, outlet),
             Err(fault) => Err(fault),
         }
     }
@@ -95,6 +91,7 @@ fn open_again<D: Disk>(
 ) -> Result<Worker, RecoverFault>
     requires sectors { total_sectors last.geometry ≤ (D.medium disk.old).sectors }
     requires none_waits { waiting_in process ≡ [] }
+    requires shows { IsProcess process }
     ensures { OpensAgain last.geometry last.generation process replayed result
         (D.medium disk.old) (D.medium disk.new) }
 {

@@ -1,7 +1,7 @@
 //! Slices of a worker on its disk.
 
-ghost use Rattle.std.specs.Prelude.{◌≡◌, ◌≢◌, ◌≤◌, [], true, IfErr, IfOk};
-ghost use Rattle.process.specs.rules.Values.{waiting_in};
+ghost use Rattle.std.specs.Prelude.{◌≡◌, ◌≢◌, ◌≤◌, [], true, IfErr, IfOk, OnOk};
+ghost use Rattle.process.specs.rules.Values.{IsProcess, waiting_in};
 ghost use Rattle.disk_layout.specs.rules.Places.{total_sectors};
 ghost use Rattle.ephemeral_worker.specs.rules.Slices.{Slices};
 ghost use Rattle.ephemeral_worker.specs.Turns.{working};
@@ -32,6 +32,7 @@ impl RunningWorker {
         ensures done { IfOk result (λ now. Slices S.gives O.takes (working self.old.process) fuel
             now (working self.new.process) source.old source.new outlet.old outlet.new) }
         ensures abreast { IfOk result (λ now. now ≢ Now.Spent → self.new.is_abreast ≡ true) }
+        ensures shows { OnOk result (IsProcess self.new.process) }
         ensures works { WorksOn S.gives O.takes self.old fuel result self.new
             (D.medium disk.old) (D.medium disk.new) source.old source.new outlet.old outlet.new }
         ensures failed { IfErr result (λ why. SlicesOnDiskInVain S.gives O.takes self.old.process

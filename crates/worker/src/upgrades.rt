@@ -6,7 +6,6 @@ ghost use Rattle.worker.specs.Upgrading.{IsUpgradeRefused, MayUpgrade};
 use crate::durable::Worker;
 use crate::fault::WorkFault;
 use crate::running_worker::RunningWorker;
-use crate::saving::is_process;
 use crate::upgrade_fault::UpgradeFault;
 use crate::widening::save_in_two;
 use ephemeral_worker::SliceFault;
@@ -41,10 +40,10 @@ impl Worker {
     ghost use Rattle.worker.specs.rules.Effects.{UpgradesWorker};
     ghost use Rattle.worker.specs.rules.Upgrades.{Migrates, RefusesUpgrade};
 
-    /// Puts all answers on the disk, releases each line that waits, in order, and then saves the
-    /// process in version 2, as a snapshot of the next generation. From then on a request, and the
-    /// random bytes of one call, may be 65,536 bytes long. A worker of version 2 is saved as by a
-    /// checkpoint.
+    /// Puts all answers on the disk, and then saves the process in version 2, as a snapshot of the
+    /// next generation. From then on a request, and the random bytes of one call, may be 65,536
+    /// bytes long. A worker of version 2 is saved as by a checkpoint. No line waits between two
+    /// calls, so none is released.
     ///
     /// A journal of fewer than 133 sectors is too small for it. A worker of version 1 that was
     /// recovered has to have asked since, or to have ended: else lines that an earlier life told
@@ -52,7 +51,7 @@ impl Worker {
     pub fn upgrade<D: Disk, O: Outlet>(
         &mut self,
         disk: &mut D,
-        outlet: &mut O,
+        _outlet: &mut O,
     ) -> Result<(), WorkFault>
         requires { total_sectors self.old.store.geometry ≤ (D.medium disk.old).sectors }
 
@@ -64,8 +63,8 @@ impl Worker {
         // At each moment the disk stands for a worker of the one version or of the other.
         ensures migrates { Migrates D.medium self.old disk.old disk.new }
 
-        // No line waits between two calls, so none is released.
-        ensures quiet { outlet.new ≡ outlet.old }
+        // The outlet is left alone.
+        ensures quiet { _outlet.new ≡ _outlet.old }
 
         // It is refused before anything is asked of the disk.
         ensures refused { self.old.has_failed ≡ true
@@ -77,7 +76,6 @@ impl Worker {
             return Err(WorkFault::Work(SliceFault::Failed));
         }
         process_images_fit_areas();
-        is_process(&self.running.process);
         if let Err(fault) = self.running.test_upgrade() {
             self.running.store.fail();
             return Err(WorkFault::Upgrade(fault));
@@ -88,7 +86,6 @@ impl Worker {
             disk,
             &mut running.store,
             &mut running.process,
-            outlet,
         );
         if let Err(fault) = saved {
             self.running.store.fail();

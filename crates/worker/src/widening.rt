@@ -1,7 +1,7 @@
-//! A barrier, then lines that wait, and then a commit in version 2.
+//! A barrier, and then a commit in version 2.
 
-ghost use Rattle.std.specs.Prelude.{◌≡◌, ◌⊎◌, ◌+◌, ◌<◌, ◌≤◌, [], IfErr, OnErr, OnOk};
-ghost use Rattle.process.specs.rules.Values.{IsProcess, waiting_in};
+ghost use Rattle.std.specs.Prelude.{◌≡◌, ◌+◌, ◌<◌, ◌≤◌, IfErr, OnErr, OnOk};
+ghost use Rattle.process.specs.rules.Values.{IsProcess};
 ghost use Rattle.sector_disk.specs.rules.Medium.{CallsUpTo, Passes};
 ghost use Rattle.wasi_abi.specs.declared.numbers.TheConstants.{NUMBERS_END};
 ghost use Rattle.disk_layout.specs.rules.Places.{total_sectors};
@@ -13,9 +13,7 @@ ghost use Rattle.worker.specs.rules.Upgrades.{upgraded};
 ghost use Rattle.worker.specs.StoreTurns.{StoreSaves};
 ghost use Rattle.worker.specs.Upgrading.{BarsAndCommits, AfterFault};
 
-use crate::saving::release_none;
 use process::Process;
-use record_replay::Outlet;
 use sector_disk::Disk;
 use std::alloc::Global;
 use wasi_abi::{NUMBERS_END, Version};
@@ -39,23 +37,21 @@ fn widen(process: &mut Process, generation: u64) -> Result<(), StoreFault>
     Ok(())
 }
 
-/// Puts all records on the disk that only memory holds. Then each line that waits is released, and
-/// the process is put into version 2 and saved, as a snapshot of the next generation. No line waits
-/// where this is called.
-pub(crate) fn save_in_two<D: Disk, O: Outlet>(
+/// Puts all records on the disk that only memory holds. Then the process is put into version 2 and
+/// saved, as a snapshot of the next generation.
+pub(crate) fn save_in_two<D: Disk>(
     alloc: Global,
     disk: &mut D,
     store: &mut WorkerStore,
     process: &mut Process,
-    outlet: &mut O,
 ) -> Result<(), StoreFault>
-    requires sectors { total_sectors store.old.geometry ≤ (D.medium disk.old).sectors }
-    requires none_waits { waiting_in process.old ≡ [] }
+    requires { total_sectors store.old.geometry ≤ (D.medium disk.old).sectors }
 
-    // Nothing is released. The process is in version 2, or after an error as it was.
-    ensures quiet { outlet.new ≡ outlet.old }
+    // The process is in version 2, or after an error as it was. Its numbers can be counted as
+    // before.
     ensures done { OnOk result (process.new ≡ upgraded process.old) }
     ensures after_fault { IfErr result (λ e. AfterFault e store.old process.old process.new) }
+    ensures shows { IsProcess process.old → IsProcess process.new }
 
     // A cut at any moment leaves a prefix of these records after those that stood before, or the
     // new snapshot. There was a moment between the two.
@@ -88,7 +84,6 @@ pub(crate) fn save_in_two<D: Disk, O: Outlet>(
     if let Err(fault) = store.barrier(disk) {
         return Err(fault);
     }
-    release_none(process, outlet);
     if let Err(fault) = widen(process, store.generation()) {
         return Err(fault);
     }

@@ -16,7 +16,7 @@ use crate::loading::frames::fit_frames;
 use crate::loading::limits::{are_entries, hold_few};
 use crate::loading::words::are_globals;
 use crate::routines::context_of;
-use crate::running_machine::is_memory;
+use guest_memory::laws::memories_are_of_bytes;
 use std::alloc::{AllocError, Global};
 use wasm_validate::{BodyChecker, ModuleContext};
 
@@ -60,7 +60,7 @@ pub fn fits(alloc: Global, code: &Executable, state: &State) -> Result<bool, All
         ↔ FitsProgram (module_context code.now.«module» functions) program
         (machine_state_of (parts_of_state state.now))) }
 {
-    is_memory(&state.memory);
+    memories_are_of_bytes(&state.memory);
     let _ = state.frames.len();
     let context = context_of(alloc, code.module.module())?;
     let around = fits_around(code, &context, state);

@@ -1,16 +1,13 @@
 //! Bytes that are read from the front.
 
 ghost use Rattle.std.specs.Prelude.{◌≡◌, ◌↔◌, IsTrue, [], ◌∷◌, ◌++◌, length};
-ghost use Rattle.std.specs.List.{AllByRecursion};
 ghost use Rattle.std.specs.Option.{option_map};
-ghost use Rattle.guest_memory.specs.rules.Bytes.{IsByte};
 ghost use Rattle.wasi_abi.specs.rules.Layouts.{u16_bytes, u32_bytes, u64_bytes};
 ghost use Rattle.state_image.specs.rules.ProcessImage.{flag_of, text_bytes};
 ghost use Rattle.state_image.specs.rules.Ranges.{IsIn, IsShort};
 ghost use Rattle.state_image.specs.rules.Reading.{ReadsField};
 
 use byteorder::{ByteOrder, LittleEndian};
-use guest_memory::laws::are_bytes;
 use std::marker::Model;
 
 /// The bytes that are left, which is what contracts see. Each method gives the field whose bytes
@@ -42,11 +39,11 @@ impl<'a> ProcessImageReader<'a> {
         self.rest.is_empty()
     }
 
-    /// What is left are bytes, each below 256. This is for proofs alone: nothing is done.
-    pub(crate) fn are_bytes(&self)
-        ensures { AllByRecursion IsByte self.now }
+    /// What is left.
+    pub fn rest(&self) -> &'a [u8]
+        ensures { result.now ≡ self.now }
     {
-        are_bytes(self.rest);
+        self.rest
     }
 
     /// The next bytes, so many.

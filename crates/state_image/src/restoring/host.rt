@@ -47,8 +47,6 @@ fn read_parts(
         → IsWasiState h → h.files.next < 2 ^ 64 → reader.old ≢ host_bytes h ++ rest }
 {
     let tree = restore_files(alloc, reader)?;
-    let _nodes = tree.len();
-    let _next = tree.next();
     let descriptors = restore_descriptors(alloc, &tree, reader)?;
     Ok(WasiStateParts {
         tree,

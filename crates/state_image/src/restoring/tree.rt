@@ -2,9 +2,8 @@
 
 ghost use Rattle.std.specs.Prelude.{◌≡◌, ◌↔◌, IsTrue, IfOk, OnOk, map};
 ghost use Rattle.file_tree.specs.rules.Files.{fresh};
-ghost use Rattle.state_image.specs.restoring.Named.{AreNamedNodes};
 ghost use Rattle.state_image.specs.restoring.SavedNodes.{lent_whole, MayStay, MayAllStay};
-ghost use Rattle.state_image.specs.restoring.SavedNodes.{RefusesSaved};
+ghost use Rattle.state_image.specs.restoring.SavedNodes.{IsSavedFiles, RefusesSaved};
 
 use crate::restoring::creating::create_nodes;
 use crate::restoring::fault::RestoreFault;
@@ -15,7 +14,7 @@ use std::alloc::Global;
 
 /// The tree whose next new node has this number, and of whose nodes this is told.
 pub fn tree_of(alloc: Global, next: u64, nodes: &[WholeNode]) -> Result<Tree, RestoreFault>
-    ensures made { IfOk result (λ tree. AreNamedNodes tree next (map lent_whole nodes.now)) }
+    ensures made { IfOk result (λ tree. IsSavedFiles tree next (map lent_whole nodes.now)) }
     ensures refused { RefusesSaved result next (map lent_whole nodes.now) }
 {
     let mut tree = Tree::new(alloc)?;
@@ -31,7 +30,7 @@ fn restore_nodes(
     nodes: &[WholeNode],
 ) -> Result<(), RestoreFault>
     requires { tree.old ≡ fresh }
-    ensures made { OnOk result (AreNamedNodes tree.new next (map lent_whole nodes.now)) }
+    ensures made { OnOk result (IsSavedFiles tree.new next (map lent_whole nodes.now)) }
     ensures refused { RefusesSaved result next (map lent_whole nodes.now) }
 {
     create_nodes(alloc, tree, nodes)?;

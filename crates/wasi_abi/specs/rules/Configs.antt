@@ -1,6 +1,7 @@
 -- What a worker is configured with, and when that is within the limits (this project's own).
 use Rattle.std.specs.Prelude.{◌≡◌, ◌≢◌, ◌⊎◌, ℕ, ◌≤◌, List, [], ◌∷◌, length}
 use Rattle.std.specs.List.{AllByRecursion}
+use Rattle.guest_memory.specs.rules.Bytes.{IsByte}
 
 -- the most pages of guest memory; the most bytes of all files, in units of 65,536; the sectors of
 -- the journal
@@ -39,9 +40,10 @@ pub record IsInRange (s : Settings) : Type 0 where
 abbrev pub IsNonzero : ℕ → Type 0
 IsNonzero b = b ≢ 0
 
--- no byte of a text is 0
-abbrev pub IsText : List ℕ → Type 0
-IsText text = AllByRecursion IsNonzero text
+-- a text is of bytes, and none of them is 0
+pub record IsText (text : List ℕ) : Type 0 where
+  pub are_bytes : AllByRecursion IsByte text
+  pub no_zero : AllByRecursion IsNonzero text
 
 -- there is a `=`
 abbrev pub HasEquals : List ℕ → Type 0

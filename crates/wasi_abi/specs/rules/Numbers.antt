@@ -1,6 +1,5 @@
--- Numbers of WASI preview 1 (the types `errno`, `rights`, `filetype`, `whence`, `clockid`,
--- `lookupflags`, `oflags` and `fdflags` of its witx files), and the sets of rights of this
--- project's profile.
+-- Numbers of WASI preview 1 (the types `errno`, `rights`, `filetype`, `whence`, `oflags` and
+-- `fdflags` of its witx files), and the sets of rights of this project's profile.
 use Rattle.std.specs.Prelude.{ℕ, ◌==◌, bit_and, Bool}
 use Rattle.std.specs.Int.{bit_at}
 use Rattle.wasi_abi.specs.declared.errno.Errno.{Errno}
@@ -225,21 +224,7 @@ whence_number whence.Set = whence_set
 whence_number whence.Current = whence_current
 whence_number whence.End = whence_end
 
--- ---- clocks
-
--- the clock of the calendar
-abbrev pub realtime_clock : ℕ
-realtime_clock = 0
-
--- the clock that never falls
-abbrev pub monotonic_clock : ℕ
-monotonic_clock = 1
-
 -- ---- flags, by the numbers of their bits
-
--- the bit of `symlink_follow` in `lookupflags`
-abbrev pub symlink_follow_flag : ℕ
-symlink_follow_flag = 0
 
 -- the bit of `creat` in `oflags`
 abbrev pub create_flag : ℕ

@@ -4,7 +4,6 @@ ghost use Rattle.std.specs.Prelude.{◌≡◌, ◌≢◌, ◌*◌, ◌≤◌, �
 ghost use Rattle.file_tree.specs.declared.limits.TheConstants.{UNIT_BYTES};
 ghost use Rattle.file_tree.specs.rules.Files.{IsFiles, used};
 ghost use Rattle.wasi_abi.specs.declared.version.Version.{Version};
-ghost use Rattle.wasi_abi.specs.rules.Answers.{IsTime};
 ghost use Rattle.wasi_calls_rules.specs.WasiStates.{IsThere, IsDescriptor, IsUnfinished};
 ghost use Rattle.wasi_calls_rules.specs.WasiStates.{IsWasiState};
 ghost use Rattle.wasi_calls.specs.declared.host.restoring.PartsFault.TheVariants as fault;
@@ -20,7 +19,7 @@ use crate::host::{ROOT, WasiState};
 use crate::streams::{Streams, is_without_newline};
 use file_tree::Tree;
 use file_tree::limits::UNIT_BYTES;
-use guest_memory::laws::are_bytes;
+use guest_memory::laws::{are_bytes, has_64_bits};
 use std::alloc::{AllocError, Global};
 use wasi_abi::{Config, Version};
 use wasi_calls_rules::limits::{DESCRIPTORS, LINE_BYTES};
@@ -154,20 +153,13 @@ fn is_table(tree: &Tree, descriptors: &[Option<Descriptor>]) -> bool
         && are_removed_named(tree, descriptors)
 }
 
-/// A `u64` is a time.
-fn is_time(time: u64)
-    ensures { IsTime time }
-{
-    let _ = time;
-}
-
 /// Whether a host has these parts.
 fn is_host(config: &Config, parts: &WasiStateParts) -> bool
     ensures { (version : Version) → IsTrue result
         ↔ IsWasiState (held_host_from config.now version parts.now).host }
 {
     are_bytes(parts.unread.as_slice());
-    is_time(parts.last_monotonic);
+    has_64_bits(parts.last_monotonic);
     fits_room(&parts.tree, config)
         && is_table(&parts.tree, parts.descriptors.as_slice())
         && is_unfinished(parts.first.as_slice())

@@ -3,7 +3,6 @@
 ghost use Rattle.std.specs.Prelude.{◌≡◌, ◌≢◌, ◌≤◌, ◌<◌, ◌↔◌, IsTrue, IfOk, IfErr, Ok, OnOk};
 ghost use Rattle.std.specs.Int.NonZero.{non_zero_u64_get};
 ghost use Rattle.disk_layout.specs.rules.Places.{total_sectors};
-ghost use Rattle.process.specs.rules.Values.{IsProcess};
 ghost use Rattle.ephemeral_worker.specs.declared.now.Now.TheVariants.{Spent};
 ghost use Rattle.wasmhost_commands.specs.Livings.{scene, steps_left, IsRested};
 ghost use Rattle.wasmhost_commands.specs.Livings.{IsRound, IsBrokenRound, LivesAtPace};
@@ -22,13 +21,6 @@ pub struct Pace {
     pub fuel: NonZeroU64,
     /// Slices between two checkpoints.
     pub every: NonZeroU64,
-}
-
-/// What holds of a worker's process by its type.
-pub(super) fn is_process(worker: &Worker)
-    ensures { IsProcess worker.now.process }
-{
-    let _ = worker.process().steps();
 }
 
 /// Whether a slice has only spent its fuel.
@@ -95,7 +87,6 @@ fn round<D: Disk, S: Source, O: Outlet, T: Watcher>(
     let mut taken = 0;
     loop {
         taken += 1;
-        is_process(worker);
         let now = match worker.slice(disk, pace.fuel.get(), source, outlet) {
             Ok(now) => now,
             Err(fault) => return Err(fault),

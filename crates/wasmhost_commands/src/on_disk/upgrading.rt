@@ -11,7 +11,6 @@ ghost use Rattle.wasmhost_commands.specs.rules.Upgradings.{UpgradesOnDisk, from_
 ghost use Rattle.wasmhost_commands.specs.rules.Upgradings.{status_so_far, upgraded_words};
 
 use crate::on_disk::fault::{OnDiskFault, say_disk_fault};
-use crate::on_disk::living::is_process;
 use crate::on_disk::serving::tell_recovered;
 use crate::printer::Printer;
 use crate::status::UNWRITTEN;
@@ -52,7 +51,6 @@ fn come_up<D: Disk, S: Source, O: Outlet>(
         (total_sectors worker.new.store.geometry ≤ (D.medium disk.new).sectors) }
 {
     loop {
-        is_process(worker);
         match worker.slice(disk, FUEL, source, outlet) {
             Ok(Now::Spent) => {}
             Ok(Now::Waiting) => return Ok(Now::Waiting),

@@ -1,5 +1,5 @@
 -- What holds between two turns of a slice of a worker on its disk.
-use Rattle.std.proofs.Common.{◌≡◌, ℕ, ◌-◌, ◌<◌, refl, ap, ◌∙◌, Bool, true}
+use Rattle.std.proofs.Common.{◌≡◌, ℕ, ◌-◌, ◌<◌, refl, sym, ap, ◌∙◌, subst, Bool, true}
 use Rattle.std.proofs.Common.{false}
 use Rattle.std.proofs.Common.{Ok, Err, []}
 use Rattle.std.specs.Prelude.{Result, IfOk}
@@ -27,7 +27,7 @@ use Rattle.worker.specs.rules.CallCounts.{most_saving}
 use Rattle.worker.specs.rules.DurableFailures.{SlicesOnDiskInVain}
 use Rattle.ephemeral_worker.proofs.Ending.{measure, Turning, turning_none, owes}
 use Rattle.ephemeral_worker.proofs.Ending.{owes_less, asks, asks_counts, released_all, waiting}
-use Rattle.ephemeral_worker.proofs.Ending.{given}
+use Rattle.ephemeral_worker.proofs.Ending.{given, stays_waiting}
 use Rattle.ephemeral_worker.proofs.Ending.{given_less, Questioning, cannot_advance}
 use Rattle.worker.proofs.DurableLemmas.InVain.{as_on_disk, flushed_vainly, asked_vainly}
 use Rattle.worker.proofs.DurableLemmas.Asking.{asks_once_of}
@@ -203,6 +203,14 @@ module _ {D S O : Type 0} (medium : D → Medium) (gives : Giving S) (takes : Ta
       waits_done once =
           waiting gives takes old.process v w'.process fuel first s t u o q question
           questioning once
+
+      -- where the source has no answer, the process is as it was
+      pub waits_shown : AsksOnce gives question v (Ok false) w'.process t u → IsProcess v
+          → IsProcess w'.process
+      waits_shown once is =
+          subst IsProcess
+          (sym (stays_waiting gives takes old.process v w'.process fuel first s t u o q question
+          questioning once)) is
 
       pub waits_on : AsksTurn gives (with_process w v) question (Ok false) w' (medium mid)
           (medium disk') t u

@@ -1,6 +1,6 @@
 -- What contracts see of a worker on its disk (this project's own).
 use Rattle.std.specs.Prelude.{◌≡◌, ℕ, Bool, false, []}
-use Rattle.process.specs.rules.Values.{ProcessValue, waiting_in}
+use Rattle.process.specs.rules.Values.{ProcessValue, IsProcess, waiting_in}
 use Rattle.worker_store.specs.declared.store.WorkerStore.{WorkerStore}
 use Rattle.worker.specs.declared.running_worker.RunningWorker.{RunningWorker}
 use Rattle.ephemeral_worker.specs.rules.Values.{WorkerValue}
@@ -25,9 +25,11 @@ durable_of running replayed = record {
   has_failed = running.store.journal.has_failed;
 }
 
--- until a call has failed no line waits between two calls
-abbrev pub IsDurable : DurableValue → Type 0
-IsDurable w = w.has_failed ≡ false → waiting_in w.process ≡ []
+-- Until a call has failed no line waits between two calls, and the process's numbers can be
+-- counted.
+pub record IsDurable (w : DurableValue) : Type 0 where
+  pub none_waits : w.has_failed ≡ false → waiting_in w.process ≡ []
+  pub shows : w.has_failed ≡ false → IsProcess w.process
 
 -- the same worker without its disk
 abbrev pub without_disk : DurableValue → WorkerValue

@@ -1,6 +1,7 @@
 -- What becomes of a worker and of its disk by each of its calls (this project's own).
 use Rattle.std.specs.Prelude.{◌≡◌, ◌≢◌, ◌⊎◌, ℕ, ◌≤◌, false, true, Result, IfErr, IfOk, OnErr}
 use Rattle.std.specs.Prelude.{OnOk}
+use Rattle.process.specs.rules.Values.{IsProcess}
 use Rattle.sector_disk.specs.rules.Medium.{Medium, CallsUpTo}
 use Rattle.disk_layout.specs.rules.Places.{total_sectors}
 use Rattle.record_replay.specs.rules.Calls.{Giving, Taking}
@@ -48,6 +49,8 @@ pub record RecoversWorker {D O : Type 0} (medium : D → Medium) (takes : Taking
 pub record RunsSlice {S O : Type 0} (gives : Giving S) (takes : Taking O) (fuel : ℕ)
     (before after : DurableValue) (result : Result Now WorkFault) (old new : Medium)
     (source source' : S) (outlet outlet' : O) : Type 0 where
+  -- until a call has failed the worker shows a process, whose numbers can be counted
+  pub shows : before.has_failed ≡ false → IsProcess before.process
   -- it runs as a worker does that has no disk
   pub done : IfOk result (λ now. Slices gives takes (without_disk before) fuel now
       (without_disk after) source source' outlet outlet')

@@ -1,9 +1,7 @@
-use Rattle.std.proofs.Common.{◌≡◌, ◌+◌, List, ℕ, ap, ◌∙◌, subst, arith}
+use Rattle.std.proofs.Common.{◌≡◌, ◌+◌, ap, ◌∙◌, arith}
 use Rattle.std.specs.Prelude.{Ok, Err, Vec}
 use Rattle.std.specs.declared.alloc.Global.{Global}
-use Rattle.std.specs.List.{AllByRecursion}
 use Rattle.std.proofs.lemmas.Result.{err_from_is_err_and}
-use Rattle.wasi_abi.specs.rules.Answers.{AreBytes}
 use Rattle.sector_disk.proofs.Moments.{stays_shows}
 use Rattle.disk_layout.specs.declared.reading.contents.Contents.{Contents}
 use Rattle.disk_layout.specs.rules.Journal.{Record}
@@ -12,7 +10,6 @@ use Rattle.worker_store.specs.declared.newest.NewestProcessImage.{NewestProcessI
 use Rattle.worker.specs.declared.found.Found.{Found}
 use Rattle.worker.specs.declared.recover_fault.RecoverFault.TheVariants as recover
 use Rattle.worker.specs.rules.RecoverFaults.{fault_of_read}
-use Rattle.worker.proofs.TextLemmas.{texts_of}
 use Rattle.worker.proofs.RestoringLemmas.{begun_machine, unaccepted, unmade, its_version, found_at}
 use Rattle.worker.proofs.FindingLemmas.{says_denied, unread_says, searches_on, searched}
 use Rattle.worker.proofs.FindingLemmas.{searches_in_vain, searches_no_more}
@@ -22,7 +19,7 @@ use Rattle.worker.proofs.finding.find_linked.Goals as goal
 
 pub restore_into-requires : goal.restore_into-requires
 restore_into-requires g c =
-    begun_machine c.args.contents.config c.pages.result c.as_slice-3.result.now
+    begun_machine c.args.contents.config c.pages.result c.as_slice.result.now
     c.in_ok-machine.machine c.pages.ensures.value c.in_ok-machine.ensures.accepted
 
 -- ---- the module isn't accepted
@@ -37,16 +34,16 @@ pub returns-in_err-machine-clause-finds : goal.returns-in_err-machine-clause-fin
 returns-in_err-machine-clause-finds g c =
     let p = err_from_is_err_and c.from_residual.result c.from_residual.ensures.1 in
     rw (p.1, p.2) (λ image shown m config point records last at content.
-    unaccepted at c.args.contents content c.pages.result c.as_slice-3.result.now
-    c.pages.ensures.value c.as_slice-3.ensures c.in_err-machine.field-0.0
+    unaccepted at c.args.contents content c.pages.result c.as_slice.result.now
+    c.pages.ensures.value c.as_slice.ensures c.in_err-machine.field-0.0
     c.in_err-machine.ensures.only)
 
 pub returns-in_err-machine-clause-shows : goal.returns-in_err-machine-clause-shows
 returns-in_err-machine-clause-shows g c =
     let p = err_from_is_err_and c.from_residual.result c.from_residual.ensures.1 in
     rw (p.1, p.2) (λ image shown sectors whole.
-    module_refused sectors image c.args.contents whole c.pages.result c.as_slice-3.result.now
-    c.pages.ensures.value c.as_slice-3.ensures c.in_err-machine.field-0.0
+    module_refused sectors image c.args.contents whole c.pages.result c.as_slice.result.now
+    c.pages.ensures.value c.as_slice.ensures c.in_err-machine.field-0.0
     c.in_err-machine.ensures.reported c.in_err-machine.ensures.only)
 
 pub returns-in_err-machine-clause-own : goal.returns-in_err-machine-clause-own
@@ -83,8 +80,8 @@ returns-in_err-newest-clause-shows g c =
     let p = err_from_is_err_and c.from_residual-in_err-newest.result
     c.from_residual-in_err-newest.ensures.1 in
     rw (p.1, p.2) (λ image shown sectors whole.
-    newest_unread sectors image c.args.contents whole c.pages.result c.as_slice-3.result.now
-    c.pages.ensures.value c.as_slice-3.ensures c.in_ok-machine.machine
+    newest_unread sectors image c.args.contents whole c.pages.result c.as_slice.result.now
+    c.pages.ensures.value c.as_slice.ensures c.in_ok-machine.machine
     c.in_ok-machine.ensures.accepted c.in_err-newest.field-0.0
     (c.in_err-newest.ensures.tells image shown))
 
@@ -113,28 +110,23 @@ pub returns-in_err-process-clause-finds : goal.returns-in_err-process-clause-fin
 returns-in_err-process-clause-finds g c =
     let p = err_from_is_err_and c.from_residual-in_err-process.result
     c.from_residual-in_err-process.ensures.1 in
-    let texts = texts_of c.args.contents.config
-    (subst (λ (l : List (List ℕ)). AllByRecursion AreBytes l)
-    (c.as_slice.ensures ∙ c.arguments.ensures.value) c.are_texts_of_bytes.ensures)
-    (subst (λ (l : List (List ℕ)). AllByRecursion AreBytes l)
-    (c.as_slice-2.ensures ∙ c.environment.ensures.value) c.are_texts_of_bytes-2.ensures) in
     rw (p.1, p.2) (λ image shown m config point records last at content.
     let found = c.in_ok-newest.ensures.finds image shown m config point records last at
     (ap (λ (s : Contents). s.geometry) content) in
-    unmade at c.args.contents content c.pages.result c.as_slice-3.result.now
-    c.pages.ensures.value c.as_slice-3.ensures c.in_ok-machine.machine
-    c.in_ok-machine.ensures.accepted texts c.as_slice-4.result.now
-    (c.as_slice-4.ensures ∙ found.2) c.in_err-process.field-0.0 c.in_err-process.ensures.refused)
+    unmade at c.args.contents content c.pages.result c.as_slice.result.now
+    c.pages.ensures.value c.as_slice.ensures c.in_ok-machine.machine
+    c.in_ok-machine.ensures.accepted c.as_slice-2.result.now
+    (c.as_slice-2.ensures ∙ found.2) c.in_err-process.field-0.0 c.in_err-process.ensures.refused)
 
 pub returns-in_err-process-clause-shows : goal.returns-in_err-process-clause-shows
 returns-in_err-process-clause-shows g c =
     let p = err_from_is_err_and c.from_residual-in_err-process.result
     c.from_residual-in_err-process.ensures.1 in
     rw (p.1, p.2) (λ image shown sectors whole.
-    process_unmade sectors image c.args.contents whole c.pages.result c.as_slice-3.result.now
-    c.pages.ensures.value c.as_slice-3.ensures c.in_ok-machine.machine
+    process_unmade sectors image c.args.contents whole c.pages.result c.as_slice.result.now
+    c.pages.ensures.value c.as_slice.ensures c.in_ok-machine.machine
     c.in_ok-machine.ensures.accepted c.in_ok-newest.newest
-    (c.in_ok-newest.ensures.tells image shown) c.as_slice-4.result.now c.as_slice-4.ensures
+    (c.in_ok-newest.ensures.tells image shown) c.as_slice-2.result.now c.as_slice-2.ensures
     c.in_err-process.field-0.0 c.in_err-process.ensures.refused)
 
 pub returns-in_err-process-clause-own : goal.returns-in_err-process-clause-own
@@ -165,11 +157,6 @@ pub returns-in_err-records-clause-finds : goal.returns-in_err-records-clause-fin
 returns-in_err-records-clause-finds g c =
     let p = err_from_is_err_and c.from_residual-in_err-records.result
     c.from_residual-in_err-records.ensures.1 in
-    let texts = texts_of c.args.contents.config
-    (subst (λ (l : List (List ℕ)). AllByRecursion AreBytes l)
-    (c.as_slice.ensures ∙ c.arguments.ensures.value) c.are_texts_of_bytes.ensures)
-    (subst (λ (l : List (List ℕ)). AllByRecursion AreBytes l)
-    (c.as_slice-2.ensures ∙ c.environment.ensures.value) c.are_texts_of_bytes-2.ensures) in
     rw (p.1, p.2) (λ image shown m config point records last at content.
     let reads = c.in_err-records.ensures.reads in
     let before = stays_shows (g.D.Disk.medium c.read_newest.new.disk)
@@ -178,10 +165,10 @@ returns-in_err-records-clause-finds g c =
     let found = c.in_ok-newest.ensures.finds image before m config point records last at placed in
     unread_says (Vec Record Global) (λ read. read.items ≡ records) c.in_err-records.field-0.0
     (c.in_err-records.ensures.scans image shown m config point records last at placed
-    (its_version at c.args.contents content c.pages.result c.as_slice-3.result.now
-    c.pages.ensures.value c.as_slice-3.ensures c.in_ok-machine.machine
-    c.in_ok-machine.ensures.accepted texts c.as_slice-4.result.now
-    (c.as_slice-4.ensures ∙ found.2) c.restored_processes_are_the_saved.ensures
+    (its_version at c.args.contents content c.pages.result c.as_slice.result.now
+    c.pages.ensures.value c.as_slice.ensures c.in_ok-machine.machine
+    c.in_ok-machine.ensures.accepted c.as_slice-2.result.now
+    (c.as_slice-2.ensures ∙ found.2) c.restored_processes_are_the_saved.ensures
     c.in_ok-process.process c.in_ok-process.ensures.restored
     c.version.result c.version.ensures) found.0))
 
@@ -193,10 +180,10 @@ returns-in_err-records-clause-shows g c =
     let reads = c.in_err-records.ensures.reads in
     let before = stays_shows (g.D.Disk.medium c.read_newest.new.disk)
     (g.D.Disk.medium c.read_records.new.disk) reads.stays image shown in
-    records_unread sectors image c.args.contents whole c.pages.result c.as_slice-3.result.now
-    c.pages.ensures.value c.as_slice-3.ensures c.in_ok-machine.machine
+    records_unread sectors image c.args.contents whole c.pages.result c.as_slice.result.now
+    c.pages.ensures.value c.as_slice.ensures c.in_ok-machine.machine
     c.in_ok-machine.ensures.accepted c.in_ok-newest.newest
-    (c.in_ok-newest.ensures.tells image before) c.as_slice-4.result.now c.as_slice-4.ensures
+    (c.in_ok-newest.ensures.tells image before) c.as_slice-2.result.now c.as_slice-2.ensures
     c.in_ok-process.process c.in_ok-process.ensures.restored c.version.result c.version.ensures
     c.in_err-records.field-0.0 (c.in_err-records.ensures.tells image shown))
 
@@ -234,26 +221,21 @@ returns-clause-searches g c =
 
 pub returns-clause-finds : goal.returns-clause-finds
 returns-clause-finds g c = λ image shown m config point records last at content.
-    let texts = texts_of c.args.contents.config
-    (subst (λ (l : List (List ℕ)). AllByRecursion AreBytes l)
-    (c.as_slice.ensures ∙ c.arguments.ensures.value) c.are_texts_of_bytes.ensures)
-    (subst (λ (l : List (List ℕ)). AllByRecursion AreBytes l)
-    (c.as_slice-2.ensures ∙ c.environment.ensures.value) c.are_texts_of_bytes-2.ensures) in
     let reads = c.in_ok-records.ensures.reads in
     let before = stays_shows (g.D.Disk.medium c.read_newest.new.disk)
     (g.D.Disk.medium c.read_records.new.disk) reads.stays image shown in
     let placed = ap (λ (s : Contents). s.geometry) content in
     let found = c.in_ok-newest.ensures.finds image before m config point records last at placed in
-    let version = its_version at c.args.contents content c.pages.result c.as_slice-3.result.now
-    c.pages.ensures.value c.as_slice-3.ensures c.in_ok-machine.machine
-    c.in_ok-machine.ensures.accepted texts c.as_slice-4.result.now
-    (c.as_slice-4.ensures ∙ found.2) c.restored_processes_are_the_saved.ensures
+    let version = its_version at c.args.contents content c.pages.result c.as_slice.result.now
+    c.pages.ensures.value c.as_slice.ensures c.in_ok-machine.machine
+    c.in_ok-machine.ensures.accepted c.as_slice-2.result.now
+    (c.as_slice-2.ensures ∙ found.2) c.restored_processes_are_the_saved.ensures
     c.in_ok-process.process c.in_ok-process.ensures.restored
     c.version.result c.version.ensures in
-    found_at at c.args.contents content c.pages.result c.as_slice-3.result.now
-    c.pages.ensures.value c.as_slice-3.ensures c.in_ok-machine.machine
-    c.in_ok-machine.ensures.accepted texts c.as_slice-4.result.now
-    (c.as_slice-4.ensures ∙ found.2) c.restored_processes_are_the_saved.ensures
+    found_at at c.args.contents content c.pages.result c.as_slice.result.now
+    c.pages.ensures.value c.as_slice.ensures c.in_ok-machine.machine
+    c.in_ok-machine.ensures.accepted c.as_slice-2.result.now
+    (c.as_slice-2.ensures ∙ found.2) c.restored_processes_are_the_saved.ensures
     c.in_ok-process.process c.in_ok-process.ensures.restored
     c.in_ok-newest.newest.generation found.0 c.in_ok-newest.newest.process_image
     c.in_ok-records.records
@@ -265,9 +247,9 @@ returns-clause-shows g c = λ image shown sectors whole.
     let reads = c.in_ok-records.ensures.reads in
     let before = stays_shows (g.D.Disk.medium c.read_newest.new.disk)
     (g.D.Disk.medium c.read_records.new.disk) reads.stays image shown in
-    all_found sectors image c.args.contents whole c.pages.result c.as_slice-3.result.now
-    c.pages.ensures.value c.as_slice-3.ensures c.in_ok-machine.machine
+    all_found sectors image c.args.contents whole c.pages.result c.as_slice.result.now
+    c.pages.ensures.value c.as_slice.ensures c.in_ok-machine.machine
     c.in_ok-machine.ensures.accepted c.in_ok-newest.newest
-    (c.in_ok-newest.ensures.tells image before) c.as_slice-4.result.now c.as_slice-4.ensures
+    (c.in_ok-newest.ensures.tells image before) c.as_slice-2.result.now c.as_slice-2.ensures
     c.in_ok-process.process c.in_ok-process.ensures.restored c.version.result c.version.ensures
     c.in_ok-records.records (c.in_ok-records.ensures.tells image shown)

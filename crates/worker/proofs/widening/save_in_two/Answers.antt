@@ -4,7 +4,7 @@ use Rattle.std.proofs.lemmas.Result.{on_err_weaker, on_ok_weaker}
 use Rattle.wasi_abi.specs.declared.numbers.TheConstants.{NUMBERS_END}
 use Rattle.sector_disk.proofs.Moments.{goes_on}
 use Rattle.worker_store.specs.declared.store.WorkerStore.{WorkerStore}
-use Rattle.process.specs.rules.Values.{ProcessValue}
+use Rattle.process.specs.rules.Values.{ProcessValue, IsProcess}
 use Rattle.worker.specs.rules.Savings.{SaveCalls, HasSaveCause}
 use Rattle.worker.specs.rules.Upgrades.{upgraded}
 use Rattle.worker.specs.Upgrading.{AfterFault}
@@ -17,6 +17,7 @@ use Rattle.worker.proofs.SavingInTwoLemmas.{late_runs, bars_and_commits}
 use Rattle.worker.proofs.StoreTurnLemmas.{barrier_went, barrier_failed, commit_runs}
 use Rattle.worker.proofs.StoreTurnLemmas.{saves_join, barrier_save_cause}
 use Rattle.worker.proofs.StoreTurnLemmas.{commit_save_cause}
+use Rattle.worker.proofs.WideningLemmas.{is_upgraded}
 use Rattle.worker.proofs.widening.save_in_two.Goals as goal
 
 -- ---- the barrier fails
@@ -61,8 +62,12 @@ returns-in-Err-clause-on_any_disk g c =
 pub returns-in-Err-widen-clause-after_fault : goal.returns-in-Err-widen-clause-after_fault
 returns-in-Err-widen-clause-after_fault g c =
     subst (λ (w : ProcessValue). AfterFault c.in-Err-widen.fault c.args.store.now
-    c.args.process.now w) (sym (c.in-Err-widen.ensures.same ∙ c.release_none.ensures.same))
+    c.args.process.now w) (sym c.in-Err-widen.ensures.same)
     (fault_same c.in-Err-widen.fault c.args.store.now c.args.process.now)
+
+pub returns-in-Err-widen-clause-shows : goal.returns-in-Err-widen-clause-shows
+returns-in-Err-widen-clause-shows g c =
+    λ is. subst IsProcess (sym c.in-Err-widen.ensures.same) is
 
 pub returns-in-Err-widen-clause-any_moment : goal.returns-in-Err-widen-clause-any_moment
 returns-in-Err-widen-clause-any_moment g c =
@@ -110,22 +115,24 @@ commit-requires g c =
     still_room c.args.store.now c.barrier.new.self (g.D.Disk.medium c.args.disk.now)
     (g.D.Disk.medium c.barrier.new.disk) c.in_default.ensures.stores.stays
     c.in_default.ensures.stores.passes
-    c.requires.sectors
+    c.requires
 
 pub returns-clause-done : goal.returns-clause-done
 returns-clause-done g c =
-    on_ok_weaker c.commit.result
-    (λ done. c.in_default-widen.ensures.done ∙ ap upgraded c.release_none.ensures.same)
+    on_ok_weaker c.commit.result (λ done. c.in_default-widen.ensures.done)
     c.commit.ensures.commits.durable
 
 pub returns-clause-after_fault : goal.returns-clause-after_fault
 returns-clause-after_fault g c =
     fault_of_commit c.args.store.now c.barrier.new.self c.args.process.now c.widen.new.process
     (g.D.Disk.medium c.barrier.new.disk) (g.D.Disk.medium c.commit.new.disk)
-    c.in_default.ensures.stores.stays
-    (c.in_default-widen.ensures.done ∙ ap upgraded c.release_none.ensures.same)
+    c.in_default.ensures.stores.stays c.in_default-widen.ensures.done
     (subst (λ n. n + 1 < NUMBERS_END) c.generation.ensures c.in_default-widen.ensures.counted)
     c.commit.result c.commit.ensures.commits.cause
+
+pub returns-clause-shows : goal.returns-clause-shows
+returns-clause-shows g c =
+    λ is. subst IsProcess (sym c.in_default-widen.ensures.done) (is_upgraded c.args.process.now is)
 
 pub returns-clause-any_moment : goal.returns-clause-any_moment
 returns-clause-any_moment g c =
@@ -139,8 +146,7 @@ returns-clause-bars g c =
     bars_and_commits g.D.Disk.medium c.args.store.now c.barrier.new.self c.args.process.now
     c.widen.new.process c.args.disk.now c.barrier.new.disk c.commit.new.disk made.all
     c.in_default.ensures.stores.any_moment c.in_default.ensures.stores.durable
-    (c.in_default-widen.ensures.done ∙ ap upgraded c.release_none.ensures.same)
-    c.commit.ensures.commits.any_moment
+    c.in_default-widen.ensures.done c.commit.ensures.commits.any_moment
 
 pub returns-clause-durable : goal.returns-clause-durable
 returns-clause-durable g c =
@@ -167,7 +173,7 @@ returns-clause-calls g c =
     let made = c.in_default.ensures.stores.calls in
     subst (λ (v : ProcessValue). SaveCalls c.args.store.now v c.commit.result
     (g.D.Disk.medium c.args.disk.now) (g.D.Disk.medium c.commit.new.disk))
-    (c.in_default-widen.ensures.done ∙ ap upgraded c.release_none.ensures.same)
+    c.in_default-widen.ensures.done
     (commit_calls_behind c.args.store.now c.barrier.new.self c.widen.new.process
     c.commit.result (g.D.Disk.medium c.args.disk.now) (g.D.Disk.medium c.barrier.new.disk)
     (g.D.Disk.medium c.commit.new.disk) c.in_default.ensures.stores.stays made.all
@@ -199,7 +205,7 @@ returns-clause-on_any_disk g c =
     let done = c.in_default.ensures in
     subst (λ (v : ProcessValue). IfErr c.commit.result (λ e. HasSaveCause old v
     (g.D.Disk.medium c.args.disk.now) (g.D.Disk.medium c.commit.new.disk) e))
-    (c.in_default-widen.ensures.done ∙ ap upgraded c.release_none.ensures.same)
+    c.in_default-widen.ensures.done
     (commit_save_cause old c.barrier.new.self c.widen.new.process
     (g.D.Disk.medium c.args.disk.now)
     (g.D.Disk.medium c.barrier.new.disk) (g.D.Disk.medium c.commit.new.disk)

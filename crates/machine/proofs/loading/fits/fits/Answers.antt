@@ -39,9 +39,10 @@ returns c = λ functions program is limit least.
     let len = c.len.ensures.len in
     let bound = c.len.ensures.bound in
     let few : length s.frames ≤ 512 = omega (arith, len, bound) in
+    let memory = c.memories_are_of_bytes.ensures in
     if_ok _ _ c.fit_frames.result
     (λ told h. let frames = h functions program looks in (
-      λ t. fits_program ctx program s c.is_memory.ensures.shape c.is_memory.ensures.bytes limit
-          least few around (frames.0 t),
+      λ t. fits_program ctx program s memory.shape memory.bytes limit least few around
+          (frames.0 t),
       λ fits. frames.1 fits.frames,
     )) c.fit_frames.ensures

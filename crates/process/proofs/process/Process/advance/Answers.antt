@@ -2,7 +2,6 @@ use Rattle.std.proofs.Common.{◌≡◌, suc, ◌+◌, ◌<◌, ◌≤◌, ◌^�
 use Rattle.std.proofs.Common.{◌∙◌, subst, arith}
 use Rattle.std.specs.Prelude.{Result, ltb}
 use Rattle.std.specs.Option.{option_map}
-use Rattle.wasi_abi.specs.rules.Versions.{widenings}
 use Rattle.process_rules.specs.Owing.{none}
 use Rattle.process.specs.declared.stop.Stop.{Stop}
 use Rattle.process.specs.declared.fault.ProcessFault.{ProcessFault}
@@ -10,8 +9,7 @@ use Rattle.process.specs.rules.Values.{ProcessValue, ShowsProcess, ending_of, pr
 use Rattle.process.specs.rules.Values.{waiting_in}
 use Rattle.process.specs.rules.Stops.{EndsFor}
 use Rattle.process.proofs.Lines.{less_when, more_when, empty_when}
-use Rattle.process.proofs.Counting.{comes_within, parts_of, after, shows_after, same_version}
-use Rattle.process.proofs.Counting.{ends_for}
+use Rattle.process.proofs.Counting.{comes_within, parts_of, after, is_process_after, ends_for}
 use Rattle.process.proofs.process.Process.advance.Goals as goal
 
 pub returns-in-Some-clause-advances : goal.returns-in-Some-clause-advances
@@ -44,37 +42,29 @@ overflow_add-self c =
 
 pub invariant_of-self : goal.invariant_of-self
 invariant_of-self c =
+    let v = c.self.inside in
     let i = c.self.invariant in
+    let old : ProcessValue = process_of v.machine v.host v.steps v.answers v.requests v.ended in
     let running = sym i.shows.ended ∙ ap (option_map ending_of) c.in_default.is in
     let come = c.take_steps-stretch.ensures.stretches i.guest i.process
-    (parts_of (process_of c.self.inside.machine c.self.inside.host c.self.inside.steps
-    c.self.inside.answers c.self.inside.requests c.self.inside.ended) i.guest i.process i.shows)
-    running in
-    let within =
-    comes_within i.guest i.process come.process c.cap_fuel-most.result
-    c.take_steps-stretch.result.steps c.take_steps-stretch.new.host.host.lines
-    (Some c.take_steps-stretch.result.stop) come.comes in
-    let counted = c.cap_fuel-most.ensures.counted in
-    let few = i.few_answers in
-    let same = ap widenings (same_version
-    (process_of c.self.inside.machine c.self.inside.host c.self.inside.steps
-    c.self.inside.answers c.self.inside.requests c.self.inside.ended)
-    c.take_steps-stretch.new.machine c.take_steps-stretch.new.host i.guest i.process i.shows
-    c.cap_fuel-most.result c.take_steps-stretch.result.steps c.take_steps-stretch.result.ended
-    c.take_steps-stretch.result.stop come) in
-    record {
-      guest = i.guest;
-      process = come.process;
-      shows = shows_after (process_of c.self.inside.machine c.self.inside.host c.self.inside.steps
-          c.self.inside.answers c.self.inside.requests c.self.inside.ended)
-          c.take_steps-stretch.new.machine c.take_steps-stretch.new.host i.guest i.process i.shows
-          c.cap_fuel-most.result c.take_steps-stretch.result.steps c.take_steps-stretch.result.ended
-          c.take_steps-stretch.result.stop come;
-      few_steps = omega (arith, within, counted);
-      few_answers = omega (arith, few, same);
-      few_requests = i.few_requests;
-      few_lines = c.take_steps-stretch.ensures.few;
-    }
+    (parts_of old i.guest i.process i.shows) running in
+    is_process_after old c.take_steps-stretch.new.machine c.take_steps-stretch.new.host i.guest
+    i.process i.shows c.cap_fuel-most.result c.take_steps-stretch.result.steps
+    c.take_steps-stretch.result.ended c.take_steps-stretch.result.stop come
+    c.cap_fuel-most.ensures.counted i.few_answers i.few_requests c.take_steps-stretch.ensures.few
+
+pub returns-clause-shows : goal.returns-clause-shows
+returns-clause-shows c =
+    let v = c.self.inside in
+    let i = c.self.invariant in
+    let old : ProcessValue = process_of v.machine v.host v.steps v.answers v.requests v.ended in
+    let running = sym i.shows.ended ∙ ap (option_map ending_of) c.in_default.is in
+    let come = c.take_steps-stretch.ensures.stretches i.guest i.process
+    (parts_of old i.guest i.process i.shows) running in
+    is_process_after old c.take_steps-stretch.new.machine c.take_steps-stretch.new.host i.guest
+    i.process i.shows c.cap_fuel-most.result c.take_steps-stretch.result.steps
+    c.take_steps-stretch.result.ended c.take_steps-stretch.result.stop come
+    c.cap_fuel-most.ensures.counted i.few_answers i.few_requests c.take_steps-stretch.ensures.few
 
 pub returns-clause-advances : goal.returns-clause-advances
 returns-clause-advances c = λ guest p shows.

@@ -1,9 +1,10 @@
-use Rattle.std.proofs.Common.{◌++◌, ◌≡◌, List, Some, Vec, Global, map, subst, sym}
+use Rattle.std.proofs.Common.{◌++◌, ◌≡◌, ◌<◌, ◌^◌, List, Some, Vec, Global, map, subst, sym}
+use Rattle.file_tree.specs.rules.Files.{Files, IsFiles}
 use Rattle.state_image.specs.rules.ProcessImage.{files_bytes}
 use Rattle.state_image.specs.declared.restoring.whole_node.WholeNode.{WholeNode}
 use Rattle.state_image.specs.restoring.Named.{NamedNode, AreNamedNodes}
 use Rattle.state_image.specs.restoring.Parts.{wholes_at}
-use Rattle.state_image.specs.restoring.SavedNodes.{lent_whole}
+use Rattle.state_image.specs.restoring.SavedNodes.{lent_whole, IsSavedFiles}
 use Rattle.state_image.proofs.RestoreLemmas.Fronts.{files_made, no_number, no_nodes, files_told}
 use Rattle.state_image.proofs.RestoreLemmas.Lent.{fault_of}
 use Rattle.state_image.proofs.RestoreLemmas.Loops.{none_by, if_ok}
@@ -26,15 +27,25 @@ returns-in_err-nodes-clause-refused c refused fs rest are next is =
 
 pub returns-clause-made : goal.returns-clause-made
 returns-clause-made c =
-    if_ok (λ tree. AreNamedNodes tree c.in-Some.next (map lent_whole c.as_slice.result.now))
+    if_ok (λ tree. IsSavedFiles tree c.in-Some.next (map lent_whole c.as_slice.result.now))
     (λ tree. c.args.reader.now ≡ files_bytes tree ++ c.read_wholes.new.reader) c.tree_of.result
     c.tree_of.ensures.made
-    (λ tree told. files_made tree c.in-Some.next (map lent_whole c.in_ok-nodes.nodes.items)
-    c.args.reader.now c.next_number.new.reader c.read_wholes.new.reader c.are_bytes.ensures
-    c.in-Some.ensures
-    c.in_ok-nodes.ensures
+    (λ tree saved. files_made tree c.in-Some.next (map lent_whole c.in_ok-nodes.nodes.items)
+    c.args.reader.now c.next_number.new.reader c.read_wholes.new.reader
+    (rw c.rest.ensures at c.are_bytes.ensures) c.in-Some.ensures c.in_ok-nodes.ensures
     (subst (λ xs. AreNamedNodes tree c.in-Some.next (map lent_whole xs)) c.as_slice.ensures.value
-    told))
+    saved.told))
+
+pub returns-clause-files : goal.returns-clause-files
+returns-clause-files c =
+    if_ok (λ tree. IsSavedFiles tree c.in-Some.next (map lent_whole c.as_slice.result.now)) IsFiles
+    c.tree_of.result c.tree_of.ensures.made (λ tree saved. saved.are)
+
+pub returns-clause-next : goal.returns-clause-next
+returns-clause-next c =
+    if_ok (λ tree. IsSavedFiles tree c.in-Some.next (map lent_whole c.as_slice.result.now))
+    (λ (tree : Files). tree.next < 2 ^ 64) c.tree_of.result c.tree_of.ensures.made
+    (λ tree saved. saved.within)
 
 pub returns-clause-refused : goal.returns-clause-refused
 returns-clause-refused c refused fs rest are next is =

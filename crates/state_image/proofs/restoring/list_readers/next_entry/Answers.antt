@@ -3,5 +3,5 @@ use Rattle.state_image.proofs.restoring.list_readers.next_entry.Goals as goal
 
 pub returns : goal.returns
 returns c =
-    entry_lent c.read_entry.result c.args.reader.now c.read_entry.new.reader c.are_bytes.ensures
-    c.read_entry.ensures
+    entry_lent c.read_entry.result c.args.reader.now c.read_entry.new.reader
+    (rw c.rest.ensures at c.are_bytes.ensures) c.read_entry.ensures

@@ -3,5 +3,5 @@ use Rattle.state_image.proofs.restoring.list_readers.next_front.Goals as goal
 
 pub returns : goal.returns
 returns c =
-    front_lent c.read_node.result c.args.reader.now c.read_node.new.reader c.are_bytes.ensures
-    c.read_node.ensures
+    front_lent c.read_node.result c.args.reader.now c.read_node.new.reader
+    (rw c.rest.ensures at c.are_bytes.ensures) c.read_node.ensures

@@ -1,4 +1,4 @@
-use Rattle.std.proofs.Common.{map, ap, ◌∙◌, arith}
+use Rattle.std.proofs.Common.{◌≡◌, map, ap, ◌∙◌, arith}
 use Rattle.file_tree.specs.rules.Files.{Files}
 use Rattle.state_image.specs.restoring.SavedNodes.{lent_whole}
 use Rattle.state_image.proofs.RestoreLemmas.Hung.{false_true}
@@ -28,6 +28,13 @@ returns-then-not-may_all_stay-clause-refused c refused gs told =
 
 pub returns-clause-made : goal.returns-clause-made
 returns-clause-made c =
-    named_again c.hang_all.new.tree c.args.next c.args.nodes.now c.in_ok-hang_all.ensures.hung
-    (c.in_ok-hang_all.ensures.next ∙ ap (λ (x : Files). x.next) c.raise_next.ensures)
-    (c.may_all_stay.ensures.0 c.if-not-may_all_stay.false)
+    let fs = c.hang_all.new.tree in
+    let hung = c.in_ok-hang_all.ensures.hung in
+    let same : fs.next ≡ c.args.next =
+    c.in_ok-hang_all.ensures.next ∙ ap (λ (x : Files). x.next) c.raise_next.ensures in
+    record {
+      are = hung.are;
+      within = omega (arith, same, c.ranges.next.fits);
+      told = named_again fs c.args.next c.args.nodes.now hung same
+          (c.may_all_stay.ensures.0 c.if-not-may_all_stay.false);
+    }

@@ -18,7 +18,7 @@ returns-then-is_unfinished c = λ version.
               (c.fits_room.ensures.fits.0 w.if-fits_room.true)
               ((rw w.as_slice-then-fits_room.ensures.value at w.is_table.ensures).0
               (sym w.value-is ∙ v.if-is_table.true))
-              (rw c.as_slice.ensures.value at c.are_bytes.ensures) c.is_time.ensures
+              (rw c.as_slice.ensures.value at c.are_bytes.ensures) c.has_64_bits.ensures
               ((rw v.as_slice-then-is_table.ensures.value at v.is_unfinished.ensures).0
               (sym v.value-is ∙ c.if-is_unfinished.true))
               ((rw c.as_slice-then-is_unfinished.ensures.value

@@ -21,10 +21,10 @@ returns-in-Err-clause-failed g c =
     c.in-Err.ensures.runs.carries
     (slice_hears_up_to g.S.Source.gives g.O.Outlet.takes c.get.result _ _ _ _
     c.loop-now.worker.process c.slice.new.self.process c.in-Err.fault c.loop-now.worker.has_failed
-    c.is_process.ensures c.in-Err.ensures.runs.failed (λ e. (c.in-Err.ensures.refused e).3))
+    c.in-Err.ensures.runs.shows c.in-Err.ensures.runs.failed (λ e. (c.in-Err.ensures.refused e).3))
     (slice_heeds g.S.Source.gives g.O.Outlet.takes c.get.result _ _ _ _
     c.loop-now.worker.process c.slice.new.self.process c.in-Err.fault c.loop-now.worker.has_failed
-    c.is_process.ensures c.in-Err.ensures.runs.failed (λ e. (c.in-Err.ensures.refused e).0)
+    c.in-Err.ensures.runs.shows c.in-Err.ensures.runs.failed (λ e. (c.in-Err.ensures.refused e).0)
     (λ e. (c.in-Err.ensures.refused e).4))
     (slice_breaks_off g.S.Source.gives g.O.Outlet.takes c.get.result _ _ _ _
     c.loop-now.worker.process c.slice.new.self.process c.in-Err.fault c.loop-now.worker.has_failed
@@ -37,9 +37,9 @@ returns-then-taken-every-clause-done g c =
     _ _ c.loop-now.invariant c.get.result c.get.ensures.value _ _ _ _ _
     c.get-every.ensures.value c.in-Ok.now c.in-Ok.ensures.runs.carries c.in-Ok.ensures.runs.done
     c.rest_on.result _ _ c.rest_on.ensures.rested (slice_hears g.S.Source.gives g.O.Outlet.takes
-    c.get.result _ _ _ _ _ _ c.in-Ok.now c.is_process.ensures c.in-Ok.ensures.runs.done)
+    c.get.result _ _ _ _ _ _ c.in-Ok.now c.in-Ok.ensures.runs.shows c.in-Ok.ensures.runs.done)
     (slice_takes g.S.Source.gives g.O.Outlet.takes c.get.result _ _ _ _ _ _ c.in-Ok.now
-    c.is_process.ensures c.in-Ok.ensures.runs.done)
+    c.in-Ok.ensures.runs.shows c.in-Ok.ensures.runs.done)
     (λ spent. elim c.then-taken-every.branch [
       | then-taken-every-via-then-taken-every w ↦ w.if-taken-every.true
       | then-taken-every-via-else-taken-every+then-not-is_spent w ↦
@@ -52,9 +52,9 @@ returns-then-taken-every-clause-failed g c =
     _ _ _ c.loop-now.invariant c.get.result c.get.ensures.value _ _ _ _ _
     c.get-every.ensures.value c.in-Ok.now c.in-Ok.ensures.runs.carries c.in-Ok.ensures.runs.done
     c.rest_on.result _ _ c.rest_on.ensures.rested (slice_hears g.S.Source.gives g.O.Outlet.takes
-    c.get.result _ _ _ _ _ _ c.in-Ok.now c.is_process.ensures c.in-Ok.ensures.runs.done)
+    c.get.result _ _ _ _ _ _ c.in-Ok.now c.in-Ok.ensures.runs.shows c.in-Ok.ensures.runs.done)
     (slice_takes g.S.Source.gives g.O.Outlet.takes c.get.result _ _ _ _ _ _ c.in-Ok.now
-    c.is_process.ensures c.in-Ok.ensures.runs.done))
+    c.in-Ok.ensures.runs.shows c.in-Ok.ensures.runs.done))
 
 pub loop-now-preserved : goal.loop-now-preserved
 loop-now-preserved g c =
@@ -63,13 +63,13 @@ loop-now-preserved g c =
     within_more g.D.Disk.medium g.S.Source.gives g.O.Outlet.takes _ _ _ _ _ c.loop-now.invariant
     c.get.result c.get.ensures.value _ _ _ _ c.in-Ok.now c.in-Ok.ensures.runs.carries
     (slice_hears g.S.Source.gives g.O.Outlet.takes c.get.result _ _ _ _ _ _ c.in-Ok.now
-    c.is_process.ensures c.in-Ok.ensures.runs.done)
+    c.in-Ok.ensures.runs.shows c.in-Ok.ensures.runs.done)
     (slice_takes g.S.Source.gives g.O.Outlet.takes c.get.result _ _ _ _ _ _ c.in-Ok.now
-    c.is_process.ensures c.in-Ok.ensures.runs.done) c.in-Ok.ensures.runs.done
+    c.in-Ok.ensures.runs.shows c.in-Ok.ensures.runs.done) c.in-Ok.ensures.runs.done
     (c.is_spent.ensures.0 c.if-not-is_spent.false) (omega (arith, before, other))
     (slice_fewer g.D.Disk.medium g.S.Source.gives g.O.Outlet.takes c.loop-now.worker
     c.slice.new.self c.get.result c.in-Ok.now _ _ _ _
-    c.is_process.ensures c.get.ensures.nonzero c.in-Ok.ensures.runs.done
+    c.in-Ok.ensures.runs.shows c.get.ensures.nonzero c.in-Ok.ensures.runs.done
     (c.is_spent.ensures.0 c.if-not-is_spent.false)) c.in-Ok.ensures.runs.room
 
 pub returns-then-taken-every-clause-fewer : goal.returns-then-taken-every-clause-fewer
@@ -80,4 +80,4 @@ returns-then-taken-every-clause-fewer g c =
     c.rest_on.ensures.rested
     (slice_fewer g.D.Disk.medium g.S.Source.gives g.O.Outlet.takes c.loop-now.worker
     c.slice.new.self c.get.result c.in-Ok.now _ _ _ _
-    c.is_process.ensures c.get.ensures.nonzero c.in-Ok.ensures.runs.done)
+    c.in-Ok.ensures.runs.shows c.get.ensures.nonzero c.in-Ok.ensures.runs.done)

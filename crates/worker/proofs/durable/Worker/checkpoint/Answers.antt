@@ -1,4 +1,4 @@
-use Rattle.std.proofs.Common.{◌≡◌, sym, ◌∙◌, ap, refl, subst, true, Ok, Err}
+use Rattle.std.proofs.Common.{◌≡◌, sym, ◌∙◌, ap, refl, subst, true}
 use Rattle.worker.specs.declared.fault.WorkFault.TheVariants.{Work}
 use Rattle.ephemeral_worker.specs.declared.fault.SliceFault.TheVariants as slice
 use Rattle.worker.specs.rules.DurableValues.{DurableValue}
@@ -9,16 +9,12 @@ use Rattle.worker.proofs.CheckpointLemmas.{failed_fails}
 use Rattle.worker.proofs.CheckpointLemmas.{failed_calls}
 use Rattle.worker.proofs.RecoveryCallLemmas.{none_called}
 use Rattle.worker.specs.rules.CallCounts.{most_saving}
-use Rattle.worker.specs.rules.Checkpoints.{IsSavedIn}
-use Rattle.worker.specs.rules.DurableCalls.{CheckpointCarries}
 use Rattle.worker.specs.rules.Unsynced.{CountsInSlice}
-use Rattle.worker.proofs.ReleaseLemmas.{process_back}
 use Rattle.worker.proofs.TurnCounts.{counts_none}
 use Rattle.worker.proofs.durable.Worker.checkpoint.Goals as goal
 
-pub save_telling-saved-requires-clause-sectors :
-    goal.save_telling-saved-requires-clause-sectors
-save_telling-saved-requires-clause-sectors g c =
+pub save-saved-requires : goal.save-saved-requires
+save-saved-requires g c =
     room_for g.D.Disk.medium c.self.inside.running c.self.inside.replayed
     c.args.self.now c.self.view_is c.args.disk.now c.args.disk.now
     c.requires
@@ -51,20 +47,18 @@ pub returns-in-Err-clause-saves : goal.returns-in-Err-clause-saves
 returns-in-Err-clause-saves g c =
     let running = c.self.inside.running in
     let disk = g.D.Disk.medium c.args.disk.now in
-    let disk' = g.D.Disk.medium c.save_telling-saved.new.disk in
+    let disk' = g.D.Disk.medium c.save-saved.new.disk in
+    let durable = c.self.invariant in
+    let shows = durable.shows (sym c.has_failed.ensures ∙ c.if-has_failed.false) in
     let runs = c.in-Err.ensures.runs in
     record {
-      carries = process_back
-          (λ (w : DurableValue). CheckpointCarries c.args.self.now (Err c.from.result) w disk disk')
-          running.process c.save_telling-saved.new.process c.save_telling-saved.new.store
-          running.is_abreast c.self.inside.replayed c.in-Err.ensures.same
-          (fault_keeps g.D.Disk.medium running c.self.inside.replayed
-          c.args.self.now c.self.view_is c.args.disk.now c.save_telling-saved.new.disk
-          c.process_images_fit_areas.ensures c.is_process.ensures c.save_telling-saved.new.store
+      carries = fault_keeps g.D.Disk.medium running c.self.inside.replayed
+          c.args.self.now c.self.view_is c.args.disk.now c.save-saved.new.disk
+          c.process_images_fit_areas.ensures shows c.save-saved.new.store
           c.in-Err.ensures.any_moment c.in-Err.ensures.asks c.in-Err.fault c.from.result
-          c.from.ensures c.in-Err.ensures.cause);
+          c.from.ensures c.in-Err.ensures.cause;
       saved = tt;
-      process = c.in-Err.ensures.same ∙ ap (λ (w : DurableValue). w.process) c.self.view_is;
+      process = ap (λ (w : DurableValue). w.process) c.self.view_is;
       keeps = record {
         fails = c.in-Err.ensures.fails;
         unsaved = c.in-Err.ensures.unnumbered
@@ -72,7 +66,7 @@ returns-in-Err-clause-saves g c =
         replayed = ap (λ (w : DurableValue). w.replayed) c.self.view_is;
         room = room_after g.D.Disk.medium running c.self.inside.replayed
             c.args.self.now c.self.view_is c.args.disk.now
-            c.save_telling-saved.new.disk c.save_telling-saved.new.store c.in-Err.ensures.stays
+            c.save-saved.new.disk c.save-saved.new.store c.in-Err.ensures.stays
             c.in-Err.ensures.passes c.requires;
         asks = c.in-Err.ensures.asks;
         counts = subst (λ (w : DurableValue). CountsInSlice w.store.geometry disk disk')
@@ -80,15 +74,15 @@ returns-in-Err-clause-saves g c =
       };
       calls = calls_err g.D.Disk.medium running c.self.inside.replayed
           c.args.self.now c.self.view_is c.args.disk.now
-          c.save_telling-saved.new.disk c.in-Err.fault c.from.result c.in-Err.ensures.calls;
+          c.save-saved.new.disk c.in-Err.fault c.from.result c.in-Err.ensures.calls;
       cause = fault_cause g.D.Disk.medium running c.self.inside.replayed
           c.args.self.now c.self.view_is c.args.disk.now
-          c.save_telling-saved.new.disk c.process_images_fit_areas.ensures c.is_process.ensures
-          c.save_telling-saved.new.store c.in-Err.ensures.any_moment c.in-Err.ensures.asks
+          c.save-saved.new.disk c.process_images_fit_areas.ensures shows
+          c.save-saved.new.store c.in-Err.ensures.any_moment c.in-Err.ensures.asks
           c.in-Err.fault c.from.result c.from.ensures c.in-Err.ensures.cause;
       on_any_disk = cause_on_any_disk g.D.Disk.medium running c.self.inside.replayed
           c.args.self.now c.self.view_is c.args.disk.now
-          c.save_telling-saved.new.disk c.in-Err.fault c.from.result c.from.ensures
+          c.save-saved.new.disk c.in-Err.fault c.from.result c.from.ensures
           c.in-Err.ensures.on_any_disk;
     }
 
@@ -96,35 +90,27 @@ pub returns-clause-saves : goal.returns-clause-saves
 returns-clause-saves g c =
     let running = c.self.inside.running in
     let disk = g.D.Disk.medium c.args.disk.now in
-    let disk' = g.D.Disk.medium c.save_telling-saved.new.disk in
+    let disk' = g.D.Disk.medium c.save-saved.new.disk in
+    let durable = c.self.invariant in
     let before = sym c.has_failed.ensures ∙ c.if-has_failed.false in
     let runs = c.in_default.ensures.runs in
     record {
-      carries = process_back
-          (λ (w : DurableValue). CheckpointCarries c.args.self.now (Ok tt) w disk disk')
-          running.process c.save_telling-saved.new.process c.save_telling-saved.new.store
-          running.is_abreast c.self.inside.replayed
-          c.in_default.ensures.same
-          (done_keeps g.D.Disk.medium running c.self.inside.replayed
-          c.args.self.now c.self.view_is c.args.disk.now c.save_telling-saved.new.disk
-          c.process_images_fit_areas.ensures c.is_process.ensures c.save_telling-saved.new.store
+      carries = done_keeps g.D.Disk.medium running c.self.inside.replayed
+          c.args.self.now c.self.view_is c.args.disk.now c.save-saved.new.disk
+          c.process_images_fit_areas.ensures (durable.shows before) c.save-saved.new.store
           c.in_default.ensures.any_moment c.in_default.ensures.asks (runs.works before)
-          c.in_default.ensures.durable);
-      saved = process_back (λ (w : DurableValue). IsSavedIn c.args.self.now w) running.process
-          c.save_telling-saved.new.process c.save_telling-saved.new.store running.is_abreast
-          c.self.inside.replayed c.in_default.ensures.same
-          (saved_in g.D.Disk.medium running c.self.inside.replayed
-          c.args.self.now c.self.view_is c.args.disk.now c.save_telling-saved.new.disk
-          c.save_telling-saved.new.store c.in_default.ensures.numbered
-          (runs.works before ∙ sym before));
-      process = c.in_default.ensures.same ∙ ap (λ (w : DurableValue). w.process) c.self.view_is;
+          c.in_default.ensures.durable;
+      saved = saved_in g.D.Disk.medium running c.self.inside.replayed
+          c.args.self.now c.self.view_is c.args.disk.now c.save-saved.new.disk
+          c.save-saved.new.store c.in_default.ensures.numbered (runs.works before ∙ sym before);
+      process = ap (λ (w : DurableValue). w.process) c.self.view_is;
       keeps = record {
         fails = tt;
         unsaved = tt;
         replayed = ap (λ (w : DurableValue). w.replayed) c.self.view_is;
         room = room_after g.D.Disk.medium running c.self.inside.replayed
             c.args.self.now c.self.view_is c.args.disk.now
-            c.save_telling-saved.new.disk c.save_telling-saved.new.store
+            c.save-saved.new.disk c.save-saved.new.store
             c.in_default.ensures.stays c.in_default.ensures.passes c.requires;
         asks = c.in_default.ensures.asks;
         counts = subst (λ (w : DurableValue). CountsInSlice w.store.geometry disk disk')
@@ -132,7 +118,7 @@ returns-clause-saves g c =
       };
       calls = calls_ok g.D.Disk.medium running c.self.inside.replayed
           c.args.self.now c.self.view_is c.args.disk.now
-          c.save_telling-saved.new.disk tt c.in_default.ensures.calls;
+          c.save-saved.new.disk tt c.in_default.ensures.calls;
       cause = tt;
       on_any_disk = tt;
     }

@@ -11,8 +11,8 @@ lay_out-laid-requires g c =
     short_enough c.args.wasm.now c.args.config.now c.in_ok-process.process
     c.in_ok-process.ensures.begun
 
-pub worker_of-requires : goal.worker_of-requires
-worker_of-requires g c =
+pub worker_of-requires-clause-none_waits : goal.worker_of-requires-clause-none_waits
+worker_of-requires-clause-none_waits g c =
     let begun = c.in_ok-process.ensures.begun in begun.started.none_waits
 
 pub returns-in_err-process-clause-refused : goal.returns-in_err-process-clause-refused

@@ -106,7 +106,7 @@ returns-in-Ok g c =
                 c.find.new.disk c.revive.new.disk c.args.outlet.now c.revive.new.outlet
                 c.revive.ensures,
           );
-      heeds = revival_heeds g.D.Disk.medium g.O.Outlet.takes c.in-Ok.found c.is_process.ensures
+      heeds = revival_heeds g.D.Disk.medium g.O.Outlet.takes c.in-Ok.found found.searches.shows
           c.find.new.disk c.revive.new.disk c.args.outlet.now c.revive.new.outlet
           c.revive.result c.revive.ensures;
       counts = revival_counts g.D.Disk.medium g.O.Outlet.takes c.args.disk.now c.find.new.disk

@@ -1,4 +1,5 @@
-use Rattle.std.proofs.Common.{◌≡◌, true, ap, sym, ◌∙◌, refl, subst, Ok, Err}
+use Rattle.std.proofs.Common.{◌≡◌, true, false, ap, sym, ◌∙◌, refl, subst, Ok, Err}
+use Rattle.process.specs.rules.Values.{IsProcess}
 use Rattle.ephemeral_worker.specs.declared.now.Now.{Now}
 use Rattle.ephemeral_worker.specs.declared.fault.SliceFault.TheVariants as slice
 use Rattle.worker_store.specs.declared.store.WorkerStore.{WorkerStore}
@@ -17,6 +18,11 @@ use Rattle.worker.specs.rules.Unsynced.{CountsInSlice}
 use Rattle.worker.proofs.TurnCounts.{counts_none}
 use Rattle.worker.proofs.durable.Worker.slice.Goals as goal
 
+pub work-requires-clause-none_waits : goal.work-requires-clause-none_waits
+work-requires-clause-none_waits g c =
+    let durable = c.self.invariant in
+    durable.none_waits (sym c.has_failed.ensures ∙ c.if-has_failed.false)
+
 pub returns-then-has_failed-clause-runs : goal.returns-then-has_failed-clause-runs
 returns-then-has_failed-clause-runs g c =
     let w = c.args.self.now in
@@ -24,7 +30,10 @@ returns-then-has_failed-clause-runs g c =
     let had_failed : w.has_failed ≡ true =
     ap (λ (v : DurableValue). v.has_failed) (sym c.self.view_is) ∙ sym c.has_failed.ensures
     ∙ c.if-has_failed.true in
+    let durable = c.self.invariant in
     record {
+      shows = subst (λ (v : DurableValue). v.has_failed ≡ false → IsProcess v.process)
+          c.self.view_is durable.shows;
       done = tt;
       carries = failed_carries g.S.Source.gives g.O.Outlet.takes w w c.args.fuel
           (Err (Work slice.Failed)) disk disk c.args.source.now c.args.outlet.now had_failed;
@@ -47,7 +56,10 @@ returns-in-Ok-clause-runs g c =
     let disk' = g.D.Disk.medium c.work.new.disk in
     let before = sym c.has_failed.ensures ∙ c.if-has_failed.false in
     let runs = c.in-Ok.ensures.runs in
+    let durable = c.self.invariant in
     record {
+      shows = subst (λ (v : DurableValue). v.has_failed ≡ false → IsProcess v.process)
+          c.self.view_is durable.shows;
       done = slices_of g.S.Source.gives g.O.Outlet.takes (working running.process)
           (working c.work.new.self.process) (without_disk w)
           (without_disk (durable_of c.work.new.self replayed)) c.args.fuel c.in-Ok.now
@@ -85,7 +97,10 @@ returns-in-Err-clause-runs g c =
     let disk = g.D.Disk.medium c.args.disk.now in
     let disk' = g.D.Disk.medium c.work.new.disk in
     let runs = c.in-Err.ensures.runs in
+    let durable = c.self.invariant in
     record {
+      shows = subst (λ (v : DurableValue). v.has_failed ≡ false → IsProcess v.process)
+          c.self.view_is durable.shows;
       done = tt;
       carries = subst (λ (v : DurableValue). SliceCarries g.S.Source.gives g.O.Outlet.takes v
           c.args.fuel (Err c.in-Err.fault)

@@ -68,9 +68,11 @@ returns-in-Err-clause-upgrades g c =
     let replayed = c.self.inside.replayed in
     let w = c.args.self.now in
     let disk = g.D.Disk.medium c.args.disk.now in
+    let durable = c.self.invariant in
+    let shows = durable.shows (sym c.has_failed.ensures ∙ c.if-has_failed.false) in
     record {
       carries = refused_carries g.D.Disk.medium running after replayed w c.self.view_is
-          c.args.disk.now c.args.disk.now c.is_process.ensures c.in-Err.fault
+          c.args.disk.now c.args.disk.now shows c.in-Err.fault
           c.in-Err.ensures.refused c.process_images_fit_areas.ensures refl;
       ends = tt;
       done = tt;
@@ -89,7 +91,7 @@ returns-in-Err-clause-upgrades g c =
       };
       calls = no_upgrade_calls w (Upgrade c.in-Err.fault) disk;
       cause = refused_fails g.D.Disk.medium running after replayed w c.self.view_is
-          c.args.disk.now c.args.disk.now c.is_process.ensures c.in-Err.fault
+          c.args.disk.now c.args.disk.now shows c.in-Err.fault
           c.in-Err.ensures.refused refl;
       on_any_disk = refusal_cause running w replayed c.self.view_is c.in-Err.fault
           c.in-Err.ensures.refused disk disk;
@@ -110,8 +112,8 @@ returns-in-Err-clause-in_the_way g c =
 
 -- ---- its store
 
-pub save_in_two-saved-requires-clause-sectors : goal.save_in_two-saved-requires-clause-sectors
-save_in_two-saved-requires-clause-sectors g c =
+pub save_in_two-saved-requires : goal.save_in_two-saved-requires
+save_in_two-saved-requires g c =
     room_for g.D.Disk.medium c.self.inside.running c.self.inside.replayed c.args.self.now
     c.self.view_is c.args.disk.now c.args.disk.now c.requires
 
@@ -129,11 +131,13 @@ returns-in-Err-saved-clause-upgrades g c =
     let w = c.args.self.now in
     let disk = g.D.Disk.medium c.args.disk.now in
     let disk' = g.D.Disk.medium c.save_in_two-saved.new.disk in
+    let durable = c.self.invariant in
+    let shows = durable.shows (sym c.has_failed.ensures ∙ c.if-has_failed.false) in
     let saved = c.in-Err-saved.ensures in
     let runs = c.in-Err-saved.ensures.runs in
     record {
       carries = fault_carries g.D.Disk.medium running after replayed w c.self.view_is
-          c.args.disk.now c.save_in_two-saved.new.disk c.is_process.ensures
+          c.args.disk.now c.save_in_two-saved.new.disk shows
           c.process_images_fit_areas.ensures c.in_default.ensures.may saved.any_moment saved.asks
           c.in-Err-saved.fault c.from.result c.from.ensures saved.cause saved.after_fault;
       ends = tt;
@@ -157,7 +161,7 @@ returns-in-Err-saved-clause-upgrades g c =
       calls = calls_err_so running replayed w c.self.view_is disk disk' c.in-Err-saved.fault
           c.from.result saved.calls;
       cause = fault_fails g.D.Disk.medium running after replayed w c.self.view_is
-          c.args.disk.now c.save_in_two-saved.new.disk c.is_process.ensures
+          c.args.disk.now c.save_in_two-saved.new.disk shows
           c.process_images_fit_areas.ensures c.in_default.ensures.may saved.any_moment saved.asks
           c.in-Err-saved.fault c.from.result c.from.ensures saved.cause saved.after_fault;
       on_any_disk = cause_so running replayed w c.self.view_is disk disk' c.in-Err-saved.fault
@@ -166,12 +170,14 @@ returns-in-Err-saved-clause-upgrades g c =
 
 pub returns-in-Err-saved-clause-migrates : goal.returns-in-Err-saved-clause-migrates
 returns-in-Err-saved-clause-migrates g c =
+    let durable = c.self.invariant in
     migrates_so g.D.Disk.medium c.self.inside.running
     (record c.self.inside.running {
       store = c.fail-in-Err-saved.new.self;
       process = c.save_in_two-saved.new.process;
     }) c.self.inside.replayed c.args.self.now c.self.view_is
-    c.args.disk.now c.save_in_two-saved.new.disk c.is_process.ensures
+    c.args.disk.now c.save_in_two-saved.new.disk
+    (durable.shows (sym c.has_failed.ensures ∙ c.if-has_failed.false))
     c.process_images_fit_areas.ensures c.in_default.ensures.may c.in-Err-saved.ensures.bars
 
 pub returns-in-Err-saved-clause-in_the_way : goal.returns-in-Err-saved-clause-in_the_way
@@ -192,16 +198,17 @@ returns-clause-upgrades g c =
     let w = c.args.self.now in
     let disk = g.D.Disk.medium c.args.disk.now in
     let disk' = g.D.Disk.medium c.save_in_two-saved.new.disk in
+    let durable = c.self.invariant in
     let before = sym c.has_failed.ensures ∙ c.if-has_failed.false in
     let saved = c.in_default-saved.ensures in
     let runs = c.in_default-saved.ensures.runs in
     record {
       carries = done_carries g.D.Disk.medium running after replayed w c.self.view_is
-          c.args.disk.now c.save_in_two-saved.new.disk c.is_process.ensures
+          c.args.disk.now c.save_in_two-saved.new.disk (durable.shows before)
           c.process_images_fit_areas.ensures c.in_default.ensures.may saved.any_moment saved.asks
           saved.done (runs.works before) refl saved.durable;
       ends = ends_so g.D.Disk.medium running after replayed w c.self.view_is
-          c.args.disk.now c.save_in_two-saved.new.disk c.is_process.ensures
+          c.args.disk.now c.save_in_two-saved.new.disk (durable.shows before)
           c.process_images_fit_areas.ensures c.in_default.ensures.may saved.durable saved.done;
       done = upgraded_so running after replayed w c.self.view_is saved.done refl saved.numbered
           (runs.works before ∙ sym before);
@@ -224,12 +231,14 @@ returns-clause-upgrades g c =
 
 pub returns-clause-migrates : goal.returns-clause-migrates
 returns-clause-migrates g c =
+    let durable = c.self.invariant in
     migrates_so g.D.Disk.medium c.self.inside.running
     (record c.self.inside.running {
       store = c.save_in_two-saved.new.store;
       process = c.save_in_two-saved.new.process;
     }) c.self.inside.replayed c.args.self.now c.self.view_is
-    c.args.disk.now c.save_in_two-saved.new.disk c.is_process.ensures
+    c.args.disk.now c.save_in_two-saved.new.disk
+    (durable.shows (sym c.has_failed.ensures ∙ c.if-has_failed.false))
     c.process_images_fit_areas.ensures c.in_default.ensures.may c.in_default-saved.ensures.bars
 
 pub returns-clause-in_the_way : goal.returns-clause-in_the_way

@@ -4,7 +4,7 @@ use Rattle.ephemeral_worker.proofs.Ending.{turning_counts, spent, over}
 use Rattle.worker.proofs.DurableLemmas.Slicing.{in_slice_none, spent_on, over_on, vain_on}
 use Rattle.worker.proofs.DurableLemmas.Slicing.{flushed_on, flushed_less, unflushed_on}
 use Rattle.worker.proofs.DurableLemmas.Slicing.{given_on}
-use Rattle.worker.proofs.DurableLemmas.Slicing.{given_lower, waits_done, waits_on}
+use Rattle.worker.proofs.DurableLemmas.Slicing.{given_lower, waits_done, waits_shown, waits_on}
 use Rattle.worker.proofs.DurableLemmas.Slicing.{unasked_on}
 use Rattle.worker.proofs.DurableLemmas.Slicing.{vain_stops, turn_runs}
 use Rattle.worker.proofs.DurableLemmas.Slicing.{vain_so_far, unflushed_so_far}
@@ -128,6 +128,15 @@ returns-then-not-branch-clause-done g c =
 
 pub returns-then-not-branch-clause-abreast : goal.returns-then-not-branch-clause-abreast
 returns-then-not-branch-clause-abreast g c = λ other. c.in_ok-ask-in-Asks.ensures.abreast
+
+pub returns-then-not-branch-clause-shows : goal.returns-then-not-branch-clause-shows
+returns-then-not-branch-clause-shows g c =
+    waits_shown _ _ _ _ _ c.advance.new.self _ _ _ _ _ _ _ _ _ c.loop-self.invariant
+    (ap (λ z. c.args.fuel - (z - c.steps-first.result)) c.steps.ensures.value)
+    c.in_ok-advance.ensures.released c.in_ok-advance.ensures.guest c.in-Asks.question
+    (rw c.in-Asks.is at c.in_ok-advance.ensures.advances) c.ask.new.self c.ask.new.disk
+    c.ask.new.source (rw c.if-not-branch.true at c.in_ok-ask-in-Asks.ensures.once)
+    c.in_ok-advance.ensures.shows
 
 pub returns-then-not-branch-clause-works : goal.returns-then-not-branch-clause-works
 returns-then-not-branch-clause-works g c =
