@@ -83,6 +83,9 @@
 //!   (`run_by_register_code`). What it keeps of the running frame is where that enters its register
 //!   code, with its routine and its first slot. So no frame is looked up that was just entered. A
 //!   call that can't remain, as one of the host or one without room, is a cycle as any other.
+//! - **That loop alone runs register code**, so that the loop over instructions is inlined into it.
+//!   A frame that runs by opcodes halts where it may enter its register code, and enters it in the
+//!   next cycle. To halt there takes a counted step, so that cycles come to an end.
 //! - Only a call asks the host for something, and what it asks for is no question of the bytes in
 //!   memory. So the host may write them while a call waits. A law says that the machine then shows
 //!   what is written, and waits at the same call.

@@ -1,4 +1,5 @@
-use Rattle.machine.proofs.CycleLemmas.Halted.{less_fuel_left, halts_now}
+use Rattle.std.proofs.Common.{arith}
+use Rattle.machine.proofs.CycleLemmas.Halted.{halts_now}
 use Rattle.machine.proofs.CycleLemmas.Whole.{less_work}
 use Rattle.machine.proofs.execution.machine_loop.opcode_cycle.Goals as goal
 
@@ -14,8 +15,8 @@ returns-clause-cycles c = λ functions program d stands.
 
 pub returns-clause-less : goal.returns-clause-less
 returns-clause-less c =
+    let r = c.requires.stands in
     less_work c.args.state.now c.advance-stop.new.state c.halted_cycle.new.state c.args.fuel
-    c.advance-stop.result.fuel_left c.halted_cycle.result c.advance-stop.ensures.kept
-    (less_fuel_left c.args.code.now c.args.state.now c.advance-stop.new.state c.args.fuel
-    c.advance-stop.result c.requires.stands c.advance-stop.ensures.advances)
-    c.halted_cycle.ensures.less
+    c.args.fuel c.halted_cycle.result c.advance-stop.ensures.kept (omega arith)
+    (c.halted_cycle.ensures.less r.functions r.program r.configuration c.args.fuel
+    (c.advance-stop.ensures.advances r.functions r.program r.configuration r.stands))
