@@ -42,10 +42,10 @@ def i64(value):
     return b"\x42" + signed(value)
 
 
-# Code that does nothing, and has more operands at once than a function with forms may have.
+# Code that does nothing, and has more operands at once than a function with register code may have.
 MANY_OPERANDS = 100
-NO_FORMS = i32(0) + IF + bytes([EMPTY])
-NO_FORMS += i32(0) * MANY_OPERANDS + DROP * MANY_OPERANDS + END
+UNTRANSLATED = i32(0) + IF + bytes([EMPTY])
+UNTRANSLATED += i32(0) * MANY_OPERANDS + DROP * MANY_OPERANDS + END
 
 
 def vector(items):
