@@ -1,7 +1,7 @@
 //! The memory itself, seen as a list of bytes with a limit.
 
-ghost use Rattle.std.specs.Prelude.{◌≡◌, ◌+◌, ◌*◌, ◌≤◌, ◌<◌, ◌^◌, ◌↔◌, ◌==◌, length, IfOk, IsTrue};
-ghost use Rattle.std.specs.Prelude.{IsOk, IsSome, IfSome, OnSome, IfNone, replicate};
+ghost use Rattle.std.specs.Prelude.{◌≡◌, ◌+◌, ◌-◌, ◌*◌, ◌≤◌, ◌<◌, ◌^◌, ◌↔◌, ◌==◌, length, IfOk};
+ghost use Rattle.std.specs.Prelude.{IsTrue, IsOk, IsSome, IfSome, OnSome, IfNone, replicate};
 ghost use Rattle.guest_memory.specs.rules.Bytes.{number_of, bytes_of, page_size, part};
 ghost use Rattle.guest_memory.specs.rules.Memories.{IsWithinLimit, grown_by, pages_in, with_bytes};
 ghost use Rattle.guest_memory.specs.rules.Memories.{zeroed};
@@ -28,6 +28,13 @@ fn fill_in_parts(bytes: &mut [u8], byte: u8)
     }
 }
 
+/// How many of so many bytes have seven more after them.
+fn reach_of(len: usize) -> usize
+    ensures { result ≡ len - 7 }
+{
+    len.saturating_sub(7)
+}
+
 /// Why a memory can't be made.
 #[derive(Clone, Copy, Debug, PartialEq, Eq, Error)]
 pub enum MemoryFault {
@@ -42,10 +49,13 @@ pub enum MemoryFault {
 pub struct Memory {
     bytes: Vec<u8>,
     limit: u32,
+    /// From each place below this one on there are 8 bytes. So a number that begins there is within
+    /// memory, whatever its width.
+    reach: usize,
 }
 
 impl Model for Memory {
-    ghost use Rattle.std.specs.Prelude.{◌*◌, ◌≤◌, vec_capacity};
+    ghost use Rattle.std.specs.Prelude.{◌≡◌, ◌-◌, ◌*◌, ◌≤◌, length, vec_capacity};
     ghost use Rattle.guest_memory.specs.rules.Bytes.{page_size};
     ghost use Rattle.guest_memory.specs.rules.Memories.{LinearMemory, IsWithinLimit};
 
@@ -54,7 +64,8 @@ impl Model for Memory {
     ghost view = { λ m. record { bytes = m.bytes.items; limit = m.limit } };
 
     ghost invariant = { λ m. IsWithinLimit (record { bytes = m.bytes.items; limit = m.limit })
-        × (m.limit * page_size ≤ vec_capacity m.bytes) };
+        × (m.limit * page_size ≤ vec_capacity m.bytes)
+        × (m.reach ≡ length m.bytes.items - 7) };
 }
 
 impl Memory {
@@ -76,7 +87,12 @@ impl Memory {
         bytes
             .resize(pages as usize * PAGE_SIZE as usize, 0)
             .unwrap();
-        Ok(Memory { bytes, limit })
+        let reach = reach_of(bytes.len());
+        Ok(Memory {
+            bytes,
+            limit,
+            reach,
+        })
     }
 
     /// How many bytes there are.
@@ -137,6 +153,34 @@ impl Memory {
         ensures bytes { IfSome result (λ s. s.now ≡ part self.now.bytes from len) }
     {
         self.bytes.get(from..from + len)
+    }
+
+    /// Whether a number of so many bytes is within memory. Nearly all begin below `reach`, and take
+    /// one comparison.
+    #[inline(always)]
+    fn has_number(&self, from: usize, len: usize) -> bool
+        requires fits { from + len < 2 ^ 64 }
+        requires width { len ≤ 8 }
+        ensures { IsTrue result ↔ (from + len ≤ length self.now.bytes) }
+    {
+        if from < self.reach {
+            return true;
+        }
+        from + len <= self.bytes.len()
+    }
+
+    /// The bytes of a number, or nothing where they reach beyond the end.
+    #[inline(always)]
+    fn number_range(&self, from: usize, len: usize) -> Option<&[u8]>
+        requires fits { from + len < 2 ^ 64 }
+        requires width { len ≤ 8 }
+        ensures there { IsSome result ↔ (from + len ≤ length self.now.bytes) }
+        ensures bytes { IfSome result (λ s. s.now ≡ part self.now.bytes from len) }
+    {
+        if !self.has_number(from, len) {
+            return None;
+        }
+        Some(&self.bytes[from..from + len])
     }
 
     /// A range of bytes to be written, which `has` says is within memory. No other byte changes.
@@ -212,7 +256,7 @@ impl Memory {
         ensures number { IfSome result (λ n. n
             ≡ number_of (part self.now.bytes (address + offset) 1)) }
     {
-        let bytes = self.range(address as usize + offset as usize, 1)?;
+        let bytes = self.number_range(address as usize + offset as usize, 1)?;
         Some(bytes[0])
     }
 
@@ -222,7 +266,7 @@ impl Memory {
         ensures number { IfSome result (λ n. n
             ≡ number_of (part self.now.bytes (address + offset) 2)) }
     {
-        let bytes = self.range(address as usize + offset as usize, 2)?;
+        let bytes = self.number_range(address as usize + offset as usize, 2)?;
         Some(LittleEndian::read_u16(bytes))
     }
 
@@ -232,7 +276,7 @@ impl Memory {
         ensures number { IfSome result (λ n. n
             ≡ number_of (part self.now.bytes (address + offset) 4)) }
     {
-        let bytes = self.range(address as usize + offset as usize, 4)?;
+        let bytes = self.number_range(address as usize + offset as usize, 4)?;
         Some(LittleEndian::read_u32(bytes))
     }
 
@@ -242,7 +286,7 @@ impl Memory {
         ensures number { IfSome result (λ n. n
             ≡ number_of (part self.now.bytes (address + offset) 8)) }
     {
-        let bytes = self.range(address as usize + offset as usize, 8)?;
+        let bytes = self.number_range(address as usize + offset as usize, 8)?;
         Some(LittleEndian::read_u64(bytes))
     }
 
@@ -254,7 +298,7 @@ impl Memory {
         ensures refused { IfNone result (self.new ≡ self.old) }
     {
         let from = address as usize + offset as usize;
-        if from + 1 > self.len() {
+        if !self.has_number(from, 1) {
             return None;
         }
         self.range_mut(from, 1)[0] = value;
@@ -270,7 +314,7 @@ impl Memory {
         ensures refused { IfNone result (self.new ≡ self.old) }
     {
         let from = address as usize + offset as usize;
-        if from + 2 > self.len() {
+        if !self.has_number(from, 2) {
             return None;
         }
         LittleEndian::write_u16(self.range_mut(from, 2), value);
@@ -286,7 +330,7 @@ impl Memory {
         ensures refused { IfNone result (self.new ≡ self.old) }
     {
         let from = address as usize + offset as usize;
-        if from + 4 > self.len() {
+        if !self.has_number(from, 4) {
             return None;
         }
         LittleEndian::write_u32(self.range_mut(from, 4), value);
@@ -302,7 +346,7 @@ impl Memory {
         ensures refused { IfNone result (self.new ≡ self.old) }
     {
         let from = address as usize + offset as usize;
-        if from + 8 > self.len() {
+        if !self.has_number(from, 8) {
             return None;
         }
         LittleEndian::write_u64(self.range_mut(from, 8), value);
@@ -323,6 +367,7 @@ impl Memory {
         }
         let len = self.len() + by as usize * PAGE_SIZE as usize;
         self.bytes.resize(len, 0).unwrap();
+        self.reach = reach_of(len);
         Some(pages)
     }
 }
