@@ -22,6 +22,8 @@ pub mod TracePlaces
 pub mod WalkLemmas
 pub mod CheckLemmas
 pub mod Translated
+pub mod Joining
+pub mod JoinedLists
 pub mod Taking
 pub mod MovedWords
 pub mod StepLemmas
