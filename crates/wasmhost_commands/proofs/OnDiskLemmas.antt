@@ -29,7 +29,7 @@ use Rattle.wasmhost_commands.specs.declared.on_disk.fault.OnDiskFault.{OnDiskFau
 use Rattle.wasmhost_commands.specs.declared.on_disk.fault.OnDiskFault.TheVariants as is_told
 use Rattle.wasmhost_commands.specs.Lines.Answers.{SourceState, source_state}
 use Rattle.wasmhost_commands.specs.Livings.{scene, undone_after, AreCalled, LivesAtPace, HasGoneOn}
-use Rattle.wasmhost_commands.specs.Livings.{BreaksOffAt}
+use Rattle.wasmhost_commands.specs.Livings.{BreaksOffAt, SaysGone}
 use Rattle.wasmhost_commands.specs.rules.BrokenLives.{BreaksOffFrom, steps_among}
 use Rattle.wasmhost_commands.specs.rules.DiskStatuses.{IsReportedOnDisk, opening_fault}
 use Rattle.wasmhost_commands.specs.rules.DiskStatuses.{status_on_disk}
@@ -217,7 +217,7 @@ module _ {D O : Type 0} (medium : D → Medium) (takes : Taking O) where
         before.outlet p)
         (heeds : HeedsOutlet takes ⊥ before.outlet p)
         (tells : TellsPerson (recovered_line w) before.err between) where
-      pub serves_over : (why : Now)
+      serves_over : (why : Now)
           → HasGoneOn medium takes before.given w opening after.disk p after.outlet after.failed
           (Ok why)
           → SaysText (last_words (ended_by why)) 0 between status after.err → Serves
@@ -227,7 +227,7 @@ module _ {D O : Type 0} (medium : D → Medium) (takes : Taking O) where
           (lives_on before after w (Ok why) opening p gone.0 carries heeds gone.3)
           (λ image leaves bytes config. gone.3.says) gone.2 tells says
 
-      pub serves_broken : (told : OnDiskFault)
+      serves_broken : (told : OnDiskFault)
           → HasGoneOn medium takes before.given w opening after.disk p after.outlet after.failed
           (Err told)
           → IsSaid (status_on_disk told) between status after.err → Serves
@@ -236,6 +236,13 @@ module _ {D O : Type 0} (medium : D → Medium) (takes : Taking O) where
           broken gone.1 told gone.0 between
           (lives_on before after w (Err gone.1) opening p gone.0 carries heeds gone.4)
           gone.4.broken gone.3 gone.2 tells says
+
+      pub serves_gone : (result : Result Now OnDiskFault)
+          → HasGoneOn medium takes before.given w opening after.disk p after.outlet after.failed
+          result
+          → SaysGone result between status after.err → Serves
+      serves_gone (Ok why) gone says = serves_over why gone says
+      serves_gone (Err told) gone says = serves_broken told gone says
 
 -- ---- statuses
 

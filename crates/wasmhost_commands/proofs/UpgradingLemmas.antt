@@ -29,8 +29,9 @@ use Rattle.worker.specs.rules.OneLife.{recovered, opened}
 use Rattle.worker.specs.rules.Outcomes.{outcome_after}
 use Rattle.worker.proofs.OutletLemmas.{takes_both, heeds_on, each_taken}
 use Rattle.wasmhost_commands.specs.Livings.{Scene, scene, AreCalled}
-use Rattle.wasmhost_commands.specs.ComingUp.{ComesUp, EndsRun, IsUpgradedFrom}
+use Rattle.wasmhost_commands.specs.ComingUp.{ComesUp, EndsRun, IsUpgradedFrom, UpgradesOpen}
 use Rattle.wasmhost_commands.specs.declared.on_disk.fault.OnDiskFault.{OnDiskFault}
+use Rattle.wasmhost_commands.specs.declared.on_disk.upgrading.Upgraded.{Upgraded}
 use Rattle.wasmhost_commands.specs.declared.on_disk.upgrading.Upgraded.TheVariants as upgraded
 use Rattle.wasmhost_commands.specs.rules.BrokenLives.{BreaksInSlice, BreaksInSliceFrom, steps_among}
 use Rattle.wasmhost_commands.specs.rules.DiskStatuses.{opening_fault, call_fault}
@@ -300,7 +301,7 @@ module _ {D O : Type 0} (medium : D → Medium) (takes : Taking O) where
       )
 
   -- one that was of version 2
-  pub was_of_two : (w : DurableValue) (found last : D) (o p : O) (err err' : PrinterState)
+  was_of_two : (w : DurableValue) (found last : D) (o p : O) (err err' : PrinterState)
       → RecoveryCarries takes (Ok w) (medium found) (medium last) o p → HeedsOutlet takes ⊥ o p
       → w.process.host.host.version ≡ Two → TellsPerson (recovered_line w) err err'
       → UpgradesOnDisk medium takes (Ok upgraded.Before) found last o p err err'
@@ -319,7 +320,7 @@ module _ {D O : Type 0} (medium : D → Medium) (takes : Taking O) where
       (carries : RecoveryCarries takes (Ok w) (medium found) (medium opening) o p)
       (heeds : HeedsOutlet takes ⊥ o p) (narrow : w.process.host.host.version ≡ One)
       (tells : TellsPerson (recovered_line w) err between) where
-    pub is_upgraded : IsUpgradedFrom medium from_list takes (scene w opening [] p) (Ok tt) last q
+    is_upgraded : IsUpgradedFrom medium from_list takes (scene w opening [] p) (Ok tt) last q
         → UpgradesOnDisk medium takes (Ok upgraded.Now) found last o q err between
     unfolding lives_to_upgrade
     is_upgraded done = (
@@ -328,12 +329,12 @@ module _ {D O : Type 0} (medium : D → Medium) (takes : Taking O) where
       tells,
     )
 
-    pub not_upgraded : (why : WorkFault) (told : OnDiskFault) (err' : PrinterState) (status : ℕ)
+    not_upgraded : (why : WorkFault) (err' : PrinterState) (status : ℕ)
         → IsUpgradedFrom medium from_list takes (scene w opening [] p) (Err why) last q
-        → told ≡ call_fault why → IsSaid (status_on_disk told) between status err'
+        → IsSaid (status_on_disk (call_fault why)) between status err'
         → UpgradesOnDisk medium takes (Err status) found last o q err err'
     unfolding lives_to_upgrade
-    not_upgraded why told err' status done is says = inr (
+    not_upgraded why err' status done says = inr (
       why,
       between,
       lives_to_upgrade w (Err why) found opening last o p q carries heeds narrow done,
@@ -341,9 +342,24 @@ module _ {D O : Type 0} (medium : D → Medium) (takes : Taking O) where
           (λ (other : IsOfUpgrade why × (outcome_after now.Spent done.done ≢ now.Spent)).
           inr (other.0, λ image leaves bytes config. other.1)) done.ends,
       tells,
-      subst (λ t. IsSaid (status_on_disk t) between status err') is says,
+      says,
       done.caught_up,
     )
+
+  -- one that is open
+  pub open_upgraded : (w : DurableValue) (found opening last : D) (o p q : O)
+      (err err' : PrinterState)
+      → RecoveryCarries takes (Ok w) (medium found) (medium opening) o p → HeedsOutlet takes ⊥ o p
+      → (result : Result Upgraded ℕ)
+      → UpgradesOpen medium takes w result opening last p q err err'
+      → UpgradesOnDisk medium takes result found last o q err err'
+  open_upgraded w found opening last o p q err err' carries heeds (Ok upgraded.Now) does =
+      is_upgraded w found opening last o p q err err' carries heeds does.0 does.1 does.2
+  open_upgraded w found opening last o p q err err' carries heeds (Ok upgraded.Before) does =
+      rw (does.2, does.3) (was_of_two w found opening o p err err' carries heeds does.0 does.1)
+  open_upgraded w found opening last o p q err err' carries heeds (Err status) does =
+      not_upgraded w found opening last o p q err does.1 carries heeds does.2 does.3 does.0 err'
+      status does.4 does.5
 
 -- the version of a worker, as its process and its host say it
 pub version_is : (w : DurableValue) (p : ProcessValue) (h : HeldWasiState) (found version : Version)

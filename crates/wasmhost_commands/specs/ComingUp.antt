@@ -1,20 +1,27 @@
 -- The parts of a life that ends by an upgrade.
 use Rattle.std.specs.Prelude.{◌≡◌, ◌≢◌, ◌⊎◌, ℕ, List, ◌++◌, replicate, Result, Ok, Err, IfErr}
-use Rattle.std.specs.Prelude.{false, true}
+use Rattle.std.specs.Prelude.{false, true, []}
+use Rattle.wasi_abi.specs.declared.version.Version.TheVariants.{One, Two}
 use Rattle.sector_disk.specs.rules.Medium.{Medium}
 use Rattle.record_replay.specs.rules.Calls.{Giving, Taking}
 use Rattle.ephemeral_worker.specs.declared.now.Now.{Now}
 use Rattle.ephemeral_worker.specs.declared.now.Now.TheVariants as now
 use Rattle.worker.specs.declared.fault.WorkFault.{WorkFault}
 use Rattle.worker.specs.declared.recover_fault.RecoverFault.TheVariants as recover
+use Rattle.worker.specs.rules.DurableValues.{DurableValue}
 use Rattle.worker.specs.rules.LifeWords.{Act, Slice}
 use Rattle.worker.specs.rules.Outlets.{TakesEach, HeedsOutlet, IsOutletFault, SaysOutletFault}
 use Rattle.worker.specs.rules.Outcomes.{outcome_after}
-use Rattle.wasmhost_commands.specs.Livings.{Scene, AreCalled, ActsLead}
+use Rattle.wasmhost_commands.specs.Livings.{Scene, scene, AreCalled, ActsLead}
+use Rattle.wasmhost_commands.specs.declared.on_disk.upgrading.Upgraded.{Upgraded}
+use Rattle.wasmhost_commands.specs.declared.on_disk.upgrading.Upgraded.TheVariants as upgraded
 use Rattle.wasmhost_commands.specs.rules.BrokenLives.{BreaksInSliceFrom, steps_among}
+use Rattle.wasmhost_commands.specs.rules.DiskStatuses.{call_fault, status_on_disk}
 use Rattle.wasmhost_commands.specs.rules.Hearings.{AsksUnless, IsOfSource}
+use Rattle.wasmhost_commands.specs.rules.Printers.{PrinterState, IsSaid, TellsPerson}
+use Rattle.wasmhost_commands.specs.rules.ServedOnDisk.{recovered_line}
 use Rattle.wasmhost_commands.specs.rules.Upgradings.{IsOfUpgrade, undone_then, upgrade_slices}
-use Rattle.wasmhost_commands.specs.rules.Upgradings.{upgrade_acts, IsOfCaughtUp}
+use Rattle.wasmhost_commands.specs.rules.Upgradings.{upgrade_acts, from_list, IsOfCaughtUp}
 
 module _ {D S O : Type 0} (medium : D → Medium) (gives : Giving S) (takes : Taking O) where
   -- Slices of this fuel lead from there to there, and the last one has answered this. No question
@@ -69,3 +76,20 @@ module _ {D S O : Type 0} (medium : D → Medium) (gives : Giving S) (takes : Ta
         source outlet
     pub ends : EndsRun from result count source outlet (outcome_after now.Spent done)
     pub caught_up : IfErr result IsOfCaughtUp
+
+-- A person is told that this worker is recovered, where one reads along. It is open on the disk,
+-- and of version 1: it is upgraded, or a call of that has failed, and the status says why. Or it is
+-- of version 2, and nothing is done.
+abbrev pub UpgradesOpen : {D O : Type 0} → (D → Medium) → Taking O → DurableValue
+    → Result Upgraded ℕ → D → D → O → O → PrinterState → PrinterState → Type 0
+UpgradesOpen medium takes w (Ok upgraded.Now) disk disk' outlet outlet' err err' =
+    (w.process.host.host.version ≡ One) × TellsPerson (recovered_line w) err err'
+    × IsUpgradedFrom medium from_list takes (scene w disk [] outlet) (Ok tt) disk' outlet'
+UpgradesOpen medium takes w (Ok upgraded.Before) disk disk' outlet outlet' err err' =
+    (w.process.host.host.version ≡ Two) × TellsPerson (recovered_line w) err err'
+    × (disk' ≡ disk) × (outlet' ≡ outlet)
+UpgradesOpen medium takes w (Err status) disk disk' outlet outlet' err err' =
+    (why : WorkFault) × (between : PrinterState) × (w.process.host.host.version ≡ One)
+    × TellsPerson (recovered_line w) err between
+    × IsUpgradedFrom medium from_list takes (scene w disk [] outlet) (Err why) disk' outlet'
+    × IsSaid (status_on_disk (call_fault why)) between status err'

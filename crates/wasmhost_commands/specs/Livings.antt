@@ -19,12 +19,15 @@ use Rattle.worker.specs.rules.Outlets.{SaysOutletFault}
 use Rattle.worker.specs.rules.OneLife.{CallsInOrder}
 use Rattle.wasmhost_commands.specs.declared.on_disk.fault.OnDiskFault.{OnDiskFault}
 use Rattle.wasmhost_commands.specs.Lines.Answers.{SourceState}
-use Rattle.wasmhost_commands.specs.rules.DiskStatuses.{IsReportedOnDisk}
+use Rattle.wasmhost_commands.specs.rules.DiskStatuses.{IsReportedOnDisk, status_on_disk}
 use Rattle.worker.specs.rules.Outcomes.{outcome_after}
 use Rattle.wasmhost_commands.specs.rules.BrokenLives.{BreaksOffFrom, SlicesLead, steps_among}
 use Rattle.wasmhost_commands.specs.rules.Hearings.{AsksUnless, IsOfSource}
+use Rattle.wasmhost_commands.specs.rules.LastWords.{ended_by, last_words}
 use Rattle.wasmhost_commands.specs.rules.Paces.{round_of, IsPaced}
+use Rattle.wasmhost_commands.specs.rules.Printers.{PrinterState, IsSaid, SaysText, TellsPerson}
 use Rattle.wasmhost_commands.specs.rules.ServedOnDisk.{DiskJob, source_behind, handing}
+use Rattle.wasmhost_commands.specs.rules.ServedOnDisk.{RunStart, RunEnd, recovered_line}
 
 -- a worker between two calls, with its disk, its source and its outlet
 pub record Scene (D S O : Type 0) : Type 0 where
@@ -147,3 +150,18 @@ HasGoneOn medium takes given w disk disk' outlet outlet' failed' (Err told) =
     (source' : SourceState) × (why : WorkFault) × IsReportedOnDisk why source'.fault told
     × (source'.failed ≡ failed') × LivesAtPace medium handing takes given.fuel given.every
     (scene w disk (source_behind given w) outlet) (Err why) disk' source' outlet'
+
+-- what is said of a worker that has gone on so: its last words, or its error
+abbrev pub SaysGone : Result Now OnDiskFault → PrinterState → ℕ → PrinterState → Type 0
+SaysGone (Ok why) old status new = SaysText (last_words (ended_by why)) 0 old status new
+SaysGone (Err told) old status new = IsSaid (status_on_disk told) old status new
+
+-- A person is told that this worker is recovered, where one reads along. It is open on the disk,
+-- and goes on. Then that is said of it.
+abbrev pub RunsOpen : {D O : Type 0} → (D → Medium) → Taking O → DurableValue → RunStart D O
+    → RunEnd D O → ℕ → Type 0
+RunsOpen medium takes w before after status =
+    (between : PrinterState) × (gone : Result Now OnDiskFault)
+    × TellsPerson (recovered_line w) before.err between
+    × HasGoneOn medium takes before.given w before.disk after.disk before.outlet after.outlet
+    after.failed gone × SaysGone gone between status after.err

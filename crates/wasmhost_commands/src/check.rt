@@ -25,7 +25,10 @@ fn verdict_on(alloc: Global, wasm: &[u8]) -> Result<(), ModuleFault>
     ensures { IsRight PAGES wasm.now result }
 {
     match accept(alloc, wasm, PAGES) {
-        Ok(_machine) => Ok(()),
+        Ok(machine) => {
+            drop(machine);
+            Ok(())
+        }
         Err(fault) => Err(fault),
     }
 }

@@ -73,7 +73,10 @@ fn judge(alloc: Global, wasm: &[u8], pages: u32) -> Result<(), Unprepared>
     ensures refused { IfErr result (IsUnaccepted pages wasm.now) }
 {
     match accept(alloc, wasm, pages) {
-        Ok(_machine) => Ok(()),
+        Ok(machine) => {
+            drop(machine);
+            Ok(())
+        }
         Err(fault) if fault.is_want_of_memory() => Err(Unprepared::Memory),
         Err(fault) => Err(Unprepared::Module(fault)),
     }

@@ -143,7 +143,11 @@ pub fn list_files<D: Disk, W: Write + Drop, E: Write + Drop>(
     ensures known { result ≤ 7 }
 {
     match inspect(alloc, disk) {
-        Ok(told) => say_files(alloc, told.process.host().tree(), path, out, err),
+        Ok(told) => {
+            let status = say_files(alloc, told.process.host().tree(), path, out, err);
+            drop(told);
+            status
+        }
         Err(fault) => say_disk_fault(err, OnDiskFault::from(fault)),
     }
 }

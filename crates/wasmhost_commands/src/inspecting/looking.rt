@@ -46,7 +46,11 @@ pub fn inspect_disk<D: Disk, W: Write + Drop, E: Write + Drop>(
     ensures known { result ≤ 7 }
 {
     match inspect(alloc, disk) {
-        Ok(told) => say_inspection(alloc, &told, as_json, out, err),
+        Ok(told) => {
+            let status = say_inspection(alloc, &told, as_json, out, err);
+            drop(told);
+            status
+        }
         Err(fault) => say_disk_fault(err, OnDiskFault::from(fault)),
     }
 }

@@ -50,7 +50,10 @@ pub fn create_on<D: Disk, W: Write + Drop, E: Write + Drop>(
     ensures known { result ≤ 7 }
 {
     match Worker::create(alloc, disk, wasm, config) {
-        Ok(_worker) => say_created(out, sectors_of(config, wasm)),
+        Ok(worker) => {
+            drop(worker);
+            say_created(out, sectors_of(config, wasm))
+        }
         Err(fault) => say_disk_fault(err, OnDiskFault::from(fault)),
     }
 }

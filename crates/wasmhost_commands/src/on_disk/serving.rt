@@ -10,7 +10,7 @@ ghost use Rattle.wasmhost_commands.specs.rules.Refusals.{HeedsRefusal};
 ghost use Rattle.wasmhost_commands.specs.rules.ServedOnDisk.{ServesOnDisk, disk_job, run_start};
 ghost use Rattle.wasmhost_commands.specs.rules.ServedOnDisk.{run_end, recovered_line};
 ghost use Rattle.wasmhost_commands.specs.rules.Watchings.{WatchesEnd};
-ghost use Rattle.wasmhost_commands.specs.Livings.{HasGoneOn};
+ghost use Rattle.wasmhost_commands.specs.Livings.{HasGoneOn, RunsOpen};
 
 use crate::lines::{LineFault, LineReader, RealTime, RequestSource};
 use crate::on_disk::ending::say;
@@ -90,6 +90,43 @@ pub(super) fn tell_recovered<E: Write + Drop>(err: &mut Printer<E>, worker: &Wor
     }
 }
 
+/// An open worker goes on until it is over, and its last words are said, or why it doesn't go on.
+/// A person is told first that it is recovered, and the watcher where it is. Answers the exit
+/// status.
+fn serve_open<D, R, C, O, E, T>(
+    worker: &mut Worker,
+    disk: &mut D,
+    drive: Drive<'_, T>,
+    source: &mut RequestSource<R, C>,
+    outlet: &mut O,
+    err: &mut Printer<E>,
+) -> u8
+where
+    D: Disk,
+    R: LineReader + Drop,
+    C: RealTime + Drop,
+    O: Outlet,
+    E: Write + Drop,
+    T: Watcher,
+    requires { total_sectors worker.old.store.geometry ≤ (D.medium disk.old).sectors }
+    ensures serves { RunsOpen D.medium O.takes worker.old
+        (run_start (disk_job (non_zero_u64_get drive.entry.pace.fuel)
+        (non_zero_u64_get drive.entry.pace.every)
+        (R.unread source.old.requests.reader) source.old.outside
+        (R.has_failed source.old.requests.reader)) disk.old outlet.old err.old)
+        (run_end disk.new outlet.new err.new (R.has_failed source.new.requests.reader)) result }
+    ensures watched { WatchesEnd (T.is_notified drive.entry.watcher.now) err.new result }
+    ensures known { result ≤ 7 }
+{
+    let Drive { pace, watcher } = drive;
+    tell_recovered(err, worker);
+    watcher.tell(worker, Now::Spent);
+    match go_on(worker, disk, pace, source, outlet, watcher) {
+        Ok(now) => say(err, now),
+        Err(fault) => say_disk_fault(err, fault),
+    }
+}
+
 /// The worker on a disk goes on: it is recovered, and then runs slices at this pace until it is
 /// over, with a checkpoint after the last one. Its lines go to the outlet, last words to `err`.
 /// Where that is a terminal, a line before the first slice says how it was recovered. The watcher
@@ -129,15 +166,12 @@ where
     ensures watched { WatchesEnd (T.is_notified drive.entry.watcher.now) err.new result }
     ensures known { result ≤ 7 }
 {
-    let mut worker = match Worker::recover(alloc, disk, outlet) {
-        Ok(worker) => worker,
-        Err(fault) => return say_disk_fault(err, OnDiskFault::from(fault)),
-    };
-    let Drive { pace, watcher } = drive;
-    tell_recovered(err, &worker);
-    watcher.tell(&worker, Now::Spent);
-    match go_on(&mut worker, disk, pace, source, outlet, watcher) {
-        Ok(now) => say(err, now),
-        Err(fault) => say_disk_fault(err, fault),
+    match Worker::recover(alloc, disk, outlet) {
+        Ok(mut worker) => {
+            let status = serve_open(&mut worker, disk, drive, source, outlet, err);
+            drop(worker);
+            status
+        }
+        Err(fault) => say_disk_fault(err, OnDiskFault::from(fault)),
     }
 }

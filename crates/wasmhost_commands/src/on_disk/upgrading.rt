@@ -4,7 +4,7 @@ ghost use Rattle.std.specs.Prelude.{◌≡◌, ◌≢◌, ◌≤◌, [], IfErr, 
 ghost use Rattle.disk_layout.specs.rules.Places.{total_sectors};
 ghost use Rattle.ephemeral_worker.specs.declared.now.Now.TheVariants.{Spent};
 ghost use Rattle.wasmhost_commands.specs.Livings.{scene};
-ghost use Rattle.wasmhost_commands.specs.ComingUp.{ComesUp, IsUpgradedFrom};
+ghost use Rattle.wasmhost_commands.specs.ComingUp.{ComesUp, IsUpgradedFrom, UpgradesOpen};
 ghost use Rattle.wasmhost_commands.specs.rules.Printers.{IsPrinted, SaysText};
 ghost use Rattle.wasmhost_commands.specs.rules.Refusals.{HeedsRefusal};
 ghost use Rattle.wasmhost_commands.specs.rules.Upgradings.{UpgradesOnDisk, from_list};
@@ -79,6 +79,30 @@ fn upgrade_open<D: Disk, O: Outlet>(
     }
 }
 
+/// An open worker comes to version 2, where it isn't there. A person is told first that it is
+/// recovered. An error is the exit status, and is said.
+fn bring_up<D: Disk, O: Outlet, E: Write + Drop>(
+    alloc: Global,
+    worker: &mut Worker,
+    disk: &mut D,
+    outlet: &mut O,
+    err: &mut Printer<E>,
+) -> Result<Upgraded, u8>
+    requires { total_sectors worker.old.store.geometry ≤ (D.medium disk.old).sectors }
+    ensures upgrades { UpgradesOpen D.medium O.takes worker.old result disk.old disk.new outlet.old
+        outlet.new err.old err.new }
+    ensures known { IfErr result (λ status. status ≤ 7) }
+{
+    tell_recovered(err, worker);
+    match worker.process().host().version() {
+        Version::Two => Ok(Upgraded::Before),
+        Version::One => match upgrade_open(alloc, worker, disk, outlet) {
+            Ok(()) => Ok(Upgraded::Now),
+            Err(fault) => Err(say_disk_fault(err, OnDiskFault::from(fault))),
+        },
+    }
+}
+
 /// The worker on a disk comes to version 2, where it isn't there. It is recovered, runs on without
 /// an answer to its next question or to its end, and is saved in version 2. Its lines go to the
 /// outlet. Where `err` is a terminal, a line says how it was recovered. An error is the exit
@@ -98,17 +122,13 @@ pub fn upgrade_worker<D: Disk, O: Outlet, E: Write + Drop>(
     ensures refusal { HeedsRefusal O.takes outlet.old outlet.new err.new (status_so_far result) }
     ensures known { IfErr result (λ status. status ≤ 7) }
 {
-    let mut worker = match Worker::recover(alloc, disk, outlet) {
-        Ok(worker) => worker,
-        Err(fault) => return Err(say_disk_fault(err, OnDiskFault::from(fault))),
-    };
-    tell_recovered(err, &worker);
-    match worker.process().host().version() {
-        Version::Two => Ok(Upgraded::Before),
-        Version::One => match upgrade_open(alloc, &mut worker, disk, outlet) {
-            Ok(()) => Ok(Upgraded::Now),
-            Err(fault) => Err(say_disk_fault(err, OnDiskFault::from(fault))),
-        },
+    match Worker::recover(alloc, disk, outlet) {
+        Ok(mut worker) => {
+            let upgraded = bring_up(alloc, &mut worker, disk, outlet, err);
+            drop(worker);
+            upgraded
+        }
+        Err(fault) => Err(say_disk_fault(err, OnDiskFault::from(fault))),
     }
 }
 
