@@ -1,12 +1,14 @@
 pub mod Codes
 pub mod Advancing
 pub mod ByRegisterCode
+pub mod Leaving
 pub mod Calling
 pub mod CalledCycles
 pub mod Ending
 pub mod Entered
 pub mod Whole
 pub mod Halted
+pub mod Stopping
 pub mod FunctionSignatures
 pub mod Indirect
 pub mod Asking

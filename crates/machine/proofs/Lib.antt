@@ -13,6 +13,7 @@ pub mod Stopped
 pub mod Telling
 pub mod Placed
 pub mod RoutineLemmas
+pub mod FrameLists
 pub mod CycleLemmas
 pub mod InstanceLemmas
 pub mod HostingLemmas

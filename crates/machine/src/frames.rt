@@ -1,7 +1,7 @@
 //! All frames of a thread.
 
-ghost use Rattle.std.specs.Prelude.{◌≡◌, ◌<◌, ◌≤◌, ◌↔◌, List, [], ◌∷◌, length, reverse, slice_get};
-ghost use Rattle.std.specs.Prelude.{Some, IfOk, IsTrue};
+ghost use Rattle.std.specs.Prelude.{◌≡◌, ◌+◌, ◌<◌, ◌≤◌, ◌↔◌, ◌^◌, List, [], ◌∷◌, length, reverse};
+ghost use Rattle.std.specs.Prelude.{slice_get, Some, IfOk, IsTrue};
 ghost use Rattle.machine_frame.specs.declared.rules.frame.StackFrame.{StackFrame as OneFrame};
 
 use machine_frame::StackFrame;
@@ -78,6 +78,45 @@ impl Frames {
         self.height += 1;
     }
 
+    /// Puts a frame inside all others. The one that was the innermost waits at this position.
+    #[inline(always)]
+    pub fn call(&mut self, position: usize, frame: StackFrame)
+        requires some { 0 < length self.old }
+        requires room { length self.old < FRAMES }
+        ensures { (waiting : OneFrame) (frames : List OneFrame) → self.old ≡ waiting ∷ frames
+            → self.new ≡ frame ∷ record waiting { position = position } ∷ frames }
+    {
+        let height = self.height;
+        let frames = self.frames.as_mut_slice();
+        frames[height - 1].position = position;
+        frames[height] = frame;
+        self.height = height + 1;
+    }
+
+    /// Takes the innermost frame away. The one that waited for it goes on behind its call. Answers
+    /// that one.
+    #[inline(always)]
+    pub fn leave(&mut self) -> StackFrame
+        requires waits { 1 < length self.old }
+        requires behind { (frame waiting : OneFrame) (frames : List OneFrame)
+            → self.old ≡ frame ∷ waiting ∷ frames → waiting.position + 1 < 2 ^ 64 }
+        ensures { (frame waiting : OneFrame) (frames : List OneFrame)
+            → self.old ≡ frame ∷ waiting ∷ frames
+            → (result ≡ record waiting { position = waiting.position + 1 })
+            × (self.new ≡ result ∷ frames) }
+    {
+        let height = self.height - 1;
+        self.height = height;
+        let frames = self.frames.as_mut_slice();
+        let waiting = frames[height - 1];
+        let position = waiting.position + 1;
+        frames[height - 1].position = position;
+        StackFrame {
+            position,
+            ..waiting
+        }
+    }
+
     /// Takes the innermost frame away.
     #[inline(always)]
     pub fn pop(&mut self) -> StackFrame
@@ -115,8 +154,7 @@ impl Frames {
             → self.new ≡ record frame { position = position } ∷ frames }
     {
         let top = self.height - 1;
-        let frame = self.frames[top];
-        self.frames[top] = StackFrame { position, ..frame };
+        self.frames[top].position = position;
     }
 
     /// Leaves no frames.

@@ -7,6 +7,8 @@ pub mod JumpingInstructions
 pub mod MovingInstructions
 pub mod Choosing
 pub mod EndingInstructions
+pub mod Points
+pub mod MarkRests
 pub mod Translations
 pub mod ComputingInstructions
 pub mod ElidedLemmas
@@ -20,7 +22,6 @@ pub mod TableJumps
 pub mod Traces
 pub mod TracePlaces
 pub mod WalkLemmas
-pub mod CheckLemmas
 pub mod Translated
 pub mod Joining
 pub mod JoinedLists

@@ -183,7 +183,7 @@ zero_words : (types : List ValueType)
 zero_words [] = refl
 zero_words (t ∷ types) = rw (zero_word t, zero_words types) refl
 
-reverse-replicate : (n x : ℕ) → reverse (replicate n x) ≡ replicate n x
+pub reverse-replicate : (n x : ℕ) → reverse (replicate n x) ≡ replicate n x
 reverse-replicate zero x = refl
 reverse-replicate (suc n) x =
     reverse-append (x ∷ []) (replicate n x)

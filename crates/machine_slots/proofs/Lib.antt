@@ -6,3 +6,4 @@ pub mod Places
 pub mod ShapePositions
 pub mod TypedFrames
 pub mod WordLemmas
+pub mod ZeroLemmas

@@ -8,7 +8,8 @@
 //!   its trap is answered. An instruction that leads elsewhere changes nothing (`HasEffect`). It
 //!   asks for room for one word more, and for a frame that has its operands (`room`, `ready`).
 //! - `Slots` is a list of words, the top first. `push`, `pop`, `top`, `get`, `set`, `truncate`,
-//!   `fall`, `push_zeros`, `raise` and `from_mut` do to that list what their clauses say.
+//!   `fall`, `push_zeros`, `cover`, `raise_to` and `from_mut` do to that list what their clauses
+//!   say.
 //! - Each kind of instruction has its own call. That does to the words on top what the definitions
 //!   say, or names the trap (`EffectOutcome`). They are `eqz`, `apply_unary`, `apply_binary`,
 //!   `apply_comparison`, `apply_conversion`, `constant`, `drop_top`, `select`, `local_get`,

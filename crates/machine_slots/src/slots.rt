@@ -1,8 +1,8 @@
 //! The words of all frames.
 
-ghost use Rattle.std.specs.Prelude.{◌≡◌, ◌+◌, ◌<◌, ◌≤◌, ◌↔◌, ℕ, List, [], ◌∷◌, ◌++◌, length};
-ghost use Rattle.std.specs.Prelude.{reverse, replicate, slice_get, slice_set, Some, IfOk, IsTrue};
-ghost use Rattle.std.specs.Prelude.{drop};
+ghost use Rattle.std.specs.Prelude.{◌≡◌, ◌+◌, ◌-◌, ◌<◌, ◌≤◌, ◌↔◌, ℕ, List, [], ◌∷◌, ◌++◌};
+ghost use Rattle.std.specs.Prelude.{length, reverse, replicate, slice_get, slice_set, Some};
+ghost use Rattle.std.specs.Prelude.{IfOk, IsTrue, drop};
 ghost use Rattle.std.specs.Borrow.{sem};
 ghost use Rattle.machine_slots.specs.Lends.{LendsWords};
 
@@ -18,6 +18,33 @@ pub const SLOTS: usize = 69_632;
 pub struct Slots {
     words: Vec<u64>,
     height: usize,
+}
+
+/// Zeros in all places. A few are put there one by one, since a fill of any length is a call.
+#[inline(always)]
+fn put_zeros(words: &mut [u64])
+    ensures { words.new ≡ replicate (length words.old) 0 }
+{
+    let count = words.len();
+    if count == 0 {
+        return;
+    }
+    words[0] = 0;
+    if count == 1 {
+        return;
+    }
+    words[1] = 0;
+    if count == 2 {
+        return;
+    }
+    words[2] = 0;
+    if count == 3 {
+        return;
+    }
+    words[3] = 0;
+    for place in 4..count {
+        words[place] = 0;
+    }
 }
 
 impl Model for Slots {
@@ -136,13 +163,15 @@ impl Slots {
         }
     }
 
-    /// Shows so many more words on top, whatever they are.
+    /// Shows more words on top, whatever they are, up to this height.
     #[inline(always)]
-    pub fn raise(&mut self, count: usize)
-        requires { count + length self.old ≤ SLOTS }
-        ensures { (more : List ℕ) × (length more ≡ count) × (self.new ≡ more ++ self.old) }
+    pub fn raise_to(&mut self, height: usize)
+        requires more { length self.old ≤ height }
+        requires room { height ≤ SLOTS }
+        ensures { (more : List ℕ) × (length more + length self.old ≡ height)
+            × (self.new ≡ more ++ self.old) }
     {
-        self.height += count;
+        self.height = height;
     }
 
     /// Lends all words from a place on, which counts from the bottom.
@@ -153,6 +182,20 @@ impl Slots {
         ensures words { result.now ≡ drop place (reverse self.old) }
     {
         self.words.slice_mut(place..self.height)
+    }
+
+    /// Leaves so many words at the bottom, and zeros above them, up to this height.
+    #[inline(always)]
+    pub fn cover(&mut self, under: usize, height: usize)
+        requires few { under ≤ length self.old }
+        requires more { under ≤ height }
+        requires room { height ≤ SLOTS }
+        ensures { (between kept : List ℕ) → under ≡ length kept → self.old ≡ between ++ kept
+            → self.new ≡ replicate (height - under) 0 ++ kept }
+    {
+        self.truncate(under);
+        self.raise_to(height);
+        put_zeros(self.from_mut(under));
     }
 
     /// Puts zeros on top.

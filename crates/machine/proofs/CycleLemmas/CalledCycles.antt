@@ -13,6 +13,7 @@ use Rattle.wasm_semantics.specs.Validity.{module_context}
 use Rattle.wasm_semantics.specs.Configuration.{Callee, Program, Configuration, Traps}
 use Rattle.wasm_semantics.specs.Steps.{counted_step, IsEnded}
 use Rattle.machine_slots.specs.declared.limits.TheConstants.{FRAMES, HELD_VALUES}
+use Rattle.machine_frame.specs.Frame.ByRegisterCode.{HasPosition}
 use Rattle.machine_frame.specs.rules.Walks.{here, counted}
 use Rattle.machine_frame.specs.rules.Threads.{PartsStandFor}
 use Rattle.machine_frame.specs.laws.Threads.{CallLeads}
@@ -171,6 +172,18 @@ module _ (code : Executable) (s : State) (functions : List FunctionType) (progra
 
       pub more_locals : routine.parameters ≤ routine.locals
       more_locals = let a = parameters_are in let b = locals_are in omega (arith, a, b)
+
+      -- where it begins is a position of its code
+      pub begins_there : HasPosition routine.code 0
+      begins_there = let known = own.routine_there in let same : own.routine ≡ routine = (cc) in
+          subst (λ (z : Routine). HasPosition z.code 0) same
+          (record {
+            opcodes = own.function.code.body;
+            table = own.routine.table;
+            locals = own.routine.locals;
+            fits = own.code_fits;
+            inside = omega arith;
+          })
 
       pub entered : (fuel : ℕ) (old new : State) (cycled : Cycle) → 0 < fuel
           → old ≡ record s { slots = words }
