@@ -1,5 +1,5 @@
-# README.md says how long each of the first three takes.
-.PHONY: demo build test install dist
+# README.md says how long each of the first four takes.
+.PHONY: demo program build test install dist
 
 PREFIX ?= /usr/local
 BINDIR ?= $(PREFIX)/bin
@@ -17,13 +17,18 @@ UNIT := wasmhost@.service
 demo:
 	@scripts/make/demo
 
+# Builds the program without any proof. `make build` puts the proved one in its place.
+program:
+	@scripts/make/program
+
 # Proves all crates of the program, and builds it.
 build:
 	@scripts/make/build
 
 # Proves every crate from nothing, tries the must-fail edits, and runs the tests and the program.
+# RT_JOBS says how many checks go on at a time.
 test:
-	rt ci
+	RT_JOBS=$$(scripts/make/jobs) rt ci
 
 $(PROGRAM):
 	@echo "make: there is no $@: run 'make build' first" >&2; false

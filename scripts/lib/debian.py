@@ -2,6 +2,8 @@
 import shutil
 import subprocess
 
+from lib.not_tried import not_tried
+
 
 def can_install(package):
     """Whether the system's packages have this one."""
@@ -12,18 +14,19 @@ def can_install(package):
     return "Candidate: " in told.stdout and "Candidate: (none)" not in told.stdout
 
 
-def untried(script, package, *options):
+def untried(script, package, *options, part=None):
     """None where the package's program, with these options, may look at a process. Else a script
-    can try nothing, and says so. The answer is its exit status: 1 where the package only has to be
-    installed."""
+    can't try anything, or a part of it, and says so. The answer is the exit status of one that
+    tries nothing: 1 where the package only has to be installed."""
     if shutil.which(package):
         looked = subprocess.run([package, *options, "true"], capture_output=True, text=True,
                                 check=False)
         if looked.returncode == 0:
             return None
-        why, status = f"{package} may not look at a process: {looked.stderr.strip()}", 0
+        why = f"{package} may not look at a process: {looked.stderr}"
     else:
-        why, status = f"{package} is missing: apt-get install {package}", int(can_install(package))
-    print(f"{script}: {why}")
-    print(f"{script}: NOTHING WAS TRIED")
-    return status
+        why = f"{package} is missing: apt-get install {package}"
+        if can_install(package):
+            print(f"{script}: FAILED: {why}")
+            return 1
+    return not_tried(script, why, part)

@@ -108,6 +108,27 @@ MISTAKES = [
 
 PAIR = b"1 r a\n2 r b\n"
 
+
+
+def paced(words, checkpoints):
+    """A scene of one run of `echo` on two requests. It takes 49 steps: five before its first ask,
+    and 22 with each request. The opening commits generation 2, and each checkpoint one more."""
+    return f"checkpoints after {words}", [
+        created(), runs(PAIR, "1 o a\n2 o b\n", words=words.split()),
+        shows(counted(2 + checkpoints, 49, 2, 2, 0))]
+
+
+# The steps after which there are checkpoints: each time that `--every` slices of `--fuel` steps were
+# taken, and where the worker waits at the end of its input.
+PACES = [
+    paced("--fuel 10 --every 1", len([10, 20, 30, 40, 49])),
+    paced("--fuel 10 --every 2", len([20, 40, 49])),
+    paced("--fuel 3 --every 5", len([15, 30, 45, 49])),
+    paced("--fuel 10", len([49])),
+    paced("--every 1", len([49])),
+    paced("--fuel 48 --every 1", len([48, 49])),
+]
+
 LIVES = [
     ("the disks that docs/FORMATS.md has in hex", [
         created(), Bytes(form.dumped_disks()[0]),
@@ -237,6 +258,7 @@ def diverged(name, *records):
 
 
 IMAGE = SMALL.areas[1] * SECTOR
+LATER = sector(SMALL.journal, form.journal_sector(2, 1, record(6, REQUEST, b"a")))
 BROKEN = [
     damaged("a super without its first mark", "Y1 NotAWorker", sector(0, b"e")),
     damaged("a super without its last mark", "Y1 NotAWorker", (SECTOR - 1, b"e")),
@@ -276,6 +298,16 @@ BROKEN = [
     damaged("an image of one byte more", "I1 NotAnImage", *other_image(echo_image() + b"\0")),
     damaged("an image of one byte fewer", "I1 NotAnImage", *other_image(echo_image()[:-1])),
     damaged("an image of nothing", "I1 NotAnImage", *other_image(b"")),
+    damaged("a journal of a later generation", "Y4 Damaged", LATER),
+    damaged("a journal that has nothing but a later generation", "Y4 Damaged",
+            (SMALL.journal * SECTOR + form.STAMP, struct.pack("<QQ", 2, 1))),
+    damaged("a journal of the last generation", "Y4 Damaged",
+            sector(SMALL.journal, form.journal_sector((1 << 64) - 1, 1, record(6, END)))),
+    # The image is judged before the journal.
+    damaged("a journal of a later generation, and no mark in the image", "I1 NotAnImage", LATER,
+            *other_image(b"DWIMAGE3" + echo_image()[8:])),
+    damaged("a journal of a later generation, and another byte of the image", "S2 Damaged", LATER,
+            (IMAGE + 60_000, b"\1")),
     diverged("a record of a later step", record(7, REQUEST, b"a")),
     diverged("a record of an earlier step", record(5, REQUEST, b"a")),
     diverged("a record of another kind", record(6, REALTIME, bytes(8))),
@@ -301,6 +333,38 @@ BROKEN = [
     ("no file", [
         unopened("show disk", "disk", MISSING), unopened("run disk", "disk", MISSING), NoFile()]),
     ("a folder", [unopened("show .", ".", FOLDER), unopened("run .", ".", FOLDER)]),
+]
+
+# A disk of `echo` of generation 4, with six answers that are in its journal alone.
+LATE_TEXTS = [b"b", b"c", b"d", b"e", b"f", b"g"]
+LATE = disk_of((2, None), (3, [b"a"]), (4, [b"a"]), kept=[
+    (4, place, record(6 + 22 * place, REQUEST, text))
+    for place, text in enumerate(LATE_TEXTS, 1)])
+LATE_LINES = "".join(f"{place} o {text.decode()}\n" for place, text in enumerate(LATE_TEXTS, 2))
+HEADS = [sector(number, LATE[number * SECTOR : (number + 1) * SECTOR]) for number in (1, 2)]
+LOST = [sector(number, bytes(SECTOR)) for number in (1, 2)]
+ALL_COMMANDS = ["show", "run", "inspect", "inspect --json", "files", "upgrade"]
+
+
+def all_refuse(fault):
+    """Each command that reads a disk refuses it by this fault, and leaves it as it is."""
+    return [refuses(f"{words} disk", fault, given=PAIR) for words in ALL_COMMANDS]
+
+
+LOST_HEADS = [
+    ("a newest head that is lost, with answers after it", [
+        created(), runs(b"1 r a\n", "1 o a\n"),
+        runs(request_lines([b"a", *LATE_TEXTS]) + b"no", LATE_LINES, refused(8), status=6),
+        Bytes(LATE), shows(counted(4, 27, 1, 1, 6)),
+        written(LOST[0]), *all_refuse("Y4 Damaged"),
+        written(LOST[1]), *all_refuse("S2 Damaged"),
+        # The older head is wanted no more.
+        written(HEADS[0]), shows(counted(4, 27, 1, 1, 6)), inspected("request"), SameFacts(),
+        listed(), runs(b"8 r h\n", LATE_LINES + "8 o h\n"), shows(counted(6, 181, 8, 8, 0))]),
+    ("a newest head that is lost, without an answer after it", [
+        created(), runs(b"1 r a\n", "1 o a\n"), runs(PAIR, "2 o b\n"),
+        written(LOST[1]), shows(counted(4, 27, 1, 1, 1)),
+        runs(PAIR + b"3 r c\n", "2 o b\n3 o c\n"), shows(counted(6, 71, 3, 3, 0))]),
 ]
 
 # What no generation and no count of steps comes to, and what no count of lines does.
@@ -399,10 +463,15 @@ RECORDS = [
         ("none that is cut", 1,
          journal_of(record(6, REQUEST, b"a"), record(28, REQUEST, b"b")[:-1])),
         ("none of another kind", 0, journal_of(record(6, 6, b"a"))),
-        ("none of another generation", 0,
-         sector(SMALL.journal, form.journal_sector(2, 1, record(6, REQUEST, b"a")))),
+        ("none of an earlier generation", 0,
+         sector(SMALL.journal, form.journal_sector(0, 1, record(6, REQUEST, b"a")))),
         ("none of another place", 0,
          sector(SMALL.journal, form.journal_sector(1, 2, record(6, REQUEST, b"a")))),
+        ("none of a later generation at another place", 0,
+         sector(SMALL.journal, form.journal_sector(2, 2, record(6, REQUEST, b"a")))),
+        ("one, and none of a later generation after it", 1,
+         journal_of(record(6, REQUEST, b"a")),
+         sector(SMALL.journal + 1, form.journal_sector(2, 2, record(28, REQUEST, b"b")))),
         ("none behind a gap", 0,
          sector(SMALL.journal + 1, form.journal_sector(1, 2, record(6, REQUEST, b"a")))),
         ("one over two sectors", 1, *[
@@ -508,6 +577,10 @@ FULL = [
         shows(counted(2, 0, 0, 0, 0)), runs(b"1 r a\n", "1 o a\n")]),
 ]
 
+# The next node and the root of an image without files, and the same with one folder, `notes`.
+NO_FILES = struct.pack("<QIQBI", 2, 1, 1, 3, 0)
+ONE_FOLDER = struct.pack("<QIQBIH5sQQBI", 3, 2, 1, 3, 1, 5, b"notes", 2, 2, 3, 0)
+
 LOOKS = [
     ("the facts of the disks that docs/FORMATS.md has in hex", [
         created(), inspected("nothing"), SameFacts(), listed(),
@@ -528,10 +601,10 @@ LOOKS = [
             written(sector(SMALL.journal + place - 1, form.journal_sector(
                 1, place, record(5 + place, REQUEST, b"a" * 400)))),
             inspected("nothing"), SameFacts())),
-        # Now the gap is closed, and then the first sector is of another generation.
+        # Now the gap is closed, and then the first sector is of an earlier generation.
         written(sector(SMALL.journal + 2, form.journal_sector(1, 3, b"no record"))),
         inspected("nothing"), SameFacts(),
-        written(sector(SMALL.journal, form.journal_sector(2, 1, record(6, END)))),
+        written(sector(SMALL.journal, form.journal_sector(0, 1, record(6, END)))),
         inspected("nothing"), SameFacts()]),
     ("the newest head is the one that is inspected", [
         created(), runs(b"1 r a\n", "1 o a\n"), runs(b"1 r a\n2 r b\n", "2 o b\n"),
@@ -543,6 +616,9 @@ LOOKS = [
         inspected("request"), SameFacts(), listed(), written_out("notes"),
         refuses("files disk missing", "F1 Missing"), refuses("files disk notes/a", "F1 Missing"),
         Command(["files", "disk", ""], 3, "", "failed F1 Missing\n")]),
+    ("a folder is listed, and has no bytes", [
+        created(), written(*other_image(echo_image([b"a"]).replace(NO_FILES, ONE_FOLDER))),
+        inspected("request"), SameFacts(), listed(), refuses("files disk notes", "F2 Directory")]),
     ("a disk that is refused", [
         filled(b""), refuses("inspect disk", "Y1 NotAWorker"),
         refuses("files disk", "Y1 NotAWorker"),
@@ -647,5 +723,5 @@ DIGESTS = {
 }
 assert all(hashlib.sha256(disk).hexdigest() == digest for digest, disk in DIGESTS.items())
 
-SCENES = [*CREATION, *MISTAKES, *LIVES, *LINES, *BROKEN, *COUNTS, *TRAPPED, *EXITED, *RECORDS,
-          *HOSTS, outside_scene(), *FULL, *LOOKS, *UPGRADES]
+SCENES = [*CREATION, *MISTAKES, *PACES, *LIVES, *LINES, *BROKEN, *LOST_HEADS, *COUNTS, *TRAPPED,
+          *EXITED, *RECORDS, *HOSTS, outside_scene(), *FULL, *LOOKS, *UPGRADES]

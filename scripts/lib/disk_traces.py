@@ -72,7 +72,7 @@ def traced(words, disk, given=b"", calls=f"{WRITES},fdatasync,fsync", tamper=Non
     return end, events
 
 
-def untraced(script):
-    """None where strace may look at a process. Else the exit status of a script that tries nothing,
-    and says so."""
-    return untried(script, "strace", "-qq", "-o", "/dev/null")
+def untraced(script, part=None):
+    """None where strace may look at a process. Else a script can't try anything, or a part of it,
+    and says so. The answer is the exit status of one that tries nothing."""
+    return untried(script, "strace", "-qq", "-o", "/dev/null", part=part)

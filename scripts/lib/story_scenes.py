@@ -1,5 +1,5 @@
 """Scripts of `wasmhost story` and `wasmhost sweep`, each with what is printed of it, for
-`program-rows`.
+`program-rows` and `demo`.
 
 All of it was worked out by hand from docs/COMMANDS.md and docs/FORMATS.md. Images are those of
 `disk_form.py`.
@@ -57,6 +57,12 @@ CREATED = "life 1 created\n"
 # 68 write contents, heads and journal, 130 the image, 2 its head, and 2 the super. The next one
 # writes the record of `hello`, which ends at byte 505 of its sector. The one after it is the sync.
 HELLO, RECORD = "life\nrequest hello\nslice 20\n", 207
+
+# A life that goes on from that record makes 136 calls until it commits: a sync, 4 reads of super,
+# contents and heads, 129 of the image, and 2 of the journal. Its commit makes 134. It reads the 129
+# sectors of an area that was never written, writes the first and the last, which aren't zeros, and
+# syncs. Then come the head and its sync. The next write is that of a second record.
+SECOND_RECORD = 136 + 134 + 1
 
 LIVES = [
     Story(""),
@@ -287,4 +293,14 @@ SWEPT = [
     unswept(HELLO, "failed B1 Malformed", "/dev/null", status=3),
 ]
 
-STORIES = LIVES + CUTS + ANSWERS + TROUBLES + SIZES + FLOODS + UPGRADES + FAULTS + SWEPT
+# The story of `examples/power-cut.story`. Twice the power is cut at the second request: in the
+# write of its record, and in the sync after that.
+POWER_CUT = Story(
+    f"{HELLO}request world\nstop {RECORD + 2} 300\nslice 22\nlife\nrequest world\n"
+    f"stop {SECOND_RECORD + 1} 0\nslice 42\nlife\nslice 42\ncheckpoint\nlife\n",
+    out=CREATED + "1 o hello\n" + behind(2, 2, [], b"hello") + "1 o hello\n"
+    + behind(3, 3, [b"hello"], b"world") + "1 o hello\n2 o world\n"
+    + recovered(4, 5, (49, 2, 2), echo_image([b"hello", b"world"])))
+
+STORIES = [
+    *LIVES, *CUTS, POWER_CUT, *ANSWERS, *TROUBLES, *SIZES, *FLOODS, *UPGRADES, *FAULTS, *SWEPT]

@@ -9,7 +9,7 @@ from dataclasses import dataclass, field
 
 from model.disk_form import (
     AREA, AREA_PER_UNIT, END, LEAST_JOURNAL_OF_TWO, MONOTONIC, ONE, PAYLOAD, RANDOM, REALTIME,
-    SECTOR, TWO, dumped_disks, sectors)
+    SECTOR, STAMP, TWO, dumped_disks, sectors)
 
 # The ranges of a configuration's numbers, and the most texts of a list and bytes of a text.
 RANGES = [range(1, 257), range(1, 65), range(64, 65_537)]
@@ -41,7 +41,8 @@ def demand(holds, fault):
 class Judged:
     """What is known of a disk: the first fault that isn't one of the module or of the image, the
     contents if they have the right digest and form, the image if it is whole, and what `show`
-    prints if both are accepted. A fault that comes before those of the module leaves no contents.
+    prints if both are accepted. A fault that comes before those of the module leaves no contents,
+    and one that comes before that of the image leaves no image.
     """
 
     fault: bytes = None
@@ -158,8 +159,11 @@ def judge(disk, found):
     demand(hashlib.sha256(image).digest() == digest, b"S2 Damaged")
     others = [mark for it, mark in MARKS.items() if it != version]
     demand(not image.startswith(tuple(others)), b"Y4 Damaged")
+    found.version, found.image = version, image
+    later, place = struct.unpack_from("<QQ", disk, end * SECTOR + STAMP)
+    demand(place != 1 or later <= found.generation, b"Y4 Damaged")
     kept = scanned(disk[end * SECTOR : (end + journal) * SECTOR], found.generation)
-    found.version, found.image, found.records = version, image, records(version, kept)
+    found.records = records(version, kept)
 
 
 def judged(disk):

@@ -2,106 +2,102 @@
 
 use crate::disks::damage;
 use crate::layouts::{
-    PLACES, SECTORS, SPELLED, WASM, are_super_faults_told, layout_fault, written_disk,
+    Numbers, PLACES, SECTORS, SPELLED, WASM, has_super, layout_fault, written_disk,
 };
-use disk_layout::{Contents, Geometry, LayoutFault, config_bytes_of, config_from, read_contents};
+use disk_layout::{Contents, LayoutFault, config_bytes_of, config_from, read_contents};
 use sector_disk::{Disk, DiskFault, FaultDisk, Place};
 use std::alloc::{AllocError, Global};
 use wasi_abi::Config;
 use wasm_syntax::ItemList;
 
-fn is_one_text(texts: &ItemList<ItemList<u8>>, text: &[u8]) -> bool {
+/// Pages, units of files, and journal sectors. Then the only argument and the only variable, where
+/// an empty one stands for none.
+type Settings = (u32, u32, u32, &'static [u8], &'static [u8]);
+
+const WORKER: Settings = (1, 1, 64, b"worker", b"");
+
+fn is_text(texts: &ItemList<ItemList<u8>>, text: &[u8]) -> bool {
     match texts.get(0) {
         Some(first) => texts.len() == 1 && first.as_slice() == text,
+        None => text.is_empty(),
+    }
+}
+
+fn has_settings(config: &Config, settings: &Settings) -> bool {
+    config.pages() == settings.0
+        && config.files() == settings.1
+        && config.journal() == settings.2
+        && is_text(config.arguments(), settings.3)
+        && is_text(config.environment(), settings.4)
+}
+
+fn is_spelled_again(alloc: Global, config: &Config, bytes: &[u8]) -> Result<bool, AllocError> {
+    let again = config_bytes_of(alloc, config)?;
+    let is_same = again.as_slice() == bytes;
+    drop(again);
+    Ok(is_same)
+}
+
+/// Whether the bytes spell these settings, which are spelled so again, or spell nothing.
+fn is_spelling(alloc: Global, bytes: &[u8], want: &Option<Settings>) -> Result<bool, AllocError> {
+    let Some(config) = config_from(alloc, bytes)? else {
+        return Ok(want.is_none());
+    };
+    let is_so = match want {
+        Some(settings) => has_settings(&config, settings),
         None => false,
-    }
-}
-
-fn is_the_worker(contents: &Contents) -> bool {
-    let config = &contents.config;
-    contents.geometry == PLACES
-        && contents.wasm.as_slice() == WASM.as_slice()
-        && (config.pages(), config.files(), config.journal()) == (1, 1, 64)
-        && is_one_text(config.arguments(), b"worker")
-        && config.environment().is_empty()
-}
-
-fn is_spelled_again(alloc: Global, config: &Config) -> Result<bool, LayoutFault> {
-    match config_bytes_of(alloc, config) {
-        Ok(bytes) => Ok(bytes.as_slice() == SPELLED.as_slice()),
-        Err(_) => Err(LayoutFault::Memory),
-    }
-}
-
-fn is_read_back(alloc: Global) -> Result<bool, LayoutFault> {
-    let mut disk = written_disk(alloc, SECTORS, PLACES, &SPELLED).map_err(layout_fault)?;
-    let contents = read_contents(alloc, &mut disk)?;
-    Ok(is_the_worker(&contents) && is_spelled_again(alloc, &contents.config)?)
-}
-
-/// `scripts/runs/refused-allocations` refuses each allocation in turn, and then this ends out of
-/// memory.
-#[test]
-fn a_worker_is_read_back(rt: HostRuntime) -> Result<(), LayoutFault> {
-    assert!(rt; is_read_back(rt.alloc())?);
-    Ok(())
+    };
+    let is_again = is_spelled_again(alloc, &config, bytes);
+    drop(config);
+    Ok(is_so && is_again?)
 }
 
 /// Two pages, one unit of files, a journal of 64 sectors, and the environment `K=v`.
-static ENVIRONMENT: [u8; 25] = *b"\x02\0\0\0\x01\0\0\0\x40\0\0\0\0\0\0\0\x01\0\0\0\x03\0K=v";
+const ENVIRONMENT: [u8; 25] = *b"\x02\0\0\0\x01\0\0\0\x40\0\0\0\0\0\0\0\x01\0\0\0\x03\0K=v";
 
-/// Bytes with another number of pages, with a zero after them, and with no name before the `=`.
-static SPELLINGS: [&[u8]; 3] = [
-    b"\x02\x01\0\0\x01\0\0\0\x40\0\0\0\0\0\0\0\x01\0\0\0\x03\0K=v",
-    b"\x02\0\0\0\x01\0\0\0\x40\0\0\0\0\0\0\0\x01\0\0\0\x03\0K=v\0",
-    b"\x02\0\0\0\x01\0\0\0\x40\0\0\0\0\0\0\0\x01\0\0\0\x03\0=Kv",
+/// Bytes of configurations. Then such with another number of pages, with a zero after them, and
+/// with no name before the `=`.
+static SPELLINGS: [(&[u8], Option<Settings>); 6] = [
+    (&ENVIRONMENT, Some((2, 1, 64, b"", b"K=v"))),
+    (&SPELLED, Some(WORKER)),
+    (
+        b"\x01\0\0\0\x02\0\0\0\x40\0\0\0\x01\0\0\0\x01\0a\x01\0\0\0\x03\0K=v",
+        Some((1, 2, 64, b"a", b"K=v")),
+    ),
+    (
+        b"\x02\x01\0\0\x01\0\0\0\x40\0\0\0\0\0\0\0\x01\0\0\0\x03\0K=v",
+        None,
+    ),
+    (
+        b"\x02\0\0\0\x01\0\0\0\x40\0\0\0\0\0\0\0\x01\0\0\0\x03\0K=v\0",
+        None,
+    ),
+    (
+        b"\x02\0\0\0\x01\0\0\0\x40\0\0\0\0\0\0\0\x01\0\0\0\x03\0=Kv",
+        None,
+    ),
 ];
 
-fn spells_one(alloc: Global, bytes: &[u8]) -> Result<bool, AllocError> {
-    Ok(config_from(alloc, bytes)?.is_some())
-}
-
-/// Whether a prefix of the bytes spells a configuration.
-fn a_front_spells_one(alloc: Global) -> Result<bool, AllocError> {
+/// No front of a configuration is one. `scripts/runs/refused-allocations` refuses each allocation
+/// in turn, and then this ends out of memory.
+#[test]
+fn bytes_of_configurations(rt: HostRuntime) -> Result<(), AllocError> {
+    for (bytes, want) in &SPELLINGS {
+        assert!(rt; is_spelling(rt.alloc(), bytes, want)?, "{bytes:?}");
+    }
     for len in 0..25 {
-        if spells_one(alloc, &ENVIRONMENT[..len])? {
-            return Ok(true);
-        }
+        assert!(rt;
+            is_spelling(rt.alloc(), &ENVIRONMENT[..len], &None)?,
+            "{len} bytes"
+        );
     }
-    Ok(false)
-}
-
-#[test]
-fn other_bytes_spell_no_configuration(rt: HostRuntime) -> Result<(), AllocError> {
-    for bytes in &SPELLINGS {
-        assert!(rt; !spells_one(rt.alloc(), bytes)?, "{bytes:?}");
-    }
-    assert!(rt; !a_front_spells_one(rt.alloc())?);
-    Ok(())
-}
-
-fn is_environment(alloc: Global) -> Result<bool, AllocError> {
-    match config_from(alloc, &ENVIRONMENT)? {
-        None => Ok(false),
-        Some(config) => Ok(
-            config.pages() == 2
-                && config.arguments().is_empty()
-                && is_one_text(config.environment(), b"K=v")
-                && config_bytes_of(alloc, &config)?.as_slice() == ENVIRONMENT.as_slice(),
-        ),
-    }
-}
-
-/// `scripts/runs/refused-allocations` refuses each allocation in turn, and then this ends out of
-/// memory.
-#[test]
-fn bytes_of_a_configuration(rt: HostRuntime) -> Result<(), AllocError> {
-    assert!(rt; is_environment(rt.alloc())?);
     Ok(())
 }
 
 /// What is another on the disk of a worker.
 enum Change {
+    /// Nothing, and the super has its bytes.
+    Nothing,
     /// A byte of the configuration, under a digest that is right.
     Spelling(usize, u8),
     /// The numbers of the super, and the sectors of the disk.
@@ -111,10 +107,6 @@ enum Change {
     /// A call that fails.
     Call(u64),
 }
-
-/// Configuration length and sectors of the module, an area and the journal. Then the sectors of the
-/// disk.
-type Numbers = (u32, u32, u32, u32, u64);
 
 /// What is another, and what is then wrong.
 static CHANGES: [(Change, Option<LayoutFault>); 33] = [
@@ -184,64 +176,85 @@ static CHANGES: [(Change, Option<LayoutFault>); 33] = [
     (Change::Call(3), None),
 ];
 
-fn fault_of<D: Disk>(alloc: Global, disk: &mut D) -> Option<LayoutFault> {
+fn is_the_worker(contents: &Contents) -> bool {
+    contents.geometry == PLACES
+        && contents.wasm.as_slice() == WASM.as_slice()
+        && has_settings(&contents.config, &WORKER)
+}
+
+/// Whether the worker is read back, or what is wrong with it. Want of memory is another matter.
+fn is_told<D: Disk>(
+    alloc: Global,
+    disk: &mut D,
+    want: &Option<LayoutFault>,
+) -> Result<bool, LayoutFault> {
     match read_contents(alloc, disk) {
-        Ok(_) => None,
-        Err(fault) => Some(fault),
+        Ok(contents) => {
+            let is_the_worker = is_the_worker(&contents);
+            drop(contents);
+            Ok(is_the_worker && want.is_none())
+        }
+        Err(LayoutFault::Memory) => Err(LayoutFault::Memory),
+        Err(fault) => Ok(Some(fault) == *want),
     }
 }
 
-fn fault_of_spelling(alloc: Global, at: usize, byte: u8) -> Result<Option<LayoutFault>, DiskFault> {
-    let mut spelled = SPELLED;
-    if at >= 28 {
-        return Ok(None);
-    }
-    spelled[at] = byte;
-    let mut disk = written_disk(alloc, SECTORS, PLACES, &spelled)?;
-    Ok(fault_of(alloc, &mut disk))
-}
-
-fn fault_of_numbers(alloc: Global, row: &Numbers) -> Result<Option<LayoutFault>, DiskFault> {
-    let geometry = Geometry {
-        config: row.0,
-        wasm: 193,
-        module_sectors: row.1,
-        area_sectors: row.2,
-        journal_sectors: row.3,
+/// The same of a disk that was written, and is changed now.
+fn is_told_after<D: Disk>(
+    alloc: Global,
+    disk: &mut D,
+    change: &Change,
+    want: &Option<LayoutFault>,
+) -> Result<bool, LayoutFault> {
+    let is_written = match change {
+        Change::Nothing => has_super(disk).map_err(layout_fault)?,
+        Change::Bit(sector, at) => {
+            damage(disk, *sector, *at).map_err(layout_fault)?;
+            true
+        }
+        _ => true,
     };
-    let mut disk = written_disk(alloc, row.4, geometry, &SPELLED)?;
-    Ok(fault_of(alloc, &mut disk))
+    Ok(is_written && is_told(alloc, disk, want)?)
 }
 
-fn fault_of_bit(alloc: Global, sector: u64, at: usize) -> Result<Option<LayoutFault>, DiskFault> {
-    let mut disk = written_disk(alloc, SECTORS, PLACES, &SPELLED)?;
-    damage(&mut disk, sector, at)?;
-    Ok(fault_of(alloc, &mut disk))
-}
-
-fn fault_of_call(alloc: Global, call: u64) -> Result<Option<LayoutFault>, DiskFault> {
-    let disk = written_disk(alloc, SECTORS, PLACES, &SPELLED)?;
-    let mut disk = FaultDisk::new(disk, None, Some(Place { call, front: 0 }));
-    Ok(fault_of(alloc, &mut disk))
-}
-
-fn fault_of_change(alloc: Global, change: &Change) -> Result<Option<LayoutFault>, DiskFault> {
+fn is_changed_so(
+    alloc: Global,
+    change: &Change,
+    want: &Option<LayoutFault>,
+) -> Result<bool, LayoutFault> {
+    let mut spelled = SPELLED;
+    let mut numbers = (28, 1, 2304, 64, SECTORS);
+    let mut fail = None;
     match change {
-        Change::Spelling(at, byte) => fault_of_spelling(alloc, *at, *byte),
-        Change::Numbers(numbers) => fault_of_numbers(alloc, numbers),
-        Change::Bit(sector, at) => fault_of_bit(alloc, *sector, *at),
-        Change::Call(call) => fault_of_call(alloc, *call),
+        Change::Spelling(at, byte) if *at < 28 => spelled[*at] = *byte,
+        Change::Numbers(others) => numbers = *others,
+        Change::Call(call) => {
+            fail = Some(Place {
+                call: *call,
+                front: 0,
+            });
+        }
+        _ => {}
     }
+    let disk = written_disk(alloc, &numbers, &spelled)?;
+    let mut disk = FaultDisk::new(disk, None, fail);
+    let is_told = is_told_after(alloc, &mut disk, change, want);
+    drop(disk);
+    is_told
+}
+
+/// `scripts/runs/refused-allocations` refuses each allocation in turn, and then this ends out of
+/// memory.
+#[test]
+fn a_worker_is_read_back(rt: HostRuntime) -> Result<(), LayoutFault> {
+    assert!(rt; is_changed_so(rt.alloc(), &Change::Nothing, &None)?);
+    Ok(())
 }
 
 #[test]
-fn what_is_another_on_a_disk_is_told(rt: HostRuntime) -> Result<(), DiskFault> {
+fn what_is_another_on_a_disk_is_told(rt: HostRuntime) -> Result<(), LayoutFault> {
     for (place, row) in CHANGES.iter().enumerate() {
-        assert!(rt; fault_of_change(rt.alloc(), &row.0)? == row.1, "{place}");
+        assert!(rt; is_changed_so(rt.alloc(), &row.0, &row.1)?, "{place}");
     }
-    assert!(rt;
-        are_super_faults_told(rt.alloc())?,
-        "no super, and other contents"
-    );
     Ok(())
 }

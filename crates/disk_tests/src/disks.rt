@@ -1,5 +1,6 @@
 //! Cuts, stops and failures of disks in memory.
 
+use crate::{files, journals, layouts, snapshots};
 use sector_disk::{Disk, DiskFault, FaultDisk, MemDisk, Place, rewrite, store_run, write_run};
 use std::alloc::{AllocError, Global};
 use std::fmt::Display;
@@ -21,7 +22,7 @@ pub(crate) fn is_all(bytes: &[u8], byte: u8) -> bool {
 }
 
 /// Whether these bytes are so many times each byte, one after another, and then zeros.
-fn is_made_of(bytes: &[u8], parts: &[(u8, usize)]) -> bool {
+pub(crate) fn is_made_of(bytes: &[u8], parts: &[(u8, usize)]) -> bool {
     let mut rest = bytes;
     for (byte, count) in parts {
         let Some((front, behind)) = rest.split_at_checked(*count) else {
@@ -67,11 +68,13 @@ fn store_old<D: Disk>(disk: &mut D) -> Result<(), DiskFault> {
     disk.sync()
 }
 
-/// Four sectors, of which number 1 is durable as OLD, with room for three writes.
-fn durable_disk(alloc: Global) -> Result<MemDisk, DiskFault> {
-    let mut disk = MemDisk::new(alloc, 4, 3)?;
-    store_old(&mut disk)?;
-    Ok(disk)
+/// Four sectors, of which number 1 is durable as OLD, with room for so many writes.
+fn durable_disk(alloc: Global, room: usize) -> Result<MemDisk, DiskFault> {
+    let mut disk = MemDisk::new(alloc, 4, room)?;
+    match store_old(&mut disk) {
+        Ok(()) => Ok(disk),
+        Err(fault) => Err(fault),
+    }
 }
 
 /// Whether a cut that keeps these fronts leaves this, with nothing unsynced.
@@ -82,15 +85,10 @@ fn cut_leaves(
     wants: &[Parts; 4],
 ) -> Result<bool, DiskFault> {
     let mut after_cut = disk.cut(alloc, tears)?;
-    Ok(after_cut.unsynced_count() == 0 && holds_all(&mut after_cut, wants)?)
-}
-
-/// Writes to sector 1, each of which fills it with one byte.
-fn write_each<D: Disk>(disk: &mut D, writes: &[u8]) -> Result<(), DiskFault> {
-    for byte in writes {
-        disk.write(1, &[*byte; 512])?;
-    }
-    Ok(())
+    let is_synced = after_cut.unsynced_count() == 0;
+    let is_held = holds_all(&mut after_cut, wants);
+    drop(after_cut);
+    Ok(is_synced && is_held?)
 }
 
 /// What is left of sector 1 after these writes and a cut that keeps these fronts.
@@ -169,15 +167,24 @@ static CUTS: [Cut; 13] = [
     },
 ];
 
-fn is_cut_so(alloc: Global, cut: &Cut) -> Result<bool, DiskFault> {
-    let mut disk = durable_disk(alloc)?;
-    write_each(&mut disk, cut.writes)?;
+/// Writes to sector 1, each of which fills it with one byte, and cuts the power.
+fn is_written_and_cut_so(alloc: Global, disk: &mut MemDisk, cut: &Cut) -> Result<bool, DiskFault> {
+    for byte in cut.writes {
+        disk.write(1, &[*byte; 512])?;
+    }
     cut_leaves(
         alloc,
-        &disk,
+        disk,
         cut.tears,
         &[ZEROS, cut.after_cut, ZEROS, ZEROS],
     )
+}
+
+fn is_cut_so(alloc: Global, cut: &Cut) -> Result<bool, DiskFault> {
+    let mut disk = durable_disk(alloc, 3)?;
+    let is_so = is_written_and_cut_so(alloc, &mut disk, cut);
+    drop(disk);
+    is_so
 }
 
 #[test]
@@ -193,36 +200,62 @@ fn a_cut_keeps_of_each_write_the_front_that_is_named(rt: HostRuntime) -> Result<
     Ok(())
 }
 
-type Answer = Result<(), DiskFault>;
+/// Whether a call does what it says, or its fault.
+pub(crate) type Answer = Result<bool, DiskFault>;
 
-/// What a disk is asked for. A write fills its sector with one byte.
-enum Call {
-    Read(u64),
+pub(crate) const DONE: Answer = Ok(true);
+
+/// What a disk is asked for.
+pub(crate) enum Call {
+    /// A sector, and what it holds.
+    Read(u64, Parts),
+    /// It fills its sector with one byte.
     Write(u64, u8),
     Sync,
+    /// A run into sectors 2 and 3, which is synced or not.
+    Run(bool),
+    Rewrite,
+}
+
+static RUN: [[u8; 512]; 2] = [[9; 512], [5; 512]];
+
+/// Puts the run into sectors 2 and 3.
+fn put_run<D: Disk>(disk: &mut D, is_synced: bool) -> Answer {
+    if disk.sectors() != 4 {
+        return Ok(false);
+    }
+    if is_synced {
+        store_run(disk, 2, &RUN)?;
+    } else {
+        write_run(disk, 2, &RUN)?;
+    }
+    DONE
 }
 
 fn answer<D: Disk>(disk: &mut D, call: &Call) -> Answer {
     match call {
-        Call::Read(sector) => disk.read(*sector, &mut [0; 512]),
-        Call::Write(sector, byte) => disk.write(*sector, &[*byte; 512]),
-        Call::Sync => disk.sync(),
+        Call::Read(sector, parts) => return holds(disk, *sector, *parts),
+        Call::Write(sector, byte) => disk.write(*sector, &[*byte; 512])?,
+        Call::Sync => disk.sync()?,
+        Call::Run(is_synced) => return put_run(disk, *is_synced),
+        Call::Rewrite => rewrite(disk)?,
     }
+    DONE
 }
 
 /// Calls of a disk in memory, their answers, and how many writes there are then since the last
 /// sync.
 static CALLS: [(Call, Answer, usize); 10] = [
-    (Call::Read(3), Ok(()), 0),
-    (Call::Read(4), Err(DiskFault::Range), 0),
+    (Call::Read(3, ZEROS), DONE, 0),
+    (Call::Read(4, ZEROS), Err(DiskFault::Range), 0),
     (Call::Write(4, 9), Err(DiskFault::Range), 0),
-    (Call::Write(0, 9), Ok(()), 1),
-    (Call::Write(1, 9), Ok(()), 2),
-    (Call::Write(2, 9), Ok(()), 3),
+    (Call::Write(0, 9), DONE, 1),
+    (Call::Write(1, 9), DONE, 2),
+    (Call::Write(2, 9), DONE, 3),
     (Call::Write(3, 9), Err(DiskFault::Io), 3),
-    (Call::Read(3), Ok(()), 3),
-    (Call::Sync, Ok(()), 0),
-    (Call::Write(3, 5), Ok(()), 1),
+    (Call::Read(3, ZEROS), DONE, 3),
+    (Call::Sync, DONE, 0),
+    (Call::Write(3, 5), DONE, 1),
 ];
 
 fn is_answered_so(disk: &mut MemDisk, call: &(Call, Answer, usize)) -> bool {
@@ -231,31 +264,15 @@ fn is_answered_so(disk: &mut MemDisk, call: &(Call, Answer, usize)) -> bool {
 
 #[test]
 fn a_memory_disk_refuses_by_number_and_room(rt: HostRuntime) -> Result<(), DiskFault> {
-    let mut disk = durable_disk(rt.alloc())?;
+    let mut disk = durable_disk(rt.alloc(), 3)?;
     for (place, call) in CALLS.iter().enumerate() {
         assert!(rt; is_answered_so(&mut disk, call), "{place}");
     }
     Ok(())
 }
 
-/// A refused write changes no sector.
-#[test]
-fn a_refused_write_changes_nothing(rt: HostRuntime) -> Result<(), DiskFault> {
-    let mut disk = durable_disk(rt.alloc())?;
-    let is_full = answers_so(&mut disk, &FILLED);
-    let image = [(0, 512, 0), (0, 512, 0), (0, 512, 0), ZEROS];
-    assert!(rt; is_full && holds_all(&mut disk, &image)?);
-    Ok(())
-}
-
-static FILLED: [(Call, Answer); 4] = [
-    (Call::Write(0, 9), Ok(())),
-    (Call::Write(1, 9), Ok(())),
-    (Call::Write(2, 9), Ok(())),
-    (Call::Write(3, 9), Err(DiskFault::Io)),
-];
-
-fn answers_so<D: Disk>(disk: &mut D, calls: &[(Call, Answer)]) -> bool {
+/// Whether each call is answered so, one after another.
+pub(crate) fn answers_so<D: Disk>(disk: &mut D, calls: &[(Call, Answer)]) -> bool {
     for (call, want) in calls {
         if answer(disk, call) != *want {
             return false;
@@ -271,96 +288,93 @@ fn a_memory_disk_tells_want_of_memory(rt: HostRuntime) {
     assert_eq!(rt; made.err(), Some(DiskFault::Memory));
 }
 
-/// A disk that stops at a call or fails one, what is seen of it, and what a cut then leaves.
+/// A disk that may stop at a call or fail one, what is seen of it, and what a cut then leaves.
 struct Trouble {
     stop: Option<Place>,
     fail: Option<Place>,
+    /// How many writes there is room for between two syncs.
+    room: usize,
     calls: &'static [(Call, Answer)],
     /// How many reads, writes and syncs have begun.
     counts: (u64, u64, u64),
     has_torn_front: bool,
     /// How many writes the disk below has not made durable.
     unsynced: usize,
-    /// What reads give of sectors 1 and 2.
-    shown: (Parts, Parts),
+    /// What reads give.
+    shown: [Parts; 4],
     tears: &'static [u16],
-    /// What a cut leaves of sectors 1 and 2.
-    after_cut: (Parts, Parts),
+    after_cut: [Parts; 4],
 }
 
-fn below_after(alloc: Global, trouble: &Trouble) -> Result<Option<MemDisk>, DiskFault> {
-    let mut disk = FaultDisk::new(durable_disk(alloc)?, trouble.stop, trouble.fail);
-    if answers_so(&mut disk, trouble.calls)
+fn is_seen_so<D: Disk>(disk: &mut FaultDisk<D>, trouble: &Trouble) -> bool {
+    answers_so(disk, trouble.calls)
         && disk.calls() == trouble.counts
         && disk.has_torn_front() == trouble.has_torn_front
-    {
-        Ok(Some(disk.into_inner()))
-    } else {
-        Ok(None)
-    }
 }
 
-fn is_in_trouble_so(alloc: Global, trouble: &Trouble) -> Result<bool, DiskFault> {
-    let Some(mut disk) = below_after(alloc, trouble)? else {
-        return Ok(false);
-    };
-    if disk.unsynced_count() != trouble.unsynced
-        || !holds_all(&mut disk, &[ZEROS, trouble.shown.0, trouble.shown.1, ZEROS])?
-    {
-        return Ok(false);
-    }
-    cut_leaves(
-        alloc,
-        &disk,
-        trouble.tears,
-        &[ZEROS, trouble.after_cut.0, trouble.after_cut.1, ZEROS],
+/// Whether the disk below and a cut of it give this.
+fn is_left_so(alloc: Global, disk: &mut MemDisk, trouble: &Trouble) -> Result<bool, DiskFault> {
+    Ok(
+        disk.unsynced_count() == trouble.unsynced
+            && holds_all(disk, &trouble.shown)?
+            && cut_leaves(alloc, disk, trouble.tears, &trouble.after_cut)?,
     )
 }
 
-static TROUBLES: [Trouble; 8] = [
+fn is_in_trouble_so(alloc: Global, trouble: &Trouble) -> Result<bool, DiskFault> {
+    let disk = durable_disk(alloc, trouble.room)?;
+    let mut disk = FaultDisk::new(disk, trouble.stop, trouble.fail);
+    let is_seen = is_seen_so(&mut disk, trouble);
+    let mut below = disk.into_inner();
+    let is_left = is_left_so(alloc, &mut below, trouble);
+    drop(below);
+    Ok(is_seen && is_left?)
+}
+
+static TROUBLES: [Trouble; 12] = [
     // A failed sync makes nothing durable.
     Trouble {
         stop: None,
         fail: Some(Place { call: 2, front: 0 }),
-        calls: &[
-            (Call::Write(1, 9), Ok(())),
-            (Call::Sync, Err(DiskFault::Io)),
-        ],
+        room: 3,
+        calls: &[(Call::Write(1, 9), DONE), (Call::Sync, Err(DiskFault::Io))],
         counts: (0, 1, 1),
         has_torn_front: false,
         unsynced: 1,
-        shown: ((0, 512, 0), ZEROS),
+        shown: [ZEROS, (0, 512, 0), ZEROS, ZEROS],
         tears: &[2],
-        after_cut: ((0, 2, 510), ZEROS),
+        after_cut: [ZEROS, (0, 2, 510), ZEROS, ZEROS],
     },
     // A failed write leaves its front and counts: the first number of the cut is its own.
     Trouble {
         stop: None,
         fail: Some(Place { call: 1, front: 0 }),
+        room: 3,
         calls: &[
             (Call::Write(1, 9), Err(DiskFault::Io)),
-            (Call::Write(2, 9), Ok(())),
+            (Call::Write(2, 9), DONE),
         ],
         counts: (0, 2, 0),
         has_torn_front: false,
         unsynced: 2,
-        shown: (OLD, (0, 512, 0)),
+        shown: [ZEROS, OLD, (0, 512, 0), ZEROS],
         tears: &[512, 4],
-        after_cut: (OLD, (0, 4, 0)),
+        after_cut: [ZEROS, OLD, (0, 4, 0), ZEROS],
     },
     Trouble {
         stop: None,
         fail: Some(Place { call: 1, front: 5 }),
+        room: 3,
         calls: &[
             (Call::Write(1, 9), Err(DiskFault::Io)),
-            (Call::Write(2, 9), Ok(())),
+            (Call::Write(2, 9), DONE),
         ],
         counts: (0, 2, 0),
         has_torn_front: false,
         unsynced: 2,
-        shown: ((0, 5, 507), (0, 512, 0)),
+        shown: [ZEROS, (0, 5, 507), (0, 512, 0), ZEROS],
         tears: &[512, 4],
-        after_cut: ((0, 5, 507), (0, 4, 0)),
+        after_cut: [ZEROS, (0, 5, 507), (0, 4, 0), ZEROS],
     },
     Trouble {
         stop: None,
@@ -368,16 +382,17 @@ static TROUBLES: [Trouble; 8] = [
             call: 1,
             front: 512,
         }),
+        room: 3,
         calls: &[
             (Call::Write(1, 9), Err(DiskFault::Io)),
-            (Call::Write(2, 9), Ok(())),
+            (Call::Write(2, 9), DONE),
         ],
         counts: (0, 2, 0),
         has_torn_front: false,
         unsynced: 2,
-        shown: ((0, 512, 0), (0, 512, 0)),
+        shown: [ZEROS, (0, 512, 0), (0, 512, 0), ZEROS],
         tears: &[512, 4],
-        after_cut: ((0, 512, 0), (0, 4, 0)),
+        after_cut: [ZEROS, (0, 512, 0), (0, 4, 0), ZEROS],
     },
     Trouble {
         stop: None,
@@ -385,53 +400,56 @@ static TROUBLES: [Trouble; 8] = [
             call: 1,
             front: 600,
         }),
+        room: 3,
         calls: &[
             (Call::Write(1, 9), Err(DiskFault::Io)),
-            (Call::Write(2, 9), Ok(())),
+            (Call::Write(2, 9), DONE),
         ],
         counts: (0, 2, 0),
         has_torn_front: false,
         unsynced: 2,
-        shown: ((0, 512, 0), (0, 512, 0)),
+        shown: [ZEROS, (0, 512, 0), (0, 512, 0), ZEROS],
         tears: &[512, 4],
-        after_cut: ((0, 512, 0), (0, 4, 0)),
+        after_cut: [ZEROS, (0, 512, 0), (0, 4, 0), ZEROS],
     },
     // A stop leaves its front and lasts.
     Trouble {
         stop: Some(Place { call: 3, front: 0 }),
         fail: None,
+        room: 3,
         calls: &[
-            (Call::Write(2, 9), Ok(())),
-            (Call::Read(2), Ok(())),
+            (Call::Write(2, 9), DONE),
+            (Call::Read(2, (0, 512, 0)), DONE),
             (Call::Write(1, 9), Err(DiskFault::Cut)),
             (Call::Write(0, 9), Err(DiskFault::Cut)),
             (Call::Sync, Err(DiskFault::Cut)),
-            (Call::Read(2), Err(DiskFault::Cut)),
+            (Call::Read(2, ZEROS), Err(DiskFault::Cut)),
         ],
         counts: (2, 3, 1),
         has_torn_front: true,
         unsynced: 2,
-        shown: (OLD, (0, 512, 0)),
+        shown: [ZEROS, OLD, (0, 512, 0), ZEROS],
         tears: &[0],
-        after_cut: (OLD, ZEROS),
+        after_cut: [ZEROS, OLD, ZEROS, ZEROS],
     },
     Trouble {
         stop: Some(Place { call: 3, front: 7 }),
         fail: None,
+        room: 3,
         calls: &[
-            (Call::Write(2, 9), Ok(())),
-            (Call::Read(2), Ok(())),
+            (Call::Write(2, 9), DONE),
+            (Call::Read(2, (0, 512, 0)), DONE),
             (Call::Write(1, 9), Err(DiskFault::Cut)),
             (Call::Write(0, 9), Err(DiskFault::Cut)),
             (Call::Sync, Err(DiskFault::Cut)),
-            (Call::Read(2), Err(DiskFault::Cut)),
+            (Call::Read(2, ZEROS), Err(DiskFault::Cut)),
         ],
         counts: (2, 3, 1),
         has_torn_front: true,
         unsynced: 2,
-        shown: ((0, 7, 505), (0, 512, 0)),
+        shown: [ZEROS, (0, 7, 505), (0, 512, 0), ZEROS],
         tears: &[0],
-        after_cut: ((0, 7, 505), ZEROS),
+        after_cut: [ZEROS, (0, 7, 505), ZEROS, ZEROS],
     },
     Trouble {
         stop: Some(Place {
@@ -439,20 +457,78 @@ static TROUBLES: [Trouble; 8] = [
             front: 512,
         }),
         fail: None,
+        room: 3,
         calls: &[
-            (Call::Write(2, 9), Ok(())),
-            (Call::Read(2), Ok(())),
+            (Call::Write(2, 9), DONE),
+            (Call::Read(2, (0, 512, 0)), DONE),
             (Call::Write(1, 9), Err(DiskFault::Cut)),
             (Call::Write(0, 9), Err(DiskFault::Cut)),
             (Call::Sync, Err(DiskFault::Cut)),
-            (Call::Read(2), Err(DiskFault::Cut)),
+            (Call::Read(2, ZEROS), Err(DiskFault::Cut)),
         ],
         counts: (2, 3, 1),
         has_torn_front: true,
         unsynced: 2,
-        shown: ((0, 512, 0), (0, 512, 0)),
+        shown: [ZEROS, (0, 512, 0), (0, 512, 0), ZEROS],
         tears: &[0],
-        after_cut: ((0, 512, 0), ZEROS),
+        after_cut: [ZEROS, (0, 512, 0), ZEROS, ZEROS],
+    },
+    // A write without room changes nothing.
+    Trouble {
+        stop: None,
+        fail: None,
+        room: 3,
+        calls: &[
+            (Call::Write(0, 9), DONE),
+            (Call::Write(1, 9), DONE),
+            (Call::Write(2, 9), DONE),
+            (Call::Write(3, 9), Err(DiskFault::Io)),
+        ],
+        counts: (0, 4, 0),
+        has_torn_front: false,
+        unsynced: 3,
+        shown: [(0, 512, 0), (0, 512, 0), (0, 512, 0), ZEROS],
+        tears: &[],
+        after_cut: [(0, 512, 0), (0, 512, 0), (0, 512, 0), ZEROS],
+    },
+    // A run is durable after its sync.
+    Trouble {
+        stop: None,
+        fail: None,
+        room: 3,
+        calls: &[(Call::Run(true), DONE)],
+        counts: (0, 2, 1),
+        has_torn_front: false,
+        unsynced: 0,
+        shown: [ZEROS, OLD, (0, 512, 0), (512, 0, 0)],
+        tears: &[7, 0],
+        after_cut: [ZEROS, OLD, (0, 512, 0), (512, 0, 0)],
+    },
+    Trouble {
+        stop: None,
+        fail: None,
+        room: 3,
+        calls: &[(Call::Run(false), DONE)],
+        counts: (0, 2, 0),
+        has_torn_front: false,
+        unsynced: 2,
+        shown: [ZEROS, OLD, (0, 512, 0), (512, 0, 0)],
+        tears: &[7, 0],
+        after_cut: [ZEROS, OLD, (0, 7, 0), ZEROS],
+    },
+    // Sectors that are written back, one of them after an unsynced write, stay as they are, with a
+    // write each and one sync.
+    Trouble {
+        stop: None,
+        fail: None,
+        room: 5,
+        calls: &[(Call::Write(2, 9), DONE), (Call::Rewrite, DONE)],
+        counts: (4, 5, 1),
+        has_torn_front: false,
+        unsynced: 0,
+        shown: [ZEROS, OLD, (0, 512, 0), ZEROS],
+        tears: &[],
+        after_cut: [ZEROS, OLD, (0, 512, 0), ZEROS],
     },
 ];
 
@@ -469,65 +545,6 @@ fn a_disk_in_trouble_leaves_fronts_and_syncs_nothing(rt: HostRuntime) -> Result<
     Ok(())
 }
 
-static RUN: [[u8; 512]; 2] = [[9; 512], [5; 512]];
-
-/// Puts a run into sectors 2 and 3.
-fn put_run<D: Disk>(disk: &mut D, is_stored: bool) -> Result<(), DiskFault> {
-    if disk.sectors() != 4 {
-        return Err(DiskFault::Range);
-    }
-    if is_stored {
-        store_run(disk, 2, &RUN)
-    } else {
-        write_run(disk, 2, &RUN)
-    }
-}
-
-/// A run that is stored or only written, its calls, and what a cut leaves of sectors 2 and 3.
-type Run = (bool, (u64, u64, u64), Parts, Parts);
-
-static RUNS: [Run; 2] = [
-    (true, (0, 2, 1), (0, 512, 0), (512, 0, 0)),
-    (false, (0, 2, 0), (0, 7, 0), ZEROS),
-];
-
-fn is_run_so(alloc: Global, run: &Run) -> Result<bool, DiskFault> {
-    let mut disk = FaultDisk::new(durable_disk(alloc)?, None, None);
-    put_run(&mut disk, run.0)?;
-    let counts = disk.calls();
-    let image = [ZEROS, OLD, run.2, run.3];
-    Ok(counts == run.1 && cut_leaves(alloc, &disk.into_inner(), &[7, 0], &image)?)
-}
-
-/// `scripts/runs/refused-allocations` refuses each allocation in turn, and then this ends out of
-/// memory.
-#[test]
-fn a_run_is_durable_after_its_sync(rt: HostRuntime) -> Result<(), DiskFault> {
-    for run in &RUNS {
-        assert!(rt; is_run_so(rt.alloc(), run)?, "{run:?}");
-    }
-    Ok(())
-}
-
-/// Whether sectors that are written back, one of them after an unsynced write, stay as they are,
-/// with a write each and one sync.
-fn is_rewritten_so(alloc: Global) -> Result<bool, DiskFault> {
-    let mut below = MemDisk::new(alloc, 4, 5)?;
-    store_old(&mut below)?;
-    below.write(2, &[9; 512])?;
-    let mut disk = FaultDisk::new(below, None, None);
-    rewrite(&mut disk)?;
-    let counts = disk.calls();
-    let image = [ZEROS, OLD, (0, 512, 0), ZEROS];
-    Ok(counts == (4, 4, 1) && cut_leaves(alloc, &disk.into_inner(), &[], &image)?)
-}
-
-#[test]
-fn a_disk_is_written_back(rt: HostRuntime) -> Result<(), DiskFault> {
-    assert!(rt; is_rewritten_so(rt.alloc())?);
-    Ok(())
-}
-
 static PRINTED: [(DiskFault, &str); 4] = [
     (DiskFault::Range, "K1 Range"),
     (DiskFault::Io, "K2 Io"),
@@ -535,14 +552,32 @@ static PRINTED: [(DiskFault, &str); 4] = [
     (DiskFault::Memory, "K4 Memory"),
 ];
 
-pub(crate) fn prints<T: Display>(alloc: Global, value: &T, text: &str) -> Result<bool, AllocError> {
-    Ok(format!(in alloc; "{value}")?.as_str() == text)
+/// Whether each value is printed with its text.
+fn are_printed<T: Display>(alloc: Global, printed: &[(T, &str)]) -> Result<bool, AllocError> {
+    for (value, text) in printed {
+        let told = format!(in alloc; "{value}")?;
+        let is_so = told.as_str() == *text;
+        drop(told);
+        if !is_so {
+            return Ok(false);
+        }
+    }
+    Ok(true)
 }
 
+fn are_all_printed(alloc: Global) -> Result<bool, AllocError> {
+    Ok(
+        are_printed(alloc, &PRINTED)?
+            && are_printed(alloc, &files::PRINTED)?
+            && are_printed(alloc, &layouts::PRINTED)?
+            && are_printed(alloc, &journals::PRINTED)?
+            && are_printed(alloc, &snapshots::PRINTED)?,
+    )
+}
+
+/// A fault is printed with its name.
 #[test]
-fn a_fault_is_printed_with_its_name(rt: HostRuntime) -> Result<(), AllocError> {
-    for (fault, text) in &PRINTED {
-        assert!(rt; prints(rt.alloc(), fault, text)?, "{text}");
-    }
+fn faults_are_printed_with_their_names(rt: HostRuntime) -> Result<(), AllocError> {
+    assert!(rt; are_all_printed(rt.alloc())?);
     Ok(())
 }

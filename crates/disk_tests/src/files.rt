@@ -1,142 +1,211 @@
 //! Disks in files of the operating system. `scripts/runs/file-calls` looks at the system calls of
 //! the tests here, and has some of them fail.
 
-use crate::disks::{ZEROS, holds, prints};
+use crate::disks::{Answer, Call, DONE, ZEROS, answers_so};
 use sector_disk::{Disk, DiskFault, FileDisk, LockFile, NewFiles, OpenCause, OpenFault, SizeFile};
-use std::alloc::AllocError;
 use std::fs;
-use std::fs::{File, OpenFile, OpenOptions};
+use std::fs::{OpenFile, OpenOptions};
 use std::os::unix::fs::FileExt;
 use std::rt::Files;
 use std::test::Fail;
 
-/// Whether a new file of three sectors is made once, and takes what is written to it.
-fn is_made_once<F, R>(files: &R, path: &str) -> Result<bool, Fail>
+/// What befalls the file of a new disk while it is open.
+enum Meanwhile {
+    /// It can't be made again with so many sectors, or opened again.
+    Refused(Option<u64>, OpenFault),
+    /// It is cut short to so many bytes.
+    CutShort(u64),
+}
+
+/// A new disk, and what it is asked then. It is closed, opened again, and asked more.
+struct Story {
+    path: &'static str,
+    sectors: u64,
+    meanwhile: Meanwhile,
+    calls: &'static [(Call, Answer)],
+    sectors_again: u64,
+    calls_again: &'static [(Call, Answer)],
+}
+
+static KEPT: Story = Story {
+    path: "sector_disk_kept",
+    sectors: 3,
+    meanwhile: Meanwhile::Refused(Some(3), OpenFault::Io(OpenCause::Exists)),
+    calls: &[
+        (Call::Read(2, ZEROS), DONE),
+        (Call::Write(2, 9), DONE),
+        (Call::Write(0, 9), DONE),
+        (Call::Write(3, 9), Err(DiskFault::Range)),
+        (Call::Sync, DONE),
+    ],
+    sectors_again: 3,
+    calls_again: &[
+        (Call::Read(1, ZEROS), DONE),
+        (Call::Read(2, (0, 512, 0)), DONE),
+        (Call::Read(3, ZEROS), Err(DiskFault::Range)),
+    ],
+};
+
+/// The sector that is cut fails to be read. That is not for good. Opened anew the disk has as many
+/// sectors as are whole.
+static SHORT: Story = Story {
+    path: "sector_disk_short",
+    sectors: 2,
+    meanwhile: Meanwhile::CutShort(700),
+    calls: &[
+        (Call::Read(1, ZEROS), Err(DiskFault::Io)),
+        (Call::Read(0, ZEROS), DONE),
+    ],
+    sectors_again: 1,
+    calls_again: &[],
+};
+
+/// The file has a folder of its own. A second host doesn't harm it.
+static BUSY: Story = Story {
+    path: "sector_disk_folder/busy",
+    sectors: 1,
+    meanwhile: Meanwhile::Refused(None, OpenFault::Busy),
+    calls: &[(Call::Read(0, ZEROS), DONE), (Call::Sync, DONE)],
+    sectors_again: 1,
+    calls_again: &[],
+};
+
+/// Why a disk of so many sectors isn't made there, or why none is opened.
+fn fault_of<F, R>(files: &R, path: &str, sectors: Option<u64>) -> Option<OpenFault>
 where
     F: OpenFile + FileExt + LockFile + SizeFile + Drop,
     R: Files<File = F> + NewFiles,
 {
-    let mut disk: FileDisk<F> = FileDisk::create(files, path, 3)?;
-    let again = FileDisk::create(files, path, 3).err();
-    Ok(again == Some(OpenFault::Io(OpenCause::Exists)) && is_written_so(&mut disk)?)
+    match sectors {
+        Some(sectors) => FileDisk::create(files, path, sectors).err(),
+        None => FileDisk::open(files, path).err(),
+    }
 }
 
-fn is_written_so<D: Disk>(disk: &mut D) -> Result<bool, DiskFault> {
-    let is_empty = holds(disk, 2, ZEROS)?;
-    disk.write(2, &[9; 512])?;
-    disk.write(0, &[9; 512])?;
-    let is_outside = disk.write(3, &[9; 512]) == Err(DiskFault::Range);
-    disk.sync()?;
-    Ok(is_empty && is_outside)
-}
-
-/// Whether the file is opened again with what was written.
-fn is_kept<F: OpenFile + FileExt + LockFile + SizeFile + Drop, R: Files<File = F>>(
+fn cut_short<F: OpenFile + Drop, R: Files<File = F>>(
     files: &R,
     path: &str,
+    len: u64,
 ) -> Result<bool, Fail> {
-    let mut disk: FileDisk<F> = FileDisk::open(files, path)?;
-    Ok(is_read_so(&mut disk)?)
+    let file = OpenOptions::new().write(true).open(files, path)?;
+    let cut = file.set_len(len);
+    drop(file);
+    cut?;
+    Ok(true)
 }
 
-fn is_read_so<D: Disk>(disk: &mut D) -> Result<bool, DiskFault> {
-    Ok(
-        disk.sectors() == 3
-            && holds(disk, 1, ZEROS)?
-            && holds(disk, 2, (0, 512, 0))?
-            && holds(disk, 3, ZEROS) == Err(DiskFault::Range),
-    )
+fn befalls<F, R>(files: &R, path: &str, meanwhile: &Meanwhile) -> Result<bool, Fail>
+where
+    F: OpenFile + FileExt + LockFile + SizeFile + Drop,
+    R: Files<File = F> + NewFiles,
+{
+    match meanwhile {
+        Meanwhile::Refused(sectors, fault) => {
+            Ok(fault_of(files, path, *sectors) == Some(*fault))
+        }
+        Meanwhile::CutShort(len) => cut_short(files, path, *len),
+    }
+}
+
+fn is_made_so<F, R>(files: &R, story: &Story) -> Result<bool, Fail>
+where
+    F: OpenFile + FileExt + LockFile + SizeFile + Drop,
+    R: Files<File = F> + NewFiles,
+{
+    let mut disk: FileDisk<F> = FileDisk::create(files, story.path, story.sectors)?;
+    let befalls = befalls(files, story.path, &story.meanwhile);
+    let is_answered = answers_so(&mut disk, story.calls);
+    drop(disk);
+    Ok(befalls? && is_answered)
+}
+
+/// Whether the disk there has so many sectors, and answers so.
+fn is_opened_so<F: OpenFile + FileExt + LockFile + SizeFile + Drop, R: Files<File = F>>(
+    files: &R,
+    path: &str,
+    sectors: u64,
+    calls: &[(Call, Answer)],
+) -> Result<bool, OpenFault> {
+    let mut disk: FileDisk<F> = FileDisk::open(files, path)?;
+    let is_so = disk.sectors() == sectors && answers_so(&mut disk, calls);
+    drop(disk);
+    Ok(is_so)
+}
+
+fn is_told_so<F, R>(files: &R, story: &Story) -> Result<bool, Fail>
+where
+    F: OpenFile + FileExt + LockFile + SizeFile + Drop,
+    R: Files<File = F> + NewFiles,
+{
+    let _ = fs::remove_file(files, story.path);
+    let is_made = is_made_so(files, story)?;
+    let is_kept = is_opened_so(files, story.path, story.sectors_again, story.calls_again)?;
+    fs::remove_file(files, story.path)?;
+    Ok(is_made && is_kept)
 }
 
 #[test]
 fn a_file_keeps_sectors(rt: HostRuntime) -> Result<(), Fail> {
-    let path = "sector_disk_kept";
-    let _ = fs::remove_file(&rt, path);
-    assert!(rt; is_made_once(&rt, path)?);
-    assert!(rt; is_kept(&rt, path)?);
-    fs::remove_file(&rt, path)?;
+    assert!(rt; is_told_so(&rt, &KEPT)?);
     Ok(())
-}
-
-/// Whether the second sector fails to be read where it is cut short while the file is open. That is
-/// not for good.
-fn fails_when_cut_short<F, R>(files: &R, path: &str) -> Result<bool, Fail>
-where
-    F: OpenFile + FileExt + LockFile + SizeFile + Drop,
-    R: Files<File = F> + NewFiles,
-{
-    let mut disk: FileDisk<F> = FileDisk::create(files, path, 2)?;
-    let file = OpenOptions::new().write(true).open(files, path)?;
-    file.set_len(700)?;
-    Ok(holds(&mut disk, 1, ZEROS) == Err(DiskFault::Io) && holds(&mut disk, 0, ZEROS)?)
 }
 
 #[test]
 fn a_file_that_is_too_short_fails(rt: HostRuntime) -> Result<(), Fail> {
-    let path = "sector_disk_short";
-    let _ = fs::remove_file(&rt, path);
-    assert!(rt; fails_when_cut_short(&rt, path)?);
-    // Opened anew it has as many sectors as are whole.
-    let disk: FileDisk<File> = FileDisk::open(&rt, path)?;
-    assert_eq!(rt; disk.sectors(), 1);
-    fs::remove_file(&rt, path)?;
+    assert!(rt; is_told_so(&rt, &SHORT)?);
     Ok(())
 }
 
-/// Whether a file is refused to a second host as long as a first one has it, and not longer.
-fn is_for_one_host<F, R>(files: &R, path: &str) -> Result<bool, Fail>
-where
-    F: OpenFile + FileExt + LockFile + SizeFile + Drop,
-    R: Files<File = F> + NewFiles,
-{
-    let mut disk: FileDisk<F> = FileDisk::create(files, path, 1)?;
-    let second = FileDisk::open(files, path).err();
-    let is_unharmed = holds(&mut disk, 0, ZEROS)?;
-    disk.sync()?;
-    drop(disk);
-    let third: FileDisk<F> = FileDisk::open(files, path)?;
-    Ok(second == Some(OpenFault::Busy) && is_unharmed && third.sectors() == 1)
-}
-
-/// The file has a folder of its own.
 #[test]
 fn a_file_is_for_one_host(rt: HostRuntime) -> Result<(), Fail> {
     let folder = "sector_disk_folder";
-    let path = "sector_disk_folder/busy";
     let _ = fs::create_dir(&rt, folder);
-    let _ = fs::remove_file(&rt, path);
-    assert!(rt; is_for_one_host(&rt, path)?);
-    fs::remove_file(&rt, path)?;
+    assert!(rt; is_told_so(&rt, &BUSY)?);
     fs::remove_dir(&rt, folder)?;
     Ok(())
 }
+
+static OUTSIDE: [(Call, Answer); 1] = [(Call::Read(0, ZEROS), Err(DiskFault::Range))];
 
 #[test]
 fn an_empty_file_has_no_sectors(rt: HostRuntime) -> Result<(), Fail> {
     let path = "sector_disk_empty";
     let _ = fs::remove_file(&rt, path);
     fs::write(&rt, path, "")?;
-    let mut disk: FileDisk<File> = FileDisk::open(&rt, path)?;
-    assert_eq!(rt; disk.sectors(), 0);
-    assert_eq!(rt; disk.read(0, &mut [0; 512]), Err(DiskFault::Range));
+    assert!(rt; is_opened_so(&rt, path, 0, &OUTSIDE)?);
     fs::remove_file(&rt, path)?;
     Ok(())
 }
 
-/// Whether all calls answer `Io`.
-fn is_given_up<D: Disk>(disk: &mut D) -> bool {
-    disk.sync() == Err(DiskFault::Io)
-        && disk.read(0, &mut [0; 512]) == Err(DiskFault::Io)
-        && disk.write(0, &[9; 512]) == Err(DiskFault::Io)
-        && disk.sync() == Err(DiskFault::Io)
-}
+static WRITTEN: [(Call, Answer); 2] = [(Call::Write(1, 9), DONE), (Call::Sync, DONE)];
+
+static FOUND: [(Call, Answer); 1] = [(Call::Read(1, (0, 512, 0)), DONE)];
+
+static GIVEN_UP: [(Call, Answer); 4] = [
+    (Call::Sync, Err(DiskFault::Io)),
+    (Call::Read(0, ZEROS), Err(DiskFault::Io)),
+    (Call::Write(0, 9), Err(DiskFault::Io)),
+    (Call::Sync, Err(DiskFault::Io)),
+];
 
 /// Whether a sector is kept, or no later call is answered.
-fn keeps_or_gives_up<D: Disk>(disk: &mut D) -> Result<bool, DiskFault> {
-    if disk.write(1, &[9; 512]).is_err() || disk.sync().is_err() {
-        return Ok(is_given_up(disk));
+fn keeps_or_gives_up<D: Disk>(disk: &mut D) -> bool {
+    if answers_so(disk, &WRITTEN) {
+        answers_so(disk, &FOUND)
+    } else {
+        answers_so(disk, &GIVEN_UP)
     }
-    holds(disk, 1, (0, 512, 0))
+}
+
+fn is_kept_or_given_up<F, R>(files: &R, path: &str) -> Result<bool, OpenFault>
+where
+    F: OpenFile + FileExt + LockFile + SizeFile + Drop,
+    R: Files<File = F> + NewFiles,
+{
+    let mut disk: FileDisk<F> = FileDisk::create(files, path, 2)?;
+    let is_so = keeps_or_gives_up(&mut disk);
+    drop(disk);
+    Ok(is_so)
 }
 
 /// It passes, too, where a write or a sync fails.
@@ -144,43 +213,31 @@ fn keeps_or_gives_up<D: Disk>(disk: &mut D) -> Result<bool, DiskFault> {
 fn a_file_keeps_a_sector_or_is_given_up(rt: HostRuntime) -> Result<(), Fail> {
     let path = "sector_disk_given_up";
     let _ = fs::remove_file(&rt, path);
-    let mut disk: FileDisk<File> = FileDisk::create(&rt, path, 2)?;
-    assert!(rt; keeps_or_gives_up(&mut disk)?);
+    assert!(rt; is_kept_or_given_up(&rt, path)?);
     fs::remove_file(&rt, path)?;
     Ok(())
 }
 
-/// Paths that can't be opened, and why.
-static UNOPENED: [(&str, OpenCause); 3] = [
-    ("sector_disk_missing", OpenCause::Missing),
-    (".", OpenCause::Folder),
-    ("sector_disk_missing/file", OpenCause::Missing),
+/// Paths that can't be opened, or where no disk of so many sectors can be made, and why.
+static UNOPENED: [(&str, Option<u64>, OpenCause); 5] = [
+    ("sector_disk_missing", None, OpenCause::Missing),
+    (".", None, OpenCause::Folder),
+    ("sector_disk_missing/file", None, OpenCause::Missing),
+    ("sector_disk_missing/file", Some(1), OpenCause::Missing),
+    ("sector_disk_large", Some(1 << 54), OpenCause::TooLarge),
 ];
-
-fn fails_to_open<R: Files<File = File>>(files: &R, path: &str, cause: OpenCause) -> bool {
-    FileDisk::open(files, path).err() == Some(OpenFault::Io(cause))
-}
 
 #[test]
 fn a_path_that_is_no_disk_says_why(rt: HostRuntime) {
-    for (path, cause) in &UNOPENED {
-        assert!(rt; fails_to_open(&rt, path, *cause), "{path}");
+    for (path, sectors, cause) in &UNOPENED {
+        assert!(rt;
+            fault_of(&rt, path, *sectors) == Some(OpenFault::Io(*cause)),
+            "{path}"
+        );
     }
-    let inside = FileDisk::create(&rt, "sector_disk_missing/file", 1);
-    assert_eq!(rt; inside.err(), Some(OpenFault::Io(OpenCause::Missing)));
-    let large = FileDisk::create(&rt, "sector_disk_large", 1 << 54);
-    assert_eq!(rt; large.err(), Some(OpenFault::Io(OpenCause::TooLarge)));
 }
 
-static FAULTS: [(OpenFault, &str); 2] = [
+pub(crate) static PRINTED: [(OpenFault, &str); 2] = [
     (OpenFault::Busy, "K5 Busy"),
     (OpenFault::Io(OpenCause::Missing), "K2 Io"),
 ];
-
-#[test]
-fn a_fault_of_opening_is_printed_with_its_name(rt: HostRuntime) -> Result<(), AllocError> {
-    for (fault, text) in &FAULTS {
-        assert!(rt; prints(rt.alloc(), fault, text)?, "{text}");
-    }
-    Ok(())
-}

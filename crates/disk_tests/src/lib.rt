@@ -1,7 +1,6 @@
 //! What tests alone can show of a worker's disk, layer upon layer. Sectors are cut, stopped and
 //! failed. Super and heads are compared with literal bytes. Journals and snapshots are stopped at
-//! each call of the disk. Above them are whole workers (`workers`), and what is told of lists of
-//! their lives (`stories`).
+//! each call of the disk. Workers on such disks are in `worker_tests`.
 //!
 //! Each test is a table of rows whose expected values come from outside. Those that take memory
 //! return their error, so that `scripts/runs/refused-allocations` refuses each allocation in turn.
@@ -14,10 +13,6 @@ mod disks;
 #[cfg(test)]
 mod files;
 #[cfg(test)]
-mod guests;
-#[cfg(test)]
-mod halt;
-#[cfg(test)]
 mod journals;
 #[cfg(test)]
 mod lanes;
@@ -25,7 +20,3 @@ mod lanes;
 mod layouts;
 #[cfg(test)]
 mod snapshots;
-#[cfg(test)]
-mod stories;
-#[cfg(test)]
-mod workers;

@@ -25,10 +25,10 @@
 //! # Who may touch what
 //!
 //! Only this crate decides when lines are released and answers asked for, of a worker without a
-//! disk. `wasmhost_commands` runs one, and `worker` uses its faults and its definitions of slices.
-//! It uses `process`, `machine_loader` and `record_replay`. It takes no memory but what loading and
-//! the process take. After an error of `slice` the process has taken whole steps alone, and each
-//! slice answers `N5 Failed`.
+//! disk. `worker` uses its faults and its definitions of slices, and `wasmhost_commands` its faults
+//! and how a slice ends. Only tests run such a worker. It uses `process`, `machine_loader` and
+//! `record_replay`. It takes no memory but what loading and the process take. After an error of
+//! `slice` the process has taken whole steps alone, and each slice answers `N5 Failed`.
 //!
 //! # Choices
 //!

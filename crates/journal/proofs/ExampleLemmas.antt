@@ -10,6 +10,7 @@ use Rattle.disk_layout.specs.laws.RecordExamples.{bare, spread, two_records}
 use Rattle.disk_layout.specs.laws.RecordExamples.{two_wide_records}
 use Rattle.journal.specs.rules.Steps.{SameOthers, ShowsNoneAfter}
 use Rattle.journal.specs.laws.Examples.{FittingExamples, HoldingExamples, BarrierExamples}
+use Rattle.journal.specs.laws.Examples.{LaterExamples}
 use Rattle.journal.specs.laws.Examples.{before_one_of, behind_hello, only_hello, whole_end}
 use Rattle.journal.specs.laws.Examples.{torn_end, with_end}
 
@@ -152,3 +153,15 @@ barrier_examples = record {
     min_one : ℕ → ℕ
     min_one zero = 0
     min_one (suc n) = 1
+
+-- ---- a later generation
+
+pub later_examples : LaterExamples
+later_examples = record {
+  than_earlier = record { some = lit< tt; later = lit< tt };
+  than_its_own = λ s. (let h : 5 < 5 = s.later in omega (arith, h));
+  without_records = record { some = lit< tt; later = lit< tt };
+  of_another_place = λ s. (let h : 4 < 0 = s.later in omega (arith, h));
+  in_the_second_sector = λ s. (let h : 5 < 5 = s.later in omega (arith, h));
+  without_a_journal = λ s. (let h : 0 < 0 = s.some in omega (arith, h));
+}

@@ -4,3 +4,4 @@ pub mod RecordLemmas
 mod BarrierLemmas
 mod ExampleLemmas
 mod FilledLemmas
+mod LaterLemmas

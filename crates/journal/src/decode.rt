@@ -1,5 +1,5 @@
 //! Records from bytes.
-ghost use Rattle.std.specs.Prelude.{◌≡◌, ◌+◌, ◌≤◌, length, IfOk, IsSome};
+ghost use Rattle.std.specs.Prelude.{◌≡◌, ◌+◌, ◌<◌, ◌≤◌, length, IfOk, IsSome, OnErr};
 ghost use Rattle.disk_layout.specs.rules.Journal.{answer_of, payload_length, record_at, records_at};
 ghost use Rattle.disk_layout.specs.rules.Journal.{record_head_bytes};
 
@@ -11,13 +11,15 @@ use std::alloc::{AllocError, Global};
 use wasi_abi::{Answer, Version};
 use wasm_syntax::ItemList;
 
-/// The records at the front, until one is cut or not well formed. It fails only when out of memory.
+/// The records at the front, until one is cut or not well formed. It fails only when out of memory,
+/// and wants none where there are no bytes.
 pub(crate) fn records_from(
     alloc: Global,
     version: Version,
     bytes: &[u8],
 ) -> Result<Vec<Record>, AllocError>
-    ensures { IfOk result (λ v. v.items ≡ records_at version (length bytes.now) bytes.now) }
+    ensures value { IfOk result (λ v. v.items ≡ records_at version (length bytes.now) bytes.now) }
+    ensures memory { OnErr result (0 < length bytes.now) }
 {
     let mut records = Vec::new(alloc);
     let mut start = 0;
@@ -29,11 +31,12 @@ pub(crate) fn records_from(
     Ok(records)
 }
 
-/// The record at the front, if it is whole and well formed.
+/// The record at the front, if it is whole and well formed. Else it wants no memory.
 fn record_from(alloc: Global, version: Version, bytes: &[u8]) -> Result<Option<Record>, AllocError>
     ensures value { IfOk result (λ o. o ≡ record_at version bytes.now) }
     ensures whole { IfOk result (λ o. IsSome o
         → record_head_bytes version + payload_length version bytes.now ≤ length bytes.now) }
+    ensures memory { OnErr result (record_head_bytes version ≤ length bytes.now) }
 {
     let head = record_head_bytes(version);
     if bytes.len() < head {

@@ -1,6 +1,6 @@
 //! The journal of a generation.
 ghost use Rattle.std.specs.Prelude.{◌≡◌, ◌↔◌, ◌⊎◌, ◌+◌, ◌<◌, ◌≤◌, ◌++◌, [], true, false};
-ghost use Rattle.std.specs.Prelude.{length, OnOk, OnErr, IfOk, IfErr};
+ghost use Rattle.std.specs.Prelude.{length, OnOk, OnErr, IfOk, IfErr, IsTrue};
 ghost use Rattle.sector_disk.specs.rules.DiskImage.{DiskImage};
 ghost use Rattle.sector_disk.specs.rules.Medium.{CallsUpTo};
 ghost use Rattle.disk_layout.specs.rules.Places.{total_sectors};
@@ -8,13 +8,14 @@ ghost use Rattle.disk_layout.specs.rules.Journal.{record_bytes, payload_of, scan
 ghost use Rattle.disk_layout.specs.rules.Stored.{OnlyReads};
 ghost use Rattle.journal.specs.rules.Barriers.{StoresKept};
 ghost use Rattle.journal.specs.rules.State.{state, failed_journal, room_of};
-ghost use Rattle.journal.specs.rules.Steps.{RecordFits};
+ghost use Rattle.journal.specs.rules.Steps.{RecordFits, ShowsLater};
 ghost use Rattle.wasi_abi.specs.rules.Versions.{text_limit};
 
 use crate::decode::records_from;
 use crate::fault::JournalFault;
 use crate::records::{payload_len, put_record};
 use crate::scan::read_payloads;
+use crate::scanned::ScannedJournal;
 use crate::store::{sectors_for, store_packed};
 use disk_layout::{Geometry, PAYLOAD_SIZE, Record, record_head_bytes};
 use sector_disk::{Disk, DiskFault};
@@ -56,18 +57,26 @@ impl Journal {
     }
 
     /// The records of a generation: those whose bytes are whole and well formed, from place 1 on.
-    /// It reads each sector once, up to the first that isn't one of the generation.
+    /// It reads each sector once, up to the first that isn't one of the generation. It also tells
+    /// whether the first sector shows a later generation. Then no other is read, there are no
+    /// records, and no memory is wanted.
     pub fn scan<D: Disk>(
         alloc: Global,
         disk: &mut D,
         geometry: &Geometry,
         version: Version,
         generation: u64,
-    ) -> Result<Vec<Record>, JournalFault>
+    ) -> Result<ScannedJournal, JournalFault>
         requires { total_sectors geometry.now ≤ (D.medium disk.old).sectors }
         ensures reads { OnlyReads (D.medium disk.old) (D.medium disk.new) }
-        ensures scans { IfOk result (λ v. (image : DiskImage) → (D.medium disk.new).shows image
-            → v.items ≡ scan geometry.now version image generation) }
+        ensures scans { IfOk result (λ s. (image : DiskImage) → (D.medium disk.new).shows image
+            → s.records.items ≡ scan geometry.now version image generation) }
+        ensures later { IfOk result (λ s. (image : DiskImage) → (D.medium disk.new).shows image
+            → (IsTrue s.shows_later ↔ ShowsLater geometry.now generation image)) }
+        ensures once { IfOk result (λ s. IsTrue s.shows_later
+            → CallsUpTo 1 (D.medium disk.old) (D.medium disk.new)) }
+        ensures memory { result ≡ Err JournalFault.Memory → (image : DiskImage)
+            → (D.medium disk.new).shows image → ShowsLater geometry.now generation image → ⊥ }
         ensures cause { (fault : DiskFault) → result ≡ Err (JournalFault.Disk fault)
             → (D.medium disk.old).faults < (D.medium disk.new).faults }
         ensures which_fault { IfErr result (λ e. e ≡ JournalFault.Memory
@@ -75,9 +84,12 @@ impl Journal {
         ensures asks { CallsUpTo geometry.now.journal_sectors (D.medium disk.old)
             (D.medium disk.new) }
     {
-        let bytes = read_payloads(alloc, disk, geometry, generation)?;
-        match records_from(alloc, version, bytes.as_slice()) {
-            Ok(records) => Ok(records),
+        let payloads = read_payloads(alloc, disk, geometry, generation)?;
+        match records_from(alloc, version, payloads.bytes.as_slice()) {
+            Ok(records) => Ok(ScannedJournal {
+                records,
+                shows_later: payloads.shows_later,
+            }),
             Err(_) => Err(JournalFault::Memory),
         }
     }

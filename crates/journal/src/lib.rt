@@ -15,7 +15,8 @@
 //!   beyond those before (`counts`). No sync is between them (`together`). It writes them in
 //!   rising order, each once, and then syncs once (`calls`).
 //! - `Journal::scan` gives the records that the definitions read of what the disk shows (`scans`).
-//!   It only reads (`reads`).
+//!   It tells whether the first sector shows a later generation than theirs (`later`). Then it reads
+//!   no other sector, and wants no memory (`once`, `memory`). It only reads (`reads`).
 //! - `count_filled` gives how many sectors the records of a generation fill (`counts`). It only
 //!   reads. `laws::what_is_held_fills`: they are as many as the journal has written. So the others
 //!   are what a next barrier can write (`full`).
@@ -23,13 +24,14 @@
 //!   and changes nothing (`err`, `failed`, `refused`). `has_failed` says so. Whatever `append`
 //!   answers, version, generation and sectors are as before (`stays`).
 //! - `laws::what_is_held_is_scanned`: a scan gives what is held, and nothing of a generation that
-//!   no sector shows. `laws::worked_examples`: records that fit, what is held, and what a barrier
-//!   may leave.
+//!   no sector shows. `laws::worked_examples`: records that fit, what is held, what a barrier may
+//!   leave, and where a later generation is shown.
 //!
 //! # Definitions to read
 //!
 //! In `specs/rules/`: `JournalState`, `failed_journal`, `room_of` (`State.antt`); `HoldsRecords`,
-//! `IsOn`, `AppendsFront`, `RecordFits`, `ShowsEarlierThan`, `barrier_calls` (`Steps.antt`);
+//! `IsOn`, `AppendsFront`, `RecordFits`, `ShowsEarlierThan`, `ShowsLater`, `barrier_calls`
+//! (`Steps.antt`);
 //! `StoresKept`, which is what `barrier` does (`Barriers.antt`); `sectors_for` (`Packed.antt`),
 //! `sectors_filled` (`Filled.antt`). Of `disk_layout`: `record_bytes` and `scan`
 //! (`specs/rules/Journal.antt`). Of `wasi_abi`: `Version`.
@@ -50,6 +52,7 @@
 //! - The versions differ in the limit of a payload and in the bytes of its length. Code asks which
 //!   one it is where a length is written or read, and nowhere else.
 //! - Faults of layout, journal and snapshot carry the disk's fault.
+//! - A later generation in the journal is no fault of a scan: who reads a whole disk judges it.
 #![tactic(auto)]
 
 mod decode;
@@ -59,8 +62,10 @@ mod journal;
 pub mod laws;
 mod records;
 mod scan;
+mod scanned;
 mod store;
 
 pub use fault::JournalFault;
 pub use filled::count_filled;
 pub use journal::Journal;
+pub use scanned::ScannedJournal;

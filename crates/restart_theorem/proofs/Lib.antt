@@ -4,6 +4,7 @@ pub mod Promised
 pub mod ForGood
 pub mod Upgrading
 pub mod NextLives
+pub mod FileLives
 pub mod NumbersKept
 pub mod Disks
 pub mod Pleas

@@ -5,14 +5,14 @@ use Rattle.wasi_abi.specs.rules.Configs.{Settings}
 use Rattle.sector_disk.specs.rules.DiskImage.{DiskImage}
 use Rattle.sector_disk.specs.rules.Medium.{Medium}
 use Rattle.restart_theorem.specs.Lives.{Inputs, Life, Finished, Stopped, Failed}
-use Rattle.restart_theorem.specs.Promises.{Promise, nothing_yet, promised_by, GoOn}
+use Rattle.restart_theorem.specs.Promises.{nothing_yet, promised_by}
 use Rattle.restart_theorem.specs.Holds.{KeepsPromise, KeepsBounds, IsBounded}
 use Rattle.restart_theorem.specs.Between.{IsFoundAfterCut, IsCutOrKilled, AreLivedOn, more}
 use Rattle.restart_theorem.specs.laws.Found.{FoundWasCrashImage, FoundIsAsLong, IsSyncedAfterCut}
 use Rattle.restart_theorem.specs.laws.Found.{IsAsItWas}
 use Rattle.restart_theorem.specs.laws.Found.{FoundSyncedOrSame, NoWorkerComes, NextLifeFindsIt}
 use Rattle.restart_theorem.specs.laws.Found.{NextLifeIsWithin}
-use Rattle.restart_theorem.specs.laws.Found.{LivesGoOn}
+use Rattle.restart_theorem.specs.laws.Found.{LivesGoOn, PromisedLivesGoOn}
 use Rattle.restart_theorem.proofs.Disks.{blank_is_within}
 
 cut_was_crash_image : (last found : Medium) (image : DiskImage) → IsFoundAfterCut last found
@@ -95,11 +95,7 @@ module _ {D : Type 0} (medium : D → Medium) where
       (sym (found_is_as_long ends last found finds))
       (keeps image (found_was_crash_image ends last found image finds leaves))
 
-  lives_on : (m : Module) (config : Settings) (so_far : Promise) (inputs : List Inputs)
-      (lives : List Life) (disk : D) → KeepsPromise m config so_far (medium disk)
-      → KeepsBounds so_far.events (medium disk)
-      → AreLivedOn medium m config so_far inputs lives disk
-      → GoOn m config so_far inputs lives
+  pub lives_on : PromisedLivesGoOn medium
   lives_on m config so_far [] [] disk keeps within lived = tt
   lives_on m config so_far [] (life ∷ lives) disk keeps within lived = elim lived [ ]
   lives_on m config so_far (inputs ∷ others) [] disk keeps within lived = elim lived [ ]

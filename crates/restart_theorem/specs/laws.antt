@@ -1,5 +1,6 @@
 pub mod Disks
 pub mod Examples
+pub mod Files
 pub mod Found
 pub mod Honest
 pub mod Laws

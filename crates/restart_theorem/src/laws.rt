@@ -15,6 +15,9 @@ ghost use Rattle.restart_theorem.specs.laws.Found.{FoundWasCrashImage, FoundIsAs
 ghost use Rattle.restart_theorem.specs.laws.Found.{FoundSyncedOrSame};
 ghost use Rattle.restart_theorem.specs.laws.Found.{NoWorkerComes};
 ghost use Rattle.restart_theorem.specs.laws.Found.{NextLifeFindsIt, NextLifeIsWithin, LivesGoOn};
+ghost use Rattle.restart_theorem.specs.laws.Found.{PromisedLivesGoOn};
+ghost use Rattle.restart_theorem.specs.laws.Files.{LivesOnFilesGoOn, PromisedLivesOnFilesGoOn};
+ghost use Rattle.restart_theorem.specs.laws.Files.{OpenedAfterCut, ZerosAreBlank};
 ghost use Rattle.restart_theorem.specs.laws.Disks.{StandsForWhatIsReached, RecordsAscend};
 ghost use Rattle.restart_theorem.specs.laws.Disks.{StandsByItsParts, BlankStandsForNone};
 ghost use Rattle.restart_theorem.specs.laws.Disks.{HeadsTellWidenings};
@@ -94,8 +97,20 @@ pub fn next_life_finds_it<D: Disk>()
 {}
 
 /// Lives that do what the calls of a worker are proved to do go on as one that was never stopped.
+/// So they do from whatever was promised so far, on a disk that keeps it.
 pub fn lives_go_on<D: Disk>()
-    ensures { LivesGoOn D.medium }
+    ensures lives { LivesGoOn D.medium }
+    ensures promised { PromisedLivesGoOn D.medium }
+{}
+
+/// The same of a disk in a file, of whatever image is on it as it is opened: one without a worker,
+/// or one that holds all that was promised. Zeros, of which a file is made, are without one. Who
+/// opens the file after a cut finds what the cut has left.
+pub fn lives_on_files_go_on<F>()
+    ensures lives { LivesOnFilesGoOn F }
+    ensures promised { PromisedLivesOnFilesGoOn F }
+    ensures made { ZerosAreBlank }
+    ensures found { OpenedAfterCut F }
 {}
 
 /// A disk stands for what the module reaches, by an image and by records in the order of their

@@ -1,4 +1,5 @@
 pub mod ExampleLemmas
+mod FirstImageLemmas
 mod LogSteps
 mod MemoryLemmas
 mod AnswerLemmas

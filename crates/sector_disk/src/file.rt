@@ -2,10 +2,12 @@
 ghost use Rattle.std.specs.Prelude.{◌≡◌, ◌<◌, ◌≤◌, ◌^◌, ◌*◌, ◌/◌, ◌↔◌, ℕ, [], IfErr, IfOk};
 ghost use Rattle.std.specs.Prelude.{IsErrOf, IsTrue, OnOk, false, true};
 ghost use Rattle.sector_disk.specs.declared.open_fault.OpenFault.TheVariants.{Io};
+ghost use Rattle.sector_disk.specs.rules.DiskImage.{IsDiskImage, zeros};
 ghost use Rattle.sector_disk.specs.declared.open_fault.OpenCause.TheVariants.{NoDevice, TooLarge};
 
 use crate::file_call::{Failure, FileCall, NO_BYTES};
 use crate::file_log::FileLog;
+use crate::first_image::FirstImage;
 use crate::folder::folder_of;
 use crate::{
     DeviceFile, Disk, DiskFault, LockFile, NewFiles, OpenCause, OpenFault, SECTOR_SIZE, SizeFile,
@@ -24,24 +26,28 @@ const SECTORS_END: u64 = 1 << 54;
 /// isn't asked.
 ///
 /// That the file is a disk of the model is a premise, and no flag says so. A contract speaks of
-/// each image from which a disk of the model gives the answers that the file gave since it was
-/// opened. Where it gave others, there is no such image.
+/// each image to which a disk of the model comes from the first one, if it gives the answers that
+/// the file gave since it was opened. Where it gave others, there is no such image.
 #[derive(Drop)]
 pub struct FileDisk<F> {
     file: F,
     count: u64,
+    /// What was on it as it was opened. Only clauses read it.
+    first: FirstImage,
     past: FileLog,
     ghost small: { count < 2 ^ 55 },
+    ghost whole: { IsDiskImage count first.image },
 }
 
 impl<F: OpenFile + FileExt + LockFile + SizeFile> FileDisk<F> {
-    ghost use Rattle.sector_disk.specs.rules.File.{file_medium, answers_of, file_of};
+    ghost use Rattle.sector_disk.specs.rules.File.{file_medium, answers_of, file_of, first_of};
     ghost use Rattle.sector_disk.specs.rules.Open.{IsUnmade};
 
     /// Makes a file of so many sectors of zeros, locks it, and makes its entry in its folder
     /// durable. It fails where there is such a path already, and from 2^54 sectors on. All zeros
     /// are written, so that a device without room for them is found now, and not in a later write.
     /// After an error the file that it made is removed.
+    #[tactic(auto, using(crate::proofs::FirstImageLemmas::zeros_are))]
     pub fn create<R: Files<File = F> + NewFiles>(
         files: &R,
         path: &str,
@@ -53,6 +59,7 @@ impl<F: OpenFile + FileExt + LockFile + SizeFile> FileDisk<F> {
         ensures resized { IfOk result (λ d. IsTrue (F.is_resized_to (file_of d)
             (sectors * SECTOR_SIZE))) }
         ensures fresh { IfOk result (λ d. answers_of d ≡ []) }
+        ensures zeros { IfOk result (λ d. first_of d ≡ zeros sectors) }
         ensures locked { IfOk result (λ d. IsTrue (F.is_locked (file_of d))) }
         ensures busy { IsErrOf result OpenFault.Busy → ((file : F) × IsTrue (F.is_refused file)) }
         ensures large { 2 ^ 54 ≤ sectors → IsErrOf result (Io TooLarge) }
@@ -68,6 +75,7 @@ impl<F: OpenFile + FileExt + LockFile + SizeFile> FileDisk<F> {
             Ok(()) => Ok(FileDisk {
                 file,
                 count: sectors,
+                first: FirstImage::of(sectors),
                 past: FileLog::new(),
             }),
             Err(fault) => {
@@ -81,6 +89,7 @@ impl<F: OpenFile + FileExt + LockFile + SizeFile> FileDisk<F> {
     /// It fails where the path is no block device, where the device has fewer sectors, and from
     /// 2^54 sectors on. What the device has after these sectors stays. It makes and removes no
     /// file.
+    #[tactic(auto, using(crate::proofs::FirstImageLemmas::zeros_are))]
     pub fn create_on_device<R: Files<File = F>>(
         files: &R,
         path: &str,
@@ -93,6 +102,7 @@ impl<F: OpenFile + FileExt + LockFile + SizeFile> FileDisk<F> {
         ensures room { IfOk result (λ d. (bytes : ℕ)
             × IsTrue (F.is_measured_at (file_of d) bytes) × (sectors ≤ bytes / SECTOR_SIZE)) }
         ensures fresh { IfOk result (λ d. answers_of d ≡ []) }
+        ensures zeros { IfOk result (λ d. first_of d ≡ zeros sectors) }
         ensures locked { IfOk result (λ d. IsTrue (F.is_locked (file_of d))) }
         ensures busy { IsErrOf result OpenFault.Busy → ((file : F) × IsTrue (F.is_refused file)) }
         ensures large { 2 ^ 54 ≤ sectors → IsErrOf result (Io TooLarge) }
@@ -107,12 +117,14 @@ impl<F: OpenFile + FileExt + LockFile + SizeFile> FileDisk<F> {
         Ok(FileDisk {
             file,
             count: sectors,
+            first: FirstImage::of(sectors),
             past: FileLog::new(),
         })
     }
 
     /// Opens a file and locks it, before anything of it is read. Bytes past its last whole sector
-    /// are left alone.
+    /// are left alone. It has some first image, which no clause names.
+    #[tactic(auto, using(crate::proofs::FirstImageLemmas::zeros_are))]
     pub fn open<R: Files<File = F>>(files: &R, path: &str) -> Result<FileDisk<F>, OpenFault>
     where
         F: Drop,
@@ -125,10 +137,11 @@ impl<F: OpenFile + FileExt + LockFile + SizeFile> FileDisk<F> {
     {
         let file = OpenOptions::new().read(true).write(true).open(files, path)?;
         lock(&file)?;
-        let bytes = file.measure()?;
+        let sectors = file.measure()? / SECTOR_SIZE as u64;
         Ok(FileDisk {
             file,
-            count: bytes / SECTOR_SIZE as u64,
+            count: sectors,
+            first: FirstImage::of(sectors),
             past: FileLog::new(),
         })
     }

@@ -14,7 +14,6 @@ use Rattle.wasi_calls_rules.specs.Checks.{flat, open_descriptor}
 use Rattle.wasi_calls_rules.specs.Small.{roomy}
 use Rattle.wasi_calls_rules.specs.Moving.{size_after, file_written, write_offset, offset_after}
 use Rattle.wasi_calls_rules.specs.Moving.{moved_to, target_written}
-use Rattle.wasi_calls_rules.specs.CallRules.{IsNoRefusal}
 use Rattle.wasi_calls.specs.Moves.{total_len, AreInside, moved_behind}
 use Rattle.wasi_calls.proofs.Fronts.{length_gathered}
 use Rattle.wasi_calls.proofs.WrittenFiles.{rewritten_again, bytes_now, written_resized}
@@ -68,10 +67,6 @@ too_large k from bytes h some large =
     let size : ℕ = size_after (bytes_of_node h.files k) from bytes in
     let over : nat_le size FILE_BYTES ≡ false = lt-leb size FILE_BYTES (omega (arith, large)) in
     refused_write k from size bytes h some (Refuses Fbig) refl (rw over refl)
-
--- a write that is done is none that is refused
-pub no_refusal : {A : Type 0} (r : Result A Halt) (x : A) → r ≡ Ok x → IsNoRefusal r
-no_refusal r x is e refused = absurd (let both : Ok x ≡ Err (Refuses e) = sym is ∙ refused in cc)
 
 -- a file that was made as large as it will be, and then written
 pub files_made : (k from size : ℕ) (bytes : Bytes) (fs made after : Files) → IsThere fs (Node k)

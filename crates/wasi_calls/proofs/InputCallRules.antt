@@ -1,9 +1,11 @@
 -- What the rules say of input, once it is known whether a line is there to read.
 use Rattle.std.proofs.Common.{◌≡◌, ℕ, [], refl, ap, ◌∙◌}
 use Rattle.std.specs.Prelude.{Bool, true, false, if◌then◌else◌, Some, None, Result, Ok, Err}
+use Rattle.std.specs.Prelude.{IsOk, is_ok}
 use Rattle.wasi_abi.specs.declared.answer.Question.{Question}
 use Rattle.wasi_abi.specs.declared.answer.Question.TheVariants as question
 use Rattle.wasi_abi.specs.declared.answer.Answer.{Answer}
+use Rattle.wasi_abi.specs.declared.answer.Answer.TheVariants as answer
 use Rattle.wasi_abi.specs.rules.Answers.{Fits}
 use Rattle.wasi_abi.specs.rules.Versions.{text_limit}
 use Rattle.wasi_calls_rules.specs.WasiStates.{WasiState}
@@ -36,6 +38,13 @@ asks_for_another h k a no_fit =
     ap (λ (p : Bool). asked k (if p then Some a else None))
     (no_fit_test (text_limit h.version) k a no_fit)
 
+-- a line that fits is taken
+line_is_taken : (limit : ℕ) (a : Answer) (h : WasiState) → Fits limit question.Request a
+    → IsOk (line_taken a h)
+line_is_taken limit (answer.Request text) h fits = refl
+line_is_taken limit answer.End h fits = refl
+line_is_taken limit _ h fits = absurd fits
+
 module _ (h : WasiState) (a : Answer) (none : h.unread ≡ []) (open_still : h.input_ended
     ≡ false) where
   -- what is done with an answer, by whether it fits
@@ -58,3 +67,7 @@ module _ (h : WasiState) (a : Answer) (none : h.unread ≡ []) (open_still : h.i
       → line_taken a h ≡ r → supplied (Some a) h ≡ r
   takes_line r fits is = supplied_is ∙ ap by_fit (fit_test (text_limit h.version)
       question.Request a fits) ∙ is
+
+  pub is_supplied : Fits (text_limit h.version) question.Request a → IsOk (supplied (Some a) h)
+  is_supplied fits = ap is_ok (takes_line (line_taken a h) fits refl)
+      ∙ line_is_taken (text_limit h.version) a h fits

@@ -2,7 +2,7 @@
 -- same.
 use Rattle.std.proofs.Common.{◌≡◌, ℕ, List, [], ◌∷◌, ◌++◌, take, length, refl, sym, ap, ◌∙◌}
 use Rattle.std.specs.Prelude.{Bool, true, false, ◌==◌, if◌then◌else◌, Option, Result, Ok, Err, OnOk}
-use Rattle.std.specs.Prelude.{IfErr}
+use Rattle.std.specs.Prelude.{IfErr, IsOk, is_ok}
 use Rattle.guest_memory.specs.rules.Bytes.{with_part}
 use Rattle.guest_memory.specs.rules.Memories.{LinearMemory}
 use Rattle.file_tree.specs.rules.Files.{bytes_of_node}
@@ -23,7 +23,7 @@ use Rattle.wasi_calls_rules.specs.Small.{call_done, roomy}
 use Rattle.wasi_calls_rules.specs.Moving.{Got, input_taken, has_bytes, input_read, target_read}
 use Rattle.wasi_calls_rules.specs.Moving.{size_after, file_written, write_offset, offset_after}
 use Rattle.wasi_calls_rules.specs.Moving.{target_written, fd_read, fd_pread, fd_write, fd_pwrite}
-use Rattle.wasi_calls_rules.specs.CallRules.{IsNoRefusal, CallEnding, IsDone, IsRefused, IsAsk}
+use Rattle.wasi_calls_rules.specs.CallRules.{CallEnding, IsDone, IsRefused, IsAsk}
 use Rattle.wasi_calls_rules.specs.CallRules.{IsExit}
 use Rattle.wasi_calls_rules.specs.CallRules.{NoMemory, TellsCallRule}
 use Rattle.wasi_calls.specs.rules.Held.{HeldWasiState, ShowsWasiState, behind_lines}
@@ -207,10 +207,10 @@ module _ (before : List Line) where
 
 -- ---- what is told, of every host that is shown
 
-no_refusal_behind : (before : List Line) (r : Ruling) → IsNoRefusal r
-    → IsNoRefusal (behind_lines_of_call_rule before r)
-no_refusal_behind before (Ok done) none e is = absurd (cc)
-no_refusal_behind before (Err halt) none e is = none e is
+ok_behind : (before : List Line) (r : Ruling) → IsOk r
+    → IsOk (behind_lines_of_call_rule before r)
+ok_behind before (Ok done) is = refl
+ok_behind before (Err halt) is = is
 
 abbrev held_of_both : ℕ → WasiState → HeldWasiState
 held_of_both released h = record { released = released; host = h }
@@ -249,7 +249,7 @@ module _ (r : WasiState → Ruling) (behind : (before : List Line) (h : WasiStat
     same_held held.released old.released held.host old.host released k.2,
   )
   shown_of NoMemory k = (
-    λ e refused. no_refusal_behind s.before (r old.host) k.0 e (sym at ∙ refused),
+    ap is_ok at ∙ ok_behind s.before (r old.host) k.0,
     k.1,
     same_held held.released old.released held.host old.host released k.2,
   )

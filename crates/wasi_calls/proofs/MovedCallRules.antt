@@ -1,7 +1,7 @@
 -- The rules of the calls that move bytes, in the order of the code: all checks, and then the move.
 use Rattle.std.proofs.Common.{◌≡◌, ℕ, ◌*◌, ◌≤◌, min, inl, inr, List, [], ◌∷◌, ◌++◌, length, take}
 use Rattle.std.proofs.Common.{drop, refl, sym, ap, ◌∙◌, arith, length-take}
-use Rattle.std.specs.Prelude.{Bool, true, false, ◌==◌, sum_by, Option, Result, Ok, Err}
+use Rattle.std.specs.Prelude.{Bool, true, false, ◌==◌, sum_by, Option, Result, Ok, Err, IsOk}
 use Rattle.std.specs.List.{list_all}
 use Rattle.std.proofs.lemmas.Bool.{cases_lt}
 use Rattle.std.proofs.lemmas.List.{take_all}
@@ -28,7 +28,6 @@ use Rattle.wasi_calls_rules.specs.Moving.{fd_read, fd_pread, fd_write, fd_pwrite
 use Rattle.wasi_calls_rules.specs.declared.limits.TheConstants.{MOVED_BYTES}
 use Rattle.wasi_calls_rules.proofs.Puts.{all_lie}
 use Rattle.wasi_calls_rules.proofs.Steps.{HoldsAfter, refused, done_with, next, either_way}
-use Rattle.wasi_calls_rules.specs.CallRules.{IsNoRefusal}
 use Rattle.wasi_calls.specs.Steps.{StopsStep}
 use Rattle.wasi_calls.specs.declared.stop.CallStop.{CallStop}
 use Rattle.wasi_calls.specs.declared.stop.CallStop.TheVariants as stop
@@ -247,18 +246,16 @@ pread_is fd iovs count offset ret m h =
 
 -- ---- steps that stop
 
-pub no_refusal_after : {A B : Type 0} (r : Result A Halt) (go : A → B) → IsNoRefusal r
-    → IsNoRefusal (r >>= λ x. Ok (go x))
-no_refusal_after (Ok x) go none e is = absurd (cc)
-no_refusal_after (Err halt) go none e is =
-    none e (let same : halt ≡ Refuses e = cc in ap (λ (x : Halt). Err x) same)
+ok_after : {A B : Type 0} (r : Result A Halt) (go : A → B) → IsOk r → IsOk (r >>= λ x. Ok (go x))
+ok_after (Ok x) go is = refl
+ok_after (Err halt) go is = is
 
 -- what stops a step stops all that would have followed
 pub stops_after : {A B : Type 0} (why : CallStop) (r : Result A Halt) (go : A → B)
     → StopsStep why r → StopsStep why (r >>= λ x. Ok (go x))
 stops_after (stop.Refused e) r go is = rw is refl
 stops_after (stop.Asks question) r go is = rw is refl
-stops_after stop.Memory r go is = no_refusal_after r go is
+stops_after stop.Memory r go is = ok_after r go is
 
 -- ---- the number of bytes in its cell
 

@@ -7,8 +7,9 @@
 //!   says (`told`). That holds of every host that is shown (`shown`). But for a call that is done,
 //!   nothing has changed. It releases no line (`released`), and memory is as large as before
 //!   (`large`).
-//! - `call` is never out of memory for a call that ends the process (`wants`), is refused, or asks
-//!   for an answer (`told`, `shown`). It asks for arguments of the call's types (`typed`).
+//! - `call` is out of memory only of a call that its rule does: of none that is refused, asks for an
+//!   answer, or ends the process (`told`, `shown`). Nor is it of a call that would end the process
+//!   on another host or memory (`wants`). It asks for arguments of the call's types (`typed`).
 //! - `lines_begun`: how many lines such a call adds if it is done, unfinished ones counted
 //!   (`count`), and else none (`none`). They are at most `MOVED_BYTES` (`few`).
 //! - `wanted_answer`: the answer from outside that a call wants before it can be made. That is the

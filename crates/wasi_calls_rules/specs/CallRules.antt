@@ -1,5 +1,5 @@
 -- All calls: what each does with its arguments, and what a caller is told (this project's profile).
-use Rattle.std.specs.Prelude.{◌≡◌, ◌≢◌, ℕ, List, [], ◌∷◌, Option, Result, Ok, Err}
+use Rattle.std.specs.Prelude.{◌≡◌, ℕ, List, [], ◌∷◌, Option, Ok, Err, IsOk}
 use Rattle.wasi_abi.specs.declared.errno.Errno.{Errno}
 use Rattle.wasi_abi.specs.declared.errno.Errno.TheVariants.{Inval}
 use Rattle.wasi_abi.specs.declared.answer.Question.{Question}
@@ -8,7 +8,7 @@ use Rattle.wasi_abi.specs.declared.call.Call.{Call}
 use Rattle.wasi_abi.specs.declared.call.Call.TheVariants as call
 use Rattle.wasi_abi.specs.rules.Numbers.{fd_datasync_right, fd_sync_right}
 use Rattle.wasi_calls_rules.specs.WasiStates.{WasiState}
-use Rattle.wasi_calls_rules.specs.Checks.{Bytes, Halt, Refuses, Asks, Ends, Ruling}
+use Rattle.wasi_calls_rules.specs.Checks.{Bytes, Refuses, Asks, Ends, Ruling}
 use Rattle.wasi_calls_rules.specs.Small.{texts_get, texts_sizes_get, clock_res_get, clock_time_get}
 use Rattle.wasi_calls_rules.specs.Small.{fd_close, fd_syncs, fd_fdstat_get, fd_fdstat_set_flags}
 use Rattle.wasi_calls_rules.specs.Small.{fd_filestat_get, fd_filestat_set_size, fd_prestat_get}
@@ -87,12 +87,8 @@ pub data CallEnding : Type 0 where
   IsExit : ℕ → CallEnding
   NoMemory : CallEnding
 
--- it gives no error number
-abbrev pub IsNoRefusal : {A : Type 0} → Result A Halt → Type 0
-IsNoRefusal r = (e : Errno) → r ≢ Err (Refuses e)
-
 -- What a caller is told is what the call's rule says. All but a call that is done leave memory and
--- host as they were. Memory may be wanting for a call alone that isn't refused.
+-- host as they were. Memory may be wanting for a call alone that its rule does.
 abbrev pub TellsCallRule : CallEnding → Bytes → WasiState → Bytes → WasiState → Ruling → Type 0
 TellsCallRule IsDone m h old_m old_h ruling = ruling ≡ Ok (record { memory = m; host = h })
 TellsCallRule (IsRefused e) m h old_m old_h ruling = (ruling ≡ Err (Refuses e))
@@ -100,4 +96,4 @@ TellsCallRule (IsRefused e) m h old_m old_h ruling = (ruling ≡ Err (Refuses e)
 TellsCallRule (IsAsk k) m h old_m old_h ruling = (ruling ≡ Err (Asks k)) × (m ≡ old_m) × (h ≡ old_h)
 TellsCallRule (IsExit code) m h old_m old_h ruling = (ruling ≡ Err (Ends code))
     × (m ≡ old_m) × (h ≡ old_h)
-TellsCallRule NoMemory m h old_m old_h ruling = IsNoRefusal ruling × (m ≡ old_m) × (h ≡ old_h)
+TellsCallRule NoMemory m h old_m old_h ruling = IsOk ruling × (m ≡ old_m) × (h ≡ old_h)

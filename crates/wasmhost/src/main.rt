@@ -9,21 +9,18 @@
 //! What the commands promise of bytes, disks, readers and writers is said in `wasmhost_commands`.
 //! This crate brings these to them:
 //!
-//! - It reads the command line, and opens the files that it names.
-//! - `check` and `create` hand over a module's bytes. `create` has the disk's file made by
-//!   `create_file`, or its device taken by `create_device`, once the module and its configuration
-//!   are accepted.
+//! - It reads the command line, and opens the modules and scripts that it names. What the words say
+//!   of a creation, a run or an upgrade it hands on whole.
+//! - `check` and `create` hand over a module's bytes. The rest of `create` is `create_disk`.
 //! - `story` and `sweep` hand over all bytes of a script, and a module's bytes. They read them in
 //!   this order.
-//! - `run`, `upgrade`, `show`, `inspect` and `files` open the disk's file by `open_disk`,
-//!   `show_file`, `inspect_file` and `files_file`. One host holds it at a time. `run` also hands
-//!   over the lines
-//!   of the standard input, the machine's clock, and what the words say of seed and clock. Behind
-//!   it `report_input` says what is left of the lines.
+//! - `run`, `upgrade`, `show`, `inspect` and `files` are `run_file`, `upgrade_file`, `show_file`,
+//!   `inspect_file` and `files_file`, which open the disk's file. One host holds it at a time.
+//!   `run` also hands over the lines of the standard input and the machine's clock.
 //! - Before all that it takes the numbers of standard streams that are closed (`StreamNumbers`), so
 //!   that no file that it opens gets one. No clause says so: `scripts/runs/closed-streams` does.
-//! - What keeps a command from beginning is told by `report`, `report_unread` and
-//!   `report_unprepared`, and a fault of the words by `report_words`.
+//! - A file that can't be read is told by `report_unread`, want of memory by `report`, and a fault
+//!   of the words by `report_words`.
 //! - Each command is handed fresh printers, of which no write has failed. That of the error output
 //!   is told whether it is a terminal.
 //!
@@ -39,7 +36,7 @@
 //! and a line.
 #![tactic(auto)]
 
-ghost use Rattle.std.specs.Prelude.{◌≤◌, IfErr};
+ghost use Rattle.std.specs.Prelude.{◌≤◌};
 
 use std::alloc::Global;
 use std::env;
@@ -49,12 +46,10 @@ use std::process::ExitCode;
 use std::rt::{Env, Files};
 use std::time::Clock;
 use wasmhost_commands::{
-    BufferedLines, CreateOrder, Drive, LineOutlet, NewDisk, Obstacle, Order, Outside, Pace,
-    Printer, RequestSource, RunOrder, Sizes, StatusFile, StoryOrder, SweepChoice, SweepOrder,
-    check_bytes, create_device, create_file, files_file, fronts_of, inspect_file, open_disk,
-    prepare, read_module, read_script, read_seed, read_sweep, read_words, report, report_input,
-    report_script, report_sweep_script, report_unprepared, report_unread, report_words,
-    say_upgraded, serve, show_file, tell, tell_sweep, upgrade_worker,
+    BufferedLines, CreateOrder, LineOutlet, Obstacle, Order, Printer, RunOrder, Sizes, StoryOrder,
+    SweepChoice, SweepOrder, System, check_bytes, create_disk, files_file, fronts_of, inspect_file,
+    read_module, read_script, read_sweep, read_words, report, report_script, report_sweep_script,
+    report_unread, report_words, run_file, show_file, tell, tell_sweep, upgrade_file,
 };
 
 /// It is read to keep a number from other files. It has no bytes, and takes none from a reader.
@@ -107,8 +102,7 @@ fn check<R: Files, W: Write + Drop, E: Write + Drop>(
     }
 }
 
-/// Makes the disk's file, or takes its device, once module and configuration are accepted. Then a
-/// worker is made on it.
+/// Creates a worker of the module in a file, as the words say.
 fn create<R: Files<File = File>, W: Write + Drop, E: Write + Drop>(
     rt: &R,
     alloc: Global,
@@ -118,65 +112,12 @@ fn create<R: Files<File = File>, W: Write + Drop, E: Write + Drop>(
 ) -> u8
     ensures { result ≤ 7 }
 {
-    let wasm = match read_file(rt, alloc, order.module) {
-        Ok(wasm) => wasm,
-        Err(error) => return report_unread(err, order.module, error),
-    };
-    let sizes = Sizes {
-        pages: order.pages,
-        files: order.files,
-        journal: order.journal,
-    };
-    let arguments = order.arguments.as_slice();
-    let environment = order.environment.as_slice();
-    let prepared = match prepare(alloc, wasm.as_slice(), sizes, arguments, environment) {
-        Ok(prepared) => prepared,
-        Err(fault) => return report_unprepared(err, fault),
-    };
-    let new = NewDisk {
-        path: order.disk,
-        wasm: wasm.as_slice(),
-        prepared: &prepared,
-    };
-    let out = &mut Printer::new(out, false);
-    if order.on_device {
-        create_device(alloc, rt, new, out, err)
-    } else {
-        create_file(alloc, rt, new, out, err)
-    }
-}
-
-/// The seed that the words give, or zeros, which anyone can foresee.
-fn seed_of(order: &RunOrder<'_>) -> Option<[u8; 32]> {
-    match order.seed {
-        Some(digits) => read_seed(digits),
-        None => Some([0; 32]),
-    }
-}
-
-/// The file that says where the worker is, if the words name one.
-fn watcher_of<'a, R: Files, E: Write + Drop>(
-    rt: &'a R,
-    alloc: Global,
-    order: &RunOrder<'a>,
-    err: &mut Printer<E>,
-) -> Result<Option<StatusFile<'a, R>>, u8>
-    ensures { IfErr result (λ status. status ≤ 7) }
-{
-    let Some(path) = order.status else {
-        return Ok(None);
-    };
-    match StatusFile::new(alloc, rt, path) {
-        Ok(file) => Ok(Some(file)),
-        Err(error) => Err(report_unread(err, path, error)),
-    }
-}
-
-/// How the words say that a worker is driven.
-fn pace_of(order: &RunOrder<'_>) -> Pace {
-    Pace {
-        fuel: order.fuel,
-        every: order.every,
+    match read_file(rt, alloc, order.module) {
+        Ok(wasm) => {
+            let out = &mut Printer::new(out, false);
+            create_disk(alloc, rt, order, wasm.as_slice(), out, err)
+        }
+        Err(error) => report_unread(err, order.module, error),
     }
 }
 
@@ -190,34 +131,18 @@ fn run<R: Files<File = File> + Input + Clock, W: Write + Drop, E: Write + Drop>(
 ) -> u8
     ensures { result ≤ 7 }
 {
-    let Some(seed) = seed_of(order) else {
-        return report(err, Obstacle::NoSeed);
-    };
-    let watcher = match watcher_of(rt, alloc, order, err) {
-        Ok(watcher) => watcher,
-        Err(status) => return status,
-    };
-    let mut disk = match open_disk(rt, order.disk, order.rewrites, err) {
-        Ok(disk) => disk,
-        Err(status) => return status,
+    let Ok(mut outlet) = LineOutlet::new(alloc, out) else {
+        return report(err, Obstacle::Memory);
     };
     let Ok(reader) = BufReader::new(alloc, rt.reader()) else {
         return report(err, Obstacle::Memory);
     };
-    let outside = Outside {
-        seed,
-        clock: order.clock,
+    let system = System {
+        files: rt,
+        lines: BufferedLines::new(reader),
+        clock: rt,
     };
-    let mut source = RequestSource::new(alloc, BufferedLines::new(reader), rt, outside, 0);
-    let Ok(mut outlet) = LineOutlet::new(alloc, out) else {
-        return report(err, Obstacle::Memory);
-    };
-    let drive = Drive {
-        pace: pace_of(order),
-        watcher: &watcher,
-    };
-    let status = serve(alloc, &mut disk, drive, &mut source, &mut outlet, err);
-    report_input(&source, status, err)
+    run_file(alloc, system, order, &mut outlet, err)
 }
 
 /// Brings the worker of a disk to version 2, and says so after its lines.
@@ -230,19 +155,10 @@ fn upgrade<R: Files<File = File>, W: Write + Drop, E: Write + Drop>(
 ) -> u8
     ensures { result ≤ 7 }
 {
-    let mut disk = match open_disk(rt, path, false, err) {
-        Ok(disk) => disk,
-        Err(status) => return status,
-    };
-    let Ok(mut outlet) = LineOutlet::new(alloc, &mut *out) else {
+    let Ok(mut outlet) = LineOutlet::new(alloc, out) else {
         return report(err, Obstacle::Memory);
     };
-    let upgraded = upgrade_worker(alloc, &mut disk, &mut outlet, err);
-    drop(outlet);
-    match upgraded {
-        Ok(upgraded) => say_upgraded(&mut Printer::new(out, false), upgraded),
-        Err(status) => status,
-    }
+    upgrade_file(alloc, rt, path, &mut outlet, err)
 }
 
 /// Tells that the module of a story can't be read, but first what is wrong with the script.

@@ -23,10 +23,14 @@ pub mod TellingLemmas
 pub mod RefusalLemmas
 pub mod CauseLemmas
 pub mod FrontLemmas
+pub mod ServedLemmas
 pub mod SevenLemmas
 pub mod TakingLemmas
 pub mod FileLemmas
 pub mod OpeningLemmas
+pub mod StatusLineLemmas
+pub mod StatusLemmas
+pub mod StatusFileLemmas
 mod SpellingLemmas
 mod InspectingLemmas
 mod ValueLemmas

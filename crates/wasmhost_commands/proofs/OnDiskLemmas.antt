@@ -19,7 +19,8 @@ use Rattle.worker.specs.declared.recover_fault.RecoverFault.TheVariants as recov
 use Rattle.worker.specs.rules.DurableValues.{DurableValue}
 use Rattle.worker.specs.rules.Outlets.{HeedsOutlet, IsOutletFault, SaysOutletFault}
 use Rattle.worker.specs.rules.RecoverFaults.{wants_memory}
-use Rattle.worker.specs.rules.Recoveries.{IsNoWorker, Recovers, RecoveryCarries}
+use Rattle.worker.specs.rules.Effects.{RecoversWorker}
+use Rattle.worker.specs.rules.Recoveries.{IsNoWorker, Recovers}
 use Rattle.worker.proofs.OutletLemmas.{heeds_on, each_taken}
 use Rattle.worker.specs.rules.OneLife.{recovered, opened, unopened}
 use Rattle.wasmhost_commands.specs.declared.lines.fault.LineFault.{LineFault}
@@ -159,37 +160,37 @@ module _ {D O : Type 0} (medium : D → Medium) (takes : Taking O) where
 
   -- a worker that isn't opened
   pub opens_none : (why : RecoverFault) (found last : D) (o p : O)
-      → Recovers medium takes (Err why) found last o p
-      → RecoveryCarries takes (Err why) (medium found) (medium last) o p
+      → RecoversWorker medium takes (Err why) found last o p
       → HeedsOutlet takes (IsOutletFault why) o p
       → IsUnopenedRun medium takes why found last o p
-  opens_none why found last o p recovers carries heeds = record {
-    none = only_synced why found last o p recovers;
+  opens_none why found last o p recovers heeds = record {
+    recovers = recovers;
+    none = only_synced why found last o p recovers.recovers;
     life = λ some image leaves bytes config acts source.
-        unopened (recovered image leaves some carries);
+        unopened (recovered image leaves some recovers.carries);
     heeded = heeds;
   }
 
   -- one that is, and lives
   lives_on : (before : RunStart D O) (after : RunEnd D O) (w : DurableValue)
       (result : Result Now WorkFault) (opening : D) (p : O) (source' : SourceState)
-      → RecoveryCarries takes (Ok w) (medium before.disk) (medium opening) before.outlet p
+      → RecoversWorker medium takes (Ok w) before.disk opening before.outlet p
       → HeedsOutlet takes ⊥ before.outlet p
       → LivesAtPace medium handing takes before.given.fuel before.given.every
       (scene w opening (source_behind before.given w) p) result after.disk source' after.outlet
       → LivesOnDisk medium takes (undone_after result) before after source'
-  lives_on before after w result opening p source' carries heeds lives = record {
+  lives_on before after w result opening p source' recovers heeds lives = record {
     worker = w;
     opening = opening;
     retold = p;
-    recovers = carries;
+    recovers = recovers;
     acts = lives.acts;
     paced = lives.paced;
     heard = lives.heard;
     heeded = heeds_on takes (SaysOutletFault (undone_after result)) before.outlet p after.outlet
         (each_taken takes ⊥ before.outlet p (λ told. told) heeds) lives.heeded;
     life = λ image leaves bytes config.
-        opened (recovered image leaves (λ none. none) carries) lives.done;
+        opened (recovered image leaves (λ none. none) recovers.carries) lives.done;
   }
 
   -- ---- what the status says
@@ -200,21 +201,18 @@ module _ {D O : Type 0} (medium : D → Medium) (takes : Taking O) where
 
     pub serves_none : (why : RecoverFault) (told : OnDiskFault)
         → after.failed ≡ before.given.failed
-        → Recovers medium takes (Err why) before.disk after.disk before.outlet after.outlet
-        → RecoveryCarries takes (Err why) (medium before.disk) (medium after.disk) before.outlet
-        after.outlet
+        → RecoversWorker medium takes (Err why) before.disk after.disk before.outlet after.outlet
         → HeedsOutlet takes (IsOutletFault why) before.outlet after.outlet
         → told ≡ opening_fault why → IsSaid (status_on_disk told) before.err status after.err
         → Serves
-    serves_none why told steady recovers carries heeds tells says =
+    serves_none why told steady recovers heeds tells says =
         is_unopened why
-        (opens_none why before.disk after.disk before.outlet after.outlet recovers carries heeds)
+        (opens_none why before.disk after.disk before.outlet after.outlet recovers heeds)
         steady
         (subst (λ t. IsSaid (status_on_disk t) before.err status after.err) tells says)
 
     module _ (w : DurableValue) (opening : D) (p : O) (between : PrinterState)
-        (carries : RecoveryCarries takes (Ok w) (medium before.disk) (medium opening)
-        before.outlet p)
+        (recovers : RecoversWorker medium takes (Ok w) before.disk opening before.outlet p)
         (heeds : HeedsOutlet takes ⊥ before.outlet p)
         (tells : TellsPerson (recovered_line w) before.err between) where
       serves_over : (why : Now)
@@ -224,7 +222,7 @@ module _ {D O : Type 0} (medium : D → Medium) (takes : Taking O) where
       unfolding lives_on
       serves_over why gone says =
           over why gone.0 between gone.1
-          (lives_on before after w (Ok why) opening p gone.0 carries heeds gone.3)
+          (lives_on before after w (Ok why) opening p gone.0 recovers heeds gone.3)
           (λ image leaves bytes config. gone.3.says) gone.2 tells says
 
       serves_broken : (told : OnDiskFault)
@@ -234,7 +232,7 @@ module _ {D O : Type 0} (medium : D → Medium) (takes : Taking O) where
       unfolding lives_on
       serves_broken told gone says =
           broken gone.1 told gone.0 between
-          (lives_on before after w (Err gone.1) opening p gone.0 carries heeds gone.4)
+          (lives_on before after w (Err gone.1) opening p gone.0 recovers heeds gone.4)
           gone.4.broken gone.3 gone.2 tells says
 
       pub serves_gone : (result : Result Now OnDiskFault)

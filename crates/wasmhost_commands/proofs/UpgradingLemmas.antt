@@ -22,7 +22,7 @@ use Rattle.worker.specs.rules.DurableCalls.{SliceCarries, UpgradeCarries}
 use Rattle.worker.specs.rules.DurableFailures.{HasSliceCause}
 use Rattle.worker.specs.rules.LifeWords.{Slice, Upgrade}
 use Rattle.worker.specs.rules.Outlets.{TakesEach, HeedsOutlet, IsOutletFault, SaysOutletFault}
-use Rattle.worker.specs.rules.Recoveries.{Recovers, RecoveryCarries}
+use Rattle.worker.specs.rules.Effects.{RecoversWorker}
 use Rattle.worker.specs.rules.Upgrades.{UpgradeFails, HasUpgradeCause, IsNotCaughtUp}
 use Rattle.worker.specs.rules.OneLife.{no_more, slice_failed, was_upgraded, upgrade_failed}
 use Rattle.worker.specs.rules.OneLife.{recovered, opened}
@@ -265,51 +265,50 @@ module _ {D O : Type 0} (medium : D → Medium) (takes : Taking O) where
   -- a worker that was recovered, and then upgraded
   pub lives_to_upgrade : (w : DurableValue) (result : Result (Unit {0}) WorkFault)
       (found opening last : D) (o p q : O)
-      → RecoveryCarries takes (Ok w) (medium found) (medium opening) o p
+      → RecoversWorker medium takes (Ok w) found opening o p
       → HeedsOutlet takes ⊥ o p → w.process.host.host.version ≡ One
       → IsUpgradedFrom medium from_list takes (scene w opening [] p) result last q
       → LivesToUpgrade medium takes (undone_then result) found last o q
-  lives_to_upgrade w result found opening last o p q carries heeds narrow done = record {
+  lives_to_upgrade w result found opening last o p q recovers heeds narrow done = record {
     worker = w;
     narrow = narrow;
     opening = opening;
     retold = p;
-    recovers = carries;
+    recovers = recovers;
     count = done.count;
     source' = done.source;
     heard = done.heard;
     heeded = heeds_on takes (SaysOutletFault (undone_then result)) o p q
         (each_taken takes ⊥ o p (λ told. told) heeds) done.heeded;
     life = λ image leaves bytes config.
-        opened (recovered image leaves (λ none. none) carries) done.done;
+        opened (recovered image leaves (λ none. none) recovers.carries) done.done;
   }
 
   -- ---- what the command says
 
   -- a worker that isn't opened
   pub none_upgraded : (why : RecoverFault) (told : OnDiskFault) (found last : D) (o q : O)
-      (err err' : PrinterState) (status : ℕ) → Recovers medium takes (Err why) found last o q
-      → RecoveryCarries takes (Err why) (medium found) (medium last) o q
+      (err err' : PrinterState) (status : ℕ) → RecoversWorker medium takes (Err why) found last o q
       → HeedsOutlet takes (IsOutletFault why) o q → told ≡ opening_fault why
       → IsSaid (status_on_disk told) err status err'
       → UpgradesOnDisk medium takes (Err status) found last o q err err'
-  none_upgraded why told found last o q err err' status recovers carries heeds tells says =
+  none_upgraded why told found last o q err err' status recovers heeds tells says =
       inl (
         why,
-        opens_none medium takes why found last o q recovers carries heeds,
+        opens_none medium takes why found last o q recovers heeds,
         subst (λ t. IsSaid (status_on_disk t) err status err') tells says,
       )
 
   -- one that was of version 2
   was_of_two : (w : DurableValue) (found last : D) (o p : O) (err err' : PrinterState)
-      → RecoveryCarries takes (Ok w) (medium found) (medium last) o p → HeedsOutlet takes ⊥ o p
+      → RecoversWorker medium takes (Ok w) found last o p → HeedsOutlet takes ⊥ o p
       → w.process.host.host.version ≡ Two → TellsPerson (recovered_line w) err err'
       → UpgradesOnDisk medium takes (Ok upgraded.Before) found last o p err err'
-  was_of_two w found last o p err err' carries heeds version tells = (
+  was_of_two w found last o p err err' recovers heeds version tells = (
     record {
       worker = w;
       version = version;
-      recovers = carries;
+      recovers = recovers;
       taken = each_taken takes ⊥ o p (λ told. told) heeds;
     },
     tells,
@@ -317,14 +316,14 @@ module _ {D O : Type 0} (medium : D → Medium) (takes : Taking O) where
 
   -- one of version 1
   module _ (w : DurableValue) (found opening last : D) (o p q : O) (err between : PrinterState)
-      (carries : RecoveryCarries takes (Ok w) (medium found) (medium opening) o p)
+      (recovers : RecoversWorker medium takes (Ok w) found opening o p)
       (heeds : HeedsOutlet takes ⊥ o p) (narrow : w.process.host.host.version ≡ One)
       (tells : TellsPerson (recovered_line w) err between) where
     is_upgraded : IsUpgradedFrom medium from_list takes (scene w opening [] p) (Ok tt) last q
         → UpgradesOnDisk medium takes (Ok upgraded.Now) found last o q err between
     unfolding lives_to_upgrade
     is_upgraded done = (
-      lives_to_upgrade w (Ok tt) found opening last o p q carries heeds narrow done,
+      lives_to_upgrade w (Ok tt) found opening last o p q recovers heeds narrow done,
       λ image leaves bytes config. done.ends,
       tells,
     )
@@ -337,7 +336,7 @@ module _ {D O : Type 0} (medium : D → Medium) (takes : Taking O) where
     not_upgraded why err' status done says = inr (
       why,
       between,
-      lives_to_upgrade w (Err why) found opening last o p q carries heeds narrow done,
+      lives_to_upgrade w (Err why) found opening last o p q recovers heeds narrow done,
       ⊎_elim (λ breaks. inl breaks)
           (λ (other : IsOfUpgrade why × (outcome_after now.Spent done.done ≢ now.Spent)).
           inr (other.0, λ image leaves bytes config. other.1)) done.ends,
@@ -349,16 +348,16 @@ module _ {D O : Type 0} (medium : D → Medium) (takes : Taking O) where
   -- one that is open
   pub open_upgraded : (w : DurableValue) (found opening last : D) (o p q : O)
       (err err' : PrinterState)
-      → RecoveryCarries takes (Ok w) (medium found) (medium opening) o p → HeedsOutlet takes ⊥ o p
+      → RecoversWorker medium takes (Ok w) found opening o p → HeedsOutlet takes ⊥ o p
       → (result : Result Upgraded ℕ)
       → UpgradesOpen medium takes w result opening last p q err err'
       → UpgradesOnDisk medium takes result found last o q err err'
-  open_upgraded w found opening last o p q err err' carries heeds (Ok upgraded.Now) does =
-      is_upgraded w found opening last o p q err err' carries heeds does.0 does.1 does.2
-  open_upgraded w found opening last o p q err err' carries heeds (Ok upgraded.Before) does =
-      rw (does.2, does.3) (was_of_two w found opening o p err err' carries heeds does.0 does.1)
-  open_upgraded w found opening last o p q err err' carries heeds (Err status) does =
-      not_upgraded w found opening last o p q err does.1 carries heeds does.2 does.3 does.0 err'
+  open_upgraded w found opening last o p q err err' recovers heeds (Ok upgraded.Now) does =
+      is_upgraded w found opening last o p q err err' recovers heeds does.0 does.1 does.2
+  open_upgraded w found opening last o p q err err' recovers heeds (Ok upgraded.Before) does =
+      rw (does.2, does.3) (was_of_two w found opening o p err err' recovers heeds does.0 does.1)
+  open_upgraded w found opening last o p q err err' recovers heeds (Err status) does =
+      not_upgraded w found opening last o p q err does.1 recovers heeds does.2 does.3 does.0 err'
       status does.4 does.5
 
 -- the version of a worker, as its process and its host say it

@@ -20,6 +20,7 @@ pub mod Later
 pub mod Leavings
 pub mod MadeFiles
 pub mod ModuleLimits
+pub mod ServedFiles
 pub mod ServedOnDisk
 pub mod Upgradings
 pub mod Showings
@@ -30,6 +31,7 @@ pub mod Scripts
 pub mod Stories
 pub mod SweepTexts
 pub mod Sweeps
+pub mod StatusFiles
 pub mod Watchings
 pub mod InspectionTexts
 pub mod InspectionValues

@@ -38,9 +38,9 @@ pub fn lives_on_disk_go_on<D: Disk, O: Outlet>()
 {}
 
 /// Of all that is asked in a life on a disk, the answered requests are those of the reader's lines
-/// after the ones that the worker has taken, in order and none left out. Times are the clock's, and
-/// random bytes the next ones of the stream of the worker's generation. There is no answer yet only
-/// to a request for which no line is left.
+/// after the ones that the worker has taken, in order and none left out. Times are the fixed one,
+/// where one is fixed. Random bytes are the next ones of the stream of the worker's generation.
+/// There is no answer yet only to a request for which no line is left.
 pub fn answers_come_from_the_lines()
     ensures answers { AnswersComeFromTheLines }
     ensures none_left { NoneIsLeftAtTheEnd }

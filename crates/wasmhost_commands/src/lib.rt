@@ -15,12 +15,15 @@
 //!   disk, so the program refuses a module before it makes one.
 //! - `create_on`: status 0 says that the worker of these bytes and this configuration is created on
 //!   the disk, at its start. `created N sectors` was printed then. What the other statuses say is
-//!   said too, and what a cut at any moment leaves (`creates`). `report_unprepared` answers the
+//!   said too, and what a cut at any moment leaves (`creates`). Where the output can't be written,
+//!   that is told on the error output. `report_unprepared` answers the
 //!   status of what it tells, or 7. It tells the bounds of what is out of them (`range`), and the
 //!   limit that a module passes, with its place (`limit`).
 //! - `create_file` is `create_on` of a disk whose file it makes. Where the status isn't 0 that file
 //!   is removed again, and no other one is (`CreatesFile`). `create_device` is `create_on` of a
-//!   block device that is there (`CreatesOnDevice`).
+//!   block device that is there (`CreatesOnDevice`). `create_disk` does what the words of a
+//!   creation say: with their sizes, arguments and environment, on a device or in a new file
+//!   (`CreatesDisk`).
 //! - `serve`: what each status of a run of the worker on a disk says (`serves`), with whatever
 //!   outlet it is lent. Where the worker was recovered, all that was done of the disk, the source
 //!   and the outlet are the calls of one life, in order: slices of its fuel, and checkpoints at its
@@ -38,8 +41,14 @@
 //! - `Watcher`: who is told where the worker of a run is. `serve` tells it once the worker is
 //!   recovered, and after each checkpoint of its pace (`told` of `rest_on`). Where the status is 0,
 //!   it was told of that end (`watched`). `StatusFile` is one, which replaces a small file. Its
-//!   line is `watch_line`. No clause says that the file gets it:
-//!   `scripts/runs/program-rows` shows that.
+//!   line is `watch_line`. No clause says that the file gets it: `scripts/runs/program-rows` and
+//!   `scripts/runs/disk-rows` show that.
+//! - `status_file_of`: there is a status file only where both of its paths were found free. Else it
+//!   is said which one isn't, and why (`SaysUnwatched`). A path is free exactly where it is missing,
+//!   or a regular file that is empty or has one status line (`FoundFile::is_free`). By
+//!   `WatchedPaths` no other file is removed than one found to be such, or made by this run, and
+//!   only a path that was found free gets a new file. Where a line isn't put there, the new file was
+//!   removed again, or none was made (`left` of `StatusFile::put`).
 //! - `laws::statuses_have_causes`: what each of these statuses comes from, and that a reader which
 //!   fails is told (`SaysOnDisk`). Where a number, memory or an answer was wanting, each line of
 //!   the worker was told (`HasToldItsLines`). `laws::refusals_have_reasons`: why the source of a
@@ -51,18 +60,19 @@
 //!   the error is one that an upgrade may answer (`HasFailedAt`). It is never that the worker
 //!   hadn't caught up (`IsOfCaughtUp`). Of a worker of version 2 all that is done is a recovery
 //!   (`upgrades`). The status is 7 where the outlet has refused a line, and else only where a write
-//!   of `err` has failed (`refusal`).
+//!   of `err` has failed (`refusal`). `upgrade_file` is that of a disk that was opened and not
+//!   written back, and the result is said behind the worker's lines (`UpgradesFile`).
 //! - `survey`: the survey of a worker's disk is printed, or what keeps it from that is told
 //!   (`shows`). Of a disk that stands for a worker the line is that worker's (`stands`). Nothing is
 //!   changed on the disk, but that it is synced.
 //! - `inspect_disk`: all facts of the disk are printed, one a line or as one JSON value, or what
 //!   keeps it from that is told (`TellsDisk`). `list_files`: the files of the saved process are
-//!   listed, or the bytes of one are written (`TellsFiles`). `inspect_file` and `files_file` are
-//!   these of a disk that was opened, and nothing else is done with it (`TellsFile`,
-//!   `TellsFilesOf`).
+//!   listed, or the bytes of one are written (`TellsFiles`). `inspect_file` and `files_file` say
+//!   these of a disk of which no call was made since it was opened (`TellsFile`, `TellsFilesOf`).
 //! - `open_disk`: where no rewrite is asked for, the disk of a file of which no call was made since
-//!   it was opened. Else each sector was written back, and synced (`IsOpenedFor`). `show_file` is
-//!   `survey` of a disk that was opened so, and nothing else is done with it (`ShowsFile`).
+//!   it was opened. Else each sector was written back, and synced (`IsOpenedFor`). `show_file` says
+//!   what `survey` says of a disk that was opened so (`ShowsFile`). No clause says of these that the
+//!   disk is the file at the path: scripts show it.
 //! - `RequestSource` answers requests as the lines of its reader say, in their order (`HandsNext`).
 //!   It answers clocks with the fixed time, or with that of its `RealTime` clock, to the nanosecond
 //!   (`IsRealTime`). It answers questions for random bytes with the next words of its stream. It
@@ -101,7 +111,7 @@
 //!   script spells, and which one is swept (`AreSweptLives`). `fronts_of`: the fronts that a text
 //!   spells.
 //! - `laws::faultless_words_mean`, `laws::worked_examples`: words without a fault mean an order,
-//!   with numbers in their ranges; ninety-three command lines. What `--version` is told of the
+//!   with numbers in their ranges; ninety-four command lines. What `--version` is told of the
 //!   program is `version_words` (`HasVersion`).
 //!
 //! # Definitions to read
@@ -110,19 +120,21 @@
 //! `GivesAnswers`, `GiveUpTo` (`Requests.antt`); `ComeFrom`, `requests_in` (`Outside.antt`);
 //! `seeded_bytes` (`Seeds.antt`); `printed`, `request_line` (`Texts.antt`);
 //! `CreatesOn`, `IsPreparedAs`, `IsUnprepared`, `config_as` (`Creations.antt`); `CreatesFile`,
-//! `CreatesOnDevice` (`MadeFiles.antt`);
+//! `CreatesOnDevice`, `CreatesDisk` (`MadeFiles.antt`);
 //! `wasmhost`, `version_words` (`CommandLine.antt`);
 //! `meaning_in`, `IsReading`, `IsStatusOf` (`Commands.antt`);
 //! `IsOutOfBounds`, `range_words` (`Bounds.antt`); `limit_text` (`ModuleLimits.antt`);
 //! `SaysOfInput` (`Leavings.antt`);
 //! `ShowsDisk`, `ShowsSurvey`, `survey_line` (`Showings.antt`); `open_words`, `IsOpenedFor`,
-//! `ShowsFile` (`Openings.antt`); `watch_line`, `WatchesEnd` (`Watchings.antt`);
+//! `ShowsFile` (`Openings.antt`); `watch_line`, `IsStatusLine`, `WatchesEnd` (`Watchings.antt`);
+//! `IsFreePath`, `IsStatusFile`, `SaysUnwatched` (`StatusFiles.antt`);
 //! `inspection_text`, `inspection_data`, `listing_text`, `TellsDisk`, `TellsFiles`
 //! (`Inspectings.antt`), with their lines in `InspectionTexts.antt` and `ProcessTexts.antt`, and
 //! the members of the JSON value in `InspectionValues.antt` and `ProcessValues.antt`;
 //! `TellsFile`, `TellsFilesOf` (`LookedFiles.antt`);
 //! `RunStart`, `RunEnd`, `ServesOnDisk`, `LivesOnDisk`, `HasOutcome`, `HasBrokenOff`,
-//! `source_behind` (`ServedOnDisk.antt`); `BreaksOff`, `LeavesNoLine`, `TellsItsLines`
+//! `source_behind` (`ServedOnDisk.antt`); `RunsFile`, `IsJobOf`, `UpgradesFile`
+//! (`ServedFiles.antt`); `BreaksOff`, `LeavesNoLine`, `TellsItsLines`
 //! (`BrokenLives.antt`); `HeedsRefusal` (`Refusals.antt`); `UpgradesOnDisk`, `LivesToUpgrade`,
 //! `HasRunOn`, `HasFailedAt`, `IsOfCaughtUp` (`Upgradings.antt`); `IsPaced` (`Paces.antt`);
 //! `status_on_disk`, `opening_fault`, `IsReportedOnDisk` (`DiskStatuses.antt`);
@@ -138,8 +150,8 @@
 //! Only this crate knows how lines, requests and last words are spelled, and the exit statuses
 //! (`status`). `wasmhost` calls it. It uses `ephemeral_worker`, `worker` and `machine_loader`. Want
 //! of memory is status 5. A disk is lent to each call of a worker on it. Beside these only
-//! `open_disk`, `create_file` and `create_device` touch one. They and `StatusFile` are the places
-//! here that open a file.
+//! `open_disk`, `create_file` and `create_device` touch one. They, `WatchedPaths` and `StatusFile`
+//! are the places here that open a file.
 //!
 //! # Choices
 //!
@@ -153,6 +165,13 @@
 //!   tests show its words.
 //! - **A watcher is told by a shared reference**, and what it was told is a ghost that only its
 //!   call makes true. So a run's clauses speak of no state of it, and a watcher can change nothing.
+//! - **What is at a path is a value of its own** (`FoundFile`), and one function of it decides. The
+//!   calls that look, remove and rename are a trait (`WatchedPaths`), so that a clause can say what
+//!   was looked at before. The kit's calls say nothing of files. Between a look and the next call
+//!   another program may change the path: no call of the kit renames only where nothing is.
+//! - **A status line is read without its values.** Each number is spelled again, and compared, so
+//!   that only one spelling of it is read. A line is written by one write, so that a program that
+//!   is killed leaves an empty file or a whole line, which the next run removes.
 //! - A run is a loop without a counter. Fuel is never 0 by its type. So a slice that has spent it
 //!   leaves fewer steps that can be counted.
 //! - **Request lines come from a trait of this project's own**, `LineReader`, with one method. Its
@@ -164,6 +183,8 @@
 //! - **The third value is a measure.** Lines may go on for ever, and a loop has to end. A loop that
 //!   gave up after 2^64 lines would have to tell some fault that isn't true. Now the reader fails
 //!   after 2^64 - 1 pieces, and says so.
+//! - **What the words of a command say is handed over whole**, and one function makes the job of a
+//!   run of it (`job_of`). So the program has no number to pass, and each is in a clause.
 //! - **`serve` takes a source, as it takes an outlet**, and lets it go on after the worker, so that
 //!   no state of it is a premise. Of a reader that is borrowed by a source inside, nothing could be
 //!   said at the end.
@@ -269,9 +290,10 @@ pub use lines::{
 };
 pub use module_bytes::read_module;
 pub use on_disk::{
-    Drive, NewDisk, Pace, StatusFile, Upgraded, Watcher, create_device, create_file, create_on,
-    files_file, inspect_file, open_disk, report_input, report_open, report_unread, say_upgraded,
-    serve, show_file, survey, upgrade_worker,
+    Drive, FoundFile, NewDisk, Pace, StatusFile, System, Upgraded, WatchedPaths, Watcher,
+    create_device, create_disk, create_file, create_on, files_file, inspect_file, open_disk,
+    report_input, report_open, report_unread, run_file, serve, show_file, status_file_of, survey,
+    upgrade_file, upgrade_worker,
 };
 pub use preparing::{Prepared, Unprepared, prepare, report_unprepared};
 pub use printer::Printer;

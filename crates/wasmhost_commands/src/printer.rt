@@ -51,6 +51,13 @@ impl<W: Write + Drop> Printer<W> {
         &self.out
     }
 
+    /// What it has written to.
+    pub fn into_writer(self) -> W
+        ensures { W.contents result ≡ self.contents }
+    {
+        self.out
+    }
+
     /// Keeps it where a write has failed.
     fn heed(&mut self, written: io::Result<()>) -> io::Result<()>
         ensures same { result ≡ written }

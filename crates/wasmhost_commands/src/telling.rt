@@ -20,7 +20,7 @@ const TIP: &str = "\n\n  tip: to pass '-";
 /// What is after a tip.
 const GAP: &str = "\n\n";
 
-/// Why a command isn't begun.
+/// Why a command isn't begun, or that its output can't be written.
 #[derive(Clone, Copy, Debug, PartialEq, Eq)]
 pub enum Obstacle {
     Memory,
@@ -34,6 +34,8 @@ pub enum Obstacle {
     NoFronts,
     /// A script has no life of a number.
     NoLife,
+    /// A write of the output has failed.
+    Unwritten,
 }
 
 /// Prints a line. Answers the status, or 7 where a write has failed.
@@ -46,7 +48,8 @@ pub fn say_line<W: Write + Drop>(out: &mut Printer<W>, status: u8, line: &str) -
     }
 }
 
-/// Prints why a command isn't begun, and answers the exit status.
+/// Prints why a command isn't begun, or that its output can't be written, and answers the exit
+/// status.
 pub fn report<E: Write + Drop>(err: &mut Printer<E>, obstacle: Obstacle) -> u8
     ensures said { SaysLine (obstacle_words obstacle) (obstacle_status obstacle) err.old
         result err.new }
@@ -59,6 +62,7 @@ pub fn report<E: Write + Drop>(err: &mut Printer<E>, obstacle: Obstacle) -> u8
         Obstacle::NoSeed => say_line(err, USAGE, "error: a seed is 64 hexadecimal digits"),
         Obstacle::NoFronts => say_line(err, USAGE, "error: fronts are numbers from 0 to 512"),
         Obstacle::NoLife => say_line(err, USAGE, "error: the script has no such life"),
+        Obstacle::Unwritten => say_line(err, UNWRITTEN, "failed N3 Outlet"),
     }
 }
 

@@ -57,6 +57,7 @@ module _ (sectors : ℕ) (disk : DiskImage) (found : Found) (at : IsFoundIn sect
     newest = subst (λ (b : List ℕ). NamesProcessImage at.holds.contents.geometry disk
         found.generation (saved_of found.process).version b) at.process.restored.is
         at.process.newest;
+    none_later = at.none_later;
     records = found.records.items;
     scanned = at.scanned;
   }

@@ -32,7 +32,8 @@ use Rattle.worker_store.specs.rules.AnyDisk.{TellsContents, TellsNewest, TellsRe
 use Rattle.worker_store.specs.rules.AnyDisk.{NamesProcessImage}
 use Rattle.worker.specs.declared.recover_fault.RecoverFault.TheVariants as recover
 use Rattle.worker.specs.rules.RecoverFaults.{fault_of_read}
-use Rattle.worker.specs.rules.ShownDisks.{HoldsModule, HoldsNamedProcessImage, ShowsFault}
+use Rattle.worker.specs.rules.ShownDisks.{HoldsModule, HoldsNamedProcessImage, HoldsProcess}
+use Rattle.worker.specs.rules.ShownDisks.{ShowsFault}
 use Rattle.worker.specs.FoundDisks.{IsRestoredIn, IsFoundIn}
 use Rattle.worker.proofs.RestoringLemmas.{unrestored}
 
@@ -90,7 +91,7 @@ module _ (sectors : ℕ) (disk : DiskImage) (contents : Contents)
         → ShowsFault sectors disk (fault_of_read fault)
     newest_unread (read.Layout layout.Version) tells = inr (holds, tells)
     newest_unread (read.Layout layout.Damaged) tells =
-        inr (record { holds = holds; odds = tells })
+        inr (inl (record { holds = holds; odds = tells }))
     newest_unread (read.Snapshot snapshot.Damaged) tells = record { holds = holds; none = tells }
     newest_unread (read.Snapshot snapshot.Memory) tells = (holds, tells)
     newest_unread (read.Disk fault) tells = tt
@@ -148,10 +149,8 @@ module _ (sectors : ℕ) (disk : DiskImage) (contents : Contents)
               (subst (λ (b : List ℕ). IsRestored machine.guest contents.config b v) same restored);
         }
 
-        no_records : (fault : ReadFault)
-            → TellsRecords contents.geometry (saved_of v).version newest.generation disk (Err fault)
-            → ShowsFault sectors disk (fault_of_read fault)
-        no_records (read.Journal journal.Memory) tells =
+        abbrev process_in : HoldsProcess sectors disk
+        process_in =
             let again = restored_in.restored in
             record {
               holds = holds;
@@ -161,6 +160,13 @@ module _ (sectors : ℕ) (disk : DiskImage) (contents : Contents)
               newest = subst (λ (b : List ℕ). NamesProcessImage contents.geometry disk
                   newest.generation (saved_of v).version b) again.is restored_in.newest;
             }
+
+        no_records : (fault : ReadFault)
+            → TellsRecords contents.geometry (saved_of v).version newest.generation disk (Err fault)
+            → ShowsFault sectors disk (fault_of_read fault)
+        no_records (read.Layout layout.Damaged) tells =
+            inr (inr (record { older = process_in; later = tells }))
+        no_records (read.Journal journal.Memory) tells = (process_in, tells)
         no_records (read.Disk fault) tells = tt
         no_records other tells = absurd tells
 
@@ -184,6 +190,7 @@ module _ (sectors : ℕ) (disk : DiskImage) (contents : Contents)
           holds = holds;
           process = restored_in;
           image = sym same ∙ restored.is;
+          none_later = tells.1;
           scanned = sym (subst (λ w. records.items
-              ≡ scan contents.geometry w disk newest.generation) same_version tells);
+              ≡ scan contents.geometry w disk newest.generation) same_version tells.0);
         }

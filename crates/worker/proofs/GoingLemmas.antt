@@ -65,29 +65,12 @@ use Rattle.worker.specs.Going.{HasAllRoom, IsKeptOn, IsReportedOn, LivesOn}
 use Rattle.worker.specs.Going.{promised_by_all}
 use Rattle.worker.specs.Going.{GoneOn}
 use Rattle.worker.specs.Hearing.{hands_out, hears}
+use Rattle.restart_theorem.proofs.FileLives.{zeros_are_blank}
 use Rattle.worker.proofs.HeardLemmas.{said_so, heard_all}
 use Rattle.worker.proofs.EndLemmas.{tells_end, next_finds, faults_as_planned}
 use Rattle.worker.proofs.EndLemmas.{stopping_leaves_some}
 
 -- ---- the empty disk
-
-first_of : List ℕ → ℕ
-first_of [] = 0
-first_of (x ∷ xs) = x
-
-zeros_unmarked : IsMarked (replicate SECTOR_SIZE 0) → ⊥
-unfolding first_of
-zeros_unmarked marks =
-    let first : 0 ≡ 68 = ap first_of marks.first in absurd (omega (arith, first))
-
-none_unmarked : IsMarked [] → ⊥
-unfolding first_of
-none_unmarked marks =
-    let first : 0 ≡ 68 = ap first_of marks.first in absurd (omega (arith, first))
-
-zeros_are_blank : (n : ℕ) → IsBlank (replicate n (replicate SECTOR_SIZE 0))
-zeros_are_blank zero marks = none_unmarked marks
-zeros_are_blank (suc n) marks = zeros_unmarked marks
 
 empty_is_blank : (sectors writes : ℕ) (disk : MemDisk) → IsEmptyDisk sectors writes disk
     → (image : DiskImage) → (memory_medium disk).crash_images image → IsBlank image

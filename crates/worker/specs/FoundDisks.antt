@@ -8,6 +8,7 @@ use Rattle.disk_layout.specs.declared.geometry.Geometry.{Geometry}
 use Rattle.disk_layout.specs.declared.reading.contents.Contents.{Contents}
 use Rattle.disk_layout.specs.rules.Held.{GivesContents}
 use Rattle.disk_layout.specs.rules.Journal.{scan}
+use Rattle.journal.specs.rules.Steps.{ShowsLater}
 use Rattle.state_image.specs.rules.Saving.{saved_of}
 use Rattle.worker_store.specs.rules.AnyDisk.{NamesProcessImage}
 use Rattle.worker.specs.declared.found.Found.{Found}
@@ -24,11 +25,12 @@ pub record IsRestoredIn {sectors : ℕ} {disk : DiskImage} (holds : HoldsModule 
   pub restored : IsRestored holds.module_is holds.contents.config bytes process
 
 -- That was found, with the bytes of its image, and the records of its generation, of the version
--- of the process.
+-- of the process. The first sector of the journal shows no later generation.
 pub record IsFoundIn (sectors : ℕ) (disk : DiskImage) (found : Found) : Type 0 where
   pub holds : HoldsModule sectors disk
   pub process : IsRestoredIn holds found.geometry found.generation found.process
   pub image : found.process_image ≡ process_image (saved_of found.process)
+  pub none_later : ShowsLater holds.contents.geometry found.generation disk → ⊥
   pub scanned : scan holds.contents.geometry (saved_of found.process).version disk found.generation
       ≡ found.records.items
 

@@ -21,7 +21,8 @@ use worker_store::{read_newest, read_records, read_worker};
 /// found is what is on the image that the disk shows. What is wrong is found in one order. First
 /// come the super, the configuration and the module, and whether the module is accepted. Then come
 /// the newest head, its version, the journal for it, its image and the mark of that, whether it is
-/// the image of a process, and the records, which are of the version of that process.
+/// the image of a process, and whether the journal shows a later generation. Last come the records,
+/// which are of the version of that process.
 pub(crate) fn find<D: Disk>(alloc: Global, disk: &mut D) -> Result<Found, RecoverFault>
     ensures searches { Searches (2 * (D.medium disk.old).sectors) result (D.medium disk.old)
         (D.medium disk.new) }

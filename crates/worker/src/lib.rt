@@ -20,7 +20,8 @@
 //!   promised before. After Ok the worker is open on the disk, which has room for it (`room`).
 //! - Whatever is on the disk, the result of `Worker::recover` is what its newest head and all after
 //!   it say. What is refused there is left as it is (`shown`). The head tells the version of the
-//!   image and of the records. A head at odds with the journal or with its image is refused.
+//!   image and of the records. A head at odds with the journal or with its image is refused, and
+//!   so is one that is older than the journal's first sector.
 //! - Whatever is on the disk, where the outlet refuses a line a recovery releases no other one, and
 //!   says so. It says so of nothing else (`heeds`).
 //! - `read_survey`: nothing is written. The disk is synced, and what it then shows decides the

@@ -26,7 +26,8 @@ pub enum RecoverFault {
     /// the next generation is too big.
     #[error("{0}")]
     Worker(WorkFault),
-    /// The super, the configuration and the module's bytes, or the version of the newest head.
+    /// The super, the configuration and the module's bytes, the version of the newest head, or a
+    /// later generation in the journal than that of this head.
     #[error("{0}")]
     Layout(LayoutFault),
     /// The module is decoded, validated and linked.

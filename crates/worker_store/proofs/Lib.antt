@@ -12,3 +12,4 @@ mod ReadLemmas
 mod ReadCauseLemmas
 mod AppendLemmas
 mod NewestLemmas
+mod ScanLemmas

@@ -1,7 +1,11 @@
--- What is judged of an image that was read, by the mark in front of it.
-use Rattle.std.specs.Prelude.{◌≡◌, ℕ, List, Result, Ok, Err}
+-- What is judged of an image that was read, by the mark in front of it, and of a journal that was
+-- scanned, by its first sector.
+use Rattle.std.specs.Prelude.{◌≡◌, ℕ, IsTrue, List, Vec, Result, Ok, Err}
+use Rattle.std.specs.declared.alloc.Global.{Global}
 use Rattle.wasi_abi.specs.declared.version.Version.{Version}
 use Rattle.disk_layout.specs.declared.fault.LayoutFault.TheVariants.{Damaged}
+use Rattle.disk_layout.specs.rules.Journal.{Record}
+use Rattle.journal.specs.declared.scanned.ScannedJournal.{ScannedJournal}
 use Rattle.state_image.specs.rules.ProcessImage.{IsMarkedOtherwise}
 use Rattle.worker_store.specs.declared.newest.NewestProcessImage.{NewestProcessImage}
 use Rattle.worker_store.specs.declared.read_fault.ReadFault.{ReadFault}
@@ -14,3 +18,9 @@ JudgesMark version generation process_image (Ok found) =
     × (IsMarkedOtherwise version process_image → ⊥)
 JudgesMark version generation process_image (Err why) =
     (why ≡ Layout Damaged) × IsMarkedOtherwise version process_image
+
+-- the records that were scanned, or that the journal shows a later generation
+abbrev pub JudgesScan : ScannedJournal → Result (Vec Record Global) ReadFault → Type 0
+JudgesScan scanned (Ok found) =
+    (found ≡ scanned.records) × (IsTrue scanned.shows_later → ⊥)
+JudgesScan scanned (Err why) = (why ≡ Layout Damaged) × IsTrue scanned.shows_later

@@ -23,8 +23,9 @@
 //! - `read_worker`, `read_newest`, `read_records`: of a disk that is at a savepoint they give what
 //!   it stands by (`gives`, `finds`, `scans`). Of any other one they give what is there, or tell
 //!   what is wrong with it, in one order: the newest head, its version, the journal for that
-//!   version, the image, and its mark (`tells`). They only read (`reads`). That there is no worker
-//!   is said by `read_worker` alone, only where a mark of one is missing, and always there
+//!   version, the image, its mark, and a later generation in the journal's first sector (`tells`).
+//!   For the last no other sector is read (`once`). They only read (`reads`). That there is no
+//!   worker is said by `read_worker` alone, only where a mark of one is missing, and always there
 //!   (`marks`, `own`). An error is that of the layer that has found it, or of the disk, which has
 //!   failed then (`cause`).
 //! - `WorkerStore::reopen` commits the next generation on whatever stands for the worker. A cut at

@@ -1,6 +1,6 @@
 //! What is on a worker's disk, read back.
 
-ghost use Rattle.std.specs.Prelude.{◌+◌, ◌≤◌, IfErr, IfOk};
+ghost use Rattle.std.specs.Prelude.{◌≡◌, ◌+◌, ◌≤◌, IfErr, IfOk};
 ghost use Rattle.sector_disk.specs.rules.DiskImage.{DiskImage};
 ghost use Rattle.sector_disk.specs.rules.Medium.{CallsUpTo};
 ghost use Rattle.disk_layout.specs.rules.Places.{total_sectors};
@@ -9,12 +9,12 @@ ghost use Rattle.worker_store.specs.rules.AnyDisk.{TellsContents, TellsNewest, T
 ghost use Rattle.worker_store.specs.rules.Readings.{ReadsContents, ReadsNewest, ReadsRecords};
 ghost use Rattle.worker_store.specs.rules.Readings.{DeniesWorker, TellsMarks};
 ghost use Rattle.worker_store.specs.rules.ReadFaults.{HasReadCause};
-ghost use Rattle.worker_store.specs.Judging.{JudgesMark};
+ghost use Rattle.worker_store.specs.Judging.{JudgesMark, JudgesScan};
 
 use crate::newest::NewestProcessImage;
 use crate::read_fault::ReadFault;
 use disk_layout::{Contents, Geometry, LayoutFault, Record, read_contents, takes_records};
-use journal::Journal;
+use journal::{Journal, ScannedJournal};
 use sector_disk::Disk;
 use snapshot::{HashedImage, SnapshotFault, Snapshots};
 use state_image::reading::is_marked_otherwise;
@@ -106,7 +106,9 @@ fn judge_mark(
 }
 
 /// The records of a generation, in the order of their steps. They are read as those of this
-/// version. It never says that there is no worker.
+/// version. Where the first sector of the journal shows a later generation, the head of that one is
+/// lost: then it is `Layout` with `Damaged`, no other sector is read, and no memory is wanted. It
+/// never says that there is no worker.
 pub fn read_records<D: Disk>(
     alloc: Global,
     disk: &mut D,
@@ -120,12 +122,28 @@ pub fn read_records<D: Disk>(
         → ReadsRecords geometry.now version generation image result }
     ensures tells { (image : DiskImage) → (D.medium disk.new).shows image
         → TellsRecords geometry.now version generation image result }
+    ensures once { result ≡ Err (ReadFault.Layout LayoutFault.Damaged)
+        → CallsUpTo 1 (D.medium disk.old) (D.medium disk.new) }
     ensures own { DeniesWorker result → ⊥ }
     ensures cause { IfErr result (HasReadCause (D.medium disk.old) (D.medium disk.new)) }
     ensures asks { CallsUpTo geometry.now.journal_sectors (D.medium disk.old) (D.medium disk.new) }
 {
     match Journal::scan(alloc, disk, geometry, version, generation) {
-        Ok(records) => Ok(records),
+        Ok(scanned) => judge_scan(scanned),
         Err(fault) => Err(ReadFault::from(fault)),
     }
+}
+
+/// The records, unless the journal shows a later generation.
+fn judge_scan(scanned: ScannedJournal) -> Result<Vec<Record>, ReadFault>
+    ensures { JudgesScan scanned result }
+{
+    let ScannedJournal {
+        records,
+        shows_later,
+    } = scanned;
+    if shows_later {
+        return Err(ReadFault::Layout(LayoutFault::Damaged));
+    }
+    Ok(records)
 }

@@ -12,7 +12,7 @@ use Rattle.disk_layout.specs.laws.RecordExamples.{two_wide_records}
 use Rattle.journal.specs.rules.Packed.{sectors_for, packed}
 use Rattle.journal.specs.rules.State.{state, room_of}
 use Rattle.journal.specs.rules.Steps.{RecordFits, records_bytes, HoldsRecords, SameOthers}
-use Rattle.journal.specs.rules.Steps.{AppendsFront, barrier_calls}
+use Rattle.journal.specs.rules.Steps.{AppendsFront, ShowsLater, barrier_calls}
 
 pub record PackingExamples : Type 0 where
   pub no_sector : sectors_for 0 ≡ 0
@@ -124,3 +124,15 @@ pub record BarrierExamples : Type 0 where
   -- of the sectors in use none is changed
   pub used_changed : SameOthers bare 1 only_hello
       ([] ∷ [] ∷ [] ∷ (8 ∷ []) ∷ [] ∷ [] ∷ (9 ∷ []) ∷ []) → ⊥
+
+-- ---- a later generation
+
+-- the first sector of the journal is of generation 5
+pub record LaterExamples : Type 0 where
+  pub than_earlier : ShowsLater bare 4 only_hello
+  pub than_its_own : ShowsLater bare 5 only_hello → ⊥
+  -- its length doesn't count
+  pub without_records : ShowsLater bare 4 (bare_disk (journal_sector 5 1 []) [] [])
+  pub of_another_place : ShowsLater bare 4 (bare_disk (journal_sector 5 2 (7 ∷ [])) [] []) → ⊥
+  pub in_the_second_sector : ShowsLater bare 5 (behind_hello (journal_sector 6 2 (7 ∷ [])) []) → ⊥
+  pub without_a_journal : ShowsLater (record bare { journal_sectors = 0 }) 4 only_hello → ⊥

@@ -71,6 +71,11 @@ abbrev pub ShowsEarlierThan : Geometry → ℕ → DiskImage → Type 0
 ShowsEarlierThan geometry g image = (k : ℕ) → k < geometry.journal_sectors
     → shown_generation (1 + k) (sector_at image (journal_place geometry + k)) < g
 
+-- The journal has a sector, and the first one shows a later generation at its place, which is 1.
+pub record ShowsLater (geometry : Geometry) (g : ℕ) (image : DiskImage) : Type 0 where
+  pub some : 0 < geometry.journal_sectors
+  pub later : g < shown_generation 1 (sector_at image (journal_place geometry))
+
 -- a scan of the new image gives the records, and a prefix of those kept after them; no other sector
 -- is changed
 pub record AppendsFront (geometry : Geometry) (v : Version) (g used : ℕ)

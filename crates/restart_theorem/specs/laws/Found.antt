@@ -5,7 +5,7 @@ use Rattle.wasi_abi.specs.rules.Configs.{Settings}
 use Rattle.sector_disk.specs.rules.DiskImage.{DiskImage}
 use Rattle.sector_disk.specs.rules.Medium.{Medium}
 use Rattle.restart_theorem.specs.Lives.{Inputs, Life, End, Finished, Stopped, Failed}
-use Rattle.restart_theorem.specs.Promises.{Promise, nothing_yet, GoesOn}
+use Rattle.restart_theorem.specs.Promises.{Promise, nothing_yet, GoOn, GoesOn}
 use Rattle.restart_theorem.specs.Holds.{KeepsPromise, KeepsBounds}
 use Rattle.restart_theorem.specs.Between.{NextFinds, FindsNoWorker, AreLivedOn}
 
@@ -66,3 +66,12 @@ LivesGoOn {D} medium =
     (m : Module) (config : Settings) (inputs : List Inputs) (lives : List Life) (disk : D)
     → FindsNoWorker (medium disk) → AreLivedOn medium m config nothing_yet inputs lives disk
     → GoesOn m config inputs lives
+
+-- the same from whatever was promised so far, on a disk that keeps it
+abbrev pub PromisedLivesGoOn : {D : Type 0} → (D → Medium) → Type 0
+PromisedLivesGoOn {D} medium =
+    (m : Module) (config : Settings) (so_far : Promise) (inputs : List Inputs) (lives : List Life)
+    (disk : D) → KeepsPromise m config so_far (medium disk)
+    → KeepsBounds so_far.events (medium disk)
+    → AreLivedOn medium m config so_far inputs lives disk
+    → GoOn m config so_far inputs lives

@@ -44,11 +44,15 @@ disk_image_on n Synced bytes before was s l (l0, b, e) = let both = was s l0 b i
     (both.0, subst (λ (i : DiskImage). IsDiskImage n i) (sym e) both.0)
 disk_image_on n (Failed which) bytes before was s l on = was s l on
 
-pub disk_images : (n : ℕ) (answers : AnsweredCalls) (s l : DiskImage) → Explains n answers s l
+pub disk_images : (n : ℕ) (first : DiskImage) (whole : IsDiskImage n first)
+    (answers : AnsweredCalls) (s l : DiskImage) → Explains first answers s l
     → IsDiskImage n s × IsDiskImage n l
-disk_images n [] s l on = on
-disk_images n (answer ∷ answers) s l on =
-    disk_image_on n answer.0 answer.1 (Explains n answers) (disk_images n answers) s l on
+disk_images n first whole [] s l on = (
+  subst (λ (i : DiskImage). IsDiskImage n i) (sym on.0) whole,
+  subst (λ (i : DiskImage). IsDiskImage n i) (sym on.1) whole,
+)
+disk_images n first whole (answer ∷ answers) s l on =
+    disk_image_on n answer.0 answer.1 (Explains first answers) (disk_images n first whole answers) s l on
 
 -- a cut may leave all that reads give
 stay_on : (n : ℕ) (call : FileCall) (bytes : List ℕ) (before : DiskImage → DiskImage → Type 0)
@@ -82,12 +86,13 @@ stay_on n (Tore k) bytes before is stays s l (s0, l0, m, f, b, le, less, full, e
 stay_on n Synced bytes before is stays s l (l0, b, e) = (l0, b, refl)
 stay_on n (Failed which) bytes before is stays s l on = stays s l on
 
-pub stays : (n : ℕ) (answers : AnsweredCalls) (s l : DiskImage) → Explains n answers s l
-    → Explains n answers s s
-stays n [] s l on = (on.0, on.0)
-stays n (answer ∷ answers) s l on =
-    stay_on n answer.0 answer.1 (Explains n answers) (disk_images n answers)
-    (stays n answers) s l on
+pub stays : (n : ℕ) (first : DiskImage) (whole : IsDiskImage n first)
+    (answers : AnsweredCalls) (s l : DiskImage) → Explains first answers s l
+    → Explains first answers s s
+stays n first whole [] s l on = (on.0, on.0)
+stays n first whole (answer ∷ answers) s l on =
+    stay_on n answer.0 answer.1 (Explains first answers) (disk_images n first whole answers)
+    (stays n first whole answers) s l on
 
 -- a write past the last sector
 out_of_range : (n : ℕ) (image : DiskImage) (k f : ℕ) (bytes : List ℕ) → length image ≡ n → n ≤ k
@@ -245,16 +250,18 @@ more_on n Synced bytes before is more s l (l0, b, e) j f le =
     (l0, b, ap (λ (i : DiskImage). with_front i j f (sector_at s j)) e ∙ with_front_self s j f)
 more_on n (Failed which) bytes before is more s l on j f le = more s l on j f le
 
-pub keeps_more_of : (n : ℕ) (answers : AnsweredCalls) (s l : DiskImage) → Explains n answers s l
-    → (j f : ℕ) → f ≤ 512 → Explains n answers s (with_front l j f (sector_at s j))
-keeps_more_of n [] s l on j f le = (
+pub keeps_more_of : (n : ℕ) (first : DiskImage) (whole : IsDiskImage n first)
+    (answers : AnsweredCalls) (s l : DiskImage) → Explains first answers s l
+    → (j f : ℕ) → f ≤ 512 → Explains first answers s (with_front l j f (sector_at s j))
+keeps_more_of n first whole [] s l on j f le = (
   on.0,
-  disk_image-with_front n l j f (sector_at s j) on.1 le
-      (λ lt. let is = on.0 in is.full j lt),
+  ap (λ (i : DiskImage). with_front i j f (sector_at s j)) on.1
+      ∙ ap (λ (i : DiskImage). with_front first j f (sector_at i j)) on.0
+      ∙ with_front_self first j f,
 )
-keeps_more_of n (answer ∷ answers) s l on j f le =
-    more_on n answer.0 answer.1 (Explains n answers) (disk_images n answers)
-    (keeps_more_of n answers) s l on j f le
+keeps_more_of n first whole (answer ∷ answers) s l on j f le =
+    more_on n answer.0 answer.1 (Explains first answers) (disk_images n first whole answers)
+    (keeps_more_of n first whole answers) s l on j f le
 
 -- moments
 pub from_shows : (call : FileCall) (bytes : List ℕ) (before : DiskImage → Type 0) (s : DiskImage)
@@ -265,48 +272,48 @@ from_shows (Tore k) bytes before s on = (on.0, on.2)
 from_shows Synced bytes before s on = (s, on)
 from_shows (Failed which) bytes before s on = (s, on)
 
-none_since : (n t : ℕ) (answers : AnsweredCalls) (crashed s : DiskImage) → length answers < t
-    → ExplainsSince n t answers crashed s → ⊥
-none_since n t [] crashed s lt since = let no-later = since.0 in absurd (omega arith)
-none_since n t (answer ∷ answers) crashed s lt since =
+none_since : (first : DiskImage) (t : ℕ) (answers : AnsweredCalls) (crashed s : DiskImage) → length answers < t
+    → ExplainsSince first t answers crashed s → ⊥
+none_since first t [] crashed s lt since = let no-later = since.0 in absurd (omega arith)
+none_since first t (answer ∷ answers) crashed s lt since =
     ⊎_elim
-    (λ (now : (t ≤ length answers + 1) × Explains n (answer ∷ answers) s crashed). let
+    (λ (now : (t ≤ length answers + 1) × Explains first (answer ∷ answers) s crashed). let
     no-later = now.0
     in absurd (omega arith))
-    (λ (earlier : ShowsOn answer.0 answer.1 (ExplainsSince n t answers crashed) s).
-    let was = from_shows answer.0 answer.1 (ExplainsSince n t answers crashed) s earlier in
-    none_since n t answers crashed was.0 (omega arith) was.1)
+    (λ (earlier : ShowsOn answer.0 answer.1 (ExplainsSince first t answers crashed) s).
+    let was = from_shows answer.0 answer.1 (ExplainsSince first t answers crashed) s earlier in
+    none_since first t answers crashed was.0 (omega arith) was.1)
     since
 
-pub since_now : (n t : ℕ) (answers : AnsweredCalls) (crashed s : DiskImage) → t ≤ length answers
-    → Explains n answers s crashed → ExplainsSince n t answers crashed s
-since_now n t [] crashed s le on = (omega arith, on)
-since_now n t (answer ∷ answers) crashed s le on = inl (omega arith, on)
+pub since_now : (first : DiskImage) (t : ℕ) (answers : AnsweredCalls) (crashed s : DiskImage) → t ≤ length answers
+    → Explains first answers s crashed → ExplainsSince first t answers crashed s
+since_now first t [] crashed s le on = (omega arith, on)
+since_now first t (answer ∷ answers) crashed s le on = inl (omega arith, on)
 
-pub since_only : (n : ℕ) (answers : AnsweredCalls) (crashed s : DiskImage)
-    → ExplainsSince n (length answers) answers crashed s → Explains n answers s crashed
-since_only n [] crashed s since = since.1
-since_only n (answer ∷ answers) crashed s since =
+pub since_only : (first : DiskImage) (answers : AnsweredCalls) (crashed s : DiskImage)
+    → ExplainsSince first (length answers) answers crashed s → Explains first answers s crashed
+since_only first [] crashed s since = since.1
+since_only first (answer ∷ answers) crashed s since =
     ⊎_elim
     (λ (now : (length (answer ∷ answers) ≤ length answers + 1)
-    × Explains n (answer ∷ answers) s crashed). now.1)
+    × Explains first (answer ∷ answers) s crashed). now.1)
     (λ (earlier : ShowsOn answer.0 answer.1
-    (ExplainsSince n (length (answer ∷ answers)) answers crashed) s).
+    (ExplainsSince first (length (answer ∷ answers)) answers crashed) s).
     let was = from_shows answer.0 answer.1
-    (ExplainsSince n (length (answer ∷ answers)) answers crashed) s earlier in
-    absurd (none_since n (length (answer ∷ answers)) answers crashed was.0 (omega arith) was.1))
+    (ExplainsSince first (length (answer ∷ answers)) answers crashed) s earlier in
+    absurd (none_since first (length (answer ∷ answers)) answers crashed was.0 (omega arith) was.1))
     since
 
 -- one answer more
-pub since_on : (n t : ℕ) (answer : FileCall × List ℕ) (answers : AnsweredCalls)
-    (crashed s : DiskImage) → ExplainsSince n t (answer ∷ answers) crashed s
-    → ((was : DiskImage) × ExplainsSince n t answers crashed was)
-    ⊎ ((now : DiskImage) × Explains n (answer ∷ answers) now crashed)
-since_on n t answer answers crashed s since =
+pub since_on : (first : DiskImage) (t : ℕ) (answer : FileCall × List ℕ) (answers : AnsweredCalls)
+    (crashed s : DiskImage) → ExplainsSince first t (answer ∷ answers) crashed s
+    → ((was : DiskImage) × ExplainsSince first t answers crashed was)
+    ⊎ ((now : DiskImage) × Explains first (answer ∷ answers) now crashed)
+since_on first t answer answers crashed s since =
     ⊎_elim
-    (λ (now : (t ≤ length answers + 1) × Explains n (answer ∷ answers) s crashed). inr (s, now.1))
-    (λ (earlier : ShowsOn answer.0 answer.1 (ExplainsSince n t answers crashed) s).
-    inl (from_shows answer.0 answer.1 (ExplainsSince n t answers crashed) s earlier))
+    (λ (now : (t ≤ length answers + 1) × Explains first (answer ∷ answers) s crashed). inr (s, now.1))
+    (λ (earlier : ShowsOn answer.0 answer.1 (ExplainsSince first t answers crashed) s).
+    inl (from_shows answer.0 answer.1 (ExplainsSince first t answers crashed) s earlier))
     since
 
 -- a whole write is a prefix of all its bytes
@@ -330,49 +337,50 @@ shows_on (Tore k) bytes before was has s (s0, f, b, le, full, e) = let w = has s
 shows_on Synced bytes before was has s on = let w = has s on in (s, (w.0, w.1, refl))
 shows_on (Failed which) bytes before was has s on = has s on
 
-pub since_shows : (n t : ℕ) (answers : AnsweredCalls) (crashed s : DiskImage)
-    → ExplainsSince n t answers crashed s → (l : DiskImage) × Explains n answers s l
-since_shows n t [] crashed s since = (crashed, since.1)
-since_shows n t (answer ∷ answers) crashed s since =
+pub since_shows : (first : DiskImage) (t : ℕ) (answers : AnsweredCalls) (crashed s : DiskImage)
+    → ExplainsSince first t answers crashed s → (l : DiskImage) × Explains first answers s l
+since_shows first t [] crashed s since = (crashed, since.1)
+since_shows first t (answer ∷ answers) crashed s since =
     ⊎_elim
-    (λ (now : (t ≤ length answers + 1) × Explains n (answer ∷ answers) s crashed). (crashed, now.1))
-    (λ (earlier : ShowsOn answer.0 answer.1 (ExplainsSince n t answers crashed) s).
-    shows_on answer.0 answer.1 (Explains n answers) (ExplainsSince n t answers crashed)
-    (since_shows n t answers crashed) s earlier)
+    (λ (now : (t ≤ length answers + 1) × Explains first (answer ∷ answers) s crashed). (crashed, now.1))
+    (λ (earlier : ShowsOn answer.0 answer.1 (ExplainsSince first t answers crashed) s).
+    shows_on answer.0 answer.1 (Explains first answers) (ExplainsSince first t answers crashed)
+    (since_shows first t answers crashed) s earlier)
     since
 
 -- a read or a sync adds nothing to what a cut may have left
-stay_since : (n t : ℕ) (call : FileCall) (bytes : List ℕ) (answers : AnsweredCalls)
+stay_since : (first : DiskImage) (t : ℕ) (call : FileCall) (bytes : List ℕ) (answers : AnsweredCalls)
     (crashed s : DiskImage) → t ≤ length answers
-    → (OneOn call bytes (Explains n answers) s crashed → ExplainsSince n t answers crashed s)
-    → (ShowsOn call bytes (ExplainsSince n t answers crashed) s
-    → ExplainsSince n t answers crashed s) → ExplainsSince n t ((call, bytes) ∷ answers) crashed s
-    → ExplainsSince n t answers crashed s
-stay_since n t call bytes answers crashed s le now before since =
-    ⊎_elim (λ (here : (t ≤ length answers + 1) × Explains n ((call, bytes) ∷ answers) s crashed).
+    → (OneOn call bytes (Explains first answers) s crashed → ExplainsSince first t answers crashed s)
+    → (ShowsOn call bytes (ExplainsSince first t answers crashed) s
+    → ExplainsSince first t answers crashed s) → ExplainsSince first t ((call, bytes) ∷ answers) crashed s
+    → ExplainsSince first t answers crashed s
+stay_since first t call bytes answers crashed s le now before since =
+    ⊎_elim (λ (here : (t ≤ length answers + 1) × Explains first ((call, bytes) ∷ answers) s crashed).
     now here.1) before since
 
-pub read_since : (n t : ℕ) {k : ℕ} {bytes : List ℕ} (moments answers : AnsweredCalls)
+pub read_since : (first : DiskImage) (t : ℕ) {k : ℕ} {bytes : List ℕ} (moments answers : AnsweredCalls)
     (crashed s : DiskImage) → moments ≡ (Read k, bytes) ∷ answers → t ≤ length answers
-    → ExplainsSince n t moments crashed s → ExplainsSince n t answers crashed s
-read_since n t {k} {bytes} moments answers crashed s e le since =
-    stay_since n t (Read k) bytes answers crashed s le (λ on. since_now n t answers
-    crashed s le on.0) (λ on. on.0) (subst (λ (a : AnsweredCalls). ExplainsSince n t a
+    → ExplainsSince first t moments crashed s → ExplainsSince first t answers crashed s
+read_since first t {k} {bytes} moments answers crashed s e le since =
+    stay_since first t (Read k) bytes answers crashed s le (λ on. since_now first t answers
+    crashed s le on.0) (λ on. on.0) (subst (λ (a : AnsweredCalls). ExplainsSince first t a
     crashed s) e since)
 
-pub failed_since : (n t : ℕ) {which : Failure} {bytes : List ℕ} (moments answers : AnsweredCalls)
+pub failed_since : (first : DiskImage) (t : ℕ) {which : Failure} {bytes : List ℕ} (moments answers : AnsweredCalls)
     (crashed s : DiskImage) → moments ≡ (Failed which, bytes) ∷ answers → t ≤ length answers
-    → ExplainsSince n t moments crashed s → ExplainsSince n t answers crashed s
-failed_since n t {which} {bytes} moments answers crashed s e le since =
-    stay_since n t (Failed which) bytes answers crashed s le
-    (λ on. since_now n t answers crashed s le on)
-    (λ on. on) (subst (λ (a : AnsweredCalls). ExplainsSince n t a crashed s) e since)
+    → ExplainsSince first t moments crashed s → ExplainsSince first t answers crashed s
+failed_since first t {which} {bytes} moments answers crashed s e le since =
+    stay_since first t (Failed which) bytes answers crashed s le
+    (λ on. since_now first t answers crashed s le on)
+    (λ on. on) (subst (λ (a : AnsweredCalls). ExplainsSince first t a crashed s) e since)
 
-pub synced_since : (n t : ℕ) {bytes : List ℕ} (moments answers : AnsweredCalls)
+pub synced_since : (n t : ℕ) (first : DiskImage) (whole : IsDiskImage n first)
+    {bytes : List ℕ} (moments answers : AnsweredCalls)
     (crashed s : DiskImage) → moments ≡ (Synced, bytes) ∷ answers → t ≤ length answers
-    → ExplainsSince n t moments crashed s → ExplainsSince n t answers crashed s
-synced_since n t {bytes} moments answers crashed s e le since =
-    stay_since n t Synced bytes answers crashed s le
-    (λ on. subst (λ (i : DiskImage). ExplainsSince n t answers i s) (sym on.2)
-    (since_now n t answers s s le (stays n answers s on.0 on.1)))
-    (λ on. on) (subst (λ (a : AnsweredCalls). ExplainsSince n t a crashed s) e since)
+    → ExplainsSince first t moments crashed s → ExplainsSince first t answers crashed s
+synced_since n t first whole {bytes} moments answers crashed s e le since =
+    stay_since first t Synced bytes answers crashed s le
+    (λ on. subst (λ (i : DiskImage). ExplainsSince first t answers i s) (sym on.2)
+    (since_now first t answers s s le (stays n first whole answers s on.0 on.1)))
+    (λ on. on) (subst (λ (a : AnsweredCalls). ExplainsSince first t a crashed s) e since)

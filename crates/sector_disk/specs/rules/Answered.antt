@@ -2,7 +2,6 @@
 use Rattle.std.specs.Prelude.{◌≡◌, ◌⊎◌, ◌≤◌, ◌+◌, ℕ, Bool, true, false, if◌then◌else◌, IsFalse}
 use Rattle.std.specs.Prelude.{List, [], ◌∷◌, length, Result, Ok, Err}
 use Rattle.sector_disk.specs.rules.DiskImage.{DiskImage, sector_at, with_sector, with_front}
-use Rattle.sector_disk.specs.rules.DiskImage.{IsDiskImage}
 use Rattle.sector_disk.specs.declared.file_call.TheConstants.{NO_BYTES}
 use Rattle.sector_disk.specs.declared.disk_call.DiskCall.{DiskCall}
 use Rattle.sector_disk.specs.declared.disk_call.DiskCall.TheVariants.{WriteOf, Sync}
@@ -36,11 +35,12 @@ OneOn Synced bytes before shown crashed = (was_crashed : DiskImage) × before sh
     × (crashed ≡ shown)
 OneOn (Failed which) bytes before shown crashed = before shown crashed
 
--- the file gave these answers: reads may now give `shown`, and then a cut may leave `crashed`
-abbrev pub Explains : ℕ → AnsweredCalls → DiskImage → DiskImage → Type 0
-Explains sectors [] shown crashed = IsDiskImage sectors shown × IsDiskImage sectors crashed
-Explains sectors (answer ∷ answers) shown crashed =
-    OneOn answer.0 answer.1 (Explains sectors answers) shown crashed
+-- This was on the file as it was opened, and since then it gave these answers: reads may now give
+-- `shown`, and then a cut may leave `crashed`.
+abbrev pub Explains : DiskImage → AnsweredCalls → DiskImage → DiskImage → Type 0
+Explains first [] shown crashed = (shown ≡ first) × (crashed ≡ first)
+Explains first (answer ∷ answers) shown crashed =
+    OneOn answer.0 answer.1 (Explains first answers) shown crashed
 
 -- what reads give, one call on
 abbrev pub ShowsOn : FileCall → List ℕ → (DiskImage → Type 0) → DiskImage → Type 0
@@ -52,13 +52,12 @@ ShowsOn (Tore k) bytes before shown = (was : DiskImage) × (front : ℕ) × befo
 ShowsOn Synced bytes before shown = before shown
 ShowsOn (Failed which) bytes before shown = before shown
 
--- the file gave these answers, reads may now give `shown`, and a cut at a moment from t on may have
--- left `crashed`
-abbrev pub ExplainsSince : ℕ → ℕ → AnsweredCalls → DiskImage → DiskImage → Type 0
-ExplainsSince sectors t [] crashed shown = (t ≤ 0) × Explains sectors [] shown crashed
-ExplainsSince sectors t (answer ∷ answers) crashed shown =
-    ((t ≤ length answers + 1) × Explains sectors (answer ∷ answers) shown crashed)
-    ⊎ ShowsOn answer.0 answer.1 (ExplainsSince sectors t answers crashed) shown
+-- The same, where a cut at a moment from t on may have left `crashed`.
+abbrev pub ExplainsSince : DiskImage → ℕ → AnsweredCalls → DiskImage → DiskImage → Type 0
+ExplainsSince first t [] crashed shown = (t ≤ 0) × Explains first [] shown crashed
+ExplainsSince first t (answer ∷ answers) crashed shown =
+    ((t ≤ length answers + 1) × Explains first (answer ∷ answers) shown crashed)
+    ⊎ ShowsOn answer.0 answer.1 (ExplainsSince first t answers crashed) shown
 
 -- 1 for a call of a file that failed, else 0
 abbrev pub is_fault : FileCall → ℕ

@@ -1,6 +1,6 @@
 -- The bytes of a disk, sector by sector.
 use Rattle.std.specs.Prelude.{◌≡◌, ◌<◌, ◌≤◌, ◌++◌, ℕ, List, [], length, take, drop, slice_index_or}
-use Rattle.std.specs.Prelude.{slice_set}
+use Rattle.std.specs.Prelude.{slice_set, replicate}
 use Rattle.sector_disk.specs.declared.sector.TheConstants.{SECTOR_SIZE}
 
 -- the bytes of a disk, sector by sector
@@ -27,6 +27,10 @@ with_front image k front bytes = with_sector image k (front_over front bytes (se
 pub record IsDiskImage (sectors : ℕ) (image : DiskImage) : Type 0 where
   pub count : length image ≡ sectors
   pub full : (k : ℕ) → k < sectors → length (sector_at image k) ≡ SECTOR_SIZE
+
+-- so many sectors of zeros
+abbrev pub zeros : ℕ → DiskImage
+zeros sectors = replicate sectors (replicate SECTOR_SIZE 0)
 
 -- new is old after a write of these bytes to sector k, of which a front was left, at most so many
 -- bytes of it

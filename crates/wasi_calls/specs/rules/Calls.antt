@@ -1,6 +1,6 @@
 -- What is told of a call, and of which calls (this project's own).
 use Rattle.std.specs.Prelude.{◌≡◌, ◌≢◌, ℕ, ◌<◌, ◌^◌, List, [], ◌∷◌, length, Option, Some, None}
-use Rattle.std.specs.Prelude.{Result, Ok, Err}
+use Rattle.std.specs.Prelude.{Result, Ok, Err, IsOk}
 use Rattle.wasm_syntax.specs.declared.types.ValueType.{ValueType}
 use Rattle.wasm_syntax.specs.declared.types.ValueType.TheVariants.{I32, I64}
 use Rattle.guest_memory.specs.rules.Memories.{LinearMemory}
@@ -10,7 +10,7 @@ use Rattle.wasi_abi.specs.declared.answer.Question.{Question}
 use Rattle.wasi_abi.specs.declared.call.Call.{Call}
 use Rattle.wasi_calls_rules.specs.WasiStates.{WasiState}
 use Rattle.wasi_calls_rules.specs.Checks.{Bytes, Done, Halt, Ruling, Refuses, Asks, Ends}
-use Rattle.wasi_calls_rules.specs.CallRules.{call_rule, IsNoRefusal, CallEnding, IsDone, IsRefused}
+use Rattle.wasi_calls_rules.specs.CallRules.{call_rule, CallEnding, IsDone, IsRefused}
 use Rattle.wasi_calls_rules.specs.CallRules.{IsAsk, IsExit}
 use Rattle.wasi_calls_rules.specs.CallRules.{NoMemory}
 use Rattle.wasi_calls.specs.declared.outcome.CallOutcome.{CallOutcome}
@@ -49,7 +49,7 @@ call_outcome (Err stop.Memory) = outcome.Memory
 
 -- What a caller is told is what the call's rule says of a host that was shown before. After a call
 -- that is done the host of the call's rule is shown. All other outcomes leave memory and host as
--- they were. Memory may be wanting for a call alone that isn't refused.
+-- they were. Memory may be wanting for a call alone that its rule does.
 abbrev pub ShowsCallRule : CallEnding → Bytes → HeldWasiState → Bytes → HeldWasiState
     → Ruling → Type 0
 ShowsCallRule IsDone m held old_m old ruling = (done : Done) × (ruling ≡ Ok done)
@@ -60,7 +60,7 @@ ShowsCallRule (IsAsk question) m held old_m old ruling = (ruling ≡ Err (Asks q
     × (m ≡ old_m) × (held ≡ old)
 ShowsCallRule (IsExit code) m held old_m old ruling = (ruling ≡ Err (Ends code)) × (m ≡ old_m)
     × (held ≡ old)
-ShowsCallRule NoMemory m held old_m old ruling = IsNoRefusal ruling × (m ≡ old_m) × (held ≡ old)
+ShowsCallRule NoMemory m held old_m old ruling = IsOk ruling × (m ≡ old_m) × (held ≡ old)
 
 -- the answer from outside that a call's rule asks for
 abbrev pub question_of : {A : Type 0} → Result A Halt → Option Question

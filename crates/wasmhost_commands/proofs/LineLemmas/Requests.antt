@@ -11,10 +11,14 @@ use Rattle.wasmhost_commands.specs.rules.Texts.{IsRequestLine}
 use Rattle.wasmhost_commands.specs.declared.lines.request.Request.TheVariants as request
 
 -- no digit is a space
-no_space : (n : ℕ) → n < 2 ^ 63 → (k : ℕ) → k < length (decimal n) → slice_index (decimal n) k ≢ 32
-no_space n small k inside is =
-    let bounds = digit_at (decimal n) k (decimal_is_IsNumeral n (omega (arith, small))).0.1 inside
+pub digits_alone : (n : ℕ) → n < 2 ^ 64 → (k : ℕ) → k < length (decimal n)
+    → slice_index (decimal n) k ≢ 32
+digits_alone n small k inside is =
+    let bounds = digit_at (decimal n) k (decimal_is_IsNumeral n small).0.1 inside
     in omega (arith, is, bounds)
+
+no_space : (n : ℕ) → n < 2 ^ 63 → (k : ℕ) → k < length (decimal n) → slice_index (decimal n) k ≢ 32
+no_space n small = digits_alone n (omega (arith, small))
 
 module _ (line front back : List ℕ) (is : line ≡ front ++ 32 ∷ back) where
   pub seam_inside : length front < length line

@@ -146,10 +146,10 @@ abbrev pub sweep_app : App
 sweep_app = with_rule (with_rule (script_app (codes "sweep")) fronts_rule)
     (number_rule (codes "life") 1)
 
--- What `--version` says of the program: its version, that of the disks which it makes, and the kit
--- that has proved it.
+-- What `--version` says of the program: its version, the layout of its disks, and the logic that
+-- its proofs are of.
 abbrev pub version_words : Text
-version_words = codes "0.1.0, disk layout 1, kit rattle-kit-13f"
+version_words = codes "0.1.0, disk layout 1, logic dac8208d650f15bf"
 
 -- the program, which requires a command, and has a version
 abbrev pub bare_app : App

@@ -21,8 +21,10 @@ use Rattle.wasmhost_commands.specs.declared.configuring.Unconfigured.TheVariants
 use Rattle.wasmhost_commands.specs.declared.preparing.Prepared.{Prepared}
 use Rattle.wasmhost_commands.specs.declared.preparing.Unprepared.{Unprepared}
 use Rattle.wasmhost_commands.specs.declared.preparing.Unprepared.TheVariants as unprepared
+use Rattle.wasmhost_commands.specs.declared.telling.Obstacle.TheVariants.{Unwritten}
 use Rattle.wasmhost_commands.specs.rules.Bounds.{IsOutOfBounds}
 use Rattle.wasmhost_commands.specs.rules.Printers.{PrinterState, HeedsBoth}
+use Rattle.wasmhost_commands.specs.rules.Reports.{SaysLine, obstacle_words}
 
 -- ---- before the disk is made
 
@@ -121,7 +123,8 @@ HasDiskFailed bytes config old new = (spare old ≡ 0)
 -- 0: the worker is created. 3: it is refused. 4: the disk failed. 5: there is no memory. A refused
 -- worker and out of memory leave the disk as it was. 7: a write of a printer has failed, and
 -- whether the worker was created isn't known. Whatever the status, nothing that was promised of a
--- disk without a worker is lost, and a cut at any moment leaves no worker on it, or this one.
+-- disk without a worker is lost, and a cut at any moment leaves no worker on it, or this one. Where
+-- the output can't be written, that is told on the error output.
 pub record CreatesOn {D : Type 0} (medium : D → Medium) (bytes : List ℕ) (config : Settings)
     (old new : D) (out out' err err' : PrinterState) (status : ℕ) : Type 0 where
   pub answer : Result DurableValue WorkFault
@@ -132,5 +135,6 @@ pub record CreatesOn {D : Type 0} (medium : D → Medium) (bytes : List ℕ) (co
       × (out' ≡ out)
   pub failed : status ≡ 4 → HasDiskFailed bytes config (medium old) (medium new) × (out' ≡ out)
   pub starved : status ≡ 5 → (new ≡ old) × (out' ≡ out)
+  pub unwritten : status ≡ 7 → SaysLine (obstacle_words Unwritten) 7 err status err'
   pub heeded : HeedsBoth out out' err err' status
   pub known : (status ≡ 0) ⊎ (status ≡ 3) ⊎ (status ≡ 4) ⊎ (status ≡ 5) ⊎ (status ≡ 7)

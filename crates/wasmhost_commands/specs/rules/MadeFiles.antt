@@ -1,14 +1,23 @@
 -- A disk that is made for a worker, in a new file or on a device (this project's own).
-use Rattle.std.specs.Prelude.{◌≡◌, ◌≢◌, ◌⊎◌, ℕ, Bool, List, IsTrue}
+use Rattle.std.specs.Prelude.{◌≡◌, ◌≢◌, ◌⊎◌, ℕ, Bool, true, false, List, IsTrue, Some, codes}
 use Rattle.std.specs.declared.io.ErrorKind.{ErrorKind}
 use Rattle.sector_disk.specs.declared.file.FileDisk.{FileDisk}
 use Rattle.sector_disk.specs.declared.open_fault.OpenFault.{OpenFault}
 use Rattle.sector_disk.specs.rules.File.{file_medium, file_of}
 use Rattle.sector_disk.specs.rules.Open.{IsUnmade}
+use Rattle.wasi_abi.specs.rules.Configs.{Settings}
+use Rattle.wasm_decode.specs.declared.items.limit.PassedLimit.{PassedLimit}
+use Rattle.wasmhost_commands.specs.declared.bounds.Bound.{Bound}
 use Rattle.wasmhost_commands.specs.declared.preparing.Prepared.{Prepared}
-use Rattle.wasmhost_commands.specs.rules.Creations.{CreatesOn}
+use Rattle.wasmhost_commands.specs.declared.preparing.Unprepared.{Unprepared}
+use Rattle.wasmhost_commands.specs.declared.preparing.Unprepared.TheVariants.{Range}
+use Rattle.wasmhost_commands.specs.rules.Bounds.{range_words}
+use Rattle.wasmhost_commands.specs.rules.Commands.{CreateMeaning}
+use Rattle.wasmhost_commands.specs.rules.Creations.{CreatesOn, IsPreparedAs, IsUnprepared}
+use Rattle.wasmhost_commands.specs.rules.Creations.{config_as, passed_by, status_unprepared}
+use Rattle.wasmhost_commands.specs.rules.ModuleLimits.{limit_text}
 use Rattle.wasmhost_commands.specs.rules.Openings.{IsUntouched, open_words}
-use Rattle.wasmhost_commands.specs.rules.Printers.{PrinterState}
+use Rattle.wasmhost_commands.specs.rules.Printers.{PrinterState, IsSaid, SaysText}
 use Rattle.wasmhost_commands.specs.rules.Reports.{SaysLine}
 
 -- The disk was made, of as many sectors as are needed, and the worker is created on it. Where the
@@ -49,3 +58,41 @@ abbrev pub CreatesOnDevice : {F : Type 0} → (F → Bool) → List ℕ → List
 CreatesOnDevice is_device path bytes prepared out out' err err' status =
     ((why : OpenFault) × SaysLine (open_words path why) 4 err status err' × (out' ≡ out))
     ⊎ IsCreatedOnDevice is_device bytes prepared out out' err err' status
+
+-- ---- as the words say
+
+-- the settings that the words say
+abbrev pub settings_said : CreateMeaning → Settings
+settings_said said = config_as
+    (record { pages = said.pages; files = said.files; journal = said.journal })
+    said.arguments said.environment
+
+-- It is said why no worker is created: by the bounds of what is out of them, by a limit that the
+-- module passes, or else by the status.
+pub record SaysUnprepared (why : Unprepared) (old : PrinterState) (answered : ℕ)
+    (new : PrinterState) : Type 0 where
+  pub range : (bound : Bound) → why ≡ Range bound
+      → SaysLine (range_words bound) 3 old answered new
+  pub limit : (passed : PassedLimit) → passed_by why ≡ Some passed
+      → SaysText (limit_text (codes "failed") passed) 3 old answered new
+  pub status : IsSaid (status_unprepared why) old answered new
+
+module _ (F : Type 0) (is_device : F → Bool) (refused : ErrorKind → Bool) (made removed : Bool)
+  where
+    -- The disk is a device that is there, where the words ask for one, and a new file where not.
+    abbrev pub MakesDisk : Bool → List ℕ → List ℕ → Prepared → PrinterState → PrinterState
+        → PrinterState → PrinterState → ℕ → Type 0
+    MakesDisk true path bytes prepared out out' err err' status =
+        CreatesOnDevice is_device path bytes prepared out out' err err' status
+    MakesDisk false path bytes prepared out out' err err' status =
+        CreatesFile F refused made removed path bytes prepared out out' err err' status
+
+    -- It is said why the settings or the module keep a worker from being created, and nothing is
+    -- made. Or a worker of these settings is created on the disk of the words.
+    abbrev pub CreatesDisk : CreateMeaning → List ℕ → PrinterState → PrinterState → PrinterState
+        → PrinterState → ℕ → Type 0
+    CreatesDisk said bytes out out' err err' status =
+        ((why : Unprepared) × IsUnprepared (settings_said said) bytes why
+        × SaysUnprepared why err status err' × (out' ≡ out))
+        ⊎ ((prepared : Prepared) × IsPreparedAs (settings_said said) bytes prepared
+        × MakesDisk said.on_device said.disk bytes prepared out out' err err' status)

@@ -1,9 +1,9 @@
 -- What the program says beside the lines of a worker (this project's own).
-use Rattle.std.specs.Prelude.{◌≡◌, ℕ, List, [], ◌∷◌, ◌++◌, codes}
+use Rattle.std.specs.Prelude.{◌≡◌, ◌⊎◌, ℕ, true, List, [], ◌∷◌, ◌++◌, codes}
 use Rattle.wasi_abi.specs.rules.Answers.{newline}
 use Rattle.wasmhost_commands.specs.declared.telling.Obstacle.{Obstacle}
 use Rattle.wasmhost_commands.specs.declared.telling.Obstacle.TheVariants as obstacle
-use Rattle.wasmhost_commands.specs.rules.Printers.{PrinterState, SaysText}
+use Rattle.wasmhost_commands.specs.rules.Printers.{PrinterState, IsPrinted, SaysText}
 
 -- The line is printed, with its newline, and the status is this one; or it is 7, and a write has
 -- failed.
@@ -11,7 +11,7 @@ abbrev pub SaysLine : List ℕ → ℕ → PrinterState → ℕ → PrinterState
 SaysLine line status old answered new =
     SaysText (line ++ newline ∷ []) status old answered new
 
--- the exit status of a command that isn't begun
+-- the exit status of a command that isn't begun, or whose output can't be written
 abbrev pub obstacle_status : Obstacle → ℕ
 obstacle_status obstacle.Memory = 5
 obstacle_status obstacle.Unread = 4
@@ -19,6 +19,7 @@ obstacle_status obstacle.NoText = 2
 obstacle_status obstacle.NoSeed = 2
 obstacle_status obstacle.NoFronts = 2
 obstacle_status obstacle.NoLife = 2
+obstacle_status obstacle.Unwritten = 7
 
 -- the line that says why
 abbrev pub obstacle_words : Obstacle → List ℕ
@@ -28,6 +29,15 @@ obstacle_words obstacle.NoText = codes "error: an argument is no text"
 obstacle_words obstacle.NoSeed = codes "error: a seed is 64 hexadecimal digits"
 obstacle_words obstacle.NoFronts = codes "error: fronts are numbers from 0 to 512"
 obstacle_words obstacle.NoLife = codes "error: the script has no such life"
+obstacle_words obstacle.Unwritten = codes "failed N3 Outlet"
+
+-- The text is printed on the output, and the status is this one. Or a write of the output has
+-- failed: the status is 7, and that is told on the error output.
+abbrev pub SaysOnOutput : List ℕ → ℕ → PrinterState → PrinterState → PrinterState → PrinterState
+    → ℕ → Type 0
+SaysOnOutput text status out out' err err' answered =
+    ((answered ≡ status) × IsPrinted out out' text × (err' ≡ err))
+    ⊎ ((out'.failed ≡ true) × SaysLine (obstacle_words obstacle.Unwritten) 7 err answered err')
 
 -- The text is these two with a tip between them: to write after `--` what begins with a hyphen.
 abbrev pub IsAroundTip : List ℕ → List ℕ → List ℕ → Type 0

@@ -15,7 +15,8 @@ use Rattle.worker.specs.declared.recover_fault.RecoverFault.TheVariants as recov
 use Rattle.worker.specs.rules.DurableValues.{DurableValue}
 use Rattle.worker.specs.rules.LifeWords.{Act, by_recovery}
 use Rattle.worker.specs.rules.Outlets.{HeedsOutlet, IsOutletFault, SaysOutletFault}
-use Rattle.worker.specs.rules.Recoveries.{IsNoWorker, IsJustSynced, RecoveryCarries}
+use Rattle.worker.specs.rules.Effects.{RecoversWorker}
+use Rattle.worker.specs.rules.Recoveries.{IsNoWorker, IsJustSynced}
 use Rattle.worker.specs.rules.OneLife.{IsOneLife}
 use Rattle.wasmhost_commands.specs.declared.lines.outside.Outside.{Outside}
 use Rattle.wasmhost_commands.specs.declared.on_disk.fault.OnDiskFault.{OnDiskFault}
@@ -102,11 +103,12 @@ pub record IsOnlySynced {D O : Type 0} (medium : D → Medium) (found last : D)
   pub read : OnlyReads (medium synced_disk) (medium last)
   pub same : outlet' ≡ outlet
 
--- The worker isn't opened. Where there is none, that is all. Else all that was done is a life that
--- failed while it was opened, if the answers of the disk fit an image. The outlet took each line,
--- unless that fault is the outlet's.
+-- The worker isn't opened: a recovery has failed so. Where there is none, that is all. Else all that
+-- was done is a life that failed while it was opened, if the answers of the disk fit an image. The
+-- outlet took each line, unless that fault is the outlet's.
 pub record IsUnopenedRun {D O : Type 0} (medium : D → Medium) (takes : Taking O)
     (why : RecoverFault) (found last : D) (outlet outlet' : O) : Type 0 where
+  pub recovers : RecoversWorker medium takes (Err why) found last outlet outlet'
   pub none : IsNoWorker why → IsOnlySynced medium found last outlet outlet'
   pub life : (IsNoWorker why → ⊥) → (image : DiskImage) → (medium last).crash_images image
       → (bytes : List ℕ) (config : Settings) (acts : List Act) (source : SourceState)
@@ -124,8 +126,7 @@ pub record LivesOnDisk {D O : Type 0} (medium : D → Medium) (takes : Taking O)
   pub worker : DurableValue
   pub opening : D
   pub retold : O
-  pub recovers : RecoveryCarries takes (Ok worker) (medium before.disk) (medium opening)
-      before.outlet retold
+  pub recovers : RecoversWorker medium takes (Ok worker) before.disk opening before.outlet retold
   pub acts : List Act
   pub paced : IsPaced before.given.fuel before.given.every acts
   pub heard : AsksUnless handing (IsOfSource undone) (source_behind before.given worker) source'

@@ -17,7 +17,7 @@ use Rattle.worker.specs.declared.recover_fault.RecoverFault.TheVariants as recov
 use Rattle.worker.specs.rules.DurableValues.{DurableValue}
 use Rattle.worker.specs.rules.LifeWords.{Act, Slice, Upgrade, by_recovery}
 use Rattle.worker.specs.rules.Outlets.{TakesEach, HeedsOutlet, SaysOutletFault}
-use Rattle.worker.specs.rules.Recoveries.{RecoveryCarries}
+use Rattle.worker.specs.rules.Effects.{RecoversWorker}
 use Rattle.worker.specs.rules.OneLife.{IsOneLife}
 use Rattle.worker.specs.rules.Outcomes.{life_outcome}
 use Rattle.wasmhost_commands.specs.declared.on_disk.upgrading.Upgraded.{Upgraded}
@@ -76,7 +76,7 @@ pub record LivesToUpgrade {D O : Type 0} (medium : D → Medium) (takes : Taking
   pub narrow : worker.process.host.host.version ≡ One
   pub opening : D
   pub retold : O
-  pub recovers : RecoveryCarries takes (Ok worker) (medium found) (medium opening) outlet retold
+  pub recovers : RecoversWorker medium takes (Ok worker) found opening outlet retold
   pub count : ℕ
   pub source' : List Answer
   pub heard : AsksUnless from_list (IsOfSource undone) [] source'
@@ -110,7 +110,7 @@ pub record IsOfTwoBefore {D O : Type 0} (medium : D → Medium) (takes : Taking 
     (outlet outlet' : O) : Type 0 where
   pub worker : DurableValue
   pub version : worker.process.host.host.version ≡ Two
-  pub recovers : RecoveryCarries takes (Ok worker) (medium found) (medium last) outlet outlet'
+  pub recovers : RecoversWorker medium takes (Ok worker) found last outlet outlet'
   pub taken : TakesEach takes outlet outlet'
 
 -- A worker of version 1 has run on, and was upgraded, or it was of version 2 before: a person is

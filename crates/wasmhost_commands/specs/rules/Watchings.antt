@@ -1,5 +1,6 @@
 -- Where a worker is, for whoever watches a run (this project's own).
-use Rattle.std.specs.Prelude.{◌≡◌, ◌≢◌, ℕ, Bool, IsTrue, List, ◌++◌, None, Some, codes}
+use Rattle.std.specs.Prelude.{◌≡◌, ◌≢◌, ◌<◌, ◌^◌, ℕ, Bool, IsTrue, List, ◌++◌, None, Some, codes}
+use Rattle.process.specs.declared.stop.ProcessEnd.TheVariants as end
 use Rattle.process.specs.rules.Values.{ending_of, lines_in}
 use Rattle.ephemeral_worker.specs.declared.now.Now.{Now}
 use Rattle.ephemeral_worker.specs.declared.now.Now.TheVariants as now
@@ -14,13 +15,36 @@ watch_words now.Spent = codes "running\n"
 watch_words now.Waiting = last_words None
 watch_words (now.Ended how) = last_words (Some (ending_of how))
 
+-- the line over its numbers: those of a snapshot, and what the last slice has answered
+abbrev pub status_line : ℕ → ℕ → ℕ → ℕ → Now → List ℕ
+status_line generation steps answers lines said =
+    named_number (codes "generation ") generation ++ named_number (codes " steps ") steps
+    ++ named_number (codes " answers ") answers ++ named_number (codes " lines ") lines
+    ++ codes " " ++ watch_words said
+
 -- the line of a worker whose last slice has answered this
 abbrev pub watch_line : DurableValue → Now → List ℕ
 watch_line w said =
-    named_number (codes "generation ") w.store.journal.generation
-    ++ named_number (codes " steps ") w.process.steps
-    ++ named_number (codes " answers ") w.process.answers
-    ++ named_number (codes " lines ") (lines_in w.process) ++ codes " " ++ watch_words said
+    status_line w.store.journal.generation w.process.steps w.process.answers (lines_in w.process)
+    said
+
+-- an exit code has 32 bits
+abbrev pub HasCodeInRange : Now → Type 0
+HasCodeInRange now.Spent = Unit {0}
+HasCodeInRange now.Waiting = Unit {0}
+HasCodeInRange (now.Ended (end.Exited code)) = code < 2 ^ 32
+HasCodeInRange (now.Ended (end.Trapped why)) = Unit {0}
+
+-- The bytes are the line of some numbers of 64 bits, of a worker that runs on or is over.
+pub record IsStatusLine (bytes : List ℕ) : Type 0 where
+  pub generation : ℕ
+  pub steps : ℕ
+  pub answers : ℕ
+  pub lines : ℕ
+  pub said : Now
+  pub numbers_fit : (generation < 2 ^ 64) × (steps < 2 ^ 64) × (answers < 2 ^ 64) × (lines < 2 ^ 64)
+  pub code_fits : HasCodeInRange said
+  pub spelled : bytes ≡ status_line generation steps answers lines said
 
 -- Where the status is 0, a worker that is over was told to the watcher. The last words are of the
 -- same end.

@@ -24,5 +24,6 @@ pub(crate) use printing::spell_line;
 pub use reader::LineReader;
 pub use real_time::RealTime;
 pub use request::{Request, read_request};
+pub(crate) use request::{read_decimal, split_at_space};
 pub use source::RequestSource;
 pub use words::trap_name;

@@ -1,13 +1,13 @@
 //! An outlet that prints.
 
-ghost use Rattle.std.specs.Prelude.{◌≡◌, false, IfOk};
-ghost use Rattle.wasmhost_commands.specs.rules.Printers.{printer_state};
+ghost use Rattle.std.specs.Prelude.{◌≡◌, false, true, IfOk, OnErr, OnOk};
+ghost use Rattle.wasmhost_commands.specs.rules.Printers.{IsPrinted, printer_state};
 
 use crate::lines::printing::print_line;
 use crate::printer::Printer;
 use record_replay::{Outlet, OutletFault};
 use std::alloc::{AllocError, Global};
-use std::io::Write;
+use std::io::{self, Write};
 use std::marker::Model;
 use wasi_calls_rules::OutputStream;
 use wasi_calls_rules::limits::LINE_BYTES;
@@ -51,6 +51,15 @@ impl<W: Write + Drop> LineOutlet<W> {
         ensures { W.contents result.now ≡ self.now.contents }
     {
         self.out.writer()
+    }
+
+    /// Writes a text of the program's own after the lines, and flushes the writer.
+    pub(crate) fn write_text(&mut self, text: &[u8]) -> io::Result<()>
+        ensures printed { OnOk result (IsPrinted self.old self.new text.now) }
+        ensures failed { OnErr result (self.new.failed ≡ true) }
+    {
+        self.out.write_all(text)?;
+        self.out.flush()
     }
 }
 

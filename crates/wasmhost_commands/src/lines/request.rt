@@ -37,15 +37,28 @@ fn parse_digits(digits: &[u8]) -> Option<u64>
     }
 }
 
+/// A number in decimal, below 2^64, without zeros in front.
+pub(crate) fn read_decimal(digits: &[u8]) -> Option<u64>
+    ensures spelled { IfSome result (λ n. digits.now ≡ decimal n) }
+    ensures bound { IfSome result (λ n. n < 2 ^ 64) }
+    ensures found { (n : ℕ) → n < 2 ^ 64 → digits.now ≡ decimal n → result ≡ Some n }
+{
+    let number = parse_digits(digits)?;
+    let mut buffer = Buffer::new();
+    if buffer.format(number).as_bytes() != digits {
+        return None;
+    }
+    Some(number)
+}
+
 /// A number in decimal, from 1 on and below 2^63, without zeros in front.
 fn read_number(digits: &[u8]) -> Option<u64>
     ensures spelled { IfSome result (λ n. digits.now ≡ decimal n) }
     ensures bounds { IfSome result (λ n. (1 ≤ n) × (n < 2 ^ 63)) }
     ensures found { (n : ℕ) → 1 ≤ n → n < 2 ^ 63 → digits.now ≡ decimal n → result ≡ Some n }
 {
-    let number = parse_digits(digits)?;
-    let mut buffer = Buffer::new();
-    if buffer.format(number).as_bytes() != digits || number == 0 || number >= NUMBERS_END {
+    let number = read_decimal(digits)?;
+    if number == 0 || number >= NUMBERS_END {
         return None;
     }
     Some(number)
@@ -61,7 +74,7 @@ fn first_space(line: &[u8]) -> Option<usize>
 }
 
 /// What is before the first space, and what after it.
-fn split_at_space(line: &[u8]) -> Option<(&[u8], &[u8])>
+pub(crate) fn split_at_space(line: &[u8]) -> Option<(&[u8], &[u8])>
     ensures parts { IfSome result (λ r. line.now ≡ r.0.now ++ 32 ∷ r.1.now) }
     ensures found { (front back : List ℕ) → line.now ≡ front ++ 32 ∷ back
         → ((k : ℕ) → k < length front → slice_index front k ≢ 32)

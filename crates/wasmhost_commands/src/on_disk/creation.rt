@@ -2,12 +2,13 @@
 
 ghost use Rattle.std.specs.Prelude.{◌≡◌, ◌≤◌, true, OnErr, OnOk};
 ghost use Rattle.wasmhost_commands.specs.rules.Creations.{CreatesOn, created_line};
-ghost use Rattle.wasmhost_commands.specs.rules.Printers.{IsPrinted, SaysText};
+ghost use Rattle.wasmhost_commands.specs.rules.Printers.{IsPrinted};
+ghost use Rattle.wasmhost_commands.specs.rules.Reports.{SaysOnOutput};
 
 use crate::on_disk::fault::{OnDiskFault, say_disk_fault};
 use crate::preparing::sectors_of;
 use crate::printer::Printer;
-use crate::status::UNWRITTEN;
+use crate::telling::{Obstacle, report};
 use sector_disk::Disk;
 use std::alloc::Global;
 use std::io::{self, Write};
@@ -23,20 +24,24 @@ fn print_created<W: Write + Drop>(out: &mut Printer<W>, sectors: u64) -> io::Res
     out.flush()
 }
 
-/// Says how many sectors a worker has, and answers the exit status.
-fn say_created<W: Write + Drop>(out: &mut Printer<W>, sectors: u64) -> u8
-    ensures { SaysText (created_line sectors) 0 out.old result out.new }
+/// Says how many sectors a worker has, or that this can't be written. Answers the exit status.
+fn say_created<W: Write + Drop, E: Write + Drop>(
+    out: &mut Printer<W>,
+    sectors: u64,
+    err: &mut Printer<E>,
+) -> u8
+    ensures { SaysOnOutput (created_line sectors) 0 out.old out.new err.old err.new result }
 {
     match print_created(out, sectors) {
         Ok(()) => 0,
-        Err(_) => UNWRITTEN,
+        Err(_) => report(err, Obstacle::Unwritten),
     }
 }
 
 /// Creates a worker of the module that the bytes spell, on this disk, and says how many sectors it
 /// has. Answers the exit status: 0 where it is created, 3 for a module that isn't accepted and a
 /// disk with too few sectors, 4 where the disk fails, 5 for out of memory, 7 where a write of a
-/// printer has failed.
+/// printer has failed. One of the output is told on the error output.
 pub fn create_on<D: Disk, W: Write + Drop, E: Write + Drop>(
     alloc: Global,
     disk: &mut D,
@@ -52,7 +57,7 @@ pub fn create_on<D: Disk, W: Write + Drop, E: Write + Drop>(
     match Worker::create(alloc, disk, wasm, config) {
         Ok(worker) => {
             drop(worker);
-            say_created(out, sectors_of(config, wasm))
+            say_created(out, sectors_of(config, wasm), err)
         }
         Err(fault) => say_disk_fault(err, OnDiskFault::from(fault)),
     }

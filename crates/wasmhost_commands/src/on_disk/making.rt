@@ -1,12 +1,18 @@
 //! `wasmhost create`, on a disk whose file is made for it, or on a device.
 
-ghost use Rattle.std.specs.Prelude.{◌≤◌, true};
-ghost use Rattle.wasmhost_commands.specs.rules.MadeFiles.{CreatesFile, CreatesOnDevice};
+ghost use Rattle.std.specs.Prelude.{◌≡◌, ◌≤◌, IfErr, IfOk, true};
+ghost use Rattle.wasmhost_commands.specs.rules.Commands.{create_said};
+ghost use Rattle.wasmhost_commands.specs.rules.Creations.{IsPreparedAs, IsUnprepared};
+ghost use Rattle.wasmhost_commands.specs.rules.MadeFiles.{CreatesDisk, CreatesFile};
+ghost use Rattle.wasmhost_commands.specs.rules.MadeFiles.{CreatesOnDevice, MakesDisk};
+ghost use Rattle.wasmhost_commands.specs.rules.MadeFiles.{settings_said};
 
+use crate::configuring::Sizes;
 use crate::on_disk::creation::create_on;
 use crate::on_disk::opening::report_open;
-use crate::preparing::Prepared;
+use crate::preparing::{Prepared, Unprepared, prepare, report_unprepared};
 use crate::printer::Printer;
+use crate::words::CreateOrder;
 use sector_disk::{DeviceFile, FileDisk, LockFile, NewFiles, SizeFile};
 use std::alloc::Global;
 use std::fs::OpenFile;
@@ -89,4 +95,91 @@ where
         Err(fault) => return report_open(err, path, fault),
     };
     create_on(alloc, &mut disk, wasm, &prepared.config, out, err)
+}
+
+/// A creation on a block device, where that is asked for, or in a new file. Returns the exit
+/// status.
+fn make_disk<F, R, W, E>(
+    alloc: Global,
+    files: &R,
+    new: NewDisk<'_>,
+    on_device: bool,
+    out: &mut Printer<W>,
+    err: &mut Printer<E>,
+) -> u8
+where
+    F: OpenFile + FileExt + LockFile + SizeFile + DeviceFile + Drop,
+    R: Files<File = F> + NewFiles,
+    W: Write + Drop,
+    E: Write + Drop,
+    ensures makes { MakesDisk F (λ file. F.is_found_device file true)
+        (R.has_refused files.now new.entry.path.now) (R.has_made files.now new.entry.path.now)
+        (R.has_removed files.now new.entry.path.now) on_device new.entry.path.now
+        new.entry.wasm.now new.entry.prepared.now out.old out.new err.old err.new result }
+    ensures known { result ≤ 7 }
+{
+    if on_device {
+        create_device(alloc, files, new, out, err)
+    } else {
+        create_file(alloc, files, new, out, err)
+    }
+}
+
+/// What a worker of these bytes is created with, as the words say.
+fn prepare_order(
+    alloc: Global,
+    order: &CreateOrder<'_>,
+    wasm: &[u8],
+) -> Result<Prepared, Unprepared>
+    ensures prepared { IfOk result (IsPreparedAs (settings_said (create_said order.now))
+        wasm.now) }
+    ensures refused { IfErr result (IsUnprepared (settings_said (create_said order.now))
+        wasm.now) }
+{
+    let sizes = Sizes {
+        pages: order.pages,
+        files: order.files,
+        journal: order.journal,
+    };
+    let arguments = order.arguments.as_slice();
+    let environment = order.environment.as_slice();
+    prepare(alloc, wasm, sizes, arguments, environment)
+}
+
+/// `wasmhost create` of a worker of the module that the bytes spell, as the words say: with their
+/// sizes, arguments and environment, on the device or in the new file that they name. Nothing is
+/// made for a configuration out of its limits and for a module that isn't accepted: that is told.
+/// Returns the exit status.
+pub fn create_disk<F, R, W, E>(
+    alloc: Global,
+    files: &R,
+    order: &CreateOrder<'_>,
+    wasm: &[u8],
+    out: &mut Printer<W>,
+    err: &mut Printer<E>,
+) -> u8
+where
+    F: OpenFile + FileExt + LockFile + SizeFile + DeviceFile + Drop,
+    R: Files<File = F> + NewFiles,
+    W: Write + Drop,
+    E: Write + Drop,
+    ensures creates { CreatesDisk F (λ file. F.is_found_device file true)
+        (R.has_refused files.now order.now.disk.now) (R.has_made files.now order.now.disk.now)
+        (R.has_removed files.now order.now.disk.now) (create_said order.now) wasm.now
+        out.old out.new err.old err.new result }
+    ensures known { result ≤ 7 }
+{
+    match prepare_order(alloc, order, wasm) {
+        Ok(prepared) => {
+            let new = NewDisk {
+                path: order.disk,
+                wasm,
+                prepared: &prepared,
+            };
+            let status = make_disk(alloc, files, new, order.on_device, out, err);
+            drop(prepared);
+            status
+        }
+        Err(fault) => report_unprepared(err, fault),
+    }
 }

@@ -1,24 +1,25 @@
 //! `wasmhost upgrade` of a worker on a disk.
 
-ghost use Rattle.std.specs.Prelude.{◌≡◌, ◌≢◌, ◌≤◌, [], IfErr, IfOk, OnErr, OnOk, true};
+ghost use Rattle.std.specs.Prelude.{◌≡◌, ◌≢◌, ◌≤◌, [], IfErr, IfOk, OnOk};
 ghost use Rattle.disk_layout.specs.rules.Places.{total_sectors};
 ghost use Rattle.ephemeral_worker.specs.declared.now.Now.TheVariants.{Spent};
 ghost use Rattle.wasmhost_commands.specs.Livings.{scene};
 ghost use Rattle.wasmhost_commands.specs.ComingUp.{ComesUp, IsUpgradedFrom, UpgradesOpen};
-ghost use Rattle.wasmhost_commands.specs.rules.Printers.{IsPrinted, SaysText};
 ghost use Rattle.wasmhost_commands.specs.rules.Refusals.{HeedsRefusal};
+ghost use Rattle.wasmhost_commands.specs.rules.ServedFiles.{SaysUpgraded};
 ghost use Rattle.wasmhost_commands.specs.rules.Upgradings.{UpgradesOnDisk, from_list};
 ghost use Rattle.wasmhost_commands.specs.rules.Upgradings.{status_so_far, upgraded_words};
 
+use crate::lines::LineOutlet;
 use crate::on_disk::fault::{OnDiskFault, say_disk_fault};
 use crate::on_disk::serving::tell_recovered;
 use crate::printer::Printer;
-use crate::status::UNWRITTEN;
+use crate::telling::{Obstacle, report};
 use ephemeral_worker::Now;
 use record_replay::{AnswerList, Outlet, Source};
 use sector_disk::Disk;
 use std::alloc::Global;
-use std::io::{self, Write};
+use std::io::Write;
 use wasi_abi::Version;
 use worker::{WorkFault, Worker};
 
@@ -132,26 +133,32 @@ pub fn upgrade_worker<D: Disk, O: Outlet, E: Write + Drop>(
     }
 }
 
-/// Writes that a worker is of version 2, and flushes the writer.
-fn print_upgraded<W: Write + Drop>(out: &mut Printer<W>, upgraded: Upgraded) -> io::Result<()>
-    ensures printed { OnOk result (IsPrinted out.old out.new (upgraded_words upgraded)) }
-    ensures failed { OnErr result (out.new.failed ≡ true) }
+/// The words for a worker that is of version 2.
+fn words_of_upgrade(upgraded: Upgraded) -> &'static [u8]
+    ensures { result.now ≡ upgraded_words upgraded }
 {
     match upgraded {
-        Upgraded::Now => out.write_all(b"upgraded\n")?,
-        Upgraded::Before => out.write_all(b"already version 2\n")?,
+        Upgraded::Now => b"upgraded\n",
+        Upgraded::Before => b"already version 2\n",
     }
-    out.flush()
 }
 
-/// Says that a worker is of version 2, and returns the exit status: 0, or 7 where a write has
-/// failed.
-pub fn say_upgraded<W: Write + Drop>(out: &mut Printer<W>, upgraded: Upgraded) -> u8
-    ensures said { SaysText (upgraded_words upgraded) 0 out.old result out.new }
+/// Says after the worker's lines that it is of version 2, or that this can't be written. Of an
+/// error nothing more is said. Returns the exit status.
+pub(super) fn say_upgraded<W: Write + Drop, E: Write + Drop>(
+    upgraded: Result<Upgraded, u8>,
+    outlet: &mut LineOutlet<W>,
+    err: &mut Printer<E>,
+) -> u8
+    requires { IfErr upgraded (λ status. status ≤ 7) }
+    ensures said { SaysUpgraded upgraded outlet.old outlet.new err.old err.new result }
     ensures known { result ≤ 7 }
 {
-    match print_upgraded(out, upgraded) {
-        Ok(()) => 0,
-        Err(_) => UNWRITTEN,
+    match upgraded {
+        Ok(upgraded) => match outlet.write_text(words_of_upgrade(upgraded)) {
+            Ok(()) => 0,
+            Err(_) => report(err, Obstacle::Unwritten),
+        },
+        Err(status) => status,
     }
 }

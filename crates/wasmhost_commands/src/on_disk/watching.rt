@@ -8,10 +8,7 @@ use crate::on_disk::ending::print_last_words;
 use crate::on_disk::showing::print_number;
 use crate::printer::Printer;
 use ephemeral_worker::Now;
-use std::alloc::Global;
-use std::fs::File;
 use std::io::{self, Write};
-use std::rt::Files;
 use worker::Worker;
 
 /// Whoever is told where a worker on a disk is.
@@ -41,7 +38,11 @@ fn print_watch_words<W: Write + Drop>(out: &mut Printer<W>, now: Now) -> io::Res
 }
 
 /// Writes where a worker is.
-fn print_status<W: Write + Drop>(out: &mut Printer<W>, worker: &Worker, now: Now) -> io::Result<()>
+pub(super) fn print_status<W: Write + Drop>(
+    out: &mut Printer<W>,
+    worker: &Worker,
+    now: Now,
+) -> io::Result<()>
     ensures printed { OnOk result (IsPrinted out.old out.new (watch_line worker.now now)) }
     ensures failed { OnErr result (out.new.failed ≡ true) }
 {
@@ -65,48 +66,5 @@ impl<T: Watcher> Watcher for Option<T> {
         if let Some(watcher) = self {
             watcher.tell(worker, now);
         }
-    }
-}
-
-/// A small file with one line, where a worker is. It is written beside its path, and then
-/// renamed, so that whoever reads it finds a whole line. A worker runs on though it can't be
-/// written.
-#[derive(Drop)]
-pub struct StatusFile<'a, R> {
-    files: &'a R,
-    path: &'a str,
-    beside: String,
-}
-
-impl<'a, R: Files> StatusFile<'a, R> {
-    /// A file at this path, once there is something to tell. Fails where none can be made beside
-    /// it.
-    pub fn new(alloc: Global, files: &'a R, path: &'a str) -> io::Result<StatusFile<'a, R>> {
-        let beside = format!(in alloc; "{path}.new")?;
-        File::create(files, beside.as_str())?;
-        Ok(StatusFile {
-            files,
-            path,
-            beside,
-        })
-    }
-
-    /// Writes the line beside the path, and renames it.
-    fn replace(&self, worker: &Worker, now: Now) -> io::Result<()> {
-        let mut out = Printer::new(File::create(self.files, self.beside.as_str())?, false);
-        print_status(&mut out, worker, now)?;
-        drop(out);
-        self.files.rename(self.beside.as_str(), self.path)
-    }
-}
-
-// Of files no more is known than what they answer.
-impl<R: Files> Watcher for StatusFile<'_, R> {
-    ghost use Rattle.std.specs.Prelude.{true};
-
-    ghost is_notified = { λ _ _ _. true };
-
-    fn tell(&self, worker: &Worker, now: Now) {
-        let _ = self.replace(worker, now);
     }
 }

@@ -21,7 +21,7 @@ use clap::{Arg, ArgAction, Command, value_parser};
 use std::alloc::{AllocError, Global};
 
 /// What `--version` says: the version of the program, of the disks that it makes, and the kit.
-const VERSION: &str = "0.1.0, disk layout 1, kit rattle-kit-13f";
+const VERSION: &str = "0.1.0, disk layout 1, logic dac8208d650f15bf";
 
 /// What MODULE is.
 const MODULE: &str = "File of the WebAssembly module";

@@ -32,6 +32,7 @@ use Rattle.worker_store.specs.declared.fault.StoreFault.TheVariants as store
 use Rattle.worker_store.specs.rules.AnyDisk.{HasOtherVersion, HasShortJournal, HasKnownVersion}
 use Rattle.worker_store.specs.rules.AnyDisk.{LacksItsProcessImage, NamesProcessImage, HasOtherMark}
 use Rattle.journal.specs.declared.fault.JournalFault.TheVariants as journal
+use Rattle.journal.specs.rules.Steps.{ShowsLater}
 use Rattle.snapshot.specs.declared.fault.SnapshotFault.TheVariants as snapshot
 use Rattle.snapshot.specs.rules.Heads.{HasNone}
 use Rattle.worker.specs.declared.fault.WorkFault.TheVariants.{Disk, Store}
@@ -52,7 +53,8 @@ pub record HoldsModule (sectors : ℕ) (disk : DiskImage) : Type 0 where
 
 -- The newest complete head names an image, and it is there, whole. It is that of a well-typed
 -- process of this module. Head and image are of its version, and the journal takes the longest
--- record of it. These are the records of its generation, read as of that version.
+-- record of it. Its first sector shows no later generation. These are the records of its
+-- generation, read as of that version.
 pub record HoldsWorker (sectors : ℕ) (disk : DiskImage) : Type 0 where
   pub holds : HoldsModule sectors disk
   pub generation : ℕ
@@ -60,6 +62,7 @@ pub record HoldsWorker (sectors : ℕ) (disk : DiskImage) : Type 0 where
   pub well_typed : IsWellTyped holds.module_is holds.contents.config saved
   pub newest : NamesProcessImage holds.contents.geometry disk generation saved.version
       (process_image saved)
+  pub none_later : ShowsLater holds.contents.geometry generation disk → ⊥
   pub records : List Record
   pub scanned : scan holds.contents.geometry saved.version disk generation ≡ records
 
@@ -102,8 +105,6 @@ pub record HoldsNoProcess (sectors : ℕ) (disk : DiskImage) : Type 0 where
   pub other : (s : Saved) → IsWellTyped named.holds.module_is named.holds.contents.config s
       → named.bytes ≢ process_image s
 
--- ---- where memory is wanted, what was found before
-
 -- the image that the newest head names is that of a well-typed process of the module
 pub record HoldsProcess (sectors : ℕ) (disk : DiskImage) : Type 0 where
   pub holds : HoldsModule sectors disk
@@ -113,16 +114,22 @@ pub record HoldsProcess (sectors : ℕ) (disk : DiskImage) : Type 0 where
   pub newest : NamesProcessImage holds.contents.geometry disk generation saved.version
       (process_image saved)
 
+-- it is so, and the first sector of the journal shows a later generation: its head is lost
+pub record HoldsLaterSector (sectors : ℕ) (disk : DiskImage) : Type 0 where
+  pub older : HoldsProcess sectors disk
+  pub later : ShowsLater older.holds.contents.geometry older.generation disk
+
 -- ---- what a fault shows
 
 -- A mark, the layout, a length or a digest is wrong, or the disk is too small. Or the newest head
--- is of no known version, or is at odds with the journal or with its image. Want of memory shows
--- nothing here. A fault of the disk is told as that.
+-- is of no known version, or is at odds with the journal or with its image. Or the journal shows a
+-- later generation than that head. Want of memory shows nothing here. A fault of the disk is told
+-- as that.
 abbrev pub ShowsLayoutFault : ℕ → DiskImage → LayoutFault → Type 0
 ShowsLayoutFault sectors disk layout.Version = GivesContents sectors disk (Err layout.Version)
     ⊎ (HoldsModule sectors disk × HasOtherVersion disk)
 ShowsLayoutFault sectors disk layout.Damaged = GivesContents sectors disk (Err layout.Damaged)
-    ⊎ HoldsAtOdds sectors disk
+    ⊎ HoldsAtOdds sectors disk ⊎ HoldsLaterSector sectors disk
 ShowsLayoutFault sectors disk (layout.Disk fault) = ⊥
 ShowsLayoutFault sectors disk fault = GivesContents sectors disk (Err fault)
 
@@ -137,7 +144,9 @@ ShowsFault sectors disk (recover.Snapshot snapshot.Memory) =
     (holds : HoldsModule sectors disk) × HasKnownVersion holds.contents.geometry disk
 ShowsFault sectors disk (recover.ProcessImage restore.NotAnImage) = HoldsNoProcess sectors disk
 ShowsFault sectors disk (recover.ProcessImage restore.Memory) = HoldsNamedProcessImage sectors disk
-ShowsFault sectors disk (recover.Journal journal.Memory) = HoldsProcess sectors disk
+ShowsFault sectors disk (recover.Journal journal.Memory) =
+    (held : HoldsProcess sectors disk)
+    × (ShowsLater held.holds.contents.geometry held.generation disk → ⊥)
 ShowsFault sectors disk (recover.Worker (Disk fault)) = Unit {0}
 ShowsFault sectors disk other = ⊥
 

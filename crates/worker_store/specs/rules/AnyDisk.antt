@@ -13,6 +13,7 @@ use Rattle.wasi_abi.specs.declared.version.Version.{Version}
 use Rattle.disk_layout.specs.rules.Journal.{Record, TakesRecords, scan}
 use Rattle.disk_layout.specs.rules.Sectors.{IsNewest, HoldsProcessImage}
 use Rattle.journal.specs.declared.fault.JournalFault.TheVariants as journal
+use Rattle.journal.specs.rules.Steps.{ShowsLater}
 use Rattle.snapshot.specs.declared.fault.SnapshotFault.TheVariants as snapshot
 use Rattle.state_image.specs.rules.ProcessImage.{IsMarkedOtherwise}
 use Rattle.snapshot.specs.rules.Heads.{HasNone}
@@ -92,11 +93,16 @@ TellsNewest geometry disk (Err (read.Snapshot snapshot.Memory)) = HasKnownVersio
 TellsNewest geometry disk (Err (read.Disk fault)) = Unit {0}
 TellsNewest geometry disk (Err other) = ⊥
 
--- the records are those of this version that are there
+-- The records are those of this version that are there. Or the first sector of the journal shows a
+-- later generation than theirs. Nothing else is told then: it comes before memory is wanted.
 abbrev pub TellsRecords : Geometry → Version → ℕ → DiskImage → Result (Vec Record Global) ReadFault
     → Type 0
 TellsRecords geometry version generation disk (Ok found) =
-    found.items ≡ scan geometry version disk generation
-TellsRecords geometry version generation disk (Err (read.Journal journal.Memory)) = Unit {0}
+    (found.items ≡ scan geometry version disk generation)
+    × (ShowsLater geometry generation disk → ⊥)
+TellsRecords geometry version generation disk (Err (read.Layout layout.Damaged)) =
+    ShowsLater geometry generation disk
+TellsRecords geometry version generation disk (Err (read.Journal journal.Memory)) =
+    ShowsLater geometry generation disk → ⊥
 TellsRecords geometry version generation disk (Err (read.Disk fault)) = Unit {0}
 TellsRecords geometry version generation disk (Err other) = ⊥

@@ -1,4 +1,5 @@
 use Rattle.journal.proofs.ExampleLemmas.{fitting_examples, holding_examples, barrier_examples}
+use Rattle.journal.proofs.ExampleLemmas.{later_examples}
 use Rattle.journal.proofs.laws.worked_examples.Goals as goal
 
 pub returns-clause-fitting : goal.returns-clause-fitting
@@ -9,3 +10,6 @@ returns-clause-holding c = holding_examples
 
 pub returns-clause-barriers : goal.returns-clause-barriers
 returns-clause-barriers c = barrier_examples
+
+pub returns-clause-later : goal.returns-clause-later
+returns-clause-later c = later_examples

@@ -1,6 +1,6 @@
 use Rattle.std.proofs.Common.{◌≡◌, ◌≤◌, ◌<◌, ◌+◌, ◌-◌, ◌++◌, ℕ, List, take, drop, true, false, sym}
 use Rattle.std.proofs.Common.{ap, ◌∙◌, subst, ⊎_elim, arith}
-use Rattle.std.proofs.lemmas.Bool.{cases_lt}
+use Rattle.std.proofs.lemmas.Bool.{cases_lt, false≢true}
 use Rattle.std.proofs.lemmas.List.{append-nil}
 use Rattle.sector_disk.specs.rules.DiskImage.{DiskImage, sector_at}
 use Rattle.sector_disk.proofs.Moments.{stays_shows}
@@ -8,6 +8,7 @@ use Rattle.disk_layout.specs.rules.Journal.{payloads_from, is_of}
 use Rattle.disk_layout.proofs.ReadLemmas.{read_more}
 use Rattle.disk_layout.proofs.JournalLemmas.{payload_of_sector}
 use Rattle.journal.proofs.PackedLemmas.{payloads_split, pay_on, pay_off}
+use Rattle.journal.proofs.LaterLemmas.{ends_at_later, first_is_of_it}
 use Rattle.journal.proofs.scan.read_payloads.Goals as goal
 
 -- a sector more
@@ -112,3 +113,46 @@ loop-k-preserved g c =
           ∙ ap (λ (s : List ℕ). c.loop-k.bytes.items
           ++ payload_of_sector s) (c.in_default.ensures.bytes image shows) ∙ sym items;
     }
+
+-- ---- a later generation
+
+pub returns-then-not-is_of-clause-later : goal.returns-then-not-is_of-clause-later
+returns-then-not-is_of-clause-later g c = λ image shows.
+    let before = stays_shows (g.D.Disk.medium c.loop-k.disk) (g.D.Disk.medium c.read.new.self)
+    c.read.ensures.stays image shows in
+    let first = c.is_first_of_later-shows_later in
+    let within : c.loop-k.k < c.args.geometry.now.journal_sectors = let t = c.loop-k-test.true in
+    let e = c.from-k-end.ensures in omega arith in
+    ends_at_later c.args.geometry.now c.args.generation c.journal_place-at.result c.loop-k.k image
+    c.journal_place-at.ensures (c.loop-k.invariant.on image before) c.read.new.into
+    (c.in_default.ensures.bytes image shows) within first.result first.ensures
+
+pub returns-then-not-is_of-clause-once : goal.returns-then-not-is_of-clause-once
+returns-then-not-is_of-clause-once g c = λ yes.
+    let means = c.is_first_of_later-shows_later.ensures.0 yes in
+    omega (arith, means.0, c.loop-k.invariant.counted, c.read.ensures.counted)
+
+pub returns-in_default-extend_from_slice-clause-memory :
+    goal.returns-in_default-extend_from_slice-clause-memory
+returns-in_default-extend_from_slice-clause-memory g c = λ _ image shows.
+    let before = stays_shows (g.D.Disk.medium c.loop-k.disk) (g.D.Disk.medium c.read.new.self)
+    c.read.ensures.stays image shows in
+    let at = c.journal_place-at.result in
+    let here : is_of c.args.generation (1 + c.loop-k.k) (sector_at image (at + c.loop-k.k)) ≡ true =
+    ap (λ (s : List ℕ). is_of c.args.generation (1 + c.loop-k.k) s)
+    (c.in_default.ensures.bytes image shows) ∙ sym c.is_of.ensures ∙ c.if-not-is_of.false in
+    first_is_of_it c.args.geometry.now c.args.generation at (c.loop-k.k + 1) image
+    c.journal_place-at.ensures (on_more image c.args.generation at c.loop-k.k
+    (c.loop-k.invariant.on image before) here) (omega arith)
+
+pub returns-clause-later : goal.returns-clause-later
+returns-clause-later g c = λ image shows. (
+  λ no. absurd (false≢true no),
+  λ later.
+      let some = later.some in
+      let end : c.args.geometry.now.journal_sectors ≤ c.loop-k.k = let t = c.loop-k-test.false in
+      let e = c.from-k-end.ensures in omega arith in
+      absurd (first_is_of_it c.args.geometry.now c.args.generation c.journal_place-at.result
+      c.loop-k.k image c.journal_place-at.ensures (c.loop-k.invariant.on image shows)
+      (omega (arith, some, end)) later),
+)

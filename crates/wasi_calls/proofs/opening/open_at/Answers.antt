@@ -11,3 +11,9 @@ returns-in-None-clause-stopped c = λ ret m.
     subst (λ (o : Option ℕ). IfErr c.open_new.result (λ why. StopsStep why
     (opened_at o (walk_end_of c.args.place) (checked_mode c.args.mode) ret m c.args.host.now.host)))
     (sym c.in-None.is ∙ c.node_there.ensures.node) (c.open_new.ensures.stopped ret m)
+
+pub returns-in-Some-clause-stopped : goal.returns-in-Some-clause-stopped
+returns-in-Some-clause-stopped c = λ ret m.
+    subst (λ (o : Option ℕ). IfErr c.open_there.result (λ why. StopsStep why
+    (opened_at o (walk_end_of c.args.place) (checked_mode c.args.mode) ret m c.args.host.now.host)))
+    (sym c.in-Some.is ∙ c.node_there.ensures.node) (c.open_there.ensures.stopped ret m)

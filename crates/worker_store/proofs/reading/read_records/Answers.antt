@@ -1,12 +1,58 @@
-use Rattle.std.specs.Prelude.{Vec}
-use Rattle.std.specs.declared.alloc.Global.{Global}
-use Rattle.disk_layout.specs.rules.Journal.{Record}
+use Rattle.std.proofs.Common.{ap}
+use Rattle.std.specs.Prelude.{Result, Err}
+use Rattle.disk_layout.specs.declared.fault.LayoutFault.TheVariants as layout
+use Rattle.journal.specs.declared.fault.JournalFault.{JournalFault}
+use Rattle.journal.specs.declared.scanned.ScannedJournal.{ScannedJournal}
+use Rattle.worker_store.specs.declared.read_fault.ReadFault.TheVariants as read
 use Rattle.worker_store.proofs.ReadCauseLemmas.{journal_cause}
+use Rattle.worker_store.proofs.ScanLemmas.{judged_scan, unscanned, not_of_layout, refused_later}
+use Rattle.worker_store.proofs.ScanLemmas.{reads_records}
 use Rattle.worker_store.proofs.reading.read_records.Goals as goal
+
+pub returns-in-Ok-clause-tells : goal.returns-in-Ok-clause-tells
+returns-in-Ok-clause-tells g c image shown =
+    let scanned = c.in-Ok.ensures in
+    judged_scan c.args.geometry.now c.args.version c.args.generation image c.in-Ok.scanned
+    (scanned.scans image shown) (scanned.later image shown) c.judge_scan.result
+    c.judge_scan.ensures
+
+pub returns-in-Err-clause-tells : goal.returns-in-Err-clause-tells
+returns-in-Err-clause-tells g c image shown =
+    let failed = c.in-Err.ensures in
+    unscanned c.args.geometry.now c.args.version c.args.generation image c.in-Err.fault
+    c.from.result c.from.ensures failed.which_fault
+    (λ same. failed.memory (ap (λ (f : JournalFault).
+    (let r : Result ScannedJournal JournalFault = Err f in r)) same) image shown)
+
+-- ---- where a savepoint is
+
+pub returns-in-Ok-clause-scans : goal.returns-in-Ok-clause-scans
+returns-in-Ok-clause-scans g c image shown =
+    reads_records c.args.geometry.now c.args.version c.args.generation image c.judge_scan.result
+    (returns-in-Ok-clause-tells g c image shown)
+
+pub returns-in-Err-clause-scans : goal.returns-in-Err-clause-scans
+returns-in-Err-clause-scans g c image shown =
+    reads_records c.args.geometry.now c.args.version c.args.generation image (Err c.from.result)
+    (returns-in-Err-clause-tells g c image shown)
+
+-- ---- no other sector is read
+
+pub returns-in-Ok-clause-once : goal.returns-in-Ok-clause-once
+returns-in-Ok-clause-once g c same =
+    c.in-Ok.ensures.once
+    (refused_later c.in-Ok.scanned c.judge_scan.result (read.Layout layout.Damaged)
+    c.judge_scan.ensures same)
+
+pub returns-in-Err-clause-once : goal.returns-in-Err-clause-once
+returns-in-Err-clause-once g c same =
+    absurd (not_of_layout c.in-Err.fault c.from.result layout.Damaged c.from.ensures same)
+
+-- ---- when an error comes
 
 pub returns-in-Err-clause-cause : goal.returns-in-Err-clause-cause
 returns-in-Err-clause-cause g c =
     let failed = c.in-Err.ensures in
-    journal_cause (Vec Record Global) (g.D.Disk.medium c.args.disk.now)
+    journal_cause ScannedJournal (g.D.Disk.medium c.args.disk.now)
     (g.D.Disk.medium c.scan.new.disk) c.in-Err.fault c.from.result c.from.ensures failed.which_fault
     failed.cause

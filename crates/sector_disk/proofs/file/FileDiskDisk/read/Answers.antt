@@ -6,7 +6,7 @@ use Rattle.sector_disk.specs.declared.file_call.FileCall.TheVariants.{Failed}
 use Rattle.sector_disk.specs.declared.file_call.Failure.TheVariants.{OfRead}
 use Rattle.sector_disk.specs.declared.file_call.TheConstants.{NO_BYTES}
 use Rattle.sector_disk.specs.rules.File.{answers_of}
-use Rattle.sector_disk.proofs.AnswerLemmas.{failed_reads, refused_after, failed_after}
+use Rattle.sector_disk.proofs.AnswerLemmas.{passes_on, failed_reads, refused_after, failed_after}
 use Rattle.sector_disk.proofs.file.FileDiskDisk.read.Goals as goal
 
 pub returns-in-Ok-clause-reads : goal.returns-in-Ok-clause-reads
@@ -19,14 +19,14 @@ returns-in-Ok-clause-reads g c =
     record {
       inside = omega arith;
       bytes = λ image shows. let on =
-          subst (λ (a : AnsweredCalls). Explains d.count a image shows.0) is shows.1
+          subst (λ (a : AnsweredCalls). Explains d.first.image a image shows.0) is shows.1
           in on.1;
       stays = record {
         crash_pairs = λ shown image both. let on =
-            subst (λ (a : AnsweredCalls). Explains d.count a shown image) is both in
+            subst (λ (a : AnsweredCalls). Explains d.first.image a shown image) is both in
             on.0;
         since = λ t shown image le both.
-            read_since d.count t now d.past.log.items image shown is
+            read_since d.first.image t now d.past.log.items image shown is
             le both;
         unsynced = omega arith;
       };
@@ -39,7 +39,7 @@ returns-in-Ok-clause-reads g c =
       };
       calls = ap file_calls is;
       counted = omega arith;
-      passes = search rules;
+      passes = passes_on d.count _ _ d.first.image _ _ _ d.past.log.items now is;
       cause = search rules;
     }
 
@@ -47,13 +47,13 @@ pub returns-then-is_given_up-clause-reads : goal.returns-then-is_given_up-clause
 returns-then-is_given_up-clause-reads g c =
     let d = c.args.self.now in
     let now = c.and-self.result.log.items in
-    failed_reads d.count _ _ (answers_of d) now c.and-self.ensures c.args.sector _
+    failed_reads d.count _ _ d.first.image _ _ (answers_of d) now c.and-self.ensures c.args.sector _
 
 pub returns-in-Err-clause-reads : goal.returns-in-Err-clause-reads
 returns-in-Err-clause-reads g c =
     let d = c.args.self.now in
     let now = c.and-self-in-Err.result.log.items in
-    failed_reads d.count _ _ (answers_of d) now c.and-self-in-Err.ensures c.args.sector _
+    failed_reads d.count _ _ d.first.image _ _ (answers_of d) now c.and-self-in-Err.ensures c.args.sector _
 
 pub returns-then-is_given_up-clause-logged : goal.returns-then-is_given_up-clause-logged
 returns-then-is_given_up-clause-logged g c =

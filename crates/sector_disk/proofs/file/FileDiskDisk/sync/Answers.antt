@@ -7,7 +7,7 @@ use Rattle.sector_disk.specs.declared.file_call.FileCall.TheVariants.{Failed}
 use Rattle.sector_disk.specs.declared.file_call.Failure.TheVariants.{OfSync}
 use Rattle.sector_disk.specs.declared.file_call.TheConstants.{NO_BYTES}
 use Rattle.sector_disk.specs.rules.File.{answers_of}
-use Rattle.sector_disk.proofs.AnswerLemmas.{failed_syncs, refused_after, failed_after}
+use Rattle.sector_disk.proofs.AnswerLemmas.{passes_on, failed_syncs, refused_after, failed_after}
 use Rattle.sector_disk.proofs.file.FileDiskDisk.sync.Goals as goal
 
 pub returns-in-Ok-clause-syncs : goal.returns-in-Ok-clause-syncs
@@ -15,8 +15,8 @@ returns-in-Ok-clause-syncs g c =
     let d = c.args.self.now in
     let now = c.and-self-in-Ok.result.log.items in
     let is = c.and-self-in-Ok.ensures in
-    let on = λ (shown image : DiskImage) (both : Explains d.count now shown image).
-    subst (λ (a : AnsweredCalls). Explains d.count a shown image) is both in
+    let on = λ (shown image : DiskImage) (both : Explains d.first.image now shown image).
+    subst (λ (a : AnsweredCalls). Explains d.first.image a shown image) is both in
     let none : unsynced_of now ≡ 0 = ap unsynced_of is in
     record {
       all_synced = record {
@@ -26,10 +26,10 @@ returns-in-Ok-clause-syncs g c =
       stays = record {
         crash_pairs = λ shown image both.
             let was = on shown image both in
-            subst (λ (i : DiskImage). Explains d.count d.past.log.items shown i) (sym was.2)
-            (stays d.count d.past.log.items shown was.0 was.1);
+            subst (λ (i : DiskImage). Explains d.first.image d.past.log.items shown i) (sym was.2)
+            (stays d.count d.first.image d.whole d.past.log.items shown was.0 was.1);
         since = λ t shown image le both.
-            synced_since d.count t now d.past.log.items image shown
+            synced_since d.count t d.first.image d.whole now d.past.log.items image shown
             is le both;
         unsynced = omega arith;
       };
@@ -45,7 +45,7 @@ returns-in-Ok-clause-syncs g c =
         begun = (0, ap file_calls is);
       };
       counted = omega arith;
-      passes = search rules;
+      passes = passes_on d.count _ _ d.first.image _ _ _ d.past.log.items now is;
       cause = search rules;
     }
 
@@ -53,13 +53,13 @@ pub returns-then-is_given_up-clause-syncs : goal.returns-then-is_given_up-clause
 returns-then-is_given_up-clause-syncs g c =
     let d = c.args.self.now in
     let now = c.and-self.result.log.items in
-    failed_syncs d.count _ _ (answers_of d) now c.and-self.ensures
+    failed_syncs d.count _ _ d.first.image _ _ (answers_of d) now c.and-self.ensures
 
 pub returns-in-Err-clause-syncs : goal.returns-in-Err-clause-syncs
 returns-in-Err-clause-syncs g c =
     let d = c.args.self.now in
     let now = c.and-self-in-Err.result.log.items in
-    failed_syncs d.count _ _ (answers_of d) now c.and-self-in-Err.ensures
+    failed_syncs d.count _ _ d.first.image _ _ (answers_of d) now c.and-self-in-Err.ensures
 
 pub returns-then-is_given_up-clause-logged : goal.returns-then-is_given_up-clause-logged
 returns-then-is_given_up-clause-logged g c =

@@ -1,5 +1,5 @@
 use Rattle.std.proofs.Common.{◌≡◌, ◌+◌, ◌<◌, max, length, ap, ◌∙◌, sym, refl, arith}
-use Rattle.std.specs.Prelude.{Ok}
+use Rattle.std.specs.Prelude.{Ok, is_ok}
 use Rattle.std.proofs.lemmas.Result.{err_from_is_err_and}
 use Rattle.file_tree.specs.rules.Bytes.{resized}
 use Rattle.file_tree.specs.rules.Files.{Files, bytes_of_node}
@@ -12,7 +12,7 @@ use Rattle.wasi_calls.proofs.Fronts.{length_gathered}
 use Rattle.wasi_calls.proofs.WrittenFiles.{bytes_now, file_now}
 use Rattle.wasi_calls.proofs.FileCallRules.{no_bytes, none_written, too_large, refused_write}
 use Rattle.wasi_calls.proofs.FileCallRules.{done_write}
-use Rattle.wasi_calls.proofs.FileCallRules.{host_written, no_refusal, files_made}
+use Rattle.wasi_calls.proofs.FileCallRules.{files_made}
 use Rattle.wasi_calls.proofs.host.WasiState.write_file.Goals as goal
 
 pub returns-then-len-eq0-clause-done : goal.returns-then-len-eq0-clause-done
@@ -63,8 +63,7 @@ returns-in_err-resize-clause-stopped c =
     let p = err_from_is_err_and c.from_residual-in_err-resize.result
     c.from_residual-in_err-resize.ensures.1 in
     rw (p.1, p.2)
-    (no_refusal _ (host_written c.args.node c.args.from (gathered m bs) h)
-    (done_write c.args.node c.args.from c.max-size.result (gathered m bs) h some tt is
+    (ap is_ok (done_write c.args.node c.args.from c.max-size.result (gathered m bs) h some tt is
     c.in_ok-check_room.ensures.gives))
 
 pub put_file-requires-clause-there : goal.put_file-requires-clause-there

@@ -18,7 +18,7 @@ returns-in-Ok-clause-serves g c =
     c.args.disk.now c.args.outlet.now c.args.err.now)
     (run_end served.new.disk served.new.outlet served.new.err
     (g.R.LineReader.has_failed served.new.source.requests.reader)) served.result
-    c.in-Ok.worker c.recover.new.disk c.recover.new.outlet runs.0 c.in-Ok.ensures.carries
+    c.in-Ok.worker c.recover.new.disk c.recover.new.outlet runs.0 c.in-Ok.ensures
     c.in-Ok.ensures.heeds runs.2 runs.1 runs.3 runs.4
 
 pub returns-in-Ok-clause-refusal : goal.returns-in-Ok-clause-refusal
@@ -35,8 +35,8 @@ returns-in-Err-clause-serves g c =
     c.args.disk.now c.args.outlet.now c.args.err.now)
     (run_end c.recover.new.disk c.recover.new.outlet c.say_disk_fault.new.err
     (g.R.LineReader.has_failed c.args.source.now.requests.reader)) c.say_disk_fault.result
-    c.in-Err.fault c.from.result refl c.in-Err.ensures.recovers
-    c.in-Err.ensures.carries c.in-Err.ensures.heeds c.from.ensures c.say_disk_fault.ensures
+    c.in-Err.fault c.from.result refl c.in-Err.ensures
+    c.in-Err.ensures.heeds c.from.ensures c.say_disk_fault.ensures
 
 pub returns-in-Err-clause-refusal : goal.returns-in-Err-clause-refusal
 returns-in-Err-clause-refusal g c =

@@ -8,7 +8,7 @@ returns-in-Ok-clause-upgrades g c =
     let upgraded = c.bring_up-upgraded in
     open_upgraded g.D.Disk.medium g.O.Outlet.takes c.in-Ok.worker c.args.disk.now
     c.recover.new.disk upgraded.new.disk c.args.outlet.now c.recover.new.outlet
-    upgraded.new.outlet c.args.err.now upgraded.new.err c.in-Ok.ensures.carries
+    upgraded.new.outlet c.args.err.now upgraded.new.err c.in-Ok.ensures
     c.in-Ok.ensures.heeds upgraded.result upgraded.ensures.upgrades
 
 pub returns-in-Ok-clause-refusal : goal.returns-in-Ok-clause-refusal
@@ -23,7 +23,7 @@ returns-in-Err-clause-upgrades g c =
     none_upgraded g.D.Disk.medium g.O.Outlet.takes c.in-Err.fault c.from.result
     c.args.disk.now c.recover.new.disk c.args.outlet.now c.recover.new.outlet
     c.args.err.now c.say_disk_fault.new.err c.say_disk_fault.result
-    c.in-Err.ensures.recovers c.in-Err.ensures.carries c.in-Err.ensures.heeds c.from.ensures
+    c.in-Err.ensures c.in-Err.ensures.heeds c.from.ensures
     c.say_disk_fault.ensures
 
 pub returns-in-Err-clause-refusal : goal.returns-in-Err-clause-refusal

@@ -1,0 +1,39 @@
+//! What is on a file as it is opened. Only clauses read it. It has no size, takes no memory, and
+//! its functions do nothing at run time.
+ghost use Rattle.std.specs.Prelude.{◌≡◌};
+ghost use Rattle.std.specs.Borrow.{ftrue};
+ghost use Rattle.sector_disk.specs.rules.DiskImage.{DiskImage, IsDiskImage};
+
+use std::marker::{Model, PhantomData};
+
+/// An image that code can't read, so it changes no result.
+#[derive(Drop)]
+pub(crate) struct FirstImage {
+    mark: PhantomData<()>,
+    pub(crate) ghost image: { DiskImage },
+}
+
+// With it the check leaves the function below to a proof by hand, which names the image.
+impl Model for FirstImage {
+    ghost also_owns = { λ _. ftrue };
+}
+
+impl FirstImage {
+    /// An image of so many sectors, whichever a clause names.
+    pub(crate) fn of(sectors: u64) -> FirstImage
+        ghost first: { DiskImage }
+        requires { IsDiskImage sectors first }
+        ensures whole { IsDiskImage sectors result.image }
+        ensures same { result.image ≡ first }
+    {
+        let _ = sectors;
+        FirstImage::new()
+    }
+
+    fn new() -> FirstImage
+        ghost first: { DiskImage }
+        ensures { result.image ≡ first }
+    {
+        FirstImage { mark: PhantomData }
+    }
+}

@@ -1,0 +1,19 @@
+use Rattle.std.specs.Io.Buffered.{reader_buffer}
+use Rattle.wasi_abi.specs.rules.Versions.{text_limit}
+use Rattle.wasmhost_commands.proofs.on_disk.running.serve_to_end.Goals as goal
+
+pub returns-clause-serves : goal.returns-clause-serves
+returns-clause-serves g c =
+    let requests = c.serve-status.new.source.requests in
+    record {
+      failed' = requests.reader.has_failed;
+      between = c.serve-status.new.err;
+      served = c.serve-status.result;
+      serves = c.serve-status.ensures.serves;
+      heeds = c.serve-status.ensures.refusal;
+      limit = text_limit requests.version;
+      taken = requests.taken;
+      ahead = reader_buffer requests.reader.reader;
+      line = requests.reader.begun;
+      says = c.report_input.ensures.says;
+    }

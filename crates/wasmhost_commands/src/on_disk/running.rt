@@ -1,0 +1,219 @@
+//! `wasmhost run` and `wasmhost upgrade` of a disk in a file, as the words say.
+
+ghost use Rattle.std.specs.Prelude.{◌≤◌, IfSome, IsNone, option_map};
+ghost use Rattle.std.specs.Int.NonZero.{non_zero_u64_get};
+ghost use Rattle.std.specs.Io.Buffered.{reader_remaining};
+ghost use Rattle.wasmhost_commands.specs.rules.Commands.{run_said};
+ghost use Rattle.wasmhost_commands.specs.rules.ServedFiles.{IsJobOf, IsNoSeed, IsSeedOf, RunsFile};
+ghost use Rattle.wasmhost_commands.specs.rules.ServedFiles.{RunsJob, ServesToEnd, UpgradesFile};
+ghost use Rattle.wasmhost_commands.specs.rules.ServedFiles.{job_given, named_status};
+ghost use Rattle.wasmhost_commands.specs.rules.ServedOnDisk.{disk_job, run_start};
+
+use crate::lines::{BufferedLines, LineOutlet, Outside, RealTime, RequestSource};
+use crate::on_disk::disk_file::open_disk;
+use crate::on_disk::leaving::report_input;
+use crate::on_disk::living::Pace;
+use crate::on_disk::serving::{Drive, serve};
+use crate::on_disk::status_file::status_file_of;
+use crate::on_disk::upgrading::{say_upgraded, upgrade_worker};
+use crate::on_disk::watching::Watcher;
+use crate::printer::Printer;
+use crate::seed::read_seed;
+use crate::telling::{Obstacle, report};
+use crate::words::RunOrder;
+use record_replay::Outlet;
+use sector_disk::{Disk, FileDisk, LockFile, SizeFile};
+use std::alloc::Global;
+use std::fs::OpenFile;
+use std::io::{BufReader, Read, Seek, Write};
+use std::os::unix::fs::FileExt;
+use std::rt::Files;
+
+/// What the system lends a run.
+#[derive(Drop)]
+pub struct System<'a, R, I: Read + Drop, C: RealTime + Drop> {
+    /// Where the disk and the status file are.
+    pub files: &'a R,
+    /// The lines of its input.
+    pub lines: BufferedLines<BufReader<I>>,
+    /// The machine's clock.
+    pub clock: C,
+}
+
+/// What the words say of a run whose disk is open.
+#[derive(Clone, Copy, Debug)]
+pub(crate) struct RunJob<'a> {
+    pub(crate) pace: Pace,
+    pub(crate) outside: Outside,
+    /// The path of the status file.
+    pub(crate) status: Option<&'a str>,
+}
+
+/// The seed that the words give, or zeros, which anyone can foresee.
+fn seed_of(digits: Option<&str>) -> Option<[u8; 32]>
+    ensures spelled { IfSome result (IsSeedOf (option_map (λ text. text.now) digits.entry)) }
+    ensures none { IsNone result → IsNoSeed (option_map (λ text. text.now) digits.entry) }
+{
+    match digits {
+        Some(digits) => read_seed(digits),
+        None => Some([0; 32]),
+    }
+}
+
+/// What the words say of a run, where they give a seed. No other place takes a number of theirs.
+fn job_of<'a>(order: &RunOrder<'a>) -> Option<RunJob<'a>>
+    ensures said { IfSome result (IsJobOf (run_said order.now)) }
+    ensures none { IsNone result → IsNoSeed (run_said order.now).seed }
+{
+    let seed = seed_of(order.seed)?;
+    Some(RunJob {
+        pace: Pace {
+            fuel: order.fuel,
+            every: order.every,
+        },
+        outside: Outside {
+            seed,
+            clock: order.clock,
+        },
+        status: order.status,
+    })
+}
+
+/// The worker on a disk goes on, and then it is said what is left of its input. Answers the exit
+/// status.
+fn serve_to_end<D, I, C, O, E, T>(
+    alloc: Global,
+    disk: &mut D,
+    drive: Drive<'_, T>,
+    source: &mut RequestSource<BufferedLines<BufReader<I>>, C>,
+    outlet: &mut O,
+    err: &mut Printer<E>,
+) -> u8
+where
+    D: Disk,
+    I: Read + Drop,
+    C: RealTime + Drop,
+    O: Outlet,
+    E: Write + Drop,
+    T: Watcher,
+    ensures serves { ServesToEnd D.medium O.takes
+        (run_start (disk_job (non_zero_u64_get drive.entry.pace.fuel)
+        (non_zero_u64_get drive.entry.pace.every)
+        (reader_remaining I.remaining source.old.requests.reader.reader) source.old.outside
+        source.old.requests.reader.has_failed) disk.old outlet.old err.old)
+        disk.new outlet.new err.new result }
+    ensures known { result ≤ 7 }
+{
+    let status = serve(alloc, disk, drive, source, outlet, err);
+    report_input(source, status, err)
+}
+
+/// Does the job of a run on its disk: where a status file is named its paths must be free, and the
+/// worker goes on. Answers the exit status.
+fn run_job<D, F, R, I, C, O, E>(
+    alloc: Global,
+    disk: &mut D,
+    job: RunJob<'_>,
+    system: System<'_, R, I, C>,
+    outlet: &mut O,
+    err: &mut Printer<E>,
+) -> u8
+where
+    D: Disk,
+    F: LockFile + OpenFile + Read + Write + Seek + Drop,
+    R: Files<File = F>,
+    I: Read + Drop,
+    C: RealTime + Drop,
+    O: Outlet,
+    E: Write + Drop,
+    ensures runs { RunsJob D.medium O.takes (named_status job.entry)
+        (run_start (job_given job.entry
+        (reader_remaining I.remaining system.entry.lines.reader) system.entry.lines.has_failed)
+        disk.old outlet.old err.old) disk.new outlet.new err.new result }
+    ensures known { result ≤ 7 }
+{
+    let System {
+        files,
+        lines,
+        clock,
+    } = system;
+    match status_file_of(alloc, files, job.status, err) {
+        Ok(watcher) => {
+            let drive = Drive {
+                pace: job.pace,
+                watcher: &watcher,
+            };
+            let mut source = RequestSource::new(alloc, lines, clock, job.outside, 0);
+            let status = serve_to_end(alloc, disk, drive, &mut source, outlet, err);
+            drop(source);
+            drop(watcher);
+            status
+        }
+        Err(status) => status,
+    }
+}
+
+/// `wasmhost run` of the disk in a file, as the words say: with their fuel, their pace, their seed
+/// and their clock, or else the machine's. The disk is opened, and written back where they ask for
+/// it. A status file that they name is made. Then the worker goes on, as `serve` says, and it is
+/// said what is left of the input. A seed that is none is told before any file is opened. Returns
+/// the exit status.
+pub fn run_file<F, R, I, C, O, E>(
+    alloc: Global,
+    system: System<'_, R, I, C>,
+    order: &RunOrder<'_>,
+    outlet: &mut O,
+    err: &mut Printer<E>,
+) -> u8
+where
+    F: OpenFile + FileExt + LockFile + SizeFile + Read + Write + Seek + Drop,
+    R: Files<File = F>,
+    I: Read + Drop,
+    C: RealTime + Drop,
+    O: Outlet,
+    E: Write + Drop,
+    ensures runs { RunsFile F O.takes (run_said order.now)
+        (reader_remaining I.remaining system.entry.lines.reader) system.entry.lines.has_failed
+        outlet.old outlet.new err.old err.new result }
+    ensures known { result ≤ 7 }
+{
+    let Some(job) = job_of(order) else {
+        return report(err, Obstacle::NoSeed);
+    };
+    match open_disk(system.files, order.disk, order.rewrites, err) {
+        Ok(mut disk) => {
+            let status = run_job(alloc, &mut disk, job, system, outlet, err);
+            drop(disk);
+            status
+        }
+        Err(status) => status,
+    }
+}
+
+/// `wasmhost upgrade` of the disk in a file: it is opened, and not written back. Its worker comes
+/// to version 2, as `upgrade_worker` says, and after its lines the outlet's writer gets the result.
+/// Returns the exit status.
+pub fn upgrade_file<F, R, W, E>(
+    alloc: Global,
+    files: &R,
+    path: &str,
+    outlet: &mut LineOutlet<W>,
+    err: &mut Printer<E>,
+) -> u8
+where
+    F: OpenFile + FileExt + LockFile + SizeFile + Drop,
+    R: Files<File = F>,
+    W: Write + Drop,
+    E: Write + Drop,
+    ensures upgrades { UpgradesFile F path.now outlet.old outlet.new err.old err.new result }
+    ensures known { result ≤ 7 }
+{
+    match open_disk(files, path, false, err) {
+        Ok(mut disk) => {
+            let upgraded = upgrade_worker(alloc, &mut disk, outlet, err);
+            drop(disk);
+            say_upgraded(upgraded, outlet, err)
+        }
+        Err(status) => status,
+    }
+}

@@ -1,0 +1,241 @@
+//! The file of `--status`: a small one with one line, where a worker on a disk is.
+
+ghost use Rattle.std.specs.Prelude.{◌≡◌, ◌≤◌, ◌↔◌, ◌⊎◌, ◌++◌, IfErr, IfOk, IfSome, IsSome, IsTrue};
+ghost use Rattle.std.specs.Prelude.{OnOk, codes, string_bytes};
+ghost use Rattle.std.specs.IoError.{error_kind};
+ghost use Rattle.std.specs.Io.KnownBytes.{Appends};
+ghost use Rattle.wasmhost_commands.specs.rules.StatusFiles.{HasFoundFree, IsFreePath, IsWatchable};
+ghost use Rattle.wasmhost_commands.specs.rules.StatusFiles.{SaysTaken, SaysUnwatched, beside};
+ghost use Rattle.wasmhost_commands.specs.rules.StatusFiles.{found_words};
+ghost use Rattle.wasmhost_commands.specs.rules.Reports.{SaysLine};
+ghost use Rattle.wasmhost_commands.specs.rules.Watchings.{watch_line};
+
+use crate::on_disk::found_file::FoundFile;
+use crate::on_disk::opening::report_unread;
+use crate::on_disk::watched_paths::WatchedPaths;
+use crate::on_disk::watching::{Watcher, print_status};
+use crate::printer::Printer;
+use crate::status::{UNREAD, UNWRITTEN};
+use ephemeral_worker::Now;
+use std::alloc::Global;
+use std::io::{self, Error, ErrorKind, Write};
+use worker::Worker;
+
+/// Says what is at a path, which a status file can't have, and answers the exit status.
+fn say_taken<E: Write + Drop>(err: &mut Printer<E>, path: &str, here: &FoundFile) -> u8
+    ensures said { SaysLine (codes "failed K2 Io\n" ++ path.now ++ codes ": "
+        ++ found_words here.now) 4 err.old result err.new }
+    ensures known { result ≤ 7 }
+{
+    let words = here.words();
+    match writeln!(err, "failed K2 Io\n{path}: {words}") {
+        Ok(()) => UNREAD,
+        Err(_) => UNWRITTEN,
+    }
+}
+
+/// Looks at a path that a status file is to get. Where it can't have it, that is said, and the
+/// error is the exit status.
+fn look_at_free<R: WatchedPaths, E: Write + Drop>(
+    alloc: Global,
+    files: &R,
+    path: &str,
+    err: &mut Printer<E>,
+) -> Result<FoundFile, u8>
+    ensures found { IfOk result (λ here. IsTrue (R.has_found files.now path.now here)) }
+    ensures free { IfOk result IsFreePath }
+    ensures quiet { OnOk result (err.new ≡ err.old) }
+    ensures said { IfErr result (λ status.
+        SaysTaken (R.has_found files.now path.now) path.now err.old status err.new) }
+    ensures known { IfErr result (λ status. status ≤ 7) }
+{
+    let here = match files.look_at(alloc, path) {
+        Ok(here) => here,
+        Err(error) => return Err(report_unread(err, path, error)),
+    };
+    if !here.is_free() {
+        return Err(say_taken(err, path, &here));
+    }
+    Ok(here)
+}
+
+/// Makes a new file at a path that was found free, and removes it again. A status file that is
+/// there is removed first.
+fn try_new<R: WatchedPaths>(files: &R, path: &str, here: &FoundFile) -> io::Result<()>
+    requires found { IsTrue (R.has_found files.now path.now here.now) }
+    ensures made { OnOk result (IsTrue (R.has_made files.now path.now)) }
+    ensures removed { OnOk result (IsTrue (R.has_removed files.now path.now)) }
+{
+    if here.is_status_file() {
+        files.remove_status_file(path)?;
+    }
+    drop(files.make_new(path)?);
+    files.remove_new(path);
+    Ok(())
+}
+
+/// Makes sure that a new file can be made at a path, where a status file is removed. Else it is said
+/// why not, and the error is the exit status.
+fn clear_beside<R: WatchedPaths, E: Write + Drop>(
+    alloc: Global,
+    files: &R,
+    path: &str,
+    err: &mut Printer<E>,
+) -> Result<(), u8>
+    ensures free { OnOk result (HasFoundFree (R.has_found files.now path.now)
+        × IsTrue (R.has_made files.now path.now) × IsTrue (R.has_removed files.now path.now)) }
+    ensures quiet { OnOk result (err.new ≡ err.old) }
+    ensures said { IfErr result (λ status.
+        SaysTaken (R.has_found files.now path.now) path.now err.old status err.new) }
+    ensures known { IfErr result (λ status. status ≤ 7) }
+{
+    let here = match look_at_free(alloc, files, path, err) {
+        Ok(here) => here,
+        Err(status) => return Err(status),
+    };
+    match try_new(files, path, &here) {
+        Ok(()) => Ok(()),
+        Err(error) => Err(report_unread(err, path, error)),
+    }
+}
+
+/// Makes sure that both paths of a status file are free, and that a new file can be made at the one
+/// beside. Else it is said why not, and the error is the exit status.
+fn clear_paths<R: WatchedPaths, E: Write + Drop>(
+    alloc: Global,
+    files: &R,
+    path: &str,
+    new: &str,
+    err: &mut Printer<E>,
+) -> Result<(), u8>
+    requires { new.now ≡ beside path.now }
+    ensures free { OnOk result (IsWatchable (R.has_found files.now) (R.has_made files.now)
+        (R.has_removed files.now) path.now) }
+    ensures quiet { OnOk result (err.new ≡ err.old) }
+    ensures said { IfErr result (λ status.
+        SaysUnwatched (R.has_found files.now) path.now err.old status err.new) }
+    ensures known { IfErr result (λ status. status ≤ 7) }
+{
+    let seen = match look_at_free(alloc, files, path, err) {
+        Ok(seen) => seen,
+        Err(status) => return Err(status),
+    };
+    drop(seen);
+    clear_beside(alloc, files, new, err)
+}
+
+/// Writes bytes by one write, so that a program that is killed leaves all of them or none.
+fn write_at_once<W: Write>(out: &mut W, bytes: &[u8]) -> io::Result<()>
+    ensures { OnOk result (Appends (W.contents out.old) (W.contents out.new) bytes.now) }
+{
+    if out.write(bytes)? == bytes.len() {
+        Ok(())
+    } else {
+        Err(Error::from(ErrorKind::WriteZero))
+    }
+}
+
+/// The line that says where a worker is.
+fn spelled_status(alloc: Global, worker: &Worker, now: Now) -> io::Result<Vec<u8>>
+    ensures { IfOk result (λ line. line.items ≡ watch_line worker.now now) }
+{
+    let mut out = Printer::new(Vec::new(alloc), false);
+    print_status(&mut out, worker, now)?;
+    Ok(out.into_writer())
+}
+
+/// A file with one line, where a worker is. Each line is written beside its path, and then gets
+/// the path, so that whoever reads it finds a whole line. A worker runs on though that fails.
+#[derive(Drop)]
+pub struct StatusFile<'a, R> {
+    alloc: Global,
+    files: &'a R,
+    path: &'a str,
+    beside: String,
+}
+
+impl<R: WatchedPaths> StatusFile<'_, R> {
+    /// Writes a line to a new file, and gives that the path, which was found free. Where one of
+    /// these fails, the new file is removed.
+    fn put(&self, line: &[u8]) -> io::Result<()>
+        requires { HasFoundFree (R.has_found self.now.files.now self.now.path.now) }
+        ensures put { OnOk result (IsTrue (R.has_renamed self.now.files.now
+            (string_bytes self.now.beside) self.now.path.now)) }
+        ensures left { IfErr result (λ error.
+            IsTrue (R.has_refused self.now.files.now (string_bytes self.now.beside)
+            (error_kind error))
+            ⊎ IsTrue (R.has_removed self.now.files.now (string_bytes self.now.beside))) }
+    {
+        let beside = self.beside.as_str();
+        let mut file = self.files.make_new(beside)?;
+        let written = write_at_once(&mut file, line);
+        drop(file);
+        let put = match written {
+            Ok(()) => self.files.rename_new(beside, self.path),
+            Err(error) => Err(error),
+        };
+        if put.is_err() {
+            self.files.remove_new(beside);
+        }
+        put
+    }
+
+    /// Writes where a worker is, unless the path has got a file of another kind since.
+    fn replace(&self, worker: &Worker, now: Now) -> io::Result<()> {
+        let line = spelled_status(self.alloc, worker, now)?;
+        let here = self.files.look_at(self.alloc, self.path)?;
+        if !here.is_free() {
+            return Ok(());
+        }
+        self.put(line.as_slice())
+    }
+}
+
+// Of files no more is known than what they answer.
+impl<R: WatchedPaths> Watcher for StatusFile<'_, R> {
+    ghost use Rattle.std.specs.Prelude.{true};
+
+    ghost is_notified = { λ _ _ _. true };
+
+    fn tell(&self, worker: &Worker, now: Now) {
+        let _ = self.replace(worker, now);
+    }
+}
+
+/// The status file of a path, once there is something to tell. Its path must be free: nothing is
+/// there, or a status file is. So must be the path beside it, with `.new` at its end, where each
+/// line is written first. A status file that is left there is removed, and it is tried that a new
+/// one can be made. Where that fails, it is said, and the error is the exit status.
+pub fn status_file_of<'a, R: WatchedPaths, E: Write + Drop>(
+    alloc: Global,
+    files: &'a R,
+    path: Option<&'a str>,
+    err: &mut Printer<E>,
+) -> Result<Option<StatusFile<'a, R>>, u8>
+    ensures named { IfOk result (λ file. IsSome file ↔ IsSome path.entry) }
+    ensures free { IfSome path.entry (λ text. OnOk result (IsWatchable
+        (R.has_found files.entry.now) (R.has_made files.entry.now) (R.has_removed files.entry.now)
+        text.now)) }
+    ensures quiet { OnOk result (err.new ≡ err.old) }
+    ensures said { IfErr result (λ status. IfSome path.entry (λ text.
+        SaysUnwatched (R.has_found files.entry.now) text.now err.old status err.new)) }
+    ensures asked { IfErr result (λ _. IsSome path.entry) }
+    ensures known { IfErr result (λ status. status ≤ 7) }
+{
+    let Some(path) = path else {
+        return Ok(None);
+    };
+    let beside = match format!(in alloc; "{path}.new") {
+        Ok(beside) => beside,
+        Err(_) => return Err(report_unread(err, path, Error::from(ErrorKind::OutOfMemory))),
+    };
+    match clear_paths(alloc, files, path, beside.as_str(), err) {
+        Ok(()) => Ok(Some(StatusFile {
+            alloc,
+            files,
+            path,
+            beside,
+        })),
+        Err(status) => Err(status),
+    }
+}

@@ -1,0 +1,516 @@
+//! Disks that are too small, blank or damaged.
+
+use crate::guests::{ECHO, SECTORS, blank};
+use crate::halt::{Halt, NO_WORKER};
+use crate::workers::working::{WorkerProgress, create, open};
+use disk_layout::LayoutFault;
+use record_replay::ReplayFault;
+use sector_disk::{Disk, DiskFault, FaultDisk, MemDisk};
+use snapshot::SnapshotFault;
+use state_image::restoring::RestoreFault;
+use std::alloc::Global;
+use worker::{RecoverFault, StoreFault, WorkFault};
+
+/// Bytes of a disk, from a place of a sector on.
+struct Piece {
+    sector: u64,
+    place: usize,
+    bytes: &'static [u8],
+}
+
+/// What is changed on a fresh disk of `ECHO`, and what a recovery then says.
+struct Damage {
+    name: &'static str,
+    pieces: &'static [Piece],
+    opens: Result<WorkerProgress, Halt>,
+}
+
+/// A fresh worker that was recovered.
+const FRESH: WorkerProgress = WorkerProgress {
+    generation: 2,
+    steps: 0,
+    answers: 0,
+    lines: 0,
+    replayed: 0,
+};
+
+const VERSION: Halt = Halt::Recovery(RecoverFault::Layout(LayoutFault::Version));
+
+const TOO_SMALL: Halt = Halt::Recovery(RecoverFault::Layout(LayoutFault::TooSmall));
+
+const FIELDS: Halt = Halt::Recovery(RecoverFault::Layout(LayoutFault::Damaged));
+
+const SNAPSHOT: Halt = Halt::Recovery(RecoverFault::Snapshot(SnapshotFault::Damaged));
+
+const TOO_BIG: Halt = Halt::Work(WorkFault::Store(StoreFault::TooBig));
+
+const NO_IMAGE: Halt = Halt::Recovery(RecoverFault::ProcessImage(RestoreFault::NotAnImage));
+
+const DIVERGED: Halt = Halt::Recovery(RecoverFault::Replay(ReplayFault::Diverged));
+
+/// A creation on a disk with too few sectors.
+const TOO_FEW: Halt = Halt::Work(WorkFault::Store(StoreFault::Layout(LayoutFault::TooSmall)));
+
+/// The lengths and digests of the image of `ECHO` at its start, of all but its last byte, and of it
+/// with a zero after it.
+const WHOLE: &[u8] = &[
+    0x13, 0x01, 0x01, 0x00, 0x00, 0x00, 0x00, 0x00, 0x5a, 0xd2, 0xa2, 0xbb, 0x20, 0x89, 0x86, 0x55,
+    0x43, 0x12, 0x22, 0x98, 0x9d, 0xe2, 0xca, 0x89, 0xed, 0x08, 0x24, 0x08, 0x5c, 0x16, 0x66, 0x78,
+    0x51, 0xcc, 0xe4, 0xf7, 0x49, 0xd8, 0xd7, 0x91,
+];
+
+const SHORT: &[u8] = &[
+    0x12, 0x01, 0x01, 0x00, 0x00, 0x00, 0x00, 0x00, 0x77, 0x74, 0xf6, 0xf5, 0xde, 0x2b, 0xfe, 0x65,
+    0x15, 0x84, 0x26, 0xea, 0x30, 0xc7, 0xa5, 0x4a, 0xcd, 0x02, 0xce, 0xc5, 0x2d, 0xb6, 0xf1, 0x20,
+    0x26, 0x08, 0xa1, 0xd6, 0x8e, 0x83, 0xdb, 0x83,
+];
+
+const LONG: &[u8] = &[
+    0x14, 0x01, 0x01, 0x00, 0x00, 0x00, 0x00, 0x00, 0xc1, 0x5c, 0xec, 0x9d, 0xe1, 0x99, 0x7d, 0x75,
+    0x78, 0xa9, 0x8d, 0xff, 0x46, 0xa0, 0x55, 0x05, 0x6a, 0x64, 0x87, 0x07, 0x72, 0xde, 0x38, 0x97,
+    0x1a, 0x0e, 0xbb, 0xb9, 0xf3, 0x51, 0x13, 0x96,
+];
+
+/// A record of a time, at the step of the first request.
+const TIME: &[u8] = &[
+    19, 0, 3, 6, 0, 0, 0, 0, 0, 0, 0, 8, 0, 1, 0, 0, 0, 0, 0, 0, 0,
+];
+
+/// The same of a kind that there isn't, with a text.
+const UNKNOWN: &[u8] = &[
+    16, 0, 6, 6, 0, 0, 0, 0, 0, 0, 0, 5, 0, b'h', b'e', b'l', b'l', b'o',
+];
+
+/// Generation 1 and place 1.
+const STAMP: &[u8] = &[1, 0, 0, 0, 0, 0, 0, 0, 1, 0, 0, 0, 0, 0, 0, 0];
+
+/// Generation 2 and place 1, and generation 2 and place 2.
+const LATER: &[u8] = &[2, 0, 0, 0, 0, 0, 0, 0, 1, 0, 0, 0, 0, 0, 0, 0];
+
+const LATER_BEHIND: &[u8] = &[2, 0, 0, 0, 0, 0, 0, 0, 2, 0, 0, 0, 0, 0, 0, 0];
+
+/// A later generation in the first sector of the journal.
+const LATER_JOURNAL: Piece = Piece {
+    sector: JOURNAL,
+    place: 496,
+    bytes: LATER,
+};
+
+/// The length of an image of 1,179,923 bytes. An area has 1,179,648.
+const TOO_LONG: Piece = Piece {
+    sector: HEAD_1,
+    place: 18,
+    bytes: &[18],
+};
+
+/// Where things lie on the disk of a worker of `ECHO`.
+const SUPER: u64 = 0;
+
+const HEAD_1: u64 = 2;
+
+const MODULE: u64 = 3;
+
+const AREA_1: u64 = 2_308;
+
+const JOURNAL: u64 = 4_612;
+
+static DAMAGES: [Damage; 30] = [
+    Damage {
+        name: "nothing",
+        pieces: &[],
+        opens: Ok(FRESH),
+    },
+    Damage {
+        name: "the first mark",
+        pieces: &[Piece {
+            sector: SUPER,
+            place: 0,
+            bytes: &[0],
+        }],
+        opens: Err(NO_WORKER),
+    },
+    Damage {
+        name: "the last mark",
+        pieces: &[Piece {
+            sector: SUPER,
+            place: 511,
+            bytes: &[0],
+        }],
+        opens: Err(NO_WORKER),
+    },
+    Damage {
+        name: "another layout",
+        pieces: &[Piece {
+            sector: SUPER,
+            place: 8,
+            bytes: &[2],
+        }],
+        opens: Err(VERSION),
+    },
+    Damage {
+        name: "a length that fits no configuration",
+        pieces: &[Piece {
+            sector: SUPER,
+            place: 12,
+            bytes: &[27],
+        }],
+        opens: Err(FIELDS),
+    },
+    Damage {
+        name: "another number of module sectors",
+        pieces: &[Piece {
+            sector: SUPER,
+            place: 20,
+            bytes: &[2],
+        }],
+        opens: Err(FIELDS),
+    },
+    Damage {
+        name: "another length of the areas",
+        pieces: &[Piece {
+            sector: SUPER,
+            place: 25,
+            bytes: &[10],
+        }],
+        opens: Err(FIELDS),
+    },
+    Damage {
+        name: "another digest of the module",
+        pieces: &[Piece {
+            sector: SUPER,
+            place: 32,
+            bytes: &[0, 0],
+        }],
+        opens: Err(FIELDS),
+    },
+    Damage {
+        name: "another page limit",
+        pieces: &[Piece {
+            sector: MODULE,
+            place: 0,
+            bytes: &[2],
+        }],
+        opens: Err(FIELDS),
+    },
+    Damage {
+        name: "the last byte of the module",
+        pieces: &[Piece {
+            sector: MODULE,
+            place: 220,
+            bytes: &[1],
+        }],
+        opens: Err(FIELDS),
+    },
+    Damage {
+        name: "a version of the image that there isn't",
+        pieces: &[Piece {
+            sector: HEAD_1,
+            place: 8,
+            bytes: &[3],
+        }],
+        opens: Err(VERSION),
+    },
+    Damage {
+        name: "such a version, and another byte of the image",
+        pieces: &[
+            Piece {
+                sector: HEAD_1,
+                place: 8,
+                bytes: &[3],
+            },
+            Piece {
+                sector: AREA_1,
+                place: 190,
+                bytes: &[1],
+            },
+        ],
+        opens: Err(VERSION),
+    },
+    Damage {
+        name: "version 2 of the image, whose journal is too small for it",
+        pieces: &[Piece {
+            sector: HEAD_1,
+            place: 8,
+            bytes: &[2],
+        }],
+        opens: Err(FIELDS),
+    },
+    Damage {
+        name: "version 2 with such a journal, and another byte of the image",
+        pieces: &[
+            Piece {
+                sector: HEAD_1,
+                place: 8,
+                bytes: &[2],
+            },
+            Piece {
+                sector: AREA_1,
+                place: 190,
+                bytes: &[1],
+            },
+        ],
+        opens: Err(FIELDS),
+    },
+    Damage {
+        name: "no mark of a head",
+        pieces: &[Piece {
+            sector: HEAD_1,
+            place: 0,
+            bytes: &[0],
+        }],
+        opens: Err(SNAPSHOT),
+    },
+    Damage {
+        name: "another place of a head",
+        pieces: &[Piece {
+            sector: HEAD_1,
+            place: 504,
+            bytes: &[2],
+        }],
+        opens: Err(SNAPSHOT),
+    },
+    Damage {
+        name: "a generation of the other area",
+        pieces: &[Piece {
+            sector: HEAD_1,
+            place: 496,
+            bytes: &[2],
+        }],
+        opens: Err(SNAPSHOT),
+    },
+    Damage {
+        name: "a length beyond the area",
+        pieces: &[TOO_LONG],
+        opens: Err(SNAPSHOT),
+    },
+    Damage {
+        name: "the last generation",
+        pieces: &[Piece {
+            sector: HEAD_1,
+            place: 496,
+            bytes: &[255, 255, 255, 255, 255, 255, 255, 127],
+        }],
+        opens: Err(TOO_BIG),
+    },
+    Damage {
+        name: "another digest of the image",
+        pieces: &[Piece {
+            sector: HEAD_1,
+            place: 24,
+            bytes: &[0, 0],
+        }],
+        opens: Err(SNAPSHOT),
+    },
+    Damage {
+        name: "a byte of memory in the image",
+        pieces: &[Piece {
+            sector: AREA_1,
+            place: 190,
+            bytes: &[1],
+        }],
+        opens: Err(SNAPSHOT),
+    },
+    Damage {
+        name: "the length and digest of the image",
+        pieces: &[Piece {
+            sector: HEAD_1,
+            place: 16,
+            bytes: WHOLE,
+        }],
+        opens: Ok(FRESH),
+    },
+    Damage {
+        name: "one byte of the image fewer",
+        pieces: &[Piece {
+            sector: HEAD_1,
+            place: 16,
+            bytes: SHORT,
+        }],
+        opens: Err(NO_IMAGE),
+    },
+    Damage {
+        name: "one byte of the image more",
+        pieces: &[Piece {
+            sector: HEAD_1,
+            place: 16,
+            bytes: LONG,
+        }],
+        opens: Err(NO_IMAGE),
+    },
+    Damage {
+        name: "a record that fits no question",
+        pieces: &[
+            Piece {
+                sector: JOURNAL,
+                place: 0,
+                bytes: TIME,
+            },
+            Piece {
+                sector: JOURNAL,
+                place: 496,
+                bytes: STAMP,
+            },
+        ],
+        opens: Err(DIVERGED),
+    },
+    Damage {
+        name: "a record of no kind",
+        pieces: &[
+            Piece {
+                sector: JOURNAL,
+                place: 0,
+                bytes: UNKNOWN,
+            },
+            Piece {
+                sector: JOURNAL,
+                place: 496,
+                bytes: STAMP,
+            },
+        ],
+        opens: Ok(FRESH),
+    },
+    Damage {
+        name: "the same without its stamp",
+        pieces: &[Piece {
+            sector: JOURNAL,
+            place: 0,
+            bytes: TIME,
+        }],
+        opens: Ok(FRESH),
+    },
+    Damage {
+        name: "a later generation",
+        pieces: &[LATER_JOURNAL],
+        opens: Err(FIELDS),
+    },
+    Damage {
+        name: "a later generation of another place",
+        pieces: &[Piece {
+            sector: JOURNAL,
+            place: 496,
+            bytes: LATER_BEHIND,
+        }],
+        opens: Ok(FRESH),
+    },
+    Damage {
+        name: "a later generation in the second sector",
+        pieces: &[Piece {
+            sector: JOURNAL + 1,
+            place: 496,
+            bytes: LATER_BEHIND,
+        }],
+        opens: Ok(FRESH),
+    },
+];
+
+/// A sector with these bytes from this place on.
+fn with_bytes(sector: [u8; 512], place: usize, bytes: &[u8]) -> [u8; 512] {
+    let mut sector = sector;
+    for (into, byte) in sector.iter_mut().skip(place).zip(bytes) {
+        *into = *byte;
+    }
+    sector
+}
+
+fn put_each(disk: &mut MemDisk, pieces: &[Piece]) -> Result<(), DiskFault> {
+    let mut sector = [0; 512];
+    for piece in pieces {
+        disk.read(piece.sector, &mut sector)?;
+        disk.write(piece.sector, &with_bytes(sector, piece.place, piece.bytes))?;
+    }
+    Ok(())
+}
+
+/// A disk with a fresh worker of `ECHO`.
+fn created_disk(alloc: Global) -> Result<MemDisk, Halt> {
+    let mut disk = blank(alloc, SECTORS)?;
+    let worker = create(alloc, &mut disk, ECHO)?;
+    drop(worker);
+    Ok(disk)
+}
+
+/// What a recovery says, unless memory runs out.
+fn says(alloc: Global, disk: &mut MemDisk) -> Result<Result<WorkerProgress, Halt>, Halt> {
+    match open(alloc, disk) {
+        Err(Halt::Memory) => Err(Halt::Memory),
+        opens => Ok(opens),
+    }
+}
+
+fn is_told_so(alloc: Global, damage: &Damage) -> Result<bool, Halt> {
+    let mut disk = created_disk(alloc)?;
+    put_each(&mut disk, damage.pieces)?;
+    Ok(says(alloc, &mut disk)? == damage.opens)
+}
+
+/// Whether a recovery reads the super, the contents and both heads, and nothing else, where the
+/// newest image is longer than its area.
+fn reads_no_image(alloc: Global) -> Result<bool, Halt> {
+    let mut disk = created_disk(alloc)?;
+    put_each(&mut disk, &[TOO_LONG])?;
+    let mut counting = FaultDisk::new(disk, None, None);
+    Ok(open(alloc, &mut counting) == Err(SNAPSHOT) && counting.calls() == (4, 0, 1))
+}
+
+/// Whether a recovery reads all of the image, and one sector of the journal, where that shows a
+/// later generation.
+fn reads_one_of_the_journal(alloc: Global) -> Result<bool, Halt> {
+    let mut disk = created_disk(alloc)?;
+    put_each(&mut disk, &[LATER_JOURNAL])?;
+    let mut counting = FaultDisk::new(disk, None, None);
+    Ok(open(alloc, &mut counting) == Err(FIELDS) && counting.calls() == (4 + 129 + 1, 0, 1))
+}
+
+/// Whether a creation is refused for want of sectors, and writes nothing.
+fn is_refused(alloc: Global, disk: &mut MemDisk) -> Result<bool, Halt> {
+    match create(alloc, disk, ECHO) {
+        Ok(worker) => {
+            drop(worker);
+            Ok(false)
+        }
+        Err(Halt::Memory) => Err(Halt::Memory),
+        Err(halt) => Ok(halt == TOO_FEW && disk.unsynced_count() == 0),
+    }
+}
+
+/// Whether a recovery is refused for want of sectors, once the super, the heads and the module of a
+/// worker's disk are there.
+fn shows_too_few(alloc: Global, disk: &mut MemDisk, whole: &mut MemDisk) -> Result<bool, Halt> {
+    let mut bytes = [0; 512];
+    for sector in SUPER..=MODULE {
+        whole.read(sector, &mut bytes)?;
+        disk.write(sector, &bytes)?;
+    }
+    Ok(says(alloc, disk)? == Err(TOO_SMALL))
+}
+
+/// Whether both are so on a disk with one sector too few.
+fn is_too_small(alloc: Global) -> Result<bool, Halt> {
+    let mut disk = blank(alloc, SECTORS - 1)?;
+    if !is_refused(alloc, &mut disk)? {
+        return Ok(false);
+    }
+    let mut whole = created_disk(alloc)?;
+    shows_too_few(alloc, &mut disk, &mut whole)
+}
+
+/// Whether a disk on which no worker was made is told so.
+fn has_none(alloc: Global) -> Result<bool, Halt> {
+    let mut disk = blank(alloc, SECTORS)?;
+    Ok(says(alloc, &mut disk)? == Err(NO_WORKER))
+}
+
+#[test]
+fn other_disks_are_refused(rt: HostRuntime) -> Result<(), Halt> {
+    for damage in &DAMAGES {
+        assert!(rt; is_told_so(rt.alloc(), damage)?, "{}", damage.name);
+    }
+    assert!(rt; reads_no_image(rt.alloc())?, "an image that isn't read");
+    assert!(rt;
+        reads_one_of_the_journal(rt.alloc())?,
+        "the first sector of a journal"
+    );
+    assert!(rt; is_too_small(rt.alloc())?, "a small disk");
+    assert!(rt; has_none(rt.alloc())?, "a blank disk");
+    Ok(())
+}
