@@ -15,8 +15,8 @@
 //!   beyond those before (`counts`). No sync is between them (`together`). It writes them in
 //!   rising order, each once, and then syncs once (`calls`).
 //! - `Journal::scan` gives the records that the definitions read of what the disk shows (`scans`).
-//!   It tells whether the first sector shows a later generation than theirs (`later`). Then it reads
-//!   no other sector, and wants no memory (`once`, `memory`). It only reads (`reads`).
+//!   It tells whether the first sector shows a later generation than theirs (`later`). Then it
+//!   reads no other sector, and wants no memory (`once`, `memory`). It only reads (`reads`).
 //! - `count_filled` gives how many sectors the records of a generation fill (`counts`). It only
 //!   reads. `laws::what_is_held_fills`: they are as many as the journal has written. So the others
 //!   are what a next barrier can write (`full`).

@@ -34,7 +34,8 @@ pub(crate) fn store_packed<D: Disk>(
     ensures stored { OnOk result
         (Follows (IsWrittenRun at
         (packed generation place (sectors_for (length bytes.now)) bytes.now)
-        (sectors_for (length bytes.now))) (D.medium disk.old).shows (D.medium disk.new).crash_images) }
+        (sectors_for (length bytes.now))) (D.medium disk.old).shows
+        (D.medium disk.new).crash_images) }
     ensures all_synced { OnOk result (IsAllSynced (D.medium disk.new)) }
     ensures unsynced { (D.medium disk.new).unsynced ≤ (D.medium disk.old).unsynced
         + sectors_for (length bytes.now) }

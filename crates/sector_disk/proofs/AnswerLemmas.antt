@@ -70,7 +70,8 @@ module _ (n : ℕ) (fits fits-new : n < 2 ^ 64) (first : DiskImage)
   later : length new ≡ length old + 1
   later = let e : length new ≡ length ((Failed which, bytes) ∷ old) = ap length is in omega arith
 
-  failed_stays : Stays (answered_medium n fits first whole old) (answered_medium n fits-new first whole-new new)
+  failed_stays : Stays (answered_medium n fits first whole old)
+      (answered_medium n fits-new first whole-new new)
   failed_stays = record {
     crash_pairs = λ shown image both.
         subst (λ (a : AnsweredCalls). Explains first a shown image) is both;
@@ -86,7 +87,8 @@ module _ (n : ℕ) (fits fits-new : n < 2 ^ 64) (first : DiskImage)
         answered_grows old new _ (unsynced_of old) t count is (omega arith) since;
   }
 
-  failed_passes : Passes (answered_medium n fits first whole old) (answered_medium n fits-new first whole-new new)
+  failed_passes : Passes (answered_medium n fits first whole old)
+      (answered_medium n fits-new first whole-new new)
       (answered_medium n fits-new first whole-new new).crash_images
   failed_passes = record {
     sectors = refl;
@@ -141,11 +143,13 @@ module _ (n : ℕ) (fits fits-new : n < 2 ^ 64) (first : DiskImage)
     inside = tt;
     whole = tt;
     tears = record {
-      both = no_write (answered_medium n fits first whole old) (answered_medium n fits-new first whole-new new) 512 k from
+      both = no_write (answered_medium n fits first whole old)
+          (answered_medium n fits-new first whole-new new) 512 k from
           failed_stays;
       unsynced = let e = fewer in omega arith;
     };
-    counts = counts_more (unsynced_of old) (unsynced_of old + 1) (answered_medium n fits first whole old)
+    counts = counts_more (unsynced_of old) (unsynced_of old + 1)
+        (answered_medium n fits first whole old)
         (answered_medium n fits-new first whole-new new) (omega arith) failed_counts;
     calls = record { all = tt; begun = (1, ap file_calls is) };
     counted = omega arith;

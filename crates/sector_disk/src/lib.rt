@@ -19,10 +19,10 @@
 //!   disk of so many sectors (`sectors`), and makes its file as long as these (`resized`). `open`
 //!   gives the whole sectors before the end that its file said (`measured`). `create_on_device`
 //!   gives a disk of so many sectors on a block device that has them (`device`, `room`). All begin
-//!   with an empty log (`fresh`), and answer Ok only with the file's lock (`locked`). A disk that was
-//!   made has zeros at first (`zeros`). One that is opened has some first image, which no clause
-//!   names. No clause says that `create` fills the file with zeros, and then syncs it and the folder
-//!   that has its entry (`folder_of`). `scripts/runs/file-calls` shows that.
+//!   with an empty log (`fresh`), and answer Ok only with the file's lock (`locked`). A disk that
+//!   was made has zeros at first (`zeros`). One that is opened has some first image, which no
+//!   clause names. No clause says that `create` fills the file with zeros, and then syncs it and
+//!   the folder that has its entry (`folder_of`). `scripts/runs/file-calls` shows that.
 //! - `OpenFault` says why they failed: another host has the file (`busy`), or what the operating
 //!   system said of the path (`open_cause`).
 //! - `rewrite` writes each sector of a disk back as it reads it, and syncs. At no moment does it
@@ -42,9 +42,9 @@
 //! `LeavesOnly`, `Reads`, `Writes`, `SyncsMedium`, `PerformsCalls` (`Medium.antt`); `rising_writes`
 //! (`Calls.antt`); `IsTornRun` (`Run.antt`); `AddsNothing` (`Rewrite.antt`). Three disks have a
 //! state: `MemDisk` (`Memory.antt`, `Pending.antt`), `FaultDisk` (`Trouble.antt`, `FaultDisk.antt`)
-//! and `FileDisk` (`Answered.antt`, `Counts.antt`, `File.antt`, with `first_of`). Which error of the operating
-//! system is which cause is in `Open.antt`, with `IsUnmade`. Which folder has a path's entry is in
-//! `Folder.antt`.
+//! and `FileDisk` (`Answered.antt`, `Counts.antt`, `File.antt`, with `first_of`). Which error of
+//! the operating system is which cause is in `Open.antt`, with `IsUnmade`. Which folder has a
+//! path's entry is in `Folder.antt`.
 //!
 //! # Who may touch what
 //!
@@ -78,10 +78,10 @@
 //!   own does so, and it refuses a path that isn't a block device. Only a handle that was found to
 //!   be one, and that has the lock, is filled (`fill_device`). A device has a length and a name
 //!   already: it is given neither, and its folder isn't synced. `open` takes both kinds.
-//! - **A file has a first image, which no code knows.** It is a struct of no size (`FirstImage`). The
-//!   log alone would fit every image. So of a file that was just opened nothing could be said, and
-//!   no law about lives would have had an instance for it. `open` doesn't take that image as a ghost
-//!   value, since a caller can't pick one for a call that takes a text.
+//! - **A file has a first image, which no code knows.** It is a struct of no size (`FirstImage`).
+//!   The log alone would fit every image. So of a file that was just opened nothing could be said,
+//!   and no law about lives would have had an instance for it. `open` doesn't take that image as a
+//!   ghost value, since a caller can't pick one for a call that takes a text.
 //! - **`OpenFault` is a type of its own**, apart from `DiskFault`. A disk that is open is never
 //!   busy, and a fault of a path is of no use to a journal. It carries a cause for a person, whose
 //!   words the program has. `K2 Io` stays the one word of all failures of the system.

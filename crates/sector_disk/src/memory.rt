@@ -4,7 +4,8 @@ ghost use Rattle.std.specs.Prelude.{◌≡◌, ◌<◌, ◌≤◌, List, ℕ, []
 ghost use Rattle.std.specs.Prelude.{vec_capacity, IfOk, IfErr, OnOk, OnErr};
 ghost use Rattle.sector_disk.specs.declared.sector.TheConstants.{SECTOR_SIZE};
 ghost use Rattle.sector_disk.specs.rules.DiskImage.{DiskImage, IsDiskImage, sector_at};
-ghost use Rattle.sector_disk.specs.rules.Pending.{IsWriteWithin, first_front, replayed as all_of};
+ghost use Rattle.sector_disk.specs.rules.Pending.{IsWriteWithin, first_front, torn_by};
+ghost use Rattle.sector_disk.specs.rules.Pending.{replayed as all_of};
 
 use crate::disk_call::DiskCall;
 use crate::front::leave_front;
@@ -89,13 +90,7 @@ impl MemDisk {
         ensures err { IfErr result (λ e. e ≡ DiskFault.Memory) }
     {
         let mut image = Vec::from_slice(alloc, &self.durable)?;
-        for (i, write) in self.pending.iter().enumerate() {
-            leave_front(
-                &mut image[write.sector],
-                &write.bytes,
-                front_named(tears, i),
-            );
-        }
+        leave_writes(&mut image, &self.pending, tears);
         MemDisk::from_sectors(alloc, image, self.limit)
     }
 
@@ -120,6 +115,22 @@ impl MemDisk {
             past: Log::new(),
             calls: Log::new(),
         })
+    }
+}
+
+/// Leaves the writes over the sectors, the oldest first: of each the front that its number names.
+fn leave_writes(sectors: &mut Vec<Sector>, writes: &[Write], tears: &[u16])
+    requires image { IsDiskImage (length sectors.old.items) sectors.old.items }
+    requires within { All (IsWriteWithin (length sectors.old.items)) writes.now }
+    ensures left { sectors.new.items ≡ torn_by tears.now writes.now sectors.old.items }
+    ensures image { IsDiskImage (length sectors.old.items) sectors.new.items }
+{
+    for (i, write) in writes.iter().enumerate() {
+        leave_front(
+            &mut sectors[write.sector],
+            &write.bytes,
+            front_named(tears, i),
+        );
     }
 }
 
@@ -200,7 +211,7 @@ impl Disk for MemDisk {
         ensures kept { Keeps (memory_medium self.old) (memory_medium self.new) }
     {
         let past = self.past.and(&self.durable, &self.pending);
-        self.durable.copy_from_slice(&self.shown);
+        leave_writes(&mut self.durable, &self.pending, &[]);
         self.pending.clear();
         self.past = past;
         self.calls = self.calls.and(&DiskCall::Sync, &());

@@ -52,7 +52,8 @@ disk_images n first whole [] s l on = (
   subst (λ (i : DiskImage). IsDiskImage n i) (sym on.1) whole,
 )
 disk_images n first whole (answer ∷ answers) s l on =
-    disk_image_on n answer.0 answer.1 (Explains first answers) (disk_images n first whole answers) s l on
+    disk_image_on n answer.0 answer.1 (Explains first answers) (disk_images n first whole answers) s
+    l on
 
 -- a cut may leave all that reads give
 stay_on : (n : ℕ) (call : FileCall) (bytes : List ℕ) (before : DiskImage → DiskImage → Type 0)
@@ -272,7 +273,8 @@ from_shows (Tore k) bytes before s on = (on.0, on.2)
 from_shows Synced bytes before s on = (s, on)
 from_shows (Failed which) bytes before s on = (s, on)
 
-none_since : (first : DiskImage) (t : ℕ) (answers : AnsweredCalls) (crashed s : DiskImage) → length answers < t
+none_since : (first : DiskImage) (t : ℕ) (answers : AnsweredCalls) (crashed s : DiskImage)
+    → length answers < t
     → ExplainsSince first t answers crashed s → ⊥
 none_since first t [] crashed s lt since = let no-later = since.0 in absurd (omega arith)
 none_since first t (answer ∷ answers) crashed s lt since =
@@ -285,7 +287,8 @@ none_since first t (answer ∷ answers) crashed s lt since =
     none_since first t answers crashed was.0 (omega arith) was.1)
     since
 
-pub since_now : (first : DiskImage) (t : ℕ) (answers : AnsweredCalls) (crashed s : DiskImage) → t ≤ length answers
+pub since_now : (first : DiskImage) (t : ℕ) (answers : AnsweredCalls) (crashed s : DiskImage)
+    → t ≤ length answers
     → Explains first answers s crashed → ExplainsSince first t answers crashed s
 since_now first t [] crashed s le on = (omega arith, on)
 since_now first t (answer ∷ answers) crashed s le on = inl (omega arith, on)
@@ -311,7 +314,8 @@ pub since_on : (first : DiskImage) (t : ℕ) (answer : FileCall × List ℕ) (an
     ⊎ ((now : DiskImage) × Explains first (answer ∷ answers) now crashed)
 since_on first t answer answers crashed s since =
     ⊎_elim
-    (λ (now : (t ≤ length answers + 1) × Explains first (answer ∷ answers) s crashed). inr (s, now.1))
+    (λ (now : (t ≤ length answers + 1) × Explains first (answer ∷ answers) s crashed).
+    inr (s, now.1))
     (λ (earlier : ShowsOn answer.0 answer.1 (ExplainsSince first t answers crashed) s).
     inl (from_shows answer.0 answer.1 (ExplainsSince first t answers crashed) s earlier))
     since
@@ -342,24 +346,30 @@ pub since_shows : (first : DiskImage) (t : ℕ) (answers : AnsweredCalls) (crash
 since_shows first t [] crashed s since = (crashed, since.1)
 since_shows first t (answer ∷ answers) crashed s since =
     ⊎_elim
-    (λ (now : (t ≤ length answers + 1) × Explains first (answer ∷ answers) s crashed). (crashed, now.1))
+    (λ (now : (t ≤ length answers + 1) × Explains first (answer ∷ answers) s crashed).
+    (crashed, now.1))
     (λ (earlier : ShowsOn answer.0 answer.1 (ExplainsSince first t answers crashed) s).
     shows_on answer.0 answer.1 (Explains first answers) (ExplainsSince first t answers crashed)
     (since_shows first t answers crashed) s earlier)
     since
 
 -- a read or a sync adds nothing to what a cut may have left
-stay_since : (first : DiskImage) (t : ℕ) (call : FileCall) (bytes : List ℕ) (answers : AnsweredCalls)
+stay_since : (first : DiskImage) (t : ℕ) (call : FileCall) (bytes : List ℕ)
+    (answers : AnsweredCalls)
     (crashed s : DiskImage) → t ≤ length answers
-    → (OneOn call bytes (Explains first answers) s crashed → ExplainsSince first t answers crashed s)
+    → (OneOn call bytes (Explains first answers) s crashed
+    → ExplainsSince first t answers crashed s)
     → (ShowsOn call bytes (ExplainsSince first t answers crashed) s
-    → ExplainsSince first t answers crashed s) → ExplainsSince first t ((call, bytes) ∷ answers) crashed s
+    → ExplainsSince first t answers crashed s)
+    → ExplainsSince first t ((call, bytes) ∷ answers) crashed s
     → ExplainsSince first t answers crashed s
 stay_since first t call bytes answers crashed s le now before since =
-    ⊎_elim (λ (here : (t ≤ length answers + 1) × Explains first ((call, bytes) ∷ answers) s crashed).
+    ⊎_elim
+    (λ (here : (t ≤ length answers + 1) × Explains first ((call, bytes) ∷ answers) s crashed).
     now here.1) before since
 
-pub read_since : (first : DiskImage) (t : ℕ) {k : ℕ} {bytes : List ℕ} (moments answers : AnsweredCalls)
+pub read_since : (first : DiskImage) (t : ℕ) {k : ℕ} {bytes : List ℕ}
+    (moments answers : AnsweredCalls)
     (crashed s : DiskImage) → moments ≡ (Read k, bytes) ∷ answers → t ≤ length answers
     → ExplainsSince first t moments crashed s → ExplainsSince first t answers crashed s
 read_since first t {k} {bytes} moments answers crashed s e le since =
@@ -367,7 +377,8 @@ read_since first t {k} {bytes} moments answers crashed s e le since =
     crashed s le on.0) (λ on. on.0) (subst (λ (a : AnsweredCalls). ExplainsSince first t a
     crashed s) e since)
 
-pub failed_since : (first : DiskImage) (t : ℕ) {which : Failure} {bytes : List ℕ} (moments answers : AnsweredCalls)
+pub failed_since : (first : DiskImage) (t : ℕ) {which : Failure} {bytes : List ℕ}
+    (moments answers : AnsweredCalls)
     (crashed s : DiskImage) → moments ≡ (Failed which, bytes) ∷ answers → t ≤ length answers
     → ExplainsSince first t moments crashed s → ExplainsSince first t answers crashed s
 failed_since first t {which} {bytes} moments answers crashed s e le since =

@@ -75,6 +75,18 @@ whole_crashed n (write ∷ writes) from is all =
           (first_fits n write writes all).within (first_fits n write writes all).full)) next,
     )
 
+-- where no front is named, a cut leaves each write whole
+pub whole_by_none : (n : ℕ) (writes : List Write) (from : DiskImage) → IsDiskImage n from
+    → All (IsWriteWithin n) writes → torn_by [] writes from ≡ replayed writes from
+whole_by_none n [] from is all = refl
+whole_by_none n (write ∷ writes) from is all =
+    let fits = first_fits n write writes all in
+    ap (λ (start : DiskImage). torn_by [] writes start)
+    (whole-with_front n from write.sector write.bytes is fits.within fits.full)
+    ∙ whole_by_none n writes (with_sector from write.sector write.bytes)
+    (disk_image-with_sector n from write.sector write.bytes is (λ lt. fits.full))
+    (rest_fit n write writes all)
+
 -- what a cut leaves may keep more of what reads give, in any sector
 same_sector : (n : ℕ) (a b : DiskImage) (k f g : ℕ) (bytes : List ℕ) → length a ≡ n
     → IsDiskImage n b → k < n → f ≤ 512 → g ≤ 512 → length bytes ≡ 512

@@ -50,7 +50,8 @@ answered_medium n fits first whole answers = record {
   count_now = λ t le. answered_now t answers le;
   only_count = λ count since. answered_only answers count since;
   may_stay = λ shown image both. stays n first whole answers shown image both;
-  may_keep = λ shown image both k front le. keeps_more_of n first whole answers shown image both k front le;
+  may_keep = λ shown image both k front le.
+      keeps_more_of n first whole answers shown image both k front le;
   is_disk_image = λ image crashed. let both = disk_images n first whole answers crashed.0 image
       crashed.1 in both.1;
 }

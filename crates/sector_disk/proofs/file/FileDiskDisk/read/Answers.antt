@@ -53,7 +53,8 @@ pub returns-in-Err-clause-reads : goal.returns-in-Err-clause-reads
 returns-in-Err-clause-reads g c =
     let d = c.args.self.now in
     let now = c.and-self-in-Err.result.log.items in
-    failed_reads d.count _ _ d.first.image _ _ (answers_of d) now c.and-self-in-Err.ensures c.args.sector _
+    failed_reads d.count _ _ d.first.image _ _ (answers_of d) now c.and-self-in-Err.ensures
+    c.args.sector _
 
 pub returns-then-is_given_up-clause-logged : goal.returns-then-is_given_up-clause-logged
 returns-then-is_given_up-clause-logged g c =

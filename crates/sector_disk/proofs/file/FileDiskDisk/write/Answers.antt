@@ -29,7 +29,8 @@ returns-in-Ok-clause-writes g c =
       tears = record {
         both = λ shown image both.
             let was = on shown image both in
-            let are = disk_images d.count d.first.image d.whole d.past.log.items was.0 was.1 was.3 in (
+            let are = disk_images d.count d.first.image d.whole d.past.log.items was.0 was.1 was.3
+            in (
               was.0,
               was.1,
               was.3,
@@ -138,7 +139,8 @@ pub returns-then-is_given_up-clause-writes : goal.returns-then-is_given_up-claus
 returns-then-is_given_up-clause-writes g c =
     let d = c.args.self.now in
     let now = c.and-self.result.log.items in
-    failed_writes d.count _ _ d.first.image _ _ (answers_of d) now c.and-self.ensures c.args.sector _
+    failed_writes d.count _ _ d.first.image _ _ (answers_of d) now c.and-self.ensures
+    c.args.sector _
 
 pub returns-then-is_given_up-clause-logged : goal.returns-then-is_given_up-clause-logged
 returns-then-is_given_up-clause-logged g c =

@@ -1,49 +1,47 @@
-use Rattle.std.proofs.Common.{rules, inl, inr, ⊎_elim, ◌≡◌, length, sym, ap, ◌∙◌, subst, arith}
+use Rattle.std.proofs.Common.{rules, inl, inr, ⊎_elim, ◌≡◌, List, [], length, sym, ap, ◌∙◌, subst}
+use Rattle.std.proofs.Common.{arith}
 use Rattle.sector_disk.specs.rules.DiskImage.{DiskImage, IsDiskImage}
 use Rattle.sector_disk.specs.rules.Memory.{calls_in}
-use Rattle.sector_disk.specs.rules.Pending.{Leaves, HadCrashImage, replayed}
-use Rattle.sector_disk.specs.laws.Pending.{had_more, had_less, disk_image-replayed, whole_crashed}
+use Rattle.sector_disk.specs.rules.Pending.{Leaves, HadCrashImage, replayed, torn_by}
+use Rattle.sector_disk.specs.laws.Pending.{had_more, had_less, whole_crashed, whole_by_none}
 use Rattle.sector_disk.proofs.CountLemmas.{had_keeps, had_grows}
-use Rattle.sector_disk.proofs.MemoryLemmas.{shown_size}
+use Rattle.sector_disk.specs.declared.memory.MemDisk.{MemDisk}
+use Rattle.sector_disk.specs.declared.write.Write.{Write}
 use Rattle.sector_disk.proofs.memory.MemDiskDisk.sync.Goals as goal
 
-pub copy_from_slice-requires : goal.copy_from_slice-requires
-copy_from_slice-requires c = omega (
-  arith,
-  shown_size c.args.self.now,
-  c.args.self.now.shown.ok.0,
-  c.args.self.now.durable.ok.0,
-  c.deref.ensures.len,
-)
+-- every write is left whole, so that what reads give is durable
+now_durable : (d : MemDisk) (new : DiskImage) (writes : List Write)
+    → new ≡ torn_by [] writes d.durable.items → writes ≡ d.pending.items → new ≡ d.shown.items
+now_durable d new writes left same =
+    left ∙ ap (λ ws. torn_by [] ws d.durable.items) same
+    ∙ whole_by_none _ d.pending.items d.durable.items d.full d.within ∙ sym d.replayed
 
 pub invariant_of-self-clause-full : goal.invariant_of-self-clause-full
 invariant_of-self-clause-full c =
-    let d = c.args.self.now in
-    let image = disk_image-replayed _ d.pending.items d.durable.items d.full d.within in
-    let now : c.copy_from_slice.new.self.items ≡ replayed d.pending.items d.durable.items =
-    c.copy_from_slice.ensures.items ∙ c.deref.ensures.value ∙ d.replayed in
-    let size : length (replayed d.pending.items d.durable.items) ≡ length d.durable.items =
-    image.count in
-    subst (λ i. IsDiskImage (length i) i) (sym now)
-    (subst (λ n. IsDiskImage n (replayed d.pending.items d.durable.items)) (sym size) image)
+    subst (λ n. IsDiskImage n c.leave_writes.new.sectors.items)
+    (sym c.leave_writes.ensures.image.count) c.leave_writes.ensures.image
+
+pub invariant_of-self-clause-replayed : goal.invariant_of-self-clause-replayed
+invariant_of-self-clause-replayed c =
+    rw c.clear.ensures.items (sym (now_durable c.args.self.now c.leave_writes.new.sectors.items
+    c.deref.result.now c.leave_writes.ensures.left c.deref.ensures.value))
 
 pub returns-clause-syncs : goal.returns-clause-syncs
 returns-clause-syncs c =
     let d = c.args.self.now in
-    let now : c.copy_from_slice.new.self.items ≡ replayed d.pending.items d.durable.items =
-    c.copy_from_slice.ensures.items ∙ c.deref.ensures.value ∙ d.replayed in
+    let now = now_durable d c.leave_writes.new.sectors.items c.deref.result.now
+    c.leave_writes.ensures.left c.deref.ensures.value in
     let only : (image : DiskImage)
-    → Leaves c.clear.new.self.items c.copy_from_slice.new.self.items image
-    → image ≡ c.copy_from_slice.new.self.items = λ image crashed.
-    subst (λ ws. Leaves ws c.copy_from_slice.new.self.items image) c.clear.ensures.items crashed in
+    → Leaves c.clear.new.self.items c.leave_writes.new.sectors.items image
+    → image ≡ c.leave_writes.new.sectors.items = λ image crashed.
+    subst (λ ws. Leaves ws c.leave_writes.new.sectors.items image) c.clear.ensures.items crashed in
     let was : (image : DiskImage) → Leaves c.clear.new.self.items
-    c.copy_from_slice.new.self.items image → Leaves d.pending.items d.durable.items image =
+    c.leave_writes.new.sectors.items image → Leaves d.pending.items d.durable.items image =
     λ image crashed. subst (λ i. Leaves d.pending.items d.durable.items i) (sym (only image crashed
-    ∙ now)) (whole_crashed _ d.pending.items d.durable.items d.full d.within) in
+    ∙ now ∙ d.replayed)) (whole_crashed _ d.pending.items d.durable.items d.full d.within) in
     record {
       all_synced = record {
-        same = λ shown image both. only image both.1 ∙ c.copy_from_slice.ensures.items
-            ∙ c.deref.ensures.value ∙ sym both.0;
+        same = λ shown image both. only image both.1 ∙ now ∙ sym both.0;
         unsynced = ap length c.clear.ensures.items;
       };
       stays = record {
@@ -51,7 +49,7 @@ returns-clause-syncs c =
         since = λ t shown image le both. (
           both.0,
           ⊎_elim
-              (λ (crashed : Leaves c.clear.new.self.items c.copy_from_slice.new.self.items image).
+              (λ (crashed : Leaves c.clear.new.self.items c.leave_writes.new.sectors.items image).
               inl (was image crashed))
               (λ (had : HadCrashImage t c.and-past.result.items image).
               had_less t d.durable d.pending d.past.items c.and-past.result.items image
