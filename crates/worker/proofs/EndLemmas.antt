@@ -30,7 +30,8 @@ use Rattle.worker.specs.rules.Planned.{call_at}
 use Rattle.worker.specs.rules.StoryDisks.{story_medium}
 use Rattle.worker.specs.rules.Told.{TellsLifeEnd}
 use Rattle.worker.specs.LifeCalls.{LeavesSome}
-use Rattle.worker.specs.Endings.{reported_end, IsFoundBehind, StopSays}
+use Rattle.worker.specs.rules.StoryDisks.{reported_end, StopSays}
+use Rattle.worker.specs.Endings.{IsFoundBehind}
 
 pub stopping_leaves_some : LeavesSome story_medium
 stopping_leaves_some f = (f.inner.shown.items, memory_stays f.inner)

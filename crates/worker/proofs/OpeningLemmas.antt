@@ -38,16 +38,18 @@ is_other b why both fails is = let holds : b ≡ true = both.1 is in absurd (cc)
 module _ {D O : Type 0} (medium : D → Medium) (takes : Taking O) (bytes : List ℕ)
     (config : Settings) (found : D) (outlet : O) (some : LeavesSome medium) where
   pub opens_again : (w : DurableValue) (disk : D) (outlet' : O)
+      → Recovers medium takes (Ok w) found disk outlet outlet'
       → RecoveryCarries takes (Ok w) (medium found) (medium disk) outlet outlet'
       → BeginsLife medium takes bytes config found outlet recovers (Ok w) disk outlet'
-  opens_again w disk outlet' carries =
-      let crashed = some disk in recovered crashed.0 crashed.1 (λ says. says) carries
+  opens_again w disk outlet' recovery carries =
+      let crashed = some disk in recovered crashed.0 crashed.1 (λ says. says) recovery carries
 
   pub opens_not : (why : RecoverFault) (disk : D) (outlet' : O) → (IsNoWorker why → ⊥)
+      → Recovers medium takes (Err why) found disk outlet outlet'
       → RecoveryCarries takes (Err why) (medium found) (medium disk) outlet outlet'
       → BeginsLife medium takes bytes config found outlet recovers (Err why) disk outlet'
-  opens_not why disk outlet' other carries =
-      let crashed = some disk in recovered crashed.0 crashed.1 other carries
+  opens_not why disk outlet' other recovery carries =
+      let crashed = some disk in recovered crashed.0 crashed.1 other recovery carries
 
   module _ (none : RecoverFault) (mid disk : D) (outlet' : O) (says : IsNoWorker none)
       (recovery : Recovers medium takes (Err none) found mid outlet outlet')

@@ -28,10 +28,10 @@ use Rattle.worker.specs.declared.story.report.Opening.TheVariants.{Created, Reco
 use Rattle.worker.specs.declared.story.report.Opening.TheVariants.{Unopened}
 use Rattle.worker.specs.rules.OneLife.{shown_first}
 use Rattle.worker.specs.rules.DurableValues.{DurableValue}
-use Rattle.worker.specs.rules.Planned.{act_of, number_refused}
+use Rattle.worker.specs.rules.Planned.{act_of, call_at, number_refused}
 use Rattle.worker.specs.rules.Recoveries.{Recovers}
 use Rattle.worker.specs.rules.StoryDisks.{story_medium, IsBegunOn, IsNextGeneration}
-use Rattle.worker.specs.rules.StoryDisks.{IsRunOn}
+use Rattle.worker.specs.rules.StoryDisks.{IsRunOn, StopSays}
 use Rattle.worker.specs.rules.Told.{TellsOpening}
 use Rattle.worker.specs.Endings.{EndsLife}
 use Rattle.worker.specs.Hearing.{hands_out, hears}
@@ -105,6 +105,10 @@ one_life_is_run bytes config planned found next report first last heard heard'
           (subst (λ (o : Opening). IsNextGeneration (memory_medium first.inner) o) (sym ends.opened)
           (generation_so first heard lived.opened once.generation));
       releases = ends.releases;
+      is_stopped = ends.stopped;
+      stops = subst (λ (n : ℕ). StopSays ends.stopped (call_at planned.stop) n) (sym ends.calls)
+          ends.stops;
+      told_end = ends.ended;
       next_disk = ends.next_disk;
     }
 

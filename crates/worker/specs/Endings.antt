@@ -1,13 +1,11 @@
 -- How a life ended, and what it leaves to the next one.
-use Rattle.std.specs.Prelude.{◌≡◌, ℕ, Bool, true, false, Option, Result, Ok, Err}
+use Rattle.std.specs.Prelude.{◌≡◌, Bool, false}
 use Rattle.sector_disk.specs.declared.fault_disk.FaultDisk.{FaultDisk}
 use Rattle.sector_disk.specs.declared.memory.MemDisk.{MemDisk}
 use Rattle.sector_disk.specs.rules.FaultDisk.{call_counts_of, disk_below}
 use Rattle.sector_disk.specs.rules.Memory.{memory_medium}
 use Rattle.sector_disk.specs.rules.Trouble.{call_number}
 use Rattle.restart_theorem.specs.Between.{IsFoundAfterCut}
-use Rattle.restart_theorem.specs.Courses.{HasStopped}
-use Rattle.worker.specs.declared.recover_fault.RecoverFault.{RecoverFault}
 use Rattle.worker.specs.declared.story.hearing.HeardLines.{HeardLines}
 use Rattle.worker.specs.declared.story.life.PlannedLife.{PlannedLife}
 use Rattle.worker.specs.declared.story.living.LivedOnce.{LivedOnce}
@@ -16,24 +14,13 @@ use Rattle.worker.specs.declared.story.report.LifeEnd.TheVariants.{Finished, Sto
 use Rattle.worker.specs.declared.story.report.LifeEnd.TheVariants.{Failed}
 use Rattle.worker.specs.declared.story.report.LifeReport.{LifeReport}
 use Rattle.worker.specs.rules.Planned.{call_at}
-use Rattle.worker.specs.rules.StoryDisks.{IsNextDisk}
-
--- the end of a life by its stop, or by what ended its calls
-abbrev pub reported_end : Bool → Result (Unit {0}) RecoverFault → LifeEnd
-reported_end true ended = Stopped
-reported_end false (Ok done) = Finished
-reported_end false (Err why) = Failed why
+use Rattle.worker.specs.rules.StoryDisks.{IsNextDisk, StopSays, reported_end}
 
 -- after an error the next life finds the same disk, and else what a cut leaves of it
 abbrev pub IsFoundBehind : LifeEnd → MemDisk → MemDisk → Type 0
 IsFoundBehind (Failed why) last next = next ≡ last
 IsFoundBehind Finished last next = IsFoundAfterCut (memory_medium last) (memory_medium next)
 IsFoundBehind Stopped last next = IsFoundAfterCut (memory_medium last) (memory_medium next)
-
--- a stop has come, or has not, as a test says
-abbrev pub StopSays : Bool → Option ℕ → ℕ → Type 0
-StopSays true stop calls = HasStopped stop calls
-StopSays false stop calls = HasStopped stop calls → ⊥
 
 -- The end of a life on this disk: no line of it was refused, all is told, and the power is cut
 -- where the life says so.

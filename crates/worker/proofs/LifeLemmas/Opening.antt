@@ -444,7 +444,7 @@ pub opening : (m : Module) (config : Settings) (so_far : Promise) {D O : Type 0}
     → OpeningIs m config so_far takes bytes begins result (medium found) (medium disk) outlet
     outlet'
 opening m config so_far medium takes bytes found disk outlet outlet' begins result accepted keeps
-    bounded (recovered image leaves says recovery) =
+    bounded (recovered image leaves says by recovery) =
     let did = recovery m config so_far image leaves keeps bounded in (
       did.0,
       did.1,

@@ -89,6 +89,7 @@ pub data BeginsLife {D O : Type 0} (medium : D → Medium) (takes : Taking O) (b
   where
     recovered : {result : Result DurableValue RecoverFault} {found disk : D} {outlet outlet' : O}
         (image : DiskImage) → (medium disk).crash_images image → (SaysNoWorker result → ⊥)
+        → Recovers medium takes result found disk outlet outlet'
         → RecoveryCarries takes result (medium found) (medium disk) outlet outlet'
         → BeginsLife medium takes bytes config found outlet recovers result disk outlet'
     created : {found mid disk : D} {outlet outlet' : O} (none : Result DurableValue RecoverFault)

@@ -1,7 +1,7 @@
 -- The disk of a story: lives that are run one after another on a disk in memory, and what a report
 -- tells of them.
 use Rattle.std.specs.Prelude.{◌≡◌, ℕ, ◌+◌, ◌-◌, ◌≤◌, Bool, true, false, List, [], ◌∷◌, ◌++◌}
-use Rattle.std.specs.Prelude.{length, map, replicate, take, Option, Result}
+use Rattle.std.specs.Prelude.{length, map, replicate, take, Option, Result, Ok, Err}
 use Rattle.wasm_syntax.specs.declared.module.Module.{Module}
 use Rattle.wasm_semantics.specs.Acceptance.{IsAccepted}
 use Rattle.wasi_abi.specs.declared.answer.Answer.{Answer}
@@ -19,6 +19,7 @@ use Rattle.sector_disk.specs.rules.Memory.{memory_medium, memory_state_of, after
 use Rattle.sector_disk.specs.rules.Trouble.{call_number, troubled}
 use Rattle.disk_layout.specs.rules.Places.{geometry_of, total_sectors}
 use Rattle.disk_layout.specs.rules.Unsynced.{most_unsynced}
+use Rattle.restart_theorem.specs.Courses.{HasStopped}
 use Rattle.restart_theorem.specs.Lives.{Life, Beginning}
 use Rattle.restart_theorem.specs.Promises.{GoesOn}
 use Rattle.restart_theorem.specs.Stands.{StandsFor}
@@ -35,7 +36,7 @@ use Rattle.worker.specs.declared.story.report.Opening.{Opening}
 use Rattle.worker.specs.declared.story.report.Opening.TheVariants.{Recovered}
 use Rattle.worker.specs.rules.OneLife.{IsOneLife, shown_first, undone_acts}
 use Rattle.worker.specs.rules.DurableValues.{DurableValue}
-use Rattle.worker.specs.rules.Planned.{inputs_of, act_of, number_refused}
+use Rattle.worker.specs.rules.Planned.{inputs_of, act_of, call_at, number_refused}
 use Rattle.worker.specs.rules.Told.{TellsOpening, TellsEach, BeginFewCalls}
 use Rattle.worker.specs.Hearing.{hands_out, hears}
 
@@ -97,9 +98,20 @@ IsNextDisk tears (Failed why) last next = next ≡ disk_below last
 IsNextDisk tears Finished last next = IsCutBy tears last next
 IsNextDisk tears Stopped last next = IsCutBy tears last next
 
+-- the stop has come among so many calls, or has not, as a test says
+abbrev pub StopSays : Bool → Option ℕ → ℕ → Type 0
+StopSays true stop calls = HasStopped stop calls
+StopSays false stop calls = HasStopped stop calls → ⊥
+
+-- A life ends by its stop where that has come, and else as its calls did: all done, or by an error.
+abbrev pub reported_end : Bool → Result (Unit {0}) RecoverFault → LifeEnd
+reported_end true ended = Stopped
+reported_end false (Ok done) = Finished
+reported_end false (Err why) = Failed why
+
 -- One life on the disk that it finds. Its calls are those of a worker, each as its clause says.
--- This is told of its opening, its lines and its calls of the disk. Then comes what the next life
--- finds.
+-- This is told of its opening, its lines, its calls of the disk and its end. Then comes what the
+-- next life finds.
 pub record IsRunOn (bytes : List ℕ) (config : Settings) (planned : PlannedLife)
     (report : LifeReport) (found next : MemDisk) : Type 0 where
   pub first : FaultDisk MemDisk
@@ -119,6 +131,9 @@ pub record IsRunOn (bytes : List ℕ) (config : Settings) (planned : PlannedLife
   pub opened : TellsOpening begins (shown_first worker) report.opened
   pub generation : IsNextGeneration (memory_medium found) report.opened
   pub releases : report.releases ≡ (inner_outlet heard).lines
+  pub is_stopped : Bool
+  pub stops : StopSays is_stopped (call_at planned.stop) report.calls
+  pub told_end : report.ended ≡ reported_end is_stopped ended
   pub next_disk : IsNextDisk planned.tears report.ended last next
 
 -- ---- all lives

@@ -7,8 +7,8 @@ ghost use Rattle.sector_disk.specs.rules.Trouble.{call_number};
 ghost use Rattle.restart_theorem.specs.Between.{IsFoundAfterCut};
 ghost use Rattle.restart_theorem.specs.Courses.{HasStopped};
 ghost use Rattle.worker.specs.rules.Planned.{call_at};
-ghost use Rattle.worker.specs.rules.StoryDisks.{IsNextDisk, front_count};
-ghost use Rattle.worker.specs.Endings.{reported_end, IsFoundBehind};
+ghost use Rattle.worker.specs.rules.StoryDisks.{IsNextDisk, front_count, reported_end};
+ghost use Rattle.worker.specs.Endings.{IsFoundBehind};
 
 use crate::RecoverFault;
 use crate::story::fault::StoryFault;

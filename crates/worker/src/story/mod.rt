@@ -16,6 +16,8 @@
 //!   memory, an answer that doesn't fit, or a number at its end (`MayEnd` of `restart_theorem`).
 //! - Want of memory inside of a life ends that life. `StoryFault` is told only where memory was
 //!   refused to `story` itself.
+//! - How a life ended is what ended its calls (`reported_end`). It is told as finished only where
+//!   its stop didn't come, and all its acts were done.
 //! - A life without a stop, or whose stop isn't reached, is cut after its last act. One that ends
 //!   by another error isn't cut, and the next one finds the same disk (`IsFoundBehind`). The fronts
 //!   that a cut keeps are those that are told, in order, of all writes but the front of a stop

@@ -8,7 +8,8 @@ use Rattle.worker.proofs.story.opening.open_worker.Goals as goal
 pub returns-in-Ok-clause-opens : goal.returns-in-Ok-clause-opens
 returns-in-Ok-clause-opens g c =
     λ some. (
-      opens_again g.D.Disk.medium g.O.Outlet.takes _ _ _ _ some _ _ _ c.in-Ok.ensures.carries,
+      opens_again g.D.Disk.medium g.O.Outlet.takes _ _ _ _ some _ _ _ c.in-Ok.ensures.recovers
+          c.in-Ok.ensures.carries,
       λ again. c.in-Ok.ensures.recovers,
     )
 
@@ -17,7 +18,8 @@ returns-then-not-is_no_worker-clause-opens g c =
     λ some. (
       recovers,
       opens_not g.D.Disk.medium g.O.Outlet.takes _ _ _ _ some _ _ _
-          (is_other _ _ c.is_no_worker.ensures c.if-not-is_no_worker.true) c.in-Err.ensures.carries,
+          (is_other _ _ c.is_no_worker.ensures c.if-not-is_no_worker.true)
+          c.in-Err.ensures.recovers c.in-Err.ensures.carries,
     )
 
 pub returns-in-Ok-create-clause-opens : goal.returns-in-Ok-create-clause-opens
