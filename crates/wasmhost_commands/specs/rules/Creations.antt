@@ -13,7 +13,8 @@ use Rattle.sector_disk.specs.rules.Medium.{Medium, spare}
 use Rattle.disk_layout.specs.rules.Places.{total_sectors}
 use Rattle.disk_layout.specs.rules.Unsynced.{most_unsynced}
 use Rattle.worker.specs.declared.fault.WorkFault.{WorkFault}
-use Rattle.worker.specs.rules.DurableCreations.{CreationKeeps, IsCreatedOn, places_for}
+use Rattle.worker.specs.rules.DurableCreations.{CreationCalls, CreationKeeps, IsCreatedOn}
+use Rattle.worker.specs.rules.DurableCreations.{places_for}
 use Rattle.worker.specs.rules.DurableValues.{DurableValue}
 use Rattle.wasmhost_commands.specs.declared.configuring.Sizes.{Sizes}
 use Rattle.wasmhost_commands.specs.declared.configuring.Unconfigured.{Unconfigured}
@@ -123,12 +124,14 @@ HasDiskFailed bytes config old new = (spare old ≡ 0)
 -- 0: the worker is created. 3: it is refused. 4: the disk failed. 5: there is no memory. A refused
 -- worker and out of memory leave the disk as it was. 7: a write of a printer has failed, and
 -- whether the worker was created isn't known. Whatever the status, nothing that was promised of a
--- disk without a worker is lost, and a cut at any moment leaves no worker on it, or this one. Where
--- the output can't be written, that is told on the error output.
+-- disk without a worker is lost, and a cut at any moment leaves no worker on it, or this one. The
+-- disk takes the calls of a creation and no other, in their order: the super comes last. Where the
+-- output can't be written, that is told on the error output.
 pub record CreatesOn {D : Type 0} (medium : D → Medium) (bytes : List ℕ) (config : Settings)
     (old new : D) (out out' err err' : PrinterState) (status : ℕ) : Type 0 where
   pub answer : Result DurableValue WorkFault
   pub keeps : CreationKeeps bytes config answer (medium old) (medium new)
+  pub calls : CreationCalls bytes config answer (medium old) (medium new)
   pub made : status ≡ 0
       → IsCreatedAndPrinted bytes config answer (medium new) out.contents out'.contents
   pub refused : status ≡ 3 → IsCreationRefused bytes config (medium old) × (new ≡ old)
