@@ -1,5 +1,5 @@
-"""Small programs, each with a call that a worker can't make: of the table "What to call instead" of
-docs/WORKERS.md."""
+"""Small programs, each with a call of docs/WORKERS.md, "What to call instead": those that a worker
+can't make, and some that work, whose programs print `ok`."""
 import dataclasses
 
 
@@ -19,6 +19,17 @@ def in_c(headers, statements):
 def in_rust(expression):
     """A program in Rust that prints what comes of an expression."""
     return Call("Rust", f'fn main() {{ println!("{{:?}}", {expression}); }}\n')
+
+
+def ok_in_c(headers, statements, condition):
+    """A program in C that prints `ok` where a condition holds after some statements."""
+    return in_c(headers, f'{statements} puts({condition} ? "ok" : "wrong");')
+
+
+def ok_in_rust(condition):
+    """A program in Rust that prints `ok` where a condition holds."""
+    return Call("Rust", f'fn main() {{ println!("{{}}", if {condition} {{ "ok" }} '
+                        'else { "wrong" }); }\n')
 
 
 CALLS = {
@@ -47,4 +58,23 @@ CALLS = {
     "socket": in_c("sys/socket", "return socket(AF_INET, SOCK_STREAM, 0);"),
     "system": in_c("stdlib", 'return system("ls");'),
     "clock": in_c("time", 'printf("%d\\n", (int)clock());'),
+    "fopen": ok_in_c("", 'FILE *f = fopen("a", "w+"); fputs("b", f); rewind(f);',
+                     "fgetc(f) == 'b'"),
+    "getline": ok_in_c("", "char *s = NULL; size_t n = 0;", "getline(&s, &n, stdin) == 4"),
+    "opendir": ok_in_c("dirent", 'fopen("a", "w"); DIR *d = opendir("/");', "readdir(d) != NULL"),
+    "qsort": Call("C", "#include <stdio.h>\n#include <stdlib.h>\n"
+                       "static int by(const void *a, const void *b) "
+                       "{ return *(const int *)a - *(const int *)b; }\n"
+                       "int main(void) { int n[] = {3, 1, 2}; qsort(n, 3, sizeof *n, by); "
+                       'puts(n[0] == 1 && n[2] == 3 ? "ok" : "wrong"); }\n'),
+    "time": ok_in_c("time", "", "time(NULL) > 0"),
+    "getentropy": ok_in_c("unistd", "char s[9];", "getentropy(s, 9) == 0"),
+    "HashMap": ok_in_rust('std::collections::HashMap::from([("a", 1)])["a"] == 1'),
+    "Instant": ok_in_rust("std::time::Instant::now().elapsed().as_secs() < 60"),
+    "std::fs::create_dir": ok_in_rust(
+        'std::fs::create_dir("a").is_ok() && std::fs::metadata("a").unwrap().is_dir()'),
+    "std::fs::rename": ok_in_rust(
+        'std::fs::create_dir("a").is_ok() && std::fs::rename("a", "b").is_ok()'),
+    "std::fs::remove_dir": ok_in_rust(
+        'std::fs::create_dir("a").is_ok() && std::fs::remove_dir("a").is_ok()'),
 }
