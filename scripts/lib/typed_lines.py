@@ -14,7 +14,7 @@ INDENT, PROMPT = "    ", "$ "
 HEREDOC = re.compile(r"<<'?(\w+)")
 
 # How long one command may take.
-SECONDS = 120
+SECONDS = 300
 
 
 @dataclasses.dataclass
