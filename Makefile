@@ -10,7 +10,8 @@ UNITDIR ?= $(LIBDIR)/systemd/system
 
 # A release has the program beside this file.
 PROGRAM := $(or $(wildcard wasmhost),crates/wasmhost/out/wasmhost)
-DOCS := README.md docs/COMMANDS.md docs/DEPLOYMENT.md docs/FORMATS.md docs/WORKERS.md
+DOCS := README.md $(addprefix docs/,COMMANDS.md DEPLOYMENT.md FORMATS.md OPERATING.md \
+	PERFORMANCE.md WORKERS.md)
 UNIT := wasmhost@.service
 
 # Runs the story of a worker whose power is cut twice. It proves nothing.

@@ -9,7 +9,7 @@
 // then taken out, and the others keep their order. It ends where no word or no person is left.
 //
 // The first line has the seconds of the real time, each other one those that passed since then by
-// the monotonic clock. README.md has the line that builds it.
+// the monotonic clock. docs/WORKERS.md has the line that builds it.
 
 #include <stdint.h>
 #include <stdio.h>

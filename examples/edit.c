@@ -6,8 +6,8 @@
 //     hide AT LEN         puts a dot to each byte of a part
 //     turn AT LEN BY      turns the letters of a part, each as far as BY says
 //
-// What comes after a change is moved by `memmove`, and a part is hidden by `memset`. README.md
-// has the line that builds it: there each of these calls is one instruction.
+// What comes after a change is moved by `memmove`, and a part is hidden by `memset`. By the flags in
+// README.md each of these calls is one instruction. docs/WORKERS.md has the line that builds it.
 
 #include <ctype.h>
 #include <stdint.h>

@@ -2,7 +2,7 @@
 // many bytes the file has then.
 //
 // `std::fs` asks for rights that no file has here. So files are opened by the C library, which std
-// stands on. README.md has the line that builds it.
+// stands on. docs/WORKERS.md has the line that builds it.
 
 use std::ffi::CString;
 use std::fs::File;

@@ -5,7 +5,7 @@
 //     drop N      takes note N out: `dropped`, or `no note N`
 //     clear       takes all notes out: `cleared`
 //
-// It ends with its input. README.md has the line that builds it.
+// It ends with its input. docs/WORKERS.md has the line that builds it.
 
 #include <fcntl.h>
 #include <stdio.h>

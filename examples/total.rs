@@ -1,6 +1,6 @@
 // Adds up numbers. Each request is a number, and the line for it the sum so far, or `no number`.
 //
-// The sum is in a variable: the host keeps it. README.md has the line that builds it.
+// The sum is in a variable: the host keeps it. docs/WORKERS.md has the line that builds it.
 
 use std::io;
 
