@@ -11,25 +11,30 @@ UNITDIR ?= $(LIBDIR)/systemd/system
 # A release has the program beside this file.
 PROGRAM := $(or $(wildcard wasmhost),crates/wasmhost/out/wasmhost)
 DOCS := README.md $(addprefix docs/,COMMANDS.md DEPLOYMENT.md FORMATS.md OPERATING.md \
-	PERFORMANCE.md WORKERS.md)
+	PERFORMANCE.md WORKERS.md) LICENSE-MIT LICENSE-APACHE
 UNIT := wasmhost@.service
+# What a release lacks.
+SOURCES := crates.txt
 
 # Runs the story of a worker whose power is cut twice. It proves nothing.
 demo:
-	@scripts/make/demo
+	@scripts/make/demo $(wildcard wasmhost)
 
 # Builds the program without any proof. `make build` puts the proved one in its place.
-program:
+program: $(SOURCES)
 	@scripts/make/program
 
 # Proves all crates of the program, and builds it.
-build:
+build: $(SOURCES)
 	@scripts/make/build
 
 # Proves every crate from nothing, tries the must-fail edits, and runs the tests and the program.
 # RT_JOBS says how many checks go on at a time.
-test:
+test: $(SOURCES)
 	RT_JOBS=$$(scripts/make/jobs) rt ci
+
+$(SOURCES):
+	@echo "make: there is no $@: a release has no sources, so take a clone" >&2; false
 
 $(PROGRAM):
 	@echo "make: there is no $@: run 'make build' first" >&2; false
@@ -39,6 +44,7 @@ install: $(PROGRAM)
 	install -D -t $(DESTDIR)$(BINDIR) $(PROGRAM)
 	install -D -m 644 -t $(DESTDIR)$(DATADIR)/man/man1 docs/wasmhost.1
 	install -D -m 644 -t $(DESTDIR)$(DOCDIR) $(DOCS)
+	[ ! -d licenses ] || cp -r licenses $(DESTDIR)$(DOCDIR)
 	cd examples/deployment && install -D -t $(DESTDIR)$(LIBDIR)/wasmhost feed tell watch worker
 	install -d $(DESTDIR)$(UNITDIR)
 	sed 's|/usr/local/bin|$(BINDIR)|; s|/usr/local/lib|$(LIBDIR)|' examples/deployment/$(UNIT) \
@@ -46,5 +52,5 @@ install: $(PROGRAM)
 	chmod 644 $(DESTDIR)$(UNITDIR)/$(UNIT)
 
 # Packs the built program, documents and examples in out/wasmhost-VERSION.tar.gz.
-dist: $(PROGRAM)
+dist: $(PROGRAM) $(SOURCES)
 	@scripts/make/dist

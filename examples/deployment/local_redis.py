@@ -1,7 +1,32 @@
-"""A Redis server of one's own, for the scripts `try`."""
+"""What the scripts `try` run on: a program, a Redis server of their own, and an orderly end."""
 import os
+import pathlib
+import shutil
+import signal
 import subprocess
+import sys
 import time
+
+TOP = pathlib.Path(__file__).resolve().parents[2]
+# Where the program is: beside the Makefile of a release, or where a build leaves it.
+PLACES = [TOP / "wasmhost", TOP / "crates/wasmhost/out/wasmhost"]
+
+
+def found_program(named):
+    """The program that is named, or else the one of this folder, or else that of the PATH."""
+    places = [named] if named else [*PLACES, shutil.which("wasmhost")]
+    for it in filter(None, places):
+        if os.path.isfile(it) and os.access(it, os.X_OK):
+            return pathlib.Path(it).resolve()
+    sys.exit(f"try: there is no program {named}" if named else
+             "try: there is no program here or in the PATH: build one, or say --program PROGRAM")
+
+
+def end_in_order():
+    """Has the signals that end a program end it as an error does, so that all is put away. Against
+    `kill -9` nothing helps."""
+    for it in (signal.SIGTERM, signal.SIGHUP):
+        signal.signal(it, lambda number, _: sys.exit(128 + number))
 
 
 class Redis:
@@ -11,9 +36,21 @@ class Redis:
         self.socket = str(folder / "redis.sock")
         words = ["redis-server", "--port", "0", "--unixsocket", self.socket, "--save", "",
                  "--appendonly", "no", "--dir", str(folder), "--logfile", str(folder / "redis.log")]
+        if not shutil.which(words[0]):
+            sys.exit("try: there is no redis-server: apt-get install redis-server")
         # pylint: disable=consider-using-with
-        self.ran = subprocess.Popen(words)
+        self.ran = subprocess.Popen(words, start_new_session=True)
+        try:
+            self.wait_for_socket()
+        except BaseException:
+            self.end()
+            raise
+
+    def wait_for_socket(self):
+        """Waits until it listens."""
         while not os.path.exists(self.socket):
+            if self.ran.poll() is not None:
+                sys.exit(f"try: redis-server has ended with {self.ran.returncode}")
             time.sleep(0.05)
 
     def call(self, *words):
