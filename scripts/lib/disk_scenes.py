@@ -16,7 +16,7 @@ from lib.guest_runs import ECHO, printed, request_lines
 from lib.small_modules import EXITS, TRAPS
 from lib.disk_steps import (
     ANYTHING, ANY_TEXTS, Bytes, Command, EXISTS, FOLDER, FRESH, LEAST, Locked, MISSING, NoFile,
-    PAGES, SMALL, SameFacts, TOO_LARGE, counted, created, disk_of, field, filled, inspected,
+    PAGES, SMALL, SameFacts, TOO_LARGE, busy, counted, created, disk_of, field, filled, inspected,
     listed, mistaken, of_length, refused, refuses, runs, sector, shows, unopened, written,
     written_out)
 
@@ -488,11 +488,11 @@ RECORDS += [
 
 HOSTS = [
     ("a second host on a disk", [
-        created(), Locked(refuses("show disk", "K5 Busy", 4)),
-        Locked(refuses("run disk", "K5 Busy", 4, b"1 r a\n")),
+        created(), Locked(busy("show disk")),
+        Locked(busy("run disk", b"1 r a\n")),
         Locked(unopened("create disk echo.wasm", "disk", EXISTS)),
         # The lock comes before anything is read.
-        written(sector(0, b"e")), Locked(refuses("show disk", "K5 Busy", 4)),
+        written(sector(0, b"e")), Locked(busy("show disk")),
         written(sector(0, b"D")), runs(b"1 r a\n", "1 o a\n")]),
 ]
 
@@ -585,8 +585,8 @@ LOOKS = [
     ("the facts of the disks that docs/FORMATS.md has in hex", [
         created(), inspected("nothing"), SameFacts(), listed(),
         runs(b"1 r hello\n", "1 o hello\n"), inspected("request"), SameFacts(),
-        Locked(refuses("inspect disk", "K5 Busy", 4)),
-        Locked(refuses("files disk", "K5 Busy", 4))]),
+        Locked(busy("inspect disk")),
+        Locked(busy("files disk"))]),
     ("texts and records are facts", [
         created("echo.wasm", "--env", "NAME=Ada", "--", 'r"e\\d', "", "ü"), inspected("nothing"),
         SameFacts(),
@@ -705,7 +705,7 @@ UPGRADES = [
         written(field(2, form.IMAGE_LENGTH, 65_810)), refuses("show disk", "S2 Damaged")]),
     ("a disk that can't be upgraded is refused as by `run`", [
         created(), written(sector(0, b"e")), refuses("upgrade disk", "Y1 NotAWorker"),
-        written(sector(0, b"D")), Locked(refuses("upgrade disk", "K5 Busy", 4)),
+        written(sector(0, b"D")), Locked(busy("upgrade disk")),
         unopened("upgrade missing", "missing", MISSING),
         mistaken("upgrade"), mistaken("upgrade", "disk", "a")]),
 ]

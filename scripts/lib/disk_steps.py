@@ -122,6 +122,11 @@ def unopened(command, path, cause):
     return refuses(command, "K2 Io", 4, b"1 r a\n", f"{path}: {cause}\n")
 
 
+def busy(command, given=b""):
+    """A command on the disk while another program has it."""
+    return refuses(command, "K5 Busy", 4, given, "disk: another host is using this disk\n")
+
+
 def refused(line, what="line"):
     """What is printed for a line of the input that is refused."""
     return f"refused request {what}\nat input line {line}\n"

@@ -390,7 +390,8 @@ def order_fault(program):
         after = all_seen(folder, DISK)
     before.pop(DISK)
     wanted = [(2, b"error: a seed is 64 hexadecimal digits\n"),
-              (4, f"failed K2 Io\ngone: {MISSING}\n".encode()), (4, b"failed K5 Busy\n"),
+              (4, f"failed K2 Io\ngone: {MISSING}\n".encode()),
+              (4, f"failed K5 Busy\n{DISK}: another host is using this disk\n".encode()),
               (4, f"failed K2 Io\n{FILE}: {OTHER_BYTES}\n".encode())]
     if found != wanted or after != before:
         return f"status file, order of faults: {found}, {changed(before, after)}"

@@ -245,8 +245,7 @@
 //!   `failed` with code and name, or `refused request ..`, and scripts match it. The second is for
 //!   a person. `K2 Io` of a path prints the path and the cause, by a total function of the error's
 //!   kind (`open_cause`, `cause_words`). The words are those of the C library, so that they can be
-//!   looked up. `failed K5 Busy` is alone, and so does `K2 Io` of a disk that fails once it is
-//!   open: `DiskFault` has no cause.
+//!   looked up. `K2 Io` of a disk that fails once it is open is alone: `DiskFault` has no cause.
 //! - **`C1 Range` prints its bounds.** `configure` looks for what is out of them before it asks
 //!   `Config::new`, which answers only that something is. That both have the same bounds is proved.
 //! - **A refused line's number is counted by the reader of lines**, and printed after the run. That
