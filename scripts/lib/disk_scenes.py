@@ -43,7 +43,7 @@ CREATION = [
     ("no file is made where a creation is refused", [
         step for words, fault, why in [
             ("/dev/null", "B1 Malformed", ""),
-            ("two_pages.wasm --pages 1", "L6 TooManyPages", ""),
+            ("two_pages.wasm --pages 1", "L6 TooManyPages", "begins with 2 pages: --pages 2\n"),
             ("echo.wasm --pages 0", "C1 Range", PAGES),
             ("echo.wasm --pages 257", "C1 Range", PAGES),
             ("echo.wasm --pages 18446744073709551615", "C1 Range", PAGES),

@@ -207,12 +207,13 @@ static HOST: [Row; 6] = [
     (
         &[HEADER, TYPES, UNKNOWN_CALL, BEHIND_IMPORTS],
         3,
-        "refused L3 UnknownImport\n",
+        "refused L3 UnknownImport\nimport env.f isn't one of the 31 calls\n",
     ),
     (
         &[HEADER, TYPES, CALL_WITHOUT_CODE, BEHIND_IMPORTS],
         3,
-        "refused L4 ImportType\n",
+        "refused L4 ImportType\n\
+         import wasi_snapshot_preview1.proc_exit has another type than this call\n",
     ),
     (
         &[BEFORE_CODE, EMPTY_BODY, "0b09010041ffff030b0100"],
@@ -246,7 +247,7 @@ static HOST: [Row; 6] = [
             EMPTY_BODY,
         ],
         3,
-        "refused L6 TooManyPages\n",
+        "refused L6 TooManyPages\nbegins with 257 pages, and a worker has at most 256\n",
     ),
 ];
 

@@ -33,6 +33,7 @@ pub mod SweepTexts
 pub mod Sweeps
 pub mod StatusFiles
 pub mod Watchings
+pub mod Verdicts
 pub mod InspectionTexts
 pub mod InspectionValues
 pub mod Inspectings

@@ -277,6 +277,7 @@ pub mod status;
 mod stories;
 mod sweeping;
 mod telling;
+mod verdicts;
 mod words;
 
 pub use bounds::Bound;

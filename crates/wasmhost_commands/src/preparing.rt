@@ -1,6 +1,7 @@
 //! What a creation needs, looked at before its disk is made.
 
-ghost use Rattle.std.specs.Prelude.{◌≡◌, ◌<◌, ◌≤◌, ◌^◌, IfErr, IfOk, OnOk, Some, codes, length};
+ghost use Rattle.std.specs.Prelude.{◌≡◌, ◌<◌, ◌≤◌, ◌^◌, IfErr, IfOk, OnErr, OnOk, Some, codes};
+ghost use Rattle.std.specs.Prelude.{length, true};
 ghost use Rattle.wasi_abi.specs.rules.Configs.{AreSettingsWithinLimits};
 ghost use Rattle.machine_loader.specs.rules.Acceptance.{HasAcceptedModule, passed_in};
 ghost use Rattle.wasm_decode.specs.declared.items.limit.PassedLimit.{PassedLimit};
@@ -13,7 +14,9 @@ ghost use Rattle.wasmhost_commands.specs.rules.Bounds.{range_words};
 ghost use Rattle.wasmhost_commands.specs.rules.ModuleLimits.{limit_text};
 ghost use Rattle.wasmhost_commands.specs.rules.Printers.{IsSaid, SaysText};
 ghost use Rattle.wasmhost_commands.specs.rules.Reports.{SaysLine};
+ghost use Rattle.wasmhost_commands.specs.rules.Verdicts.{EndsWithMore, SaysMore};
 ghost use Rattle.wasmhost_commands.specs.declared.bounds.Bound.{Bound};
+ghost use Rattle.machine_loader.specs.declared.fault.ModuleFault.{ModuleFault};
 
 use crate::bounds::{Bound, words_of_range};
 use crate::configuring::{Sizes, Unconfigured, configure};
@@ -21,10 +24,11 @@ use crate::module_limits::print_limit;
 use crate::printer::Printer;
 use crate::status::{NO_MEMORY, REFUSED, UNWRITTEN};
 use crate::telling::say_line;
+use crate::verdicts::print_more;
 use disk_layout::Geometry;
 use machine_loader::{ModuleFault, accept};
 use std::alloc::Global;
-use std::io::Write;
+use std::io::{self, Write};
 use thiserror::Error;
 use wasi_abi::Config;
 use wasm_decode::PassedLimit;
@@ -160,33 +164,66 @@ fn say_limit<E: Write + Drop>(err: &mut Printer<E>, passed: PassedLimit) -> u8
     }
 }
 
-/// Prints why a module isn't accepted. A limit that it passes is told on a second line. Answers the
-/// exit status, or 7 where a write has failed.
-fn say_refusal<E: Write + Drop>(err: &mut Printer<E>, why: ModuleFault) -> u8
+/// Prints a fault of a module, and on a line of its own what else is known of it.
+fn print_refusal<E: Write + Drop>(
+    alloc: Global,
+    wasm: &[u8],
+    why: ModuleFault,
+    err: &mut Printer<E>,
+) -> io::Result<()>
+    ensures more { OnOk result (EndsWithMore wasm.now why err.new) }
+    ensures steady { OnOk result (err.new.failed ≡ err.old.failed) }
+    ensures failed { OnErr result (err.new.failed ≡ true) }
+{
+    writeln!(err, "failed {why}")?;
+    print_more(alloc, wasm, why, err)?;
+    err.flush()
+}
+
+/// Prints why a module isn't accepted. A limit that it passes is told on a second line, and so is
+/// what else is known of it. Answers the exit status, or 7 where a write has failed.
+fn say_refusal<E: Write + Drop>(
+    alloc: Global,
+    wasm: &[u8],
+    why: ModuleFault,
+    err: &mut Printer<E>,
+) -> u8
     ensures limit { (passed : PassedLimit) → passed_in why ≡ Some passed
         → SaysText (limit_text (codes "failed") passed) 3 err.old result err.new }
+    ensures more { SaysMore wasm.now why err.new }
     ensures status { IsSaid 3 err.old result err.new }
     ensures known { result ≤ 7 }
 {
-    match why.passed_limit() {
-        Some(passed) => say_limit(err, passed),
-        None => say_fault(err, Unprepared::Module(why)),
+    if let Some(passed) = why.passed_limit() {
+        return say_limit(err, passed);
+    }
+    match print_refusal(alloc, wasm, why, err) {
+        Ok(()) => REFUSED,
+        Err(_) => UNWRITTEN,
     }
 }
 
-/// Prints why no worker is created. What is out of its bounds, and a limit that the module passes,
-/// is told on a second line. Answers the exit status, or 7 where a write has failed.
-pub fn report_unprepared<E: Write + Drop>(err: &mut Printer<E>, fault: Unprepared) -> u8
+/// Prints why no worker of the module that the bytes spell is created. What is out of its bounds,
+/// and what is known of the module, is told on a second line. Answers the exit status, or 7 where a
+/// write has failed.
+pub fn report_unprepared<E: Write + Drop>(
+    alloc: Global,
+    wasm: &[u8],
+    fault: Unprepared,
+    err: &mut Printer<E>,
+) -> u8
     ensures range { (bound : Bound) → fault ≡ Unprepared.Range bound
         → SaysLine (range_words bound) 3 err.old result err.new }
     ensures limit { (passed : PassedLimit) → passed_by fault ≡ Some passed
         → SaysText (limit_text (codes "failed") passed) 3 err.old result err.new }
+    ensures more { (why : ModuleFault) → fault ≡ Unprepared.Module why
+        → SaysMore wasm.now why err.new }
     ensures status { IsSaid (status_unprepared fault) err.old result err.new }
     ensures known { result ≤ 7 }
 {
     match fault {
         Unprepared::Range(bound) => say_line(err, REFUSED, words_of_range(bound)),
-        Unprepared::Module(why) => say_refusal(err, why),
+        Unprepared::Module(why) => say_refusal(alloc, wasm, why, err),
         other => say_fault(err, other),
     }
 }

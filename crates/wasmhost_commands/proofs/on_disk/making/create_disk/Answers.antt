@@ -13,6 +13,7 @@ returns-in-Err-clause-creates g c =
       record {
         range = c.report_unprepared.ensures.range;
         limit = c.report_unprepared.ensures.limit;
+        more = c.report_unprepared.ensures.more;
         status = c.report_unprepared.ensures.status;
       },
       refl,
