@@ -20,6 +20,9 @@ from lib.disk_steps import (
     listed, mistaken, of_length, refused, refuses, runs, sector, shows, unopened, written,
     written_out)
 
+# What is told of the first entry of an environment, where it has no name.
+UNNAMED = "entry 1 of --env isn't NAME=VALUE\n"
+
 CREATION = [
     ("a worker is created once, and shown", [
         created(), Bytes(disk_of()), shows(FRESH), shows(FRESH),
@@ -52,11 +55,11 @@ CREATION = [
             ("echo.wasm --journal 63", "C1 Range", "--journal is from 64 to 65536\n"),
             ("echo.wasm --journal 65537", "C1 Range", "--journal is from 64 to 65536\n"),
             ("echo.wasm --files 0 --pages 0", "C1 Range", PAGES),
-            ("echo.wasm --env a", "C2 Text", ""),
-            ("echo.wasm --env =b", "C2 Text", ""),
+            ("echo.wasm --env a", "C2 Text", UNNAMED),
+            ("echo.wasm --env =b", "C2 Text", UNNAMED),
             # The configuration comes before the module.
             ("/dev/null --pages 0", "C1 Range", PAGES),
-            ("/dev/null --env a", "C2 Text", ""),
+            ("/dev/null --env a", "C2 Text", UNNAMED),
         ] for step in (refuses(f"create disk {words}", fault, why=why), NoFile())]),
     ("no file is made for a module that can't be read", [
         step for words, path, cause in [

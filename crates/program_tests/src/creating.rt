@@ -74,7 +74,11 @@ static REFUSED: [Refused; 9] = [
         "a=b",
         "failed C1 Range\n--journal is from 64 to 65536\n",
     ),
-    ((&ECHO, [1, 1, 64]), "=b", "failed C2 Text\n"),
+    (
+        (&ECHO, [1, 1, 64]),
+        "=b",
+        "failed C2 Text\nentry 1 of --env isn't NAME=VALUE\n",
+    ),
     ((&[], [0, 1, 64]), "a=b", PAGES),
 ];
 

@@ -34,6 +34,7 @@ pub mod Sweeps
 pub mod StatusFiles
 pub mod Watchings
 pub mod Verdicts
+pub mod Entries
 pub mod InspectionTexts
 pub mod InspectionValues
 pub mod Inspectings

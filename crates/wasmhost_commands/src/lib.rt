@@ -264,6 +264,7 @@
 mod bounds;
 mod check;
 mod configuring;
+mod entries;
 mod inspecting;
 pub mod laws;
 mod lines;

@@ -1,7 +1,7 @@
 //! What a creation needs, looked at before its disk is made.
 
 ghost use Rattle.std.specs.Prelude.{◌≡◌, ◌<◌, ◌≤◌, ◌^◌, IfErr, IfOk, OnErr, OnOk, Some, codes};
-ghost use Rattle.std.specs.Prelude.{length, true};
+ghost use Rattle.std.specs.Prelude.{length, true, ℕ};
 ghost use Rattle.wasi_abi.specs.rules.Configs.{AreSettingsWithinLimits};
 ghost use Rattle.machine_loader.specs.rules.Acceptance.{HasAcceptedModule, passed_in};
 ghost use Rattle.wasm_decode.specs.declared.items.limit.PassedLimit.{PassedLimit};
@@ -11,6 +11,7 @@ ghost use Rattle.wasmhost_commands.specs.rules.Creations.{IsUnprepared, config_a
 ghost use Rattle.wasmhost_commands.specs.rules.Creations.{disk_sectors, passed_by};
 ghost use Rattle.wasmhost_commands.specs.rules.Creations.{status_unprepared};
 ghost use Rattle.wasmhost_commands.specs.rules.Bounds.{range_words};
+ghost use Rattle.wasmhost_commands.specs.rules.Entries.{entry_text};
 ghost use Rattle.wasmhost_commands.specs.rules.ModuleLimits.{limit_text};
 ghost use Rattle.wasmhost_commands.specs.rules.Printers.{IsSaid, SaysText};
 ghost use Rattle.wasmhost_commands.specs.rules.Reports.{SaysLine};
@@ -48,9 +49,10 @@ pub enum Unprepared {
     /// A number, a count or a length of the configuration is out of its bounds.
     #[error("failed C1 Range")]
     Range(Bound),
-    /// A text of it has a zero byte, or an entry of its environment has no name.
+    /// A text of it has a zero byte, or an entry of its environment has no name: the first such one
+    /// has this number, from 1 on.
     #[error("failed C2 Text")]
-    Text,
+    Text(Option<usize>),
     /// The module isn't accepted.
     #[error("failed {0}")]
     Module(ModuleFault),
@@ -64,7 +66,7 @@ impl Unprepared {
         ensures { result ≡ status_unprepared self }
     {
         match self {
-            Unprepared::Range(_) | Unprepared::Text | Unprepared::Module(_) => REFUSED,
+            Unprepared::Range(_) | Unprepared::Text(_) | Unprepared::Module(_) => REFUSED,
             Unprepared::Memory => NO_MEMORY,
         }
     }
@@ -133,7 +135,7 @@ pub fn prepare(
     let config = match configure(alloc, sizes, arguments, environment) {
         Ok(config) => config,
         Err(Unconfigured::Range(bound)) => return Err(Unprepared::Range(bound)),
-        Err(Unconfigured::Text) => return Err(Unprepared::Text),
+        Err(Unconfigured::Text(unnamed)) => return Err(Unprepared::Text(unnamed)),
         Err(Unconfigured::Memory) => return Err(Unprepared::Memory),
     };
     let measured = measure(alloc, wasm, &config);
@@ -159,6 +161,21 @@ fn say_limit<E: Write + Drop>(err: &mut Printer<E>, passed: PassedLimit) -> u8
     ensures known { result ≤ 7 }
 {
     match print_limit(err, "failed", passed) {
+        Ok(()) => REFUSED,
+        Err(_) => UNWRITTEN,
+    }
+}
+
+/// Prints that an entry of the environment has no name, and answers the exit status, or 7 where a
+/// write has failed.
+fn say_unnamed<E: Write + Drop>(err: &mut Printer<E>, entry: usize) -> u8
+    ensures said { SaysText (entry_text entry) 3 err.old result err.new }
+    ensures known { result ≤ 7 }
+{
+    match writeln!(
+        err,
+        "failed C2 Text\nentry {entry} of --env isn't NAME=VALUE"
+    ) {
         Ok(()) => REFUSED,
         Err(_) => UNWRITTEN,
     }
@@ -204,8 +221,8 @@ fn say_refusal<E: Write + Drop>(
 }
 
 /// Prints why no worker of the module that the bytes spell is created. What is out of its bounds,
-/// and what is known of the module, is told on a second line. Answers the exit status, or 7 where a
-/// write has failed.
+/// which entry has no name, and what is known of the module, is told on a second line. Answers the
+/// exit status, or 7 where a write has failed.
 pub fn report_unprepared<E: Write + Drop>(
     alloc: Global,
     wasm: &[u8],
@@ -214,6 +231,8 @@ pub fn report_unprepared<E: Write + Drop>(
 ) -> u8
     ensures range { (bound : Bound) → fault ≡ Unprepared.Range bound
         → SaysLine (range_words bound) 3 err.old result err.new }
+    ensures entry { (number : ℕ) → fault ≡ Unprepared.Text (Some number)
+        → SaysText (entry_text number) 3 err.old result err.new }
     ensures limit { (passed : PassedLimit) → passed_by fault ≡ Some passed
         → SaysText (limit_text (codes "failed") passed) 3 err.old result err.new }
     ensures more { (why : ModuleFault) → fault ≡ Unprepared.Module why
@@ -223,6 +242,7 @@ pub fn report_unprepared<E: Write + Drop>(
 {
     match fault {
         Unprepared::Range(bound) => say_line(err, REFUSED, words_of_range(bound)),
+        Unprepared::Text(Some(entry)) => say_unnamed(err, entry),
         Unprepared::Module(why) => say_refusal(alloc, wasm, why, err),
         other => say_fault(err, other),
     }

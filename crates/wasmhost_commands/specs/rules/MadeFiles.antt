@@ -16,6 +16,7 @@ use Rattle.wasmhost_commands.specs.rules.Bounds.{range_words}
 use Rattle.wasmhost_commands.specs.rules.Commands.{CreateMeaning}
 use Rattle.wasmhost_commands.specs.rules.Creations.{CreatesOn, IsPreparedAs, IsUnprepared}
 use Rattle.wasmhost_commands.specs.rules.Creations.{config_as, passed_by, status_unprepared}
+use Rattle.wasmhost_commands.specs.rules.Entries.{entry_text}
 use Rattle.wasmhost_commands.specs.rules.ModuleLimits.{limit_text}
 use Rattle.wasmhost_commands.specs.rules.Openings.{IsUntouched, open_words}
 use Rattle.wasmhost_commands.specs.rules.Printers.{PrinterState, IsSaid, SaysText}
@@ -69,12 +70,15 @@ settings_said said = config_as
     (record { pages = said.pages; files = said.files; journal = said.journal })
     said.arguments said.environment
 
--- It is said why no worker of these bytes is created: by the bounds of what is out of them, by a
--- limit that the module passes, by what else is known of it, or else by the status.
+-- It is said why no worker of these bytes is created: by the bounds of what is out of them, by
+-- the entry that has no name, by a limit that the module passes, by what else is known of it, or
+-- else by the status.
 pub record SaysUnprepared (bytes : List ℕ) (why : Unprepared) (old : PrinterState) (answered : ℕ)
     (new : PrinterState) : Type 0 where
   pub range : (bound : Bound) → why ≡ unprepared.Range bound
       → SaysLine (range_words bound) 3 old answered new
+  pub entry : (number : ℕ) → why ≡ unprepared.Text (Some number)
+      → SaysText (entry_text number) 3 old answered new
   pub limit : (passed : PassedLimit) → passed_by why ≡ Some passed
       → SaysText (limit_text (codes "failed") passed) 3 old answered new
   pub more : (fault : ModuleFault) → why ≡ unprepared.Module fault → SaysMore bytes fault new
