@@ -617,11 +617,14 @@ LOOKS = [
         Command(["run", "disk"], 0, ANYTHING, ANYTHING, b"1 r add milk\n2 r add bread\n",
                 changes=True),
         inspected("request"), SameFacts(), listed(), written_out("notes"),
+        written_out("/notes", "notes"), refuses("files disk //notes", "F1 Missing"),
         refuses("files disk missing", "F1 Missing"), refuses("files disk notes/a", "F1 Missing"),
+        refuses("files disk /notes/", "F1 Missing"), refuses("files disk /", "F1 Missing"),
         Command(["files", "disk", ""], 3, "", "failed F1 Missing\n")]),
     ("a folder is listed, and has no bytes", [
         created(), written(*other_image(echo_image([b"a"]).replace(NO_FILES, ONE_FOLDER))),
-        inspected("request"), SameFacts(), listed(), refuses("files disk notes", "F2 Directory")]),
+        inspected("request"), SameFacts(), listed(), refuses("files disk notes", "F2 Directory"),
+        refuses("files disk /notes", "F2 Directory")]),
     ("a disk that is refused", [
         filled(b""), refuses("inspect disk", "Y1 NotAWorker"),
         refuses("files disk", "Y1 NotAWorker"),

@@ -91,9 +91,9 @@ def listed():
     return Looked(["files", "disk"], facts.listing)
 
 
-def written_out(path):
-    """One file of the worker."""
-    return Looked(["files", "disk", path], lambda disk: facts.file_at(disk, path))
+def written_out(path, listed=None):
+    """One file of the worker, under its path or as it is listed."""
+    return Looked(["files", "disk", path], lambda disk: facts.file_at(disk, listed or path))
 
 
 def created(module="echo.wasm", *words, total=SMALL.total, least=True):
