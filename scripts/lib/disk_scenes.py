@@ -16,9 +16,9 @@ from lib.guest_runs import ECHO, printed, request_lines
 from lib.small_modules import EXITS, TRAPS
 from lib.disk_steps import (
     ANYTHING, ANY_TEXTS, Bytes, Command, EXISTS, FOLDER, FRESH, LEAST, Locked, MISSING, NoFile,
-    PAGES, SMALL, SameFacts, TOO_LARGE, busy, counted, created, disk_of, field, filled, inspected,
-    listed, mistaken, of_length, refused, refuses, runs, sector, shows, unopened, written,
-    written_out)
+    PAGES, SMALL, SameFacts, TOO_LARGE, TOO_LONG, busy, counted, created, disk_of, field, filled,
+    inspected, listed, mistaken, of_length, refused, refuses, runs, sector, shows, too_late,
+    unopened, written, written_out)
 
 # What is told of the first entry of an environment, where it has no name.
 UNNAMED = "entry 1 of --env isn't NAME=VALUE\n"
@@ -161,7 +161,7 @@ LIVES = [
         created(), runs(b"1 e\n", "", "exited 0\n"), shows(counted(3, 11, 1, 0, 0))]),
     ("a refused line leaves what was kept, and the next run tells it again", [
         created(),
-        runs(b"1 r hello\n3 r b\n", "1 o hello\n", refused(2, "3, wanted 2"), status=6),
+        runs(b"1 r hello\n3 r b\n", "1 o hello\n", too_late(2, 3, 2), status=6),
         Bytes(disk_of((2, None), kept=[(2, 1, record(6, REQUEST, b"hello"))])),
         shows(counted(2, 0, 0, 0, 1)),
         runs(b"1 r hello\n2 r b\n", "1 o hello\n2 o b\n"), shows(counted(4, 49, 2, 2, 0))]),
@@ -203,7 +203,8 @@ def line_scene(given, out, err, status=6):
     return f"request lines {given[:40]!r}", [created(), runs(given, out, err, status=status)]
 
 
-REFUSED, SECOND = refused(1), refused(2)
+REFUSED, SECOND, LONG = refused(1), refused(2), refused(1, TOO_LONG)
+LONGER = refused(1, "longer than version 2 takes, 65536 bytes of text\n")
 LINES = [
     line_scene(given, out, err)
     for given, out, err in [
@@ -213,15 +214,16 @@ LINES = [
         (b"+1 r a\n", "", REFUSED), (b"-1 r a\n", "", REFUSED), (b"0 r a\n", "", REFUSED),
         (b"1\tr a\n", "", REFUSED), (b"1 R a\n", "", REFUSED), (b"1 e\r\n", "", REFUSED),
         (b"9223372036854775808 r a\n", "", REFUSED), (TOO_LARGE.encode() + b" e\n", "", REFUSED),
-        (b"9223372036854775807 r a\n", "", refused(1, "9223372036854775807, wanted 1")),
-        (b"2 e\n", "", refused(1, "2, wanted 1")),
+        (b"9223372036854775807 r a\n", "", too_late(1, 9223372036854775807, 1)),
+        (b"2 e\n", "", too_late(1, 2, 1)),
         (b"1 r a\nb\n", "1 o a\n", SECOND), (b"1 r a\n1 r\n", "1 o a\n", SECOND),
-        (b"1 r a\n3 r b\n", "1 o a\n", refused(2, "3, wanted 2")),
+        (b"1 r a\n3 r b\n", "1 o a\n", too_late(2, 3, 2)),
         (b"1 r a\n0 r b\n", "1 o a\n", SECOND),
-        (b"1 r " + b"x" * 4_097 + b"\n", "", REFUSED),
-        (b"1 r a\n1 r " + b"x" * 4_097 + b"\n", "1 o a\n", SECOND),
+        (b"1 r " + b"x" * 4_097 + b"\n", "", LONG),
+        (b"1 r a\n1 r " + b"x" * 4_097 + b"\n", "1 o a\n", refused(2, TOO_LONG)),
+        (b"0 r " + b"x" * 4_097 + b"\n", "", REFUSED), (b"0 r " + b"x" * 5_000, "", LONG),
         # A line that comes in several pieces is one line.
-        (b"1 r " + b"x" * 9_000, "", REFUSED),
+        (b"1 r " + b"x" * 9_000, "", LONG),
         (b"1 r a\n" * 9_000 + b"b\n", "1 o a\n", refused(9_001)),
         (b"1 r a\n" * 3 + b"\n2 r b\n", "1 o a\n", refused(4))]
 ] + [
@@ -701,8 +703,8 @@ UPGRADES = [
         Command(["upgrade", "disk"], 3, "", "failed N7 JournalTooSmall\n", changes=True),
         shows(counted(4, 27, 1, 1, 0)), runs(b"1 r a\n2 r b\n", "2 o b\n")]),
     ("requests have up to 65,536 bytes after an upgrade", [
-        with_journal(), runs(b"1 r " + b"x" * 4_097, "", REFUSED, status=6),
-        upgrades("upgraded\n"), runs(b"1 r " + b"x" * 65_537, "", REFUSED, status=6),
+        with_journal(), runs(b"1 r " + b"x" * 4_097, "", LONG, status=6),
+        upgrades("upgraded\n"), runs(b"1 r " + b"x" * 65_537, "", LONGER, status=6),
         runs(b"1 r " + b"x" * 65_536, lines_of(65_536)), inspected("request")]),
     ("a head of version 2 and an image of version 1", [
         with_journal(), written(field(2, form.HEAD_VERSION, TWO)),

@@ -35,6 +35,7 @@ pub mod StatusFiles
 pub mod Watchings
 pub mod Verdicts
 pub mod Entries
+pub mod Flaws
 pub mod InspectionTexts
 pub mod InspectionValues
 pub mod Inspectings
