@@ -167,7 +167,7 @@ module _ {D O : Type 0} (medium : D → Medium) (takes : Taking O) where
     recovers = recovers;
     none = only_synced why found last o p recovers.recovers;
     life = λ some image leaves bytes config acts source.
-        unopened (recovered image leaves some recovers.carries);
+        unopened (recovered image leaves some recovers.recovers recovers.carries);
     heeded = heeds;
   }
 
@@ -190,7 +190,8 @@ module _ {D O : Type 0} (medium : D → Medium) (takes : Taking O) where
     heeded = heeds_on takes (SaysOutletFault (undone_after result)) before.outlet p after.outlet
         (each_taken takes ⊥ before.outlet p (λ told. told) heeds) lives.heeded;
     life = λ image leaves bytes config.
-        opened (recovered image leaves (λ none. none) recovers.carries) lives.done;
+        opened (recovered image leaves (λ none. none) recovers.recovers recovers.carries)
+            lives.done;
   }
 
   -- ---- what the status says

@@ -44,7 +44,7 @@ pub busy_said : (path : List ℕ) (old new : PrinterState)
     → new.failed ≡ old.failed → SaysLine (open_words path Busy) 4 old 4 new
 busy_said path old new bytes steady =
     let text : codes "failed K5 Busy\n" ++ (path ++ codes ": another host is using this disk\n")
-    ≡ codes "failed K5 Busy\n" ++ path ++ codes ": another host is using this disk" ++ newline ∷ [] =
+    ≡ open_words path Busy ++ newline ∷ [] =
     ap (λ t. codes "failed K5 Busy\n" ++ t)
     (sym (append_assoc path (codes ": another host is using this disk") (newline ∷ []))) in
     inl (refl, (subst (λ t. Appends old.contents new.contents t) text bytes, steady))

@@ -281,7 +281,8 @@ module _ {D O : Type 0} (medium : D → Medium) (takes : Taking O) where
     heeded = heeds_on takes (SaysOutletFault (undone_then result)) o p q
         (each_taken takes ⊥ o p (λ told. told) heeds) done.heeded;
     life = λ image leaves bytes config.
-        opened (recovered image leaves (λ none. none) recovers.carries) done.done;
+        opened (recovered image leaves (λ none. none) recovers.recovers recovers.carries)
+            done.done;
   }
 
   -- ---- what the command says

@@ -19,8 +19,9 @@
 //!   the disk, at its start. `created N sectors` was printed then. What the other statuses say is
 //!   said too, and what a cut at any moment leaves (`creates`). Where the output can't be written,
 //!   that is told on the error output. `report_unprepared` answers the
-//!   status of what it tells, or 7. It tells the bounds of what is out of them (`range`), and the
-//!   limit that a module passes, with its place (`limit`).
+//!   status of what it tells, or 7. It tells the bounds of what is out of them (`range`), which
+//!   entry of an environment has no name (`entry`), the limit that a module passes, with its place
+//!   (`limit`), and what else is known of it (`more`).
 //! - `create_file` is `create_on` of a disk whose file it makes. Where the status isn't 0 that file
 //!   is removed again, and no other one is (`CreatesFile`). `create_device` is `create_on` of a
 //!   block device that is there (`CreatesOnDevice`). `create_disk` does what the words of a
@@ -83,8 +84,8 @@
 //!   bytes (`spelled`, `found`).
 //!   `trap_name`: how last words call a trap.
 //! - `read_seed`, `seeded`: which texts are seeds, and which bytes a seed gives (`seeded_bytes`).
-//! - `report_input`: after a run, at which line of its input a refused one is, and how many
-//!   requests were read ahead that nobody took (`SaysOfInput`).
+//! - `report_input`: after a run, at which line of its input a refused one is, what is wrong with it
+//!   (`IsFlawIn`), and how many requests were read ahead that nobody took (`SaysOfInput`).
 //! - `LineReader` is what request lines are read from. `BufferedLines` is one over any `BufRead`.
 //! - `LineOutlet` prints each line that it takes, with its number and the letter of its stream. It
 //!   refuses one only where a write of it has failed, and has then printed at most a prefix of it
@@ -126,7 +127,8 @@
 //! `wasmhost`, `version_words` (`CommandLine.antt`);
 //! `meaning_in`, `IsReading`, `IsStatusOf` (`Commands.antt`);
 //! `IsOutOfBounds`, `range_words` (`Bounds.antt`); `limit_text` (`ModuleLimits.antt`);
-//! `SaysOfInput` (`Leavings.antt`);
+//! `IsUnnamedEntry`, `entry_text` (`Entries.antt`); `TellsMore`, `ChecksModule` (`Verdicts.antt`);
+//! `SaysOfInput` (`Leavings.antt`); `IsFlawIn`, `flaw_words` (`Flaws.antt`);
 //! `ShowsDisk`, `ShowsSurvey`, `survey_line` (`Showings.antt`); `open_words`, `IsOpenedFor`,
 //! `ShowsFile` (`Openings.antt`); `watch_line`, `IsStatusLine`, `WatchesEnd` (`Watchings.antt`);
 //! `IsFreePath`, `IsStatusFile`, `SaysUnwatched` (`StatusFiles.antt`);
@@ -204,8 +206,8 @@
 //!   `--`.
 //! - **The seed is a text to `clap`**, and is read by `read_seed`, whose contract says of which
 //!   texts. A wrong one is answered before any file is opened.
-//! - `check` is the front end and a line of text: by default the page limit is 256. A module file is
-//!   read up to one byte more than the longest module has, by which a longer one is known.
+//! - `check` is the front end and a line of text. By default the page limit is 256. A module file
+//!   is read up to one byte more than the longest module has, by which a longer one is known.
 //! - `check_bytes` answers 0 only where the bytes spell an accepted module and `accepted` was
 //!   written. It answers 3 only where they spell none, and its other statuses are 5 and 7. That 5
 //!   comes only for lack of memory no clause can say, since the host's room is in no contract.
