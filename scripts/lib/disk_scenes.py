@@ -16,9 +16,12 @@ from lib.guest_runs import ECHO, printed, request_lines
 from lib.small_modules import EXITS, TRAPS
 from lib.disk_steps import (
     ANYTHING, ANY_TEXTS, Bytes, Command, EXISTS, FOLDER, FRESH, LEAST, Locked, MISSING, NoFile,
-    PAGES, SMALL, SameFacts, TOO_LARGE, counted, created, disk_of, field, filled, inspected,
-    listed, mistaken, of_length, refused, refuses, runs, sector, shows, unopened, written,
-    written_out)
+    PAGES, SMALL, SameFacts, TOO_LARGE, TOO_LONG, busy, counted, created, disk_of, field, filled,
+    inspected, listed, mistaken, of_length, refused, refuses, runs, sector, shows, too_late,
+    unopened, written, written_out)
+
+# What is told of the first entry of an environment, where it has no name.
+UNNAMED = "entry 1 of --env isn't NAME=VALUE\n"
 
 CREATION = [
     ("a worker is created once, and shown", [
@@ -43,7 +46,7 @@ CREATION = [
     ("no file is made where a creation is refused", [
         step for words, fault, why in [
             ("/dev/null", "B1 Malformed", ""),
-            ("two_pages.wasm --pages 1", "L6 TooManyPages", ""),
+            ("two_pages.wasm --pages 1", "L6 TooManyPages", "begins with 2 pages: --pages 2\n"),
             ("echo.wasm --pages 0", "C1 Range", PAGES),
             ("echo.wasm --pages 257", "C1 Range", PAGES),
             ("echo.wasm --pages 18446744073709551615", "C1 Range", PAGES),
@@ -52,11 +55,11 @@ CREATION = [
             ("echo.wasm --journal 63", "C1 Range", "--journal is from 64 to 65536\n"),
             ("echo.wasm --journal 65537", "C1 Range", "--journal is from 64 to 65536\n"),
             ("echo.wasm --files 0 --pages 0", "C1 Range", PAGES),
-            ("echo.wasm --env a", "C2 Text", ""),
-            ("echo.wasm --env =b", "C2 Text", ""),
+            ("echo.wasm --env a", "C2 Text", UNNAMED),
+            ("echo.wasm --env =b", "C2 Text", UNNAMED),
             # The configuration comes before the module.
             ("/dev/null --pages 0", "C1 Range", PAGES),
-            ("/dev/null --env a", "C2 Text", ""),
+            ("/dev/null --env a", "C2 Text", UNNAMED),
         ] for step in (refuses(f"create disk {words}", fault, why=why), NoFile())]),
     ("no file is made for a module that can't be read", [
         step for words, path, cause in [
@@ -158,7 +161,7 @@ LIVES = [
         created(), runs(b"1 e\n", "", "exited 0\n"), shows(counted(3, 11, 1, 0, 0))]),
     ("a refused line leaves what was kept, and the next run tells it again", [
         created(),
-        runs(b"1 r hello\n3 r b\n", "1 o hello\n", refused(2, "3, wanted 2"), status=6),
+        runs(b"1 r hello\n3 r b\n", "1 o hello\n", too_late(2, 3, 2), status=6),
         Bytes(disk_of((2, None), kept=[(2, 1, record(6, REQUEST, b"hello"))])),
         shows(counted(2, 0, 0, 0, 1)),
         runs(b"1 r hello\n2 r b\n", "1 o hello\n2 o b\n"), shows(counted(4, 49, 2, 2, 0))]),
@@ -200,7 +203,8 @@ def line_scene(given, out, err, status=6):
     return f"request lines {given[:40]!r}", [created(), runs(given, out, err, status=status)]
 
 
-REFUSED, SECOND = refused(1), refused(2)
+REFUSED, SECOND, LONG = refused(1), refused(2), refused(1, TOO_LONG)
+LONGER = refused(1, "longer than version 2 takes, 65536 bytes of text\n")
 LINES = [
     line_scene(given, out, err)
     for given, out, err in [
@@ -210,15 +214,16 @@ LINES = [
         (b"+1 r a\n", "", REFUSED), (b"-1 r a\n", "", REFUSED), (b"0 r a\n", "", REFUSED),
         (b"1\tr a\n", "", REFUSED), (b"1 R a\n", "", REFUSED), (b"1 e\r\n", "", REFUSED),
         (b"9223372036854775808 r a\n", "", REFUSED), (TOO_LARGE.encode() + b" e\n", "", REFUSED),
-        (b"9223372036854775807 r a\n", "", refused(1, "9223372036854775807, wanted 1")),
-        (b"2 e\n", "", refused(1, "2, wanted 1")),
+        (b"9223372036854775807 r a\n", "", too_late(1, 9223372036854775807, 1)),
+        (b"2 e\n", "", too_late(1, 2, 1)),
         (b"1 r a\nb\n", "1 o a\n", SECOND), (b"1 r a\n1 r\n", "1 o a\n", SECOND),
-        (b"1 r a\n3 r b\n", "1 o a\n", refused(2, "3, wanted 2")),
+        (b"1 r a\n3 r b\n", "1 o a\n", too_late(2, 3, 2)),
         (b"1 r a\n0 r b\n", "1 o a\n", SECOND),
-        (b"1 r " + b"x" * 4_097 + b"\n", "", REFUSED),
-        (b"1 r a\n1 r " + b"x" * 4_097 + b"\n", "1 o a\n", SECOND),
+        (b"1 r " + b"x" * 4_097 + b"\n", "", LONG),
+        (b"1 r a\n1 r " + b"x" * 4_097 + b"\n", "1 o a\n", refused(2, TOO_LONG)),
+        (b"0 r " + b"x" * 4_097 + b"\n", "", REFUSED), (b"0 r " + b"x" * 5_000, "", LONG),
         # A line that comes in several pieces is one line.
-        (b"1 r " + b"x" * 9_000, "", REFUSED),
+        (b"1 r " + b"x" * 9_000, "", LONG),
         (b"1 r a\n" * 9_000 + b"b\n", "1 o a\n", refused(9_001)),
         (b"1 r a\n" * 3 + b"\n2 r b\n", "1 o a\n", refused(4))]
 ] + [
@@ -488,11 +493,11 @@ RECORDS += [
 
 HOSTS = [
     ("a second host on a disk", [
-        created(), Locked(refuses("show disk", "K5 Busy", 4)),
-        Locked(refuses("run disk", "K5 Busy", 4, b"1 r a\n")),
+        created(), Locked(busy("show disk")),
+        Locked(busy("run disk", b"1 r a\n")),
         Locked(unopened("create disk echo.wasm", "disk", EXISTS)),
         # The lock comes before anything is read.
-        written(sector(0, b"e")), Locked(refuses("show disk", "K5 Busy", 4)),
+        written(sector(0, b"e")), Locked(busy("show disk")),
         written(sector(0, b"D")), runs(b"1 r a\n", "1 o a\n")]),
 ]
 
@@ -585,8 +590,8 @@ LOOKS = [
     ("the facts of the disks that docs/FORMATS.md has in hex", [
         created(), inspected("nothing"), SameFacts(), listed(),
         runs(b"1 r hello\n", "1 o hello\n"), inspected("request"), SameFacts(),
-        Locked(refuses("inspect disk", "K5 Busy", 4)),
-        Locked(refuses("files disk", "K5 Busy", 4))]),
+        Locked(busy("inspect disk")),
+        Locked(busy("files disk"))]),
     ("texts and records are facts", [
         created("echo.wasm", "--env", "NAME=Ada", "--", 'r"e\\d', "", "ü"), inspected("nothing"),
         SameFacts(),
@@ -614,11 +619,14 @@ LOOKS = [
         Command(["run", "disk"], 0, ANYTHING, ANYTHING, b"1 r add milk\n2 r add bread\n",
                 changes=True),
         inspected("request"), SameFacts(), listed(), written_out("notes"),
+        written_out("/notes", "notes"), refuses("files disk //notes", "F1 Missing"),
         refuses("files disk missing", "F1 Missing"), refuses("files disk notes/a", "F1 Missing"),
+        refuses("files disk /notes/", "F1 Missing"), refuses("files disk /", "F1 Missing"),
         Command(["files", "disk", ""], 3, "", "failed F1 Missing\n")]),
     ("a folder is listed, and has no bytes", [
         created(), written(*other_image(echo_image([b"a"]).replace(NO_FILES, ONE_FOLDER))),
-        inspected("request"), SameFacts(), listed(), refuses("files disk notes", "F2 Directory")]),
+        inspected("request"), SameFacts(), listed(), refuses("files disk notes", "F2 Directory"),
+        refuses("files disk /notes", "F2 Directory")]),
     ("a disk that is refused", [
         filled(b""), refuses("inspect disk", "Y1 NotAWorker"),
         refuses("files disk", "Y1 NotAWorker"),
@@ -695,8 +703,8 @@ UPGRADES = [
         Command(["upgrade", "disk"], 3, "", "failed N7 JournalTooSmall\n", changes=True),
         shows(counted(4, 27, 1, 1, 0)), runs(b"1 r a\n2 r b\n", "2 o b\n")]),
     ("requests have up to 65,536 bytes after an upgrade", [
-        with_journal(), runs(b"1 r " + b"x" * 4_097, "", REFUSED, status=6),
-        upgrades("upgraded\n"), runs(b"1 r " + b"x" * 65_537, "", REFUSED, status=6),
+        with_journal(), runs(b"1 r " + b"x" * 4_097, "", LONG, status=6),
+        upgrades("upgraded\n"), runs(b"1 r " + b"x" * 65_537, "", LONGER, status=6),
         runs(b"1 r " + b"x" * 65_536, lines_of(65_536)), inspected("request")]),
     ("a head of version 2 and an image of version 1", [
         with_journal(), written(field(2, form.HEAD_VERSION, TWO)),
@@ -705,7 +713,7 @@ UPGRADES = [
         written(field(2, form.IMAGE_LENGTH, 65_810)), refuses("show disk", "S2 Damaged")]),
     ("a disk that can't be upgraded is refused as by `run`", [
         created(), written(sector(0, b"e")), refuses("upgrade disk", "Y1 NotAWorker"),
-        written(sector(0, b"D")), Locked(refuses("upgrade disk", "K5 Busy", 4)),
+        written(sector(0, b"D")), Locked(busy("upgrade disk")),
         unopened("upgrade missing", "missing", MISSING),
         mistaken("upgrade"), mistaken("upgrade", "disk", "a")]),
 ]

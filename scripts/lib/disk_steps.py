@@ -91,9 +91,9 @@ def listed():
     return Looked(["files", "disk"], facts.listing)
 
 
-def written_out(path):
-    """One file of the worker."""
-    return Looked(["files", "disk", path], lambda disk: facts.file_at(disk, path))
+def written_out(path, listed=None):
+    """One file of the worker, under its path or as it is listed."""
+    return Looked(["files", "disk", path], lambda disk: facts.file_at(disk, listed or path))
 
 
 def created(module="echo.wasm", *words, total=SMALL.total, least=True):
@@ -122,9 +122,24 @@ def unopened(command, path, cause):
     return refuses(command, "K2 Io", 4, b"1 r a\n", f"{path}: {cause}\n")
 
 
-def refused(line, what="line"):
-    """What is printed for a line of the input that is refused."""
-    return f"refused request {what}\nat input line {line}\n"
+def busy(command, given=b""):
+    """A command on the disk while another program has it."""
+    return refuses(command, "K5 Busy", 4, given, "disk: another host is using this disk\n")
+
+
+# What is wrong with a line that is no request, and with one that is too long for version 1.
+NO_REQUEST = "a request is N r TEXT or N e, with N from 1 on\n"
+TOO_LONG = "longer than version 1 takes, 4096 bytes of text: wasmhost upgrade\n"
+
+
+def refused(line, why=NO_REQUEST):
+    """What is printed for a line of the input that is refused for its form or its length."""
+    return f"refused request line\nat input line {line}\n{why}"
+
+
+def too_late(line, given, wanted):
+    """What is printed for a line of the input with a later request than the wanted one."""
+    return f"refused request {given}, wanted {wanted}\nat input line {line}\n"
 
 
 def mistaken(*words):

@@ -55,7 +55,8 @@ def called(place, kind):
     return wasm.i32(place) + wasm.CALL_INDIRECT + wasm.unsigned(kind) + b"\x00"
 
 
-# Modules with what `check` says of them: the fault, and its place if it has one.
+# Modules with what `check` says of them: the fault, its place if it has one, and the second line,
+# where there is one.
 REFUSED = [
     (b"", "B1 Malformed", 0),
     # More types than the bytes of their section.
@@ -77,12 +78,15 @@ REFUSED = [
     (small(exports=[MEMORY]), "L1 NoStart", None),
     (small(types=[TAKES_ONE]), "L1 NoStart", None),
     (small(exports=[START]), "L2 NoMemory", None),
-    (imports(b"sock_accept"), "L3 UnknownImport", None),
-    (imports(b"fd_close"), "L4 ImportType", None),
+    (imports(b"sock_accept"), "L3 UnknownImport", None,
+     "import wasi_snapshot_preview1.sock_accept isn't one of the 31 calls\n"),
+    (imports(b"fd_close"), "L4 ImportType", None,
+     "import wasi_snapshot_preview1.fd_close has another type than this call\n"),
     (small(data=[behind(65_536) + wasm.sized(b"a")]), "L5 InitRange", None),
     (calls_from_table(b"", elements=[behind(1) + wasm.vector([wasm.unsigned(0)])]),
      "L5 InitRange", None),
-    (small(memories=pages(257)), "L6 TooManyPages", None),
+    (small(memories=pages(257)), "L6 TooManyPages", None,
+     "begins with 257 pages, and a worker has at most 256\n"),
 ]
 
 # Modules with instructions of edition 2.0 that exit with 0, and after how many steps.

@@ -12,7 +12,7 @@ import stat
 import subprocess
 import time
 
-from lib.disk_steps import LEAST, refused
+from lib.disk_steps import LEAST, refused, too_late
 from lib.guest_runs import ECHO, SECONDS, ended, scratch
 
 DISK, FILE = "worker.disk", "standing"
@@ -243,7 +243,7 @@ ENDS = [
           line(3, 11, 1, 0, "exited 0")),
     # A run that fails leaves the line before: that of the recovery.
     Taken("a refused line", {}, b"1 r a\n3 e\n",
-          (6, b"1 o a\n", refused(2, "3, wanted 2").encode()), line(2, 0, 0, 0)),
+          (6, b"1 o a\n", too_late(2, 3, 2).encode()), line(2, 0, 0, 0)),
     Taken("a refused line over an old file", {FILE: filled(line(words="parked"))}, b"no\n",
           (6, b"", refused(1).encode()), line(2, 0, 0, 0)),
     # One that is never recovered leaves what was there.
@@ -390,7 +390,8 @@ def order_fault(program):
         after = all_seen(folder, DISK)
     before.pop(DISK)
     wanted = [(2, b"error: a seed is 64 hexadecimal digits\n"),
-              (4, f"failed K2 Io\ngone: {MISSING}\n".encode()), (4, b"failed K5 Busy\n"),
+              (4, f"failed K2 Io\ngone: {MISSING}\n".encode()),
+              (4, f"failed K5 Busy\n{DISK}: another host is using this disk\n".encode()),
               (4, f"failed K2 Io\n{FILE}: {OTHER_BYTES}\n".encode())]
     if found != wanted or after != before:
         return f"status file, order of faults: {found}, {changed(before, after)}"

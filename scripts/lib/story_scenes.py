@@ -150,13 +150,15 @@ TOLD = [f"{number} o b\n" for number in range(1, 57)]
 SAVED = recovered(2, 3, (1_237, 56, 56), echo_image([b"b"] * 56))
 REPLAYED = behind(2, 2, [b"b"] * 55, b"b") + "".join(TOLD[:55])
 
+TWO_PAGES = "L6 TooManyPages\nbegins with 2 pages: --pages 2"
+
 SIZES = [
     Story(MANY, out=CREATED + "".join(TOLD) + SAVED),
     Story(MANY, words=("--journal", "64"), out=CREATED + "".join(TOLD) + SAVED),
     Story(MANY, words=("--journal", "65"), out=CREATED + "".join(TOLD) + REPLAYED),
     # A page is no unit of files, and has another range.
-    refused("life\n", "L6 TooManyPages", "two_pages.wasm"),
-    refused("life\n", "L6 TooManyPages", "two_pages.wasm", ["--files", "2"]),
+    refused("life\n", TWO_PAGES, "two_pages.wasm"),
+    refused("life\n", TWO_PAGES, "two_pages.wasm", ["--files", "2"]),
     Story("life\n", "two_pages.wasm", ("--pages", "2"), out=CREATED),
     Story("life\n", words=("--pages", "65", "--files", "1"), out=CREATED),
     Story("life\n", words=("--pages", "1", "--files", "64"), out=CREATED),

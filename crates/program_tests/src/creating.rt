@@ -74,7 +74,11 @@ static REFUSED: [Refused; 9] = [
         "a=b",
         "failed C1 Range\n--journal is from 64 to 65536\n",
     ),
-    ((&ECHO, [1, 1, 64]), "=b", "failed C2 Text\n"),
+    (
+        (&ECHO, [1, 1, 64]),
+        "=b",
+        "failed C2 Text\nentry 1 of --env isn't NAME=VALUE\n",
+    ),
     ((&[], [0, 1, 64]), "a=b", PAGES),
 ];
 
@@ -83,7 +87,10 @@ fn is_refused_so(alloc: Global, row: &Refused) -> Result<bool, Fail> {
     let mut err = Vec::new(alloc);
     let status = match prepare(alloc, wasm.as_slice(), sizes_of(row.0.1), &[], &[row.1]) {
         Ok(_prepared) => 0,
-        Err(fault) => report_unprepared(&mut Printer::new(&mut err, false), fault),
+        Err(fault) => {
+            let err = &mut Printer::new(&mut err, false);
+            report_unprepared(alloc, wasm.as_slice(), fault, err)
+        }
     };
     Ok(status == 3 && err.as_slice() == row.2.as_bytes())
 }

@@ -25,7 +25,7 @@ measured_in_vain : (config : Settings) (bytes : List ℕ) (measured : Result ℕ
     → IfErr (prepared_with config measured) (IsUnprepared config bytes)
 measured_in_vain config bytes (Ok sectors) within is = tt
 measured_in_vain config bytes (Err (unprepared.Range bound)) within is = absurd is
-measured_in_vain config bytes (Err unprepared.Text) within is = absurd is
+measured_in_vain config bytes (Err (unprepared.Text unnamed)) within is = absurd is
 measured_in_vain config bytes (Err (unprepared.Module why)) within is = (within, is)
 measured_in_vain config bytes (Err unprepared.Memory) within is = tt
 

@@ -6,7 +6,7 @@ use Rattle.std.specs.declared.io.ErrorKind.{ErrorKind}
 use Rattle.std.specs.declared.io.ErrorKind.TheVariants.{OutOfMemory}
 use Rattle.sector_disk.specs.rules.Open.{open_cause}
 use Rattle.sector_disk.specs.declared.open_fault.OpenFault.{OpenFault}
-use Rattle.sector_disk.specs.declared.open_fault.OpenFault.TheVariants.{Io}
+use Rattle.sector_disk.specs.declared.open_fault.OpenFault.TheVariants.{Busy, Io}
 use Rattle.wasi_abi.specs.rules.Answers.{newline}
 use Rattle.wasmhost_commands.specs.rules.Openings.{SaysUnread, open_words}
 use Rattle.wasmhost_commands.specs.rules.Printers.{PrinterState, SaysText}
@@ -36,3 +36,15 @@ cause_said path words told old new is bytes steady =
     let text = spelled_so path words
     ∙ ap (λ w. path ++ codes ": " ++ w ++ newline ∷ []) is in
     inl (refl, (subst (λ t. Appends old.contents new.contents (whole t)) text bytes, steady))
+
+-- a disk that another host has, as it is written
+pub busy_said : (path : List ℕ) (old new : PrinterState)
+    → Appends old.contents new.contents
+    (codes "failed K5 Busy\n" ++ (path ++ codes ": another host is using this disk\n"))
+    → new.failed ≡ old.failed → SaysLine (open_words path Busy) 4 old 4 new
+busy_said path old new bytes steady =
+    let text : codes "failed K5 Busy\n" ++ (path ++ codes ": another host is using this disk\n")
+    ≡ open_words path Busy ++ newline ∷ [] =
+    ap (λ t. codes "failed K5 Busy\n" ++ t)
+    (sym (append_assoc path (codes ": another host is using this disk") (newline ∷ []))) in
+    inl (refl, (subst (λ t. Appends old.contents new.contents t) text bytes, steady))

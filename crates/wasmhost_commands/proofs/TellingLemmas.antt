@@ -96,8 +96,8 @@ module _ (script wasm : List ℕ) (sizes : Sizes) (out out' err err' : PrinterSt
       → Says (status_unprepared why)
   by_why lives spelled (unprepared.Range bound) is stays heeds =
       says_three lives spelled (unprepared.Range bound) is refl stays heeds
-  by_why lives spelled unprepared.Text is stays heeds =
-      says_three lives spelled unprepared.Text is refl stays heeds
+  by_why lives spelled (unprepared.Text unnamed) is stays heeds =
+      says_three lives spelled (unprepared.Text unnamed) is refl stays heeds
   by_why lives spelled (unprepared.Module fault) is stays heeds =
       says_three lives spelled (unprepared.Module fault) is refl stays heeds
   by_why lives spelled unprepared.Memory is stays heeds = says_five stays heeds

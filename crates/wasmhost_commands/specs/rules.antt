@@ -33,6 +33,9 @@ pub mod SweepTexts
 pub mod Sweeps
 pub mod StatusFiles
 pub mod Watchings
+pub mod Verdicts
+pub mod Entries
+pub mod Flaws
 pub mod InspectionTexts
 pub mod InspectionValues
 pub mod Inspectings

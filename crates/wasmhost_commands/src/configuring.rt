@@ -5,6 +5,7 @@ ghost use Rattle.wasmhost_commands.specs.rules.Creations.{IsMisconfigured, confi
 ghost use Rattle.wasmhost_commands.specs.rules.Texts.{texts_in};
 
 use crate::bounds::{Bound, bound_of};
+use crate::entries::unnamed_entry;
 use std::alloc::{AllocError, Global};
 use wasi_abi::Config;
 use wasm_syntax::ItemList;
@@ -34,8 +35,9 @@ pub struct Sizes {
 pub(crate) enum Unconfigured {
     /// A number, a count or a length is out of its bounds.
     Range(Bound),
-    /// A text has a zero byte, or an entry of the environment has no name.
-    Text,
+    /// A text has a zero byte, or an entry of the environment has no name: the first such one has
+    /// this number, from 1 on.
+    Text(Option<usize>),
     Memory,
 }
 
@@ -92,8 +94,9 @@ pub(crate) fn configure(
     if let Some(bound) = bound_of(sizes, arguments.as_slice(), entries.as_slice()) {
         return Err(Unconfigured::Range(bound));
     }
+    let unnamed = unnamed_entry(entries.as_slice());
     match Config::new(sizes.pages, sizes.files, sizes.journal, arguments, entries) {
         Ok(config) => Ok(config),
-        Err(_) => Err(Unconfigured::Text),
+        Err(_) => Err(Unconfigured::Text(unnamed)),
     }
 }

@@ -3,9 +3,11 @@
 //!
 //! # Promises
 //!
-//! - `check_bytes`: status 0 says that the bytes spell an accepted module (`accepted`), and that
-//!   `accepted` was printed (`printed`). 3 says that they spell none (`refused`). All others are 5
-//!   and 7 (`known`), and 7 comes just where a write has failed (`heeded`).
+//! - `check_bytes`: status 0 says that the bytes spell a module that is accepted with so many pages
+//!   (`accepted`), and that `accepted` was printed (`printed`). 3 says that they spell none
+//!   (`refused`), and what else is known of it is told last (`more`). All others are 5 and 7
+//!   (`known`), and 7 comes just where a write has failed (`heeded`). `check_module` is that of as
+//!   many pages as a worker may have, and tells their bounds of others (`ChecksModule`).
 //! - `Printer`: what the program says goes through one. It keeps whether a write has failed, and no
 //!   other code can make that true. So each status 7 below comes with a failed write (`IsSaid`,
 //!   `SaysText`, `HeedsBoth`).
@@ -17,8 +19,9 @@
 //!   the disk, at its start. `created N sectors` was printed then. What the other statuses say is
 //!   said too, and what a cut at any moment leaves (`creates`). Where the output can't be written,
 //!   that is told on the error output. `report_unprepared` answers the
-//!   status of what it tells, or 7. It tells the bounds of what is out of them (`range`), and the
-//!   limit that a module passes, with its place (`limit`).
+//!   status of what it tells, or 7. It tells the bounds of what is out of them (`range`), which
+//!   entry of an environment has no name (`entry`), the limit that a module passes, with its place
+//!   (`limit`), and what else is known of it (`more`).
 //! - `create_file` is `create_on` of a disk whose file it makes. Where the status isn't 0 that file
 //!   is removed again, and no other one is (`CreatesFile`). `create_device` is `create_on` of a
 //!   block device that is there (`CreatesOnDevice`). `create_disk` does what the words of a
@@ -81,8 +84,8 @@
 //!   bytes (`spelled`, `found`).
 //!   `trap_name`: how last words call a trap.
 //! - `read_seed`, `seeded`: which texts are seeds, and which bytes a seed gives (`seeded_bytes`).
-//! - `report_input`: after a run, at which line of its input a refused one is, and how many
-//!   requests were read ahead that nobody took (`SaysOfInput`).
+//! - `report_input`: after a run, at which line of its input a refused one is, what is wrong with it
+//!   (`IsFlawIn`), and how many requests were read ahead that nobody took (`SaysOfInput`).
 //! - `LineReader` is what request lines are read from. `BufferedLines` is one over any `BufRead`.
 //! - `LineOutlet` prints each line that it takes, with its number and the letter of its stream. It
 //!   refuses one only where a write of it has failed, and has then printed at most a prefix of it
@@ -111,7 +114,7 @@
 //!   script spells, and which one is swept (`AreSweptLives`). `fronts_of`: the fronts that a text
 //!   spells.
 //! - `laws::faultless_words_mean`, `laws::worked_examples`: words without a fault mean an order,
-//!   with numbers in their ranges; ninety-four command lines. What `--version` is told of the
+//!   with numbers in their ranges; ninety-five command lines. What `--version` is told of the
 //!   program is `version_words` (`HasVersion`).
 //!
 //! # Definitions to read
@@ -124,7 +127,8 @@
 //! `wasmhost`, `version_words` (`CommandLine.antt`);
 //! `meaning_in`, `IsReading`, `IsStatusOf` (`Commands.antt`);
 //! `IsOutOfBounds`, `range_words` (`Bounds.antt`); `limit_text` (`ModuleLimits.antt`);
-//! `SaysOfInput` (`Leavings.antt`);
+//! `IsUnnamedEntry`, `entry_text` (`Entries.antt`); `TellsMore`, `ChecksModule` (`Verdicts.antt`);
+//! `SaysOfInput` (`Leavings.antt`); `IsFlawIn`, `flaw_words` (`Flaws.antt`);
 //! `ShowsDisk`, `ShowsSurvey`, `survey_line` (`Showings.antt`); `open_words`, `IsOpenedFor`,
 //! `ShowsFile` (`Openings.antt`); `watch_line`, `IsStatusLine`, `WatchesEnd` (`Watchings.antt`);
 //! `IsFreePath`, `IsStatusFile`, `SaysUnwatched` (`StatusFiles.antt`);
@@ -202,8 +206,8 @@
 //!   `--`.
 //! - **The seed is a text to `clap`**, and is read by `read_seed`, whose contract says of which
 //!   texts. A wrong one is answered before any file is opened.
-//! - `check` is the front end and a line of text: the page limit is 256 there. A module file is
-//!   read up to one byte more than the longest module has, by which a longer one is known.
+//! - `check` is the front end and a line of text. By default the page limit is 256. A module file
+//!   is read up to one byte more than the longest module has, by which a longer one is known.
 //! - `check_bytes` answers 0 only where the bytes spell an accepted module and `accepted` was
 //!   written. It answers 3 only where they spell none, and its other statuses are 5 and 7. That 5
 //!   comes only for lack of memory no clause can say, since the host's room is in no contract.
@@ -245,8 +249,7 @@
 //!   `failed` with code and name, or `refused request ..`, and scripts match it. The second is for
 //!   a person. `K2 Io` of a path prints the path and the cause, by a total function of the error's
 //!   kind (`open_cause`, `cause_words`). The words are those of the C library, so that they can be
-//!   looked up. `failed K5 Busy` is alone, and so does `K2 Io` of a disk that fails once it is
-//!   open: `DiskFault` has no cause.
+//!   looked up. `K2 Io` of a disk that fails once it is open is alone: `DiskFault` has no cause.
 //! - **`C1 Range` prints its bounds.** `configure` looks for what is out of them before it asks
 //!   `Config::new`, which answers only that something is. That both have the same bounds is proved.
 //! - **A refused line's number is counted by the reader of lines**, and printed after the run. That
@@ -265,6 +268,7 @@
 mod bounds;
 mod check;
 mod configuring;
+mod entries;
 mod inspecting;
 pub mod laws;
 mod lines;
@@ -278,10 +282,11 @@ pub mod status;
 mod stories;
 mod sweeping;
 mod telling;
+mod verdicts;
 mod words;
 
 pub use bounds::Bound;
-pub use check::check_bytes;
+pub use check::{check_bytes, check_module};
 pub use configuring::Sizes;
 pub use inspecting::{inspect_disk, list_files};
 pub use lines::{

@@ -1,6 +1,7 @@
 //! What a creation needs, looked at before its disk is made.
 
-ghost use Rattle.std.specs.Prelude.{◌≡◌, ◌<◌, ◌≤◌, ◌^◌, IfErr, IfOk, OnOk, Some, codes, length};
+ghost use Rattle.std.specs.Prelude.{◌≡◌, ◌<◌, ◌≤◌, ◌^◌, IfErr, IfOk, OnErr, OnOk, Some, codes};
+ghost use Rattle.std.specs.Prelude.{length, true, ℕ};
 ghost use Rattle.wasi_abi.specs.rules.Configs.{AreSettingsWithinLimits};
 ghost use Rattle.machine_loader.specs.rules.Acceptance.{HasAcceptedModule, passed_in};
 ghost use Rattle.wasm_decode.specs.declared.items.limit.PassedLimit.{PassedLimit};
@@ -10,10 +11,13 @@ ghost use Rattle.wasmhost_commands.specs.rules.Creations.{IsUnprepared, config_a
 ghost use Rattle.wasmhost_commands.specs.rules.Creations.{disk_sectors, passed_by};
 ghost use Rattle.wasmhost_commands.specs.rules.Creations.{status_unprepared};
 ghost use Rattle.wasmhost_commands.specs.rules.Bounds.{range_words};
+ghost use Rattle.wasmhost_commands.specs.rules.Entries.{entry_text};
 ghost use Rattle.wasmhost_commands.specs.rules.ModuleLimits.{limit_text};
 ghost use Rattle.wasmhost_commands.specs.rules.Printers.{IsSaid, SaysText};
 ghost use Rattle.wasmhost_commands.specs.rules.Reports.{SaysLine};
+ghost use Rattle.wasmhost_commands.specs.rules.Verdicts.{EndsWithMore, SaysMore};
 ghost use Rattle.wasmhost_commands.specs.declared.bounds.Bound.{Bound};
+ghost use Rattle.machine_loader.specs.declared.fault.ModuleFault.{ModuleFault};
 
 use crate::bounds::{Bound, words_of_range};
 use crate::configuring::{Sizes, Unconfigured, configure};
@@ -21,10 +25,11 @@ use crate::module_limits::print_limit;
 use crate::printer::Printer;
 use crate::status::{NO_MEMORY, REFUSED, UNWRITTEN};
 use crate::telling::say_line;
+use crate::verdicts::print_more;
 use disk_layout::Geometry;
 use machine_loader::{ModuleFault, accept};
 use std::alloc::Global;
-use std::io::Write;
+use std::io::{self, Write};
 use thiserror::Error;
 use wasi_abi::Config;
 use wasm_decode::PassedLimit;
@@ -44,9 +49,10 @@ pub enum Unprepared {
     /// A number, a count or a length of the configuration is out of its bounds.
     #[error("failed C1 Range")]
     Range(Bound),
-    /// A text of it has a zero byte, or an entry of its environment has no name.
+    /// A text of it has a zero byte, or an entry of its environment has no name: the first such one
+    /// has this number, from 1 on.
     #[error("failed C2 Text")]
-    Text,
+    Text(Option<usize>),
     /// The module isn't accepted.
     #[error("failed {0}")]
     Module(ModuleFault),
@@ -60,7 +66,7 @@ impl Unprepared {
         ensures { result ≡ status_unprepared self }
     {
         match self {
-            Unprepared::Range(_) | Unprepared::Text | Unprepared::Module(_) => REFUSED,
+            Unprepared::Range(_) | Unprepared::Text(_) | Unprepared::Module(_) => REFUSED,
             Unprepared::Memory => NO_MEMORY,
         }
     }
@@ -129,7 +135,7 @@ pub fn prepare(
     let config = match configure(alloc, sizes, arguments, environment) {
         Ok(config) => config,
         Err(Unconfigured::Range(bound)) => return Err(Unprepared::Range(bound)),
-        Err(Unconfigured::Text) => return Err(Unprepared::Text),
+        Err(Unconfigured::Text(unnamed)) => return Err(Unprepared::Text(unnamed)),
         Err(Unconfigured::Memory) => return Err(Unprepared::Memory),
     };
     let measured = measure(alloc, wasm, &config);
@@ -160,33 +166,84 @@ fn say_limit<E: Write + Drop>(err: &mut Printer<E>, passed: PassedLimit) -> u8
     }
 }
 
-/// Prints why a module isn't accepted. A limit that it passes is told on a second line. Answers the
-/// exit status, or 7 where a write has failed.
-fn say_refusal<E: Write + Drop>(err: &mut Printer<E>, why: ModuleFault) -> u8
-    ensures limit { (passed : PassedLimit) → passed_in why ≡ Some passed
-        → SaysText (limit_text (codes "failed") passed) 3 err.old result err.new }
-    ensures status { IsSaid 3 err.old result err.new }
+/// Prints that an entry of the environment has no name, and answers the exit status, or 7 where a
+/// write has failed.
+fn say_unnamed<E: Write + Drop>(err: &mut Printer<E>, entry: usize) -> u8
+    ensures said { SaysText (entry_text entry) 3 err.old result err.new }
     ensures known { result ≤ 7 }
 {
-    match why.passed_limit() {
-        Some(passed) => say_limit(err, passed),
-        None => say_fault(err, Unprepared::Module(why)),
+    match writeln!(
+        err,
+        "failed C2 Text\nentry {entry} of --env isn't NAME=VALUE"
+    ) {
+        Ok(()) => REFUSED,
+        Err(_) => UNWRITTEN,
     }
 }
 
-/// Prints why no worker is created. What is out of its bounds, and a limit that the module passes,
-/// is told on a second line. Answers the exit status, or 7 where a write has failed.
-pub fn report_unprepared<E: Write + Drop>(err: &mut Printer<E>, fault: Unprepared) -> u8
+/// Prints a fault of a module, and on a line of its own what else is known of it.
+fn print_refusal<E: Write + Drop>(
+    alloc: Global,
+    wasm: &[u8],
+    why: ModuleFault,
+    err: &mut Printer<E>,
+) -> io::Result<()>
+    ensures more { OnOk result (EndsWithMore wasm.now why err.new) }
+    ensures steady { OnOk result (err.new.failed ≡ err.old.failed) }
+    ensures failed { OnErr result (err.new.failed ≡ true) }
+{
+    writeln!(err, "failed {why}")?;
+    print_more(alloc, wasm, why, err)?;
+    err.flush()
+}
+
+/// Prints why a module isn't accepted. A limit that it passes is told on a second line, and so is
+/// what else is known of it. Answers the exit status, or 7 where a write has failed.
+fn say_refusal<E: Write + Drop>(
+    alloc: Global,
+    wasm: &[u8],
+    why: ModuleFault,
+    err: &mut Printer<E>,
+) -> u8
+    ensures limit { (passed : PassedLimit) → passed_in why ≡ Some passed
+        → SaysText (limit_text (codes "failed") passed) 3 err.old result err.new }
+    ensures more { SaysMore wasm.now why err.new }
+    ensures status { IsSaid 3 err.old result err.new }
+    ensures known { result ≤ 7 }
+{
+    if let Some(passed) = why.passed_limit() {
+        return say_limit(err, passed);
+    }
+    match print_refusal(alloc, wasm, why, err) {
+        Ok(()) => REFUSED,
+        Err(_) => UNWRITTEN,
+    }
+}
+
+/// Prints why no worker of the module that the bytes spell is created. What is out of its bounds,
+/// which entry has no name, and what is known of the module, is told on a second line. Answers the
+/// exit status, or 7 where a write has failed.
+pub fn report_unprepared<E: Write + Drop>(
+    alloc: Global,
+    wasm: &[u8],
+    fault: Unprepared,
+    err: &mut Printer<E>,
+) -> u8
     ensures range { (bound : Bound) → fault ≡ Unprepared.Range bound
         → SaysLine (range_words bound) 3 err.old result err.new }
+    ensures entry { (number : ℕ) → fault ≡ Unprepared.Text (Some number)
+        → SaysText (entry_text number) 3 err.old result err.new }
     ensures limit { (passed : PassedLimit) → passed_by fault ≡ Some passed
         → SaysText (limit_text (codes "failed") passed) 3 err.old result err.new }
+    ensures more { (why : ModuleFault) → fault ≡ Unprepared.Module why
+        → SaysMore wasm.now why err.new }
     ensures status { IsSaid (status_unprepared fault) err.old result err.new }
     ensures known { result ≤ 7 }
 {
     match fault {
         Unprepared::Range(bound) => say_line(err, REFUSED, words_of_range(bound)),
-        Unprepared::Module(why) => say_refusal(err, why),
+        Unprepared::Text(Some(entry)) => say_unnamed(err, entry),
+        Unprepared::Module(why) => say_refusal(alloc, wasm, why, err),
         other => say_fault(err, other),
     }
 }

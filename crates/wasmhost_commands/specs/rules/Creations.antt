@@ -1,6 +1,6 @@
 -- A worker that is created on a disk by a command (this project's own).
 use Rattle.std.specs.Prelude.{◌≡◌, ◌⊎◌, ⊤, ℕ, ◌<◌, false, List, ◌∷◌, ◌++◌, Option, codes}
-use Rattle.std.specs.Prelude.{None, Result, Ok, Err}
+use Rattle.std.specs.Prelude.{None, Result, Ok, Err, IfSome}
 use Rattle.std.specs.Fmt.{decimal}
 use Rattle.std.specs.Io.KnownBytes.{Appends}
 use Rattle.wasi_abi.specs.rules.Configs.{Settings, settings, AreSettingsWithinLimits, HasTexts}
@@ -24,6 +24,7 @@ use Rattle.wasmhost_commands.specs.declared.preparing.Unprepared.{Unprepared}
 use Rattle.wasmhost_commands.specs.declared.preparing.Unprepared.TheVariants as unprepared
 use Rattle.wasmhost_commands.specs.declared.telling.Obstacle.TheVariants.{Unwritten}
 use Rattle.wasmhost_commands.specs.rules.Bounds.{IsOutOfBounds}
+use Rattle.wasmhost_commands.specs.rules.Entries.{IsUnnamedEntry}
 use Rattle.wasmhost_commands.specs.rules.Printers.{PrinterState, HeedsBoth}
 use Rattle.wasmhost_commands.specs.rules.Reports.{SaysLine, obstacle_words}
 
@@ -38,10 +39,15 @@ config_as sizes arguments environment =
 abbrev pub IsMistexted : Settings → Type 0
 IsMistexted config = IsInRange config × (HasTexts config → ⊥)
 
+-- So it is, and the entry with this number has no name, if one is told.
+abbrev pub IsMistextedAt : Settings → Option ℕ → Type 0
+IsMistextedAt config unnamed =
+    IsMistexted config × IfSome unnamed (IsUnnamedEntry config.environment)
+
 -- Want of memory says nothing of the settings.
 abbrev pub IsMisconfigured : Settings → Unconfigured → Type 0
 IsMisconfigured config (unconfigured.Range bound) = IsOutOfBounds config bound
-IsMisconfigured config unconfigured.Text = IsMistexted config
+IsMisconfigured config (unconfigured.Text unnamed) = IsMistextedAt config unnamed
 IsMisconfigured config unconfigured.Memory = ⊤
 
 -- how many sectors the disk of a worker of these bytes needs
@@ -56,7 +62,7 @@ pub record IsMeasured (config : Settings) (bytes : List ℕ) (sectors : ℕ) : T
 -- The module isn't accepted, and this says why. Want of memory says nothing of it.
 abbrev pub IsUnaccepted : ℕ → List ℕ → Unprepared → Type 0
 IsUnaccepted pages bytes (unprepared.Range bound) = ⊥
-IsUnaccepted pages bytes unprepared.Text = ⊥
+IsUnaccepted pages bytes (unprepared.Text unnamed) = ⊥
 IsUnaccepted pages bytes (unprepared.Module why) =
     (is_want why ≡ false) × IsReported pages bytes why × HasNoAcceptedModule pages bytes
 IsUnaccepted pages bytes unprepared.Memory = ⊤
@@ -76,7 +82,7 @@ pub record IsPreparedAs (config : Settings) (bytes : List ℕ) (prepared : Prepa
 -- and the module isn't accepted.
 abbrev pub IsUnprepared : Settings → List ℕ → Unprepared → Type 0
 IsUnprepared config bytes (unprepared.Range bound) = IsOutOfBounds config bound
-IsUnprepared config bytes unprepared.Text = IsMistexted config
+IsUnprepared config bytes (unprepared.Text unnamed) = IsMistextedAt config unnamed
 IsUnprepared config bytes (unprepared.Module why) =
     AreSettingsWithinLimits config × IsUnaccepted config.pages bytes (unprepared.Module why)
 IsUnprepared config bytes unprepared.Memory = ⊤
@@ -85,13 +91,13 @@ IsUnprepared config bytes unprepared.Memory = ⊤
 abbrev pub passed_by : Unprepared → Option PassedLimit
 passed_by (unprepared.Module why) = passed_in why
 passed_by (unprepared.Range bound) = None
-passed_by unprepared.Text = None
+passed_by (unprepared.Text unnamed) = None
 passed_by unprepared.Memory = None
 
 -- the exit status, where that is printed
 abbrev pub status_unprepared : Unprepared → ℕ
 status_unprepared (unprepared.Range bound) = 3
-status_unprepared unprepared.Text = 3
+status_unprepared (unprepared.Text unnamed) = 3
 status_unprepared (unprepared.Module why) = 3
 status_unprepared unprepared.Memory = 5
 

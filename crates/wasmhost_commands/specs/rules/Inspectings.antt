@@ -1,6 +1,6 @@
 -- What `wasmhost inspect` and `wasmhost files` say of a disk (this project's own).
 use Rattle.std.specs.Prelude.{◌≡◌, ◌⊎◌, ℕ, ◌*◌, Bool, List, [], ◌∷◌, ◌++◌, length, codes}
-use Rattle.std.specs.Prelude.{Option, Some, None, Result, Ok, Err, Vec, if◌then◌else◌}
+use Rattle.std.specs.Prelude.{Option, Some, None, Result, Ok, Err, Vec, if◌then◌else◌, ◌==◌}
 use Rattle.std.specs.declared.alloc.Global.{Global}
 use Rattle.std.specs.Fmt.{decimal}
 use Rattle.std.specs.List.{flat_map}
@@ -101,6 +101,11 @@ node_line node = if node.is_directory then codes "d " ++ node.path ++ codes "\n"
 abbrev pub listing_text : Files → List ℕ
 listing_text fs = flat_map node_line (listing_in fs)
 
+-- a path without a `/` in front, as it is listed
+abbrev pub listed_path : List ℕ → List ℕ
+listed_path [] = []
+listed_path (byte ∷ path) = if byte == 47 then path else byte ∷ path
+
 -- ---- what is said
 
 -- The text is printed, and nothing on the error output. Or there is no memory for it: that is told
@@ -124,12 +129,12 @@ SaysFile (Ok bytes) out out' err err' status =
 SaysFile (Err why) out out' err err' status =
     IsSaid (status_of_path why) err status err' × (out' ≡ out)
 
--- all files are listed, or the one at this path is written
+-- all files are listed, or the one at this path is written, which may have a `/` in front
 abbrev pub SaysFiles : Files → Option (List ℕ) → PrinterState → PrinterState → PrinterState
     → PrinterState → ℕ → Type 0
 SaysFiles fs None out out' err err' status = SaysOrWants (listing_text fs) out out' err err' status
 SaysFiles fs (Some path) out out' err err' status =
-    (read : Result (Vec ℕ Global) PathFault) × ReadsPath fs path read
+    (read : Result (Vec ℕ Global) PathFault) × ReadsPath fs (listed_path path) read
     × SaysFile read out out' err err' status
 
 -- Of a fault of the disk the status is told on the error output, and nothing is printed.

@@ -1,5 +1,9 @@
 -- What a run says of its input after its last words (this project's own).
-use Rattle.std.specs.Prelude.{◌≡◌, ◌≢◌, ◌⊎◌, ℕ, ◌<◌, List, ◌++◌, codes}
+use Rattle.std.specs.Prelude.{◌≡◌, ◌≢◌, ◌⊎◌, ℕ, ◌<◌, List, ◌++◌, Option, codes}
+use Rattle.wasi_abi.specs.declared.version.Version.{Version}
+use Rattle.wasi_abi.specs.rules.Versions.{text_limit}
+use Rattle.wasmhost_commands.specs.declared.lines.flaw.LineFlaw.{LineFlaw}
+use Rattle.wasmhost_commands.specs.rules.Flaws.{flaw_line}
 use Rattle.wasmhost_commands.specs.rules.Later.{CountsLater}
 use Rattle.wasmhost_commands.specs.rules.Pieces.{lines_of}
 use Rattle.wasmhost_commands.specs.rules.Printers.{PrinterState, SaysText}
@@ -21,10 +25,13 @@ SaysUntaken limit taken ahead old answered new =
     × (((count ≡ 0) × (answered ≡ 0) × (new ≡ old))
     ⊎ ((0 < count) × SaysText (untaken_line count) 0 old answered new))
 
--- 6: a line was refused, and its number is told. 0: the worker is over or waits, and the requests
--- that are left are counted. Of another status nothing more is said.
-pub record SaysOfInput (limit taken : ℕ) (ahead : List ℕ) (line status : ℕ) (old : PrinterState)
-    (answered : ℕ) (new : PrinterState) : Type 0 where
-  pub refused : status ≡ 6 → SaysText (place_line line) 6 old answered new
-  pub over : status ≡ 0 → SaysUntaken limit taken ahead old answered new
+-- 6: a line was refused, and its number is told, and what is wrong with it, if something is. 0: the
+-- worker is over or waits, and the requests that are left are counted. Of another status nothing
+-- more is said.
+pub record SaysOfInput (version : Version) (taken : ℕ) (ahead : List ℕ) (line : ℕ)
+    (flaw : Option LineFlaw) (status : ℕ) (old : PrinterState) (answered : ℕ) (new : PrinterState)
+    : Type 0 where
+  pub refused : status ≡ 6
+      → SaysText (place_line line ++ flaw_line version flaw) 6 old answered new
+  pub over : status ≡ 0 → SaysUntaken (text_limit version) taken ahead old answered new
   pub others : status ≢ 6 → status ≢ 0 → (answered ≡ status) × (new ≡ old)

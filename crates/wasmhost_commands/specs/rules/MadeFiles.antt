@@ -7,18 +7,21 @@ use Rattle.sector_disk.specs.rules.File.{file_medium, file_of}
 use Rattle.sector_disk.specs.rules.Open.{IsUnmade}
 use Rattle.wasi_abi.specs.rules.Configs.{Settings}
 use Rattle.wasm_decode.specs.declared.items.limit.PassedLimit.{PassedLimit}
+use Rattle.machine_loader.specs.declared.fault.ModuleFault.{ModuleFault}
 use Rattle.wasmhost_commands.specs.declared.bounds.Bound.{Bound}
 use Rattle.wasmhost_commands.specs.declared.preparing.Prepared.{Prepared}
 use Rattle.wasmhost_commands.specs.declared.preparing.Unprepared.{Unprepared}
-use Rattle.wasmhost_commands.specs.declared.preparing.Unprepared.TheVariants.{Range}
+use Rattle.wasmhost_commands.specs.declared.preparing.Unprepared.TheVariants as unprepared
 use Rattle.wasmhost_commands.specs.rules.Bounds.{range_words}
 use Rattle.wasmhost_commands.specs.rules.Commands.{CreateMeaning}
 use Rattle.wasmhost_commands.specs.rules.Creations.{CreatesOn, IsPreparedAs, IsUnprepared}
 use Rattle.wasmhost_commands.specs.rules.Creations.{config_as, passed_by, status_unprepared}
+use Rattle.wasmhost_commands.specs.rules.Entries.{entry_text}
 use Rattle.wasmhost_commands.specs.rules.ModuleLimits.{limit_text}
 use Rattle.wasmhost_commands.specs.rules.Openings.{IsUntouched, open_words}
 use Rattle.wasmhost_commands.specs.rules.Printers.{PrinterState, IsSaid, SaysText}
 use Rattle.wasmhost_commands.specs.rules.Reports.{SaysLine}
+use Rattle.wasmhost_commands.specs.rules.Verdicts.{SaysMore}
 
 -- The disk was made, of as many sectors as are needed, and the worker is created on it. Where the
 -- status isn't 0, its file was removed again.
@@ -67,14 +70,18 @@ settings_said said = config_as
     (record { pages = said.pages; files = said.files; journal = said.journal })
     said.arguments said.environment
 
--- It is said why no worker is created: by the bounds of what is out of them, by a limit that the
--- module passes, or else by the status.
-pub record SaysUnprepared (why : Unprepared) (old : PrinterState) (answered : ℕ)
+-- It is said why no worker of these bytes is created: by the bounds of what is out of them, by
+-- the entry that has no name, by a limit that the module passes, by what else is known of it, or
+-- else by the status.
+pub record SaysUnprepared (bytes : List ℕ) (why : Unprepared) (old : PrinterState) (answered : ℕ)
     (new : PrinterState) : Type 0 where
-  pub range : (bound : Bound) → why ≡ Range bound
+  pub range : (bound : Bound) → why ≡ unprepared.Range bound
       → SaysLine (range_words bound) 3 old answered new
+  pub entry : (number : ℕ) → why ≡ unprepared.Text (Some number)
+      → SaysText (entry_text number) 3 old answered new
   pub limit : (passed : PassedLimit) → passed_by why ≡ Some passed
       → SaysText (limit_text (codes "failed") passed) 3 old answered new
+  pub more : (fault : ModuleFault) → why ≡ unprepared.Module fault → SaysMore bytes fault new
   pub status : IsSaid (status_unprepared why) old answered new
 
 module _ (F : Type 0) (is_device : F → Bool) (refused : ErrorKind → Bool) (made removed : Bool)
@@ -93,6 +100,6 @@ module _ (F : Type 0) (is_device : F → Bool) (refused : ErrorKind → Bool) (m
         → PrinterState → ℕ → Type 0
     CreatesDisk said bytes out out' err err' status =
         ((why : Unprepared) × IsUnprepared (settings_said said) bytes why
-        × SaysUnprepared why err status err' × (out' ≡ out))
+        × SaysUnprepared bytes why err status err' × (out' ≡ out))
         ⊎ ((prepared : Prepared) × IsPreparedAs (settings_said said) bytes prepared
         × MakesDisk said.on_device said.disk bytes prepared out out' err err' status)

@@ -33,9 +33,11 @@ cause_words cause.Loop = codes "too many levels of symbolic links"
 cause_words cause.NoDevice = codes "block device required"
 cause_words cause.Other = codes "the system failed"
 
--- the fault, and on a line of its own the path and what the operating system says of it
+-- The fault, and on a line of its own the path and what the operating system says of it, or that
+-- another host has it.
 abbrev pub open_words : List ℕ → OpenFault → List ℕ
-open_words path opening.Busy = codes "failed K5 Busy"
+open_words path opening.Busy =
+    codes "failed K5 Busy\n" ++ path ++ codes ": another host is using this disk"
 open_words path (opening.Io cause) =
     codes "failed K2 Io\n" ++ path ++ codes ": " ++ cause_words cause
 

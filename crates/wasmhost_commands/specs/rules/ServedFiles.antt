@@ -7,7 +7,9 @@ use Rattle.hex.specs.Hex.{decode_of, is_hex_digit}
 use Rattle.sector_disk.specs.declared.file.FileDisk.{FileDisk}
 use Rattle.sector_disk.specs.rules.File.{file_medium}
 use Rattle.sector_disk.specs.rules.Medium.{Medium}
+use Rattle.wasi_abi.specs.declared.version.Version.{Version}
 use Rattle.record_replay.specs.rules.Calls.{Taking}
+use Rattle.wasmhost_commands.specs.declared.lines.flaw.LineFlaw.{LineFlaw}
 use Rattle.wasmhost_commands.specs.declared.on_disk.found_file.FoundFile.{FoundFile}
 use Rattle.wasmhost_commands.specs.declared.on_disk.running.RunJob.{RunJob}
 use Rattle.wasmhost_commands.specs.declared.on_disk.upgrading.Upgraded.{Upgraded}
@@ -64,11 +66,12 @@ module _ {D O : Type 0} (medium : D → Medium) (takes : Taking O) (before : Run
     pub served : ℕ
     pub serves : ServesOnDisk medium takes before (run_end disk' outlet' between failed') served
     pub heeds : HeedsRefusal takes before.outlet outlet' between served
-    pub limit : ℕ
+    pub version : Version
     pub taken : ℕ
     pub ahead : List ℕ
     pub line : ℕ
-    pub says : SaysOfInput limit taken ahead line served between status err'
+    pub flaw : Option LineFlaw
+    pub says : SaysOfInput version taken ahead line flaw served between status err'
 
 -- It is said why there is no status file at this path, if one is named: by what was found there or
 -- beside it, or by an error of the system.

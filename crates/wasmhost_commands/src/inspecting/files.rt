@@ -4,7 +4,7 @@ ghost use Rattle.std.specs.Prelude.{◌≡◌, ◌≤◌, IfOk, OnOk, Some, None
 ghost use Rattle.std.specs.List.{flat_map};
 ghost use Rattle.std.specs.Io.KnownBytes.{Appends};
 ghost use Rattle.wasmhost_commands.specs.rules.Inspectings.{SaysFile, SaysFiles, TellsFiles};
-ghost use Rattle.wasmhost_commands.specs.rules.Inspectings.{listing_text, node_line};
+ghost use Rattle.wasmhost_commands.specs.rules.Inspectings.{listed_path, listing_text, node_line};
 ghost use Rattle.wasmhost_commands.specs.rules.Inspectings.{status_of_path};
 ghost use Rattle.wasmhost_commands.specs.rules.Printers.{IsSaid};
 
@@ -92,7 +92,17 @@ fn say_path_fault<E: Write + Drop>(err: &mut Printer<E>, fault: PathFault) -> u8
     }
 }
 
-/// Writes the file under a path. Answers the exit status.
+/// A path without a `/` in front, as it is listed.
+fn listed_path(path: &[u8]) -> &[u8]
+    ensures { result.now ≡ listed_path path.now }
+{
+    match path {
+        [b'/', listed @ ..] => listed,
+        _ => path,
+    }
+}
+
+/// Writes the file under a path, which may have a `/` in front. Answers the exit status.
 fn say_file<W: Write + Drop, E: Write + Drop>(
     alloc: Global,
     tree: &Tree,
@@ -103,7 +113,7 @@ fn say_file<W: Write + Drop, E: Write + Drop>(
     ensures says { SaysFiles tree.now (Some path.now) out.old out.new err.old err.new result }
     ensures known { result ≤ 7 }
 {
-    match read_path(alloc, tree, path) {
+    match read_path(alloc, tree, listed_path(path)) {
         Ok(bytes) => say_text(out, bytes.as_slice()),
         Err(fault) => say_path_fault(err, fault),
     }

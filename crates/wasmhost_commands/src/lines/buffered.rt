@@ -87,6 +87,8 @@ pub struct BufferedLines<R: BufRead + Drop> {
     has_failed: bool,
     /// How many lines were begun.
     begun: u64,
+    /// Whether the last one was too long, and a rest of it is left.
+    is_cut: bool,
 }
 
 /// So many lines are begun after a piece, which may be the first one of its line.
@@ -109,7 +111,15 @@ impl<R: BufRead + Drop> BufferedLines<R> {
             pieces_left: u64::MAX,
             has_failed: false,
             begun: 0,
+            is_cut: false,
         }
+    }
+
+    /// Whether the line that was begun last was too long, and a rest of it is left.
+    pub(crate) fn is_cut(&self) -> bool
+        ensures { result ≡ self.now.is_cut }
+    {
+        self.is_cut
     }
 
     /// The number of the line that was begun last, from 1 on.
@@ -149,7 +159,10 @@ impl<R: BufRead + Drop> LineReader for BufferedLines<R> {
                 self.has_failed = true;
                 Err(fault)
             }
-            Err(PieceFault::TooLong) => Err(LineFault::Form),
+            Err(PieceFault::TooLong) => {
+                self.is_cut = true;
+                Err(LineFault::Form)
+            }
             Err(PieceFault::Memory) => Err(LineFault::Memory),
         }
     }

@@ -3,6 +3,7 @@
 
 mod buffered;
 mod fault;
+mod flaw;
 mod later;
 mod line;
 mod numbered;
@@ -17,6 +18,7 @@ mod words;
 
 pub use buffered::BufferedLines;
 pub use fault::LineFault;
+pub(crate) use flaw::{LineFlaw, flaw_in, words_of_flaw};
 pub(crate) use later::count_later;
 pub use outlet::LineOutlet;
 pub use outside::Outside;

@@ -69,6 +69,20 @@ impl<R: LineReader + Drop> NumberedRequests<R> {
         &self.reader
     }
 
+    /// The worker's version.
+    pub(crate) fn version(&self) -> Version
+        ensures { result ≡ self.now.version }
+    {
+        self.version
+    }
+
+    /// What was read last, without its newline.
+    pub(crate) fn line(&self) -> &[u8]
+        ensures { result.now ≡ self.now.line.items }
+    {
+        self.line.as_slice()
+    }
+
     /// How many bytes a text may have.
     pub(crate) fn text_limit(&self) -> usize
         ensures { result ≡ text_limit self.now.version }

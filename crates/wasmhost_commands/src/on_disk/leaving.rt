@@ -1,16 +1,19 @@
 //! What a run says of its input after its last words.
 
-ghost use Rattle.std.specs.Prelude.{◌≡◌, ◌≤◌};
+ghost use Rattle.std.specs.Prelude.{◌≡◌, ◌≤◌, ◌++◌, Option, codes};
 ghost use Rattle.std.specs.Io.Buffered.{reader_buffer};
-ghost use Rattle.wasi_abi.specs.rules.Versions.{text_limit};
+ghost use Rattle.wasmhost_commands.specs.declared.lines.flaw.LineFlaw.{LineFlaw as Flaw};
+ghost use Rattle.wasmhost_commands.specs.rules.Flaws.{IsFlawIn, flaw_line};
 ghost use Rattle.wasmhost_commands.specs.rules.Leavings.{SaysUntaken, SaysOfInput, untaken_line};
 ghost use Rattle.wasmhost_commands.specs.rules.Leavings.{place_line};
 ghost use Rattle.wasmhost_commands.specs.rules.Printers.{SaysText};
 
-use crate::lines::{BufferedLines, RealTime, RequestSource, count_later};
+use crate::lines::{BufferedLines, LineFlaw, RealTime, RequestSource};
+use crate::lines::{count_later, flaw_in, words_of_flaw};
 use crate::printer::Printer;
 use crate::status::{BAD_LINE, UNWRITTEN};
 use std::io::{BufReader, Read, Write};
+use wasi_abi::Version;
 
 /// Says which line of the input was refused, and answers the exit status.
 fn say_place<E: Write + Drop>(err: &mut Printer<E>, number: u64) -> u8
@@ -20,6 +23,37 @@ fn say_place<E: Write + Drop>(err: &mut Printer<E>, number: u64) -> u8
     match writeln!(err, "at input line {number}") {
         Ok(()) => BAD_LINE,
         Err(_) => UNWRITTEN,
+    }
+}
+
+/// Says which line of the input was refused, and on a line of its own what is wrong with it.
+/// Answers the exit status.
+fn say_flawed<E: Write + Drop>(err: &mut Printer<E>, number: u64, words: &str) -> u8
+    ensures said { SaysText (place_line number ++ words.now ++ codes "\n") 6 err.old result
+        err.new }
+    ensures known { result ≤ 7 }
+{
+    match writeln!(err, "at input line {number}\n{words}") {
+        Ok(()) => BAD_LINE,
+        Err(_) => UNWRITTEN,
+    }
+}
+
+/// Says which line of the input was refused, and what is wrong with it, if something is. Answers
+/// the exit status.
+fn say_refused<E: Write + Drop>(
+    err: &mut Printer<E>,
+    number: u64,
+    version: Version,
+    flaw: Option<LineFlaw>,
+) -> u8
+    ensures said { SaysText (place_line number ++ flaw_line version flaw) 6 err.old result
+        err.new }
+    ensures known { result ≤ 7 }
+{
+    match flaw {
+        Some(flaw) => say_flawed(err, number, words_of_flaw(version, flaw)),
+        None => say_place(err, number),
     }
 }
 
@@ -48,21 +82,26 @@ fn say_untaken<E: Write + Drop>(err: &mut Printer<E>, limit: usize, ahead: &[u8]
 }
 
 /// Says after a run that ended with this status what else is known of its input: at which line a
-/// refused one is, and how many requests were read ahead that a worker which is over doesn't
-/// take. Reads nothing more. Answers the exit status, or 7 where a write has failed.
+/// refused one is, and what is wrong with it; and how many requests were read ahead that a worker
+/// which is over doesn't take. Reads nothing more. Answers the exit status, or 7 where a write has
+/// failed.
 pub fn report_input<R: Read + Drop, C: RealTime + Drop, E: Write + Drop>(
     source: &RequestSource<BufferedLines<BufReader<R>>, C>,
     status: u8,
     err: &mut Printer<E>,
 ) -> u8
-    ensures says { SaysOfInput (text_limit source.now.requests.version) source.now.requests.taken
-        (reader_buffer source.now.requests.reader.reader) source.now.requests.reader.begun status
-        err.old result err.new }
+    ensures says { (flaw : Option Flaw) × IsFlawIn source.now.fault
+        source.now.requests.reader.is_cut source.now.requests.line.items flaw
+        × SaysOfInput source.now.requests.version source.now.requests.taken
+        (reader_buffer source.now.requests.reader.reader) source.now.requests.reader.begun flaw
+        status err.old result err.new }
     ensures known { status ≤ 7 → result ≤ 7 }
 {
     let requests = source.requests();
     if status == BAD_LINE {
-        return say_place(err, requests.reader().line_number());
+        let reader = requests.reader();
+        let flaw = flaw_in(source.fault(), reader.is_cut(), requests.line());
+        return say_refused(err, reader.line_number(), requests.version(), flaw);
     }
     if status == 0 {
         let ahead = requests.reader().read_ahead();

@@ -180,6 +180,6 @@ where
             drop(prepared);
             status
         }
-        Err(fault) => report_unprepared(err, fault),
+        Err(fault) => report_unprepared(alloc, wasm, fault, err),
     }
 }

@@ -7,7 +7,7 @@ ghost use Rattle.wasmhost_commands.specs.rules.Reports.{SaysLine};
 
 use crate::printer::Printer;
 use crate::status::{UNREAD, UNWRITTEN};
-use crate::telling::{Obstacle, report, say_line};
+use crate::telling::{Obstacle, report};
 use sector_disk::{OpenCause, OpenFault};
 use std::io::{Error, ErrorKind, Write};
 
@@ -51,15 +51,26 @@ fn say_cause<E: Write + Drop>(err: &mut Printer<E>, path: &str, cause: OpenCause
     }
 }
 
+/// Prints that another host has the disk, and answers the exit status.
+fn say_busy<E: Write + Drop>(err: &mut Printer<E>, path: &str) -> u8
+    ensures said { SaysLine (open_words path.now OpenFault.Busy) 4 err.old result err.new }
+    ensures known { result ≤ 7 }
+{
+    match writeln!(err, "failed K5 Busy\n{path}: another host is using this disk") {
+        Ok(()) => UNREAD,
+        Err(_) => UNWRITTEN,
+    }
+}
+
 /// Prints why a file isn't made or opened as a disk: the fault, and on a line of its own the path
-/// and what the operating system says of it. Answers the exit status, or 7 where a write has
-/// failed.
+/// and what the operating system says of it, or that another host has it. Answers the exit status,
+/// or 7 where a write has failed.
 pub fn report_open<E: Write + Drop>(err: &mut Printer<E>, path: &str, fault: OpenFault) -> u8
     ensures said { SaysLine (open_words path.now fault) 4 err.old result err.new }
     ensures known { result ≤ 7 }
 {
     match fault {
-        OpenFault::Busy => say_line(err, UNREAD, "failed K5 Busy"),
+        OpenFault::Busy => say_busy(err, path),
         OpenFault::Io(cause) => say_cause(err, path, cause),
     }
 }

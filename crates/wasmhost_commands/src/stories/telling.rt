@@ -123,7 +123,7 @@ pub fn tell<W: Write + Drop, E: Write + Drop>(
     };
     let prepared = match prepare(alloc, wasm, sizes, &[], &[]) {
         Ok(prepared) => prepared,
-        Err(fault) => return report_unprepared(err, fault),
+        Err(fault) => return report_unprepared(alloc, wasm, fault, err),
     };
     match story(alloc, wasm, &prepared.config, lives.as_slice()) {
         Ok(told) => say_lives(alloc, told.lives.as_slice(), out, err),

@@ -104,7 +104,7 @@ pub fn tell_sweep<W: Write + Drop, E: Write + Drop>(
     };
     let prepared = match prepare(alloc, wasm, choice.sizes, &[], &[]) {
         Ok(prepared) => prepared,
-        Err(fault) => return report_unprepared(err, fault),
+        Err(fault) => return report_unprepared(alloc, wasm, fault, err),
     };
     let job = SweepJob {
         wasm,

@@ -12,7 +12,9 @@ returns-in-Err-clause-creates g c =
       c.in-Err.ensures.refused,
       record {
         range = c.report_unprepared.ensures.range;
+        entry = c.report_unprepared.ensures.entry;
         limit = c.report_unprepared.ensures.limit;
+        more = c.report_unprepared.ensures.more;
         status = c.report_unprepared.ensures.status;
       },
       refl,

@@ -1,5 +1,4 @@
 use Rattle.std.specs.Io.Buffered.{reader_buffer}
-use Rattle.wasi_abi.specs.rules.Versions.{text_limit}
 use Rattle.wasmhost_commands.proofs.on_disk.running.serve_to_end.Goals as goal
 
 pub returns-clause-serves : goal.returns-clause-serves
@@ -11,9 +10,10 @@ returns-clause-serves g c =
       served = c.serve-status.result;
       serves = c.serve-status.ensures.serves;
       heeds = c.serve-status.ensures.refusal;
-      limit = text_limit requests.version;
+      version = requests.version;
       taken = requests.taken;
       ahead = reader_buffer requests.reader.reader;
       line = requests.reader.begun;
-      says = c.report_input.ensures.says;
+      flaw = c.report_input.ensures.says.0;
+      says = c.report_input.ensures.says.1.1;
     }
