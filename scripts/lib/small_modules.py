@@ -256,3 +256,8 @@ def draws(length):
         exports=[wasm.exported(b"_start", 0, 2), MEMORY],
         bodies=[wasm.function_body([], code)],
         data=[behind(0) + wasm.sized(memory_of_draws()[: LETTER + 2])])
+
+
+def endless():
+    """A module that never asks, and never ends."""
+    return small(wasm.LOOP + bytes([wasm.EMPTY]) + b"\x0c\x00" + wasm.END)

@@ -270,7 +270,11 @@ def unswept(script, err, module="echo.wasm", words=(), status=2):
     return Story(script, module, tuple(words), status, "", f"{err}\n", "sweep")
 
 
-# A creation makes 206 calls, a line a write and a sync, and the first checkpoint 134 calls.
+# A creation makes 206 calls, a line a write and a sync, and a checkpoint 134 calls. The least
+# journal of version 2 has 133 sectors.
+WIDER = ("--journal", "133", "--fronts", "0,512")
+IN_TWO = 206 + 133 - SECTORS
+NO_UPGRADE = "the script's upgrade can't be done again after a cut"
 TWO = "life\nrequest hello\nrequest again\nslice 42\ncheckpoint\n"
 SWEPT = [
     swept("life\n", 206, 0, words=(), fronts=5),
@@ -279,8 +283,33 @@ SWEPT = [
     # The first of two lives, whose second request the second one has.
     swept(HELLO + "life\nrequest again\nslice 42\n", 206 + 2, 2,
           words=("--life", "1", "--fronts", "505"), fronts=1),
-    swept(TWO.replace("checkpoint", "upgrade"), 206 + 133 - SECTORS + 2 + 2 + 134, 2,
-          words=("--journal", "133", "--fronts", "0,512")),
+    swept(TWO.replace("checkpoint", "upgrade"), IN_TWO + 2 + 2 + 134, 2, words=WIDER),
+    # It upgrades before it has asked. A recovered worker asks first, and then is upgraded.
+    swept("life\nupgrade\nrequest hello\nslice 20\n", IN_TWO + 134 + 2, 1, words=WIDER),
+    # Only version 2 takes the second request. Its record has 4,110 bytes, and a sector 494 of them.
+    swept(f"{HELLO}upgrade\nrequest {LONG}\nslice 60\n",
+          206 + MORE_SECTORS - SECTORS + 2 + 134 + 9 + 1, 3,
+          words=("--journal", str(MORE_SECTORS), "--fronts", "0,512")),
+    # The upgrade of the second life is a checkpoint.
+    swept(f"{HELLO}upgrade\nlife\nupgrade\nrequest again\nslice 42\n", IN_TWO + 2 + 134, 2,
+          words=(*WIDER, "--life", "1")),
+    # The power is cut in the first life, and the second one upgrades.
+    swept(f"{HELLO}life\nrequest again\nslice 42\nupgrade\n", IN_TWO + 2, 2,
+          words=(*WIDER, "--life", "1")),
+    # `lost` is taken behind the upgrade, and nothing is printed of it: so it isn't kept.
+    swept(f"{HELLO}upgrade\nrequest lost\nslice 10\nlife\nrequest again\nslice 42\n",
+          IN_TWO + 2 + 134, 2, words=(*WIDER, "--life", "1")),
+    # A script may have an answer that doesn't fit, where nobody takes it.
+    swept("life\nrequest hello\nmonotonic 1\nslice 25\n", 206 + 2, 1, words=("--fronts", "505"),
+          fronts=1),
+    # Plans that can't be run to their end, or done again.
+    unswept("life\nrequest hello\nmonotonic 1\nslice 99\n", "the script's life 1 ended N2 Source"),
+    unswept("life\nupgrade\n", "the script's life 1 ended N7 JournalTooSmall",
+            words=("--journal", "132")),
+    unswept(f"{HELLO}life\nupgrade\n", "the script's life 2 ended N8 NotCaughtUp",
+            words=(*WIDER, "--life", "1")),
+    unswept(f"life\nupgrade\nrandom {'00' * 5_000}\nslice 99\n", NO_UPGRADE, "draws.wasm", WIDER),
+    unswept("life\nupgrade\n", NO_UPGRADE, "endless.wasm", WIDER),
     # Times and random bytes that were not kept are handed out again.
     swept(f"life\nrealtime {TIMES[0]}\nmonotonic {TIMES[1]}\nrandom 4a6b6c6d4e\nslice 99\n",
           206 + 2, 1, "asks.wasm", ("--fronts", "0"), 1),

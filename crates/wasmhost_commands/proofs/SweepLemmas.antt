@@ -3,3 +3,4 @@ pub mod Texts
 pub mod CutLists
 pub mod Digits
 pub mod Statuses
+pub mod Runs

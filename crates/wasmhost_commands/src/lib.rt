@@ -105,12 +105,15 @@
 //!   was never stopped, with what the script put into each. What the other statuses say is said too
 //!   (`TellsStory`). `report_script` tells a fault of a script.
 //! - `tell_sweep`: status 0 says that the lives of a script, which nothing befalls, were run
-//!   without a cut, and then with the power cut at each call of one of them, for each prefix
-//!   (`cuts_to`). Each cut's lives are told as those of a story are (`TellsLives`). Its last life
-//!   was opened, and handed out all answers that were not kept (`cut_at`). Over all its lives each
-//!   number has one text, none is missing, and the first are those without a cut (`IsCutRun`). The
-//!   printed line says how many cuts and lines these are (`IsSweepDone`). 7 comes just where a
-//!   write has failed. Of the other statuses nothing more is said. `read_sweep`: the lives that the
+//!   without a cut, and did all that they were told (`HasDoneAll`). Then they were run with the
+//!   power cut at each call of one of them, for each prefix (`cuts_to`). Each cut's lives are told
+//!   as those of a story are (`TellsLives`). Those after the cut did all that they were told, and
+//!   handed out all answers that were not kept (`cut_at`). Over all lives each number has one text,
+//!   none is missing, and the first are those without a cut (`IsCutRun`). The printed line says how
+//!   many cuts and lines these are (`IsSweepDone`). 1 says that lives without a cut, or those of
+//!   one, were run and told (`AreCompared`). 2 says what is wrong with the script, or that a life
+//!   of it ended by an error, or that its upgrade was done again without a cut (`IsUnsweepable`). 7
+//!   comes just where a write has failed. `read_sweep`: the lives that the
 //!   script spells, and which one is swept (`AreSweptLives`). `fronts_of`: the fronts that a text
 //!   spells.
 //! - `laws::faultless_words_mean`, `laws::worked_examples`: words without a fault mean an order,
@@ -144,8 +147,8 @@
 //! `status_on_disk`, `opening_fault`, `IsReportedOnDisk` (`DiskStatuses.antt`);
 //! `PrinterState`, `IsSaid`, `SaysText`, `HeedsBoth`, `TellsPerson` (`Printers.antt`);
 //! `said_by`, `AreLivesOf`, `IsScript` (`Scripts.antt`); `lines_of` (`Pieces.antt`); `story_text`,
-//! `TellsStory` (`Stories.antt`); `cut_at`, `cuts_to`, `AreTextsOf`, `IsSwept` (`Sweeps.antt`),
-//! `TellsSweep` (`SweepTexts.antt`); `PrintsOneLine` (`Prints.antt`).
+//! `TellsStory` (`Stories.antt`); `lives_after`, `cut_at`, `cuts_to`, `AreTextsOf`, `IsSwept`
+//! (`Sweeps.antt`), `TellsSweep` (`SweepTexts.antt`); `PrintsOneLine` (`Prints.antt`).
 //! In `specs/laws/`, what the laws say: `SaysOnDisk`, `HasToldItsLines` (`DiskCauses.antt`);
 //! `AreOfLines` (`Answered.antt`); `all_printed`, `SevenIsAFailedWrite` (`Printed.antt`).
 //!

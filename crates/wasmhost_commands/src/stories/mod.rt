@@ -17,7 +17,7 @@ pub use fault::ScriptFault;
 pub use line::ScriptLine;
 pub(crate) use script::cut_line;
 pub use script::read_script;
-pub(crate) use spelling::digest_digits;
+pub(crate) use spelling::{digest_digits, spell_error};
 pub(crate) use telling::say_text;
 pub use telling::{report_script, tell};
 pub(crate) use words::read_fronts;

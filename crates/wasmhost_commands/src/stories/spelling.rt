@@ -109,7 +109,7 @@ fn error_name(why: RecoverFault) -> &'static str
 }
 
 /// Spells an error by which a life ended.
-fn spell_error<W: Write>(out: &mut W, number: u64, why: RecoverFault) -> io::Result<()>
+pub(crate) fn spell_error<W: Write>(out: &mut W, number: u64, why: RecoverFault) -> io::Result<()>
     ensures { OnOk result (Appends (W.contents out.old) (W.contents out.new)
         (named_number (codes "life ") number ++ codes " ended " ++ error_name why
         ++ codes "\n")) }

@@ -1,9 +1,9 @@
 //! All cuts of a life, call by call.
 
-ghost use Rattle.std.specs.Prelude.{◌≡◌, ◌+◌, IfOk, IfSome, OnErr, OnOk, length, map, true};
+ghost use Rattle.std.specs.Prelude.{◌≡◌, ◌+◌, IfErr, IfOk, IfSome, OnErr, OnOk, length, map, true};
 ghost use Rattle.std.specs.List.{All};
 ghost use Rattle.wasmhost_commands.specs.rules.Sweeps.{cuts_to, cut_place};
-ghost use Rattle.wasmhost_commands.specs.laws.CutRuns.{HeedsProgress, IsSweptAt};
+ghost use Rattle.wasmhost_commands.specs.laws.CutRuns.{HeedsProgress, IsCutFault, IsSweptAt};
 
 use crate::printer::Printer;
 use crate::sweeping::cutting::{Sweep, try_cut};
@@ -17,8 +17,8 @@ use std::io::{self, Write};
 pub(super) struct Progress {
     /// How many cuts were run.
     pub(super) cuts: u64,
-    /// How many answers were taken before the last life of the newest one.
-    pub(super) taken: u64,
+    /// How many answers the worker was given before the newest one, and kept.
+    pub(super) given: u64,
 }
 
 /// One cut more.
@@ -28,12 +28,13 @@ fn step(
     place: Place,
     so_far: Progress,
 ) -> Result<Progress, SweepFault>
-    ensures { IfOk result (λ now. IsSweptAt sweep.now place
+    ensures agrees { IfOk result (λ now. IsSweptAt sweep.now place
         × (now.cuts ≡ so_far.cuts + 1)) }
+    ensures failed { IfErr result (IsCutFault sweep.now place.call) }
 {
-    let taken = try_cut(alloc, sweep, place, so_far.taken)?;
+    let given = try_cut(alloc, sweep, place, so_far.given)?;
     match so_far.cuts.checked_add(1) {
-        Some(cuts) => Ok(Progress { cuts, taken }),
+        Some(cuts) => Ok(Progress { cuts, given }),
         None => Err(SweepFault::Memory),
     }
 }
@@ -46,8 +47,9 @@ fn sweep_call(
     call: u64,
     so_far: Progress,
 ) -> Result<Progress, SweepFault>
-    ensures { IfOk result (λ now. All (IsSweptAt sweep.now) (map (cut_place call) fronts.now)
-        × (now.cuts ≡ so_far.cuts + length fronts.now)) }
+    ensures agree { IfOk result (λ now. All (IsSweptAt sweep.now)
+        (map (cut_place call) fronts.now) × (now.cuts ≡ so_far.cuts + length fronts.now)) }
+    ensures failed { IfErr result (IsCutFault sweep.now call) }
 {
     let mut now = so_far;
     for front in fronts {
@@ -87,9 +89,10 @@ pub(super) fn sweep_calls<E: Write + Drop>(
     ensures swept { IfOk result (λ o. IfSome o (λ cuts.
         All (IsSweptAt sweep.now) (cuts_to calls fronts.now)
         × (cuts ≡ length (cuts_to calls fronts.now)))) }
+    ensures failed { IfErr result (IsCutFault sweep.now calls) }
     ensures heeded { HeedsProgress result err.old err.new }
 {
-    let mut now = Progress { cuts: 0, taken: 0 };
+    let mut now = Progress { cuts: 0, given: 0 };
     let mut call = 0;
     while call < calls {
         call += 1;

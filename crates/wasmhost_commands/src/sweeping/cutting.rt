@@ -1,89 +1,55 @@
 //! One cut: its lives are run, and what they told is compared.
 
-ghost use Rattle.std.specs.Prelude.{◌≡◌, IfOk, OnOk, true};
-ghost use Rattle.wasmhost_commands.specs.rules.Sweeps.{answers_at_last};
-ghost use Rattle.wasmhost_commands.specs.laws.CutRuns.{AgreesWith, HasRunCut, IsSweptAt};
+ghost use Rattle.std.specs.Prelude.{◌≡◌, IfErr, IfOk, OnOk, true};
+ghost use Rattle.wasmhost_commands.specs.declared.sweeping.fault.SweepFault.TheVariants.{Memory};
+ghost use Rattle.wasmhost_commands.specs.laws.CutRuns.{AgreesBehind, HasRunCut, IsCutFault};
+ghost use Rattle.wasmhost_commands.specs.laws.CutRuns.{IsSweptAt};
 
 use crate::sweeping::fault::SweepFault;
-use crate::sweeping::planning::{answers_when_opened, plan_cut};
-use crate::sweeping::starving::are_starved;
-use crate::sweeping::texts::{begin_with, texts_of};
+use crate::sweeping::giving::given_to;
+use crate::sweeping::judging::{agrees, is_cut};
+use crate::sweeping::planning::{SweptPart, plan_cut};
+use crate::sweeping::running::{RunLives, run_lives};
 use record_replay::NumberedLine;
 use sector_disk::Place;
 use std::alloc::Global;
 use wasi_abi::Config;
-use wasm_syntax::ItemList;
-use worker::story::{LifeReport, PlannedLife, story};
 
 /// What is swept: lives of a worker, and what was told of them without a cut.
 #[derive(Clone, Copy)]
 pub(super) struct Sweep<'a> {
     pub(super) wasm: &'a [u8],
     pub(super) config: &'a Config,
-    /// The lives before the swept one.
-    pub(super) before: &'a [PlannedLife],
-    /// The swept one, and those after it.
-    pub(super) swept: &'a [PlannedLife],
-    /// What was told of these.
-    pub(super) told: &'a [LifeReport],
+    pub(super) part: SweptPart<'a>,
     /// The texts of all lines that were told.
     pub(super) texts: &'a [NumberedLine],
 }
 
-/// Lives that were run, and what was told of them.
-#[derive(Drop)]
-pub(super) struct RunLives {
-    pub(super) lives: ItemList<PlannedLife>,
-    pub(super) reports: ItemList<LifeReport>,
-}
-
-/// Runs the lives of a cut, whose last one is of a worker that has taken so many answers.
+/// Runs the lives of a cut, after which the worker was given so many answers.
 fn run_cut(
     alloc: Global,
     sweep: &Sweep<'_>,
     place: Place,
-    taken: u64,
+    given: u64,
 ) -> Result<RunLives, SweepFault>
-    ensures { IfOk result (HasRunCut sweep.now place taken) }
+    ensures run { IfOk result (HasRunCut sweep.now place given) }
+    ensures failed { IfErr result (λ fault. fault ≡ Memory) }
 {
-    let lives = plan_cut(alloc, sweep.before, sweep.swept, sweep.told, place, taken)?;
-    let report = story(alloc, sweep.wasm, sweep.config, lives.as_slice())?;
-    if are_starved(report.lives.as_slice()) {
-        return Err(SweepFault::Memory);
-    }
-    Ok(RunLives {
-        lives,
-        reports: report.lives,
-    })
+    let lives = plan_cut(alloc, &sweep.part, place, given)?;
+    run_lives(alloc, sweep.wasm, sweep.config, lives)
 }
 
-/// How many answers the worker has taken when the last of these lives has opened it.
-fn answers_at_last(reports: &[LifeReport]) -> Option<u64>
-    ensures { result ≡ answers_at_last reports.now }
+/// Whether the power was cut in these lives, and all else was as without it.
+fn is_same(alloc: Global, sweep: &Sweep<'_>, given: u64, run: &RunLives) -> Result<bool, SweepFault>
+    ensures same { IfOk result (λ is. is ≡ true → AgreesBehind sweep.now given run.now) }
+    ensures failed { IfErr result (λ fault. fault ≡ Memory) }
 {
-    match reports.last() {
-        Some(report) => answers_when_opened(&report.opened),
-        None => None,
+    let at = sweep.part.earlier.len();
+    let reports = run.reports.as_slice();
+    if !is_cut(reports, at) {
+        return Ok(false);
     }
-}
-
-/// Whether a cut was run as the run without a cut was.
-fn agrees(
-    alloc: Global,
-    texts: &[NumberedLine],
-    taken: u64,
-    reports: &[LifeReport],
-) -> Result<bool, SweepFault>
-    ensures { IfOk result (λ is. is ≡ true → AgreesWith texts.now taken reports.now) }
-{
-    match answers_at_last(reports) {
-        Some(count) if count == taken => {}
-        _ => return Ok(false),
-    }
-    match texts_of(alloc, reports)? {
-        Some(found) => Ok(begin_with(found.lines(), texts)),
-        None => Ok(false),
-    }
+    agrees(alloc, sweep.texts, at + 1, given, reports)
 }
 
 /// Compares what was told of a cut.
@@ -91,33 +57,35 @@ fn judge(
     alloc: Global,
     sweep: &Sweep<'_>,
     place: Place,
-    taken: u64,
+    given: u64,
     run: RunLives,
 ) -> Result<u64, SweepFault>
-    requires { HasRunCut sweep.now place taken run }
-    ensures { OnOk result (IsSweptAt sweep.now place) }
+    requires { HasRunCut sweep.now place given run }
+    ensures agrees { OnOk result (IsSweptAt sweep.now place) }
+    ensures failed { IfErr result (IsCutFault sweep.now place.call) }
 {
-    if agrees(alloc, sweep.texts, taken, run.reports.as_slice())? {
-        return Ok(taken);
+    if is_same(alloc, sweep, given, &run)? {
+        return Ok(given);
     }
-    Err(SweepFault::Differs { lives: run.lives })
+    Err(SweepFault::Differs { run })
 }
 
-/// Runs a cut, and compares it. Answers how many answers its last life's worker had taken. They are
-/// so many as are guessed, or the cut is run a second time.
+/// Runs a cut, and compares it. Answers how many answers the worker was given before the power was
+/// cut, and kept. They are so many as are guessed, or the cut is run a second time.
 pub(super) fn try_cut(
     alloc: Global,
     sweep: &Sweep<'_>,
     place: Place,
     guess: u64,
 ) -> Result<u64, SweepFault>
-    ensures { OnOk result (IsSweptAt sweep.now place) }
+    ensures agrees { OnOk result (IsSweptAt sweep.now place) }
+    ensures failed { IfErr result (IsCutFault sweep.now place.call) }
 {
     let run = run_cut(alloc, sweep, place, guess)?;
-    match answers_at_last(run.reports.as_slice()) {
-        Some(taken) if taken != guess => {
-            let again = run_cut(alloc, sweep, place, taken)?;
-            judge(alloc, sweep, place, taken, again)
+    match given_to(run.reports.as_slice(), sweep.part.earlier.len() + 1) {
+        Some(given) if given != guess => {
+            let again = run_cut(alloc, sweep, place, given)?;
+            judge(alloc, sweep, place, given, again)
         }
         _ => judge(alloc, sweep, place, guess, run),
     }

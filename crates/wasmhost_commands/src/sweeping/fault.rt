@@ -3,18 +3,23 @@
 ghost use Rattle.std.specs.Prelude.{◌≡◌};
 ghost use Rattle.wasmhost_commands.specs.declared.sweeping.fault.SweepFault.TheVariants.{Memory};
 
+use crate::sweeping::running::RunLives;
 use record_replay::OutletFault;
 use std::alloc::AllocError;
-use wasm_syntax::ItemList;
-use worker::story::{PlannedLife, StoryFault};
+use worker::RecoverFault;
+use worker::story::StoryFault;
 
 #[derive(Debug, Drop)]
 pub(crate) enum SweepFault {
     /// Memory was refused, or there are more cuts than 64 bits count.
     Memory,
-    /// The last of these lives wasn't opened, or a line of them is missing or has two texts, or
-    /// their lines aren't those of the run without a cut.
-    Differs { lives: ItemList<PlannedLife> },
+    /// The life of this number, from 1 on, ends by an error in the run without a cut.
+    Plan { number: u64, why: RecoverFault },
+    /// Where the upgrade is done again without a cut, these lives don't tell the same lines.
+    Upgrade { run: RunLives },
+    /// One of these lives wasn't opened or hasn't done all, or a line of them is missing or has two
+    /// texts, or their lines aren't those of the run without a cut.
+    Differs { run: RunLives },
 }
 
 impl From<AllocError> for SweepFault {

@@ -4,12 +4,16 @@ mod calling;
 mod choosing;
 mod cutting;
 mod fault;
+mod giving;
+mod judging;
 mod planning;
 mod reading;
+mod running;
 mod spelling;
 mod starving;
 mod telling;
 mod texts;
+mod upgrading;
 mod whole_sweep;
 
 pub use choosing::fronts_of;

@@ -1,127 +1,94 @@
 //! The lives of a cut.
 
-ghost use Rattle.std.specs.Prelude.{◌≡◌, ◌++◌, ◌-◌, IfOk, OnOk, drop, take};
-ghost use Rattle.std.specs.List.{flat_map};
-ghost use Rattle.wasmhost_commands.specs.rules.Sweeps.{acts_of, answers_when_opened};
-ghost use Rattle.wasmhost_commands.specs.rules.Sweeps.{answers_at_first};
-ghost use Rattle.wasmhost_commands.specs.rules.Sweeps.{answers_before, answers_not_lost, cut_at};
-ghost use Rattle.wasmhost_commands.specs.rules.Sweeps.{first_stopped, kept_in, life_after};
-ghost use Rattle.wasmhost_commands.specs.rules.Sweeps.{stopped_at};
+ghost use Rattle.std.specs.Prelude.{◌≡◌, ◌++◌, ◌∷◌, [], ◌-◌, IfOk, OnOk, drop, take, max};
+ghost use Rattle.std.specs.List.{flat_map, list_any};
+ghost use Rattle.wasmhost_commands.specs.rules.Sweeps.{acts_of, and_idle, calm_life, cut_at};
+ghost use Rattle.wasmhost_commands.specs.rules.Sweeps.{done_again, first_stopped, given_at};
+ghost use Rattle.wasmhost_commands.specs.rules.Sweeps.{idle_life};
+ghost use Rattle.wasmhost_commands.specs.rules.Sweeps.{is_upgrade, lives_after, stopped_at};
+ghost use Rattle.wasmhost_commands.specs.rules.Sweeps.{upgrade_first, upgrading_life};
 
-use record_replay::copy_answer;
+use crate::sweeping::giving::{answers_kept, behind, copy_answers, front_of, given_at};
 use sector_disk::Place;
 use std::alloc::{AllocError, Global};
 use wasi_abi::Answer;
 use wasm_syntax::ItemList;
-use worker::story::{LifeReport, Opening, PlannedAct, PlannedLife};
+use worker::story::{LifeReport, PlannedAct, PlannedLife};
 
-/// How many answers a worker has taken when a life has opened it, if it is opened.
-pub(super) fn answers_when_opened(opened: &Opening) -> Option<u64>
-    ensures { result ≡ answers_when_opened opened.now }
+/// How many steps a worker may take up to its question before it is upgraded again.
+pub(super) const TO_QUESTION: u64 = 10_000_000;
+
+/// What is swept.
+#[derive(Clone, Copy)]
+pub(super) struct SweptPart<'a> {
+    /// The lives before the swept one.
+    pub(super) earlier: &'a [PlannedLife],
+    /// The swept one, and those after it.
+    pub(super) swept: &'a [PlannedLife],
+    /// What was told of these without a cut.
+    pub(super) told: &'a [LifeReport],
+    /// How many of their answers come before an upgrade that is done again.
+    pub(super) before: u64,
+}
+
+/// A life that nothing befalls.
+fn calm_life(alloc: Global, answers: ItemList<Answer>, acts: ItemList<PlannedAct>) -> PlannedLife
+    ensures { result ≡ calm_life answers acts }
 {
-    match opened {
-        Opening::Created { .. } => Some(0),
-        Opening::Recovered { answers, .. } => Some(*answers),
-        Opening::Unopened => None,
+    PlannedLife {
+        answers,
+        acts,
+        stop: None,
+        fail: None,
+        refuse: None,
+        tears: ItemList::new(alloc),
     }
 }
 
-/// The same, or 0.
-fn answers_before(report: &LifeReport) -> u64
-    ensures { result ≡ answers_before report.now }
+/// A life that is only opened.
+fn idle_life(alloc: Global) -> PlannedLife
+    ensures { result ≡ idle_life }
 {
-    answers_when_opened(&report.opened).unwrap_or(0)
+    calm_life(alloc, ItemList::new(alloc), ItemList::new(alloc))
 }
 
-/// How many answers the worker had taken before the first of these lives.
-fn answers_at_first(told: &[LifeReport]) -> u64
-    ensures { result ≡ answers_at_first told.now }
+/// A life that upgrades a recovered worker behind these answers.
+fn upgrading_life(alloc: Global, answers: &[Answer]) -> Result<PlannedLife, AllocError>
+    ensures { IfOk result (λ life. life ≡ upgrading_life answers.now) }
 {
-    match told.first() {
-        Some(report) => answers_before(report),
-        None => 0,
+    let mut acts = ItemList::new(alloc);
+    acts.push(PlannedAct::Slice { fuel: TO_QUESTION })?;
+    acts.push(PlannedAct::Upgrade)?;
+    Ok(calm_life(alloc, copy_answers(alloc, answers)?, acts))
+}
+
+/// Whether an act is to upgrade.
+fn is_upgrade(act: PlannedAct) -> bool
+    ensures { result ≡ is_upgrade act }
+{
+    match act {
+        PlannedAct::Upgrade => true,
+        PlannedAct::Slice { .. } | PlannedAct::Checkpoint => false,
     }
 }
 
-/// The first of these answers, at most so many.
-fn front_of(answers: &[Answer], count: u64) -> &[Answer]
-    ensures { result.now ≡ take count answers.now }
+/// Whether one of these acts is to upgrade.
+pub(super) fn have_upgrade(acts: &[PlannedAct]) -> bool
+    ensures { result ≡ list_any is_upgrade acts.now }
 {
-    let count = (count as usize).min(answers.len());
-    &answers[..count]
-}
-
-/// What a life has taken of its answers and kept, as the next one's opening says. Of the last one
-/// it is all of them.
-fn kept_in<'a>(told: &[LifeReport], answers: &'a [Answer]) -> &'a [Answer]
-    ensures { result.now ≡ kept_in told.now answers.entry.now }
-{
-    match (told.first(), told.get(1)) {
-        (Some(report), Some(next)) => {
-            let taken = answers_before(next).saturating_sub(answers_before(report));
-            front_of(answers, taken)
+    for act in acts {
+        if is_upgrade(*act) {
+            return true;
         }
-        _ => answers,
     }
-}
-
-/// What was told of all lives but the first.
-fn without_first(told: &[LifeReport]) -> &[LifeReport]
-    ensures { result.now ≡ drop 1 told.now }
-{
-    if told.is_empty() { told } else { &told[1..] }
-}
-
-/// Copies answers behind those of a list.
-fn push_answers(
-    alloc: Global,
-    list: &mut ItemList<Answer>,
-    answers: &[Answer],
-) -> Result<(), AllocError>
-    ensures { OnOk result (list.new ≡ list.old ++ answers.now) }
-{
-    for answer in answers {
-        let copy = copy_answer(alloc, answer)?;
-        list.push(copy)?;
-    }
-    Ok(())
-}
-
-/// The answers of these lives, of which this was told.
-fn answers_not_lost(
-    alloc: Global,
-    lives: &[PlannedLife],
-    told: &[LifeReport],
-) -> Result<ItemList<Answer>, AllocError>
-    ensures { IfOk result (λ answers. answers ≡ answers_not_lost lives.now told.now) }
-{
-    let mut list = ItemList::new(alloc);
-    let mut later = told;
-    for life in lives {
-        push_answers(alloc, &mut list, kept_in(later, life.answers.as_slice()))?;
-        later = without_first(later);
-    }
-    Ok(list)
-}
-
-/// The answers of these lives that a worker hasn't taken which has taken so many.
-fn answers_left(
-    alloc: Global,
-    lives: &[PlannedLife],
-    told: &[LifeReport],
-    taken: u64,
-) -> Result<ItemList<Answer>, AllocError>
-    ensures { IfOk result (λ answers. answers
-        ≡ drop (taken - answers_at_first told.now) (answers_not_lost lives.now told.now)) }
-{
-    let mut answers = answers_not_lost(alloc, lives, told)?.into_vec();
-    let kept = taken.saturating_sub(answers_at_first(told));
-    let count = (kept as usize).min(answers.len());
-    Ok(ItemList::from_vec(answers.split_off(count)?))
+    false
 }
 
 /// All that these lives were told to do.
-fn acts_of(alloc: Global, lives: &[PlannedLife]) -> Result<ItemList<PlannedAct>, AllocError>
+pub(super) fn acts_of(
+    alloc: Global,
+    lives: &[PlannedLife],
+) -> Result<ItemList<PlannedAct>, AllocError>
     ensures { IfOk result (λ acts. acts ≡ flat_map acts_of lives.now) }
 {
     let mut acts = Vec::new(alloc);
@@ -131,35 +98,59 @@ fn acts_of(alloc: Global, lives: &[PlannedLife]) -> Result<ItemList<PlannedAct>,
     Ok(ItemList::from_vec(acts))
 }
 
-/// The life after a cut of the first of these lives, of a worker that has taken so many answers.
-fn life_after(
+/// Puts the life behind a list that upgrades a worker again, where an act is to upgrade.
+fn push_upgrade(
     alloc: Global,
-    lives: &[PlannedLife],
-    told: &[LifeReport],
-    taken: u64,
-) -> Result<PlannedLife, AllocError>
-    ensures { IfOk result (λ life. life ≡ life_after lives.now told.now taken) }
+    list: &mut ItemList<PlannedLife>,
+    acts: &[PlannedAct],
+    answers: &[Answer],
+) -> Result<(), AllocError>
+    ensures { OnOk result (list.new ≡ list.old ++ upgrade_first acts.now answers.now) }
 {
-    Ok(PlannedLife {
-        answers: answers_left(alloc, lives, told, taken)?,
-        acts: acts_of(alloc, lives)?,
-        stop: None,
-        fail: None,
-        refuse: None,
-        tears: ItemList::new(alloc),
-    })
+    if have_upgrade(acts) {
+        let life = upgrading_life(alloc, answers)?;
+        list.push(life)?;
+    }
+    Ok(())
 }
 
-fn copy_answers(alloc: Global, answers: &[Answer]) -> Result<ItemList<Answer>, AllocError>
-    ensures { IfOk result (λ copies. copies ≡ answers.now) }
+/// Puts what is done again after a cut behind a list: of these acts, with all answers that were
+/// kept, by a worker that has so many of them.
+fn push_again(
+    alloc: Global,
+    list: &mut ItemList<PlannedLife>,
+    kept: &[Answer],
+    acts: ItemList<PlannedAct>,
+    before: u64,
+    has: u64,
+) -> Result<(), AllocError>
+    ensures { OnOk result (list.new ≡ list.old ++ done_again kept.now acts before has) }
 {
-    let mut copies = ItemList::new(alloc);
-    push_answers(alloc, &mut copies, answers)?;
-    Ok(copies)
+    let first = behind(front_of(kept, before), has);
+    push_upgrade(alloc, list, acts.as_slice(), first)?;
+    let last = copy_answers(alloc, behind(kept, has.max(before)))?;
+    list.push(calm_life(alloc, last, acts))?;
+    Ok(())
+}
+
+/// Puts the lives after a cut behind a list, of a worker that was given so many answers in all.
+fn push_after(
+    alloc: Global,
+    list: &mut ItemList<PlannedLife>,
+    part: &SweptPart<'_>,
+    given: u64,
+) -> Result<(), AllocError>
+    ensures { OnOk result (list.new ≡ list.old
+        ++ lives_after part.now.swept.now part.now.told.now part.now.before given) }
+{
+    let kept = answers_kept(alloc, part.swept, part.told)?;
+    let acts = acts_of(alloc, part.swept)?;
+    let has = given.saturating_sub(given_at(part.told, 0));
+    push_again(alloc, list, kept.as_slice(), acts, part.before, has)
 }
 
 /// The same life, in memory of its own.
-fn copy_life(alloc: Global, life: &PlannedLife) -> Result<PlannedLife, AllocError>
+pub(super) fn copy_life(alloc: Global, life: &PlannedLife) -> Result<PlannedLife, AllocError>
     ensures { IfOk result (λ copy. copy ≡ life.now) }
 {
     Ok(PlannedLife {
@@ -196,7 +187,19 @@ pub(super) fn copy_lives(
     Ok(copies)
 }
 
-/// Puts the first of these lives after a list, with the power cut at this place.
+/// These lives, and one more that is only opened.
+pub(super) fn and_idle(
+    alloc: Global,
+    lives: &[PlannedLife],
+) -> Result<ItemList<PlannedLife>, AllocError>
+    ensures { IfOk result (λ all. all ≡ and_idle lives.now) }
+{
+    let mut all = copy_lives(alloc, lives)?;
+    all.push(idle_life(alloc))?;
+    Ok(all)
+}
+
+/// Puts the first of these lives behind a list, with the power cut at this place.
 fn push_stopped(
     alloc: Global,
     list: &mut ItemList<PlannedLife>,
@@ -212,21 +215,63 @@ fn push_stopped(
     Ok(())
 }
 
-/// The lives of a cut, whose last one is of a worker that has taken so many answers.
+/// The lives of a cut, after which the worker was given so many answers in all.
 pub(super) fn plan_cut(
     alloc: Global,
-    before: &[PlannedLife],
-    swept: &[PlannedLife],
-    told: &[LifeReport],
+    part: &SweptPart<'_>,
     place: Place,
-    taken: u64,
+    given: u64,
 ) -> Result<ItemList<PlannedLife>, AllocError>
-    ensures { IfOk result (λ lives. lives
-        ≡ cut_at before.now swept.now told.now place taken) }
+    ensures { IfOk result (λ lives. lives ≡ cut_at part.now.earlier.now part.now.swept.now
+        part.now.told.now place part.now.before given) }
 {
-    let mut lives = copy_lives(alloc, before)?;
-    push_stopped(alloc, &mut lives, swept, place)?;
-    let last = life_after(alloc, swept, told, taken)?;
-    lives.push(last)?;
+    let mut lives = copy_lives(alloc, part.earlier)?;
+    push_stopped(alloc, &mut lives, part.swept, place)?;
+    push_after(alloc, &mut lives, part, given)?;
+    Ok(lives)
+}
+
+/// The lives of a run in which the swept life does nothing, and all is done again after it.
+pub(super) fn plan_again(
+    alloc: Global,
+    part: &SweptPart<'_>,
+) -> Result<ItemList<PlannedLife>, AllocError>
+    ensures { IfOk result (λ lives. lives ≡ and_idle part.now.earlier.now
+        ++ lives_after part.now.swept.now part.now.told.now part.now.before
+        (given_at 0 part.now.told.now)) }
+{
+    let mut lives = and_idle(alloc, part.earlier)?;
+    push_after(alloc, &mut lives, part, given_at(part.told, 0))?;
+    Ok(lives)
+}
+
+/// The acts up to the first upgrade, and that one.
+fn acts_to_upgrade(alloc: Global, acts: &[PlannedAct]) -> Result<ItemList<PlannedAct>, AllocError> {
+    let mut list = ItemList::new(alloc);
+    for act in acts {
+        list.push(*act)?;
+        if is_upgrade(*act) {
+            break;
+        }
+    }
+    Ok(list)
+}
+
+/// These lives up to the first upgrade of the later ones, and one more that is only opened.
+pub(super) fn plan_upgrade(
+    alloc: Global,
+    earlier: &[PlannedLife],
+    swept: &[PlannedLife],
+) -> Result<ItemList<PlannedLife>, AllocError> {
+    let mut lives = copy_lives(alloc, earlier)?;
+    for life in swept {
+        let mut copy = copy_life(alloc, life)?;
+        copy.acts = acts_to_upgrade(alloc, life.acts.as_slice())?;
+        lives.push(copy)?;
+        if have_upgrade(life.acts.as_slice()) {
+            break;
+        }
+    }
+    lives.push(idle_life(alloc))?;
     Ok(lives)
 }

@@ -4,6 +4,7 @@ ghost use Rattle.std.specs.Prelude.{◌≤◌, ◌⊎◌, IfOk};
 ghost use Rattle.wasmhost_commands.specs.rules.Pieces.{lines_of};
 ghost use Rattle.wasmhost_commands.specs.rules.Printers.{IsSaid};
 ghost use Rattle.wasmhost_commands.specs.rules.Sweeps.{AreSweptLives};
+ghost use Rattle.wasmhost_commands.specs.rules.SweepTexts.{SaysScriptFault};
 
 use crate::printer::Printer;
 use crate::stories::{ScriptFault, read_calm_script, report_script};
@@ -54,6 +55,7 @@ pub fn read_sweep(
 pub fn report_sweep_script<E: Write + Drop>(err: &mut Printer<E>, fault: SweepScriptFault) -> u8
     ensures known { result ≤ 7 }
     ensures said { IsSaid 2 err.old result err.new ⊎ IsSaid 5 err.old result err.new }
+    ensures words { SaysScriptFault err.old result err.new }
 {
     match fault {
         SweepScriptFault::Script(fault) => report_script(err, fault),

@@ -1,14 +1,15 @@
 //! The command, from a script to an exit status.
 
 ghost use Rattle.std.specs.Prelude.{◌≡◌, ◌≤◌, IfOk};
-ghost use Rattle.wasmhost_commands.specs.rules.SweepTexts.{SaysDifference, SaysSwept, TellsSweep};
-ghost use Rattle.wasmhost_commands.specs.rules.SweepTexts.{swept_line};
+ghost use Rattle.wasmhost_commands.specs.rules.SweepTexts.{SaysDifference, SaysPlan, SaysSwept};
+ghost use Rattle.wasmhost_commands.specs.rules.SweepTexts.{TellsSweep, plan_line, swept_line};
+ghost use Rattle.wasmhost_commands.specs.laws.SweepEnds.{SaysEnd};
 
 use crate::configuring::Sizes;
 use crate::preparing::{prepare, report_unprepared};
 use crate::printer::Printer;
-use crate::status::{DIFFERENT, UNWRITTEN};
-use crate::stories::say_text;
+use crate::status::{DIFFERENT, UNWRITTEN, USAGE};
+use crate::stories::{say_text, spell_error};
 use crate::sweeping::fault::SweepFault;
 use crate::sweeping::reading::{SweptLives, read_sweep, report_sweep_script};
 use crate::sweeping::spelling::{spell_script, spell_swept};
@@ -16,6 +17,7 @@ use crate::sweeping::whole_sweep::{SweepJob, Swept, sweep_lives};
 use crate::telling::{Obstacle, report, say_line};
 use std::alloc::Global;
 use std::io::{self, Write};
+use worker::RecoverFault;
 use worker::story::PlannedLife;
 
 /// What a sweep is asked for, beside its files.
@@ -75,8 +77,64 @@ fn say_difference<W: Write + Drop, E: Write + Drop>(
     if say_text(out, text.as_slice()) != 0 {
         return UNWRITTEN;
     }
-    let why = "differs: the last life isn't opened, or a line is missing or has another text";
-    say_line(err, DIFFERENT, why)
+    say_line(err, DIFFERENT, DIFFERS)
+}
+
+/// What is said of lives that differ.
+const DIFFERS: &str =
+    "differs: a life isn't opened or ends early, or a line is missing or has another text";
+
+/// What is said of lives by which an upgrade can't be done again.
+const NO_UPGRADE: &str = "the script's upgrade can't be done again after a cut";
+
+/// The line that says by which error a life of the script ended.
+fn plan_text(alloc: Global, number: u64, why: RecoverFault) -> io::Result<Vec<u8>>
+    ensures { IfOk result (λ text. text.items ≡ plan_line number why) }
+{
+    let mut text = Vec::new(alloc);
+    text.write_all(b"the script's ")?;
+    spell_error(&mut text, number, why)?;
+    Ok(text)
+}
+
+/// Prints by which error a life of the script ended. Answers the exit status.
+fn say_plan<E: Write + Drop>(
+    alloc: Global,
+    number: u64,
+    why: RecoverFault,
+    err: &mut Printer<E>,
+) -> u8
+    ensures known { result ≤ 7 }
+    ensures said { SaysPlan number why err.old err.new result }
+{
+    let Ok(text) = plan_text(alloc, number, why) else {
+        return report(err, Obstacle::Memory);
+    };
+    if say_text(err, text.as_slice()) != 0 {
+        return UNWRITTEN;
+    }
+    USAGE
+}
+
+/// Prints how a sweep has ended, and answers the exit status.
+fn say_end<W: Write + Drop, E: Write + Drop>(
+    alloc: Global,
+    ended: Result<Option<Swept>, SweepFault>,
+    out: &mut Printer<W>,
+    err: &mut Printer<E>,
+) -> u8
+    ensures { SaysEnd ended out.old out.new err.old err.new result }
+{
+    match ended {
+        Ok(Some(swept)) => say_swept(alloc, swept, out, err),
+        Ok(None) => UNWRITTEN,
+        Err(SweepFault::Memory) => report(err, Obstacle::Memory),
+        Err(SweepFault::Plan { number, why }) => say_plan(alloc, number, why, err),
+        Err(SweepFault::Upgrade { run: _run }) => say_line(err, USAGE, NO_UPGRADE),
+        Err(SweepFault::Differs { run }) => {
+            say_difference(alloc, run.lives.as_slice(), out, err)
+        }
+    }
 }
 
 /// Sweeps the lives that a script spells, of a worker of the module that the bytes spell. It is of
@@ -84,8 +142,9 @@ fn say_difference<W: Write + Drop, E: Write + Drop>(
 /// power cut at each call of the disk in one of them, for each of these fronts. Answers the exit
 /// status: 0 where all cuts agree with the run without one, 1 where one differs, 2 for a script
 /// that can't be swept, 3 for a refused configuration or module, 5 for out of memory, 7 where a
-/// write of a printer has failed.
-#[tactic(auto, using(crate::proofs::SweepLemmas::Statuses::unread_now, crate::proofs::SweepLemmas::Statuses::refused_now, crate::proofs::SweepLemmas::Statuses::unshown, crate::proofs::SweepLemmas::Statuses::said_five, crate::proofs::SweepLemmas::Statuses::differs))]
+/// write of a printer has failed. A script can't be swept if a life of it ends by an error, or if
+/// its upgrade can't be done again after a cut.
+#[tactic(auto, using(crate::proofs::SweepLemmas::Statuses::unread_now, crate::proofs::SweepLemmas::Statuses::refused_now, crate::proofs::SweepLemmas::Statuses::ended_now, crate::proofs::SweepLemmas::Statuses::small_status))]
 pub fn tell_sweep<W: Write + Drop, E: Write + Drop>(
     alloc: Global,
     script: &[u8],
@@ -113,10 +172,6 @@ pub fn tell_sweep<W: Write + Drop, E: Write + Drop>(
         place,
         fronts: choice.fronts,
     };
-    match sweep_lives(alloc, &job, err) {
-        Ok(Some(swept)) => say_swept(alloc, swept, out, err),
-        Ok(None) => UNWRITTEN,
-        Err(SweepFault::Memory) => report(err, Obstacle::Memory),
-        Err(SweepFault::Differs { lives }) => say_difference(alloc, lives.as_slice(), out, err),
-    }
+    let ended = sweep_lives(alloc, &job, err);
+    say_end(alloc, ended, out, err)
 }

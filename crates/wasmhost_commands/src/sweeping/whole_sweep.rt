@@ -1,20 +1,27 @@
 //! A whole sweep.
 
-ghost use Rattle.std.specs.Prelude.{◌<◌, IfOk, IfSome, length};
-ghost use Rattle.wasmhost_commands.specs.rules.Sweeps.{IsSwept};
-ghost use Rattle.wasmhost_commands.specs.laws.CutRuns.{HeedsProgress};
+ghost use Rattle.std.specs.Prelude.{◌≡◌, ◌<◌, IfErr, IfOk, IfSome, Some, length};
+ghost use Rattle.worker.specs.declared.story.report.LifeEnd.TheVariants.{Failed};
+ghost use Rattle.wasmhost_commands.specs.rules.Sweeps.{IsSwept, end_at};
+ghost use Rattle.wasmhost_commands.specs.laws.CutRuns.{HeedsProgress, IsFoundFirst, IsPlainRun};
+ghost use Rattle.wasmhost_commands.specs.laws.CutRuns.{IsPlainUpTo, IsPlanFault, IsSweepFault};
+ghost use Rattle.wasmhost_commands.specs.laws.CutRuns.{CallsBegun, IsSweepOf, IsToldPlain};
 
 use crate::printer::Printer;
 use crate::sweeping::calling::sweep_calls;
 use crate::sweeping::cutting::Sweep;
 use crate::sweeping::fault::SweepFault;
-use crate::sweeping::planning::copy_lives;
-use crate::sweeping::starving::are_starved;
+use crate::sweeping::judging::{lives_from, unfinished, was_opened};
+use crate::sweeping::planning::{SweptPart, and_idle};
+use crate::sweeping::running::{RunLives, run_lives};
 use crate::sweeping::texts::texts_of;
+use crate::sweeping::upgrading::find_before;
+use record_replay::NumberedLine;
 use std::alloc::Global;
 use std::io::Write;
 use wasi_abi::Config;
-use worker::story::{PlannedLife, story};
+use worker::RecoverFault;
+use worker::story::{LifeEnd, LifeReport, PlannedLife};
 
 /// What is to be swept.
 #[derive(Clone, Copy)]
@@ -35,11 +42,126 @@ pub(crate) struct Swept {
     pub(crate) lines: u64,
 }
 
-/// Lives whose own lines don't agree.
-fn differing(alloc: Global, lives: &[PlannedLife]) -> SweepFault {
-    match copy_lives(alloc, lives) {
-        Ok(lives) => SweepFault::Differs { lives },
-        Err(_) => SweepFault::Memory,
+/// By which error a life has ended, if it was opened.
+fn error_of(report: &LifeReport) -> Option<RecoverFault>
+    ensures { IfSome result (λ why. report.now.ended ≡ Failed why) }
+{
+    if !was_opened(&report.opened) {
+        return None;
+    }
+    match report.ended {
+        LifeEnd::Failed(why) => Some(why),
+        LifeEnd::Finished | LifeEnd::Stopped => None,
+    }
+}
+
+/// The same of the life at this place, if it is one of so many.
+fn error_at(reports: &[LifeReport], place: usize, count: usize) -> Option<RecoverFault>
+    ensures failed { IfSome result (λ why. end_at place reports.now ≡ Some (Failed why)) }
+    ensures within { IfSome result (λ _. place < count) }
+{
+    if place >= count {
+        return None;
+    }
+    match reports.get(place) {
+        Some(report) => error_of(report),
+        None => None,
+    }
+}
+
+/// Why lives that were run without a cut can't be swept. The one at this place is the first that
+/// wasn't opened or hasn't done all that it was told.
+fn plan_fault(job: &SweepJob<'_>, run: RunLives, place: usize) -> SweepFault
+    requires { IsPlainUpTo job.now.wasm.now job.now.config.now job.now.lives.now run place }
+    ensures { IsPlanFault job.now.wasm.now job.now.config.now job.now.lives.now result }
+{
+    match error_at(run.reports.as_slice(), place, job.lives.len()) {
+        Some(why) => SweepFault::Plan {
+            number: place as u64 + 1,
+            why,
+        },
+        None => SweepFault::Differs { run },
+    }
+}
+
+/// Runs the lives without a cut.
+fn run_plain(alloc: Global, job: &SweepJob<'_>) -> Result<RunLives, SweepFault>
+    ensures run { IfOk result (IsPlainRun job.now.wasm.now job.now.config.now
+        job.now.lives.now) }
+    ensures failed { IfErr result (IsPlanFault job.now.wasm.now job.now.config.now
+        job.now.lives.now) }
+{
+    let lives = and_idle(alloc, job.lives)?;
+    let run = run_lives(alloc, job.wasm, job.config, lives)?;
+    match unfinished(run.reports.as_slice()) {
+        None => Ok(run),
+        Some(place) => Err(plan_fault(job, run, place)),
+    }
+}
+
+/// How many calls were begun in the life at this place.
+fn calls_at(reports: &[LifeReport], place: usize) -> Option<u64>
+    ensures { IfSome result (CallsBegun reports.now place) }
+{
+    match reports.get(place) {
+        Some(report) => Some(report.calls),
+        None => None,
+    }
+}
+
+/// What is swept, with so many answers before an upgrade that is done again.
+fn sweep_of<'a>(
+    job: &SweepJob<'a>,
+    plain: &'a RunLives,
+    texts: &'a [NumberedLine],
+    before: u64,
+) -> Sweep<'a>
+    requires { job.now.place < length job.now.lives.now }
+    ensures of { IsSweepOf job.now.wasm.now job.now.config.now job.now.lives.now job.now.place
+        plain.entry.now.reports result }
+    ensures texts { result.texts.now ≡ texts.entry.now }
+{
+    Sweep {
+        wasm: job.wasm,
+        config: job.config,
+        part: SweptPart {
+            earlier: &job.lives[..job.place],
+            swept: &job.lives[job.place..],
+            told: lives_from(plain.reports.as_slice(), job.place),
+            before,
+        },
+        texts,
+    }
+}
+
+/// Runs the lives with each cut of one of them, which has begun so many calls without a cut.
+fn sweep_plain<E: Write + Drop>(
+    alloc: Global,
+    job: &SweepJob<'_>,
+    plain: &RunLives,
+    texts: &[NumberedLine],
+    calls: u64,
+    err: &mut Printer<E>,
+) -> Result<Option<Swept>, SweepFault>
+    requires place { job.now.place < length job.now.lives.now }
+    requires told { IsToldPlain job.now.wasm.now job.now.config.now job.now.lives.now
+        job.now.place plain.now texts.now calls }
+    ensures swept { IfOk result (λ o. IfSome o (λ swept. IsSwept job.now.wasm.now
+        job.now.config.now job.now.lives.now job.now.place job.now.fronts.now swept.cuts
+        swept.lines)) }
+    ensures failed { IfErr result (IsSweepFault job.now.wasm.now job.now.config.now
+        job.now.lives.now job.now.place) }
+    ensures heeded { HeedsProgress result err.old err.new }
+    ensures quiet { IfErr result (λ fault. IsFoundFirst fault → err.new ≡ err.old) }
+{
+    let before = find_before(alloc, &sweep_of(job, plain, texts, 0))?;
+    let sweep = sweep_of(job, plain, texts, before);
+    match sweep_calls(alloc, &sweep, job.fronts, calls, err)? {
+        Some(cuts) => Ok(Some(Swept {
+            cuts,
+            lines: texts.len() as u64,
+        })),
+        None => Ok(None),
     }
 }
 
@@ -54,32 +176,17 @@ pub(crate) fn sweep_lives<E: Write + Drop>(
     ensures swept { IfOk result (λ o. IfSome o (λ swept. IsSwept job.now.wasm.now
         job.now.config.now job.now.lives.now job.now.place job.now.fronts.now swept.cuts
         swept.lines)) }
+    ensures failed { IfErr result (IsSweepFault job.now.wasm.now job.now.config.now
+        job.now.lives.now job.now.place) }
     ensures heeded { HeedsProgress result err.old err.new }
+    ensures quiet { IfErr result (λ fault. IsFoundFirst fault → err.new ≡ err.old) }
 {
-    let report = story(alloc, job.wasm, job.config, job.lives)?;
-    let plain = report.lives.as_slice();
-    if are_starved(plain) {
-        return Err(SweepFault::Memory);
-    }
-    let Some(texts) = texts_of(alloc, plain)? else {
-        return Err(differing(alloc, job.lives));
+    let plain = run_plain(alloc, job)?;
+    let Some(texts) = texts_of(alloc, plain.reports.as_slice())? else {
+        return Err(SweepFault::Differs { run: plain });
     };
-    let Some(life) = plain.get(job.place) else {
-        return Err(differing(alloc, job.lives));
+    let Some(calls) = calls_at(plain.reports.as_slice(), job.place) else {
+        return Err(SweepFault::Differs { run: plain });
     };
-    let sweep = Sweep {
-        wasm: job.wasm,
-        config: job.config,
-        before: &job.lives[..job.place],
-        swept: &job.lives[job.place..],
-        told: &plain[job.place..],
-        texts: texts.lines(),
-    };
-    match sweep_calls(alloc, &sweep, job.fronts, life.calls, err)? {
-        Some(cuts) => Ok(Some(Swept {
-            cuts,
-            lines: texts.lines().len() as u64,
-        })),
-        None => Ok(None),
-    }
+    sweep_plain(alloc, job, &plain, texts.lines(), calls, err)
 }

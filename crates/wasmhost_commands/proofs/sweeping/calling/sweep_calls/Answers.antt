@@ -11,7 +11,7 @@ pub loop-call-preserved : goal.loop-call-preserved
 loop-call-preserved g c = (
   one_call_more (IsSweptAt c.args.sweep.now) c.loop-call.call c.args.fronts.now
       c.loop-call.now.cuts c.in_ok-now.now.cuts c.loop-call.invariant.0.0
-      c.loop-call.invariant.0.1 c.in_ok-now.ensures.0 c.in_ok-now.ensures.1,
+      c.loop-call.invariant.0.1 c.in_ok-now.ensures.agree.0 c.in_ok-now.ensures.agree.1,
   omega (arith, c.loop-call-test.true),
   at_ok c.show_progress.result c.is_err.result c.is_err.ensures.value c.if-is_err.false
       c.show_progress.ensures.steady ∙ c.loop-call.invariant.2,

@@ -1,24 +1,23 @@
 use Rattle.std.proofs.Common.{List, subst}
 use Rattle.worker.specs.declared.story.life.PlannedLife.{PlannedLife}
-use Rattle.worker.specs.declared.story.report.LifeReport.{LifeReport}
 use Rattle.worker.specs.rules.StoryDisks.{TellsLives}
-use Rattle.wasmhost_commands.specs.laws.CutRuns.{AgreesWith}
 use Rattle.wasmhost_commands.proofs.sweeping.cutting.judge.Goals as goal
 
-pub returns-then-branch : goal.returns-then-branch
-returns-then-branch c =
+pub returns-then-branch-clause-agrees : goal.returns-then-branch-clause-agrees
+returns-then-branch-clause-agrees c =
     let sweep = c.args.sweep.now in
     let run = c.args.run in
-    let all =
-    subst (λ (reports : List LifeReport). AgreesWith sweep.texts.now c.args.taken reports)
-    c.as_slice.ensures (c.in_ok-agrees.ensures c.if-branch.true) in
+    let all = c.in_ok-is_same.ensures.same c.if-branch.true in
     record {
-      taken = c.args.taken;
+      given = c.args.given;
       reports = run.reports;
       tells =
           subst (λ (lives : List PlannedLife). TellsLives sweep.wasm.now sweep.config.now lives
-          run.reports) c.requires.lives c.requires.tells;
-      opened = all.opened;
-      more = all.more;
-      agrees = all.agrees;
+          run.reports) c.requires.lives c.requires.run.tells;
+      done = all.cut.done;
+      stopped = all.cut.stopped;
+      opened = all.agrees.opened;
+      finished = all.agrees.finished;
+      more = all.agrees.more;
+      agrees = all.agrees.agrees;
     }

@@ -1,13 +1,7 @@
-use Rattle.std.proofs.Common.{List, subst}
-use Rattle.worker.specs.declared.story.life.PlannedLife.{PlannedLife}
-use Rattle.worker.specs.rules.StoryDisks.{TellsLives}
+use Rattle.wasmhost_commands.proofs.SweepLemmas.Runs.{cut_run}
 use Rattle.wasmhost_commands.proofs.sweeping.cutting.run_cut.Goals as goal
 
-pub returns : goal.returns
-returns c = record {
-  lives = c.in_ok-lives.ensures;
-  tells =
-      subst (λ (lives : List PlannedLife). TellsLives c.args.sweep.now.wasm.now
-      c.args.sweep.now.config.now lives c.in_ok-report.report.lives) c.as_slice.ensures
-      c.in_ok-report.ensures;
-}
+pub returns-clause-run : goal.returns-clause-run
+returns-clause-run c =
+    cut_run c.args.sweep.now c.args.place c.args.given c.in_ok-lives.lives c.run_lives.result
+    c.in_ok-lives.ensures c.run_lives.ensures.run

@@ -1,0 +1,39 @@
+//! Lives of a sweep are run.
+
+ghost use Rattle.std.specs.Prelude.{◌≡◌, IfErr, IfOk};
+ghost use Rattle.wasmhost_commands.specs.declared.sweeping.fault.SweepFault.TheVariants.{Memory};
+ghost use Rattle.wasmhost_commands.specs.laws.CutRuns.{AreRun};
+
+use crate::sweeping::fault::SweepFault;
+use crate::sweeping::starving::are_starved;
+use std::alloc::Global;
+use wasi_abi::Config;
+use wasm_syntax::ItemList;
+use worker::story::{LifeReport, PlannedLife, story};
+
+/// Lives that were run, and what was told of them.
+#[derive(Debug, Drop)]
+pub(crate) struct RunLives {
+    pub(crate) lives: ItemList<PlannedLife>,
+    pub(crate) reports: ItemList<LifeReport>,
+}
+
+/// Runs lives one after another. It fails where memory was refused to one of them, too.
+pub(super) fn run_lives(
+    alloc: Global,
+    wasm: &[u8],
+    config: &Config,
+    lives: ItemList<PlannedLife>,
+) -> Result<RunLives, SweepFault>
+    ensures run { IfOk result (λ run. (run.lives ≡ lives) × AreRun wasm.now config.now run) }
+    ensures failed { IfErr result (λ fault. fault ≡ Memory) }
+{
+    let report = story(alloc, wasm, config, lives.as_slice())?;
+    if are_starved(report.lives.as_slice()) {
+        return Err(SweepFault::Memory);
+    }
+    Ok(RunLives {
+        lives,
+        reports: report.lives,
+    })
+}
