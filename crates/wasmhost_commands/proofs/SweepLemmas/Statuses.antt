@@ -1,5 +1,5 @@
 -- From how a sweep went to what the exit status says.
-use Rattle.std.proofs.Common.{◌≡◌, inl, inr, ℕ, ◌≤◌, List, refl, sym, ap, ◌∙◌, subst, arith}
+use Rattle.std.proofs.Common.{◌≡◌, inl, inr, ℕ, List, refl, sym, ap, ◌∙◌, subst, arith}
 use Rattle.std.specs.Prelude.{◌⊎◌, Option, Some, None, Result, Ok, Err, IfErr, IfOk, IfSome}
 use Rattle.worker.specs.declared.recover_fault.RecoverFault.{RecoverFault}
 use Rattle.worker.specs.declared.story.life.PlannedLife.{PlannedLife}
@@ -301,18 +301,3 @@ ended_now script wasm sizes fronts number out out' err mid err' lives place spel
     (Err (fault.Differs run)) ok failed heeds quiet status said =
     differs script wasm sizes fronts number out out' err mid err' heeds lives place spelled prepared
     prepares failed status said
-
--- each status is known
-pub small_status : (script wasm : List ℕ) (sizes : Sizes) (fronts : List ℕ) (number : Option ℕ)
-    (out out' err err' : PrinterState) (status : ℕ)
-    → TellsSweep script wasm sizes fronts number out out' err err' status → status ≤ 7
-small_status script wasm sizes fronts number out out' err err' status tells = by tells.known
-  where
-    by : (status ≡ 0) ⊎ (status ≡ 1) ⊎ (status ≡ 2) ⊎ (status ≡ 3) ⊎ (status ≡ 5) ⊎ (status ≡ 7)
-        → status ≤ 7
-    by (inl is) = omega (arith, is)
-    by (inr (inl is)) = omega (arith, is)
-    by (inr (inr (inl is))) = omega (arith, is)
-    by (inr (inr (inr (inl is)))) = omega (arith, is)
-    by (inr (inr (inr (inr (inl is))))) = omega (arith, is)
-    by (inr (inr (inr (inr (inr is))))) = omega (arith, is)

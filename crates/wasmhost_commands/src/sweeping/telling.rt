@@ -123,7 +123,8 @@ fn say_end<W: Write + Drop, E: Write + Drop>(
     out: &mut Printer<W>,
     err: &mut Printer<E>,
 ) -> u8
-    ensures { SaysEnd ended out.old out.new err.old err.new result }
+    ensures known { result ≤ 7 }
+    ensures said { SaysEnd ended out.old out.new err.old err.new result }
 {
     match ended {
         Ok(Some(swept)) => say_swept(alloc, swept, out, err),
@@ -144,7 +145,7 @@ fn say_end<W: Write + Drop, E: Write + Drop>(
 /// that can't be swept, 3 for a refused configuration or module, 5 for out of memory, 7 where a
 /// write of a printer has failed. A script can't be swept if a life of it ends by an error, or if
 /// its upgrade can't be done again after a cut.
-#[tactic(auto, using(crate::proofs::SweepLemmas::Statuses::unread_now, crate::proofs::SweepLemmas::Statuses::refused_now, crate::proofs::SweepLemmas::Statuses::ended_now, crate::proofs::SweepLemmas::Statuses::small_status))]
+#[tactic(auto, using(crate::proofs::SweepLemmas::Statuses::unread_now, crate::proofs::SweepLemmas::Statuses::refused_now))]
 pub fn tell_sweep<W: Write + Drop, E: Write + Drop>(
     alloc: Global,
     script: &[u8],
