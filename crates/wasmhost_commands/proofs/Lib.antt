@@ -35,3 +35,4 @@ mod SpellingLemmas
 mod InspectingLemmas
 mod ValueLemmas
 mod PlainLemmas
+pub mod VerdictLemmas
