@@ -36,3 +36,5 @@ mod InspectingLemmas
 mod ValueLemmas
 mod PlainLemmas
 pub mod VerdictLemmas
+pub mod EntryLemmas
+pub mod FlawLemmas

@@ -10,12 +10,16 @@ use Rattle.std.proofs.lemmas.Option.{slice_get_read}
 use Rattle.wasm_syntax.specs.declared.types.FunctionType.{FunctionType}
 use Rattle.wasm_syntax.specs.declared.module.Import.{Import}
 use Rattle.wasmhost_commands.specs.rules.Printers.{PrinterState, IsPrinted}
+use Rattle.wasm_syntax.specs.declared.module.Module.{Module}
+use Rattle.machine.specs.declared.instance.fault.LinkFault.{LinkFault}
+use Rattle.machine.specs.declared.instance.fault.LinkFault.TheVariants.{TooManyPages}
 use Rattle.machine_loader.specs.declared.fault.ModuleFault.{ModuleFault}
 use Rattle.machine_loader.specs.declared.fault.ModuleFault.TheVariants.{Decode, Valid, Link}
 use Rattle.machine_loader.specs.rules.Acceptance.{IsReported}
 use Rattle.wasmhost_commands.specs.rules.Statuses.{status_by}
 use Rattle.wasmhost_commands.specs.rules.Verdicts.{EndsWithMore, IsImportOffered, SaysMore}
-use Rattle.wasmhost_commands.specs.rules.Verdicts.{TellsMore, TellsRefusal, pages_text}
+use Rattle.wasmhost_commands.specs.rules.Verdicts.{TellsMore, TellsOfLink, TellsRefusal}
+use Rattle.wasmhost_commands.specs.rules.Verdicts.{first_pages, pages_text}
 use Rattle.wasmhost_commands.proofs.PrinterLemmas.{writes_so}
 
 -- ---- tests
@@ -62,11 +66,13 @@ one_more types imports place i there offered so_far =
 
 -- ---- pages
 
--- so many pages are told, where they are as many as another number says
-pub pages_told : {T E : Type 0} (r : Result T E) (old new : PrinterState) (m n : ℕ) → m ≡ n
-    → OnOk r (IsPrinted old new (pages_text m)) → OnOk r (IsPrinted old new (pages_text n))
-pages_told r old new m n is told =
-    subst (λ k. OnOk r (IsPrinted old new (pages_text k))) is told
+-- so many pages are told of a module that begins with too many
+pub pages_told : {T E : Type 0} (r : Result T E) (m : Module) (fault : LinkFault)
+    (old new : PrinterState) (n : ℕ) → fault ≡ TooManyPages → n ≡ first_pages m
+    → OnOk r (IsPrinted old new (pages_text n)) → OnOk r (TellsOfLink m fault old new)
+pages_told r m fault old new n is count told =
+    subst (λ f. OnOk r (TellsOfLink m f old new)) (sym is)
+    (subst (λ k. OnOk r (IsPrinted old new (pages_text k))) count told)
 
 -- the text of so many pages, as it is written for a test of their number
 abbrev pub pages_written : ℕ → Bool → List ℕ
