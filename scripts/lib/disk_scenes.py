@@ -203,8 +203,8 @@ def line_scene(given, out, err, status=6):
     return f"request lines {given[:40]!r}", [created(), runs(given, out, err, status=status)]
 
 
-REFUSED, SECOND, LONG = refused(1), refused(2), refused(1, TOO_LONG)
-LONGER = refused(1, "longer than version 2 takes, 65536 bytes of text\n")
+REFUSED, SECOND, LONG_LINE = refused(1), refused(2), refused(1, TOO_LONG)
+LONGER_LINE = refused(1, "longer than version 2 takes, 65536 bytes of text\n")
 LINES = [
     line_scene(given, out, err)
     for given, out, err in [
@@ -219,11 +219,11 @@ LINES = [
         (b"1 r a\nb\n", "1 o a\n", SECOND), (b"1 r a\n1 r\n", "1 o a\n", SECOND),
         (b"1 r a\n3 r b\n", "1 o a\n", too_late(2, 3, 2)),
         (b"1 r a\n0 r b\n", "1 o a\n", SECOND),
-        (b"1 r " + b"x" * 4_097 + b"\n", "", LONG),
+        (b"1 r " + b"x" * 4_097 + b"\n", "", LONG_LINE),
         (b"1 r a\n1 r " + b"x" * 4_097 + b"\n", "1 o a\n", refused(2, TOO_LONG)),
-        (b"0 r " + b"x" * 4_097 + b"\n", "", REFUSED), (b"0 r " + b"x" * 5_000, "", LONG),
+        (b"0 r " + b"x" * 4_097 + b"\n", "", REFUSED), (b"0 r " + b"x" * 5_000, "", LONG_LINE),
         # A line that comes in several pieces is one line.
-        (b"1 r " + b"x" * 9_000, "", LONG),
+        (b"1 r " + b"x" * 9_000, "", LONG_LINE),
         (b"1 r a\n" * 9_000 + b"b\n", "1 o a\n", refused(9_001)),
         (b"1 r a\n" * 3 + b"\n2 r b\n", "1 o a\n", refused(4))]
 ] + [
@@ -703,8 +703,8 @@ UPGRADES = [
         Command(["upgrade", "disk"], 3, "", "failed N7 JournalTooSmall\n", changes=True),
         shows(counted(4, 27, 1, 1, 0)), runs(b"1 r a\n2 r b\n", "2 o b\n")]),
     ("requests have up to 65,536 bytes after an upgrade", [
-        with_journal(), runs(b"1 r " + b"x" * 4_097, "", LONG, status=6),
-        upgrades("upgraded\n"), runs(b"1 r " + b"x" * 65_537, "", LONGER, status=6),
+        with_journal(), runs(b"1 r " + b"x" * 4_097, "", LONG_LINE, status=6),
+        upgrades("upgraded\n"), runs(b"1 r " + b"x" * 65_537, "", LONGER_LINE, status=6),
         runs(b"1 r " + b"x" * 65_536, lines_of(65_536)), inspected("request")]),
     ("a head of version 2 and an image of version 1", [
         with_journal(), written(field(2, form.HEAD_VERSION, TWO)),

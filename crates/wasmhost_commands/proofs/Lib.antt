@@ -35,3 +35,6 @@ mod SpellingLemmas
 mod InspectingLemmas
 mod ValueLemmas
 mod PlainLemmas
+pub mod VerdictLemmas
+pub mod EntryLemmas
+pub mod FlawLemmas

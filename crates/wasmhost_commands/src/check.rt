@@ -37,8 +37,19 @@ fn verdict_on(alloc: Global, wasm: &[u8], pages: u32) -> Result<(), ModuleFault>
     }
 }
 
-/// Prints that a module is refused: the fault's code and name, and its place if it has one. A limit
-/// that is passed is on a line of its own, and so is what else is known of the module.
+/// Prints a fault of a module: its code and name, and its place if it has one.
+fn print_fault<W: Write + Drop>(fault: ModuleFault, out: &mut Printer<W>) -> io::Result<()>
+    ensures steady { OnOk result (out.new.failed ≡ out.old.failed) }
+    ensures failed { OnErr result (out.new.failed ≡ true) }
+{
+    match fault.place() {
+        Some(at) => writeln!(out, "refused {fault} at {at}"),
+        None => writeln!(out, "refused {fault}"),
+    }
+}
+
+/// Prints that a module is refused. A limit that is passed is on a line of its own, and so is what
+/// else is known of the module.
 fn print_refusal<W: Write + Drop>(
     alloc: Global,
     wasm: &[u8],
@@ -54,10 +65,7 @@ fn print_refusal<W: Write + Drop>(
     if let Some(passed) = fault.passed_limit() {
         return print_limit(out, "refused", passed);
     }
-    match fault.place() {
-        Some(at) => writeln!(out, "refused {fault} at {at}")?,
-        None => writeln!(out, "refused {fault}")?,
-    }
+    print_fault(fault, out)?;
     print_more(alloc, wasm, fault, out)
 }
 
@@ -73,7 +81,7 @@ fn print_verdict<W: Write + Drop>(
     ensures limit { (fault : ModuleFault) (passed : PassedLimit) → verdict ≡ Err fault
         → passed_in fault ≡ Some passed
         → OnOk result (IsPrinted out.old out.new (limit_text (codes "refused") passed)) }
-    ensures more { IfErr verdict (λ fault. OnOk result (EndsWithMore wasm.now fault out.new)) }
+    ensures more { OnOk result (IfErr verdict (λ fault. EndsWithMore wasm.now fault out.new)) }
     ensures steady { OnOk result (out.new.failed ≡ out.old.failed) }
     ensures failed { OnErr result (out.new.failed ≡ true) }
 {

@@ -193,8 +193,7 @@ fn print_refusal<E: Write + Drop>(
     ensures failed { OnErr result (err.new.failed ≡ true) }
 {
     writeln!(err, "failed {why}")?;
-    print_more(alloc, wasm, why, err)?;
-    err.flush()
+    print_more(alloc, wasm, why, err)
 }
 
 /// Prints why a module isn't accepted. A limit that it passes is told on a second line, and so is

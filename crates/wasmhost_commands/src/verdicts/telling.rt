@@ -30,6 +30,7 @@ fn print_import<W: Write + Drop>(
     what: &str,
 ) -> io::Result<()>
     ensures printed { OnOk result (IsPrinted out.old out.new (import_text import.now what.now)) }
+    ensures steady { OnOk result (out.new.failed ≡ out.old.failed) }
     ensures failed { OnErr result (out.new.failed ≡ true) }
 {
     out.write_all(b"import ")?;
@@ -46,6 +47,7 @@ fn print_refused_import<W: Write + Drop>(
     what: &str,
 ) -> io::Result<()>
     ensures told { OnOk result (TellsOfImport module.now what.now out.old out.new) }
+    ensures steady { OnOk result (out.new.failed ≡ out.old.failed) }
     ensures failed { OnErr result (out.new.failed ≡ true) }
 {
     match first_refused(module) {
@@ -67,6 +69,7 @@ fn first_pages(module: &Module) -> u32
 /// Prints how many pages a memory begins with, and the option that allows them.
 fn print_pages<W: Write + Drop>(out: &mut Printer<W>, pages: u32) -> io::Result<()>
     ensures printed { OnOk result (IsPrinted out.old out.new (pages_text pages)) }
+    ensures steady { OnOk result (out.new.failed ≡ out.old.failed) }
     ensures failed { OnErr result (out.new.failed ≡ true) }
 {
     if pages <= MOST_PAGES {
@@ -83,6 +86,7 @@ fn print_link<W: Write + Drop>(
     fault: LinkFault,
 ) -> io::Result<()>
     ensures told { OnOk result (TellsOfLink module.now fault out.old out.new) }
+    ensures steady { OnOk result (out.new.failed ≡ out.old.failed) }
     ensures failed { OnErr result (out.new.failed ≡ true) }
 {
     match fault {
@@ -102,6 +106,7 @@ pub(crate) fn print_more<W: Write + Drop>(
     out: &mut Printer<W>,
 ) -> io::Result<()>
     ensures more { OnOk result (TellsMore wasm.now why out.old out.new) }
+    ensures steady { OnOk result (out.new.failed ≡ out.old.failed) }
     ensures failed { OnErr result (out.new.failed ≡ true) }
 {
     let ModuleFault::Link(fault) = why else {

@@ -15,5 +15,5 @@ returns-clause-serves g c =
       ahead = reader_buffer requests.reader.reader;
       line = requests.reader.begun;
       flaw = c.report_input.ensures.says.0;
-      says = c.report_input.ensures.says.1.1;
+      says = c.report_input.ensures.says.2;
     }

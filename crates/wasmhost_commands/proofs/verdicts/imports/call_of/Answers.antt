@@ -1,7 +1,7 @@
 use Rattle.std.proofs.Common.{◌≡◌, ◌∙◌, ap, sym, false, true}
 use Rattle.std.specs.Str.{bytes_eq}
 use Rattle.wasi_abi.specs.rules.Calls.{module_name, all_calls}
-use Rattle.wasm_validate.proofs.PartLemmas.Names.{not_false, not_true}
+use Rattle.wasmhost_commands.proofs.VerdictLemmas.{not_false, not_true}
 use Rattle.machine.proofs.InstanceLemmas.Offered.{found_among, another_module, their_module}
 use Rattle.machine.proofs.InstanceLemmas.Offered.{call_found, call_passed, no_call}
 use Rattle.wasmhost_commands.proofs.verdicts.imports.call_of.Goals as goal
