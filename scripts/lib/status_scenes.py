@@ -7,13 +7,16 @@ disk. All that is in the folder is compared before and after, but for what a run
 import contextlib
 import dataclasses
 import os
+import re
 import socket
 import stat
 import subprocess
 import time
 
+from lib.disk_scenes import outside_module
 from lib.disk_steps import LEAST, refused, too_late
 from lib.guest_runs import ECHO, SECONDS, ended, scratch
+from lib.small_modules import small
 
 DISK, FILE = "worker.disk", "standing"
 BESIDE = f"{FILE}.new"
@@ -31,10 +34,16 @@ NULL, FULL = os.makedev(1, 3), os.makedev(1, 7)
 MOST, MOST_CODE = (1 << 64) - 1, (1 << 32) - 1
 
 
-def line(generation=1, steps=2, answers=3, lines=4, words="running"):
-    """A status line."""
+def line(generation=1, steps=2, answers=3, lines=4, words="running", requests=5):
+    """A status line. One of an older program has no requests."""
+    counted = "" if requests is None else f"requests {requests} "
     return (f"generation {generation} steps {steps} answers {answers} lines {lines} "
-            f"{words}\n").encode()
+            f"{counted}{words}\n").encode()
+
+
+def stands(generation, steps, answers, lines, words="running"):
+    """That of a worker of `echo`: each of its answers is a request."""
+    return line(generation, steps, answers, lines, words, answers)
 
 
 TRAPS = ["unreachable", "integer divide by zero", "integer overflow", "out of bounds memory access",
@@ -42,11 +51,14 @@ TRAPS = ["unreachable", "integer divide by zero", "integer overflow", "out of bo
          "stack exhausted"]
 
 # What a run may replace, or find beside the path and remove: an empty file, and status lines.
-LEFT = [b"", line(), line(words="parked"), line(0, 0, 0, 0, "exited 0"), line(words="exited 7"),
-        line(MOST, MOST, MOST, MOST, f"exited {MOST_CODE}"),
-        *[line(MOST, MOST, MOST, MOST, f"trapped {name}") for name in TRAPS]]
+LEFT = [b"", line(), line(words="parked"), line(0, 0, 0, 0, "exited 0", 0), line(words="exited 7"),
+        line(MOST, MOST, MOST, MOST, f"exited {MOST_CODE}", MOST),
+        *[line(MOST, MOST, MOST, MOST, f"trapped {name}", MOST) for name in TRAPS],
+        line(requests=None), line(words="parked", requests=None),
+        line(MOST, MOST, MOST, MOST, f"exited {MOST_CODE}", None),
+        line(words=f"trapped {TRAPS[3]}", requests=None)]
 # The longest one.
-assert max(map(len, LEFT)) == 151
+assert max(map(len, LEFT)) == 181
 
 # What it may not: bytes that are nearly a status line.
 NO_LINES = [
@@ -61,7 +73,11 @@ NO_LINES = [
     line(words="trapped unreachable "), line(words="trapped by nobody"),
     line(words="failed K2 Io"), line().replace(b"steps", b"step"),
     line().replace(b"answers 3 lines 4", b"lines 4 answers 3"),
-    line(MOST, MOST, MOST, MOST, f"trapped {TRAPS[3]}") + b"x" * 600]
+    line(requests="05"), line(requests=""), line(requests="-1"), line(requests=MOST + 1),
+    line().replace(b"requests", b"request"), line().replace(b"requests 5 ", b"requests 5 " * 2),
+    line().replace(b"lines 4 requests 5", b"requests 5 lines 4"),
+    line().replace(b"requests 5 running", b"running requests 5"),
+    line(MOST, MOST, MOST, MOST, f"trapped {TRAPS[3]}", MOST) + b"x" * 600]
 
 
 @dataclasses.dataclass
@@ -175,7 +191,7 @@ class Taken:
     made: dict
     given: bytes = b"1 r a\n"
     wanted: tuple = (0, b"1 o a\n", b"parked\n")
-    left: object = line(3, 27, 1, 1, "parked")
+    left: object = stands(3, 27, 1, 1, "parked")
 
 
 def fault_of_taken(program, folder, scene):
@@ -240,12 +256,12 @@ ENDS = [
     Taken("both are there", {FILE: filled(line()), BESIDE: filled(b"")}),
     Taken("a further name of an old line", {FILE: hard_linked("left")}),
     Taken("the line of a worker that has exited", {}, b"1 e\n", (0, b"", b"exited 0\n"),
-          line(3, 11, 1, 0, "exited 0")),
+          stands(3, 11, 1, 0, "exited 0")),
     # A run that fails leaves the line before: that of the recovery.
     Taken("a refused line", {}, b"1 r a\n3 e\n",
-          (6, b"1 o a\n", too_late(2, 3, 2).encode()), line(2, 0, 0, 0)),
+          (6, b"1 o a\n", too_late(2, 3, 2).encode()), stands(2, 0, 0, 0)),
     Taken("a refused line over an old file", {FILE: filled(line(words="parked"))}, b"no\n",
-          (6, b"", refused(1).encode()), line(2, 0, 0, 0)),
+          (6, b"", refused(1).encode()), stands(2, 0, 0, 0)),
     # One that is never recovered leaves what was there.
     Taken("a disk without a worker", {DISK: filled(bytes(512))}, b"", NOT_A_WORKER, None),
     Taken("an old line, and a disk without a worker", {
@@ -336,7 +352,7 @@ def held_fault(program, file):
 def waiting_fault(program):
     """What is wrong with the file of a run that saves after each step and waits for requests. Each
     line is a new file, and nothing is left beside it."""
-    lines = line(7, 5, 0, 0), line(29, 27, 1, 1), line(52, 49, 2, 2, "parked")
+    lines = stands(7, 5, 0, 0), stands(29, 27, 1, 1), stands(52, 49, 2, 2, "parked")
     with stage(program, {}) as folder:
         path = os.path.join(folder, FILE)
         words = DISK, "--status", FILE, "--fuel", "1", "--every", "1"
@@ -359,13 +375,95 @@ def waiting_fault(program):
     return None if result == wanted else f"status file of a run that waits: {result}, not {wanted}"
 
 
+# ---- lines between two checkpoints
+
+# No checkpoint comes by this pace.
+NEVER = str(1 << 62)
+
+# A guest in an endless loop, and the steps of a slice of it.
+SPINS, FUEL = small(b"\x03\x40\x0c\x00\x0b"), 1_000
+
+# The line of such a guest after whole slices. By how many seconds two of them may be apart, and how
+# many are looked at.
+SPINNING = re.compile(rb"generation 2 steps ([0-9]+)000 answers 0 lines 0 requests 0 running\n")
+APART, LOOKS = 2, 4
+
+# Draws, looks at both clocks and reads a request, and does all that again. It writes seven lines up
+# to the first request, and six from there to the next one.
+OUTSIDE = re.compile(rb"generation 3 steps [0-9]+ answers 7 lines 13 requests 1 parked\n")
+
+
+def moved(path, seen_last):
+    """The next bytes of a file that aren't these, or none where it stays as it is too long."""
+    end = time.monotonic() + APART
+    while time.monotonic() < end:
+        with contextlib.suppress(FileNotFoundError), open(path, "rb") as file:
+            found = file.read()
+            if found != seen_last:
+                return found
+        time.sleep(0.01)
+    return None
+
+
+def spinning_fault(program):
+    """What is wrong with the file of a guest in an endless loop: its steps grow."""
+    with stage(program, {"spins.wasm": filled(SPINS)}) as folder:
+        ended_in(folder, [program, "create", "spins.disk", "spins.wasm", *LEAST])
+        words = "spins.disk", "--status", FILE, "--fuel", str(FUEL), "--every", NEVER
+        with begun(program, folder, *words):
+            path = os.path.join(folder, FILE)
+            found = [comes_to(path, line(2, 0, 0, 0, requests=0))]
+            found += [moved(path, found[-1])]
+            while len(found) < LOOKS and found[-1]:
+                found.append(moved(path, found[-1]))
+    steps = [SPINNING.fullmatch(it or b"") for it in found[1:]]
+    if found[0] != line(2, 0, 0, 0, requests=0) or None in steps:
+        return f"status file of a guest in an endless loop: {found}"
+    counts = [int(it[1]) for it in steps]
+    return None if counts == sorted(set(counts)) else f"steps of an endless loop: {counts}"
+
+
+def still_fault(program):
+    """What is wrong with the file of a run without checkpoints that waits. It stands still, and
+    after a request it says what the worker has taken, though nothing is saved."""
+    # The fifth step is the last before the first request, and the 27th before the second one.
+    before = [stands(2, steps, 0, 0) for steps in range(6)]
+    behind = [stands(2, steps, 1, count) for steps in range(6, 28) for count in (0, 1)]
+    with stage(program, {}) as folder:
+        path = os.path.join(folder, FILE)
+        words = DISK, "--status", FILE, "--fuel", "1", "--every", NEVER
+        with begun(program, folder, *words) as run:
+            moved(path, b"")
+            time.sleep(1)
+            first = seen(path)
+            is_still = moved(path, first.content) is None and seen(path) == first
+            out, second = told(run, b"1 r a\n"), moved(path, first.content)
+            end, last = over(run), seen(path).content
+    result = is_still, out, end, last
+    wanted = True, b"1 o a\n", (0, b"", b"parked\n"), stands(3, 27, 1, 1, "parked")
+    if result != wanted or first.content not in before or second not in behind:
+        return f"status file of a run without checkpoints: {first}, {second}, {result}"
+    return None
+
+
+def outside_fault(program):
+    """What is wrong with the numbers of a worker whose answers aren't all requests."""
+    with stage(program, {"outside.wasm": filled(outside_module())}) as folder:
+        ended_in(folder, [program, "create", "outside.disk", "outside.wasm", *LEAST])
+        end = ended_in(folder, [program, "run", "outside.disk", "--status", FILE])
+        found = seen(os.path.join(folder, FILE)).content
+    if end[::2] != (0, b"parked\n") or not OUTSIDE.fullmatch(found):
+        return f"status file of a worker that draws: {end}, {found}"
+    return None
+
+
 def meanwhile_fault(program, name, act):
     """What is wrong where something is put at one of both paths while a run waits. It stays, and so
     does the line before, and the run goes on."""
     with stage(program, {}) as folder:
         path, put = os.path.join(folder, FILE), os.path.join(folder, name)
         with begun(program, folder, DISK, "--status", FILE) as run:
-            comes_to(path, line(2, 0, 0, 0))
+            comes_to(path, stands(2, 0, 0, 0))
             if name == FILE:
                 os.remove(path)
             act(put)
@@ -404,5 +502,5 @@ ACTS = [
     *[lambda program, name=name, act=act: meanwhile_fault(program, name, act)
       for name in (FILE, BESIDE)
       for act in (filled(b"mine\n"), linked("notes"), linked("nowhere"), os.mkdir, os.mkfifo)],
-    waiting_fault, order_fault,
+    waiting_fault, spinning_fault, still_fault, outside_fault, order_fault,
 ]

@@ -1,6 +1,7 @@
 -- Whole status lines: their parts, and how long they are.
 use Rattle.std.proofs.Common.{◌≡◌, ◌≢◌, ◌⊎◌, inl, inr, ◌∙◌, ap, sym, refl, ℕ, ◌+◌, ◌<◌, ◌≤◌, ◌^◌}
 use Rattle.std.proofs.Common.{List, [], ◌∷◌, ◌++◌, length, append_assoc, arith, codes, lit≤}
+use Rattle.std.specs.Prelude.{Option, None, Some, IfSome}
 use Rattle.std.specs.Fmt.{decimal}
 use Rattle.std.proofs.lemmas.Fmt.{length-decimal-le}
 use Rattle.std.proofs.lemmas.List.{length-append}
@@ -9,12 +10,12 @@ use Rattle.wasm_syntax.specs.declared.value.Trap.TheVariants as trap
 use Rattle.process.specs.declared.stop.ProcessEnd.TheVariants as end
 use Rattle.ephemeral_worker.specs.declared.now.Now.{Now}
 use Rattle.ephemeral_worker.specs.declared.now.Now.TheVariants as now
-use Rattle.wasmhost_commands.specs.StatusLines.{IsBehindNumbers, IsExitWords, IsTrapWords}
-use Rattle.wasmhost_commands.specs.StatusLines.{IsWatchWords}
+use Rattle.wasmhost_commands.specs.StatusLines.{IsBehindNumber, IsBehindNumbers, IsExitWords}
+use Rattle.wasmhost_commands.specs.StatusLines.{IsStateWords, IsTrapWords, IsWatchWords}
 use Rattle.wasmhost_commands.specs.rules.Showings.{named_number}
 use Rattle.wasmhost_commands.specs.rules.Texts.{trap_text}
 use Rattle.wasmhost_commands.specs.rules.Watchings.{HasCodeInRange, IsStatusLine, status_line}
-use Rattle.wasmhost_commands.specs.rules.Watchings.{watch_words}
+use Rattle.wasmhost_commands.specs.rules.Watchings.{state_words, watch_words}
 
 -- ---- words
 
@@ -39,6 +40,51 @@ known_words words runs parks exits (now.Ended (end.Exited code), fits, is) =
     absurd (exits (code, fits, is))
 known_words words runs parks exits (now.Ended (end.Trapped why), fits, is) = (why, is)
 
+-- ---- words behind the number of requests
+
+-- no number comes first
+pub plain_state : (words : List ℕ) → IsWatchWords words → IsStateWords words
+plain_state words (said, fits, is) =
+    record { requests = None; said = said; requests_fit = tt; code_fits = fits; spelled = is }
+
+-- the number, and then the words
+counted_words : (n : ℕ) (said : Now)
+    → state_words (Some n) said ≡ codes "requests " ++ (decimal n ++ 32 ∷ watch_words said)
+counted_words n said =
+    append_assoc (codes "requests " ++ decimal n) (32 ∷ []) (watch_words said)
+    ∙ append_assoc (codes "requests ") (decimal n) (32 ∷ watch_words said)
+
+pub counted_state : (words rest : List ℕ) (n : ℕ)
+    → IsBehindNumber (codes "requests ") n words rest → IsWatchWords rest → IsStateWords words
+counted_state words rest n behind (said, fits, is) =
+    record {
+      requests = Some n;
+      said = said;
+      requests_fit = behind.0;
+      code_fits = fits;
+      spelled = behind.1 ∙ ap (λ t. codes "requests " ++ (decimal n ++ 32 ∷ t)) is
+          ∙ sym (counted_words n said);
+    }
+
+-- Where no such words are alone, they are behind a number.
+pub behind_state : (words : List ℕ) → (IsWatchWords words → ⊥) → IsStateWords words
+    → (n : ℕ) × (rest : List ℕ) × IsBehindNumber (codes "requests ") n words rest
+    × IsWatchWords rest
+behind_state words other state =
+    by state.requests state.requests_fit state.spelled
+  where
+    by : (requests : Option ℕ) → IfSome requests (λ n. n < 2 ^ 64)
+        → words ≡ state_words requests state.said
+        → (n : ℕ) × (rest : List ℕ) × IsBehindNumber (codes "requests ") n words rest
+        × IsWatchWords rest
+    by None fit is = absurd (other (state.said, state.code_fits, is))
+    by (Some n) fit is = (
+      n,
+      watch_words state.said,
+      (fit, is ∙ counted_words n state.said),
+      (state.said, state.code_fits, refl),
+    )
+
 -- ---- parts
 
 -- one name and its number more
@@ -59,18 +105,20 @@ in_order g p s q a r l t rest =
     ∙ hop (g ++ p) s q (a ++ (r ++ 32 ∷ (l ++ (t ++ 32 ∷ rest))))
     ∙ append_assoc g p (32 ∷ (s ++ (q ++ 32 ∷ (a ++ (r ++ 32 ∷ (l ++ (t ++ 32 ∷ rest)))))))
 
-line_in_order : (generation steps answers lines : ℕ) (said : Now)
-    → status_line generation steps answers lines said ≡ codes "generation " ++ (decimal generation
+line_in_order : (generation steps answers lines : ℕ) (requests : Option ℕ) (said : Now)
+    → status_line generation steps answers lines requests said
+    ≡ codes "generation " ++ (decimal generation
     ++ 32 ∷ (codes "steps " ++ (decimal steps ++ 32 ∷ (codes "answers " ++ (decimal answers
-    ++ 32 ∷ (codes "lines " ++ (decimal lines ++ 32 ∷ watch_words said)))))))
-line_in_order generation steps answers lines said =
+    ++ 32 ∷ (codes "lines " ++ (decimal lines ++ 32 ∷ state_words requests said)))))))
+line_in_order generation steps answers lines requests said =
     in_order (codes "generation ") (decimal generation) (codes "steps ") (decimal steps)
-    (codes "answers ") (decimal answers) (codes "lines ") (decimal lines) (watch_words said)
+    (codes "answers ") (decimal answers) (codes "lines ") (decimal lines)
+    (state_words requests said)
 
 pub parts_of : (bytes : List ℕ) (line : IsStatusLine bytes)
-    → IsBehindNumbers bytes (watch_words line.said)
+    → IsBehindNumbers bytes (state_words line.requests line.said)
 parts_of bytes line =
-    let rest = watch_words line.said in
+    let rest = state_words line.requests line.said in
     let behind_answers : List ℕ = codes "lines " ++ (decimal line.lines ++ 32 ∷ rest) in
     let behind_steps : List ℕ = codes "answers " ++ (decimal line.answers ++ 32 ∷ behind_answers) in
     let behind_generation : List ℕ = codes "steps " ++ (decimal line.steps ++ 32 ∷ behind_steps) in
@@ -85,16 +133,17 @@ parts_of bytes line =
       first = (
         line.numbers_fit.0,
         line.spelled
-            ∙ line_in_order line.generation line.steps line.answers line.lines line.said,
+            ∙ line_in_order line.generation line.steps line.answers line.lines line.requests
+            line.said,
       );
       second = (line.numbers_fit.1, refl);
       third = (line.numbers_fit.2, refl);
       last = (line.numbers_fit.3, refl);
     }
 
-pub line_of : (bytes rest : List ℕ) → IsBehindNumbers bytes rest → IsWatchWords rest
+pub line_of : (bytes rest : List ℕ) → IsBehindNumbers bytes rest → IsStateWords rest
     → IsStatusLine bytes
-line_of bytes rest b (said, fits, is) =
+line_of bytes rest b state =
     let g : List ℕ → List ℕ = λ t. codes "generation " ++ (decimal b.generation ++ 32 ∷ t) in
     let s : List ℕ → List ℕ = λ t. g (codes "steps " ++ (decimal b.steps ++ 32 ∷ t)) in
     let a : List ℕ → List ℕ = λ t. s (codes "answers " ++ (decimal b.answers ++ 32 ∷ t)) in
@@ -104,11 +153,14 @@ line_of bytes rest b (said, fits, is) =
       steps = b.steps;
       answers = b.answers;
       lines = b.lines;
-      said = said;
+      requests = state.requests;
+      said = state.said;
       numbers_fit = (b.first.0, b.second.0, b.third.0, b.last.0);
-      code_fits = fits;
-      spelled = b.first.1 ∙ ap g b.second.1 ∙ ap s b.third.1 ∙ ap a b.last.1 ∙ ap l is
-          ∙ sym (line_in_order b.generation b.steps b.answers b.lines said);
+      requests_fit = state.requests_fit;
+      code_fits = state.code_fits;
+      spelled = b.first.1 ∙ ap g b.second.1 ∙ ap s b.third.1 ∙ ap a b.last.1
+          ∙ ap l state.spelled ∙ sym (line_in_order b.generation b.steps b.answers b.lines
+          state.requests state.said);
     }
 
 -- ---- lengths
@@ -145,19 +197,29 @@ named_short : (name : List ℕ) (k n : ℕ) → length name ≤ k → n < 2 ^ 64
     → length (named_number name n) ≤ k + 20
 named_short name k n short small = both_short name (decimal n) k 20 short (digits_short n small)
 
-pub line_short : (bytes : List ℕ) → IsStatusLine bytes → length bytes ≤ 151
+state_short : (requests : Option ℕ) (said : Now) → IfSome requests (λ n. n < 2 ^ 64)
+    → HasCodeInRange said → length (state_words requests said) ≤ 66
+state_short None said fit fits =
+    let short = words_short said fits in omega (arith, short)
+state_short (Some n) said fit fits =
+    both_short (named_number (codes "requests ") n ++ codes " ") (watch_words said) 30 36
+    (both_short (named_number (codes "requests ") n) (codes " ") 29 1
+    (named_short (codes "requests ") 9 n (lit≤ tt) fit) (lit≤ tt)) (words_short said fits)
+
+pub line_short : (bytes : List ℕ) → IsStatusLine bytes → length bytes ≤ 181
 line_short bytes line =
     let fit = line.numbers_fit in
     let g = named_number (codes "generation ") line.generation in
     let s = named_number (codes " steps ") line.steps in
     let a = named_number (codes " answers ") line.answers in
     let l = named_number (codes " lines ") line.lines in
-    let short = both_short (g ++ s ++ a ++ l ++ codes " ") (watch_words line.said) 115 36
+    let short = both_short (g ++ s ++ a ++ l ++ codes " ")
+    (state_words line.requests line.said) 115 66
     (both_short (g ++ s ++ a ++ l) (codes " ") 114 1
     (both_short (g ++ s ++ a) l 87 27 (both_short (g ++ s) a 58 29 (both_short g s 31 27
     (named_short (codes "generation ") 11 line.generation (lit≤ tt) fit.0)
     (named_short (codes " steps ") 7 line.steps (lit≤ tt) fit.1))
     (named_short (codes " answers ") 9 line.answers (lit≤ tt) fit.2))
     (named_short (codes " lines ") 7 line.lines (lit≤ tt) fit.3)) (lit≤ tt))
-    (words_short line.said line.code_fits) in
+    (state_short line.requests line.said line.requests_fit line.code_fits) in
     let is = ap length line.spelled in omega (arith, short, is)

@@ -1,10 +1,10 @@
 -- The parts of a status line, in the order in which they are read.
-use Rattle.std.specs.Prelude.{◌≡◌, ◌<◌, ◌^◌, ℕ, List, ◌∷◌, ◌++◌, codes}
+use Rattle.std.specs.Prelude.{◌≡◌, ◌<◌, ◌^◌, ℕ, List, ◌∷◌, ◌++◌, Option, IfSome, codes}
 use Rattle.std.specs.Fmt.{decimal}
 use Rattle.ephemeral_worker.specs.declared.now.Now.{Now}
 use Rattle.wasm_syntax.specs.declared.value.Trap.{Trap}
 use Rattle.wasmhost_commands.specs.rules.Texts.{trap_text}
-use Rattle.wasmhost_commands.specs.rules.Watchings.{HasCodeInRange, watch_words}
+use Rattle.wasmhost_commands.specs.rules.Watchings.{HasCodeInRange, state_words, watch_words}
 
 -- a name, this number of 64 bits, a space, and the rest
 abbrev pub IsBehindNumber : List ℕ → ℕ → List ℕ → List ℕ → Type 0
@@ -36,3 +36,11 @@ IsTrapWords words = (why : Trap) × (words ≡ codes "trapped " ++ trap_text why
 -- those of one that runs on or is over
 abbrev pub IsWatchWords : List ℕ → Type 0
 IsWatchWords words = (said : Now) × HasCodeInRange said × (words ≡ watch_words said)
+
+-- such words, or the number of its requests and such words
+pub record IsStateWords (words : List ℕ) : Type 0 where
+  pub requests : Option ℕ
+  pub said : Now
+  pub requests_fit : IfSome requests (λ n. n < 2 ^ 64)
+  pub code_fits : HasCodeInRange said
+  pub spelled : words ≡ state_words requests said

@@ -43,9 +43,12 @@
 //!   (`refusal`). `laws::seven_is_a_failed_write`: what that comes to where the lines are printed.
 //! - `Watcher`: who is told where the worker of a run is. `serve` tells it once the worker is
 //!   recovered, and after each checkpoint of its pace (`told` of `rest_on`). Where the status is 0,
-//!   it was told of that end (`watched`). `StatusFile` is one, which replaces a small file. Its
-//!   line is `watch_line`. No clause says that the file gets it: `scripts/runs/program-rows` and
-//!   `scripts/runs/disk-rows` show that.
+//!   it was told of that end (`watched`). Between two other slices it is told that the worker runs
+//!   on, which it may leave out (`tell_running`): no clause says that it is told then.
+//!   `StatusFile` is a watcher, which replaces a small file. Its line is `watch_line`. Between two
+//!   slices that is the line of a worker that runs on (`due_line`), where half a second has passed
+//!   since the last one (`IsDue`). No clause says that the file gets it:
+//!   `scripts/runs/program-rows` and `scripts/runs/disk-rows` show that.
 //! - `status_file_of`: there is a status file only where both of its paths were found free. Else it
 //!   is said which one isn't, and why (`SaysUnwatched`). A path is free exactly where it is missing,
 //!   or a regular file that is empty or has one status line (`FoundFile::is_free`). By
@@ -133,7 +136,8 @@
 //! `IsUnnamedEntry`, `entry_text` (`Entries.antt`); `TellsMore`, `ChecksModule` (`Verdicts.antt`);
 //! `SaysOfInput` (`Leavings.antt`); `IsFlawIn`, `flaw_words` (`Flaws.antt`);
 //! `ShowsDisk`, `ShowsSurvey`, `survey_line` (`Showings.antt`); `open_words`, `IsOpenedFor`,
-//! `ShowsFile` (`Openings.antt`); `watch_line`, `IsStatusLine`, `WatchesEnd` (`Watchings.antt`);
+//! `ShowsFile` (`Openings.antt`); `watch_line`, `IsDue`, `IsStatusLine`, `WatchesEnd`
+//! (`Watchings.antt`);
 //! `IsFreePath`, `IsStatusFile`, `SaysUnwatched` (`StatusFiles.antt`);
 //! `inspection_text`, `inspection_data`, `listing_text`, `TellsDisk`, `TellsFiles`
 //! (`Inspectings.antt`), with their lines in `InspectionTexts.antt` and `ProcessTexts.antt`, and
@@ -158,7 +162,7 @@
 //! (`status`). `wasmhost` calls it. It uses `ephemeral_worker`, `worker` and `machine_loader`. Want
 //! of memory is status 5. A disk is lent to each call of a worker on it. Beside these only
 //! `open_disk`, `create_file` and `create_device` touch one. They, `WatchedPaths` and `StatusFile`
-//! are the places here that open a file.
+//! are the places here that open a file. A `StatusFile` also reads the machine's clock.
 //!
 //! # Choices
 //!
@@ -172,6 +176,10 @@
 //!   tests show its words.
 //! - **A watcher is told by a shared reference**, and what it was told is a ghost that only its
 //!   call makes true. So a run's clauses speak of no state of it, and a watcher can change nothing.
+//!   A `StatusFile` keeps in a `Cell` when it has written last.
+//! - **A worker waits for a request within a slice**, where only its source is asked, which knows
+//!   neither steps nor lines. So no status line says that it waits. The last one says `running`,
+//!   with numbers of the slice before.
 //! - **What is at a path is a value of its own** (`FoundFile`), and one function of it decides. The
 //!   calls that look, remove and rename are a trait (`WatchedPaths`), so that a clause can say what
 //!   was looked at before. The kit's calls say nothing of files. Between a look and the next call

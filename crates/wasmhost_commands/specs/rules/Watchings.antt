@@ -1,5 +1,6 @@
 -- Where a worker is, for whoever watches a run (this project's own).
-use Rattle.std.specs.Prelude.{◌≡◌, ◌≢◌, ◌<◌, ◌^◌, ℕ, Bool, IsTrue, List, ◌++◌, None, Some, codes}
+use Rattle.std.specs.Prelude.{◌≡◌, ◌≢◌, ◌⊎◌, ⊤, ◌+◌, ◌≤◌, ◌<◌, ◌^◌, ℕ, Bool, IsTrue, List, ◌++◌}
+use Rattle.std.specs.Prelude.{Option, None, Some, IfSome, codes}
 use Rattle.process.specs.declared.stop.ProcessEnd.TheVariants as end
 use Rattle.process.specs.rules.Values.{ending_of, lines_in}
 use Rattle.ephemeral_worker.specs.declared.now.Now.{Now}
@@ -15,18 +16,31 @@ watch_words now.Spent = codes "running\n"
 watch_words now.Waiting = last_words None
 watch_words (now.Ended how) = last_words (Some (ending_of how))
 
--- the line over its numbers: those of a snapshot, and what the last slice has answered
-abbrev pub status_line : ℕ → ℕ → ℕ → ℕ → Now → List ℕ
-status_line generation steps answers lines said =
+-- how many requests a worker has taken, and these words; old programs leave the number out
+abbrev pub state_words : Option ℕ → Now → List ℕ
+state_words (Some requests) said =
+    named_number (codes "requests ") requests ++ codes " " ++ watch_words said
+state_words None said = watch_words said
+
+-- the line over its numbers, and what the last slice has answered
+abbrev pub status_line : ℕ → ℕ → ℕ → ℕ → Option ℕ → Now → List ℕ
+status_line generation steps answers lines requests said =
     named_number (codes "generation ") generation ++ named_number (codes " steps ") steps
     ++ named_number (codes " answers ") answers ++ named_number (codes " lines ") lines
-    ++ codes " " ++ watch_words said
+    ++ codes " " ++ state_words requests said
 
--- the line of a worker whose last slice has answered this
+-- The line of a worker whose last slice has answered this. Its numbers are those of the process as
+-- it is then, saved or not.
 abbrev pub watch_line : DurableValue → Now → List ℕ
 watch_line w said =
     status_line w.store.journal.generation w.process.steps w.process.answers (lines_in w.process)
-    said
+    (Some w.process.requests) said
+
+-- A worker that runs on is told again: half a second after the last time, and where no time is
+-- known, or the clock has gone back. Times are in nanoseconds.
+abbrev pub IsDue : Option ℕ → ℕ → Type 0
+IsDue (Some last) now = (now < last) ⊎ (last + 500000000 ≤ now)
+IsDue None now = ⊤
 
 -- an exit code has 32 bits
 abbrev pub HasCodeInRange : Now → Type 0
@@ -41,10 +55,12 @@ pub record IsStatusLine (bytes : List ℕ) : Type 0 where
   pub steps : ℕ
   pub answers : ℕ
   pub lines : ℕ
+  pub requests : Option ℕ
   pub said : Now
   pub numbers_fit : (generation < 2 ^ 64) × (steps < 2 ^ 64) × (answers < 2 ^ 64) × (lines < 2 ^ 64)
+  pub requests_fit : IfSome requests (λ n. n < 2 ^ 64)
   pub code_fits : HasCodeInRange said
-  pub spelled : bytes ≡ status_line generation steps answers lines said
+  pub spelled : bytes ≡ status_line generation steps answers lines requests said
 
 -- Where the status is 0, a worker that is over was told to the watcher. The last words are of the
 -- same end.

@@ -25,6 +25,7 @@ pub use outside::Outside;
 pub(crate) use printing::spell_line;
 pub use reader::LineReader;
 pub use real_time::RealTime;
+pub(crate) use real_time::nanoseconds_of;
 pub use request::{Request, read_request};
 pub(crate) use request::{read_decimal, split_at_space};
 pub use source::RequestSource;

@@ -33,7 +33,7 @@ impl<C: Clock> RealTime for C {
 }
 
 /// A time in nanoseconds. One beyond 64 bits is the greatest of 64 bits.
-fn nanoseconds_of(time: Duration) -> u64
+pub(crate) fn nanoseconds_of(time: Duration) -> u64
     ensures { IsNanoseconds (as_nanos time) result }
 {
     u64::try_from(time.as_nanos()).unwrap_or(u64::MAX)

@@ -59,7 +59,7 @@ fn rest_on<D: Disk, O: Outlet, T: Watcher>(
 }
 
 /// Slice after slice, at most as many as come between two checkpoints, and then a checkpoint, of
-/// which the watcher is told.
+/// which the watcher is told. Between two slices it is told that the worker runs on.
 fn round<D: Disk, S: Source, O: Outlet, T: Watcher>(
     worker: &mut Worker,
     disk: &mut D,
@@ -94,6 +94,7 @@ fn round<D: Disk, S: Source, O: Outlet, T: Watcher>(
         if taken == every || !is_spent(now) {
             return rest_on(worker, disk, now, outlet, watcher);
         }
+        watcher.tell_running(worker);
     }
 }
 

@@ -28,11 +28,12 @@ use std::fs::OpenFile;
 use std::io::{BufReader, Read, Seek, Write};
 use std::os::unix::fs::FileExt;
 use std::rt::Files;
+use std::time::Clock;
 
 /// What the system lends a run.
 #[derive(Drop)]
 pub struct System<'a, R, I: Read + Drop, C: RealTime + Drop> {
-    /// Where the disk and the status file are.
+    /// Where the disk and the status file are, and the clock by which that file is written.
     pub files: &'a R,
     /// The lines of its input.
     pub lines: BufferedLines<BufReader<I>>,
@@ -121,7 +122,7 @@ fn run_job<D, F, R, I, C, O, E>(
 where
     D: Disk,
     F: LockFile + OpenFile + Read + Write + Seek + Drop,
-    R: Files<File = F>,
+    R: Files<File = F> + Clock,
     I: Read + Drop,
     C: RealTime + Drop,
     O: Outlet,
@@ -167,7 +168,7 @@ pub fn run_file<F, R, I, C, O, E>(
 ) -> u8
 where
     F: OpenFile + FileExt + LockFile + SizeFile + Read + Write + Seek + Drop,
-    R: Files<File = F>,
+    R: Files<File = F> + Clock,
     I: Read + Drop,
     C: RealTime + Drop,
     O: Outlet,

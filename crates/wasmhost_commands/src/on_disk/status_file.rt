@@ -4,12 +4,14 @@ ghost use Rattle.std.specs.Prelude.{◌≡◌, ◌≤◌, ◌↔◌, ◌⊎◌, 
 ghost use Rattle.std.specs.Prelude.{OnOk, codes, string_bytes};
 ghost use Rattle.std.specs.IoError.{error_kind};
 ghost use Rattle.std.specs.Io.KnownBytes.{Appends};
+ghost use Rattle.ephemeral_worker.specs.declared.now.Now.TheVariants.{Spent};
 ghost use Rattle.wasmhost_commands.specs.rules.StatusFiles.{HasFoundFree, IsFreePath, IsWatchable};
 ghost use Rattle.wasmhost_commands.specs.rules.StatusFiles.{SaysTaken, SaysUnwatched, beside};
 ghost use Rattle.wasmhost_commands.specs.rules.StatusFiles.{found_words};
 ghost use Rattle.wasmhost_commands.specs.rules.Reports.{SaysLine};
-ghost use Rattle.wasmhost_commands.specs.rules.Watchings.{watch_line};
+ghost use Rattle.wasmhost_commands.specs.rules.Watchings.{IsDue, watch_line};
 
+use crate::lines::nanoseconds_of;
 use crate::on_disk::found_file::FoundFile;
 use crate::on_disk::opening::report_unread;
 use crate::on_disk::watched_paths::WatchedPaths;
@@ -18,8 +20,13 @@ use crate::printer::Printer;
 use crate::status::{UNREAD, UNWRITTEN};
 use ephemeral_worker::Now;
 use std::alloc::Global;
+use std::cell::Cell;
 use std::io::{self, Error, ErrorKind, Write};
+use std::time::Clock;
 use worker::Worker;
+
+/// Nanoseconds between two lines of a worker that runs on.
+const PAUSE: u64 = 500_000_000;
 
 /// Says what is at a path, which a status file can't have, and answers the exit status.
 fn say_taken<E: Write + Drop>(err: &mut Printer<E>, path: &str, here: &FoundFile) -> u8
@@ -144,6 +151,16 @@ fn spelled_status(alloc: Global, worker: &Worker, now: Now) -> io::Result<Vec<u8
     Ok(out.into_writer())
 }
 
+/// Whether a worker that runs on is told again, where the last time and now are in nanoseconds.
+fn is_due(last: Option<u64>, now: u64) -> bool
+    ensures { IsTrue result ↔ IsDue last now }
+{
+    match last {
+        Some(last) => now < last || now - last >= PAUSE,
+        None => true,
+    }
+}
+
 /// A file with one line, where a worker is. Each line is written beside its path, and then gets
 /// the path, so that whoever reads it finds a whole line. A worker runs on though that fails.
 #[derive(Drop)]
@@ -152,6 +169,8 @@ pub struct StatusFile<'a, R> {
     files: &'a R,
     path: &'a str,
     beside: String,
+    /// When a line was written last, in nanoseconds of the machine's clock that never goes back.
+    last: Cell<Option<u64>>,
 }
 
 impl<R: WatchedPaths> StatusFile<'_, R> {
@@ -180,25 +199,58 @@ impl<R: WatchedPaths> StatusFile<'_, R> {
         put
     }
 
-    /// Writes where a worker is, unless the path has got a file of another kind since.
-    fn replace(&self, worker: &Worker, now: Now) -> io::Result<()> {
-        let line = spelled_status(self.alloc, worker, now)?;
+    /// Gives the path a line, unless it has got a file of another kind since.
+    fn replace(&self, line: &[u8]) -> io::Result<()> {
         let here = self.files.look_at(self.alloc, self.path)?;
         if !here.is_free() {
             return Ok(());
         }
-        self.put(line.as_slice())
+        self.put(line)
+    }
+}
+
+impl<R: WatchedPaths + Clock> StatusFile<'_, R> {
+    /// The time in nanoseconds, where the clock can be read.
+    fn time(&self) -> Option<u64> {
+        match self.files.monotonic() {
+            Ok(time) => Some(nanoseconds_of(time)),
+            Err(_) => None,
+        }
+    }
+
+    /// The line of a worker that runs on, where it is due.
+    fn due_line(&self, worker: &Worker) -> Option<Vec<u8>>
+        ensures { IfSome result (λ line. line.items ≡ watch_line worker.now Spent) }
+    {
+        if !is_due(self.last.get(), self.time()?) {
+            return None;
+        }
+        spelled_status(self.alloc, worker, Now::Spent).ok()
+    }
+
+    /// Writes a line, and notes when.
+    fn write(&self, line: &[u8]) {
+        self.last.set(self.time());
+        let _ = self.replace(line);
     }
 }
 
 // Of files no more is known than what they answer.
-impl<R: WatchedPaths> Watcher for StatusFile<'_, R> {
+impl<R: WatchedPaths + Clock> Watcher for StatusFile<'_, R> {
     ghost use Rattle.std.specs.Prelude.{true};
 
     ghost is_notified = { λ _ _ _. true };
 
     fn tell(&self, worker: &Worker, now: Now) {
-        let _ = self.replace(worker, now);
+        if let Ok(line) = spelled_status(self.alloc, worker, now) {
+            self.write(line.as_slice());
+        }
+    }
+
+    fn tell_running(&self, worker: &Worker) {
+        if let Some(line) = self.due_line(worker) {
+            self.write(line.as_slice());
+        }
     }
 }
 
@@ -235,6 +287,7 @@ pub fn status_file_of<'a, R: WatchedPaths, E: Write + Drop>(
             files,
             path,
             beside,
+            last: Cell::new(None),
         })),
         Err(status) => Err(status),
     }

@@ -5,7 +5,7 @@ ghost use Rattle.std.specs.Prelude.{IfSome, IsSomeAnd, IsTrue};
 ghost use Rattle.std.specs.Fmt.{decimal};
 ghost use Rattle.wasm_syntax.specs.declared.value.Trap.{Trap};
 ghost use Rattle.wasmhost_commands.specs.StatusLines.{IsBehindNumber, IsBehindNumbers, IsExitWords};
-ghost use Rattle.wasmhost_commands.specs.StatusLines.{IsTrapWords, IsWatchWords};
+ghost use Rattle.wasmhost_commands.specs.StatusLines.{IsStateWords, IsTrapWords, IsWatchWords};
 ghost use Rattle.wasmhost_commands.specs.rules.Texts.{trap_text};
 ghost use Rattle.wasmhost_commands.specs.rules.Watchings.{IsStatusLine};
 
@@ -13,7 +13,7 @@ use crate::lines::{read_decimal, split_at_space, trap_name};
 use wasm_syntax::Trap;
 
 /// The bytes of the longest status line.
-pub(super) const LONGEST: usize = 151;
+pub(super) const LONGEST: usize = 181;
 
 const TRAPS: [Trap; 8] = [
     Trap::Unreachable,
@@ -137,14 +137,28 @@ fn is_watch_words(words: &[u8]) -> bool
     is_exit(words) || is_trapped(words)
 }
 
+/// Whether these words say that a worker runs on, or how it is over. The number of its requests
+/// may come first.
+fn is_state(words: &[u8]) -> bool
+    ensures { IsTrue result ↔ IsStateWords words.now }
+{
+    if is_watch_words(words) {
+        return true;
+    }
+    match behind_number(words, b"requests ") {
+        Some(rest) => is_watch_words(rest),
+        None => false,
+    }
+}
+
 /// Whether these bytes are a status line: its numbers without zeros in front, and its newline at
-/// the end.
+/// the end. An older program's line lacks the requests.
 pub(super) fn is_status_line(bytes: &[u8]) -> bool
     ensures exact { IsTrue result ↔ IsStatusLine bytes.now }
     ensures short { IsTrue result → length bytes.now ≤ LONGEST }
 {
     match behind_numbers(bytes) {
-        Some(words) => is_watch_words(words),
+        Some(words) => is_state(words),
         None => false,
     }
 }

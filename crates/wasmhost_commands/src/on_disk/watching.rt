@@ -1,8 +1,8 @@
 //! Where a worker on a disk is, for whoever watches it.
 
-ghost use Rattle.std.specs.Prelude.{◌≡◌, true, OnErr, OnOk};
+ghost use Rattle.std.specs.Prelude.{◌≡◌, true, OnErr, OnOk, Some};
 ghost use Rattle.wasmhost_commands.specs.rules.Printers.{IsPrinted};
-ghost use Rattle.wasmhost_commands.specs.rules.Watchings.{watch_line, watch_words};
+ghost use Rattle.wasmhost_commands.specs.rules.Watchings.{state_words, watch_line, watch_words};
 
 use crate::on_disk::ending::print_last_words;
 use crate::on_disk::showing::print_number;
@@ -23,6 +23,10 @@ pub trait Watcher {
     /// Tells where a worker is that was just saved, and what its last slice has answered.
     fn tell(&self, worker: &Worker, now: Now)
         ensures { IsTrue (is_notified self.now worker.now now) };
+
+    /// Tells where a worker is that runs on, between two slices. It wasn't saved. A watcher may
+    /// leave that out.
+    fn tell_running(&self, _worker: &Worker) {}
 }
 
 /// Writes that a worker runs on, or how it is over.
@@ -35,6 +39,17 @@ fn print_watch_words<W: Write + Drop>(out: &mut Printer<W>, now: Now) -> io::Res
         Now::Waiting => print_last_words(out, Now::Waiting),
         Now::Ended(how) => print_last_words(out, Now::Ended(how)),
     }
+}
+
+/// Writes how many requests a worker has taken, and that it runs on, or how it is over.
+fn print_state<W: Write + Drop>(out: &mut Printer<W>, worker: &Worker, now: Now) -> io::Result<()>
+    ensures printed { OnOk result (IsPrinted out.old out.new
+        (state_words (Some worker.now.process.requests) now)) }
+    ensures failed { OnErr result (out.new.failed ≡ true) }
+{
+    print_number(out, "requests ", worker.process().requests())?;
+    out.write_all(b" ")?;
+    print_watch_words(out, now)
 }
 
 /// Writes where a worker is.
@@ -51,7 +66,7 @@ pub(super) fn print_status<W: Write + Drop>(
     print_number(out, " answers ", worker.process().answers())?;
     print_number(out, " lines ", worker.process().lines())?;
     out.write_all(b" ")?;
-    print_watch_words(out, now)
+    print_state(out, worker, now)
 }
 
 // Where there is none, nobody has to be told.
@@ -65,6 +80,12 @@ impl<T: Watcher> Watcher for Option<T> {
     fn tell(&self, worker: &Worker, now: Now) {
         if let Some(watcher) = self {
             watcher.tell(worker, now);
+        }
+    }
+
+    fn tell_running(&self, worker: &Worker) {
+        if let Some(watcher) = self {
+            watcher.tell_running(worker);
         }
     }
 }

@@ -1,28 +1,31 @@
 use Rattle.std.proofs.Common.{◌∙◌}
 use Rattle.std.proofs.lemmas.Bool.{false≢true}
-use Rattle.wasmhost_commands.specs.rules.Watchings.{watch_words}
+use Rattle.wasmhost_commands.specs.rules.Watchings.{state_words}
 use Rattle.wasmhost_commands.proofs.StatusLemmas.{line_of, line_short, parts_of}
 use Rattle.wasmhost_commands.proofs.on_disk.status_line.is_status_line.Goals as goal
 
 pub returns-in-Some-clause-exact : goal.returns-in-Some-clause-exact
 returns-in-Some-clause-exact c = (
   λ yes. line_of c.args.bytes.now c.in-Some.words.now c.in-Some.ensures.spelled
-      (c.is_watch_words.ensures.0 yes),
-  λ line. c.is_watch_words.ensures.1 (
-    line.said,
-    line.code_fits,
-    c.in-Some.ensures.found (watch_words line.said) (parts_of c.args.bytes.now line),
-  ),
+      (c.is_state.ensures.0 yes),
+  λ line. c.is_state.ensures.1 (record {
+    requests = line.requests;
+    said = line.said;
+    requests_fit = line.requests_fit;
+    code_fits = line.code_fits;
+    spelled = c.in-Some.ensures.found (state_words line.requests line.said)
+        (parts_of c.args.bytes.now line);
+  }),
 )
 
 pub returns-in-Some-clause-short : goal.returns-in-Some-clause-short
 returns-in-Some-clause-short c = λ yes.
     line_short c.args.bytes.now (line_of c.args.bytes.now c.in-Some.words.now
-    c.in-Some.ensures.spelled (c.is_watch_words.ensures.0 yes))
+    c.in-Some.ensures.spelled (c.is_state.ensures.0 yes))
 
 pub returns-in-None-clause-exact : goal.returns-in-None-clause-exact
 returns-in-None-clause-exact c = (
   λ no. absurd (false≢true no),
-  λ line. absurd (c.in-None.ensures.found (watch_words line.said)
+  λ line. absurd (c.in-None.ensures.found (state_words line.requests line.said)
       (parts_of c.args.bytes.now line)),
 )
