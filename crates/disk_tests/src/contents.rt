@@ -4,6 +4,7 @@ use crate::disks::damage;
 use crate::layouts::{
     Numbers, PLACES, SECTORS, SPELLED, WASM, has_super, layout_fault, written_disk,
 };
+use crate::rows::assert_row;
 use disk_layout::{Contents, LayoutFault, config_bytes_of, config_from, read_contents};
 use sector_disk::{Disk, DiskFault, FaultDisk, Place};
 use std::alloc::{AllocError, Global};
@@ -83,12 +84,13 @@ static SPELLINGS: [(&[u8], Option<Settings>); 6] = [
 #[test]
 fn bytes_of_configurations(rt: HostRuntime) -> Result<(), AllocError> {
     for (bytes, want) in &SPELLINGS {
-        assert!(rt; is_spelling(rt.alloc(), bytes, want)?, "{bytes:?}");
+        assert_row(&rt, is_spelling(rt.alloc(), bytes, want)?, bytes);
     }
     for len in 0..25 {
-        assert!(rt;
+        assert_row(
+            &rt,
             is_spelling(rt.alloc(), &ENVIRONMENT[..len], &None)?,
-            "{len} bytes"
+            &len,
         );
     }
     Ok(())
@@ -247,14 +249,18 @@ fn is_changed_so(
 /// memory.
 #[test]
 fn a_worker_is_read_back(rt: HostRuntime) -> Result<(), LayoutFault> {
-    assert!(rt; is_changed_so(rt.alloc(), &Change::Nothing, &None)?);
+    assert_row(
+        &rt,
+        is_changed_so(rt.alloc(), &Change::Nothing, &None)?,
+        &"no change",
+    );
     Ok(())
 }
 
 #[test]
 fn what_is_another_on_a_disk_is_told(rt: HostRuntime) -> Result<(), LayoutFault> {
     for (place, row) in CHANGES.iter().enumerate() {
-        assert!(rt; is_changed_so(rt.alloc(), &row.0, &row.1)?, "{place}");
+        assert_row(&rt, is_changed_so(rt.alloc(), &row.0, &row.1)?, &place);
     }
     Ok(())
 }

@@ -1,9 +1,8 @@
 //! Cuts, stops and failures of disks in memory.
 
-use crate::{files, journals, layouts, snapshots};
+use crate::rows::assert_row;
 use sector_disk::{Disk, DiskFault, FaultDisk, MemDisk, Place, rewrite, store_run, write_run};
-use std::alloc::{AllocError, Global};
-use std::fmt::Display;
+use std::alloc::Global;
 
 /// How many bytes of 5, of 9 and of 3 a sector holds, one after another. Behind them are zeros.
 pub(crate) type Parts = (usize, usize, usize);
@@ -190,12 +189,7 @@ fn is_cut_so(alloc: Global, cut: &Cut) -> Result<bool, DiskFault> {
 #[test]
 fn a_cut_keeps_of_each_write_the_front_that_is_named(rt: HostRuntime) -> Result<(), DiskFault> {
     for cut in &CUTS {
-        assert!(rt;
-            is_cut_so(rt.alloc(), cut)?,
-            "{:?} {:?}",
-            cut.writes,
-            cut.tears
-        );
+        assert_row(&rt, is_cut_so(rt.alloc(), cut)?, &cut.tears);
     }
     Ok(())
 }
@@ -266,8 +260,9 @@ fn is_answered_so(disk: &mut MemDisk, call: &(Call, Answer, usize)) -> bool {
 fn a_memory_disk_refuses_by_number_and_room(rt: HostRuntime) -> Result<(), DiskFault> {
     let mut disk = durable_disk(rt.alloc(), 3)?;
     for (place, call) in CALLS.iter().enumerate() {
-        assert!(rt; is_answered_so(&mut disk, call), "{place}");
+        assert_row(&rt, is_answered_so(&mut disk, call), &place);
     }
+    drop(disk);
     Ok(())
 }
 
@@ -285,7 +280,11 @@ pub(crate) fn answers_so<D: Disk>(disk: &mut D, calls: &[(Call, Answer)]) -> boo
 fn a_memory_disk_tells_want_of_memory(rt: HostRuntime) {
     // 2^59 bytes are more than a process can address.
     let made = MemDisk::new(rt.alloc(), 1 << 50, 1);
-    assert_eq!(rt; made.err(), Some(DiskFault::Memory));
+    assert_row(
+        &rt,
+        made.err() == Some(DiskFault::Memory),
+        &"too many sectors",
+    );
 }
 
 /// A disk that may stop at a call or fail one, what is seen of it, and what a cut then leaves.
@@ -534,50 +533,8 @@ static TROUBLES: [Trouble; 12] = [
 
 #[test]
 fn a_disk_in_trouble_leaves_fronts_and_syncs_nothing(rt: HostRuntime) -> Result<(), DiskFault> {
-    for trouble in &TROUBLES {
-        assert!(rt;
-            is_in_trouble_so(rt.alloc(), trouble)?,
-            "{:?} {:?}",
-            trouble.stop,
-            trouble.fail
-        );
+    for (place, trouble) in TROUBLES.iter().enumerate() {
+        assert_row(&rt, is_in_trouble_so(rt.alloc(), trouble)?, &place);
     }
-    Ok(())
-}
-
-static PRINTED: [(DiskFault, &str); 4] = [
-    (DiskFault::Range, "K1 Range"),
-    (DiskFault::Io, "K2 Io"),
-    (DiskFault::Cut, "K3 Cut"),
-    (DiskFault::Memory, "K4 Memory"),
-];
-
-/// Whether each value is printed with its text.
-fn are_printed<T: Display>(alloc: Global, printed: &[(T, &str)]) -> Result<bool, AllocError> {
-    for (value, text) in printed {
-        let told = format!(in alloc; "{value}")?;
-        let is_so = told.as_str() == *text;
-        drop(told);
-        if !is_so {
-            return Ok(false);
-        }
-    }
-    Ok(true)
-}
-
-fn are_all_printed(alloc: Global) -> Result<bool, AllocError> {
-    Ok(
-        are_printed(alloc, &PRINTED)?
-            && are_printed(alloc, &files::PRINTED)?
-            && are_printed(alloc, &layouts::PRINTED)?
-            && are_printed(alloc, &journals::PRINTED)?
-            && are_printed(alloc, &snapshots::PRINTED)?,
-    )
-}
-
-/// A fault is printed with its name.
-#[test]
-fn faults_are_printed_with_their_names(rt: HostRuntime) -> Result<(), AllocError> {
-    assert!(rt; are_all_printed(rt.alloc())?);
     Ok(())
 }

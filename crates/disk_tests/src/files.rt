@@ -2,6 +2,7 @@
 //! the tests here, and has some of them fail.
 
 use crate::disks::{Answer, Call, DONE, ZEROS, answers_so};
+use crate::rows::assert_row;
 use sector_disk::{Disk, DiskFault, FileDisk, LockFile, NewFiles, OpenCause, OpenFault, SizeFile};
 use std::fs;
 use std::fs::{OpenFile, OpenOptions};
@@ -146,13 +147,13 @@ where
 
 #[test]
 fn a_file_keeps_sectors(rt: HostRuntime) -> Result<(), Fail> {
-    assert!(rt; is_told_so(&rt, &KEPT)?);
+    assert_row(&rt, is_told_so(&rt, &KEPT)?, &KEPT.path);
     Ok(())
 }
 
 #[test]
 fn a_file_that_is_too_short_fails(rt: HostRuntime) -> Result<(), Fail> {
-    assert!(rt; is_told_so(&rt, &SHORT)?);
+    assert_row(&rt, is_told_so(&rt, &SHORT)?, &SHORT.path);
     Ok(())
 }
 
@@ -160,7 +161,7 @@ fn a_file_that_is_too_short_fails(rt: HostRuntime) -> Result<(), Fail> {
 fn a_file_is_for_one_host(rt: HostRuntime) -> Result<(), Fail> {
     let folder = "sector_disk_folder";
     let _ = fs::create_dir(&rt, folder);
-    assert!(rt; is_told_so(&rt, &BUSY)?);
+    assert_row(&rt, is_told_so(&rt, &BUSY)?, &BUSY.path);
     fs::remove_dir(&rt, folder)?;
     Ok(())
 }
@@ -172,7 +173,7 @@ fn an_empty_file_has_no_sectors(rt: HostRuntime) -> Result<(), Fail> {
     let path = "sector_disk_empty";
     let _ = fs::remove_file(&rt, path);
     fs::write(&rt, path, "")?;
-    assert!(rt; is_opened_so(&rt, path, 0, &OUTSIDE)?);
+    assert_row(&rt, is_opened_so(&rt, path, 0, &OUTSIDE)?, &path);
     fs::remove_file(&rt, path)?;
     Ok(())
 }
@@ -213,7 +214,7 @@ where
 fn a_file_keeps_a_sector_or_is_given_up(rt: HostRuntime) -> Result<(), Fail> {
     let path = "sector_disk_given_up";
     let _ = fs::remove_file(&rt, path);
-    assert!(rt; is_kept_or_given_up(&rt, path)?);
+    assert_row(&rt, is_kept_or_given_up(&rt, path)?, &path);
     fs::remove_file(&rt, path)?;
     Ok(())
 }
@@ -230,14 +231,7 @@ static UNOPENED: [(&str, Option<u64>, OpenCause); 5] = [
 #[test]
 fn a_path_that_is_no_disk_says_why(rt: HostRuntime) {
     for (path, sectors, cause) in &UNOPENED {
-        assert!(rt;
-            fault_of(&rt, path, *sectors) == Some(OpenFault::Io(*cause)),
-            "{path}"
-        );
+        let fault = fault_of(&rt, path, *sectors);
+        assert_row(&rt, fault == Some(OpenFault::Io(*cause)), path);
     }
 }
-
-pub(crate) static PRINTED: [(OpenFault, &str); 2] = [
-    (OpenFault::Busy, "K5 Busy"),
-    (OpenFault::Io(OpenCause::Missing), "K2 Io"),
-];

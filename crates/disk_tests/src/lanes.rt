@@ -1,5 +1,6 @@
 //! Two sectors that differ in one byte.
 
+use crate::rows::assert_row;
 use block_lanes::same;
 
 /// Whether a sector of 90s is told apart from one with this byte at each place.
@@ -18,6 +19,6 @@ fn is_told_everywhere(byte: u8) -> bool {
 #[test]
 fn tells_each_byte_apart(rt: HostRuntime) {
     for byte in [0, 91, 218] {
-        assert!(rt; is_told_everywhere(byte), "{byte}");
+        assert_row(&rt, is_told_everywhere(byte), &byte);
     }
 }

@@ -1,6 +1,7 @@
 //! Bytes of the layout, and stamps that are torn.
 
 use crate::disks::is_all;
+use crate::rows::assert_row;
 use disk_layout::{
     Geometry, LayoutFault, Stamp, Stored, Super, digest_of, journal_sector, read_super,
     write_contents, write_super,
@@ -57,9 +58,10 @@ static STAMPS: [(u16, u64, bool); 7] = [
 #[test]
 fn a_torn_stamp_is_never_newer(rt: HostRuntime) -> Result<(), DiskFault> {
     for (front, shown, is_new) in &STAMPS {
-        assert!(rt;
+        assert_row(
+            &rt,
             torn_stamp(rt.alloc(), *front)? == (*shown, *is_new),
-            "at {front}"
+            front,
         );
     }
     Ok(())
@@ -219,15 +221,6 @@ fn is_told_of_five(alloc: Global) -> Result<bool, LayoutFault> {
 /// memory.
 #[test]
 fn a_super_leads_to_what_is_behind_it(rt: HostRuntime) -> Result<(), LayoutFault> {
-    assert!(rt; is_told_of_five(rt.alloc())?);
+    assert_row(&rt, is_told_of_five(rt.alloc())?, &"five sectors");
     Ok(())
 }
-
-pub(crate) static PRINTED: [(LayoutFault, &str); 6] = [
-    (LayoutFault::NotAWorker, "Y1 NotAWorker"),
-    (LayoutFault::Version, "Y2 Version"),
-    (LayoutFault::TooSmall, "Y3 TooSmall"),
-    (LayoutFault::Damaged, "Y4 Damaged"),
-    (LayoutFault::Memory, "Y5 Memory"),
-    (LayoutFault::Disk(DiskFault::Cut), "K3 Cut"),
-];

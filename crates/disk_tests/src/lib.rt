@@ -11,6 +11,8 @@ mod contents;
 #[cfg(test)]
 mod disks;
 #[cfg(test)]
+mod faults;
+#[cfg(test)]
 mod files;
 #[cfg(test)]
 mod journals;
@@ -18,5 +20,7 @@ mod journals;
 mod lanes;
 #[cfg(test)]
 mod layouts;
+#[cfg(test)]
+mod rows;
 #[cfg(test)]
 mod snapshots;

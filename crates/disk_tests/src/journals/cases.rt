@@ -1,6 +1,7 @@
 //! Records byte by byte, batches that are torn, how much is written, and what a scan finds.
 
 use crate::journals::{Given, Sector, Step, Trouble, is_so};
+use crate::rows::assert_row;
 use journal::JournalFault;
 use sector_disk::{DiskFault, Place};
 
@@ -8,11 +9,11 @@ use sector_disk::{DiskFault, Place};
 struct Case {
     name: &'static str,
     steps: &'static [Step],
-    trouble: Trouble<'static>,
+    trouble: Trouble,
     then: &'static [Step],
 }
 
-const NO_TROUBLE: Trouble<'static> = Trouble {
+const NO_TROUBLE: Trouble = Trouble {
     stop: None,
     fail: None,
     tears: None,
@@ -469,11 +470,8 @@ static CASES: [Case; 34] = [
 #[test]
 fn records_are_written_and_scanned(rt: HostRuntime) -> Result<(), JournalFault> {
     for case in &CASES {
-        assert!(rt;
-            is_so(rt.alloc(), &case.trouble, case.steps, case.then)?,
-            "{}",
-            case.name
-        );
+        let is_so = is_so(rt.alloc(), &case.trouble, case.steps, case.then)?;
+        assert_row(&rt, is_so, &case.name);
     }
     Ok(())
 }

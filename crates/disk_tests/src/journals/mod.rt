@@ -3,6 +3,7 @@
 mod cases;
 
 use crate::layouts::is_laid_out;
+use crate::rows::assert_row;
 use disk_layout::{Geometry, Record, journal_sector};
 use journal::{Journal, JournalFault};
 use sector_disk::{Disk, DiskFault, FaultDisk, MemDisk, Place};
@@ -289,11 +290,11 @@ fn are_steps_so<D: Disk>(
 
 /// A disk that stops at a call or fails one. Where the power is cut then, what is kept of each
 /// write that wasn't synced.
-#[derive(Drop)]
-pub(crate) struct Trouble<'a> {
+#[derive(Clone, Copy)]
+pub(crate) struct Trouble {
     pub(crate) stop: Option<Place>,
     pub(crate) fail: Option<Place>,
-    pub(crate) tears: Option<&'a [u16]>,
+    pub(crate) tears: Option<&'static [u16]>,
 }
 
 /// What a cut leaves, if there is one.
@@ -440,31 +441,55 @@ static KEPT: [Kept; 16] = [
     ),
 ];
 
-static FRONTS: [u16; 20] = [
-    0, 1, 495, 496, 497, 498, 499, 500, 501, 502, 503, 504, 505, 506, 507, 508, 509, 510, 511, 512,
+/// What is left of a write, and whether the disk stops there. Else the call fails.
+static FRONTS: [(u16, bool); 23] = [
+    (0, true),
+    (1, true),
+    (495, true),
+    (496, true),
+    (497, true),
+    (498, true),
+    (499, true),
+    (500, true),
+    (501, true),
+    (502, true),
+    (503, true),
+    (504, true),
+    (505, true),
+    (506, true),
+    (507, true),
+    (508, true),
+    (509, true),
+    (510, true),
+    (511, true),
+    (512, true),
+    (0, false),
+    (498, false),
+    (512, false),
 ];
-
-static FAILED_FRONTS: [u16; 3] = [0, 498, 512];
 
 /// All of each write is kept.
 const ALL: &[u16] = &[];
 
-fn is_kept_so(
-    alloc: Global,
-    kept: &Kept,
-    front: u16,
-    is_stopped: bool,
-) -> Result<bool, JournalFault> {
+fn is_kept_so(alloc: Global, kept: &Kept, front: &(u16, bool)) -> Result<bool, JournalFault> {
     let place = Some(Place {
         call: kept.0,
-        front,
+        front: front.0,
     });
-    let trouble = Trouble {
-        stop: if is_stopped { place } else { None },
-        fail: if is_stopped { None } else { place },
-        tears: if is_stopped { Some(ALL) } else { None },
+    let trouble = if front.1 {
+        Trouble {
+            stop: place,
+            fail: None,
+            tears: Some(ALL),
+        }
+    } else {
+        Trouble {
+            stop: None,
+            fail: place,
+            tears: None,
+        }
     };
-    let then = if front <= 504 { kept.2 } else { kept.3 };
+    let then = if front.0 <= 504 { kept.2 } else { kept.3 };
     is_so(alloc, &trouble, kept.1, then)
 }
 
@@ -473,27 +498,12 @@ fn is_kept_so(
 fn what_was_acknowledged_is_kept(rt: HostRuntime) -> Result<(), JournalFault> {
     for kept in &KEPT {
         for front in &FRONTS {
-            assert!(rt;
-                is_kept_so(rt.alloc(), kept, *front, true)?,
-                "{} {front}",
-                kept.0
-            );
-        }
-        for front in &FAILED_FRONTS {
-            assert!(rt;
-                is_kept_so(rt.alloc(), kept, *front, false)?,
-                "{} {front}: failed",
-                kept.0
+            assert_row(
+                &rt,
+                is_kept_so(rt.alloc(), kept, front)?,
+                &(kept.0, front.0),
             );
         }
     }
     Ok(())
 }
-
-pub(crate) static PRINTED: [(JournalFault, &str); 5] = [
-    (JournalFault::Full, "J1 Full"),
-    (JournalFault::TooLong, "J2 TooLong"),
-    (JournalFault::Disk(DiskFault::Io), "J3 Disk"),
-    (JournalFault::Memory, "J4 Memory"),
-    (JournalFault::Failed, "J5 Failed"),
-];

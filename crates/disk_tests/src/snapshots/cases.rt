@@ -1,5 +1,6 @@
 //! Which sectors are written, what is damaged, and how heads are spelled.
 
+use crate::rows::assert_row;
 use crate::snapshots::{CUT, DONE, FAILED, Image, LONG, LONG_HEAD, NEW, OLD, SHORT, Step, is_so};
 use sector_disk::{DiskFault, Place};
 use snapshot::SnapshotFault;
@@ -395,11 +396,8 @@ static CASES: [Case; 35] = [
 #[test]
 fn images_are_committed_and_found(rt: HostRuntime) -> Result<(), SnapshotFault> {
     for case in &CASES {
-        assert!(rt;
-            is_so(rt.alloc(), case.stop, case.fail, case.steps, &case.left)?,
-            "{}",
-            case.name
-        );
+        let is_so = is_so(rt.alloc(), case.stop, case.fail, case.steps, &case.left)?;
+        assert_row(&rt, is_so, &case.name);
     }
     Ok(())
 }

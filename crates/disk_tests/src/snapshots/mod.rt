@@ -4,10 +4,12 @@ mod cases;
 
 use crate::disks::{damage, is_made_of};
 use crate::layouts::is_laid_out;
+use crate::rows::assert_row;
 use disk_layout::{Geometry, Head};
 use sector_disk::{Disk, DiskFault, FaultDisk, MemDisk, Place};
 use snapshot::{Snapshot, SnapshotFault, Snapshots, Writing};
 use std::alloc::Global;
+use std::mem;
 
 /// Area 0 lies from sector 4 on, area 1 from sector 7 on, and the journal from sector 10 on.
 static GEOMETRY: Geometry = Geometry {
@@ -90,7 +92,10 @@ fn read_newest<D: Disk>(alloc: Global, disk: &mut D) -> Result<Option<Snapshot>,
     if disk.sectors() < SECTORS as u64 {
         return Err(SnapshotFault::TooBig);
     }
-    Snapshots::new().newest(alloc, disk, &GEOMETRY)
+    let mut snapshots = Snapshots::new();
+    let newest = snapshots.newest(alloc, disk, &GEOMETRY);
+    drop(snapshots);
+    newest
 }
 
 fn is_image(found: &Option<Snapshot>, version: u32, generation: u64, bytes: &[u8]) -> bool {
@@ -164,10 +169,23 @@ fn write_head<D: Disk>(disk: &mut D, length_in_bytes: u64) -> Result<(), Snapsho
     Ok(())
 }
 
-fn read<D: Disk>(disk: &mut D, sector: u64) -> Result<[u8; 512], SnapshotFault> {
+/// Whether a sector has so many of each byte, and then zeros.
+fn holds<D: Disk>(disk: &mut D, sector: u64, parts: &[(u8, usize)]) -> Result<bool, SnapshotFault> {
     let mut bytes = [0; 512];
     disk.read(sector, &mut bytes)?;
-    Ok(bytes)
+    Ok(is_made_of(&bytes, parts))
+}
+
+/// Whether a sector has these bytes at its front, a stamp at its end, and zeros between them.
+fn is_head<D: Disk>(
+    disk: &mut D,
+    sector: u64,
+    front: &[u8; 56],
+    stamp: &[u8; 16],
+) -> Result<bool, SnapshotFault> {
+    let mut bytes = [0; 512];
+    disk.read(sector, &mut bytes)?;
+    Ok(is_laid_out(&bytes, front, stamp))
 }
 
 /// How many bytes of LONG an image has, and whether its byte 600 is another. Then the calls of its
@@ -200,12 +218,11 @@ fn is_rewritten_so<D: Disk>(
     Ok(disk.calls() == calls && is_newest(alloc, disk, 1, 3, bytes)?)
 }
 
-fn read_all<D: Disk>(disk: &mut D) -> Result<[[u8; 512]; SECTORS], SnapshotFault> {
-    let mut all = [[0; 512]; SECTORS];
+fn read_all<D: Disk>(disk: &mut D, all: &mut [[u8; 512]; SECTORS]) -> Result<(), SnapshotFault> {
     for (sector, bytes) in all.iter_mut().enumerate() {
         disk.read(sector as u64, bytes)?;
     }
-    Ok(all)
+    Ok(())
 }
 
 fn clear<D: Disk>(disk: &mut D) -> Result<(), SnapshotFault> {
@@ -215,16 +232,31 @@ fn clear<D: Disk>(disk: &mut D) -> Result<(), SnapshotFault> {
     Ok(())
 }
 
-/// Whether LONG in two pieces, the first of this length, is written as LONG itself.
-fn is_same_in_pieces<D: Disk>(disk: &mut D, len: usize) -> Result<bool, SnapshotFault> {
+/// A host that has done nothing yet takes the place of this one.
+fn renew(snapshots: &mut Snapshots) {
+    drop(mem::replace(snapshots, Snapshots::new()));
+}
+
+/// Whether LONG in two pieces, the first of this length, is written as LONG itself, each time by a
+/// host that has done nothing yet.
+fn is_same_in_pieces<D: Disk>(
+    snapshots: &mut Snapshots,
+    disk: &mut D,
+    len: usize,
+) -> Result<bool, SnapshotFault> {
     let Some((first, second)) = LONG.split_at_checked(len) else {
         return Ok(false);
     };
-    commit(&mut Snapshots::new(), disk, 1, 1, LONG)?;
-    let whole = read_all(disk)?;
+    let mut whole = [[0; 512]; SECTORS];
+    let mut again = [[0; 512]; SECTORS];
+    renew(snapshots);
+    commit(snapshots, disk, 1, 1, LONG)?;
+    read_all(disk, &mut whole)?;
     clear(disk)?;
-    commit_in_pieces(&mut Snapshots::new(), disk, first, second)?;
-    Ok(read_all(disk)? == whole)
+    renew(snapshots);
+    commit_in_pieces(snapshots, disk, first, second)?;
+    read_all(disk, &mut again)?;
+    Ok(again == whole)
 }
 
 /// The mark, version 1, 1400 bytes and their digest.
@@ -277,7 +309,7 @@ fn is_step_so<D: Disk>(
         Step::Begin(answer) => {
             return Ok(snapshots.begin(3, 1, Writing::Changes, None) == *answer);
         }
-        Step::Pieces(len) => return is_same_in_pieces(disk, *len),
+        Step::Pieces(len) => return is_same_in_pieces(snapshots, disk, *len),
         Step::Rewrite(row) => return is_rewritten_so(alloc, snapshots, disk, row),
         Step::Head(length) => write_head(disk, *length)?,
         Step::Damage(sector, at) => damage(disk, *sector, *at)?,
@@ -287,29 +319,38 @@ fn is_step_so<D: Disk>(
         }
         Step::Fails(fault) => return is_failure(alloc, disk, *fault),
         Step::LeadsToLong => return leads_to_long(alloc, snapshots, disk),
-        Step::Holds(sector, parts) => return Ok(is_made_of(&read(disk, *sector)?, parts)),
-        Step::IsHead(sector, front, stamp) => {
-            return Ok(is_laid_out(&read(disk, *sector)?, *front, *stamp));
-        }
+        Step::Holds(sector, parts) => return holds(disk, *sector, *parts),
+        Step::IsHead(sector, front, stamp) => return is_head(disk, *sector, *front, *stamp),
         Step::Calls(reads, writes, syncs) => return Ok(disk.calls() == (*reads, *writes, *syncs)),
-        Step::Anew => *snapshots = Snapshots::new(),
+        Step::Anew => renew(snapshots),
+    }
+    Ok(true)
+}
+
+fn is_each_so<D: Disk>(
+    alloc: Global,
+    snapshots: &mut Snapshots,
+    disk: &mut FaultDisk<D>,
+    steps: &[Step],
+) -> Result<bool, SnapshotFault> {
+    for step in steps {
+        if !is_step_so(alloc, snapshots, disk, step)? {
+            return Ok(false);
+        }
     }
     Ok(true)
 }
 
 /// Whether each step is so, for a host that has done nothing yet.
-fn is_each_so<D: Disk>(
+fn are_steps_so<D: Disk>(
     alloc: Global,
     disk: &mut FaultDisk<D>,
     steps: &[Step],
 ) -> Result<bool, SnapshotFault> {
     let mut snapshots = Snapshots::new();
-    for step in steps {
-        if !is_step_so(alloc, &mut snapshots, disk, step)? {
-            return Ok(false);
-        }
-    }
-    Ok(true)
+    let are_so = is_each_so(alloc, &mut snapshots, disk, steps);
+    drop(snapshots);
+    are_so
 }
 
 static TEARS: [[u16; 3]; 3] = [[0, 0, 0], [512, 0, 300], [100, 512, 0]];
@@ -347,14 +388,14 @@ pub(crate) fn is_so(
     left: &Option<Image>,
 ) -> Result<bool, SnapshotFault> {
     let mut disk = faulty_disk(alloc, stop, fail)?;
-    let is_each_so = is_each_so(alloc, &mut disk, steps);
+    let are_so = are_steps_so(alloc, &mut disk, steps);
     let below = disk.into_inner();
     let is_left_so = match left {
         Some(image) => leaves_each_time(alloc, &below, image),
         None => Ok(true),
     };
     drop(below);
-    Ok(is_each_so? && is_left_so?)
+    Ok(are_so? && is_left_so?)
 }
 
 pub(crate) const CUT: Answer = Err(SnapshotFault::Disk(DiskFault::Cut));
@@ -411,20 +452,12 @@ fn is_stopped_so(alloc: Global, stop: &Stop, front: u16) -> Result<bool, Snapsho
 fn a_stop_leaves_the_old_snapshot_or_the_new_one(rt: HostRuntime) -> Result<(), SnapshotFault> {
     for stop in &STOPS {
         for front in &FRONTS {
-            assert!(rt;
+            assert_row(
+                &rt,
                 is_stopped_so(rt.alloc(), stop, *front)?,
-                "{} {front}",
-                stop.0
+                &(stop.0, *front),
             );
         }
     }
     Ok(())
 }
-
-pub(crate) static PRINTED: [(SnapshotFault, &str); 5] = [
-    (SnapshotFault::TooBig, "S1 TooBig"),
-    (SnapshotFault::Damaged, "S2 Damaged"),
-    (SnapshotFault::Disk(DiskFault::Io), "S3 Disk"),
-    (SnapshotFault::Memory, "S4 Memory"),
-    (SnapshotFault::Failed, "S5 Failed"),
-];
