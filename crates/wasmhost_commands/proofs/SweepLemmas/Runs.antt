@@ -1,24 +1,33 @@
 -- What is known of lives that were run, by why a sweep ends early.
 use Rattle.std.proofs.Common.{◌≡◌, ℕ, ◌+◌, ◌≤◌, List, ◌++◌, Ok, Err, Result, arith, drop, inl, inr}
 use Rattle.std.proofs.Common.{ap, length, refl, subst, sym, take, ◌∙◌}
-use Rattle.std.specs.Prelude.{IfOk}
+use Rattle.std.specs.Prelude.{◌<◌, IfErr, IfOk, Some}
+use Rattle.std.specs.Result.{IsErrAnd}
 use Rattle.std.specs.List.{All}
 use Rattle.wasi_abi.specs.rules.Configs.{Settings}
 use Rattle.sector_disk.specs.declared.place.Place.{Place}
 use Rattle.record_replay.specs.declared.line_list.NumberedLine.{NumberedLine}
 use Rattle.worker.specs.declared.story.life.PlannedLife.{PlannedLife}
 use Rattle.worker.specs.declared.story.report.LifeReport.{LifeReport}
+use Rattle.worker.specs.declared.story.report.LifeEnd.TheVariants.{Failed}
+use Rattle.worker.specs.declared.recover_fault.RecoverFault.{RecoverFault}
 use Rattle.worker.specs.rules.StoryDisks.{TellsLives}
 use Rattle.wasmhost_commands.specs.declared.sweeping.cutting.Sweep.{Sweep}
 use Rattle.wasmhost_commands.specs.declared.sweeping.fault.SweepFault.{SweepFault}
 use Rattle.wasmhost_commands.specs.declared.sweeping.fault.SweepFault.TheVariants as fault
 use Rattle.wasmhost_commands.specs.declared.sweeping.running.RunLives.{RunLives}
 use Rattle.wasmhost_commands.specs.rules.Sweeps.{IsCutRun, IsSwept, and_idle, cut_at, cuts_to}
-use Rattle.wasmhost_commands.specs.rules.Sweeps.{given_at, lives_after}
+use Rattle.wasmhost_commands.specs.rules.Sweeps.{HasFailedPlan, end_at, given_at, lives_after}
 use Rattle.wasmhost_commands.specs.laws.CutRuns.{AreRun, CallsBegun, HasRunCut, IsCutFault}
 use Rattle.wasmhost_commands.specs.laws.CutRuns.{IsFoundFirst, IsPlainRun, IsPlanFault}
 use Rattle.wasmhost_commands.specs.laws.CutRuns.{IsSweepFault, IsSweepOf, IsSweptAt, IsTestFault}
-use Rattle.wasmhost_commands.specs.laws.CutRuns.{IsToldPlain}
+use Rattle.wasmhost_commands.specs.laws.CutRuns.{IsPlainUpTo, IsToldPlain}
+
+-- a fault that is handed on
+pub kept_fault : {T : Type 0} (r : Result T SweepFault) (why : SweepFault)
+    (P : SweepFault → Type 0) → IsErrAnd r (λ e. e ≡ why) → P why → IfErr r P
+kept_fault (Ok x) why P is h = tt
+kept_fault (Err e) why P is h = subst P (sym is) h
 
 -- what three equal parts make
 same_of_three : {A B C D : Type 0} (f : A → B → C → D) (a a' : A) (b b' : B) (c c' : C)
@@ -108,6 +117,37 @@ pub plain_tells : (wasm : List ℕ) (config : Settings) (lives : List PlannedLif
     → TellsLives wasm config (and_idle lives) run.reports
 plain_tells wasm config lives run h =
     subst (λ (ls : List PlannedLife). TellsLives wasm config ls run.reports) h.lives_are h.run.tells
+
+-- a life that has ended by an error without a cut
+pub plan_failed : (wasm : List ℕ) (config : Settings) (lives : List PlannedLife) (run : RunLives)
+    (place : ℕ) (why : RecoverFault) → IsPlainUpTo wasm config lives run place
+    → place < length lives → end_at place run.reports ≡ Some (Failed why)
+    → HasFailedPlan wasm config lives (place + 1) why
+plan_failed wasm config lives run place why is within failed = record {
+  plain = run.reports;
+  tells =
+      subst (λ (ls : List PlannedLife). TellsLives wasm config ls run.reports) is.lives_are
+      is.run.tells;
+  fed = is.run.fed;
+  place = place;
+  number_is = refl;
+  within = within;
+  done = is.done;
+  failed = failed;
+}
+
+-- lives that were run with an upgrade that is done again
+pub upgraded_again : (sweep : Sweep) (lives : List PlannedLife) (run : RunLives)
+    → run.lives ≡ lives → lives ≡ and_idle sweep.part.earlier.now
+    ++ lives_after sweep.part.swept.now sweep.part.told.now sweep.part.before
+    (given_at 0 sweep.part.told.now) → AreRun sweep.wasm.now sweep.config.now run
+    → IsTestFault sweep (fault.Upgrade run)
+upgraded_again sweep lives run same planned is = (
+  sweep.part.before,
+  subst (λ (ls : List PlannedLife). TellsLives sweep.wasm.now sweep.config.now ls run.reports)
+      (same ∙ planned) is.tells,
+  is.fed,
+)
 
 -- the upgrade that is done again
 pub upgrade_ends : (wasm : List ℕ) (config : Settings) (lives : List PlannedLife) (place : ℕ)

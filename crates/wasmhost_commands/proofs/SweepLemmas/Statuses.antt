@@ -1,6 +1,6 @@
 -- From how a sweep went to what the exit status says.
 use Rattle.std.proofs.Common.{◌≡◌, inl, inr, ℕ, List, refl, sym, ap, ◌∙◌, subst, arith}
-use Rattle.std.specs.Prelude.{◌⊎◌, Option, Some, None, Result, Ok, Err, IfErr, IfOk, IfSome}
+use Rattle.std.specs.Prelude.{Option, Some, None, Result, Ok, Err, IfErr, IfOk, IfSome}
 use Rattle.worker.specs.declared.recover_fault.RecoverFault.{RecoverFault}
 use Rattle.worker.specs.declared.story.life.PlannedLife.{PlannedLife}
 use Rattle.wasi_abi.specs.rules.Configs.{Settings}
@@ -18,7 +18,7 @@ use Rattle.wasmhost_commands.specs.rules.Sweeps.{AreCompared, AreSweptLives, Has
 use Rattle.wasmhost_commands.specs.rules.Sweeps.{IsDoneAgain, IsSwept}
 use Rattle.wasmhost_commands.specs.rules.SweepTexts.{IsOfScript, IsUnsweepable, SaysDifference}
 use Rattle.wasmhost_commands.specs.rules.SweepTexts.{SaysPlan, SaysScriptFault, SaysSwept}
-use Rattle.wasmhost_commands.specs.rules.SweepTexts.{TellsSweep, no_upgrade_line, plan_line}
+use Rattle.wasmhost_commands.specs.rules.SweepTexts.{TellsSweep, no_upgrade_line}
 use Rattle.wasmhost_commands.specs.declared.sweeping.fault.SweepFault.{SweepFault}
 use Rattle.wasmhost_commands.specs.declared.sweeping.fault.SweepFault.TheVariants as fault
 use Rattle.wasmhost_commands.specs.declared.sweeping.whole_sweep.Swept.{Swept}
