@@ -100,7 +100,7 @@ module _ (script wasm : List ℕ) (sizes : Sizes) (fronts : List ℕ) (number : 
   by_why : (why : Unprepared) → out'.failed ≡ out.failed → err'.failed ≡ mid.failed
       → Says (status_unprepared why)
   by_why (unprepared.Range bound) same heeds = says_three same heeds
-  by_why unprepared.Text same heeds = says_three same heeds
+  by_why (unprepared.Text unnamed) same heeds = says_three same heeds
   by_why (unprepared.Module fault) same heeds = says_three same heeds
   by_why unprepared.Memory same heeds = says_five same heeds
 
