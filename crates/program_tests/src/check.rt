@@ -84,7 +84,7 @@ type Row = (&'static [&'static str], u8, &'static str);
 fn is_told_so(alloc: Global, row: &Row) -> Result<bool, Fail> {
     let bytes = bytes_of(alloc, row.0)?;
     let mut out = Vec::new(alloc);
-    let status = check_bytes(alloc, bytes.as_slice(), 256, &mut Printer::new(&mut out, false));
+    let status = check_bytes(alloc, bytes.as_slice(), &mut Printer::new(&mut out, false));
     Ok(status == row.1 && out.as_slice() == row.2.as_bytes())
 }
 
@@ -292,7 +292,7 @@ fn sections(rt: HostRuntime) -> Result<(), Fail> {
 
 /// The status of `check` on these bytes.
 fn status_of(alloc: Global, bytes: &[u8]) -> u8 {
-    check_bytes(alloc, bytes, 256, &mut Printer::new(Vec::new(alloc), false))
+    check_bytes(alloc, bytes, &mut Printer::new(Vec::new(alloc), false))
 }
 
 /// The length of `ECHO`, and the place after its code section, where a module may end as well.
@@ -327,8 +327,8 @@ fn statuses_without_room(alloc: Global) -> [u8; 2] {
     let mut room = [0u8; 8];
     let room: &mut [u8] = &mut room;
     let mut out = Printer::new(room, false);
-    let accepted = check_bytes(alloc, &SMALL, 256, &mut out);
-    [accepted, check_bytes(alloc, &SMALL[..9], 256, &mut out)]
+    let accepted = check_bytes(alloc, &SMALL, &mut out);
+    [accepted, check_bytes(alloc, &SMALL[..9], &mut out)]
 }
 
 /// A line that can't be written whole.
@@ -341,7 +341,7 @@ fn output_without_room(rt: HostRuntime) {
 fn accept_small(alloc: Global) -> Result<(), Refused> {
     let mut room = [0u8; 32];
     let room: &mut [u8] = &mut room;
-    match check_bytes(alloc, &SMALL, 256, &mut Printer::new(room, false)) {
+    match check_bytes(alloc, &SMALL, &mut Printer::new(room, false)) {
         0 => Ok(()),
         5 => Err(Refused::Memory),
         _ => Err(Refused::Otherwise),

@@ -80,7 +80,7 @@ fn tells_orders_mistakes_and_help_apart(rt: HostRuntime) -> Result<(), Fail> {
 /// Whether this file is to be checked.
 fn is_check_of(order: &Order<'_>, wanted: &str) -> bool {
     match order {
-        Order::Check { path, .. } => *path == wanted,
+        Order::Check { path } => *path == wanted,
         _ => false,
     }
 }

@@ -1,5 +1,5 @@
 -- Imports that are looked at one after another, and what is told of a module.
-use Rattle.std.proofs.Common.{◌≡◌, ◌∙◌, inl, inr, refl, sym, ap, subst, arith, ℕ, ◌+◌, ◌<◌, Bool, true}
+use Rattle.std.proofs.Common.{◌≡◌, ◌∙◌, inl, refl, sym, ap, subst, arith, ℕ, ◌+◌, ◌<◌, Bool, true}
 use Rattle.std.proofs.Common.{false, List, ◌++◌, length, get_or, Some, ◌≤◌, not, codes}
 use Rattle.std.specs.Prelude.{nat_le, nat_lt, slice_get, Result, Ok, Err, OnOk, if◌then◌else◌}
 use Rattle.std.specs.Prelude.{IfErr, ⊤}
@@ -46,7 +46,8 @@ none_before types imports = λ k other before is. absurd (omega (arith, before))
 -- the import at a place of the loop
 pub read_there : (imports : List Import) (place : ℕ) (i : Import) → place < length imports
     → i ≡ get_or imports place i → slice_get imports place ≡ Some i
-read_there imports place i inside is = slice_get_read imports (length imports) place i refl inside is
+read_there imports place i inside is =
+    slice_get_read imports (length imports) place i refl inside is
 
 pub one_more : (types : List FunctionType) (imports : List Import) (place : ℕ) (i : Import)
     → slice_get imports place ≡ Some i → IsImportOffered types i

@@ -10,7 +10,7 @@ use crate::configuring::Sizes;
 use wasm_syntax::ItemList;
 
 /// The most pages of a memory.
-pub(crate) const PAGES_BOUND: u64 = 256;
+const PAGES_BOUND: u64 = 256;
 
 /// The most units of files.
 const FILES_BOUND: u64 = 64;

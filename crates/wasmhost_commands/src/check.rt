@@ -1,7 +1,6 @@
 //! `wasmhost check`.
 
-ghost use Rattle.std.specs.Prelude.{◌≡◌, ◌≤◌, ◌⊎◌, ◌^◌, true, IsOk, Err, IfErr, OnErr, OnOk};
-ghost use Rattle.std.specs.Prelude.{Some, codes};
+ghost use Rattle.std.specs.Prelude.{◌≡◌, ◌⊎◌, true, IsOk, Err, IfErr, OnErr, OnOk, Some, codes};
 ghost use Rattle.std.specs.Io.KnownBytes.{Appends};
 ghost use Rattle.machine_loader.specs.declared.fault.ModuleFault.{ModuleFault};
 ghost use Rattle.machine_loader.specs.rules.Acceptance.{HasAcceptedModule, HasNoAcceptedModule};
@@ -10,25 +9,25 @@ ghost use Rattle.wasm_decode.specs.declared.items.limit.PassedLimit.{PassedLimit
 ghost use Rattle.wasmhost_commands.specs.rules.ModuleLimits.{limit_text};
 ghost use Rattle.wasmhost_commands.specs.rules.Printers.{HeedsWrites, IsPrinted};
 ghost use Rattle.wasmhost_commands.specs.rules.Statuses.{IsRight, status_by};
-ghost use Rattle.wasmhost_commands.specs.rules.Verdicts.{ChecksModule, EndsWithMore, TellsRefusal};
+ghost use Rattle.wasmhost_commands.specs.rules.Verdicts.{EndsWithMore, TellsRefusal};
 
-use crate::bounds::{Bound, PAGES_BOUND, words_of_range};
 use crate::module_limits::print_limit;
 use crate::printer::Printer;
 use crate::status::{NO_MEMORY, REFUSED, UNWRITTEN};
-use crate::telling::say_line;
 use crate::verdicts::print_more;
 use machine_loader::{ModuleFault, accept};
 use std::alloc::Global;
 use std::io::{self, Write};
 
-/// Whether the bytes spell a module that is accepted with so many pages, and why not.
-fn verdict_on(alloc: Global, wasm: &[u8], pages: u32) -> Result<(), ModuleFault>
-    requires { pages ≤ 2 ^ 16 }
-    ensures right { IsRight pages wasm.now result }
-    ensures reported { IfErr result (IsReported pages wasm.now) }
+/// How many pages a module's memory may need at first to be accepted by `check`.
+pub const PAGES: u32 = 256;
+
+/// Whether the bytes spell an accepted module, and why not.
+fn verdict_on(alloc: Global, wasm: &[u8]) -> Result<(), ModuleFault>
+    ensures right { IsRight PAGES wasm.now result }
+    ensures reported { IfErr result (IsReported PAGES wasm.now) }
 {
-    match accept(alloc, wasm, pages) {
+    match accept(alloc, wasm, PAGES) {
         Ok(machine) => {
             drop(machine);
             Ok(())
@@ -102,45 +101,20 @@ fn status_of(verdict: Result<(), ModuleFault>) -> u8
     }
 }
 
-/// Says whether a module is accepted with so many pages: prints a line, and why not on a further
-/// one. Answers the exit status, 0, 3 where it is refused, 5 for out of memory, 7 where a write has
-/// failed.
-pub fn check_bytes<W: Write + Drop>(
-    alloc: Global,
-    wasm: &[u8],
-    pages: u32,
-    out: &mut Printer<W>,
-) -> u8
-    requires { pages ≤ 2 ^ 16 }
-    ensures accepted { result ≡ 0 → HasAcceptedModule pages wasm.now }
+/// Says whether a module is accepted: prints a line, and answers the exit status, 0, 3 where it is
+/// refused, 5 for out of memory, 7 where a write has failed.
+pub fn check_bytes<W: Write + Drop>(alloc: Global, wasm: &[u8], out: &mut Printer<W>) -> u8
+    ensures accepted { result ≡ 0 → HasAcceptedModule PAGES wasm.now }
     ensures printed { result ≡ 0
         → Appends out.old.contents out.new.contents (codes "accepted\n") }
-    ensures refused { result ≡ 3 → HasNoAcceptedModule pages wasm.now }
-    ensures more { result ≡ 3 → TellsRefusal pages wasm.now out.new }
+    ensures refused { result ≡ 3 → HasNoAcceptedModule PAGES wasm.now }
+    ensures more { result ≡ 3 → TellsRefusal PAGES wasm.now out.new }
     ensures heeded { HeedsWrites out.old result out.new }
     ensures known { (result ≡ 0) ⊎ (result ≡ 3) ⊎ (result ≡ 5) ⊎ (result ≡ 7) }
 {
-    let verdict = verdict_on(alloc, wasm, pages);
+    let verdict = verdict_on(alloc, wasm);
     match print_verdict(alloc, wasm, verdict, out) {
         Ok(()) => status_of(verdict),
         Err(_) => UNWRITTEN,
     }
-}
-
-/// `wasmhost check` of a module with so many pages, which are from 1 to 256. Answers the exit
-/// status.
-pub fn check_module<W: Write + Drop, E: Write + Drop>(
-    alloc: Global,
-    wasm: &[u8],
-    pages: u64,
-    out: &mut Printer<W>,
-    err: &mut Printer<E>,
-) -> u8
-    ensures checks { ChecksModule pages wasm.now out.old out.new err.old err.new result }
-    ensures known { result ≤ 7 }
-{
-    if !(1..=PAGES_BOUND).contains(&pages) {
-        return say_line(err, REFUSED, words_of_range(Bound::Pages));
-    }
-    check_bytes(alloc, wasm, pages as u32, out)
 }

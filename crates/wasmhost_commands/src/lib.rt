@@ -3,11 +3,9 @@
 //!
 //! # Promises
 //!
-//! - `check_bytes`: status 0 says that the bytes spell a module that is accepted with so many pages
-//!   (`accepted`), and that `accepted` was printed (`printed`). 3 says that they spell none
-//!   (`refused`), and what else is known of it is told last (`more`). All others are 5 and 7
-//!   (`known`), and 7 comes just where a write has failed (`heeded`). `check_module` is that of as
-//!   many pages as a worker may have, and tells their bounds of others (`ChecksModule`).
+//! - `check_bytes`: status 0 says that the bytes spell an accepted module (`accepted`), and that
+//!   `accepted` was printed (`printed`). 3 says that they spell none (`refused`). All others are 5
+//!   and 7 (`known`), and 7 comes just where a write has failed (`heeded`).
 //! - `Printer`: what the program says goes through one. It keeps whether a write has failed, and no
 //!   other code can make that true. So each status 7 below comes with a failed write (`IsSaid`,
 //!   `SaysText`, `HeedsBoth`).
@@ -120,7 +118,7 @@
 //!   script spells, and which one is swept (`AreSweptLives`). `fronts_of`: the fronts that a text
 //!   spells.
 //! - `laws::faultless_words_mean`, `laws::worked_examples`: words without a fault mean an order,
-//!   with numbers in their ranges; ninety-five command lines. What `--version` is told of the
+//!   with numbers in their ranges; ninety-four command lines. What `--version` is told of the
 //!   program is `version_words` (`HasVersion`).
 //!
 //! # Definitions to read
@@ -133,7 +131,7 @@
 //! `wasmhost`, `version_words` (`CommandLine.antt`);
 //! `meaning_in`, `IsReading`, `IsStatusOf` (`Commands.antt`);
 //! `IsOutOfBounds`, `range_words` (`Bounds.antt`); `limit_text` (`ModuleLimits.antt`);
-//! `IsUnnamedEntry`, `entry_text` (`Entries.antt`); `TellsMore`, `ChecksModule` (`Verdicts.antt`);
+//! `IsUnnamedEntry`, `entry_text` (`Entries.antt`); `TellsMore` (`Verdicts.antt`);
 //! `SaysOfInput` (`Leavings.antt`); `IsFlawIn`, `flaw_words` (`Flaws.antt`);
 //! `ShowsDisk`, `ShowsSurvey`, `survey_line` (`Showings.antt`); `open_words`, `IsOpenedFor`,
 //! `ShowsFile` (`Openings.antt`); `watch_line`, `IsDue`, `IsStatusLine`, `WatchesEnd`
@@ -217,8 +215,8 @@
 //!   `--`.
 //! - **The seed is a text to `clap`**, and is read by `read_seed`, whose contract says of which
 //!   texts. A wrong one is answered before any file is opened.
-//! - `check` is the front end and a line of text. By default the page limit is 256. A module file
-//!   is read up to one byte more than the longest module has, by which a longer one is known.
+//! - `check` is the front end and a line of text: the page limit is 256 there. A module file is
+//!   read up to one byte more than the longest module has, by which a longer one is known.
 //! - `check_bytes` answers 0 only where the bytes spell an accepted module and `accepted` was
 //!   written. It answers 3 only where they spell none, and its other statuses are 5 and 7. That 5
 //!   comes only for lack of memory no clause can say, since the host's room is in no contract.
@@ -297,7 +295,7 @@ mod verdicts;
 mod words;
 
 pub use bounds::Bound;
-pub use check::{check_bytes, check_module};
+pub use check::check_bytes;
 pub use configuring::Sizes;
 pub use inspecting::{inspect_disk, list_files};
 pub use lines::{

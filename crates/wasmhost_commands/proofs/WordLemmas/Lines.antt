@@ -161,11 +161,8 @@ or_false false e = e
 module _ (name : Text) (words : List Text) (no_help : bytes_eq name (codes "help") ≡ false) where
   each_leads : Each (Leads name words) app.subs
   each_leads = (
-    λ here e. below_taken _ words (
-      keeps_path 1 (codes "MODULE") (λ v. tt),
-      (keeps_number 2 (codes "pages") 0 (λ v is. is), (keeps_help, tt)),
-    )
-        (unused, (unused, (unused, tt)))
+    λ here e. below_taken _ words (keeps_path 1 (codes "MODULE") (λ v. tt), (keeps_help, tt))
+        (unused, (unused, tt))
         (λ rows good e. inl (refl, one_path (codes "MODULE") rows good e)) e,
     (
       λ here e. below_taken _ words (
@@ -372,11 +369,6 @@ run_has_numbers rows path taken =
     let every = number_fits 1 100 (codes "every") rows taken.every (omega arith) (omega arith) in
     (fuel.0, fuel.1, every.0, every.1)
 
-check_has_numbers : (rows : List Row) (path : Text) → TakesOptions rows
-    → NumbersFit (check path (number_or (codes "pages") 256 rows))
-check_has_numbers rows path taken =
-    (number_fits 0 256 (codes "pages") rows taken.pages (omega arith) (omega arith)).1
-
 create_has_numbers : (rows : List Row) (arguments : List Text) (disk path : Text)
     → TakesOptions rows → NumbersFit (create (create_in rows arguments disk path))
 create_has_numbers rows arguments disk path taken =
@@ -434,8 +426,7 @@ taken_means : (arguments : List Text) (name : Text) (rows : List Row) → IsTake
     → IsSomeAnd (meaning_below arguments (name, rows)) NumbersFit
 taken_means arguments name rows taken = elim taken.0 [
   | inl p ↦ subst (λ (t : Text). IsSomeAnd (meaning_below arguments (t, rows)) NumbersFit)
-      (sym p.0) (path_means (λ path. check path (number_or (codes "pages") 256 rows))
-      (module_in rows) p.1 (λ path. check_has_numbers rows path taken.1))
+      (sym p.0) (path_means check (module_in rows) p.1 (λ path. tt))
   | inr others ↦ elim others [
     | inl p ↦ subst (λ (t : Text). IsSomeAnd (meaning_below arguments (t, rows)) NumbersFit)
         (sym p.0) (paths_mean (λ d path. create (create_in rows arguments d path)) (disk_in rows)

@@ -80,10 +80,9 @@ json_rule = record (new_rule (codes "json")) {
 abbrev pub disk_app : Text → App
 disk_app name = with_rule (new_app name) (path_rule (codes "DISK"))
 
--- `check MODULE`, with `--pages` where it is wanted
+-- `check MODULE`
 abbrev pub check_app : App
-check_app = with_rule (with_rule (new_app (codes "check")) (path_rule (codes "MODULE")))
-    (number_rule (codes "pages") 0)
+check_app = with_rule (new_app (codes "check")) (path_rule (codes "MODULE"))
 
 -- `create DISK MODULE`
 abbrev pub bare_create_app : App

@@ -99,7 +99,7 @@ pub record SweepMeaning : Type 0 where
 
 -- what an order says
 pub data Meaning : Type 0 where
-  check : Text → ℕ → Meaning
+  check : Text → Meaning
   create : CreateMeaning → Meaning
   run : RunMeaning → Meaning
   show : Text → Meaning
@@ -158,7 +158,7 @@ sweep_said order = record {
 
 -- what an order says
 abbrev pub meaning_of : Order → Meaning
-meaning_of (Check path pages) = check path.now pages
+meaning_of (Check path) = check path.now
 meaning_of (Create order) = create (create_said order)
 meaning_of (Run order) = run (run_said order)
 meaning_of (Show path) = show path.now
@@ -252,11 +252,6 @@ sweep_in rows script wasm = record {
   life = number_given (codes "life") rows;
 }
 
--- A check, where its path is there. Where no number is given, there are 256 pages.
-abbrev pub check_below : List Row → Option Meaning
-check_below rows =
-    option_map (λ wasm. check wasm (number_or (codes "pages") 256 rows)) (module_in rows)
-
 -- a creation, where both paths are there
 abbrev pub creation_below : List Text → List Row → Option Meaning
 creation_below arguments rows = option_and_then (λ disk. option_map (λ wasm.
@@ -275,7 +270,7 @@ sweep_below rows = option_and_then (λ script. option_map (λ wasm.
 -- what each command means, with the rows of what is after it, and the words after `--`
 abbrev pub meaning_below : List Text → Text × List Row → Option Meaning
 meaning_below arguments met =
-    if bytes_eq met.0 (codes "check") then check_below met.1
+    if bytes_eq met.0 (codes "check") then option_map check (module_in met.1)
     else if bytes_eq met.0 (codes "create") then creation_below arguments met.1
     else if bytes_eq met.0 (codes "run")
     then option_map (λ disk. run (run_in met.1 disk)) (disk_in met.1)

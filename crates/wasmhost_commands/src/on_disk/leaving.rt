@@ -81,6 +81,41 @@ fn say_untaken<E: Write + Drop>(err: &mut Printer<E>, limit: usize, ahead: &[u8]
     say_count(err, count)
 }
 
+/// What is wrong with the line that a source has refused, if it was refused for its form.
+fn flaw_of_source<R: Read + Drop, C: RealTime + Drop>(
+    source: &RequestSource<BufferedLines<BufReader<R>>, C>,
+) -> Option<LineFlaw>
+    ensures { IsFlawIn source.now.fault source.now.requests.reader.is_cut
+        source.now.requests.line.items result }
+{
+    let requests = source.requests();
+    flaw_in(source.fault(), requests.reader().is_cut(), requests.line())
+}
+
+/// The same as `report_input`, where this is wrong with the line that was refused.
+fn say_input<R: Read + Drop, C: RealTime + Drop, E: Write + Drop>(
+    source: &RequestSource<BufferedLines<BufReader<R>>, C>,
+    flaw: Option<LineFlaw>,
+    status: u8,
+    err: &mut Printer<E>,
+) -> u8
+    ensures says { SaysOfInput source.now.requests.version source.now.requests.taken
+        (reader_buffer source.now.requests.reader.reader) source.now.requests.reader.begun flaw
+        status err.old result err.new }
+    ensures known { status ≤ 7 → result ≤ 7 }
+{
+    let requests = source.requests();
+    if status == BAD_LINE {
+        let number = requests.reader().line_number();
+        return say_refused(err, number, requests.version(), flaw);
+    }
+    if status == 0 {
+        let ahead = requests.reader().read_ahead();
+        return say_untaken(err, requests.text_limit(), ahead, requests.taken());
+    }
+    status
+}
+
 /// Says after a run that ended with this status what else is known of its input: at which line a
 /// refused one is, and what is wrong with it; and how many requests were read ahead that a worker
 /// which is over doesn't take. Reads nothing more. Answers the exit status, or 7 where a write has
@@ -97,15 +132,6 @@ pub fn report_input<R: Read + Drop, C: RealTime + Drop, E: Write + Drop>(
         status err.old result err.new }
     ensures known { status ≤ 7 → result ≤ 7 }
 {
-    let requests = source.requests();
-    if status == BAD_LINE {
-        let reader = requests.reader();
-        let flaw = flaw_in(source.fault(), reader.is_cut(), requests.line());
-        return say_refused(err, reader.line_number(), requests.version(), flaw);
-    }
-    if status == 0 {
-        let ahead = requests.reader().read_ahead();
-        return say_untaken(err, requests.text_limit(), ahead, requests.taken());
-    }
-    status
+    let flaw = flaw_of_source(source);
+    say_input(source, flaw, status, err)
 }

@@ -147,11 +147,9 @@ fn env_option<'a>(alloc: Global) -> Arg<'a>
 fn check_command<'a>(alloc: Global) -> Result<Command<'a>, AllocError>
     ensures { IfOk result (IsCommand check_app) }
 {
-    let pages = "Pages of 65536 bytes that its memory may have, default 256";
     Command::new(alloc, "check")
         .about("Say whether a module is accepted")
-        .arg(path_argument(alloc, "MODULE", MODULE))?
-        .arg(number_option(alloc, "pages", pages))
+        .arg(path_argument(alloc, "MODULE", MODULE))
 }
 
 /// A command with the path of a disk.

@@ -24,9 +24,6 @@ const FUEL: u64 = 100_000;
 /// The slices between two checkpoints, where no number is given.
 const EVERY: u64 = 100;
 
-/// Pages of 65,536 bytes with which a module is checked, where no number is given.
-const CHECK_PAGES: u64 = 256;
-
 /// Pages of 65,536 bytes that the guest of a story or a sweep may have, where no number is given.
 const STORY_PAGES: u64 = 1;
 
@@ -222,7 +219,6 @@ pub(crate) fn order_of<'a>(
     match name {
         "check" => Ok(Order::Check {
             path: path_of(matches, "MODULE"),
-            pages: number_or_else(matches, "pages", CHECK_PAGES),
         }),
         "create" => {
             let disk = path_of(matches, "DISK");

@@ -97,10 +97,9 @@ pub struct SweepOrder<'a> {
 /// A command with its options, borrowed from the words.
 #[derive(Debug, Drop)]
 pub enum Order<'a> {
-    /// Says whether the module in this file is accepted with so many pages.
+    /// Says whether the module in this file is accepted.
     Check {
         path: &'a str,
-        pages: u64,
     },
     /// Makes a disk with a fresh worker of a module.
     Create(CreateOrder<'a>),
