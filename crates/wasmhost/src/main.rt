@@ -47,7 +47,7 @@ use std::rt::{Env, Files};
 use std::time::Clock;
 use wasmhost_commands::{
     BufferedLines, CreateOrder, LineOutlet, Obstacle, Order, Printer, RunOrder, Sizes, StoryOrder,
-    SweepChoice, SweepOrder, System, check_module, create_disk, files_file, fronts_of, inspect_file,
+    SweepChoice, SweepOrder, System, check_bytes, create_disk, files_file, fronts_of, inspect_file,
     read_module, read_script, read_sweep, read_words, report, report_script, report_sweep_script,
     report_unread, report_words, run_file, show_file, tell, tell_sweep, upgrade_file,
 };
@@ -91,17 +91,13 @@ fn check<R: Files, W: Write + Drop, E: Write + Drop>(
     rt: &R,
     alloc: Global,
     path: &str,
-    pages: u64,
     out: &mut W,
     err: &mut Printer<E>,
 ) -> u8
     ensures { result ≤ 7 }
 {
     match read_file(rt, alloc, path) {
-        Ok(wasm) => {
-            let out = &mut Printer::new(out, false);
-            check_module(alloc, wasm.as_slice(), pages, out, err)
-        }
+        Ok(wasm) => check_bytes(alloc, wasm.as_slice(), &mut Printer::new(out, false)),
         Err(error) => report_unread(err, path, error),
     }
 }
@@ -279,7 +275,7 @@ where
         Err(_) => return report(err, Obstacle::NoText),
     };
     match read_words(alloc, words.as_slice()) {
-        Ok(Order::Check { path, pages }) => check(rt, alloc, path, pages, out, err),
+        Ok(Order::Check { path }) => check(rt, alloc, path, out, err),
         Ok(Order::Create(order)) => create(rt, alloc, &order, out, err),
         Ok(Order::Run(order)) => run(rt, alloc, &order, out, err),
         Ok(Order::Show { path }) => show_file(alloc, rt, path, &mut Printer::new(out, false), err),
