@@ -191,7 +191,7 @@ module _ {D O : Type 0} (medium : D → Medium) (takes : Taking O) where
         (each_taken takes ⊥ before.outlet p (λ told. told) heeds) lives.heeded;
     life = λ image leaves bytes config.
         opened (recovered image leaves (λ none. none) recovers.recovers recovers.carries)
-            lives.done;
+        lives.done;
   }
 
   -- ---- what the status says

@@ -282,7 +282,7 @@ module _ {D O : Type 0} (medium : D → Medium) (takes : Taking O) where
         (each_taken takes ⊥ o p (λ told. told) heeds) done.heeded;
     life = λ image leaves bytes config.
         opened (recovered image leaves (λ none. none) recovers.recovers recovers.carries)
-            done.done;
+        done.done;
   }
 
   -- ---- what the command says

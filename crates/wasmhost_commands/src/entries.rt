@@ -27,9 +27,7 @@ fn is_named(entry: &[u8]) -> bool
 fn unnamed_place(entries: &[ItemList<u8>]) -> Option<usize>
     ensures { IfSome result (IsUnnamedPlace entries.now) }
 {
-    entries
-        .iter()
-        .position(|entry| !is_named(entry.as_slice()))
+    entries.iter().position(|entry| !is_named(entry.as_slice()))
 }
 
 /// The number of the first entry without a name, from 1 on, if there is one.

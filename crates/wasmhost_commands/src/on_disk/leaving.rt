@@ -8,8 +8,9 @@ ghost use Rattle.wasmhost_commands.specs.rules.Leavings.{SaysUntaken, SaysOfInpu
 ghost use Rattle.wasmhost_commands.specs.rules.Leavings.{place_line};
 ghost use Rattle.wasmhost_commands.specs.rules.Printers.{SaysText};
 
-use crate::lines::{BufferedLines, LineFlaw, RealTime, RequestSource};
-use crate::lines::{count_later, flaw_in, words_of_flaw};
+use crate::lines::{
+    BufferedLines, LineFlaw, RealTime, RequestSource, count_later, flaw_in, words_of_flaw,
+};
 use crate::printer::Printer;
 use crate::status::{BAD_LINE, UNWRITTEN};
 use std::io::{BufReader, Read, Write};

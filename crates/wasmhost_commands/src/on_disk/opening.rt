@@ -56,7 +56,10 @@ fn say_busy<E: Write + Drop>(err: &mut Printer<E>, path: &str) -> u8
     ensures said { SaysLine (open_words path.now OpenFault.Busy) 4 err.old result err.new }
     ensures known { result ≤ 7 }
 {
-    match writeln!(err, "failed K5 Busy\n{path}: another host is using this disk") {
+    match writeln!(
+        err,
+        "failed K5 Busy\n{path}: another host is using this disk"
+    ) {
         Ok(()) => UNREAD,
         Err(_) => UNWRITTEN,
     }

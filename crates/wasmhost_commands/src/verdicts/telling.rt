@@ -75,7 +75,10 @@ fn print_pages<W: Write + Drop>(out: &mut Printer<W>, pages: u32) -> io::Result<
     if pages <= MOST_PAGES {
         writeln!(out, "begins with {pages} pages: --pages {pages}")
     } else {
-        writeln!(out, "begins with {pages} pages, and a worker has at most 256")
+        writeln!(
+            out,
+            "begins with {pages} pages, and a worker has at most 256"
+        )
     }
 }
 
