@@ -16,9 +16,9 @@ from lib.guest_runs import ECHO, printed, request_lines
 from lib.small_modules import EXITS, TRAPS
 from lib.disk_steps import (
     ANYTHING, ANY_TEXTS, Bytes, Command, EXISTS, FOLDER, FRESH, LEAST, Locked, MISSING, NoFile,
-    PAGES, SMALL, SameFacts, TOO_LARGE, TOO_LONG, busy, counted, created, disk_of, field, filled,
+    PAGES, SMALL, SameFacts, TOO_LARGE, UNENDED, busy, counted, created, disk_of, field, filled,
     inspected, listed, mistaken, of_length, refused, refuses, runs, sector, shows, too_late,
-    unopened, written, written_out)
+    too_long, unopened, written, written_out)
 
 # What is told of the first entry of an environment, where it has no name.
 UNNAMED = "entry 1 of --env isn't NAME=VALUE\n"
@@ -203,8 +203,8 @@ def line_scene(given, out, err, status=6):
     return f"request lines {given[:40]!r}", [created(), runs(given, out, err, status=status)]
 
 
-REFUSED, SECOND, LONG_LINE = refused(1), refused(2), refused(1, TOO_LONG)
-LONGER_LINE = refused(1, "longer than version 2 takes, 65536 bytes of text\n")
+REFUSED, SECOND, LONG_LINE = refused(1), refused(2), refused(1, too_long(4_097))
+LONGER_LINE = refused(1, "65537 bytes, and version 2 takes 65536\n")
 LINES = [
     line_scene(given, out, err)
     for given, out, err in [
@@ -220,10 +220,16 @@ LINES = [
         (b"1 r a\n3 r b\n", "1 o a\n", too_late(2, 3, 2)),
         (b"1 r a\n0 r b\n", "1 o a\n", SECOND),
         (b"1 r " + b"x" * 4_097 + b"\n", "", LONG_LINE),
-        (b"1 r a\n1 r " + b"x" * 4_097 + b"\n", "1 o a\n", refused(2, TOO_LONG)),
-        (b"0 r " + b"x" * 4_097 + b"\n", "", REFUSED), (b"0 r " + b"x" * 5_000, "", LONG_LINE),
+        (b"1 r a\n1 r " + b"x" * 4_097 + b"\n", "1 o a\n", refused(2, too_long(4_097))),
+        (b"0 r " + b"x" * 4_097 + b"\n", "", REFUSED),
+        (b"0 r " + b"x" * 5_000 + b"\n", "", REFUSED),
+        (b"1 r " + b"x" * 5_000 + b"\n", "", refused(1, too_long(5_000))),
+        # Of a line whose end isn't among the bytes that were read no more is known.
+        (b"0 r " + b"x" * 5_000, "", refused(1, UNENDED)),
+        (b"1 r " + b"x" * 9_000 + b"\n", "", refused(1, UNENDED)),
         # A line that comes in several pieces is one line.
-        (b"1 r " + b"x" * 9_000, "", LONG_LINE),
+        (b"1 r a\n" * 1_300 + b"2 r " + b"x" * 5_000 + b"\n", "1 o a\n",
+         refused(1_301, too_long(5_000))),
         (b"1 r a\n" * 9_000 + b"b\n", "1 o a\n", refused(9_001)),
         (b"1 r a\n" * 3 + b"\n2 r b\n", "1 o a\n", refused(4))]
 ] + [

@@ -127,9 +127,14 @@ def busy(command, given=b""):
     return refuses(command, "K5 Busy", 4, given, "disk: another host is using this disk\n")
 
 
-# What is wrong with a line that is no request, and with one that is too long for version 1.
+# What is wrong with a line that is no request, and with one whose end isn't seen.
 NO_REQUEST = "a request is N r TEXT or N e, with N from 1 on\n"
-TOO_LONG = "longer than version 1 takes, 4096 bytes of text: wasmhost upgrade\n"
+UNENDED = "more than 4096 bytes, and version 1 takes 4096: wasmhost upgrade\n"
+
+
+def too_long(length):
+    """What is wrong with a text of so many bytes, where the worker is of version 1."""
+    return f"{length} bytes, and version 1 takes 4096: wasmhost upgrade\n"
 
 
 def refused(line, why=NO_REQUEST):

@@ -55,6 +55,11 @@ def called(place, kind):
     return wasm.i32(place) + wasm.CALL_INDIRECT + wasm.unsigned(kind) + b"\x00"
 
 
+# What comes after the place of floats.
+HINT = "; printf has floats, but not with -lc-printscan-no-floating-point\n"
+
+F32, F64, F64_ADD = 0x7D, 0x7C, b"\xa0"
+
 # Modules with what `check` says of them: the fault, its place if it has one, and the second line,
 # where there is one.
 REFUSED = [
@@ -67,7 +72,14 @@ REFUSED = [
     (small(wasm.i32(0) * 3 + b"\xfc\x8c\x80\x00\x00\x00"), "B1 Malformed", 56),
     # A count of data segments, which came later too.
     (LEAST[:44] + b"\x0c\x01\x00" + LEAST[44:], "B1 Malformed", 44),
-    (small(bodies=[wasm.sized(b"\x01\x01\x7d" + wasm.END)]), "B2 Float", 50),
+    (small(bodies=[wasm.sized(b"\x01\x01\x7d" + wasm.END)]), "B2 Float", 50,
+     "f32 in function 0" + HINT),
+    (small(F64_ADD), "B2 Float", 49, "f64.add in function 0" + HINT),
+    # A section of one import has 37 bytes, and the function after it is number 1.
+    (small(F64_ADD, imports=[wasm.imported_function(b"fd_close", 0)]), "B2 Float", 86,
+     "f64.add in function 1" + HINT),
+    (small(types=[NOTHING, wasm.function_type([], [F64])]), "B2 Float", 17, "f64 in type 1" + HINT),
+    (small(globals=[bytes([F32]) + b"\x00"]), "B2 Float", 26, "f32 in the global section" + HINT),
     (small(wasm.i32(1) + wasm.IF + bytes([wasm.I32]) + wasm.i32(1) + wasm.END + wasm.DROP),
      "V1 Typing", None),
     (small(wasm.CALL + wasm.unsigned(1)), "V2 Index", None),
@@ -111,15 +123,16 @@ def locals_of(count):
     return wasm.sized(b"\x01" + wasm.unsigned(count) + bytes([wasm.I32]) + wasm.END)
 
 
-# Modules that pass a limit by one (`B3 Limit`), with what there are too many of, and where that is
-# seen: at the count that is too great. Imported functions and instructions aren't counted before
-# they are read. There it is the kind of the import, or the opcode, that is one too many. Places are
-# counted along the module: LEAST has a header of 8 bytes, and sections of 6, 4, 5, 21 and 6.
+# Modules that pass a limit by one (`B3 Limit`), with what there are too many of, where that is
+# seen, and in which function if it is in one. It is seen at the count that is too great. Imported
+# functions and instructions aren't counted before they are read. There it is the kind of the
+# import, or the opcode, that is one too many. Places are counted along the module: LEAST has a
+# header of 8 bytes, and sections of 6, 4, 5, 21 and 6.
 PAST = [
     # The section's id, a size of two bytes, the count, the entry's size of two bytes, no locals,
     # and 4,096 instructions. The `end` is the one too many.
     (small(wasm.NOP * 4_096),
-     "4096 instructions in one expression", 44 + 1 + 2 + 1 + 2 + 1 + 4_096),
+     "4096 instructions in one expression", 44 + 1 + 2 + 1 + 2 + 1 + 4_096, 0),
     # The id, a size of two bytes, the count, the first type in three bytes, and `60`.
     (small(types=[NOTHING, wasm.function_type([wasm.I32] * 257, [])]),
      "256 parameters in one type", 8 + 1 + 2 + 1 + 3 + 1),
@@ -130,7 +143,7 @@ PAST = [
     (small(imports=[wasm.imported_function(b"fd_close", 0)] * 4_097),
      "4096 functions", 14 + 1 + 3 + 2 + 4_096 * 34 + 23 + 9),
     # The id, the size, the count, the entry's size, and how many runs of locals there are.
-    (small(bodies=[locals_of(257)]), "256 locals in one function", 44 + 1 + 1 + 1 + 1 + 1),
+    (small(bodies=[locals_of(257)]), "256 locals in one function", 44 + 1 + 1 + 1 + 1 + 1, 0),
     # The id, the size, the count, and two bytes: the type, and that there is no maximum.
     (small(tables=table(4_097)), "4096 entries in a new table", 18 + 1 + 1 + 1 + 2),
     # The id and a size of two bytes.

@@ -15,6 +15,7 @@ import time
 
 from lib.disk_scenes import outside_module
 from lib.disk_steps import LEAST, refused, too_late
+from lib.not_tried import not_tried
 from lib.guest_runs import ECHO, SECONDS, ended, scratch
 from lib.small_modules import small
 
@@ -131,7 +132,8 @@ def device(number):
     def act(path):
         try:
             os.mknod(path, stat.S_IFCHR | 0o600, number)
-        except OSError:
+        except OSError as why:
+            not_tried("disk-rows", f"no node can be made: {why}", "a status file on a device")
             os.mkfifo(path)
     return act
 

@@ -12,6 +12,17 @@ from model.disk_form import echo_image, echo_image_behind
 from lib.small_modules import flood_memory, memory_of_asks, memory_of_draws
 
 
+@dataclass(frozen=True)
+class Calls:
+    """Calls of the disk: so many writes, and so many reads and syncs."""
+
+    writes: int
+    others: int
+
+    def __add__(self, more):
+        return Calls(self.writes + more.writes, self.others + more.others)
+
+
 @dataclass
 class Story:
     """A script and a module, further words, and how the command has to end."""
@@ -202,6 +213,7 @@ LONG = "a" * 4_097
 
 # One that draws 5,000 bytes, which no worker of version 1 is given, and prints the error's letter.
 UNDRAWN = form.image((0,) * 5, (form.RUNNING, 0, 0), [(2, 0, ())], memory_of_draws())
+ENDED = form.image((13, 0, 0, 1, 0), (form.EXITED, 0, 0), [], memory_of_draws(b"L"))
 DRAWN = form.image((13, 1, 0, 1, 0), (form.EXITED, 0, 0), [], memory_of_draws(b"L"), form.TWO)
 
 
@@ -222,7 +234,8 @@ UPGRADES = [
         2, 4, (20, 2, 1), form.echo_process(
             (20, 1, 1), (20, (0,)), form.echo_memory([b"hello"]), form.TWO))),
     upgraded(f"life\nupgrade\nrequest {LONG}\nslice 42\n", f"1 o {LONG[1:]}\n2 o a\n"),
-    # Whoever hasn't asked in this life, nor was created in it, may have told lines before.
+    # Whoever hasn't asked in this life, nor was created in it, nor has ended, may have told lines
+    # before.
     upgraded(f"{HELLO}life\nupgrade\nlife\n",
              "1 o hello\n" + behind(2, 2, [], b"hello")
              + "life 2 ended N8 NotCaughtUp\n" + behind(3, 3, [], b"hello")),
@@ -235,6 +248,9 @@ UPGRADES = [
              "draws.wasm"),
     upgraded("life\nslice 99\nupgrade\nlife\n",
              "1 o L\n" + recovered(2, 3, (13, 1, 1), DRAWN), "draws.wasm"),
+    upgraded("life\nslice 99\ncheckpoint\nlife\nupgrade\nlife\n",
+             "1 o L\n" + recovered(2, 3, (13, 0, 1), ENDED) + recovered(3, 5, (13, 1, 1), DRAWN),
+             "draws.wasm"),
     upgraded(f"life\nupgrade\nrandom {'00' * 5_000}\nslice 99\n", "1 o 0\n", "draws.wasm"),
 ]
 
@@ -259,9 +275,10 @@ FAULTS = [
 
 
 def swept(script, calls, lines, module="echo.wasm", words=("--fronts", "0,512"), fronts=2):
-    """A sweep of so many calls, all of which agree."""
+    """A sweep of so many calls, which all agree. A write is cut with each front, any other once."""
     name = "line" if lines == 1 else "lines"
-    out = f"swept {calls * fronts:,} cuts: {lines} {name}, each told with one text\n"
+    cuts = calls.others + calls.writes * fronts
+    out = f"swept {cuts:,} cuts: {lines} {name}, each told with one text\n"
     return Story(script, module, tuple(words), out=out, command="sweep")
 
 
@@ -270,37 +287,39 @@ def unswept(script, err, module="echo.wasm", words=(), status=2):
     return Story(script, module, tuple(words), status, "", f"{err}\n", "sweep")
 
 
-# A creation makes 206 calls, a line a write and a sync, and a checkpoint 134 calls. The least
-# journal of version 2 has 133 sectors.
+# A creation writes all but the two calls that look for a worker, and five syncs. A line is a write
+# and a sync. A checkpoint reads the 129 sectors of an image, writes 2 of them and a head, and syncs
+# twice. The least journal of version 2 has 133 sectors.
 WIDER = ("--journal", "133", "--fronts", "0,512")
-IN_TWO = 206 + 133 - SECTORS
+CREATION, LINE, CHECKPOINT = Calls(199, 7), Calls(1, 1), Calls(3, 131)
+IN_TWO = CREATION + Calls(133 - SECTORS, 0)
 NO_UPGRADE = "the script's upgrade can't be done again after a cut"
 TWO = "life\nrequest hello\nrequest again\nslice 42\ncheckpoint\n"
 SWEPT = [
-    swept("life\n", 206, 0, words=(), fronts=5),
-    swept(HELLO, 206 + 2, 1, words=("--fronts", "505"), fronts=1),
-    swept(TWO, 206 + 2 + 2 + 134, 2),
+    swept("life\n", CREATION, 0, words=(), fronts=5),
+    swept(HELLO, CREATION + LINE, 1, words=("--fronts", "505"), fronts=1),
+    swept(TWO, CREATION + LINE + LINE + CHECKPOINT, 2),
     # The first of two lives, whose second request the second one has.
-    swept(HELLO + "life\nrequest again\nslice 42\n", 206 + 2, 2,
+    swept(HELLO + "life\nrequest again\nslice 42\n", CREATION + LINE, 2,
           words=("--life", "1", "--fronts", "505"), fronts=1),
-    swept(TWO.replace("checkpoint", "upgrade"), IN_TWO + 2 + 2 + 134, 2, words=WIDER),
+    swept(TWO.replace("checkpoint", "upgrade"), IN_TWO + LINE + LINE + CHECKPOINT, 2, words=WIDER),
     # It upgrades before it has asked. A recovered worker asks first, and then is upgraded.
-    swept("life\nupgrade\nrequest hello\nslice 20\n", IN_TWO + 134 + 2, 1, words=WIDER),
+    swept("life\nupgrade\nrequest hello\nslice 20\n", IN_TWO + CHECKPOINT + LINE, 1, words=WIDER),
     # Only version 2 takes the second request. Its record has 4,110 bytes, and a sector 494 of them.
     swept(f"{HELLO}upgrade\nrequest {LONG}\nslice 60\n",
-          206 + MORE_SECTORS - SECTORS + 2 + 134 + 9 + 1, 3,
+          CREATION + Calls(MORE_SECTORS - SECTORS + 9, 1) + LINE + CHECKPOINT, 3,
           words=("--journal", str(MORE_SECTORS), "--fronts", "0,512")),
     # The upgrade of the second life is a checkpoint.
-    swept(f"{HELLO}upgrade\nlife\nupgrade\nrequest again\nslice 42\n", IN_TWO + 2 + 134, 2,
+    swept(f"{HELLO}upgrade\nlife\nupgrade\nrequest again\nslice 42\n", IN_TWO + LINE + CHECKPOINT, 2,
           words=(*WIDER, "--life", "1")),
     # The power is cut in the first life, and the second one upgrades.
-    swept(f"{HELLO}life\nrequest again\nslice 42\nupgrade\n", IN_TWO + 2, 2,
+    swept(f"{HELLO}life\nrequest again\nslice 42\nupgrade\n", IN_TWO + LINE, 2,
           words=(*WIDER, "--life", "1")),
     # `lost` is taken behind the upgrade, and nothing is printed of it: so it isn't kept.
     swept(f"{HELLO}upgrade\nrequest lost\nslice 10\nlife\nrequest again\nslice 42\n",
-          IN_TWO + 2 + 134, 2, words=(*WIDER, "--life", "1")),
+          IN_TWO + LINE + CHECKPOINT, 2, words=(*WIDER, "--life", "1")),
     # A script may have an answer that doesn't fit, where nobody takes it.
-    swept("life\nrequest hello\nmonotonic 1\nslice 25\n", 206 + 2, 1, words=("--fronts", "505"),
+    swept("life\nrequest hello\nmonotonic 1\nslice 25\n", CREATION + LINE, 1, words=("--fronts", "505"),
           fronts=1),
     # Plans that can't be run to their end, or done again.
     unswept("life\nrequest hello\nmonotonic 1\nslice 99\n", "the script's life 1 ended N2 Source"),
@@ -312,13 +331,19 @@ SWEPT = [
     unswept("life\nupgrade\n", NO_UPGRADE, "endless.wasm", WIDER),
     # Times and random bytes that were not kept are handed out again.
     swept(f"life\nrealtime {TIMES[0]}\nmonotonic {TIMES[1]}\nrandom 4a6b6c6d4e\nslice 99\n",
-          206 + 2, 1, "asks.wasm", ("--fronts", "0"), 1),
+          CREATION + LINE, 1, "asks.wasm", ("--fronts", "0"), 1),
     *(unswept(f"{HELLO}{line}\n", "failed script line 4", "missing.wasm")
       for line in ["stop 1 0", "fail 1 0", "refuse 1", "tears 1", "hello"]),
     unswept("", "error: the script has no such life", "missing.wasm"),
     unswept(HELLO, "error: the script has no such life", words=("--life", "2")),
     *(unswept("life\nstop 1 0\n", "error: fronts are numbers from 0 to 512", "missing.wasm",
               ("--fronts", fronts)) for fronts in ["", "513", "0,", "0 1", "a"]),
+    unswept(HELLO, "failed C1 Range\n--pages is from 1 to 256", words=("--pages", "257"), status=3),
+    unswept(HELLO, "failed C1 Range\n--files is from 1 to 64", words=("--files", "65"), status=3),
+    unswept("life\n", f"failed {TWO_PAGES}", "two_pages.wasm", ("--files", "2"), 3),
+    # Each page more has 128 sectors in the image, and in each of two areas.
+    swept("life\n", CREATION + Calls(128, 0), 0, "two_pages.wasm",
+          ("--pages", "2", "--fronts", "505"), 1),
     unswept(HELLO, "failed K2 Io\nmissing.wasm: no such file or directory", "missing.wasm",
             status=4),
     unswept(HELLO, "failed B1 Malformed", "/dev/null", status=3),

@@ -1,27 +1,34 @@
 //! Whether two sectors of 512 bytes are the same, compared a lane of eight bytes at a time (this
 //! project's own).
 //!
+//! # Example
+//!
+//! ```text
+//! if !same(&held, &wanted) {
+//!     disk.write(place, &wanted)?;
+//! }
+//! ```
+//!
 //! # Promises
 //!
-//! - `same` is true exactly where the two sectors have the same bytes. It doesn't say where they
-//!   differ.
+//! - `same` is true exactly where the two sectors have the same bytes. Where they differ isn't
+//!   told.
 //!
 //! # Definitions to read
 //!
-//! None. There is no `specs/` folder. The one contract speaks of the two lists of bytes, and of
-//! nothing else.
+//! None, and there is no `specs/` folder. The one contract speaks of the two lists of bytes alone.
 //!
 //! # Who may touch what
 //!
 //! Only this crate knows in which lanes bytes are compared. `snapshot` uses it, so that a sector
-//! that holds the right bytes already isn't written again. It uses no other crate of this
-//! repository. It takes no memory, and has no errors.
+//! that holds the right bytes already isn't written again. The crate uses no other one of this
+//! repository, takes no memory, and has no errors.
 //!
 //! # Choices
 //!
-//! - `block_lanes::same` looks at every lane. It takes 130 machine instructions for two equal
-//!   sectors: 64 loads, 63 joins and the end. A processor without wider lanes can do no better.
-//!   Fewer would need `memcmp` of C or a newer processor, for neither of which the kit has words.
+//! - Every lane is looked at. Two equal sectors take 130 of the processor's instructions: 64 loads,
+//!   63 joins and the end. A processor without wider lanes can do no better. Fewer would need
+//!   `memcmp` of C or a newer processor, for neither of which the kit has words.
 #![tactic(auto)]
 
 ghost use Rattle.std.specs.Prelude.{◌≡◌, ◌↔◌, IsTrue};

@@ -1,4 +1,7 @@
 //! The heads of the two areas.
+//!
+//! A torn head may show a lower generation than before, one that no commit made. What stays is the
+//! latest that a head's sector shows.
 
 ghost use Rattle.std.specs.Prelude.{◌≡◌, ◌↔◌, ◌+◌, ◌<◌, ◌^◌, IsTrue};
 ghost use Rattle.disk_layout.specs.rules.Sectors.{head_bytes, head_of, IsComplete, IsOfNumber};

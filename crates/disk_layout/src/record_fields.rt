@@ -1,4 +1,7 @@
 //! The fields of a record, byte by byte.
+//!
+//! A record's length has two bytes in version 1 and four in version 2, and its payload a limit of
+//! the version. All else of a record and of the journal is the same in both.
 
 ghost use Rattle.std.specs.Prelude.{◌≡◌, ◌↔◌, ◌∷◌, ◌<◌, ◌≤◌, ◌^◌, IsTrue, length};
 ghost use Rattle.guest_memory.specs.rules.Bytes.{number_of};

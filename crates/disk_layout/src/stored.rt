@@ -1,4 +1,14 @@
 //! The super on a disk, and the configuration and the module that it leads to.
+//!
+//! # Choices
+//!
+//! - The digest is compared before the configuration's bytes are looked at. Only bytes that some
+//!   writer put there under their own digest are parsed then. What they spell is still checked
+//!   against its limits and against the super's sectors.
+//! - Whether the disk has all sectors is asked twice. As far as the module it is asked before that
+//!   is read. As far as the journal's end it is asked once the super's numbers are known to be the
+//!   configuration's. A super with a wrong number is `Damaged`, on a disk of any size that holds
+//!   the module.
 
 ghost use Rattle.std.specs.Prelude.{◌≡◌, ◌⊎◌, ◌↔◌, ◌+◌, ◌*◌, ◌<◌, ◌≤◌, ◌++◌, ℕ, [], ◌∷◌, length};
 ghost use Rattle.std.specs.Prelude.{take, IsTrue, IfOk, IfErr, OnOk, IsErr};

@@ -1,17 +1,24 @@
 //! The files of a tree, listed by their paths (this project's own).
 //!
+//! # Example
+//!
+//! ```text
+//! for node in list_nodes(alloc, host.tree())? { .. }
+//! let bytes = read_path(alloc, host.tree(), b"notes/today")?;
+//! ```
+//!
 //! # Promises
 //!
 //! - `list_nodes`: the nodes that have a path, but for the root, by rising numbers. Each has its
 //!   number, whether it is a directory, its size and its path (`listing_in`). A node that was
 //!   removed isn't among them, though a descriptor may name it still.
-//! - `read_path`: the bytes of the file that is listed under a path. Or it says that no node is
-//!   listed so, or that it is a directory (`ReadsPath`).
+//! - `read_path`: the bytes of the file that is listed under a path. Or no node is listed so, or it
+//!   is a directory (`ReadsPath`).
 //!
 //! # Definitions to read
 //!
-//! In `specs/rules/`: `path_text`, `listing_in`, `ReadsPath` (`Listed.antt`). They speak in the
-//! words of `file_tree`.
+//! In `specs/rules/`: `path_text`, `listing_in`, `ReadsPath` (`Listed.antt`). The words are those
+//! of `file_tree`.
 //!
 //! # Who may touch what
 //!

@@ -1,4 +1,20 @@
 //! A tree of files.
+//!
+//! # Choices
+//!
+//! - **Limits are the caller's**: fewer than 1,024 nodes (`len`), and a file of 1 MiB at most.
+//!   Another number has to be left as well (`next`), which the counted steps of a process give.
+//!   Asked for so, the first two hold of every tree.
+//! - **What has no node is left as it is.** A write, a removal and the like do nothing for a number
+//!   that no node has, as the definitions say.
+//! - **A write needs no memory**: it puts bytes in the place of others. Who writes beyond the end
+//!   first makes room by `resize`, which alone can fail. Several pieces then need no joined copy.
+//! - **A directory's entries are asked for by place** (`entry`), which is what a cookie names. No
+//!   list is made. What an entry is called is `name`.
+//! - `rename` takes its name as bytes that the caller has copied, so it can't fail. What is at the
+//!   target may be removed before it.
+//! - `is_within` and `parent` follow the directories' numbers and take no memory, so a walk needs
+//!   no list of the directories after it.
 
 ghost use Rattle.std.specs.Prelude.{◌≡◌, ◌<◌, ◌^◌, ◌++◌, ◌∷◌, [], length, ℕ, ◌+◌, ◌≢◌, Some};
 ghost use Rattle.std.specs.Prelude.{slice_get, option_map, IfSome, IfNone, ◌≤◌, ◌==◌, drop, false};

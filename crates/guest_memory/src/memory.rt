@@ -1,4 +1,14 @@
 //! The memory itself, seen as a list of bytes with a limit.
+//!
+//! # Choices
+//!
+//! - A part is lent for writing where `has` says that it is in memory. A `requires` is there in
+//!   place of an `Option`, since the toolchain proves no `Option` of a lent part.
+//! - Reserved room is in the invariant and not in the value, so equal memories are equal values.
+//! - Loads and stores of all widths compare where they begin with one number that the memory keeps
+//!   (`reach`), the end less seven bytes. Most take one comparison, and no second sum. Those that
+//!   begin there or behind compare their end, too. A function for that, which isn't inlined, cost
+//!   the loop over opcodes 7% more of the processor's instructions: a call keeps few registers.
 
 ghost use Rattle.std.specs.Prelude.{◌≡◌, ◌+◌, ◌-◌, ◌*◌, ◌≤◌, ◌<◌, ◌^◌, ◌↔◌, ◌==◌, length, IfOk};
 ghost use Rattle.std.specs.Prelude.{IsTrue, IsOk, IsSome, IfSome, OnSome, IfNone, replicate};

@@ -1,5 +1,6 @@
 //! Numbers and layouts of the witx files of preview 1, and the edges of a configuration's limits.
 
+use crate::rows::assert_row;
 use std::alloc::{AllocError, Global};
 use wasi_abi::{
     Answer, Call, Config, ConfigFault, Dirent, Errno, Fdstat, FileType, Iovec, Question, Rights,
@@ -192,7 +193,7 @@ fn is_so(alloc: Global, fact: &Fact) -> bool {
 #[test]
 fn numbers_layouts_and_limits_are_those_of_the_profile(rt: HostRuntime) {
     for (place, fact) in FACTS.iter().enumerate() {
-        assert!(rt; is_so(rt.alloc(), fact), "{place}");
+        assert_row(&rt, is_so(rt.alloc(), fact), &place);
     }
 }
 
@@ -279,7 +280,7 @@ fn is_kept_so(alloc: Global, kept: &Kept) -> Result<bool, AllocError> {
 #[test]
 fn what_is_kept_takes_memory(rt: HostRuntime) -> Result<(), AllocError> {
     for (place, kept) in KEPT.iter().enumerate() {
-        assert!(rt; is_kept_so(rt.alloc(), kept)?, "{place}");
+        assert_row(&rt, is_kept_so(rt.alloc(), kept)?, &place);
     }
     Ok(())
 }

@@ -9,18 +9,20 @@ use crate::call_stories::{
     BYTES, CREATE, FILE_RIGHTS, FIRST_FILE, Given, RESULT, ROOT, Step, Story, beginnings, lines,
     nodes, openings, outside, sizes, three_lines,
 };
+use crate::rows::assert_row;
 use guest_memory::Memory;
 use std::alloc::{AllocError, Global};
-use wasi_abi::{Answer, Call, Config, Errno, Version};
+use wasi_abi::{Answer, Call, Config, Version};
 use wasi_calls::{CallOutcome, WasiState, call, lines_begun};
 use wasi_calls_rules::OutputStream;
 use wasm_syntax::{ItemList, ValueType};
 
 /// Why a test has nothing to compare.
-#[derive(Clone, Copy, Debug, PartialEq, Eq)]
+#[derive(Clone, Copy, Debug)]
 enum CallStop {
-    Refused(Errno),
     Memory,
+    /// A host is refused its configuration.
+    Configuration,
 }
 
 impl From<AllocError> for CallStop {
@@ -40,10 +42,9 @@ struct Guest {
 }
 
 fn fresh_guest(alloc: Global) -> Result<Guest, CallStop> {
-    Ok(Guest {
-        host: host(alloc)?,
-        memory: page(alloc)?,
-    })
+    let memory = page(alloc)?;
+    let host = host(alloc)?;
+    Ok(Guest { host, memory })
 }
 
 /// One argument, and one entry of the environment.
@@ -52,7 +53,7 @@ fn config(alloc: Global) -> Result<Config, CallStop> {
     let environment = texts(alloc, 1, b"A=b")?;
     match Config::new(1, 1, 64, arguments, environment) {
         Ok(config) => Ok(config),
-        Err(_) => Err(CallStop::Refused(Errno::Inval)),
+        Err(_) => Err(CallStop::Configuration),
     }
 }
 
@@ -381,54 +382,58 @@ fn have(stories: &[Story], wanted: Call) -> bool {
     false
 }
 
-fn is_made(wanted: Call) -> bool {
-    have(lines(), wanted)
-        || have(outside(), wanted)
-        || have(beginnings(), wanted)
-        || have(openings(), wanted)
-        || have(nodes(), wanted)
-        || have(sizes(), wanted)
+/// All stories, list after list.
+fn all_stories() -> [&'static [Story]; 6] {
+    [
+        lines(),
+        outside(),
+        beginnings(),
+        openings(),
+        nodes(),
+        sizes(),
+    ]
+}
+
+fn is_made(lists: &[&[Story]], wanted: Call) -> bool {
+    for stories in lists {
+        if have(stories, wanted) {
+            return true;
+        }
+    }
+    false
 }
 
 /// A story that doesn't go as it is told, and how many of its steps do.
-type Miss = (&'static str, Result<usize, CallStop>);
+type Miss = (&'static str, usize);
 
-fn first_miss(alloc: Global, stories: &[Story]) -> Option<Miss> {
+fn first_miss(alloc: Global, stories: &[Story]) -> Result<Option<Miss>, CallStop> {
     for (name, steps) in stories {
-        let told = count_told(alloc, steps);
-        if told != Ok(steps.len()) {
-            return Some((*name, told));
+        let told = count_told(alloc, steps)?;
+        if told != steps.len() {
+            return Ok(Some((*name, told)));
         }
     }
-    None
-}
-
-fn first_misses(alloc: Global) -> [Option<Miss>; 6] {
-    [
-        first_miss(alloc, lines()),
-        first_miss(alloc, outside()),
-        first_miss(alloc, beginnings()),
-        first_miss(alloc, openings()),
-        first_miss(alloc, nodes()),
-        first_miss(alloc, sizes()),
-    ]
+    Ok(None)
 }
 
 /// All stories go as they are told, and each call is in some of them.
 #[test]
-fn calls_do_what_is_told_of_them(rt: HostRuntime) {
-    for miss in &first_misses(rt.alloc()) {
-        assert!(rt; miss.is_none(), "{miss:?}");
+fn calls_do_what_is_told_of_them(rt: HostRuntime) -> Result<(), CallStop> {
+    let lists = all_stories();
+    for stories in &lists {
+        let miss = first_miss(rt.alloc(), stories)?;
+        assert_row(&rt, miss.is_none(), &miss);
     }
     for asked in &Call::ALL {
-        assert!(rt; is_made(*asked), "{asked:?}");
+        assert_row(&rt, is_made(&lists, *asked), asked);
     }
+    Ok(())
 }
 
 /// Is out of memory where an allocation is refused, and has changed nothing then.
 #[test]
 fn writes_with_memory(rt: HostRuntime) -> Result<(), CallStop> {
     let told = count_told(rt.alloc(), three_lines())?;
-    assert!(rt; told == three_lines().len(), "{told}");
+    assert_row(&rt, told == three_lines().len(), &told);
     Ok(())
 }

@@ -4,9 +4,11 @@ ghost use Rattle.std.specs.Prelude.{◌<◌, length};
 
 use crate::process_image_stop::ProcessImageStop;
 use crate::processes::{ECHO, FILES, HELLO, Step, begin_with, bytes_of, restore_with, take_steps};
+use crate::rows::assert_row;
 use process::Process;
 use state_image::{Sink, write_process_image, write_process_image_to};
 use std::alloc::Global;
+use std::process::Abort;
 
 /// The mark, steps, answers, requests, lines and the last monotonic time. It is in `_start`, no
 /// input has ended, and nothing is unread or unfinished. There are no globals. One frame is of
@@ -110,38 +112,35 @@ fn restored_process_image(
     }
 }
 
-/// What is told of a module's processes and images.
+/// What is told of a module's image after some steps.
 enum Told {
-    /// These steps are taken.
-    Steps(&'static [Step]),
-    /// The image after these steps has this length, and begins with these bytes.
-    ProcessImage(&'static [Step], usize, &'static [u8]),
-    /// An image after the first steps is made a process. By the second steps that comes to where
-    /// the third ones lead from the start, and whether that is another image.
-    Again(&'static [Step], &'static [Step], &'static [Step], bool),
-    /// The image at the start is none without its last byte, nor with one more.
+    /// There is one.
+    Steps,
+    /// It has this length, and begins with these bytes.
+    ProcessImage(usize, &'static [u8]),
+    /// It is made a process. By the first steps here that comes to where the second ones lead from
+    /// the start, and whether that is another image.
+    Again(&'static [Step], &'static [Step], bool),
+    /// It is none without its last byte, nor with one more.
     Edge,
-    /// Bytes of the image after these steps are others, of memory every 97th one. It begins there.
-    /// They are no image then, or that of another process.
-    Bytes(&'static [Step], usize),
-    /// A sink that refuses a piece of the image is asked for no more.
+    /// Bytes of it are others, of memory every 97th one. It begins there. They are no image then,
+    /// or that of another process.
+    Bytes(usize),
+    /// A sink that refuses a piece of an image is asked for no more.
     Refused,
 }
 
-fn has_process_image(
+/// Whether what was made of an image is the image to which these steps lead.
+fn is_made_so(
     alloc: Global,
     wasm: &[u8],
-    steps: &[Step],
-    length: usize,
-    front: &[u8],
+    made: Option<&[u8]>,
+    whole: &[Step],
 ) -> Result<bool, ProcessImageStop> {
-    let process_image = begun_process_image(alloc, wasm, steps)?;
-    Ok(process_image.len() == length && process_image.starts_with(front))
-}
-
-/// Whether what was made of an image is what was wanted, and another one or not.
-fn is_made_so(made: Option<&[u8]>, wanted: &[u8], process_image: &[u8], is_other: bool) -> bool {
-    made == Some(wanted) && (made != Some(process_image)) == is_other
+    let wanted = begun_process_image(alloc, wasm, whole)?;
+    let is_so = made == Some(wanted.as_slice());
+    drop(wanted);
+    Ok(is_so)
 }
 
 fn comes_again(
@@ -153,17 +152,22 @@ fn comes_again(
     is_other: bool,
 ) -> Result<bool, ProcessImageStop> {
     let made = restored_process_image(alloc, wasm, process_image, then)?;
-    let wanted = begun_process_image(alloc, wasm, whole)?;
-    Ok(is_made_so(made.as_deref(), wanted.as_slice(), process_image, is_other))
+    let differs = made.as_deref() != Some(process_image);
+    let is_so = is_made_so(alloc, wasm, made.as_deref(), whole);
+    drop(made);
+    Ok(is_so? && differs == is_other)
 }
 
 /// What is made of bytes: 0 for nothing, 1 for a process whose image they are, and 2 for another.
 fn made_of(alloc: Global, wasm: &[u8], process_image: &[u8]) -> Result<u64, ProcessImageStop> {
-    match restored_process_image(alloc, wasm, process_image, &[])? {
-        Some(again) if again.as_slice() == process_image => Ok(1),
-        Some(_) => Ok(2),
-        None => Ok(0),
-    }
+    let made = restored_process_image(alloc, wasm, process_image, &[])?;
+    let kind = match made.as_deref() {
+        Some(again) if again == process_image => 1,
+        Some(_) => 2,
+        None => 0,
+    };
+    drop(made);
+    Ok(kind)
 }
 
 /// Whether it is none without its last byte, a zero, and none with another zero after it.
@@ -174,8 +178,7 @@ fn has_an_edge(
 ) -> Result<bool, ProcessImageStop> {
     let last = process_image.pop();
     let fewer = made_of(alloc, wasm, process_image.as_slice())?;
-    process_image.push(0)?;
-    process_image.push(0)?;
+    process_image.extend_from_slice(&[0, 0])?;
     let more = made_of(alloc, wasm, process_image.as_slice())?;
     Ok(last == Some(0) && fewer == 0 && more == 0)
 }
@@ -232,41 +235,48 @@ fn is_refused(alloc: Global, wasm: &[u8]) -> Result<bool, ProcessImageStop> {
     Ok(is_so)
 }
 
-fn is_so(alloc: Global, wasm: &[u8], told: &Told) -> Result<bool, ProcessImageStop> {
+fn is_image_so(
+    alloc: Global,
+    wasm: &[u8],
+    process_image: &mut Vec<u8>,
+    told: &Told,
+) -> Result<bool, ProcessImageStop> {
     match told {
-        Told::Steps(steps) => {
-            let _image = begun_process_image(alloc, wasm, steps)?;
-            Ok(true)
+        Told::Steps => Ok(true),
+        Told::ProcessImage(length, front) => {
+            Ok(process_image.len() == *length && process_image.starts_with(front))
         }
-        Told::ProcessImage(steps, length, front) => has_process_image(
-            alloc, wasm, steps, *length, front,
+        Told::Again(then, whole, is_other) => comes_again(
+            alloc,
+            wasm,
+            process_image.as_slice(),
+            then,
+            whole,
+            *is_other,
         ),
-        Told::Again(steps, then, whole, is_other) => {
-            let process_image = begun_process_image(alloc, wasm, steps)?;
-            comes_again(
-                alloc,
-                wasm,
-                process_image.as_slice(),
-                then,
-                whole,
-                *is_other,
-            )
-        }
-        Told::Edge => has_an_edge(alloc, wasm, &mut begun_process_image(alloc, wasm, &[])?),
-        Told::Bytes(steps, memory_at) => {
-            let mut process_image = begun_process_image(alloc, wasm, steps)?;
+        Told::Edge => has_an_edge(alloc, wasm, process_image),
+        Told::Bytes(memory_at) => {
             Ok(wrong_of(alloc, wasm, process_image.as_mut_slice(), *memory_at)? == 0)
         }
         Told::Refused => is_refused(alloc, wasm),
     }
 }
 
-/// A name, the texts of a module, and what is told of its images.
-type Row = (&'static str, &'static [&'static str], Told);
+/// A name, the texts of a module, steps, and what is told of its image then.
+type Row = (&'static str, &'static [&'static str], &'static [Step], Told);
+
+fn is_so(alloc: Global, wasm: &[u8], row: &Row) -> Result<bool, ProcessImageStop> {
+    let mut process_image = begun_process_image(alloc, wasm, row.2)?;
+    let is_so = is_image_so(alloc, wasm, &mut process_image, &row.3);
+    drop(process_image);
+    is_so
+}
 
 fn is_told_so(alloc: Global, row: &Row) -> Result<bool, ProcessImageStop> {
     let wasm = bytes_of(alloc, row.1)?;
-    is_so(alloc, wasm.as_slice(), &row.2)
+    let is_so = is_so(alloc, wasm.as_slice(), row);
+    drop(wasm);
+    is_so
 }
 
 /// To where `echo` and `FILES` ask, and to where `echo` has taken its first request.
@@ -281,37 +291,40 @@ static LIVES: [Row; 11] = [
     (
         "hello owes its line",
         &HELLO,
-        Told::Steps(&[
+        &[
             Step::Stop(0, [1, 0, 0, 0]),
             Step::Stop(4, [1, 4, 0, 0]),
             Step::Stop(100, [2, 5, 1, 1]),
             Step::Stop(100, [2, 5, 1, 1]),
-        ]),
+        ],
+        Told::Steps,
     ),
     (
         "hello takes no answer",
         &HELLO,
-        Told::Steps(&[
+        &[
             Step::RefuseEnd,
             Step::Stop(4, [1, 4, 0, 0]),
             Step::RefuseEnd,
             Step::Stop(100, [2, 5, 1, 1]),
-        ]),
+        ],
+        Told::Steps,
     ),
     (
         "hello exits",
         &HELLO,
-        Told::Steps(&[
+        &[
             Step::Stop(100, [2, 5, 1, 1]),
             Step::Owe(b"hi"),
             Step::Release,
             Step::Exit,
-        ]),
+        ],
+        Told::Steps,
     ),
     (
         "an answer to something else is refused, and what waits goes on waiting",
         &ECHO,
-        Told::Steps(&[
+        &[
             Step::Stop(100, [3, 5, 0, 0]),
             Step::RefuseTime,
             Step::Taken(5, 0),
@@ -320,84 +333,104 @@ static LIVES: [Row; 11] = [
             Step::Taken(6, 1),
             Step::Stop(100, [2, 20, 1, 1]),
             Step::Owe(b"hello"),
-        ]),
+        ],
+        Told::Steps,
     ),
     (
         "input ends, and no line is written",
         &ECHO,
-        Told::Steps(&[
+        &[
             Step::Stop(100, [3, 5, 0, 0]),
             Step::TakeEnd,
             Step::Stop(100, [4, 11, 0, 0]),
-        ]),
+        ],
+        Told::Steps,
     ),
-    ("nothing is pushed after a refusal", &HELLO, Told::Refused),
+    (
+        "nothing is pushed after a refusal",
+        &HELLO,
+        &[],
+        Told::Refused,
+    ),
     (
         "the image of echo from step 6",
         &ECHO,
-        Told::ProcessImage(ASKED, 65_819, &[]),
+        ASKED,
+        Told::ProcessImage(65_819, &[]),
     ),
     (
         "echo comes back from step 6",
         &ECHO,
-        Told::Again(ASKED, &[], ASKED, false),
+        ASKED,
+        Told::Again(&[], ASKED, false),
     ),
-    ("a byte fewer or more is no image", &ECHO, Told::Edge),
+    ("a byte fewer or more is no image", &ECHO, &[], Told::Edge),
     (
         "what was made again asks as before, and takes the same answer to the same end",
         &FILES,
-        Told::Again(ASKS, GONE_ON, GONE_ON, true),
+        ASKS,
+        Told::Again(GONE_ON, GONE_ON, true),
     ),
     (
         "a refused answer changes nothing",
         &ECHO,
-        Told::Again(ASKS, &[Step::RefuseTime], ASKS, false),
+        ASKS,
+        Told::Again(&[Step::RefuseTime], ASKS, false),
     ),
 ];
 
-#[test]
-fn processes_and_images_are_told(rt: HostRuntime) {
-    for row in &LIVES {
-        let told = is_told_so(rt.alloc(), row);
-        assert!(rt; told == Ok(true), "{}: {told:?}", row.0);
+fn are_told(rt: &impl Abort, alloc: Global, rows: &[Row]) -> Result<(), ProcessImageStop> {
+    for row in rows {
+        assert_row(rt, is_told_so(alloc, row)?, &row.0);
     }
+    Ok(())
+}
+
+#[test]
+fn processes_and_images_are_told(rt: HostRuntime) -> Result<(), ProcessImageStop> {
+    are_told(&rt, rt.alloc(), &LIVES)
 }
 
 /// Other bytes of an image at the start of `echo`, and of one after its first request.
-static FRESH_BYTES: Row = ("fresh", &ECHO, Told::Bytes(&[], FRESH_AT));
+static FRESH_BYTES: [Row; 1] = [("fresh", &ECHO, &[], Told::Bytes(FRESH_AT))];
 
-static ASKED_BYTES: Row = ("step 6", &ECHO, Told::Bytes(ASKED, ASKED_AT));
+static ASKED_BYTES: [Row; 1] = [("step 6", &ECHO, ASKED, Told::Bytes(ASKED_AT))];
 
 #[test]
-fn other_bytes_of_a_fresh_image_are_refused_or_others(rt: HostRuntime) {
-    let told = is_told_so(rt.alloc(), &FRESH_BYTES);
-    assert!(rt; told == Ok(true), "{told:?}");
+fn other_bytes_of_a_fresh_image_are_refused_or_others(
+    rt: HostRuntime,
+) -> Result<(), ProcessImageStop> {
+    are_told(&rt, rt.alloc(), &FRESH_BYTES)
 }
 
 #[test]
-fn other_bytes_of_an_image_of_step_6_are_refused_or_others(rt: HostRuntime) {
-    let told = is_told_so(rt.alloc(), &ASKED_BYTES);
-    assert!(rt; told == Ok(true), "{told:?}");
+fn other_bytes_of_an_image_of_step_6_are_refused_or_others(
+    rt: HostRuntime,
+) -> Result<(), ProcessImageStop> {
+    are_told(&rt, rt.alloc(), &ASKED_BYTES)
 }
 
 static IMAGES: [Row; 6] = [
-    ("hello", &HELLO, Told::ProcessImage(&[], 65_811, &FRONT)),
-    ("fresh echo", &ECHO, Told::ProcessImage(&[], 65_811, &[])),
+    ("hello", &HELLO, &[], Told::ProcessImage(65_811, &FRONT)),
+    ("fresh echo", &ECHO, &[], Told::ProcessImage(65_811, &[])),
     (
         "fresh echo comes back",
         &ECHO,
-        Told::Again(&[], &[], &[], false),
+        &[],
+        Told::Again(&[], &[], false),
     ),
-    ("files", &FILES, Told::ProcessImage(ASKS, FILES_BYTES, &[])),
+    ("files", &FILES, ASKS, Told::ProcessImage(FILES_BYTES, &[])),
     (
         "files come back",
         &FILES,
-        Told::Again(ASKS, &[], ASKS, false),
+        ASKS,
+        Told::Again(&[], ASKS, false),
     ),
     (
         "what is made again refuses an answer, and takes another one at once",
         &ECHO,
-        Told::Again(ASKS, &[Step::RefuseTime, Step::Take], ASKED, true),
+        ASKS,
+        Told::Again(&[Step::RefuseTime, Step::Take], ASKED, true),
     ),
 ];
 
@@ -405,8 +438,5 @@ static IMAGES: [Row; 6] = [
 /// memory.
 #[test]
 fn images_come_back_with_memory(rt: HostRuntime) -> Result<(), ProcessImageStop> {
-    for row in &IMAGES {
-        assert!(rt; is_told_so(rt.alloc(), row)?, "{}", row.0);
-    }
-    Ok(())
+    are_told(&rt, rt.alloc(), &IMAGES)
 }

@@ -3,6 +3,7 @@
 
 use crate::process_image_stop::ProcessImageStop;
 use crate::processes::{LARGE_ECHO, begin_with, bytes_of, restore_with};
+use crate::rows::assert_row;
 use process::Process;
 use state_image::{Sink, write_process_image, write_process_image_to};
 use std::alloc::Global;
@@ -33,7 +34,9 @@ impl Sink for Counted {
 
 fn begin(alloc: Global) -> Result<Process, ProcessImageStop> {
     let wasm = bytes_of(alloc, &LARGE_ECHO)?;
-    begin_with(alloc, wasm.as_slice(), PAGES)
+    let begun = begin_with(alloc, wasm.as_slice(), PAGES);
+    drop(wasm);
+    begun
 }
 
 #[test]
@@ -41,7 +44,7 @@ fn a_large_process_begins(rt: HostRuntime) -> Result<(), ProcessImageStop> {
     let process = begin(rt.alloc())?;
     let length = process.memory().len();
     drop(process);
-    assert!(rt; length == MEMORY_BYTES);
+    assert_row(&rt, length == MEMORY_BYTES, &length);
     Ok(())
 }
 
@@ -57,7 +60,7 @@ fn a_large_image_is_pushed(rt: HostRuntime) -> Result<(), ProcessImageStop> {
     let process = begin(rt.alloc())?;
     let length = count_pushed(&process);
     drop(process);
-    assert!(rt; length == IMAGE_BYTES);
+    assert_row(&rt, length == IMAGE_BYTES, &length);
     Ok(())
 }
 
@@ -71,14 +74,18 @@ fn written_process_image(alloc: Global) -> Result<Vec<u8>, ProcessImageStop> {
 #[test]
 fn a_large_image_is_written(rt: HostRuntime) -> Result<(), ProcessImageStop> {
     let process_image = written_process_image(rt.alloc())?;
-    assert!(rt; process_image.len() == IMAGE_BYTES);
+    let length = process_image.len();
+    drop(process_image);
+    assert_row(&rt, length == IMAGE_BYTES, &length);
     Ok(())
 }
 
 /// How many bytes the memory of the process of an image has.
 fn length_restored(alloc: Global, process_image: &[u8]) -> Result<usize, ProcessImageStop> {
     let wasm = bytes_of(alloc, &LARGE_ECHO)?;
-    let Some(process) = restore_with(alloc, wasm.as_slice(), process_image, PAGES)? else {
+    let restored = restore_with(alloc, wasm.as_slice(), process_image, PAGES);
+    drop(wasm);
+    let Some(process) = restored? else {
         return Ok(0);
     };
     let length = process.memory().len();
@@ -89,6 +96,9 @@ fn length_restored(alloc: Global, process_image: &[u8]) -> Result<usize, Process
 #[test]
 fn a_large_image_comes_back(rt: HostRuntime) -> Result<(), ProcessImageStop> {
     let process_image = written_process_image(rt.alloc())?;
-    assert!(rt; length_restored(rt.alloc(), process_image.as_slice())? == MEMORY_BYTES);
+    let restored = length_restored(rt.alloc(), process_image.as_slice());
+    drop(process_image);
+    let length = restored?;
+    assert_row(&rt, length == MEMORY_BYTES, &length);
     Ok(())
 }

@@ -1,5 +1,5 @@
-//! What tests alone can show of the host's side. They are of numbers, layouts and configurations of
-//! WASI, of each call on memory, streams and files, and of answers from outside. They are of the
+//! What tests alone can show of the host's side. Rows are of numbers, layouts and configurations of
+//! WASI, of each call on memory, streams and files, and of answers from outside. Others are of the
 //! tree of files, of sources and outlets, and of processes step after step. Images are written,
 //! changed, and made processes again.
 //!
@@ -21,6 +21,8 @@ mod large_images;
 mod process_image_stop;
 #[cfg(test)]
 mod processes;
+#[cfg(test)]
+mod rows;
 #[cfg(test)]
 mod sources;
 #[cfg(test)]

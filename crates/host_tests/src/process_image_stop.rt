@@ -8,7 +8,7 @@ use std::alloc::{AllocError, AllocFailed};
 use wasi_abi::ConfigFault;
 
 /// Want of memory, wherever it is found, or what else a step refuses.
-#[derive(Clone, Copy, Debug, PartialEq, Eq)]
+#[derive(Clone, Copy, Debug)]
 pub(crate) enum ProcessImageStop {
     Memory,
     Text(FromHexError),

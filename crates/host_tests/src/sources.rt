@@ -6,6 +6,7 @@ ghost use Rattle.wasi_calls_rules.specs.declared.output_stream.OutputStream.TheV
 ghost use Rattle.record_replay.specs.rules.Calls.{Releases, all_taken};
 ghost use Rattle.record_replay.specs.rules.Lists.{HandsOut};
 
+use crate::rows::assert_row;
 use record_replay::{
     AnswerList, AnyOutlet, AnySource, LineList, NumberedLine, Outlet, OutletFault, RefusingOutlet,
     Source, SourceFault,
@@ -76,69 +77,80 @@ fn clock_and_request(alloc: Global) -> Result<AnswerList, AllocError> {
     Ok(AnswerList::new(answers))
 }
 
-fn is_hello(said: &Result<Option<Answer>, SourceFault>) -> bool {
-    match said {
-        Ok(Some(Answer::Request { text })) => text.as_slice() == b"hello".as_slice(),
+/// What a source says: the time 7, the request `hello`, or nothing.
+enum Said {
+    Seven,
+    Hello,
+    Nothing,
+}
+
+fn is_said(said: &Result<Option<Answer>, SourceFault>, want: &Said) -> bool {
+    match (said, want) {
+        (Ok(Some(Answer::Realtime { nanoseconds })), Said::Seven) => *nanoseconds == 7,
+        (Ok(Some(Answer::Request { text })), Said::Hello) => {
+            text.as_slice() == b"hello".as_slice()
+        }
+        (Ok(None), Said::Nothing) => true,
         _ => false,
     }
 }
 
-fn is_seven(said: &Result<Option<Answer>, SourceFault>) -> bool {
-    match said {
-        Ok(Some(Answer::Realtime { nanoseconds })) => *nanoseconds == 7,
-        _ => false,
-    }
-}
-
-fn says_seven<S: Source>(source: &mut S, question: Question) -> bool {
+fn says<S: Source>(source: &mut S, question: Question, want: &Said) -> bool {
     let said = source.answer(question);
-    is_seven(&said)
+    let is_so = is_said(&said, want);
+    drop(said);
+    is_so
 }
 
-fn says_hello<S: Source>(source: &mut S, question: Question) -> bool {
-    let said = source.answer(question);
-    is_hello(&said)
-}
-
-fn says_nothing<S: Source>(source: &mut S) -> bool {
-    matches!(&source.answer(Question::Request), Ok(None))
+fn is_in_order<S: Source>(source: &mut S) -> bool {
+    says(source, Question::Monotonic, &Said::Seven)
+        && says(source, Question::Random { length: 3 }, &Said::Hello)
+        && says(source, Question::Request, &Said::Nothing)
+        && says(source, Question::Request, &Said::Nothing)
 }
 
 fn are_in_order(alloc: Global) -> Result<bool, AllocError> {
     let mut source = clock_and_request(alloc)?;
-    Ok(
-        says_seven(&mut source, Question::Monotonic)
-            && says_hello(&mut source, Question::Random { length: 3 })
-            && says_nothing(&mut source)
-            && says_nothing(&mut source),
-    )
+    let is_so = is_in_order(&mut source);
+    drop(source);
+    Ok(is_so)
 }
 
 /// `scripts/runs/refused-allocations` refuses each allocation in turn, and then this ends in that.
 #[test]
 fn answers_are_handed_out_in_order(rt: HostRuntime) -> Result<(), AllocError> {
-    assert!(rt; are_in_order(rt.alloc())?);
+    assert_row(&rt, are_in_order(rt.alloc())?, &"a clock and a request");
     Ok(())
 }
 
 fn is_first_in_box(alloc: Global) -> Result<bool, AllocError> {
     let said = ask_first(alloc, clock_and_request(alloc)?, Question::Realtime)?;
-    Ok(is_seven(&said))
+    let is_so = is_said(&said, &Said::Seven);
+    drop(said);
+    Ok(is_so)
 }
 
 /// Whether a source says `hello` second, and nothing more.
 fn is_second<S: Source>(source: &mut S) -> bool {
     let said = ask_twice(source);
-    is_hello(&said) && says_nothing(source)
+    let is_so = is_said(&said, &Said::Hello);
+    drop(said);
+    is_so && says(source, Question::Request, &Said::Nothing)
 }
 
 fn is_second_in_box(alloc: Global) -> Result<bool, AllocError> {
-    let mut any = AnySource(Box::new(alloc, clock_and_request(alloc)?)?);
-    Ok(is_second(&mut any))
+    let answers = clock_and_request(alloc)?;
+    let mut any = AnySource(Box::new(alloc, answers)?);
+    let is_so = is_second(&mut any);
+    drop(any);
+    Ok(is_so)
 }
 
 fn is_second_of_list(alloc: Global) -> Result<bool, AllocError> {
-    Ok(is_second(&mut clock_and_request(alloc)?))
+    let mut answers = clock_and_request(alloc)?;
+    let is_so = is_second(&mut answers);
+    drop(answers);
+    Ok(is_so)
 }
 
 fn is_line(line: &NumberedLine, number: u64, stream: OutputStream, text: &[u8]) -> bool {
@@ -159,7 +171,9 @@ fn are_two(lines: &[NumberedLine]) -> bool {
 
 fn are_two_kept(alloc: Global) -> bool {
     let mut outlet = LineList::new(alloc);
-    release_two(&mut outlet) == Ok(()) && are_two(outlet.lines())
+    let are_kept = release_two(&mut outlet) == Ok(()) && are_two(outlet.lines());
+    drop(outlet);
+    are_kept
 }
 
 fn three_texts(alloc: Global) -> Result<Vec<ItemList<u8>>, AllocError> {
@@ -170,12 +184,21 @@ fn three_texts(alloc: Global) -> Result<Vec<ItemList<u8>>, AllocError> {
     Ok(texts)
 }
 
+/// How many lines were handed on.
+fn count_of(outlet: RefusingOutlet<LineList>) -> usize {
+    let told = outlet.into_inner();
+    let count = told.lines().len();
+    drop(told);
+    count
+}
+
 /// Whether three lines are told to their end where none is refused, and so many are handed on.
 fn are_told_so(alloc: Global, refused: u64, count: usize) -> Result<bool, AllocError> {
     let texts = three_texts(alloc)?;
     let mut outlet = RefusingOutlet::new(LineList::new(alloc), refused);
     let said = tell_all(&mut outlet, texts.as_slice());
-    Ok(said.is_ok() == (refused == 0) && outlet.into_inner().lines().len() == count)
+    drop(texts);
+    Ok(said.is_ok() == (refused == 0) && count_of(outlet) == count)
 }
 
 fn release_three<O: Outlet>(outlet: &mut O) -> [bool; 3] {
@@ -188,7 +211,8 @@ fn release_three<O: Outlet>(outlet: &mut O) -> [bool; 3] {
 /// Whether three releases are answered so, and each of them is handed on.
 fn are_answered_so(alloc: Global, refused: u64, wanted: &[bool; 3]) -> bool {
     let mut outlet = RefusingOutlet::new(LineList::new(alloc), refused);
-    release_three(&mut outlet) == *wanted && outlet.into_inner().lines().len() == 3
+    let is_so = release_three(&mut outlet) == *wanted;
+    count_of(outlet) == 3 && is_so
 }
 
 /// Adds up what is released to it, where its maker sees the sum.
@@ -230,7 +254,9 @@ fn adds_up(any: &mut AnyOutlet, sum: &Cell<u64>) -> bool {
 fn is_taken_once(alloc: Global) -> Result<bool, AllocError> {
     let sum = Rc::new(alloc, Cell::new(0))?;
     let mut any = AnyOutlet(Box::new(alloc, Sum(sum.clone()?))?);
-    Ok(adds_up(&mut any, &sum))
+    let is_so = adds_up(&mut any, &sum);
+    drop(any);
+    Ok(is_so)
 }
 
 fn is_refused_in_box(alloc: Global) -> Result<bool, AllocError> {
@@ -296,8 +322,9 @@ fn is_so(alloc: Global, told: &Told) -> Result<bool, AllocError> {
 }
 
 #[test]
-fn boxes_and_outlets_do_what_is_in_them(rt: HostRuntime) {
+fn boxes_and_outlets_do_what_is_in_them(rt: HostRuntime) -> Result<(), AllocError> {
     for (name, told) in &TOLD {
-        assert!(rt; is_so(rt.alloc(), told) == Ok(true), "{name}");
+        assert_row(&rt, is_so(rt.alloc(), told)?, name);
     }
+    Ok(())
 }

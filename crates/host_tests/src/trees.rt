@@ -1,6 +1,7 @@
 //! That a tree is made and changed where there is memory, and that a caller can test what is asked
 //! of it.
 
+use crate::rows::assert_row;
 use file_tree::limits::NODES;
 use file_tree::{ByteList, NodeType, Tree, is_name};
 use std::alloc::{AllocError, Global};
@@ -27,7 +28,6 @@ fn move_node(
     number: u64,
     directory: u64,
 ) -> Result<bool, AllocError> {
-    let name = ByteList::copy_of(alloc, b"a")?;
     if number == 1 || !tree.has_path(number) || tree.is_within(number, directory) {
         return Ok(false);
     }
@@ -37,6 +37,7 @@ fn move_node(
     if tree.child(directory, b"a").is_some() || !is_name(b"a") {
         return Ok(false);
     }
+    let name = ByteList::copy_of(alloc, b"a")?;
     tree.rename(number, directory, name);
     Ok(true)
 }
@@ -88,13 +89,13 @@ fn hang_node(
     directory: u64,
     name: &[u8],
 ) -> Result<bool, AllocError> {
-    let bytes = ByteList::copy_of(alloc, name)?;
     if tree.has_path(number) || !tree.is_directory(directory) || !tree.has_path(directory) {
         return Ok(false);
     }
     if tree.child(directory, name).is_some() || !is_name(name) {
         return Ok(false);
     }
+    let bytes = ByteList::copy_of(alloc, name)?;
     tree.hang(number, directory, bytes);
     Ok(true)
 }
@@ -298,7 +299,7 @@ fn count_told(alloc: Global, steps: &[Step]) -> Result<usize, AllocError> {
 fn changes_with_memory(rt: HostRuntime) -> Result<(), AllocError> {
     for (name, steps) in &STORIES {
         let told = count_told(rt.alloc(), steps)?;
-        assert!(rt; told == steps.len(), "{name}: {told}");
+        assert_row(&rt, told == steps.len(), &(*name, told));
     }
     Ok(())
 }

@@ -1,5 +1,15 @@
-//! Integer arithmetic of WebAssembly (Core Specification 1.0, section 4.3.2), over `u32` and
-//! `u64`.
+//! Integer arithmetic of WebAssembly (Core Specification 1.0, section 4.3.2), over `u32` and `u64`.
+//!
+//! # Example
+//!
+//! ```text
+//! let sum = binary(BinaryOperator::Add, 2u32, 3u32)?;
+//! let quotient = binary(BinaryOperator::DivU, 7u64, 0u64);
+//! let is_less = compare(Comparison::LtS, sum, 0);
+//! let wide = convert(Conversion::I64ExtendI32S, 0xffff_ffff);
+//! ```
+//!
+//! Here `sum` is 5, and `quotient` is `Err(Trap::DivideByZero)`.
 //!
 //! # Promises
 //!
@@ -18,13 +28,13 @@
 //!
 //! In `specs/rules/Integers.antt`: `unary_of`, `binary_of`, `compare_of`, `convert_of` and
 //! `sign_extended`, each once for every width. An integer of width w is a number below 2^N, with N
-//! bits. The laws and examples are in `specs/laws/Laws.antt`; nobody has to believe them.
+//! bits.
 //!
 //! # Who may touch what
 //!
 //! There is no representation to hide: integers are Rust's own. `machine_slots` and `machine_frame`
-//! call the operators, and `wasm_semantics` cites the definitions. It uses `wasm_syntax`, which
-//! names operators and traps. It takes no memory. Its only errors are `Trap::DivideByZero` and
+//! call the operators, and `wasm_semantics` cites the definitions. `wasm_syntax` names operators
+//! and traps. No memory is taken. The only errors are `Trap::DivideByZero` and
 //! `Trap::IntegerOverflow`.
 #![tactic(auto)]
 

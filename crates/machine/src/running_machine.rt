@@ -1,4 +1,17 @@
 //! A machine and what it does.
+//!
+//! # Choices
+//!
+//! - **The machine's invariant holds whatever its memory is**: with each memory of the program's
+//!   limit, its state stands for a reduced configuration. The memory can be lent whole, and any
+//!   memory may be written back. What runs asks only that the memory's limit is the one that the
+//!   machine was linked with. Whole pages and bytes below 256 are known by types.
+//! - **A machine is asked what it waits for and whether it is over; nothing runs to learn it.**
+//!   Both answers are read off the innermost frame. A process then reduces a configuration once a
+//!   call. A machine that was just made at a call, and never ran, answers the same.
+//! - **The host may write memory while a call waits.** What a call asks for is no question of the
+//!   bytes in memory. The machine then shows what is written, and waits at the same call
+//!   (`memory_may_be_written`).
 
 ghost use Rattle.std.specs.Prelude.{◌≡◌};
 

@@ -2,6 +2,18 @@
 //! linking, one after another. Which modules are accepted is this project's own choice among the
 //! valid modules of the Core Specification 1.0.
 //!
+//! # Example
+//!
+//! ```text
+//! match accept(alloc, bytes, config.pages()) {
+//!     Ok(mut machine) => machine.run(fuel),
+//!     Err(fault) if fault.is_want_of_memory() => return Err(Shown::Nothing),
+//!     Err(fault) => return Err(Shown::Refused(fault, fault.place())),
+//! }
+//! ```
+//!
+//! Here `Shown` is the caller's.
+//!
 //! # Promises
 //!
 //! - `read`: the module is spelled by the bytes, within the limits, and valid (`read`).
@@ -18,16 +30,14 @@
 //! # Definitions to read
 //!
 //! In `specs/rules/Acceptance.antt`: `Accepts`, `IsRead`, `HasNoAcceptedModule`,
-//! `HasNoValidModule`, `IsReported`, `IsReportedOfReading`, `ModuleFaultDenies`, `is_want`,
-//! `place_in`, `passed_in`. They lead to `IsAccepted` of `wasm_semantics`, and to `HasBegun` and
-//! `IsRefused` of `machine`.
+//! `HasNoValidModule`, `IsReported`. These lead to `IsAccepted` of `wasm_semantics`, and to
+//! `HasBegun` and `IsRefused` of `machine`.
 //!
 //! # Who may touch what
 //!
-//! The crate holds nothing of its own. It is the one place where the three steps are joined.
-//! `ephemeral_worker` uses `read`, and `wasmhost_commands` uses `accept`. It uses `wasm_decode`,
-//! `wasm_validate` and `machine`. Each step takes memory, and has its own fault for that. After an
-//! error nothing is left of the module.
+//! The crate holds nothing of its own, and is the one place where the three steps are joined.
+//! `ephemeral_worker` uses `read`, and `command_words` uses `accept`. Each step takes memory,
+//! and has its own fault for that. After an error nothing is left of the module.
 //!
 //! # Choices
 //!

@@ -1,4 +1,7 @@
 //! Any instruction that is no jump and no call.
+//!
+//! One match decides what an instruction is: `operate` does nothing for those that lead elsewhere,
+//! and says so. Two matches, one in the other's default arm, stay two jump tables.
 
 ghost use Rattle.std.specs.Prelude.{◌<◌, length};
 ghost use Rattle.machine_slots.specs.Outcomes.{HasEffect, IsReadyFor};

@@ -1,4 +1,7 @@
 //! A call of the guest.
+//!
+//! A process that a machine's last counted step, a trap or `proc_exit` ends has a machine without a
+//! thread (`Machine::stop`). What is kept of it is its memory and its globals.
 
 ghost use Rattle.std.specs.Prelude.{true, false, ◌≡◌, ◌↔◌, option_copied, IsTrue};
 ghost use Rattle.wasm_semantics.specs.Configuration.{Program, Configuration};

@@ -1,4 +1,13 @@
 //! A process that runs.
+//!
+//! # Choices
+//!
+//! - A stop is said by a run of steps after which nothing is owed, and by one step more. Steps are
+//!   determined: that there is such a run says that there is no other.
+//! - `give` has no `requires`: an answer that isn't wanted is a wrong answer. `wanted_answer` tells
+//!   which one the waiting call wants. Then the call is performed with it. Its proof names no call.
+//!   The rules say that a call with an answer that fits wants no other (`CallRulesAskOnce`). At the
+//!   last step that can be counted `give` answers `StepsSpent` to every answer.
 
 ghost use Rattle.std.specs.Prelude.{◌≡◌, ◌+◌, ◌<◌, ◌≤◌, ◌^◌};
 ghost use Rattle.process.specs.rules.Stops.{is_spent, told};

@@ -1,4 +1,10 @@
 //! Stretches of a process: the machine runs, and then the host is called, or the process ends.
+//!
+//! Lines are numbered below 2^63 - 2, and those that an end would emit are counted among them. An
+//! end always has numbers then (`HasLineNumbers`). `StepsSpent` is answered to the call whose lines
+//! would go beyond, and to step 2^63. The lines that a call begins are counted before it is
+//! performed. Near step 2^63 `advance` may answer `StepsSpent` where it would answer `Spent` or
+//! `Asks` with more numbers.
 
 ghost use Rattle.std.specs.Prelude.{◌≡◌, [], false};
 ghost use Rattle.wasi_calls.specs.rules.Calls.{AreArguments};

@@ -1,11 +1,11 @@
 //! Modules as bytes, and what `wasmhost check` says of them.
 
 use crate::asking::ECHO;
+use crate::rows::assert_row;
+use command_words::{Printer, check_bytes};
 use hex::decode;
 use std::alloc::Global;
-use std::process::Abort;
 use std::test::Fail;
-use wasmhost_commands::{Printer, check_bytes};
 
 pub const HEADER: &str = "0061736d01000000";
 
@@ -84,30 +84,26 @@ type Row = (&'static [&'static str], u8, &'static str);
 fn is_told_so(alloc: Global, row: &Row) -> Result<bool, Fail> {
     let bytes = bytes_of(alloc, row.0)?;
     let mut out = Vec::new(alloc);
-    let status = check_bytes(alloc, bytes.as_slice(), &mut Printer::new(&mut out, false));
-    Ok(status == row.1 && out.as_slice() == row.2.as_bytes())
+    let status = check_bytes(
+        alloc,
+        bytes.as_slice(),
+        256,
+        &mut Printer::new(&mut out, false),
+    );
+    drop(bytes);
+    let is_so = status == row.1 && out.as_slice() == row.2.as_bytes();
+    drop(out);
+    Ok(is_so)
 }
 
-fn check(rt: &impl Abort, alloc: Global, rows: &[Row]) -> Result<(), Fail> {
-    for row in rows {
-        assert!(rt; is_told_so(alloc, row)?, "{row:?}");
-    }
-    Ok(())
-}
-
-static MODULES: [Row; 4] = [
+const MODULES: &[Row] = &[
     (&[], 3, "refused B1 Malformed at 0\n"),
     (&[HEADER], 3, "refused L1 NoStart\n"),
     (&[BEFORE_CODE, EMPTY_BODY], 0, "accepted\n"),
     (&HELLO, 0, "accepted\n"),
 ];
 
-#[test]
-fn modules(rt: HostRuntime) -> Result<(), Fail> {
-    check(&rt, rt.alloc(), &MODULES)
-}
-
-static SIZES: [Row; 3] = [
+const SIZES: &[Row] = &[
     (
         &[
             HEADER,
@@ -146,16 +142,12 @@ static SIZES: [Row; 3] = [
     ),
 ];
 
-#[test]
-fn sizes(rt: HostRuntime) -> Result<(), Fail> {
-    check(&rt, rt.alloc(), &SIZES)
-}
-
-static BODIES: [Row; 3] = [
+const BODIES: &[Row] = &[
     (
         &[BEFORE_CODE, "0a06010401017d0b"],
         3,
-        "refused B2 Float at 50\n",
+        "refused B2 Float at 50\nf32 in function 0; \
+         printf has floats, but not with -lc-printscan-no-floating-point\n",
     ),
     (
         &[BEFORE_CODE, "0a0c010a00 4101047f41010b1a0b"],
@@ -169,15 +161,15 @@ static BODIES: [Row; 3] = [
     ),
 ];
 
-#[test]
-fn bodies(rt: HostRuntime) -> Result<(), Fail> {
-    check(&rt, rt.alloc(), &BODIES)
-}
-
 /// Other faults of the decoder and the validator, and a module without a memory for the host.
-static FAULTS: [Row; 6] = [
+const FAULTS: &[Row] = &[
     (&["0061736d02000000"], 3, "refused B1 Malformed at 4\n"),
-    (&[HEADER, "01050160017d00"], 3, "refused B2 Float at 13\n"),
+    (
+        &[HEADER, "01050160017d00"],
+        3,
+        "refused B2 Float at 13\nf32 in type 0; \
+         printf has floats, but not with -lc-printscan-no-floating-point\n",
+    ),
     (
         &[HEADER, "010401608102"],
         3,
@@ -196,14 +188,9 @@ static FAULTS: [Row; 6] = [
     ),
 ];
 
-#[test]
-fn faults(rt: HostRuntime) -> Result<(), Fail> {
-    check(&rt, rt.alloc(), &FAULTS)
-}
-
 /// Imports that the host doesn't offer, or with another type; a byte of data at the last place of
 /// memory, and one after it; as many pages as `check` allows, and one more.
-static HOST: [Row; 6] = [
+const HOST: &[Row] = &[
     (
         &[HEADER, TYPES, UNKNOWN_CALL, BEHIND_IMPORTS],
         3,
@@ -251,16 +238,11 @@ static HOST: [Row; 6] = [
     ),
 ];
 
-#[test]
-fn host(rt: HostRuntime) -> Result<(), Fail> {
-    check(&rt, rt.alloc(), &HOST)
-}
-
 /// An empty custom section called `name`.
 const CUSTOM: &str = "0005046e616d65";
 
 /// Sections twice, out of order, too long and too short, and custom sections everywhere.
-static SECTIONS: [Row; 7] = [
+const SECTIONS: &[Row] = &[
     (&[HEADER, "0cff"], 3, "refused B1 Malformed at 8\n"),
     (&[HEADER, TYPES, TYPES], 3, "refused B1 Malformed at 14\n"),
     (
@@ -285,14 +267,21 @@ static SECTIONS: [Row; 7] = [
     ),
 ];
 
+static TABLES: [&[Row]; 6] = [MODULES, SIZES, BODIES, FAULTS, HOST, SECTIONS];
+
 #[test]
-fn sections(rt: HostRuntime) -> Result<(), Fail> {
-    check(&rt, rt.alloc(), &SECTIONS)
+fn modules_are_told(rt: HostRuntime) -> Result<(), Fail> {
+    for rows in &TABLES {
+        for row in *rows {
+            assert_row(&rt, is_told_so(rt.alloc(), row)?, row);
+        }
+    }
+    Ok(())
 }
 
 /// The status of `check` on these bytes.
 fn status_of(alloc: Global, bytes: &[u8]) -> u8 {
-    check_bytes(alloc, bytes, &mut Printer::new(Vec::new(alloc), false))
+    check_bytes(alloc, bytes, 256, &mut Printer::new(Vec::new(alloc), false))
 }
 
 /// The length of `ECHO`, and the place after its code section, where a module may end as well.
@@ -312,11 +301,12 @@ fn is_front_told_so(alloc: Global, bytes: &[u8], end: usize) -> bool {
 #[test]
 fn fronts(rt: HostRuntime) -> Result<(), Fail> {
     let bytes = bytes_of(rt.alloc(), &ECHO)?;
-    assert!(rt; bytes.len() == ECHO_LENGTH);
+    assert_row(&rt, bytes.len() == ECHO_LENGTH, &ECHO_LENGTH);
     for end in 0..=ECHO_LENGTH {
-        assert!(rt;
+        assert_row(
+            &rt,
             is_front_told_so(rt.alloc(), bytes.as_slice(), end),
-            "{end}"
+            &end,
         );
     }
     Ok(())
@@ -327,21 +317,22 @@ fn statuses_without_room(alloc: Global) -> [u8; 2] {
     let mut room = [0u8; 8];
     let room: &mut [u8] = &mut room;
     let mut out = Printer::new(room, false);
-    let accepted = check_bytes(alloc, &SMALL, &mut out);
-    [accepted, check_bytes(alloc, &SMALL[..9], &mut out)]
+    let accepted = check_bytes(alloc, &SMALL, 256, &mut out);
+    [accepted, check_bytes(alloc, &SMALL[..9], 256, &mut out)]
 }
 
 /// A line that can't be written whole.
 #[test]
 fn output_without_room(rt: HostRuntime) {
-    assert!(rt; statuses_without_room(rt.alloc()) == [7, 7]);
+    let statuses = statuses_without_room(rt.alloc());
+    assert_row(&rt, statuses == [7, 7], &statuses);
 }
 
 /// That the small module is accepted, in a room for its line that takes no memory.
 fn accept_small(alloc: Global) -> Result<(), Refused> {
     let mut room = [0u8; 32];
     let room: &mut [u8] = &mut room;
-    match check_bytes(alloc, &SMALL, &mut Printer::new(room, false)) {
+    match check_bytes(alloc, &SMALL, 256, &mut Printer::new(room, false)) {
         0 => Ok(()),
         5 => Err(Refused::Memory),
         _ => Err(Refused::Otherwise),

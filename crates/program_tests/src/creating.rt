@@ -3,10 +3,12 @@
 use crate::asking::ECHO;
 use crate::check::{BEFORE_CODE, HEADER, HELLO, bytes_of};
 use crate::lines::Flushed;
+use crate::rows::assert_row;
+use command_words::{Prepared, Printer, Sizes, prepare, report_unprepared};
+use disk_commands::create_on;
 use sector_disk::MemDisk;
 use std::alloc::Global;
 use std::test::Fail;
-use wasmhost_commands::{Prepared, Printer, Sizes, create_on, prepare, report_unprepared};
 
 /// Texts of a module, and pages, units of files and sectors of the journal of its worker.
 type Asked = (&'static [&'static str], [u64; 3]);
@@ -39,7 +41,7 @@ fn is_found_so(alloc: Global, row: &Found) -> Result<bool, Fail> {
 #[test]
 fn a_creation_is_prepared(rt: HostRuntime) -> Result<(), Fail> {
     for row in &FOUND {
-        assert!(rt; is_found_so(rt.alloc(), row)?, "{row:?}");
+        assert_row(&rt, is_found_so(rt.alloc(), row)?, row);
     }
     Ok(())
 }
@@ -98,7 +100,7 @@ fn is_refused_so(alloc: Global, row: &Refused) -> Result<bool, Fail> {
 #[test]
 fn a_creation_is_refused_before_its_disk_is_made(rt: HostRuntime) -> Result<(), Fail> {
     for row in &REFUSED {
-        assert!(rt; is_refused_so(rt.alloc(), row)?, "{row:?}");
+        assert_row(&rt, is_refused_so(rt.alloc(), row)?, row);
     }
     Ok(())
 }
@@ -127,6 +129,9 @@ fn ends_so(alloc: Global, wasm: &[u8], prepared: &Prepared, row: &Created) -> Re
     let is_so = status == row.1
         && out.out.as_slice() == row.2.as_bytes()
         && err.as_slice() == row.3.as_bytes();
+    drop(disk);
+    drop(out);
+    drop(err);
     Ok(is_so)
 }
 
@@ -141,7 +146,7 @@ fn is_created_so(alloc: Global, row: &Created) -> Result<bool, Fail> {
 #[test]
 fn a_worker_is_created_on_a_disk(rt: HostRuntime) -> Result<(), Fail> {
     for row in &CREATED {
-        assert!(rt; is_created_so(rt.alloc(), row)?, "{row:?}");
+        assert_row(&rt, is_created_so(rt.alloc(), row)?, row);
     }
     Ok(())
 }

@@ -1,5 +1,9 @@
 //! Lines in and out.
 
+use crate::rows::assert_row;
+use command_words::{
+    BufferedLines, LineFault, LineOutlet, Outside, Request, RequestSource, read_request, seeded,
+};
 use record_replay::{Outlet, OutletFault, Source, SourceFault};
 use std::alloc::{AllocError, Global};
 use std::io::{self, BufRead, ErrorKind, Read, Write};
@@ -7,26 +11,29 @@ use std::test::Fail;
 use std::time::{Clock, Duration};
 use wasi_abi::{Answer, Question, Version};
 use wasi_calls_rules::OutputStream;
-use wasmhost_commands::{
-    BufferedLines, LineFault, LineOutlet, Outside, Request, RequestSource, read_request, seeded,
-};
 
 /// Whether a line is the request of this number, with a text.
 fn reads_text(line: &[u8], number: u64, text: &[u8]) -> bool {
     read_request(Version::One.text_limit(), line) == Some(Request::Text { number, text })
 }
 
+/// A line, and the number and the text of its request.
+static TEXTS: [(&[u8], u64, &[u8]); 2] = [
+    (b"7 r ", 7, b""),
+    (
+        b"9223372036854775807 r  a\xff",
+        9_223_372_036_854_775_807,
+        b" a\xff",
+    ),
+];
+
 #[test]
 fn reads_both_forms(rt: HostRuntime) -> Result<(), Fail> {
-    assert!(rt; read_request(0, b"7 e") == Some(Request::End { number: 7 }));
-    assert!(rt; reads_text(b"7 r ", 7, b""));
-    assert!(rt;
-        reads_text(
-            b"9223372036854775807 r  a\xff",
-            9_223_372_036_854_775_807,
-            b" a\xff"
-        )
-    );
+    let end = read_request(0, b"7 e");
+    assert_row(&rt, end == Some(Request::End { number: 7 }), &"7 e");
+    for (line, number, text) in &TEXTS {
+        assert_row(&rt, reads_text(line, *number, *text), line);
+    }
     Ok(())
 }
 
@@ -45,7 +52,7 @@ static OTHER_FORMS: [&[u8]; 9] = [
 #[test]
 fn refuses_other_forms(rt: HostRuntime) -> Result<(), Fail> {
     for line in &OTHER_FORMS {
-        assert!(rt; read_request(65_536, line).is_none(), "{line:?}");
+        assert_row(&rt, read_request(65_536, line).is_none(), line);
     }
     Ok(())
 }
@@ -117,9 +124,9 @@ fn leaves_none(outlet: &mut LineOutlet<Flushed>, number: u64, text: &[u8]) -> bo
 fn prints_and_flushes(rt: HostRuntime) -> Result<(), Fail> {
     let mut outlet = flushed_outlet(rt.alloc())?;
     for row in &RELEASED {
-        assert!(rt; prints_so(&mut outlet, row), "{row:?}");
+        assert_row(&rt, prints_so(&mut outlet, row), row);
     }
-    assert!(rt; leaves_none(&mut outlet, 4, &[b'x'; 4096]));
+    assert_row(&rt, leaves_none(&mut outlet, 4, &[b'x'; 4096]), &4096);
     drop(outlet);
     Ok(())
 }
@@ -133,8 +140,9 @@ fn prints_with_memory(rt: HostRuntime) -> Result<(), LineFault> {
     let Ok(mut outlet) = LineOutlet::new(rt.alloc(), &mut rest) else {
         return Err(LineFault::Memory);
     };
-    assert!(rt; outlet.release(u64::MAX, OutputStream::Stderr, &[b'x'; 4096]) == Ok(()));
+    let released = outlet.release(u64::MAX, OutputStream::Stderr, &[b'x'; 4096]);
     drop(outlet);
+    assert_row(&rt, released == Ok(()), &u64::MAX);
     Ok(())
 }
 
@@ -143,8 +151,9 @@ fn a_full_writer_is_a_fault(rt: HostRuntime) -> Result<(), Fail> {
     let mut room = [0; 4];
     let mut rest = room.as_mut_slice();
     let mut outlet = LineOutlet::new(rt.alloc(), &mut rest)?;
-    assert!(rt; outlet.release(1, OutputStream::Stdout, b"hi") == Err(OutletFault));
+    let released = outlet.release(1, OutputStream::Stdout, b"hi");
     drop(outlet);
+    assert_row(&rt, released == Err(OutletFault), &1);
     Ok(())
 }
 
@@ -255,7 +264,7 @@ fn says_so(alloc: Global, row: &Said) -> Result<bool, AllocError> {
 #[test]
 fn answers_the_next_request(rt: HostRuntime) -> Result<(), Fail> {
     for row in &SAID {
-        assert!(rt; says_so(rt.alloc(), row)?, "{row:?}");
+        assert_row(&rt, says_so(rt.alloc(), row)?, row);
     }
     Ok(())
 }
@@ -287,7 +296,7 @@ fn fails_within(alloc: Global) -> Result<bool, AllocError> {
 
 #[test]
 fn a_failed_read_is_a_fault(rt: HostRuntime) -> Result<(), Fail> {
-    assert!(rt; fails_within(rt.alloc())?);
+    assert_row(&rt, fails_within(rt.alloc())?, &"a broken reader");
     Ok(())
 }
 
@@ -353,10 +362,10 @@ fn answers_so(alloc: Global, row: &(usize, Option<LineFault>)) -> Result<bool, A
 #[test]
 fn refuses_a_longer_text(rt: HostRuntime) -> Result<(), Fail> {
     for row in &LENGTHS {
-        assert!(rt; answers_so(rt.alloc(), row)?, "{row:?}");
+        assert_row(&rt, answers_so(rt.alloc(), row)?, row);
     }
     for row in &LIMITS {
-        assert!(rt; is_read_so(rt.alloc(), row)?, "{row:?}");
+        assert_row(&rt, is_read_so(rt.alloc(), row)?, row);
     }
     Ok(())
 }
@@ -396,7 +405,7 @@ fn says_long_so(alloc: Global, row: &Long) -> Result<bool, AllocError> {
 #[test]
 fn no_part_of_a_line_is_read(rt: HostRuntime) -> Result<(), Fail> {
     for row in &LONG {
-        assert!(rt; says_long_so(rt.alloc(), row)?, "{row:?}");
+        assert_row(&rt, says_long_so(rt.alloc(), row)?, row);
     }
     Ok(())
 }
@@ -429,9 +438,10 @@ fn draws_word_after_word(rt: HostRuntime) -> Result<(), Fail> {
     let mut source = source_over(rt.alloc(), b"".as_slice(), 0);
     for (length, at) in [(5, 0), (0, 8), (4, 8), (1, 12)] {
         let end = at + length as usize;
-        assert!(rt;
+        assert_row(
+            &rt,
             draws_so(&mut source, length, &WORDS[at..end]),
-            "{length} at {at}"
+            &(length, at),
         );
     }
     drop(source);
@@ -442,7 +452,9 @@ fn draws_word_after_word(rt: HostRuntime) -> Result<(), Fail> {
 #[test]
 fn gives_the_words_of_a_seed(rt: HostRuntime) -> Result<(), Fail> {
     let bytes = seeded(rt.alloc(), [0; 32], 0, 0, 5)?;
-    assert!(rt; bytes.as_slice() == [0x76, 0xb8, 0xe0, 0xad, 0xa0].as_slice());
+    let are_so = bytes.as_slice() == [0x76, 0xb8, 0xe0, 0xad, 0xa0].as_slice();
+    drop(bytes);
+    assert_row(&rt, are_so, &"a seed of zeros");
     Ok(())
 }
 
@@ -466,14 +478,14 @@ fn time_of(source: &mut Bare, question: Question) -> Option<u64> {
 fn shows_the_fixed_time(rt: HostRuntime) -> Result<(), Fail> {
     let mut source = source_over(rt.alloc(), b"".as_slice(), 0);
     for question in [Question::Realtime, Question::Monotonic, Question::Realtime] {
-        assert!(rt; time_of(&mut source, question) == Some(5), "{question:?}");
+        assert_row(&rt, time_of(&mut source, question) == Some(5), &question);
     }
     drop(source);
     Ok(())
 }
 
 /// A clock that always shows one time.
-#[derive(Clone, Copy, Debug)]
+#[derive(Clone, Copy)]
 struct FixedClock(Duration);
 
 impl Clock for FixedClock {
@@ -521,7 +533,7 @@ fn shows_clock(alloc: Global, row: &(u64, u32, u64)) -> bool {
 #[test]
 fn shows_the_time_of_the_clock(rt: HostRuntime) -> Result<(), Fail> {
     for row in &CLOCKS {
-        assert!(rt; shows_clock(rt.alloc(), row), "{row:?}");
+        assert_row(&rt, shows_clock(rt.alloc(), row), row);
     }
     Ok(())
 }
@@ -541,7 +553,8 @@ fn a_failed_clock_is_a_fault(rt: HostRuntime) -> Result<(), Fail> {
         ..OUTSIDE
     };
     let mut source = RequestSource::new(rt.alloc(), reader, NoClock, outside, 0);
-    assert!(rt; has_failed(&mut source, LineFault::Clock));
+    let has_failed = has_failed(&mut source, LineFault::Clock);
     drop(source);
+    assert_row(&rt, has_failed, &"no clock");
     Ok(())
 }

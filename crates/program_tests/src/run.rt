@@ -1,13 +1,16 @@
 //! Workers that are run on disks: what they print, how many steps they take, and that each
 //! allocation may be refused.
 
-ghost use Rattle.std.specs.Prelude.{◌≤◌};
-
 use crate::asking::create_worker;
 use crate::check::{BEFORE_CODE, EMPTY_BODY, HELLO, bytes_of};
 use crate::lines::{NoClock, OUTSIDE};
+use crate::rows::assert_row;
 use crate::serving::{Unwatched, pace_of};
 use crate::show::{SECTORS, WRITES, fresh_disk};
+use command_words::{
+    BufferedLines, LineOutlet, Prepared, Printer, RequestSource, Sizes, Unprepared, prepare,
+};
+use disk_commands::{Drive, Pace, create_on, serve};
 use ephemeral_worker::{EphemeralWorker, Now, SliceFault};
 use record_replay::{AnswerList, LineList};
 use sector_disk::MemDisk;
@@ -15,10 +18,6 @@ use std::alloc::Global;
 use std::io::Write;
 use std::num::NonZeroU64;
 use std::test::Fail;
-use wasmhost_commands::{
-    BufferedLines, Drive, LineOutlet, Pace, Prepared, Printer, RequestSource, Sizes, Unprepared,
-    create_on, prepare, serve,
-};
 
 /// Modules of one body each, without imports.
 const UNREACHABLE: [&str; 2] = [BEFORE_CODE, "0a0501030000 0b"];
@@ -105,20 +104,37 @@ static PRINTED: [Case; 8] = [
 /// Slices between two checkpoints.
 const EVERY: u64 = 100;
 
-fn prints_so(alloc: Global, case: &Case) -> Result<bool, Fail> {
-    let mut disk = fresh_disk(alloc, case.0)?;
+/// Whether a run on this disk prints so.
+fn prints_on(alloc: Global, disk: &mut MemDisk, pace: Pace, case: &Case) -> Result<bool, Fail> {
     let mut outlet = LineOutlet::new(alloc, Vec::new(alloc))?;
     let mut err = Vec::new(alloc);
-    let told = &mut Printer::new(&mut err, false);
-    let status = status_of(alloc, &mut disk, pace_of(case.1, EVERY)?, &mut outlet, told);
+    let status = status_of(
+        alloc,
+        disk,
+        pace,
+        &mut outlet,
+        &mut Printer::new(&mut err, false),
+    );
     let lines = outlet.writer().as_slice() == case.2.as_bytes();
-    Ok(lines && err.as_slice() == case.3.as_bytes() && status == case.4)
+    let is_so = lines && err.as_slice() == case.3.as_bytes() && status == case.4;
+    drop(outlet);
+    drop(err);
+    Ok(is_so)
+}
+
+/// The same of a fresh worker.
+fn prints_so(alloc: Global, case: &Case) -> Result<bool, Fail> {
+    let pace = pace_of(case.1, EVERY)?;
+    let mut disk = fresh_disk(alloc, case.0)?;
+    let is_so = prints_on(alloc, &mut disk, pace, case);
+    drop(disk);
+    is_so
 }
 
 #[test]
 fn workers_print(rt: HostRuntime) -> Result<(), Fail> {
     for case in &PRINTED {
-        assert!(rt; prints_so(rt.alloc(), case)?, "{case:?}");
+        assert_row(&rt, prints_so(rt.alloc(), case)?, case);
     }
     Ok(())
 }
@@ -142,13 +158,18 @@ fn run_to_end(
 fn run_alone(alloc: Global, worker: &mut EphemeralWorker, fuel: u64) -> Result<(), SliceFault> {
     let mut source = AnswerList::new(Vec::new(alloc));
     let mut outlet = LineList::new(alloc);
-    run_to_end(worker, fuel, &mut source, &mut outlet)
+    let ended = run_to_end(worker, fuel, &mut source, &mut outlet);
+    drop(source);
+    drop(outlet);
+    ended
 }
 
 /// What a worker of a module has in the end: its steps, and the number at 16.
 fn end_of(alloc: Global, texts: &[&str], fuel: u64) -> Result<(u64, Option<u32>), Fail> {
     let wasm = bytes_of(alloc, texts)?;
-    let mut worker = create_worker(alloc, wasm.as_slice())?;
+    let created = create_worker(alloc, wasm.as_slice());
+    drop(wasm);
+    let mut worker = created?;
     let ended = run_alone(alloc, &mut worker, fuel);
     let steps = worker.process().steps();
     let number = worker.process().memory().load_u32(16, 0);
@@ -160,7 +181,8 @@ fn end_of(alloc: Global, texts: &[&str], fuel: u64) -> Result<(u64, Option<u32>)
 /// The count of bytes that `hello` has `fd_write` put at 16.
 #[test]
 fn hello_has_its_count(rt: HostRuntime) -> Result<(), Fail> {
-    assert!(rt; end_of(rt.alloc(), &HELLO, 100)?.1 == Some(3));
+    let count = end_of(rt.alloc(), &HELLO, 100)?.1;
+    assert_row(&rt, count == Some(3), &count);
     Ok(())
 }
 
@@ -185,7 +207,7 @@ fn takes_so(alloc: Global, row: &Steps, fuel: u64) -> Result<bool, Fail> {
 fn workers_take_steps(rt: HostRuntime) -> Result<(), Fail> {
     for row in &STEPS {
         for fuel in [1, 3, 1_000] {
-            assert!(rt; takes_so(rt.alloc(), row, fuel)?, "{row:?} by {fuel}");
+            assert_row(&rt, takes_so(rt.alloc(), row, fuel)?, &(row, fuel));
         }
     }
     Ok(())
@@ -309,31 +331,41 @@ fn whole_run(rt: HostRuntime) -> Result<(), Refused> {
     run_hello(rt.alloc(), &mut disk)
 }
 
-/// The status of `hello` in so much room for its line, and so much for its last words.
-fn status_within(alloc: Global, room: usize, words_left: usize) -> Result<Option<u8>, Fail>
-    requires { (room ≤ 32) × (words_left ≤ 32) }
-{
-    let mut disk = fresh_disk(alloc, &HELLO)?;
-    let pace = pace_of(100, EVERY)?;
+/// The room for the line of `hello`, that for its last words, and its status then.
+static ROOMS: [(usize, usize, u8); 3] = [(4, 32, 7), (32, 4, 7), (32, 32, 0)];
+
+/// Whether a run on this disk ends so in so much room.
+fn is_status_within(
+    alloc: Global,
+    disk: &mut MemDisk,
+    pace: Pace,
+    row: &(usize, usize, u8),
+) -> bool {
     let mut lines = [0u8; 32];
     let mut words = [0u8; 32];
-    match status_in(
-        alloc,
-        &mut disk,
-        pace,
-        &mut lines[..room],
-        &mut words[..words_left],
-    ) {
-        Ok(status) => Ok(Some(status)),
-        Err(_) => Ok(None),
+    let (Some(lines), Some(words)) = (lines.get_mut(..row.0), words.get_mut(..row.1)) else {
+        return false;
+    };
+    match status_in(alloc, disk, pace, lines, words) {
+        Ok(status) => status == row.2,
+        Err(_) => false,
     }
+}
+
+/// The same of a fresh worker.
+fn ends_so_within(alloc: Global, row: &(usize, usize, u8)) -> Result<bool, Fail> {
+    let pace = pace_of(100, EVERY)?;
+    let mut disk = fresh_disk(alloc, &HELLO)?;
+    let is_so = is_status_within(alloc, &mut disk, pace, row);
+    drop(disk);
+    Ok(is_so)
 }
 
 /// Lines that can't be printed, and last words that can't.
 #[test]
 fn output_without_room(rt: HostRuntime) -> Result<(), Fail> {
-    assert!(rt; status_within(rt.alloc(), 4, 32)? == Some(7));
-    assert!(rt; status_within(rt.alloc(), 32, 4)? == Some(7));
-    assert!(rt; status_within(rt.alloc(), 32, 32)? == Some(0));
+    for row in &ROOMS {
+        assert_row(&rt, ends_so_within(rt.alloc(), row)?, row);
+    }
     Ok(())
 }

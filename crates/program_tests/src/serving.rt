@@ -2,17 +2,17 @@
 
 use crate::asking::ECHO;
 use crate::lines::{Flushed, NoClock, OUTSIDE};
+use crate::rows::assert_row;
 use crate::run::status_of;
 use crate::show::{Shown, after_one_slice, fresh_disk, shows};
+use command_words::{BufferedLines, LineOutlet, Printer, RequestSource};
+use disk_commands::{Drive, Pace, Watcher, Worker, serve};
 use ephemeral_worker::Now;
 use sector_disk::MemDisk;
 use std::alloc::Global;
 use std::io::Write;
 use std::num::NonZeroU64;
 use std::test::Fail;
-use wasmhost_commands::{
-    BufferedLines, Drive, LineOutlet, Pace, Printer, RequestSource, Watcher, Worker, serve,
-};
 
 /// Steps of a slice, and slices between two checkpoints.
 const FUEL: u64 = 100;
@@ -47,9 +47,11 @@ fn status_on<E: Write + Drop>(
     disk: &mut MemDisk,
     err: &mut Printer<E>,
 ) -> Result<Option<u8>, Fail> {
+    let pace = pace_of(FUEL, EVERY)?;
     let mut outlet = LineOutlet::new(alloc, Vec::new(alloc))?;
-    let status = status_of(alloc, disk, pace_of(FUEL, EVERY)?, &mut outlet, err);
+    let status = status_of(alloc, disk, pace, &mut outlet, err);
     let is_printed = outlet.writer().as_slice() == LINE;
+    drop(outlet);
     Ok(is_printed.then_some(status))
 }
 
@@ -69,14 +71,17 @@ static TOLD: [Told; 2] = [
 fn is_told_so(alloc: Global, row: &Told) -> Result<bool, Fail> {
     let mut disk = after_one_slice(alloc)?;
     let mut err = Flushed::new(alloc);
-    let status = status_on(alloc, &mut disk, &mut Printer::new(&mut err, row.0))?;
-    Ok(status == Some(0) && err.out.as_slice() == row.1.as_bytes())
+    let status = status_on(alloc, &mut disk, &mut Printer::new(&mut err, row.0));
+    let is_told = err.out.as_slice() == row.1.as_bytes();
+    drop(disk);
+    drop(err);
+    Ok(status? == Some(0) && is_told)
 }
 
 #[test]
 fn a_person_is_told_of_a_recovery(rt: HostRuntime) -> Result<(), Fail> {
     for row in &TOLD {
-        assert!(rt; is_told_so(rt.alloc(), row)?, "{row:?}");
+        assert_row(&rt, is_told_so(rt.alloc(), row)?, row);
     }
     Ok(())
 }
@@ -86,8 +91,10 @@ fn a_person_is_told_of_a_recovery(rt: HostRuntime) -> Result<(), Fail> {
 fn a_worker_runs_on_untold(rt: HostRuntime) -> Result<(), Fail> {
     let mut disk = after_one_slice(rt.alloc())?;
     let room: &mut [u8] = &mut [];
-    let status = status_on(rt.alloc(), &mut disk, &mut Printer::new(room, true))?;
-    assert!(rt; status == Some(7));
+    let status = status_on(rt.alloc(), &mut disk, &mut Printer::new(room, true));
+    drop(disk);
+    let status = status?;
+    assert_row(&rt, status == Some(7), &status);
     Ok(())
 }
 
@@ -120,29 +127,40 @@ fn runs_so(alloc: Global, disk: &mut MemDisk, run: &Run) -> Result<bool, Fail> {
         pace: pace_of(FUEL, EVERY)?,
         watcher: &Unwatched,
     };
-    let mut source = RequestSource::new(alloc, BufferedLines::new(run.0), NoClock, OUTSIDE, 0);
     let mut outlet = LineOutlet::new(alloc, Vec::new(alloc))?;
+    let mut source = RequestSource::new(alloc, BufferedLines::new(run.0), NoClock, OUTSIDE, 0);
     let mut err = Vec::new(alloc);
-    let told = &mut Printer::new(&mut err, false);
-    let status = serve(alloc, disk, drive, &mut source, &mut outlet, told);
+    let status = serve(
+        alloc,
+        disk,
+        drive,
+        &mut source,
+        &mut outlet,
+        &mut Printer::new(&mut err, false),
+    );
     drop(source);
     let lines = outlet.writer().as_slice() == run.1;
-    Ok(lines && err.as_slice() == run.2.as_bytes() && status == run.3)
+    let is_so = lines && err.as_slice() == run.2.as_bytes() && status == run.3;
+    drop(outlet);
+    drop(err);
+    Ok(is_so)
 }
 
 #[test]
 fn a_taken_line_is_dropped(rt: HostRuntime) -> Result<(), Fail> {
     let mut disk = fresh_disk(rt.alloc(), &ECHO)?;
     for run in &ON_ONE_DISK {
-        assert!(rt; runs_so(rt.alloc(), &mut disk, run)?, "{run:?}");
+        assert_row(&rt, runs_so(rt.alloc(), &mut disk, run)?, run);
     }
-    assert!(rt; shows(rt.alloc(), &mut disk, &BEHIND));
+    assert_row(&rt, shows(rt.alloc(), &mut disk, &BEHIND), &BEHIND.out);
     Ok(())
 }
 
 #[test]
 fn a_line_ahead_is_refused(rt: HostRuntime) -> Result<(), Fail> {
     let mut disk = fresh_disk(rt.alloc(), &ECHO)?;
-    assert!(rt; runs_so(rt.alloc(), &mut disk, &AHEAD)?);
+    let is_so = runs_so(rt.alloc(), &mut disk, &AHEAD);
+    drop(disk);
+    assert_row(&rt, is_so?, &AHEAD);
     Ok(())
 }

@@ -6,11 +6,13 @@ ghost use Rattle.disk_layout.specs.rules.Places.{total_sectors};
 use crate::asking::{ECHO, config, hello};
 use crate::check::bytes_of;
 use crate::lines::Flushed;
+use crate::rows::assert_row;
+use command_words::Printer;
+use disk_commands::{Worker, survey};
 use record_replay::{AnswerList, LineList};
 use sector_disk::{Disk, FaultDisk, MemDisk, Place};
 use std::alloc::Global;
 use std::test::Fail;
-use wasmhost_commands::{Printer, Worker, survey};
 
 /// Sectors of the disk of a short module, and how many writes it has room for between two syncs.
 pub(crate) const SECTORS: u64 = 4_676;
@@ -18,7 +20,7 @@ pub(crate) const SECTORS: u64 = 4_676;
 pub(crate) const WRITES: usize = 2_371;
 
 /// A line on the output, or on the error output, and the status.
-#[derive(Clone, Copy, Debug)]
+#[derive(Clone, Copy)]
 pub(crate) struct Shown {
     pub out: &'static str,
     pub err: &'static str,
@@ -35,9 +37,12 @@ pub(crate) fn shows<D: Disk>(alloc: Global, disk: &mut D, shown: &Shown) -> bool
         &mut Printer::new(&mut out, false),
         &mut Printer::new(&mut err, false),
     );
-    status == shown.status
+    let is_so = status == shown.status
         && out.out.as_slice() == shown.out.as_bytes()
-        && err.as_slice() == shown.err.as_bytes()
+        && err.as_slice() == shown.err.as_bytes();
+    drop(out);
+    drop(err);
+    is_so
 }
 
 fn zeros(alloc: Global) -> Result<MemDisk, Fail> {
@@ -112,19 +117,25 @@ fn live<D: Disk>(alloc: Global, disk: &mut D, course: &Course) -> Result<(), Fai
     ran
 }
 
-/// A second one, which does nothing, where that is wanted.
-fn open_again<D: Disk>(alloc: Global, disk: &mut D, is_wanted: bool) -> Result<(), Fail> {
-    if !is_wanted {
-        return Ok(());
-    }
-    let mut told = LineList::new(alloc);
-    match Worker::recover(alloc, disk, &mut told) {
+fn recover<D: Disk>(alloc: Global, disk: &mut D, told: &mut LineList) -> Result<(), Fail> {
+    match Worker::recover(alloc, disk, told) {
         Ok(worker) => {
             drop(worker);
             Ok(())
         }
         Err(fault) => Err(Fail::from(fault)),
     }
+}
+
+/// A second one, which does nothing, where that is wanted.
+fn open_again<D: Disk>(alloc: Global, disk: &mut D, is_wanted: bool) -> Result<(), Fail> {
+    if !is_wanted {
+        return Ok(());
+    }
+    let mut told = LineList::new(alloc);
+    let recovered = recover(alloc, disk, &mut told);
+    drop(told);
+    recovered
 }
 
 /// The disk of a worker of a short module as it was created.
@@ -143,12 +154,19 @@ pub(crate) fn after_one_slice(alloc: Global) -> Result<MemDisk, Fail> {
     Ok(disk)
 }
 
-/// Whether that is shown of its disk then, and the same once more.
+/// Whether that is shown of the disk then, and the same once more.
+fn lives_so(alloc: Global, disk: &mut MemDisk, course: &Course) -> Result<bool, Fail> {
+    live(alloc, disk, course)?;
+    open_again(alloc, disk, course.is_recovered)?;
+    Ok(shows(alloc, disk, &course.shown) && shows(alloc, disk, &course.shown))
+}
+
+/// The same of a disk of zeros.
 fn is_shown(alloc: Global, course: &Course) -> Result<bool, Fail> {
     let mut disk = zeros(alloc)?;
-    live(alloc, &mut disk, course)?;
-    open_again(alloc, &mut disk, course.is_recovered)?;
-    Ok(shows(alloc, &mut disk, &course.shown) && shows(alloc, &mut disk, &course.shown))
+    let is_so = lives_so(alloc, &mut disk, course);
+    drop(disk);
+    is_so
 }
 
 /// The request is taken in step 6, and its line is told in step 20. A record is after the snapshot
@@ -209,7 +227,7 @@ static COURSES: [Course; 5] = [
 #[test]
 fn the_saved_process_is_shown(rt: HostRuntime) -> Result<(), Fail> {
     for course in &COURSES {
-        assert!(rt; is_shown(rt.alloc(), course)?, "{:?}", course.shown);
+        assert_row(&rt, is_shown(rt.alloc(), course)?, &course.shown.out);
     }
     Ok(())
 }
@@ -262,13 +280,15 @@ static TROUBLES: [Trouble; 4] = [
 
 fn is_told(alloc: Global, trouble: &Trouble) -> Result<bool, Fail> {
     let mut disk = FaultDisk::new(zeros(alloc)?, trouble.stop, trouble.fail);
-    Ok(shows(alloc, &mut disk, &trouble.shown))
+    let is_so = shows(alloc, &mut disk, &trouble.shown);
+    drop(disk);
+    Ok(is_so)
 }
 
 #[test]
 fn a_disk_without_a_worker_is_refused(rt: HostRuntime) -> Result<(), Fail> {
     for trouble in &TROUBLES {
-        assert!(rt; is_told(rt.alloc(), trouble)?, "{:?}", trouble.shown);
+        assert_row(&rt, is_told(rt.alloc(), trouble)?, &trouble.shown.err);
     }
     Ok(())
 }
@@ -280,30 +300,40 @@ fn status_in(alloc: Global, disk: &mut MemDisk, out: &mut [u8], err: &mut [u8]) 
     survey(alloc, disk, &mut out, &mut err)
 }
 
-/// The status of a disk of zeros, in so much room.
-fn refused_in(alloc: Global, room: usize) -> Result<u8, Fail>
-    requires { room ≤ 32 }
-{
-    let mut disk = zeros(alloc)?;
-    let mut err = [0u8; 32];
-    Ok(status_in(alloc, &mut disk, &mut [], &mut err[..room]))
-}
-
-/// The status of a fresh worker's disk, in so much room.
-fn shown_in(alloc: Global, room: usize) -> Result<u8, Fail>
-    requires { room ≤ 64 }
-{
-    let mut disk = fresh_disk(alloc, &ECHO)?;
-    let mut out = [0u8; 64];
-    Ok(status_in(alloc, &mut disk, &mut out[..room], &mut []))
-}
-
+/// Whether the disk of a fresh worker is shown, and not one of zeros; so much room, and the status.
 /// The line has 59 bytes, and the fault 21.
+static ROOMS: [(bool, usize, u8); 4] = [
+    (true, 59, 0),
+    (true, 58, 7),
+    (false, 21, 3),
+    (false, 20, 7),
+];
+
+/// Whether that is so of this disk, with the room for what is printed of it and none for the other.
+fn is_status_in(alloc: Global, disk: &mut MemDisk, row: &(bool, usize, u8)) -> bool {
+    let mut room = [0u8; 64];
+    match room.get_mut(..row.1) {
+        Some(room) if row.0 => status_in(alloc, disk, room, &mut []) == row.2,
+        Some(room) => status_in(alloc, disk, &mut [], room) == row.2,
+        None => false,
+    }
+}
+
+fn is_told_in(alloc: Global, row: &(bool, usize, u8)) -> Result<bool, Fail> {
+    let mut disk = if row.0 {
+        fresh_disk(alloc, &ECHO)?
+    } else {
+        zeros(alloc)?
+    };
+    let is_so = is_status_in(alloc, &mut disk, row);
+    drop(disk);
+    Ok(is_so)
+}
+
 #[test]
 fn what_cant_be_printed_is_told(rt: HostRuntime) -> Result<(), Fail> {
-    assert!(rt; shown_in(rt.alloc(), 59)? == 0);
-    assert!(rt; shown_in(rt.alloc(), 58)? == 7);
-    assert!(rt; refused_in(rt.alloc(), 21)? == 3);
-    assert!(rt; refused_in(rt.alloc(), 20)? == 7);
+    for row in &ROOMS {
+        assert_row(&rt, is_told_in(rt.alloc(), row)?, row);
+    }
     Ok(())
 }

@@ -2,10 +2,12 @@
 
 use crate::asking::ECHO;
 use crate::check::bytes_of;
+use crate::rows::assert_row;
 use crate::run::{HELLO_BYTES, Refused, refused_by};
+use command_words::{Printer, Sizes};
 use std::alloc::Global;
 use std::test::Fail;
-use wasmhost_commands::{Printer, ScriptFault, Sizes, read_script, tell};
+use story_commands::{ScriptFault, read_script, tell};
 
 /// Texts of a module, and pages, units of files and sectors of the journal of its worker.
 type Asked = (&'static [&'static str], [u64; 3]);
@@ -168,16 +170,19 @@ fn is_told_so(alloc: Global, row: &Told) -> Result<bool, Fail> {
         &mut Printer::new(&mut out, false),
         &mut Printer::new(&mut err, false),
     );
+    drop(wasm);
     let is_so = told == status
         && out.as_slice() == said.as_bytes()
         && err.as_slice() == said_of_errors.as_bytes();
+    drop(out);
+    drop(err);
     Ok(is_so)
 }
 
 #[test]
 fn a_story_is_told(rt: HostRuntime) -> Result<(), Fail> {
     for row in &TOLD {
-        assert!(rt; is_told_so(rt.alloc(), row)?, "{row:?}");
+        assert_row(&rt, is_told_so(rt.alloc(), row)?, &row.1);
     }
     Ok(())
 }
@@ -185,7 +190,7 @@ fn a_story_is_told(rt: HostRuntime) -> Result<(), Fail> {
 #[test]
 fn a_faulty_line_is_found(rt: HostRuntime) {
     for row in &READ {
-        assert!(rt; is_read_so(rt.alloc(), row), "{row:?}");
+        assert_row(&rt, is_read_so(rt.alloc(), row), row);
     }
 }
 

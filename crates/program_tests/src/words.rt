@@ -1,8 +1,9 @@
 //! Command lines and what is said of them.
 
+use crate::rows::assert_row;
+use command_words::{CreateOrder, Order, RunOrder, StoryOrder, WordsFault, read_words};
 use std::alloc::Global;
 use std::test::Fail;
-use wasmhost_commands::{CreateOrder, Order, RunOrder, StoryOrder, WordsFault, read_words};
 
 /// Words, and the status of what is read: 0 for an order.
 type StatusRow = (&'static [&'static str], u8);
@@ -72,58 +73,38 @@ fn has_status(alloc: Global, row: &StatusRow) -> bool {
 #[test]
 fn tells_orders_mistakes_and_help_apart(rt: HostRuntime) -> Result<(), Fail> {
     for row in &STATUSES {
-        assert!(rt; has_status(rt.alloc(), row), "{row:?}");
+        assert_row(&rt, has_status(rt.alloc(), row), row);
     }
     Ok(())
 }
 
-/// Whether this file is to be checked.
-fn is_check_of(order: &Order<'_>, wanted: &str) -> bool {
-    match order {
-        Order::Check { path } => *path == wanted,
-        _ => false,
-    }
+/// What the words of an order say.
+enum Meant {
+    /// A file that is to be checked, or a disk that is to be shown.
+    Check(&'static str),
+    Show(&'static str),
+    /// A creation of `a.disk` from `a.wasm`: pages, units of files, sectors of the journal, entries
+    /// of the environment, and arguments.
+    Create([u64; 3], &'static [&'static str], &'static [&'static str]),
+    /// A run of `a.disk`: steps of a slice, slices between two checkpoints, the seed, the clock,
+    /// and whether all sectors are written back.
+    Run(u64, u64, Option<&'static str>, Option<u64>, bool),
+    /// A story that `a.story` tells of `a.wasm`: pages, units of files and sectors of the journal.
+    Story([u64; 3]),
 }
 
-#[test]
-fn reads_check(rt: HostRuntime) -> Result<(), Fail> {
-    let order = read_words(rt.alloc(), &["wasmhost", "check", "/dev/null"])?;
-    assert!(rt; is_check_of(&order, "/dev/null"));
-    drop(order);
-    Ok(())
-}
+/// Words, and what they say.
+type MeantRow = (&'static [&'static str], Meant);
 
-/// Whether this disk is to be shown.
-fn is_show_of(order: &Order<'_>, wanted: &str) -> bool {
-    match order {
-        Order::Show { path } => *path == wanted,
-        _ => false,
-    }
-}
-
-#[test]
-fn reads_show(rt: HostRuntime) -> Result<(), Fail> {
-    let order = read_words(rt.alloc(), &["wasmhost", "show", "a.disk"])?;
-    assert!(rt; is_show_of(&order, "a.disk"));
-    drop(order);
-    Ok(())
-}
-
-/// Words of a creation of `a.disk` from `a.wasm`, and what they say beside that: pages, units of
-/// files, sectors of the journal, entries of the environment, and arguments.
-type CreateRow = (
-    &'static [&'static str],
-    [u64; 3],
-    &'static [&'static str],
-    &'static [&'static str],
-);
-
-static CREATIONS: [CreateRow; 4] = [
+static MEANT: [MeantRow; 14] = [
+    (
+        &["wasmhost", "check", "/dev/null"],
+        Meant::Check("/dev/null"),
+    ),
+    (&["wasmhost", "show", "a.disk"], Meant::Show("a.disk")),
     (
         &["wasmhost", "create", "a.disk", "a.wasm"],
-        [16, 16, 256],
-        &[],
-        &[],
+        Meant::Create([16, 16, 256], &[], &[]),
     ),
     (
         &[
@@ -137,137 +118,40 @@ static CREATIONS: [CreateRow; 4] = [
             "--journal",
             "64",
         ],
-        [1, 2, 64],
-        &[],
-        &[],
+        Meant::Create([1, 2, 64], &[], &[]),
     ),
     (
         &[
             "wasmhost", "create", "--env", "a=b", "a.disk", "--env", "c=", "a.wasm",
         ],
-        [16, 16, 256],
-        &["a=b", "c="],
-        &[],
+        Meant::Create([16, 16, 256], &["a=b", "c="], &[]),
     ),
     (
         &[
             "wasmhost", "create", "a.disk", "a.wasm", "--", "--pages", "--", "1",
         ],
-        [16, 16, 256],
-        &[],
-        &["--pages", "--", "1"],
+        Meant::Create([16, 16, 256], &[], &["--pages", "--", "1"]),
     ),
-];
-
-/// Whether a creation is that of a row.
-fn is_creation(order: &CreateOrder<'_>, row: &CreateRow) -> bool {
-    order.disk == "a.disk"
-        && order.module == "a.wasm"
-        && [order.pages, order.files, order.journal] == row.1
-        && order.environment.as_slice() == row.2
-        && order.arguments.as_slice() == row.3
-}
-
-/// Whether the words of a row mean its creation.
-fn is_created_so(alloc: Global, row: &CreateRow) -> Result<bool, WordsFault> {
-    let order = read_words(alloc, row.0)?;
-    let is_so = match &order {
-        Order::Create(order) => is_creation(order, row),
-        _ => false,
-    };
-    drop(order);
-    Ok(is_so)
-}
-
-#[test]
-fn reads_create(rt: HostRuntime) -> Result<(), Fail> {
-    for row in &CREATIONS {
-        assert!(rt; is_created_so(rt.alloc(), row)?, "{row:?}");
-    }
-    Ok(())
-}
-
-/// Words of a run of `a.disk`, and what they say beside that: steps of a slice, slices between two
-/// checkpoints, the seed, the clock, and whether all sectors are written back.
-type RunRow = (
-    &'static [&'static str],
-    u64,
-    u64,
-    Option<&'static str>,
-    Option<u64>,
-    bool,
-);
-
-static RUNS: [RunRow; 4] = [
     (
         &["wasmhost", "run", "a.disk"],
-        100_000,
-        100,
-        None,
-        None,
-        false,
+        Meant::Run(100_000, 100, None, None, false),
     ),
     (
         &["wasmhost", "run", "a.disk", "--fuel", "1", "--every=1"],
-        1,
-        1,
-        None,
-        None,
-        false,
+        Meant::Run(1, 1, None, None, false),
     ),
     (
         &["wasmhost", "run", "--seed", "0A", "--clock", "0", "a.disk"],
-        100_000,
-        100,
-        Some("0A"),
-        Some(0),
-        false,
+        Meant::Run(100_000, 100, Some("0A"), Some(0), false),
     ),
     (
         &["wasmhost", "run", "--rewrite", "--", "a.disk"],
-        100_000,
-        100,
-        None,
-        None,
-        true,
+        Meant::Run(100_000, 100, None, None, true),
     ),
-];
-
-/// Whether a run is that of a row.
-fn is_run(order: &RunOrder<'_>, row: &RunRow) -> bool {
-    order.disk == "a.disk"
-        && order.fuel.get() == row.1
-        && order.every.get() == row.2
-        && order.seed == row.3
-        && order.clock == row.4
-        && order.rewrites == row.5
-}
-
-/// Whether the words of a row mean its run.
-fn is_run_so(alloc: Global, row: &RunRow) -> Result<bool, WordsFault> {
-    let order = read_words(alloc, row.0)?;
-    let is_so = match &order {
-        Order::Run(order) => is_run(order, row),
-        _ => false,
-    };
-    drop(order);
-    Ok(is_so)
-}
-
-#[test]
-fn reads_run(rt: HostRuntime) -> Result<(), Fail> {
-    for row in &RUNS {
-        assert!(rt; is_run_so(rt.alloc(), row)?, "{row:?}");
-    }
-    Ok(())
-}
-
-/// Words of a story that `a.story` tells of `a.wasm`, and its pages, units of files and sectors of
-/// the journal.
-type StoryRow = (&'static [&'static str], [u64; 3]);
-
-static STORIES: [StoryRow; 4] = [
-    (&["wasmhost", "story", "a.story", "a.wasm"], [1, 1, 64]),
+    (
+        &["wasmhost", "story", "a.story", "a.wasm"],
+        Meant::Story([1, 1, 64]),
+    ),
     (
         &[
             "wasmhost",
@@ -280,7 +164,7 @@ static STORIES: [StoryRow; 4] = [
             "--journal",
             "65",
         ],
-        [2, 3, 65],
+        Meant::Story([2, 3, 65]),
     ),
     (
         &[
@@ -291,38 +175,79 @@ static STORIES: [StoryRow; 4] = [
             "--pages=18446744073709551615",
             "--files=0",
         ],
-        [u64::MAX, 0, 64],
+        Meant::Story([u64::MAX, 0, 64]),
     ),
     (
         &[
             "wasmhost", "story", "--files", "2", "--", "a.story", "a.wasm",
         ],
-        [1, 2, 64],
+        Meant::Story([1, 2, 64]),
     ),
 ];
 
-/// Whether a story is that of a row.
-fn is_story(order: &StoryOrder<'_>, row: &StoryRow) -> bool {
-    order.script == "a.story"
-        && order.module == "a.wasm"
-        && [order.pages, order.files, order.journal] == row.1
+fn is_creation(order: &CreateOrder<'_>, meant: &Meant) -> bool {
+    match meant {
+        Meant::Create(sizes, environment, arguments) => {
+            order.disk == "a.disk"
+                && order.module == "a.wasm"
+                && [order.pages, order.files, order.journal] == *sizes
+                && order.environment.as_slice() == *environment
+                && order.arguments.as_slice() == *arguments
+        }
+        _ => false,
+    }
 }
 
-/// Whether the words of a row mean its story.
-fn is_told_so(alloc: Global, row: &StoryRow) -> Result<bool, WordsFault> {
-    let order = read_words(alloc, row.0)?;
-    let is_so = match &order {
-        Order::Story(order) => is_story(order, row),
+fn is_run(order: &RunOrder<'_>, meant: &Meant) -> bool {
+    match meant {
+        Meant::Run(fuel, every, seed, clock, rewrites) => {
+            order.disk == "a.disk"
+                && order.fuel.get() == *fuel
+                && order.every.get() == *every
+                && order.seed == *seed
+                && order.clock == *clock
+                && order.rewrites == *rewrites
+        }
         _ => false,
-    };
+    }
+}
+
+fn is_story(order: &StoryOrder<'_>, meant: &Meant) -> bool {
+    match meant {
+        Meant::Story(sizes) => {
+            order.script == "a.story"
+                && order.module == "a.wasm"
+                && [order.pages, order.files, order.journal] == *sizes
+        }
+        _ => false,
+    }
+}
+
+fn is_meant(order: &Order<'_>, meant: &Meant) -> bool {
+    match order {
+        Order::Check { path, .. } => matches!(meant, Meant::Check(wanted) if path == wanted),
+        Order::Show { path } => matches!(meant, Meant::Show(wanted) if path == wanted),
+        Order::Create(order) => is_creation(order, meant),
+        Order::Run(order) => is_run(order, meant),
+        Order::Story(order) => is_story(order, meant),
+        _ => false,
+    }
+}
+
+/// Whether the words of a row say what they should.
+fn is_meant_so(alloc: Global, row: &MeantRow) -> Result<bool, WordsFault> {
+    let order = read_words(alloc, row.0)?;
+    let is_so = is_meant(&order, &row.1);
     drop(order);
     Ok(is_so)
 }
 
+/// `scripts/runs/refused-allocations` refuses each allocation in turn, and then this ends out of
+/// memory.
 #[test]
-fn reads_story(rt: HostRuntime) -> Result<(), Fail> {
-    for row in &STORIES {
-        assert!(rt; is_told_so(rt.alloc(), row)?, "{row:?}");
+fn reads_orders(rt: HostRuntime) -> Result<(), Fail> {
+    for row in &MEANT {
+        assert_row(&rt, is_meant_so(rt.alloc(), row)?, &row.0);
     }
     Ok(())
 }

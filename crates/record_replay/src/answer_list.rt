@@ -1,4 +1,6 @@
 //! A source of answers that are known beforehand.
+//!
+//! Answers are handed out owned, so that handing one out takes no memory and can't fail.
 
 ghost use Rattle.std.specs.Prelude.{◌≡◌};
 

@@ -1,4 +1,7 @@
 //! Any source and any outlet, in boxes that `main` or a test makes.
+//!
+//! A box's relation is that of what it holds. Concrete types show that too, in tests alone, by two
+//! proofs that cite names of the prover's own (`read_made`).
 
 use crate::{Outlet, OutletFault, Source, SourceFault};
 use wasi_abi::{Answer, Question};

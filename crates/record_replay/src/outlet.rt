@@ -1,4 +1,7 @@
 //! Where lines go.
+//!
+//! A release that was answered by a fault is in a list of calls like any other: the line may have
+//! been told.
 
 use crate::OutletFault;
 use wasi_calls_rules::OutputStream;

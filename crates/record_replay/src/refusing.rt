@@ -1,4 +1,7 @@
 //! An outlet that fails where it is told.
+//!
+//! The refused line is handed on before the fault is answered: what a reader sees is the worse
+//! case.
 
 ghost use Rattle.std.specs.Prelude.{◌≡◌};
 

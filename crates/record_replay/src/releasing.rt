@@ -1,4 +1,7 @@
 //! Lines that wait are released.
+//!
+//! Lines are released in one place, for a slice and for a replay, which is with the outlets, above
+//! `process`.
 
 ghost use Rattle.std.specs.Prelude.{OnOk, OnErr};
 ghost use Rattle.record_replay.specs.rules.Waiting.{ReleasesAll, ReleasesSome};

@@ -1,4 +1,16 @@
 //! A process takes the answers that are on record.
+//!
+//! # Choices
+//!
+//! - **A replay is above `process` and below `ephemeral_worker`.** Without a source it can't ask
+//!   for anything that isn't on record.
+//! - Where a process has come by its records is a relation of two processes (`Recorded`), which a
+//!   disk stands by and a replay meets. A replay says nothing of how it goes. The process that is
+//!   given is right where the last record leads: none further was reached.
+//! - A replay lends its records, and `give` takes an answer, so each one is copied. Out of memory
+//!   is answered for that copy as well as for a call of the host. Nothing is required: lines that
+//!   wait are released first.
+//! - `Diverged` is answered where a number is at its end, too: the step or its lines have none.
 
 ghost use Rattle.std.specs.Prelude.{◌≡◌, ◌+◌, [], ◌∷◌, IfOk, IfErr, OnOk};
 ghost use Rattle.process.specs.rules.Values.{IsProcess, waiting_in};

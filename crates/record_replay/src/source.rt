@@ -1,4 +1,11 @@
 //! Where answers come from.
+//!
+//! # Choices
+//!
+//! - A source, or an outlet, is known by one relation of four things. Two are its values before and
+//!   after a call. The others are the question or the line, and what it answers. No value stores a
+//!   history: lists of calls are folded with the relation (`AnswersInOrder`, `Releases`). One list
+//!   of both in their order is two such facts (`Exchanges`), since neither knows of the other.
 
 use crate::SourceFault;
 use wasi_abi::{Answer, Question};

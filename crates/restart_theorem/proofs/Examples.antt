@@ -60,7 +60,9 @@ course_examples = record {
   abreast_at_a_question = refl;
   abreast_at_the_end = refl;
   not_abreast_after_a_slice = refl;
-  not_abreast_when_opened = refl;
+  not_abreast_when_recovered = refl;
+  abreast_when_recovered_at_the_end = refl;
+  abreast_when_created = refl;
   asked_within = ((omega arith, omega arith), (omega arith, omega arith));
   asked_without_fuel = λ h. (let late : 24 ≤ 23 = h.1.1 in omega (arith, late));
   stopped = (tt, omega arith);

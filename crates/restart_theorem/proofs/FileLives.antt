@@ -1,9 +1,9 @@
 -- Lives on a disk in a file.
-use Rattle.std.proofs.Common.{◌≡◌, ℕ, zero, suc, List, [], ◌∷◌, replicate, refl, ap, sym}
+use Rattle.std.proofs.Common.{◌≡◌, ℕ, zero, suc, List, [], ◌∷◌, replicate, ap, sym}
 use Rattle.std.proofs.Common.{subst, inl, arith}
-use Rattle.sector_disk.specs.rules.DiskImage.{DiskImage, zeros}
+use Rattle.sector_disk.specs.rules.DiskImage.{DiskImage}
 use Rattle.sector_disk.specs.rules.Answered.{AnsweredCalls, Explains, unsynced_of}
-use Rattle.sector_disk.specs.rules.File.{answers_of, file_medium, first_of}
+use Rattle.sector_disk.specs.rules.File.{file_medium, first_of}
 use Rattle.sector_disk.specs.declared.file.FileDisk.{FileDisk}
 use Rattle.sector_disk.specs.declared.sector.TheConstants.{SECTOR_SIZE}
 use Rattle.disk_layout.specs.rules.Sectors.{IsMarked}

@@ -19,8 +19,9 @@ use Rattle.process_rules.proofs.ExamplesHold.{hello_ends}
 use Rattle.process_rules.proofs.Quiet.{none_counted}
 use Rattle.process_rules.proofs.Growing.{runs_emit}
 use Rattle.restart_theorem.specs.Lives.{Act, Slice, Checkpoint, Inputs, Over, Event, Told, Opened}
-use Rattle.restart_theorem.specs.Lives.{Ended}
-use Rattle.restart_theorem.specs.Courses.{Stage, Open, at_first, next_stage, IsNextAct}
+use Rattle.restart_theorem.specs.Lives.{Ended, Beginning, Recovers, Creates}
+use Rattle.restart_theorem.specs.Courses.{Stage, Open, at_first, at_beginning, next_stage}
+use Rattle.restart_theorem.specs.Courses.{IsNextAct}
 use Rattle.restart_theorem.specs.Promises.{Promise, nothing_yet, after, promised_by, HoldsAll}
 use Rattle.restart_theorem.specs.Promises.{IsKept, IsLived}
 use Rattle.restart_theorem.specs.laws.Refused.{in_peace, creation_begun}
@@ -188,7 +189,7 @@ code_of code same = cc
 
 module _ (config : Settings) (some : 1 ≤ config.pages) (few : config.pages ≤ 2 ^ 16) where
   -- what was promised of `hello` is held by no answer, and by so many steps
-  holds : (so_far : Promise) (steps : ℕ) → so_far.kept ≡ [] → so_far.answers ≡ 0
+  pub holds : (so_far : Promise) (steps : ℕ) → so_far.kept ≡ [] → so_far.answers ≡ 0
       → so_far.steps ≤ steps → so_far.begun ≤ 1
       → HoldsAll hello config so_far.kept so_far 0 steps
   holds so_far steps kept answers enough begun = record {
@@ -209,16 +210,17 @@ module _ (config : Settings) (some : 1 ≤ config.pages) (few : config.pages ≤
   }
 
   -- it begins where nothing was promised but its line
-  pub begins : (so_far : Promise) (inputs : Inputs) → so_far.kept ≡ [] → so_far.answers ≡ 0
-      → so_far.steps ≤ 0 → so_far.begun ≤ 1 → so_far.was_created ≡ true
-      → IsKept hello config so_far (at_first inputs) (Opened 0 hello_first)
-  begins so_far inputs kept answers steps begun created = record {
+  pub begins : (how : Beginning) (so_far : Promise) (inputs : Inputs) → so_far.kept ≡ []
+      → so_far.answers ≡ 0 → so_far.steps ≤ 0 → so_far.begun ≤ 1 → so_far.was_created ≡ true
+      → IsKept hello config so_far (at_beginning how inputs) (Opened 0 hello_first)
+  begins how so_far inputs kept answers steps begun created = record {
     shut = refl;
     created = created;
     at = at_first_step config some few;
     holds = holds so_far 0 kept answers steps begun;
     all_heard = omega arith;
     none_beyond = tt;
+    no_further = inl refl;
   }
 
   -- a slice of a hundred steps, and more
@@ -226,11 +228,11 @@ module _ (config : Settings) (some : 1 ≤ config.pages) (few : config.pages ≤
   given stop acts = record (in_peace [] (Slice 100 ∷ acts)) { stop = stop }
 
   -- it tells its line
-  pub tells : (so_far : Promise) (stop : Option ℕ) (acts : List Act) → so_far.kept ≡ []
-      → so_far.passed ≡ 0
-      → IsKept hello config so_far (next_stage (at_first (given stop acts)) (Opened 0 hello_first))
-      (Told hi_told true)
-  tells so_far stop acts kept passed = record {
+  pub tells : (how : Beginning) (so_far : Promise) (stop : Option ℕ) (acts : List Act)
+      → so_far.kept ≡ [] → so_far.passed ≡ 0
+      → IsKept hello config so_far
+      (next_stage (at_beginning how (given stop acts)) (Opened 0 hello_first)) (Told hi_told true)
+  tells how so_far stop acts kept passed = record {
     is_line = record {
       answers = 0;
       steps = 8;
@@ -251,8 +253,8 @@ module _ (config : Settings) (some : 1 ≤ config.pages) (few : config.pages ≤
   lives_cut : IsLived hello config nothing_yet cut_inputs cut_life
   lives_cut = record {
     kept = (
-      begins creation_begun cut_inputs refl refl (omega arith) (omega arith) refl,
-      (tells (after creation_begun (Opened 0 hello_first)) (Some 30) [] refl refl, tt),
+      begins Creates creation_begun cut_inputs refl refl (omega arith) (omega arith) refl,
+      (tells Creates (after creation_begun (Opened 0 hello_first)) (Some 30) [] refl refl, tt),
     );
     ends = (tt, omega arith);
     begins = λ creates. (refl, (refl, refl));
@@ -292,9 +294,9 @@ module _ (config : Settings) (some : 1 ≤ config.pages) (few : config.pages ≤
       let told_stage : Stage = next_stage open_stage (Told hi_told true) in
       record {
         kept = (
-          begins behind_cut last_inputs refl refl (omega arith) (omega arith) refl,
+          begins Recovers behind_cut last_inputs refl refl (omega arith) (omega arith) refl,
           (
-            tells opened None (Checkpoint ∷ []) refl refl,
+            tells Recovers opened None (Checkpoint ∷ []) refl refl,
             (
               ends_slice told told_stage 100 (Checkpoint ∷ []) refl refl refl (omega arith)
                   (omega arith) refl,
@@ -333,6 +335,7 @@ module _ (config : Settings) (some : 1 ≤ config.pages) (few : config.pages ≤
             holds = holds behind_end 8 refl refl (omega arith) (omega arith);
             all_heard = omega arith;
             none_beyond = tt;
+            no_further = inl refl;
           },
           (
             ends_slice opened open_stage 1 [] refl refl refl (omega arith) (omega arith) refl,

@@ -1,5 +1,5 @@
 -- The lives of `hello` go on that upgrade it.
-use Rattle.std.proofs.Common.{◌≡◌, ◌≤◌, ◌^◌, ℕ, true, [], ◌∷◌, length, None, refl, ap, arith}
+use Rattle.std.proofs.Common.{◌≡◌, ◌≤◌, ◌^◌, ℕ, true, [], ◌∷◌, length, None, inl, refl, ap, arith}
 use Rattle.wasm_syntax.specs.laws.Examples.{hello}
 use Rattle.wasi_abi.specs.declared.version.Version.TheVariants.{Two}
 use Rattle.wasi_abi.specs.rules.Configs.{Settings}
@@ -8,19 +8,20 @@ use Rattle.process_rules.specs.Runs.{Wider}
 use Rattle.process_rules.specs.Behind.{AnswersBehindLine}
 use Rattle.disk_layout.specs.rules.Journal.{TakesRecords}
 use Rattle.restart_theorem.specs.Lives.{Slice, Upgrade, Inputs, Over, Done, Event, Told, Opened}
-use Rattle.restart_theorem.specs.Lives.{Ended}
-use Rattle.restart_theorem.specs.Courses.{Stage, at_first, next_stage}
+use Rattle.restart_theorem.specs.Lives.{Checkpoint, Ended, Creates}
+use Rattle.restart_theorem.specs.Courses.{Stage, at_first, at_beginning, next_stage}
 use Rattle.restart_theorem.specs.Promises.{Promise, nothing_yet, after, promised_by, IsAt, IsKept}
 use Rattle.restart_theorem.specs.Promises.{IsLived}
 use Rattle.restart_theorem.specs.laws.Refused.{in_peace, creation_begun}
 use Rattle.restart_theorem.specs.laws.WholeLives.{hi_told, hello_first, hello_last, wide_first}
 use Rattle.restart_theorem.specs.laws.WholeLives.{wide_last, early_upgrade, opened_wide}
-use Rattle.restart_theorem.specs.laws.WholeLives.{late_upgrade, ended_wide, HelloUpgrades}
+use Rattle.restart_theorem.specs.laws.WholeLives.{late_upgrade, ended_wide, saved_inputs}
+use Rattle.restart_theorem.specs.laws.WholeLives.{saved_life, found_ended, HelloUpgrades}
 use Rattle.restart_theorem.proofs.Widenings.{widened_at}
 use Rattle.restart_theorem.proofs.Honesty.{never}
 use Rattle.restart_theorem.proofs.HelloShown.{at_first_step, at_last_step}
 use Rattle.restart_theorem.proofs.HelloLives.{hello_at_end, begins, given, tells, ended_event}
-use Rattle.restart_theorem.proofs.HelloLives.{ends_slice}
+use Rattle.restart_theorem.proofs.HelloLives.{ends_slice, holds}
 
 module _ (config : Settings) (pages : 1 ≤ config.pages) (few : config.pages ≤ 2 ^ 16)
     (room : TakesRecords Two config.journal) where
@@ -42,7 +43,7 @@ module _ (config : Settings) (pages : 1 ≤ config.pages) (few : config.pages �
   created = after creation_begun opened
 
   abbrev created_stage : Stage
-  created_stage = next_stage (at_first early_inputs) opened
+  created_stage = next_stage (at_beginning Creates early_inputs) opened
 
   upgrades_first : IsKept hello config created created_stage (Ended Upgrade Done 1 wide_first)
   upgrades_first = record {
@@ -58,8 +59,8 @@ module _ (config : Settings) (pages : 1 ≤ config.pages) (few : config.pages �
   lives_early : IsLived hello config nothing_yet early_inputs early_upgrade
   lives_early = record {
     kept = (
-      begins config pages few creation_begun early_inputs refl refl (omega arith) (omega arith)
-          refl,
+      begins config pages few Creates creation_begun early_inputs refl refl (omega arith)
+          (omega arith) refl,
       (upgrades_first, tt),
     );
     ends = (refl, refl, tt);
@@ -99,6 +100,7 @@ module _ (config : Settings) (pages : 1 ≤ config.pages) (few : config.pages �
             };
             all_heard = omega arith;
             none_beyond = tt;
+            no_further = inl refl;
           },
           tt,
         );
@@ -112,7 +114,7 @@ module _ (config : Settings) (pages : 1 ≤ config.pages) (few : config.pages �
   late_inputs = given config pages few None (Upgrade ∷ Upgrade ∷ [])
 
   abbrev late_stage : Stage
-  late_stage = next_stage (at_first late_inputs) opened
+  late_stage = next_stage (at_beginning Creates late_inputs) opened
 
   abbrev told : Promise
   told = after created (Told hi_told true)
@@ -155,10 +157,10 @@ module _ (config : Settings) (pages : 1 ≤ config.pages) (few : config.pages �
   lives_late : IsLived hello config nothing_yet late_inputs late_upgrade
   lives_late = record {
     kept = (
-      begins config pages few creation_begun late_inputs refl refl (omega arith) (omega arith)
-          refl,
+      begins config pages few Creates creation_begun late_inputs refl refl (omega arith)
+          (omega arith) refl,
       (
-        tells config pages few created None (Upgrade ∷ Upgrade ∷ []) refl refl,
+        tells config pages few Creates created None (Upgrade ∷ Upgrade ∷ []) refl refl,
         (
           ends_slice config pages few told told_stage 100 (Upgrade ∷ Upgrade ∷ []) refl refl refl
               (omega arith) (omega arith) refl,
@@ -222,8 +224,89 @@ module _ (config : Settings) (pages : 1 ≤ config.pages) (few : config.pages �
         };
         all_heard = omega arith;
         none_beyond = tt;
+        no_further = inl refl;
       },
       (stays_ended, tt),
+    );
+    ends = (refl, refl, tt);
+    begins = λ creates. never creates;
+  }
+
+  -- ---- upgraded by a life that finds that it has ended
+
+  abbrev saved_stage : Stage
+  saved_stage = next_stage (at_beginning Creates saved_inputs) opened
+
+  abbrev saved_told_stage : Stage
+  saved_told_stage = next_stage saved_stage (Told hi_told true)
+
+  abbrev checkpointed : Event
+  checkpointed = Ended Checkpoint Done 0 hello_last
+
+  saves_last : IsKept hello config ended
+      (next_stage saved_told_stage (ended_event config pages few 100)) checkpointed
+  saves_last = record {
+    is_next = refl;
+    within = omega arith;
+    at = at_last_step config pages few;
+    onward = omega arith;
+    reply = (refl, refl, record { all_taken = refl; all_told = refl });
+    bound = tt;
+    widens = λ differs. absurd (differs refl);
+  }
+
+  lives_saved : IsLived hello config nothing_yet saved_inputs saved_life
+  lives_saved = record {
+    kept = (
+      begins config pages few Creates creation_begun saved_inputs refl refl (omega arith)
+          (omega arith) refl,
+      (
+        tells config pages few Creates created None (Checkpoint ∷ []) refl refl,
+        (
+          ends_slice config pages few told saved_told_stage 100 (Checkpoint ∷ []) refl refl refl
+              (omega arith) (omega arith) refl,
+          (saves_last, tt),
+        ),
+      ),
+    );
+    ends = (refl, refl, tt);
+    begins = λ creates. (refl, (refl, refl));
+  }
+
+  abbrev behind_save : Promise
+  behind_save = promised_by nothing_yet saved_life
+
+  abbrev found_inputs : Inputs
+  found_inputs = in_peace [] (Upgrade ∷ [])
+
+  abbrev found : Event
+  found = Opened 0 hello_last
+
+  upgrades_found : IsKept hello config (after behind_save found)
+      (next_stage (at_first found_inputs) found) upgraded
+  upgrades_found = record {
+    is_next = refl;
+    within = omega arith;
+    at = at_wide_last;
+    onward = omega arith;
+    reply = (refl, refl, refl, record { all_taken = refl; all_told = refl });
+    bound = tt;
+    widens = λ differs. record { lines = omega arith; syncs = omega arith; room = room };
+  }
+
+  lives_found : IsLived hello config behind_save found_inputs found_ended
+  lives_found = record {
+    kept = (
+      record {
+        shut = refl;
+        created = refl;
+        at = at_last_step config pages few;
+        holds = holds config pages few behind_save 8 refl refl (omega arith) (omega arith);
+        all_heard = omega arith;
+        none_beyond = tt;
+        no_further = inl refl;
+      },
+      (upgrades_found, tt),
     );
     ends = (refl, refl, tt);
     begins = λ creates. never creates;
@@ -235,4 +318,6 @@ hello_upgrades_hold config = record {
       (lives_early config pages few room, (lives_wide config pages few room, tt));
   late = λ pages few room.
       (lives_late config pages few room, (lives_ended config pages few room, tt));
+  found = λ pages few room.
+      (lives_saved config pages few room, (lives_found config pages few room, tt));
 }

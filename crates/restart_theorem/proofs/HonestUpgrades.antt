@@ -1,13 +1,13 @@
 -- Honest stories with an upgrade keep all promises.
 use Rattle.std.proofs.Common.{◌≡◌, ◌≤◌, ℕ, zero, suc, true, List, [], ◌∷◌, take}
-use Rattle.std.proofs.Common.{Option, Some, None, refl, sym, ◌∙◌, subst, arith}
+use Rattle.std.proofs.Common.{Option, Some, None, inl, refl, sym, ◌∙◌, subst, arith}
 use Rattle.wasm_syntax.specs.declared.module.Module.{Module}
 use Rattle.wasi_abi.specs.rules.Configs.{Settings}
 use Rattle.process_rules.specs.Runs.{Kept, Given, Wider}
 use Rattle.process_rules.specs.Behind.{AnswersBehindLine, AnswersBehindSync}
 use Rattle.restart_theorem.specs.Lives.{Slice, Upgrade, Inputs, OfDisk, Spent, Done, Fails, Event}
-use Rattle.restart_theorem.specs.Lives.{Told, Ended}
-use Rattle.restart_theorem.specs.Courses.{Stage, at_first, next_stage}
+use Rattle.restart_theorem.specs.Lives.{Told, Ended, Creates}
+use Rattle.restart_theorem.specs.Courses.{Stage, at_beginning, next_stage}
 use Rattle.restart_theorem.specs.Promises.{Promise, nothing_yet, after, promised_by, IsAt, HoldsAll}
 use Rattle.restart_theorem.specs.Promises.{MayWiden, IsKept, IsLived, GoesOn}
 use Rattle.restart_theorem.specs.laws.Refused.{creation_begun}
@@ -33,7 +33,7 @@ module _ {m : Module} {config : Settings} (t : Teller m config) (u : Upgraded t)
     inputs = record (upgrade_at_20 t u) { stop = stop }
 
     abbrev first_stage : Stage
-    first_stage = next_stage (at_first inputs) (opened_first t)
+    first_stage = next_stage (at_beginning Creates inputs) (opened_first t)
 
     asks : IsKept m config opened first_stage (asked_first t)
     asks = let e = t.fresh.counted in record {
@@ -201,6 +201,7 @@ module _ {m : Module} {config : Settings} (t : Teller m config) (u : Upgraded t)
             (wide_holds so_far answers steps begun);
         all_heard = heard;
         none_beyond = tt;
+        no_further = inl refl;
       },
       tt,
     );
@@ -284,6 +285,7 @@ module _ {m : Module} {config : Settings} (t : Teller m config) (u : Upgraded t)
             };
             all_heard = omega (arith, l);
             none_beyond = tt;
+            no_further = inl refl;
           },
           tt,
         );

@@ -1,6 +1,6 @@
 -- Honest stories keep all promises.
 use Rattle.std.proofs.Common.{◌≡◌, ◌≤◌, ℕ, Bool, true, false, List, [], ◌∷◌, length, take, drop}
-use Rattle.std.proofs.Common.{max}
+use Rattle.std.proofs.Common.{max, inl, inr}
 use Rattle.std.proofs.Common.{Some, None, Ok, refl, sym, ap, ◌∙◌, subst, arith}
 use Rattle.wasm_syntax.specs.declared.module.Module.{Module}
 use Rattle.wasi_abi.specs.rules.Configs.{Settings}
@@ -11,7 +11,8 @@ use Rattle.restart_theorem.specs.Lives.{Done}
 use Rattle.restart_theorem.specs.Lives.{Fails, Event, Told, Asked, Opened, Ended, Beginning}
 use Rattle.restart_theorem.specs.Lives.{Recovers}
 use Rattle.restart_theorem.specs.Lives.{Creates}
-use Rattle.restart_theorem.specs.Courses.{Stage, NoneThere, at_first, next_stage, first_taken}
+use Rattle.restart_theorem.specs.Courses.{Stage, NoneThere, at_first, at_beginning, next_stage}
+use Rattle.restart_theorem.specs.Courses.{first_taken}
 use Rattle.restart_theorem.specs.Promises.{Promise, nothing_yet, after, promised_by, IsAt, HoldsAll}
 use Rattle.restart_theorem.specs.Promises.{IsKept, IsLived, GoesOn}
 use Rattle.restart_theorem.specs.laws.Refused.{in_peace, creation_begun}
@@ -57,7 +58,8 @@ module _ {m : Module} {config : Settings} (t : Teller m config) where
   opened_first = Opened 0 t.fresh.saved
 
   -- the first opening, whatever is put into the life
-  pub opens : (inputs : Inputs) → IsKept m config creation_begun (at_first inputs) opened_first
+  pub opens : (inputs : Inputs)
+      → IsKept m config creation_begun (at_beginning Creates inputs) opened_first
   opens inputs = let none = t.fresh.lines_are in record {
     shut = refl;
     created = refl;
@@ -72,6 +74,7 @@ module _ {m : Module} {config : Settings} (t : Teller m config) where
     };
     all_heard = omega (arith, none);
     none_beyond = tt;
+    no_further = inl refl;
   }
 
   abbrev opened : Promise
@@ -89,7 +92,7 @@ module _ {m : Module} {config : Settings} (t : Teller m config) where
 
   module _ (takes : List Bool) (acts : List Act) where
     abbrev first_stage : Stage
-    first_stage = next_stage (at_first (given takes acts)) opened_first
+    first_stage = next_stage (at_beginning Creates (given takes acts)) opened_first
 
     asks : IsKept m config opened first_stage (asked_first t)
     asks = let e = t.fresh.counted in record {
@@ -233,7 +236,7 @@ module _ {m : Module} {config : Settings} (t : Teller m config) where
 
   -- ---- restarts from the journal
 
-  retells : (so_far : Promise) (inputs : Inputs)
+  pub retells : (so_far : Promise) (inputs : Inputs)
       → Reaches m config (take 1 so_far.kept) t.has_first.steps t.has_first.process
       → IsNarrowTo (drop 1 so_far.kept) t.has_first.steps → so_far.passed ≡ 0
       → true ≡ first_taken inputs.takes
@@ -259,18 +262,29 @@ module _ {m : Module} {config : Settings} (t : Teller m config) where
   abbrev reopened : Event
   reopened = Opened 2 t.replayed.saved
 
-  reopens : (so_far : Promise) (inputs : Inputs)
+  pub reopens : (so_far : Promise) (inputs : Inputs)
       → IsAt m config (take 2 so_far.kept) t.replayed.saved.steps t.replayed.saved
       → HoldsAll m config so_far.kept so_far 2 t.replayed.saved.steps → 1 ≤ so_far.heard
-      → so_far.was_created ≡ true
+      → so_far.was_created ≡ true → take 2 so_far.kept ≡ kept_both
       → IsKept m config so_far (next_stage (at_first inputs) (Told (line_one t) true)) reopened
-  reopens so_far inputs at holds heard created = let e = t.replayed.lines_are in record {
+  reopens so_far inputs at holds heard created both = let e = t.replayed.lines_are in record {
     shut = refl;
     created = created;
     at = at;
     holds = holds;
     all_heard = omega (arith, e, heard);
     none_beyond = sym e;
+    no_further = inr (record {
+      others = kept_one;
+      last = t.world;
+      are = both;
+      before = 27;
+      next = t.replayed.counted;
+      process = t.asks_second.process;
+      reached = t.asks_second.reached;
+      question = t.question;
+      wants = t.asks_second.wants;
+    });
   }
 
   abbrev then_promised : Promise
@@ -304,7 +318,7 @@ module _ {m : Module} {config : Settings} (t : Teller m config) where
           (
             reopens so_far (nothing_to_do t) t.replayed.at
                 (holds so_far t.replayed.saved.steps (omega arith) few_steps refl) (omega arith)
-                refl,
+                refl refl,
             tt,
           ),
         );
@@ -329,6 +343,7 @@ module _ {m : Module} {config : Settings} (t : Teller m config) where
                 (omega (arith, e)) refl;
             all_heard = omega (arith, l);
             none_beyond = tt;
+            no_further = inl refl;
           },
           tt,
         );
@@ -370,7 +385,7 @@ module _ {m : Module} {config : Settings} (t : Teller m config) where
           (
             reopens so_far (nothing_to_do t) t.replayed.at
                 (holds so_far t.replayed.saved.steps (omega arith) few_steps refl) (omega arith)
-                refl,
+                refl refl,
             tt,
           ),
         );
@@ -439,6 +454,7 @@ module _ {m : Module} {config : Settings} (t : Teller m config) where
             holds = holds behind_save t.later.saved.steps (omega arith) (omega (arith, e)) refl;
             all_heard = omega (arith, l);
             none_beyond = tt;
+            no_further = inl refl;
           },
           tt,
         );
@@ -513,6 +529,7 @@ module _ {m : Module} {config : Settings} (t : Teller m config) where
         };
         all_heard = omega (arith, none);
         none_beyond = tt;
+        no_further = inl refl;
       }
 
   abbrev open_again : Promise

@@ -8,10 +8,14 @@ pub mod FileLives
 pub mod NumbersKept
 pub mod Disks
 pub mod Pleas
+pub mod Abreast
+pub mod LastQuestions
 pub mod Refusing
 pub mod RefusingUpgrades
 pub mod Honesty
 pub mod HonestUpgrades
+pub mod RefusingBatches
+pub mod HonestBatches
 pub mod Examples
 pub mod HelloShown
 pub mod HelloLives

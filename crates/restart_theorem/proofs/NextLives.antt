@@ -1,13 +1,11 @@
 -- What the next life finds, and that lives go on.
-use Rattle.std.proofs.Common.{◌≡◌, ◌⊎◌, inl, inr, ℕ, List, [], ◌∷◌, refl, sym, ap, subst}
-use Rattle.wasm_syntax.specs.declared.module.Module.{Module}
-use Rattle.wasi_abi.specs.rules.Configs.{Settings}
+use Rattle.std.proofs.Common.{◌≡◌, ◌⊎◌, inl, inr, ℕ, [], ◌∷◌, refl, sym, ap, subst}
 use Rattle.sector_disk.specs.rules.DiskImage.{DiskImage}
 use Rattle.sector_disk.specs.rules.Medium.{Medium}
-use Rattle.restart_theorem.specs.Lives.{Inputs, Life, Finished, Stopped, Failed}
+use Rattle.restart_theorem.specs.Lives.{Finished, Stopped, Failed}
 use Rattle.restart_theorem.specs.Promises.{nothing_yet, promised_by}
-use Rattle.restart_theorem.specs.Holds.{KeepsPromise, KeepsBounds, IsBounded}
-use Rattle.restart_theorem.specs.Between.{IsFoundAfterCut, IsCutOrKilled, AreLivedOn, more}
+use Rattle.restart_theorem.specs.Holds.{IsBounded}
+use Rattle.restart_theorem.specs.Between.{IsFoundAfterCut, IsCutOrKilled, more}
 use Rattle.restart_theorem.specs.laws.Found.{FoundWasCrashImage, FoundIsAsLong, IsSyncedAfterCut}
 use Rattle.restart_theorem.specs.laws.Found.{IsAsItWas}
 use Rattle.restart_theorem.specs.laws.Found.{FoundSyncedOrSame, NoWorkerComes, NextLifeFindsIt}

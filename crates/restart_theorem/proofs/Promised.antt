@@ -7,7 +7,7 @@ use Rattle.wasi_abi.specs.rules.Configs.{Settings}
 use Rattle.process_rules.specs.Behind.{IsLine}
 use Rattle.restart_theorem.specs.Lives.{Inputs, Life, Release, Event, Told, Asked, Opened, Ended}
 use Rattle.restart_theorem.specs.Lives.{events_of, kept_after, told_in, kept_of_said}
-use Rattle.restart_theorem.specs.Courses.{Stage, at_first, next_stage}
+use Rattle.restart_theorem.specs.Courses.{Stage, at_beginning, next_stage}
 use Rattle.restart_theorem.specs.Promises.{Promise, nothing_yet, after, promised, created_by}
 use Rattle.restart_theorem.specs.Promises.{promised_by, IsKept, AreKept, GoOn}
 use Rattle.restart_theorem.specs.laws.Laws.{HasOneText, HaveOneText, PromisesAreOfKept}
@@ -112,7 +112,8 @@ module _ (m : Module) (config : Settings) where
       } =
       ap (λ (z : Promise). record z { events = z.events + 1 })
       (but_for_count so_far now n life.events) in
-      kept_somewhere so_far now n (at_first i) life.events (events_of lives) goes.0.kept
+      kept_somewhere so_far now n (at_beginning life.begins i) life.events (events_of lives)
+      goes.0.kept
       (lives_kept (promised so_far life.events) then.was_created (then.events + 1) inputs lives
       (subst (λ z. GoOn m config z inputs lives) same goes.1))
 

@@ -10,14 +10,16 @@ use Rattle.wasi_calls_rules.specs.WasiStates.{Line}
 use Rattle.process_rules.specs.Runs.{Kept, Reaches}
 use Rattle.process_rules.proofs.OneProcess.{one_process}
 use Rattle.state_image.specs.rules.ProcessImage.{Saved}
-use Rattle.restart_theorem.specs.Lives.{Act, Slice, Checkpoint, Upgrade, SourceSaid, Cause, OfDisk}
-use Rattle.restart_theorem.specs.Lives.{OfSource, OfAnswer, OfOutlet, OfMemory, OfBounds, OfJournal}
-use Rattle.restart_theorem.specs.Lives.{OfLines, Reply, Spent, kept_by_end}
+use Rattle.restart_theorem.specs.Lives.{Act, Slice, Batch, Checkpoint, Upgrade, SourceSaid, Cause}
+use Rattle.restart_theorem.specs.Lives.{OfDisk, OfSource, OfAnswer, OfOutlet, OfMemory, OfBounds}
+use Rattle.restart_theorem.specs.Lives.{OfJournal, OfLines, Reply, Spent, kept_by_end}
 use Rattle.restart_theorem.specs.Lives.{Waits, Over, Done, Fails, Event, Told, Asked, Opened, Ended}
-use Rattle.restart_theorem.specs.Lives.{End, Finished, Stopped, Failed, Life, told_lines}
-use Rattle.restart_theorem.specs.Courses.{Phase, Shut, Open, NoneThere, Closed, Stage, at_first}
+use Rattle.restart_theorem.specs.Lives.{Beginning, Creates, End, Finished, Stopped, Failed, Life}
+use Rattle.restart_theorem.specs.Lives.{told_lines}
+use Rattle.restart_theorem.specs.Courses.{Phase, Shut, Open, NoneThere, Closed, Stage}
+use Rattle.restart_theorem.specs.Courses.{at_beginning}
 use Rattle.restart_theorem.specs.Courses.{next_stage, stage_after, ComesAfter, IsLast, IsToldIn}
-use Rattle.restart_theorem.specs.Courses.{IsAskedIn}
+use Rattle.restart_theorem.specs.Courses.{IsAskedIn, AreToldBy, HasLastAsked}
 use Rattle.restart_theorem.specs.Courses.{MayFail, MayEnd}
 use Rattle.restart_theorem.specs.Promises.{Promise, after, nothing_yet, fuel_of, IsKept, IsAt}
 use Rattle.restart_theorem.specs.Promises.{promised, as_begun, MayPlead, IsReply, IsOneOf}
@@ -26,7 +28,8 @@ use Rattle.restart_theorem.specs.laws.Refused.{in_peace, created_life, recovered
 use Rattle.restart_theorem.specs.laws.Refused.{IsFromOutside, source, misfit, outlet, RefusedEvents}
 use Rattle.restart_theorem.specs.laws.Refused.{RefusedWorkers, creation_begun}
 use Rattle.restart_theorem.proofs.Promised.{no_two_texts}
-use Rattle.restart_theorem.proofs.Pleas.{fails_or_open}
+use Rattle.restart_theorem.proofs.Pleas.{fails_or_open, fails_or_last}
+use Rattle.restart_theorem.proofs.Abreast.{taken_at_once}
 
 -- ---- what differs
 
@@ -38,7 +41,7 @@ abbrev IsShutPhase : Phase → Type 0
 IsShutPhase Shut = Unit {0}
 IsShutPhase _ = ⊥
 
-abbrev IsNonePhase : Phase → Type 0
+abbrev pub IsNonePhase : Phase → Type 0
 IsNonePhase (NoneThere steps) = Unit {0}
 IsNonePhase _ = ⊥
 
@@ -48,7 +51,7 @@ open_is same = subst IsOpenPhase (sym same) tt
 shut_is : {phase : Phase} → phase ≡ Shut → IsShutPhase phase
 shut_is same = subst IsShutPhase (sym same) tt
 
-none_is : {phase : Phase} {steps : ℕ} → phase ≡ NoneThere steps → IsNonePhase phase
+pub none_is : {phase : Phase} {steps : ℕ} → phase ≡ NoneThere steps → IsNonePhase phase
 none_is same = subst IsNonePhase (sym same) tt
 
 abbrev SaysSome : SourceSaid → Type 0
@@ -60,6 +63,9 @@ abbrev IsSomeAct : List Act → Type 0
 IsSomeAct [] = ⊥
 IsSomeAct (a ∷ acts) = Unit {0}
 
+some_is_not_none : (n : ℕ) → Some n ≡ None → ⊥
+some_is_not_none n same = cc
+
 abbrev IsFalse : Bool → Type 0
 IsFalse false = Unit {0}
 IsFalse true = ⊥
@@ -70,7 +76,7 @@ module _ (m : Module) (config : Settings) (so_far : Promise) (stage : Stage) whe
   closed : (cause : Cause) (e : Event) → stage.phase ≡ Closed cause
       → IsKept m config so_far stage e → ⊥
   closed cause (Told r t) is kept =
-      subst (λ (q : Phase). IsToldIn q stage.acts stage.step kept.is_line.steps) is kept.in_time
+      (subst (λ (q : Phase). IsToldIn q stage.acts stage.step kept.is_line.steps) is kept.in_time).0
   closed cause (Asked steps question said fits) is kept =
       subst (λ (q : Phase). IsAskedIn q stage.acts stage.step steps) is kept.in_time
   closed cause (Opened held shown) is kept = shut_is (sym is ∙ kept.shut)
@@ -79,13 +85,23 @@ module _ (m : Module) (config : Settings) (so_far : Promise) (stage : Stage) whe
       kept_then : Act → Saved → List Kept
       kept_then act shown = kept_by_end act shown so_far.kept
 
+      no_failure : (other : Cause) → MayFail stage.phase other → ⊥
+      no_failure other fails = subst (λ (q : Phase). MayFail q other) is fails
+
       no_plea : (kept : List Kept) (act : Act) (other : Cause)
           → MayPlead config kept stage act other → ⊥
-      no_plea kept act other may =
+      no_plea kept (Slice fuel) other may = no_failure other may
+      no_plea kept (Batch fuel most) other may =
           ⊎_elim
-          (λ (fails : MayFail stage.phase other). subst (λ (q : Phase). MayFail q other) is fails)
+          (λ (fails : MayFail stage.phase other). no_failure other fails)
+          (λ (asked : HasLastAsked stage.phase). subst HasLastAsked is asked)
+          (fails_or_last stage.phase other may)
+      no_plea kept Checkpoint other may = no_failure other may
+      no_plea kept Upgrade other may =
+          ⊎_elim
+          (λ (fails : MayFail stage.phase other). no_failure other fails)
           (λ (opened : stage.phase ≡ Open). open_is (sym is ∙ opened))
-          (fails_or_open config kept stage act other may)
+          (fails_or_open config kept stage other may)
 
       no_end : (act : Act) (reply : Reply) (held : ℕ) (shown : Saved)
           → IsReply config (kept_then act shown) stage held shown act reply → ⊥
@@ -95,6 +111,12 @@ module _ (m : Module) (config : Settings) (so_far : Promise) (stage : Stage) whe
       no_end (Slice fuel) Done held shown ends = ends
       no_end (Slice fuel) (Fails other) held shown ends =
           no_plea (kept_then (Slice fuel) shown) (Slice fuel) other ends.0
+      no_end (Batch fuel most) Spent held shown ends = open_is (sym is ∙ ends.0)
+      no_end (Batch fuel most) Waits held shown ends = none_is (sym is ∙ ends.0)
+      no_end (Batch fuel most) (Over why) held shown ends = open_is (sym is ∙ ends.0)
+      no_end (Batch fuel most) Done held shown ends = ends
+      no_end (Batch fuel most) (Fails other) held shown ends =
+          no_plea (kept_then (Batch fuel most) shown) (Batch fuel most) other ends.0
       no_end Checkpoint Spent held shown ends = ends
       no_end Checkpoint Waits held shown ends = ends
       no_end Checkpoint (Over why) held shown ends = ends
@@ -115,6 +137,11 @@ module _ (m : Module) (config : Settings) (so_far : Promise) (stage : Stage) whe
   within_fuel kept (Slice fuel) (Over why) held shown ends = ends.1
   within_fuel kept (Slice fuel) Done held shown ends = absurd ends
   within_fuel kept (Slice fuel) (Fails other) held shown ends = ends.1
+  within_fuel kept (Batch fuel most) Spent held shown ends = let e = ends.1 in omega (arith, e)
+  within_fuel kept (Batch fuel most) Waits held shown ends = let e = ends.1 in omega (arith, e)
+  within_fuel kept (Batch fuel most) (Over why) held shown ends = ends.1
+  within_fuel kept (Batch fuel most) Done held shown ends = absurd ends
+  within_fuel kept (Batch fuel most) (Fails other) held shown ends = ends.1
   within_fuel kept Checkpoint Spent held shown ends = absurd ends
   within_fuel kept Checkpoint Waits held shown ends = absurd ends
   within_fuel kept Checkpoint (Over why) held shown ends = absurd ends
@@ -129,6 +156,7 @@ module _ (m : Module) (config : Settings) (so_far : Promise) (stage : Stage) whe
   among : (kept : List Kept) (act : Act) (cause : Cause) (held : ℕ) (shown : Saved)
       → IsReply config kept stage held shown act (Fails cause) → IsOneOf stage.line shown.lines
   among kept (Slice fuel) cause held shown ends = ends.2
+  among kept (Batch fuel most) cause held shown ends = ends.2
   among kept Checkpoint cause held shown ends = ends.2
   among kept Upgrade cause held shown ends = ends.2
 
@@ -148,6 +176,12 @@ module _ (m : Module) (config : Settings) (so_far : Promise) (stage : Stage) whe
       → stage.phase ≡ Open → MayPlead config kept stage act cause → ⊥
   no_outside kept (Slice fuel) cause outside is may =
       no_cause cause outside (subst (λ (q : Phase). MayFail q cause) is may)
+  no_outside kept (Batch fuel most) cause outside is may =
+      no_cause cause outside
+      (⊎_elim
+      (λ (fails : MayFail stage.phase cause). subst (λ (q : Phase). MayFail q cause) is fails)
+      (λ (asked : HasLastAsked stage.phase). absurd (subst HasLastAsked is asked))
+      (fails_or_last stage.phase cause may))
   no_outside kept Checkpoint cause outside is may =
       no_cause cause outside (subst (λ (q : Phase). MayFail q cause) is may)
   no_outside kept Upgrade OfSource source is may =
@@ -220,32 +254,34 @@ module _ (m : Module) (config : Settings) (so_far : Promise) (stage : Stage) whe
           → IsReply config kept stage held shown act (Fails cause)
           → MayPlead config kept stage act cause
       fails kept (Slice fuel) cause held shown ends = ends.0
+      fails kept (Batch fuel most) cause held shown ends = ends.0
       fails kept Checkpoint cause held shown ends = ends.0
       fails kept Upgrade cause held shown ends = ends.0
 
 -- ---- lives
 
 module _ (m : Module) (config : Settings) where
-  shut_ends : (says : List SourceSaid) (acts : List Act) (calls : ℕ) (ends : End)
-      → MayEnd (in_peace says acts) 0 calls (at_first (in_peace says acts)) ends
+  shut_ends : (begins : Beginning) (says : List SourceSaid) (acts : List Act) (calls : ℕ)
+      (ends : End)
+      → MayEnd (in_peace says acts) 0 calls (at_beginning begins (in_peace says acts)) ends
       → ends ≡ Failed OfMemory
-  shut_ends says acts calls Finished may = absurd (open_is may.0)
-  shut_ends says acts calls Stopped may = absurd may.1
-  shut_ends says acts calls (Failed OfDisk) may = absurd may.1
-  shut_ends says acts calls (Failed OfSource) may = absurd may.0
-  shut_ends says acts calls (Failed OfAnswer) may = absurd may.0
-  shut_ends says acts calls (Failed OfOutlet) may = absurd may.0
-  shut_ends says acts calls (Failed OfMemory) may = refl
-  shut_ends says acts calls (Failed OfBounds) may = let e : 2 ^ 63 ≤ 1 = may.0 in
+  shut_ends begins says acts calls Finished may = absurd (open_is may.0)
+  shut_ends begins says acts calls Stopped may = absurd may.1
+  shut_ends begins says acts calls (Failed OfDisk) may = absurd may.1
+  shut_ends begins says acts calls (Failed OfSource) may = absurd may.0
+  shut_ends begins says acts calls (Failed OfAnswer) may = absurd may.0
+  shut_ends begins says acts calls (Failed OfOutlet) may = absurd may.0
+  shut_ends begins says acts calls (Failed OfMemory) may = refl
+  shut_ends begins says acts calls (Failed OfBounds) may = let e : 2 ^ 63 ≤ 1 = may.0 in
       absurd (omega (arith, e))
-  shut_ends says acts calls (Failed OfJournal) may = absurd may.0
-  shut_ends says acts calls (Failed OfLines) may = absurd may.0
+  shut_ends begins says acts calls (Failed OfJournal) may = absurd may.0
+  shut_ends begins says acts calls (Failed OfLines) may = absurd may.0
 
   -- an open life in peace ends when all is done
   undone_ends : (act : Act) (acts : List Act) (says : List SourceSaid) (calls : ℕ) (first : Saved)
       (ends : End)
       → MayEnd (in_peace says (act ∷ acts)) 1 calls
-      (next_stage (at_first (in_peace says (act ∷ acts))) (Opened 0 first)) ends → ⊥
+      (next_stage (at_beginning Creates (in_peace says (act ∷ acts))) (Opened 0 first)) ends → ⊥
   undone_ends act acts says calls first Finished may = subst IsSomeAct may.1 tt
   undone_ends act acts says calls first Stopped may = may.1
   undone_ends act acts says calls first (Failed cause) may = may.0
@@ -280,15 +316,18 @@ module _ (m : Module) (config : Settings) where
 
   pub refused_workers : RefusedWorkers m config
   refused_workers = record {
-    shut = λ says acts begins calls ends goes. shut_ends says acts calls ends goes.0.ends;
+    shut = λ says acts begins calls ends goes.
+        shut_ends begins says acts calls ends goes.0.ends;
     pleads_the_disk = λ says acts life is goes.
         no_fault says acts (promised (as_begun life.begins nothing_yet) life.events).events
         life.calls
-        (stage_after (at_first (in_peace says acts)) life.events) life.ends is goes.0.ends;
+        (stage_after (at_beginning life.begins (in_peace says acts)) life.events) life.ends is
+        goes.0.ends;
     pleads_a_stop = λ says acts life is goes.
         no_stop says acts (promised (as_begun life.begins nothing_yet) life.events).events
         life.calls
-        (stage_after (at_first (in_peace says acts)) life.events) life.ends is goes.0.ends;
+        (stage_after (at_beginning life.begins (in_peace says acts)) life.events) life.ends is
+        goes.0.ends;
     silent = λ inputs goes. goes;
     idle = λ inputs fuel calls ends first last some same goes.
         (let e = goes.0.kept.1.0.reply.1 in omega (arith, e, same, some));
@@ -300,17 +339,19 @@ module _ (m : Module) (config : Settings) where
     goes_on = λ inputs act cause held calls e events ends first last goes.
         closed m config (after (after creation_begun (Opened 0 first))
         (Ended act (Fails cause) held last))
-        (next_stage (next_stage (at_first inputs) (Opened 0 first))
+        (next_stage (next_stage (at_beginning Creates inputs) (Opened 0 first))
         (Ended act (Fails cause) held last)) cause e refl goes.0.kept.1.1.0;
     other_process = λ i j calls more ends others first second rest valid none zero goes.
         same_process [] first.steps second.steps first second valid (none ∙ sym zero)
         goes.0.kept.0.at goes.1.0.kept.0.at;
-    asks_early = λ inputs p steps calls question said fits events ends first valid
+    asks_early = λ inputs fuel acts p steps calls question said fits events ends first slices valid
         reached waits goes. (let asking = goes.0.kept.1.0 in
         let one : asking.process ≡ p =
         one_process m config [] steps asking.process p valid asking.reached reached in
         let count : first.lines ≡ length asking.process.host.lines =
-        same_Some first.lines (length asking.process.host.lines) asking.all_told in
+        same_Some first.lines (length asking.process.host.lines)
+        (subst (λ (l : List Act). AreToldBy l (Some first.lines) (length asking.process.host.lines))
+        slices asking.all_told) in
         let same : length asking.process.host.lines ≡ length p.host.lines =
         ap (λ q. length q.host.lines) one in
         omega (arith, count, same, waits));
@@ -340,4 +381,9 @@ module _ (m : Module) (config : Settings) where
     created_late = λ inputs held calls ends shown rest some goes.
         (let none : held ≡ 0 = (goes.0.begins refl).1.0 in omega (arith, none, some));
     tells_when_it_is_created = λ inputs r is_taken calls ends rest goes. (goes.0.begins refl).1;
+    runs_on = λ i j answer question steps calls more ends others first second r is_taken rest
+        valid late goes. (let asking = goes.0.kept.1.0 in
+        ⊎_elim (λ none_told. absurd (some_is_not_none r.number none_told))
+        (λ last. taken_at_once m config answer steps second.steps asking.process question valid
+        asking.reached asking.wants last late) goes.1.0.kept.1.0.no_further);
   }

@@ -13,12 +13,15 @@ use Rattle.process_rules.proofs.ReachedStates.{reached_versions}
 use Rattle.disk_layout.specs.rules.Journal.{TakesRecords}
 use Rattle.state_image.specs.rules.ProcessImage.{Saved}
 use Rattle.restart_theorem.specs.Lives.{Act, Upgrade, Cause, OfDisk, OfSource, OfAnswer, OfOutlet}
-use Rattle.restart_theorem.specs.Lives.{OfMemory, OfBounds, OfJournal, OfLines, Reply, Done, Asked}
-use Rattle.restart_theorem.specs.Lives.{Opened, Ended, kept_by_end}
+use Rattle.restart_theorem.specs.Lives.{OfMemory, OfBounds, OfJournal, OfLines, Reply, Done, Fails}
+use Rattle.restart_theorem.specs.Lives.{Creates, Event, Asked, Opened, Ended, kept_by_end}
 use Rattle.restart_theorem.specs.Courses.{Phase, Open, Stage, IsToldIn, IsAskedIn, MayFail}
-use Rattle.restart_theorem.specs.Promises.{Promise, IsAt, MayWiden, IsKept}
+use Rattle.restart_theorem.specs.Courses.{at_beginning, next_stage, stage_after}
+use Rattle.restart_theorem.specs.Promises.{Promise, promised, as_begun, after, IsAt, MayWiden}
+use Rattle.restart_theorem.specs.Promises.{IsKept, AreKept}
 use Rattle.restart_theorem.specs.laws.Refused.{IsOfUpgrades, journal, lines, created_life}
 use Rattle.restart_theorem.specs.laws.Refused.{recovered_life, RefusedUpgrades, RefusedUpgraders}
+use Rattle.restart_theorem.proofs.Abreast.{at_its_end, stays_abreast, kept_behind}
 use Rattle.restart_theorem.proofs.Refusing.{within_fuel}
 use Rattle.restart_theorem.proofs.Upgrading.{upgrades_for_good}
 use Rattle.restart_theorem.proofs.Widenings.{one_is_not_two, at_version, narrow_front, AddsWidening}
@@ -79,7 +82,7 @@ module _ (m : Module) (config : Settings) (so_far : Promise) (stage : Stage) whe
       kept.widens (widens_it so_far.kept shown narrow wide)
 
   -- what a front shows of that which doesn't widen
-  shows_wide : (held : ℕ) (shown : Saved) → version_after so_far.kept ≡ One
+  pub shows_wide : (held : ℕ) (shown : Saved) → version_after so_far.kept ≡ One
       → shown.version ≡ Two → IsAt m config (take held so_far.kept) shown.steps shown → ⊥
   shows_wide held shown narrow wide at =
       one_is_not_two shown.version
@@ -169,6 +172,17 @@ module _ (m : Module) (config : Settings) (so_far : Promise) (stage : Stage) whe
 -- ---- lives
 
 module _ (m : Module) (config : Settings) where
+  -- where a life is abreast, no upgrade speaks of lines beyond its process
+  never_pleads : (so_far : Promise) (stage : Stage) (before rest : List Event) (held : ℕ)
+      (shown : Saved) → stage.is_abreast ≡ true
+      → AreKept m config so_far stage (before ++ Ended Upgrade (Fails OfLines) held shown ∷ rest)
+      → ⊥
+  never_pleads so_far stage before rest held shown abreast kept =
+      let pleads = kept_behind m config so_far stage before
+      (Ended Upgrade (Fails OfLines) held shown ∷ rest) kept in
+      true_is_not_false (stage_after stage before).is_abreast (stays_abreast stage before abreast)
+      pleads.0.reply.0.2
+
   pub refused_upgraders : RefusedUpgraders m config
   refused_upgraders = record {
     keeps_nothing = λ i j held less calls more ends others first last second rest one goes.
@@ -189,6 +203,18 @@ module _ (m : Module) (config : Settings) where
     pleads_after_a_question = λ inputs steps fuel held late calls question said fits
         ends first second third rest goes.
         true_is_not_false true refl goes.0.kept.1.1.1.0.reply.0.2;
+    created_worker_is_never_upgraded = λ so_far inputs before rest held calls ends shown lived.
+        never_pleads (as_begun Creates so_far) (at_beginning Creates inputs) before rest held shown
+        refl lived.kept;
+    ended_worker_is_never_upgraded = λ so_far inputs begins told before rest held late calls ends
+        why first shown ended lived.
+        (let begun : Promise = as_begun begins so_far in
+        let start : Stage = at_beginning begins inputs in
+        let there = kept_behind m config begun start told (Opened held first
+        ∷ (before ++ Ended Upgrade (Fails OfLines) late shown ∷ rest)) lived.kept in
+        never_pleads (after (promised begun told) (Opened held first))
+        (next_stage (stage_after start told) (Opened held first)) before rest late shown
+        (at_its_end first.ended why (stage_after start told).is_abreast ended) there.1);
     created_wide = λ inputs held calls ends shown rest wide goes.
         (let at = goes.0.kept.0.at in
         one_is_not_two shown.version

@@ -8,9 +8,9 @@ use Rattle.wasi_abi.specs.declared.version.Version.TheVariants.{One, Two}
 use Rattle.wasi_abi.specs.rules.Configs.{Settings}
 use Rattle.process_rules.specs.Runs.{Kept, version_after}
 use Rattle.state_image.specs.rules.ProcessImage.{Saved}
-use Rattle.restart_theorem.specs.Lives.{Act, Slice, Checkpoint, Upgrade, SourceSaid, Reply, Spent}
-use Rattle.restart_theorem.specs.Lives.{Waits, Over, Done, Fails, Cause, Event, Told, Asked, Opened}
-use Rattle.restart_theorem.specs.Lives.{Ended, kept_of_said, kept_by_end}
+use Rattle.restart_theorem.specs.Lives.{Act, Slice, Batch, Checkpoint, Upgrade, SourceSaid, Reply}
+use Rattle.restart_theorem.specs.Lives.{Spent, Waits, Over, Done, Fails, Cause, Event, Told, Asked}
+use Rattle.restart_theorem.specs.Lives.{Opened, Ended, kept_of_said, kept_by_end}
 use Rattle.restart_theorem.specs.Courses.{Stage, Open, Closed, phase_ended}
 use Rattle.restart_theorem.specs.Promises.{Promise, nothing_yet, after, promised, saved_by, IsAt}
 use Rattle.restart_theorem.specs.Promises.{IsReply, IsCaughtUp}
@@ -56,6 +56,11 @@ module _ (m : Module) (config : Settings) where
   show_one so_far (Ended (Slice fuel) reply held shown ∷ earlier) later narrow kept no_upgrade = (
     shows_one so_far.kept held shown narrow kept.0.kept.at,
     show_one (after so_far (Ended (Slice fuel) reply held shown)) earlier later narrow kept.1
+        no_upgrade,
+  )
+  show_one so_far (Ended (Batch n most) reply held shown ∷ earlier) later narrow kept no_upgrade = (
+    shows_one so_far.kept held shown narrow kept.0.kept.at,
+    show_one (after so_far (Ended (Batch n most) reply held shown)) earlier later narrow kept.1
         no_upgrade,
   )
   show_one so_far (Ended Checkpoint reply held shown ∷ earlier) later narrow kept no_upgrade = (
@@ -124,13 +129,17 @@ module _ (m : Module) (config : Settings) where
   not_open cause e = absurd (cc)
 
   -- such a call has taken all that is kept then
-  has_caught_up : (kept : List Kept) (stage : Stage) (held : ℕ) (shown : Saved) (act : Act)
+  pub has_caught_up : (kept : List Kept) (stage : Stage) (held : ℕ) (shown : Saved) (act : Act)
       (reply : Reply) → phase_ended reply ≡ Open
       → IsReply config kept stage held shown act reply → IsCaughtUp kept stage held shown
   has_caught_up kept stage held shown (Slice fuel) Spent opens is = is.3
   has_caught_up kept stage held shown (Slice fuel) Waits opens is = is.3
   has_caught_up kept stage held shown (Slice fuel) (Over why) opens is = is.3
   has_caught_up kept stage held shown (Slice fuel) Done opens is = absurd is
+  has_caught_up kept stage held shown (Batch fuel most) Spent opens is = is.3
+  has_caught_up kept stage held shown (Batch fuel most) Waits opens is = is.3
+  has_caught_up kept stage held shown (Batch fuel most) (Over why) opens is = is.3
+  has_caught_up kept stage held shown (Batch fuel most) Done opens is = absurd is
   has_caught_up kept stage held shown Checkpoint Spent opens is = absurd is
   has_caught_up kept stage held shown Checkpoint Waits opens is = absurd is
   has_caught_up kept stage held shown Checkpoint (Over why) opens is = absurd is

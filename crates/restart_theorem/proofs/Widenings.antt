@@ -19,7 +19,8 @@ use Rattle.process_rules.proofs.Growing.{runs_count}
 use Rattle.process_rules.proofs.ReachedStates.{reached_versions}
 use Rattle.process_rules.proofs.Quiet.{runs_join}
 use Rattle.state_image.specs.rules.ProcessImage.{Saved}
-use Rattle.restart_theorem.specs.Lives.{Act, Slice, Checkpoint, Upgrade, Reply, kept_by_widening}
+use Rattle.restart_theorem.specs.Lives.{Act, Slice, Batch, Checkpoint, Upgrade, Reply}
+use Rattle.restart_theorem.specs.Lives.{kept_by_widening}
 use Rattle.restart_theorem.specs.Lives.{kept_by_end}
 use Rattle.restart_theorem.specs.Courses.{Stage}
 use Rattle.restart_theorem.specs.Promises.{Promise, IsAt, MayWiden, IsEnding}
@@ -249,6 +250,7 @@ pub record AddsWidening (act : Act) (shown : Saved) (kept : List Kept) : Type 0 
 pub end_keeps : (act : Act) (shown : Saved) (kept : List Kept)
     → (kept_by_end act shown kept ≡ kept) ⊎ AddsWidening act shown kept
 end_keeps (Slice fuel) shown kept = inl refl
+end_keeps (Batch fuel most) shown kept = inl refl
 end_keeps Checkpoint shown kept = inl refl
 end_keeps Upgrade shown kept =
     ⊎_elim

@@ -1,11 +1,13 @@
 -- Where a life is between two events, and how it may end (this project's own).
-use Rattle.std.specs.Prelude.{◌≡◌, ℕ, ◌+◌, ◌<◌, ◌≤◌, Bool, true, false, List, [], ◌∷◌}
-use Rattle.std.specs.Prelude.{Option, Some, None, Ok, Err}
+use Rattle.std.specs.Prelude.{◌≡◌, ◌⊎◌, ℕ, ◌+◌, ◌-◌, ◌<◌, ◌≤◌, Bool, true, false, ◌||◌, List, []}
+use Rattle.std.specs.Prelude.{◌∷◌, Option, Some, None, is_some, Ok, Err}
 use Rattle.wasi_abi.specs.declared.numbers.TheConstants.{NUMBERS_END}
-use Rattle.restart_theorem.specs.Lives.{Act, Slice, Checkpoint, Upgrade, SourceSaid, Inputs}
+use Rattle.restart_theorem.specs.Lives.{Act, Slice, Batch, Checkpoint, Upgrade, SourceSaid}
+use Rattle.restart_theorem.specs.Lives.{Inputs}
 use Rattle.restart_theorem.specs.Lives.{Cause, OfDisk, OfSource, OfAnswer, OfOutlet, OfMemory}
 use Rattle.restart_theorem.specs.Lives.{OfBounds}
 use Rattle.restart_theorem.specs.Lives.{Reply, Over, Fails, Event, Told, Asked, Opened, Ended}
+use Rattle.restart_theorem.specs.Lives.{Beginning, Recovers, Creates}
 use Rattle.restart_theorem.specs.Lives.{End, Finished, Stopped, Failed}
 
 -- what a life is doing
@@ -33,11 +35,11 @@ pub record Stage : Type 0 where
   pub step : ℕ
   -- the number of the last line told in this life, or with which it opened
   pub line : Option ℕ
-  -- whether it has asked since it opened, or its process has ended: then an upgrade may not refuse
-  -- for lines that earlier lives may have told
+  -- whether it began by a creation, has asked, or its process has ended: then an upgrade may not
+  -- refuse for lines that earlier lives may have told
   pub is_abreast : Bool
 
--- where a life begins
+-- where a life begins by a recovery
 abbrev pub at_first : Inputs → Stage
 at_first inputs = record {
   phase = Shut;
@@ -48,6 +50,16 @@ at_first inputs = record {
   line = None;
   is_abreast = false;
 }
+
+-- whether no earlier life can have told a line beyond what a life opens with: none had a worker
+-- before a creation
+abbrev pub abreast_from : Beginning → Bool
+abreast_from Creates = true
+abreast_from Recovers = false
+
+-- where a life begins
+abbrev pub at_beginning : Beginning → Inputs → Stage
+at_beginning begins inputs = record (at_first inputs) { is_abreast = abreast_from begins }
 
 -- ---- one event
 
@@ -109,7 +121,7 @@ next_stage stage (Opened held shown) = record stage {
   phase = Open;
   step = shown.steps;
   line = Some shown.lines;
-  is_abreast = false;
+  is_abreast = is_some shown.ended || stage.is_abreast;
 }
 next_stage stage (Ended act reply held shown) = record stage {
   phase = phase_ended reply;
@@ -125,20 +137,40 @@ stage_after stage (e ∷ events) = stage_after (next_stage stage e) events
 
 -- ---- what may come next
 
--- so many steps are within the slice that is under way
+-- so many steps are within the slice or the batch that is under way
 abbrev pub IsWithinSlice : List Act → ℕ → ℕ → Type 0
 IsWithinSlice (Slice fuel ∷ acts) step steps = (step ≤ steps) × (steps ≤ step + fuel)
+IsWithinSlice (Batch fuel most ∷ acts) step steps = (step ≤ steps) × (steps ≤ step + fuel)
 IsWithinSlice (Checkpoint ∷ acts) step steps = ⊥
 IsWithinSlice (Upgrade ∷ acts) step steps = ⊥
 IsWithinSlice [] step steps = ⊥
 
--- A line is told in a recovery, or in a slice that has come to its step.
+-- The last question has ended the call: the source had none, failed, or gave what doesn't fit.
+abbrev pub HasLastAsked : Phase → Type 0
+HasLastAsked (NoneThere steps) = Unit {0}
+HasLastAsked (Broken OfSource) = Unit {0}
+HasLastAsked (Broken OfAnswer) = Unit {0}
+HasLastAsked _ = ⊥
+
+-- a batch is under way
+abbrev pub IsInBatch : List Act → Type 0
+IsInBatch (Batch fuel most ∷ acts) = Unit {0}
+IsInBatch _ = ⊥
+
+-- A line is told in a recovery, or in a slice that has come to its step. In a batch, and nowhere
+-- else, those that wait are told also after its last question, unless the outlet has refused one.
 abbrev pub IsToldIn : Phase → List Act → ℕ → ℕ → Type 0
 IsToldIn Shut acts step steps = Unit {0}
 IsToldIn Open acts step steps = IsWithinSlice acts step steps
-IsToldIn _ acts step steps = ⊥
+IsToldIn phase acts step steps =
+    HasLastAsked phase × IsInBatch acts × IsWithinSlice acts step steps
 
--- A question is asked in a slice, with fuel for one more step.
+-- All lines of a process that asks were told. In a batch fewer than `most` of them may wait.
+abbrev pub AreToldBy : List Act → Option ℕ → ℕ → Type 0
+AreToldBy (Batch fuel most ∷ acts) (Some told) lines = (told ≤ lines) × (lines ≤ told + (most - 1))
+AreToldBy acts line lines = line ≡ Some lines
+
+-- A question is asked in a slice or a batch, with fuel for one more step.
 abbrev pub IsAskedIn : Phase → List Act → ℕ → ℕ → Type 0
 IsAskedIn Open acts step steps =
     IsWithinSlice acts step steps × IsWithinSlice acts step (steps + 1)
@@ -169,6 +201,12 @@ MayFail Open OfDisk = Unit {0}
 MayFail Open OfMemory = Unit {0}
 MayFail Open OfBounds = Unit {0}
 MayFail _ cause = ⊥
+
+-- What an error of a batch may come from. The disk may fail it also behind its last question,
+-- before the lines that wait are told.
+abbrev pub MayFailBatch : Phase → Cause → Type 0
+MayFailBatch phase OfDisk = MayFail phase OfDisk ⊎ HasLastAsked phase
+MayFailBatch phase cause = MayFail phase cause
 
 -- How a life ends by an error: that of its last call, or one of its recovery or creation. A
 -- generation is at its end only where so much has happened.

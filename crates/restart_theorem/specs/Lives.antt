@@ -14,9 +14,11 @@ use Rattle.state_image.specs.rules.ProcessImage.{Saved}
 
 -- ---- what is put into a life
 
--- The calls of a worker that is open. An upgrade saves it as one of version 2.
+-- The calls of a worker that is open. A batch is a slice in which fewer than `most` lines may wait
+-- while it goes on. An upgrade saves the worker as one of version 2.
 pub data Act : Type 0 where
   Slice : (fuel : ℕ) → Act
+  Batch : (fuel most : ℕ) → Act
   Checkpoint : Act
   Upgrade : Act
 
@@ -59,8 +61,8 @@ pub data Cause : Type 0 where
   -- lines beyond the process may have been told
   OfLines : Cause
 
--- What a call answers. A slice says that its steps are taken, that an answer isn't there, or that
--- the process has ended. A checkpoint and an upgrade say that they are done.
+-- What a call answers. A slice or a batch says that its steps are taken, that an answer isn't
+-- there, or that the process has ended. A checkpoint and an upgrade say that they are done.
 pub data Reply : Type 0 where
   Spent : Reply
   Waits : Reply

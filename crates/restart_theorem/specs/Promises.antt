@@ -14,19 +14,21 @@ use Rattle.wasi_abi.specs.rules.Versions.{text_limit}
 use Rattle.wasm_semantics.specs.Configuration.{Configuration}
 use Rattle.wasi_calls_rules.specs.WasiStates.{WasiState}
 use Rattle.process_rules.specs.Processes.{ProcessState, HasLineNumbers}
-use Rattle.process_rules.specs.Runs.{Kept, On, Wants, next_of, version_after, Reaches}
+use Rattle.process_rules.specs.Runs.{Kept, Given, On, Wants, next_of, version_after, Reaches}
 use Rattle.process_rules.specs.Behind.{IsNarrowTo, AnswersBehindLine, AnswersBehindSync, IsLine}
 use Rattle.disk_layout.specs.rules.Journal.{TakesRecords}
 use Rattle.state_image.specs.rules.ProcessImage.{Saved, SavedShowsProcess}
-use Rattle.restart_theorem.specs.Lives.{Act, Slice, Checkpoint, Upgrade, SourceSaid, Inputs}
+use Rattle.restart_theorem.specs.Lives.{Act, Slice, Batch, Checkpoint, Upgrade, SourceSaid}
+use Rattle.restart_theorem.specs.Lives.{Inputs}
 use Rattle.restart_theorem.specs.Lives.{Release, Cause, OfJournal, OfLines}
 use Rattle.restart_theorem.specs.Lives.{OfBounds, Reply, Spent, Waits, Over, Done, Fails}
 use Rattle.restart_theorem.specs.Lives.{Event, Told, Asked, Opened, Ended, Beginning, Recovers}
 use Rattle.restart_theorem.specs.Lives.{Creates, Life}
 use Rattle.restart_theorem.specs.Lives.{kept_of_said, kept_by_end}
-use Rattle.restart_theorem.specs.Courses.{Stage, Shut, Open, NoneThere, at_first, next_stage}
+use Rattle.restart_theorem.specs.Courses.{Stage, Shut, Open, NoneThere, at_beginning, next_stage}
 use Rattle.restart_theorem.specs.Courses.{stage_after, first_said, first_taken, IsToldIn, IsAskedIn}
-use Rattle.restart_theorem.specs.Courses.{ComesAfter, IsLast, IsNextAct, MayFail, MayEnd}
+use Rattle.restart_theorem.specs.Courses.{ComesAfter, IsLast, IsNextAct, AreToldBy, MayFail}
+use Rattle.restart_theorem.specs.Courses.{MayFailBatch, MayEnd}
 
 -- ---- the promise
 
@@ -149,7 +151,7 @@ pub record IsAt (m : Module) (config : Settings) (kept : List Kept) (steps : ℕ
   pub shown : SavedShowsProcess (module_context m functions) reached.guest.program table saved
       process
 
--- A line that is told is the line of its number on the kept answers, and this slice has come to it.
+-- A line that is told is the line of its number on the kept answers, and this call has come to it.
 -- In a life numbers follow one another. Over lives none is left out that no outlet has taken, and
 -- none is told again after which something was saved.
 pub record IsTelling (m : Module) (config : Settings) (so_far : Promise) (stage : Stage)
@@ -174,8 +176,8 @@ pub record Inquiry : Type 0 where
   pub said : SourceSaid
   pub fits : Bool
 
--- The process that all kept answers lead to asks for this; each of its lines was told. The source
--- says what it was to say next.
+-- The process that all kept answers lead to asks for this. Each of its lines was told; in a batch
+-- fewer than `most` may wait. The source says what it was to say next.
 pub record IsInquiring (m : Module) (config : Settings) (so_far : Promise) (stage : Stage)
     (inquiry : Inquiry) : Type 0 where
   pub process : ProcessState
@@ -183,7 +185,7 @@ pub record IsInquiring (m : Module) (config : Settings) (so_far : Promise) (stag
   pub running : process.ended ≡ None
   pub wants : next_of reached.guest process None ≡ Wants inquiry.question
   pub in_time : IsAskedIn stage.phase stage.acts stage.step inquiry.steps
-  pub all_told : stage.line ≡ Some (length process.host.lines)
+  pub all_told : AreToldBy stage.acts stage.line (length process.host.lines)
   pub fitting : IsFitting (text_limit process.host.version) inquiry.question
       inquiry.said inquiry.fits
   pub heard : inquiry.said ≡ first_said stage.says
@@ -202,9 +204,24 @@ pub record HoldsAll (m : Module) (config : Settings) (kept : List Kept) (so_far 
       → (a : ℕ) × (a ≤ held) × AnswersBehindLine m config kept i a
   pub syncs : (k a : ℕ) → k ≤ so_far.synced → AnswersBehindSync m config kept k a → a ≤ held
 
+-- The last of these answers is taken by the last of so many steps: the process that the others lead
+-- to wants it.
+pub record TakesLast (m : Module) (config : Settings) (kept : List Kept) (steps : ℕ)
+    : Type 0 where
+  pub others : List Kept
+  pub last : Answer
+  pub are : kept ≡ others ++ Given last ∷ []
+  pub before : ℕ
+  pub next : steps ≡ before + 1
+  pub process : ProcessState
+  pub reached : Reaches m config others before process
+  pub question : Question
+  pub wants : next_of reached.guest process None ≡ Wants question
+
 -- A life opens only where a creation was begun, by it or before it. It opens exactly where a prefix
 -- of the kept answers leads that holds all that was promised. An outlet has taken every line up to
--- there, and this recovery has told none beyond it.
+-- there, and this recovery has told none beyond it. One that has told a line stands right after the
+-- step that took its last answer. One that has told none may also stand where it was saved.
 pub record IsOpening (m : Module) (config : Settings) (so_far : Promise) (stage : Stage) (held : ℕ)
     (shown : Saved) : Type 0 where
   pub shut : stage.phase ≡ Shut
@@ -213,6 +230,7 @@ pub record IsOpening (m : Module) (config : Settings) (so_far : Promise) (stage 
   pub holds : HoldsAll m config so_far.kept so_far held shown.steps
   pub all_heard : shown.lines ≤ so_far.heard
   pub none_beyond : IsLast stage.line shown.lines
+  pub no_further : (stage.line ≡ None) ⊎ TakesLast m config (take held so_far.kept) shown.steps
 
 -- ---- ends of calls
 
@@ -229,24 +247,26 @@ IsOneOf (Some last) lines = last ≤ lines
 -- how many steps an act may take
 abbrev pub fuel_of : Act → ℕ
 fuel_of (Slice fuel) = fuel
+fuel_of (Batch fuel most) = fuel
 fuel_of Checkpoint = 0
 fuel_of Upgrade = 0
 
 -- Why an act may fail. An upgrade, and nothing else, may also say that the journal can't take each
 -- record of version 2. Or it may say of a worker of version 1 that lines beyond it may have been
--- told: until the life has asked, or the process has ended.
+-- told: in a life that began by a recovery, until it has asked, or the process has ended.
 abbrev pub MayPlead : Settings → List Kept → Stage → Act → Cause → Type 0
 MayPlead config kept stage Upgrade OfJournal =
     (stage.phase ≡ Open) × (TakesRecords Two config.journal → ⊥)
 MayPlead config kept stage Upgrade OfLines =
     (stage.phase ≡ Open) × (version_after kept ≡ One) × (stage.is_abreast ≡ false)
+MayPlead config kept stage (Batch fuel most) cause = MayFailBatch stage.phase cause
 MayPlead config kept stage act cause = MayFail stage.phase cause
 
 -- A slice says that its steps are taken after exactly its fuel. It says that an answer isn't there
--- where the source has just said so, and that the process has ended where it has. A checkpoint
--- takes no step, and nor does an upgrade, which shows version 2 where it is done. An error has a
--- cause, and the process then has emitted each line that was told. These are the answers kept in
--- the end.
+-- where the source has just said so, and that the process has ended where it has. So does a batch,
+-- in which no line waits then. A checkpoint takes no step, and nor does an upgrade, which shows
+-- version 2 where it is done. An error has a cause, and the process then has emitted each line that
+-- was told. These are the answers kept in the end.
 abbrev pub IsReply : Settings → List Kept → Stage → ℕ → Saved → Act → Reply → Type 0
 IsReply config kept stage held shown (Slice fuel) Spent =
     (stage.phase ≡ Open) × (shown.steps ≡ stage.step + fuel) × (shown.ended ≡ None)
@@ -255,6 +275,15 @@ IsReply config kept stage held shown (Slice fuel) Waits =
     (stage.phase ≡ NoneThere shown.steps) × (shown.steps < stage.step + fuel)
     × (shown.ended ≡ None) × IsCaughtUp kept stage held shown
 IsReply config kept stage held shown (Slice fuel) (Over why) =
+    (stage.phase ≡ Open) × (shown.steps ≤ stage.step + fuel) × (shown.ended ≡ Some why)
+    × IsCaughtUp kept stage held shown
+IsReply config kept stage held shown (Batch fuel most) Spent =
+    (stage.phase ≡ Open) × (shown.steps ≡ stage.step + fuel) × (shown.ended ≡ None)
+    × IsCaughtUp kept stage held shown
+IsReply config kept stage held shown (Batch fuel most) Waits =
+    (stage.phase ≡ NoneThere shown.steps) × (shown.steps < stage.step + fuel)
+    × (shown.ended ≡ None) × IsCaughtUp kept stage held shown
+IsReply config kept stage held shown (Batch fuel most) (Over why) =
     (stage.phase ≡ Open) × (shown.steps ≤ stage.step + fuel) × (shown.ended ≡ Some why)
     × IsCaughtUp kept stage held shown
 IsReply config kept stage held shown Checkpoint Done =
@@ -342,9 +371,10 @@ OpensAnew (e ∷ events) = ⊥
 -- created again.
 pub record IsLived (m : Module) (config : Settings) (so_far : Promise) (inputs : Inputs)
     (life : Life) : Type 0 where
-  pub kept : AreKept m config (as_begun life.begins so_far) (at_first inputs) life.events
+  pub kept : AreKept m config (as_begun life.begins so_far) (at_beginning life.begins inputs)
+      life.events
   pub ends : MayEnd inputs (promised (as_begun life.begins so_far) life.events).events life.calls
-      (stage_after (at_first inputs) life.events) life.ends
+      (stage_after (at_beginning life.begins inputs) life.events) life.ends
   pub begins : life.begins ≡ Creates → (so_far.has_opened ≡ false) × OpensAnew life.events
 
 -- Lives, one for each that was put in, keep what was promised so far.

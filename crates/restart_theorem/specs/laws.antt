@@ -1,3 +1,4 @@
+pub mod Batches
 pub mod Disks
 pub mod Examples
 pub mod Files

@@ -33,6 +33,8 @@ ghost use Rattle.restart_theorem.specs.laws.Honest.{Teller, HonestStories};
 ghost use Rattle.restart_theorem.specs.laws.Honest.{Upgraded, HonestUpgrades};
 ghost use Rattle.restart_theorem.specs.laws.Refused.{RefusedEvents, RefusedWorkers};
 ghost use Rattle.restart_theorem.specs.laws.Refused.{RefusedUpgrades, RefusedUpgraders};
+ghost use Rattle.restart_theorem.specs.laws.Batches.{RefusedBatches, RefusedBatchLives};
+ghost use Rattle.restart_theorem.specs.laws.Batches.{HonestBatches};
 ghost use Rattle.restart_theorem.specs.laws.WholeLives.{HelloLives, HelloUpgrades};
 ghost use Rattle.restart_theorem.specs.laws.WholeLives.{EchoRefusals};
 ghost use Rattle.restart_theorem.specs.Promises.{Promise};
@@ -171,6 +173,20 @@ pub fn honest_stories()
 pub fn honest_upgrades()
     ensures { (m : Module) (config : Settings) (t : Teller m config) (u : Upgraded t)
         → HonestUpgrades t u }
+{}
+
+/// Batches that nobody wants are refused, wherever a life is and in whole lives. So are slices that
+/// tell a line as only a batch may.
+pub fn refused_batches()
+    ensures events { (m : Module) (config : Settings) (so_far : Promise) (stage : Stage)
+        → RefusedBatches m config so_far stage }
+    ensures lives { (m : Module) (config : Settings) → RefusedBatchLives m config }
+{}
+
+/// Honest batches are satisfied. They have two questions before two lines, a cut in the barrier
+/// between, and a line that waits where the source has none, or fails.
+pub fn honest_batches()
+    ensures { (m : Module) (config : Settings) (t : Teller m config) → HonestBatches t }
 {}
 
 /// Two lives with a cut between them, what events promise, and where a life is after them.

@@ -1,4 +1,5 @@
 pub mod Answered
+pub mod Beside
 pub mod Counts
 pub mod Examples
 pub mod File

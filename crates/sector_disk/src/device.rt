@@ -1,4 +1,9 @@
 //! Whether a file is a block device.
+//!
+//! **A device is taken only where one is asked for**, since what it holds is lost. A call of its
+//! own does so, and refuses a path that isn't a block device. Only a handle that was found to be
+//! one, and that has the lock, is filled (`fill_device`). A device has a length and a name already:
+//! it is given neither, and its folder isn't synced. `open` takes both kinds.
 use std::fs::File;
 use std::io;
 use std::os::unix::fs::FileTypeExt;

@@ -1,4 +1,17 @@
 //! A disk in a file of the operating system.
+//!
+//! # Choices
+//!
+//! - **The file isn't sparse**: `create` sets its length, and writes zeros to each sector. Else a
+//!   device without room would say so at some later write, whose fault has no cause, and the disk
+//!   would be given up. The largest disk has some 150,000 sectors. Where the file system copies
+//!   what is written, or compresses zeros, a later write may find no room all the same.
+//! - **`sync` is `fdatasync`**, since the length stays. `create` syncs all of the file and then its
+//!   folder. No clause says so: `scripts/runs/file-calls` shows that.
+//! - **The kit finishes what is cut short.** `write_all_at` and `read_exact_at` go on after a short
+//!   call. These two, `sync_data` and `try_lock` call again after an interrupt. No clause says so:
+//!   it is read in the kit's code, and seen by `scripts/runs/file-calls`.
+//! - An empty file is a disk of no sectors.
 ghost use Rattle.std.specs.Prelude.{◌≡◌, ◌<◌, ◌≤◌, ◌^◌, ◌*◌, ◌/◌, ◌↔◌, ℕ, [], IfErr, IfOk};
 ghost use Rattle.std.specs.Prelude.{IsErrOf, IsTrue, OnOk, false, true};
 ghost use Rattle.sector_disk.specs.declared.open_fault.OpenFault.TheVariants.{Io};

@@ -1,4 +1,12 @@
 //! The lock that keeps a file to one host.
+//!
+//! **One host at a time has a file**, by the lock of its handle (`flock`). `create` and `open` take
+//! it before the file is read, and the system frees it when the process ends. The lock keeps out
+//! those that ask for it, and not an editor. The kit has the lock at its own `File` alone. A trait
+//! stands for it here, and code over other files says how theirs is taken. A ghost member
+//! (`is_locked`) is true only of a handle that was given the lock, as far as code can know. A body
+//! that opens without it isn't proved. Where a file system has no locks, its files aren't opened
+//! (`Other`).
 use std::fs::{File, TryLockError};
 
 /// A handle of a file with one lock for the whole file, which at most one handle holds.

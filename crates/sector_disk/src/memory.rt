@@ -4,8 +4,10 @@ ghost use Rattle.std.specs.Prelude.{◌≡◌, ◌<◌, ◌≤◌, List, ℕ, []
 ghost use Rattle.std.specs.Prelude.{vec_capacity, IfOk, IfErr, OnOk, OnErr};
 ghost use Rattle.sector_disk.specs.declared.sector.TheConstants.{SECTOR_SIZE};
 ghost use Rattle.sector_disk.specs.rules.DiskImage.{DiskImage, IsDiskImage, sector_at};
+ghost use Rattle.sector_disk.specs.rules.DiskImage.{zeros};
 ghost use Rattle.sector_disk.specs.rules.Pending.{IsWriteWithin, first_front, torn_by};
 ghost use Rattle.sector_disk.specs.rules.Pending.{replayed as all_of};
+ghost use Rattle.sector_disk.specs.laws.Beside.{AreSameBeside};
 
 use crate::disk_call::DiskCall;
 use crate::front::leave_front;
@@ -65,6 +67,46 @@ impl MemDisk {
         MemDisk::from_sectors(alloc, durable, writes)
     }
 
+    /// The same disk, of zeros, as it was made. It takes no memory, so it can't fail.
+    pub fn wiped(self) -> MemDisk
+        ensures wiped { memory_state_of result ≡ record {
+          durable = zeros (length (memory_state_of self).durable);
+          pending = [];
+          limit = (memory_state_of self).limit;
+        } }
+        ensures zeros { (memory_medium result).shows
+            (zeros (length (memory_state_of self).durable)) }
+        ensures all_synced { IsAllSynced (memory_medium result) }
+        ensures fresh { (memory_medium result).calls ≡ [] }
+    {
+        let MemDisk {
+            mut durable,
+            mut shown,
+            mut pending,
+            limit,
+            past: _,
+            calls: _,
+        } = self;
+        wipe(&mut durable);
+        wipe(&mut shown);
+        pending.clear();
+        MemDisk {
+            durable,
+            shown,
+            pending,
+            limit,
+            past: Log::new(),
+            calls: Log::new(),
+        }
+    }
+
+    /// How many writes there is room for between two syncs.
+    pub fn write_limit(&self) -> usize
+        ensures { result ≡ (memory_state_of self.now).limit }
+    {
+        self.limit
+    }
+
     /// How many writes there were since the last good sync.
     pub fn unsynced_count(&self) -> usize
         ensures { result ≡ length (memory_state_of self.now).pending }
@@ -92,6 +134,38 @@ impl MemDisk {
         let mut image = Vec::from_slice(alloc, &self.durable)?;
         leave_writes(&mut image, &self.pending, tears);
         MemDisk::from_sectors(alloc, image, self.limit)
+    }
+
+    /// The same cut, in the memory of this disk. It takes none, so it can't fail. It costs as much as
+    /// there were writes since the last good sync.
+    pub fn into_cut(self, tears: &[u16]) -> MemDisk
+        ensures cut { memory_state_of result ≡ after_cut (memory_state_of self) tears.now }
+        ensures crash_image { (memory_medium self).crash_images
+            (after_cut (memory_state_of self) tears.now).durable }
+        ensures shows { (memory_medium result).shows
+            (after_cut (memory_state_of self) tears.now).durable }
+        ensures all_synced { IsAllSynced (memory_medium result) }
+        ensures fresh { (memory_medium result).calls ≡ [] }
+    {
+        let MemDisk {
+            mut durable,
+            mut shown,
+            mut pending,
+            limit,
+            past: _,
+            calls: _,
+        } = self;
+        leave_writes(&mut durable, &pending, tears);
+        show_durable(&mut shown, &durable, &pending);
+        pending.clear();
+        MemDisk {
+            durable,
+            shown,
+            pending,
+            limit,
+            past: Log::new(),
+            calls: Log::new(),
+        }
     }
 
     fn from_sectors(alloc: Global, durable: Vec<Sector>, limit: usize) -> Result<MemDisk, DiskFault>
@@ -131,6 +205,29 @@ fn leave_writes(sectors: &mut Vec<Sector>, writes: &[Write], tears: &[u16])
             &write.bytes,
             front_named(tears, i),
         );
+    }
+}
+
+/// Leaves zeros in all sectors.
+fn wipe(sectors: &mut Vec<Sector>)
+    ensures { sectors.new.items ≡ zeros (length sectors.old.items) }
+{
+    let mut k = 0;
+    while k < sectors.len() {
+        sectors[k] = [0; SECTOR_SIZE];
+        k += 1;
+    }
+}
+
+/// Shows what is durable, where the two differ by the sectors of these writes alone.
+fn show_durable(shown: &mut [Sector], durable: &[Sector], writes: &[Write])
+    requires size { length shown.old ≡ length durable.now }
+    requires within { All (IsWriteWithin (length durable.now)) writes.now }
+    requires same { AreSameBeside writes.now shown.old durable.now }
+    ensures { shown.new ≡ durable.now }
+{
+    for write in writes {
+        shown[write.sector] = durable[write.sector];
     }
 }
 

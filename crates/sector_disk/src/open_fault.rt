@@ -1,4 +1,8 @@
 //! Why a file can't be made or opened as a disk.
+//!
+//! **`OpenFault` is a type of its own**, apart from `DiskFault`. A disk that is open is never busy,
+//! and a fault of a path is of no use to a journal. Its cause is for a person, and the program has
+//! the words. `K2 Io` stays the one word of all failures of the system.
 use thiserror::Error;
 
 #[derive(Clone, Copy, Debug, PartialEq, Eq, Error)]

@@ -1,4 +1,9 @@
 //! All sectors of a disk, written back as they are read.
+//!
+//! **What failed in an earlier life is written again.** Each sector that was written as it was read
+//! is dirty, so the sync has something to do. The work can be stopped at any moment. A torn sector
+//! keeps a prefix of what reads give, which the model always allows (`may_keep`). Whether there was
+//! such a life only a person knows, so no code calls it by itself.
 ghost use Rattle.std.specs.Prelude.{◌⊎◌, ◌*◌, ◌+◌, ◌<◌, [], ◌∷◌, OnOk, IsErr};
 ghost use Rattle.sector_disk.specs.rules.Medium.{LeavesOnly, IsAllSynced, CountsUpTo};
 ghost use Rattle.sector_disk.specs.rules.Medium.{PerformsCalls};

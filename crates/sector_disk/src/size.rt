@@ -1,4 +1,10 @@
 //! How long a file is.
+//!
+//! **A disk has the length that its file said.** The kit's contracts say nothing of what a file
+//! answers, so a trait stands for it, as for the lock. The impl for `File` seeks the end, and hands
+//! its place on: the length that the system tells of a block device is 0. `create` makes a file as
+//! long by it (`is_resized_to`). Clauses could also say that the file is then filled and synced,
+//! but not in this order. `scripts/runs/file-calls` shows that.
 use std::fs::File;
 use std::io;
 use std::io::{Seek, SeekFrom};

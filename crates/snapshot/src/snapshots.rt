@@ -1,4 +1,12 @@
 //! The snapshots of one disk.
+//!
+//! # Choices
+//!
+//! - A commit has a premise: the newest head is of the generation before, and no head's sector
+//!   shows a later one. The premise is in the step between two images and not in a `requires`, so
+//!   runs of calls compose.
+//! - `begin` and `commit` take the version of the image, and `newest` gives it, so that a wider
+//!   version needs no other calls.
 
 use crate::fault::SnapshotFault;
 use crate::hashed_image::HashedImage;

@@ -1,4 +1,7 @@
 //! Where the bytes of an image go.
+//!
+//! **A sink is known by one relation of a push.** `Pushes` says that all bytes were pushed, in some
+//! pieces, or a prefix of them up to the first refusal. How they are cut is left open.
 
 /// Whoever takes bytes, piece by piece. What a contract says of a sink it says by one relation of
 /// each push, `takes`. The pushes of a call follow one another by `Pushes`.

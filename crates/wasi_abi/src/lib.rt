@@ -1,13 +1,24 @@
-//! Numbers, layouts and calls of WASI preview 1, as the witx files of `wasi_snapshot_preview1`
-//! have them. Outside answers, configurations and the sets of rights are this project's own.
+//! Numbers, layouts and calls of WASI preview 1, as the witx files of `wasi_snapshot_preview1` have
+//! them. Outside answers, configurations and the sets of rights are this project's own.
+//!
+//! # Example
+//!
+//! ```text
+//! let config = Config::new(pages, files, journal, arguments, environment)?;
+//! if let Some(call) = Call::named("fd_write") {
+//!     let types = call.parameters();
+//! }
+//! let number = Errno::Noent.number();
+//! let taken = fits(Version::One.text_limit(), Question::Request, &answer);
+//! ```
 //!
 //! # Promises
 //!
 //! - `Errno`, `FileType`, `Rights`, `OpenFlags`, `DescriptorFlags` and `Whence` have the numbers of
 //!   the definitions. `Rights::has` and `is_within` test what `are_within` says (`all`, `one`), and
 //!   `has` of flags what `has_flag` says.
-//! - `Call::named` finds the call with a name (`found`, `none`). `name`, `parameters` and
-//!   `results` are those of the definitions.
+//! - `Call::named` finds the call with a name (`found`, `none`). `name`, `parameters` and `results`
+//!   are those of the definitions.
 //! - `Fdstat`, `Filestat`, `Dirent`, `Prestat`, `Iovec` are written byte by byte as defined. What
 //!   is read is what the bytes hold (`fields`), and so what was written (`written`).
 //! - `fits` is true exactly where an answer is one to what was asked (`Fits`).
@@ -15,13 +26,8 @@
 //!   `C2 Text` (`text`). A `Config` is within its limits by its type (`within`).
 //! - A `Version` has its number, the limit of its texts, the bytes of a length, and the answers
 //!   that nobody gave (`Version`).
-//! - Ten calls that do nothing ensure laws. Rights, sets of rights, errors and calls have numbers
-//!   and names of their own (`rights_have_their_bits`, `sets_have_their_rights`,
-//!   `errors_are_no_success`, `calls_differ`). Layouts have their sizes and bytes
-//!   (`layouts_have_their_sizes`, `bytes_spell_numbers`, `worked_directory`). A configuration has
-//!   its limits (`configuration_limits_are`), and the numbers of steps, lines and generations their
-//!   end (`numbers_end_is`, of `NUMBERS_END`). A length of each version has room in its bytes
-//!   (`versions_have_room`).
+//! - Ten calls that do nothing ensure laws, as `sets_have_their_rights` and `numbers_end_is`.
+//!   Numbers and names are each of one thing, and layouts and limits have their sizes.
 //!
 //! # Definitions to read
 //!
@@ -33,8 +39,8 @@
 //! # Who may touch what
 //!
 //! Only this crate knows at which byte of a layout a field lies, and keeps a configuration's
-//! limits. Nearly every crate of the host's side uses it. It uses `wasm_syntax`, and byte
-//! definitions of `guest_memory`. It takes no memory. Its one error is `ConfigFault`.
+//! limits. Nearly every crate of the host's side uses it. No memory is taken. The one error is
+//! `ConfigFault`.
 #![tactic(auto)]
 
 mod answer;

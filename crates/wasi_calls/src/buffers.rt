@@ -1,4 +1,7 @@
 //! The buffers of a guest that bytes are moved from or to.
+//!
+//! **Buffers are read once, before anything is written**, into an inline array of as many as a call
+//! may name. So a buffer may lie over the array of the buffers.
 
 ghost use Rattle.std.specs.Prelude.{◌≡◌, ◌≤◌, ◌+◌, ◌-◌, ◌*◌, ◌<◌, ◌^◌};
 ghost use Rattle.std.specs.Prelude.{min, [], ◌∷◌, ◌++◌, length, IfOk, OnOk, Ok};

@@ -1,4 +1,8 @@
 //! A call of the guest.
+//!
+//! **A call is written as its rule is: one line of code for one line of the rule.** Each helper
+//! says which word of the rule it gives (`GivesValue`), so that most calls are proved with no proof
+//! file.
 
 ghost use Rattle.std.specs.Prelude.{◌≡◌, ◌≢◌, ◌+◌, ◌≤◌, length, Option, Ok, Err, option_copied};
 ghost use Rattle.wasi_abi.specs.declared.answer.Answer.{Answer};

@@ -1,4 +1,7 @@
 //! What a process has opened.
+//!
+//! **Rights and flags are checked by the place of their one bit** (`bit_of`). The definitions
+//! number bits, and the code has named sets: a check asks for a set of one bit.
 
 ghost use Rattle.std.specs.Prelude.{◌≡◌, ◌^◌, ◌↔◌, IsTrue, IsSome, IfSome};
 ghost use Rattle.wasi_abi.specs.rules.Numbers.{rights_number, descriptor_flags_number};

@@ -1,4 +1,6 @@
 //! Renaming: `path_rename`.
+//!
+//! **A new name is copied before a rename changes anything.** The rename itself can't fail.
 
 ghost use Rattle.std.specs.Prelude.{◌≡◌, ◌++◌, ◌∷◌, [], OnOk, IfErr, Ok};
 ghost use Rattle.file_tree.specs.rules.Changes.{path_at};

@@ -1,4 +1,7 @@
 //! Why a call has changed nothing.
+//!
+//! **Checks take no memory and come first.** Out of memory is a kind of stop of its own beside
+//! refusals, so that a refused call can't be answered as one.
 
 ghost use Rattle.std.specs.Prelude.{◌≡◌};
 ghost use Rattle.wasi_calls.specs.declared.stop.CallStop.TheVariants.{Refused};

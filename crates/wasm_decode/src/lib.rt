@@ -1,6 +1,17 @@
 //! Decoding: from bytes to a module, exactly as the binary format spells it (Core Specification
 //! 1.0, chapter 5), within this project's limits.
 //!
+//! # Example
+//!
+//! ```text
+//! match decode(alloc, bytes) {
+//!     Ok(module) => validate(alloc, module),
+//!     Err(fault) => report(fault, fault.place(), fault.passed_limit()),
+//! }
+//! ```
+//!
+//! Here `report` is the caller's.
+//!
 //! # Promises
 //!
 //! - `decode`: the module is spelled by all of the bytes, and is within the limits (`found`). A
@@ -9,30 +20,22 @@
 //!   `DecodeFault::passed_limit` is the limit that `B3 Limit` is about, with its offset
 //!   (`passed_of`).
 //!
-//! No clause says which fault it is, nor which limit or offset. Since bytes spell at most one
-//! module (`wasm_syntax::laws`), the module that is found is the only one.
+//! No clause says which fault it is, nor which limit or offset: tests show them. Since bytes spell
+//! at most one module (`wasm_syntax::laws`), the module that is found is the only one.
 //!
 //! # Definitions to read
 //!
 //! `specs/rules/Faults.antt`: `place_of`, `passed_of`, `decode_fault`. What a module's bytes are is
 //! defined in `wasm_syntax`: `IsModule` (`specs/rules/Modules.antt`), `IsWithinLimits` and
-//! `HasNoModule` (`specs/rules/Limits.antt`). All other files of `specs/` are about the steps of
-//! reading.
+//! `HasNoModule` (`specs/rules/Limits.antt`).
 //!
 //! # Who may touch what
 //!
-//! Only this crate reads the binary format. Its readers, their places in the bytes, and the order
-//! in which they judge are hidden behind `decode`. `machine_loader` uses it. It uses `wasm_syntax`.
-//! It takes memory in proportion to the bytes, whatever counts they declare. Out of memory is `B4
-//! Memory`; the other faults are `B1 Malformed`, `B2 Float` and `B3 Limit`. After a fault nothing
-//! is kept.
-//!
-//! # Choices
-//!
-//! - The sections are found first, and then read in the order of their ids. A fault inside a
-//!   section is answered before one between sections, and a missing code section after all others.
-//! - Which fault it is, and at which byte, is shown by tests. That there is none where the bytes
-//!   spell a module within the limits, and one where they don't, is proved.
+//! Only this crate judges the binary format. Its readers, their places in the bytes, and the order
+//! in which they judge are hidden behind `decode`. `machine_loader` uses it. `wasm_places` reads the
+//! format, too, to say where a fault lies, and judges nothing. Memory is taken in proportion to the
+//! bytes, whatever counts they declare. Out of memory is `B4 Memory`; the others
+//! are `B1 Malformed`, `B2 Float` and `B3 Limit`. After a fault nothing is kept.
 #![tactic(auto)]
 
 mod codes;

@@ -1,4 +1,7 @@
 //! Whole modules (section 5.5.15).
+//!
+//! The sections are found first, and then read in the order of their ids. A fault inside a section
+//! is answered before one between sections, and a missing code section after all others.
 
 ghost use Rattle.std.specs.Prelude.{◌≡◌, ◌≢◌, IfOk, IfErr};
 ghost use Rattle.wasm_syntax.specs.rules.Modules.{IsModule, preamble};

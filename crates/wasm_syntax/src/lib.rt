@@ -1,10 +1,21 @@
 //! The abstract syntax of WebAssembly modules, for the integer instructions, and the grammar of
 //! their bytes (Core Specification 1.0, chapters 2 and 5).
 //!
+//! # Example
+//!
+//! The body of a function that gives 42, and the test of a module against the limits:
+//!
+//! ```text
+//! let mut body = ItemList::new(alloc);
+//! body.push(Instruction::Const { value: Value::I32(42) })?;
+//! body.push(Instruction::End)?;
+//! let limited = LimitedModule::of(module);
+//! ```
+//!
 //! # Promises
 //!
-//! - `Module` and its parts, `Instruction`, the operators and the types are plain data. `Value`
-//!   and `Trap` are those of execution.
+//! - `Module` and its parts, `Instruction`, the operators and the types are plain data. `Value` and
+//!   `Trap` are those of execution.
 //! - `ItemList` is the list of its items, as `as_slice`, `len`, `is_empty` and `get` say. `new` is
 //!   empty. `from_vec` and `into_vec` take and give a vector as it is. `push` puts an item after
 //!   the others (`pushed`), or leaves all as it was (`unchanged`).
@@ -14,16 +25,15 @@
 //! - `limits` has this project's limits on modules, as `MODULE_BYTES` and `INSTRUCTIONS`. The
 //!   definitions cite the same constants (`laws::module_limits_are`).
 //! - `laws::bytes_spell_at_most_one_module`: two modules that the same bytes spell are equal.
-//! - `laws::worked_examples`: whole modules beside their bytes, other spellings of one of them,
-//!   and bytes that spell none.
+//! - `laws::worked_examples`: whole modules beside their bytes, other spellings of one of them, and
+//!   bytes that spell none.
 //!
 //! # Definitions to read
 //!
 //! In `specs/rules/`: `IsUnsigned`, `IsSigned`, `AreItems`, `IsVector`, types (`Items.antt`);
 //! `IsInstruction`, `IsExpression` (`Instructions.antt`); `AreSections`, `IsModule`
 //! (`Modules.antt`); `IsWithinLimits`, `IsLimited` (`Limits.antt`); `Sequence`, `Spells`
-//! (`Sequence.antt`). The files `Reading..` of `specs/laws/` are a second form, which reads from
-//! the front. Nobody has to believe them: that they read what the relations spell is proved.
+//! (`Sequence.antt`).
 //!
 //! # Who may touch what
 //!

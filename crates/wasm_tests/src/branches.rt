@@ -6,6 +6,7 @@
 ghost use Rattle.std.specs.Prelude.{IfOk};
 ghost use Rattle.machine_jumps.specs.Contexts.{GivesOnes};
 
+use crate::rows::assert_row;
 use crate::spelled::{Refused, with_code};
 use machine_jumps::{BranchTable, Jump, branch_table};
 use machine_loader::read;
@@ -21,7 +22,6 @@ pub fn context_of(alloc: Global, valid: &ValidModule) -> Result<ModuleContext<'_
 
 /// The table of the first function, which has the first type.
 pub fn first_table(alloc: Global, valid: &ValidModule) -> Result<BranchTable, Refused> {
-    let context = context_of(alloc, valid)?;
     let Some(function_type) = valid.module().types.get(0) else {
         return Err(Refused::Misspelled);
     };
@@ -31,7 +31,10 @@ pub fn first_table(alloc: Global, valid: &ValidModule) -> Result<BranchTable, Re
     if function_type.results.len() > 1 || function.code.body.len() > 100 {
         return Err(Refused::Misspelled);
     }
-    Ok(branch_table(alloc, &context, function_type, &function.code)?)
+    let context = context_of(alloc, valid)?;
+    let table = branch_table(alloc, &context, function_type, &function.code);
+    drop(context);
+    Ok(table?)
 }
 
 fn table_of(alloc: Global, bytes: &[u8]) -> Result<BranchTable, Refused> {
@@ -324,8 +327,12 @@ static JUMPS: [Row; 25] = [
 
 fn leads_so(alloc: Global, row: &Row) -> Result<bool, Refused> {
     let bytes = with_code(alloc, row.0, "01", row.1, "")?;
-    let table = table_of(alloc, bytes.as_slice())?;
-    Ok(table.jump(row.2, row.3) == row.4)
+    let table = table_of(alloc, bytes.as_slice());
+    drop(bytes);
+    let table = table?;
+    let jump = table.jump(row.2, row.3);
+    drop(table);
+    Ok(jump == row.4)
 }
 
 /// `scripts/runs/refused-allocations` refuses each allocation in turn, and then this ends out of
@@ -333,7 +340,7 @@ fn leads_so(alloc: Global, row: &Row) -> Result<bool, Refused> {
 #[test]
 fn jumps_lead_where_the_standard_says(rt: HostRuntime) -> Result<(), Refused> {
     for row in &JUMPS {
-        assert!(rt; leads_so(rt.alloc(), row)?, "{row:?}");
+        assert_row(&rt, Ok(leads_so(rt.alloc(), row)?), row.1);
     }
     Ok(())
 }

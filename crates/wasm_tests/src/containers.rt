@@ -1,5 +1,6 @@
 //! Lists hold what is pushed, and slots hold words in one piece of memory.
 
+use crate::rows::assert_row;
 use machine_slots::Slots;
 use std::alloc::{AllocError, Global};
 use wasm_syntax::ItemList;
@@ -28,7 +29,7 @@ fn are_words_held(alloc: Global) -> Result<bool, AllocError> {
 /// `scripts/runs/refused-allocations` refuses each allocation in turn, and then this ends in that.
 #[test]
 fn lists_and_slots_hold_what_is_pushed(rt: HostRuntime) -> Result<(), AllocError> {
-    assert!(rt; is_pushed(rt.alloc())?);
-    assert!(rt; are_words_held(rt.alloc())?);
+    assert_row(&rt, Ok(is_pushed(rt.alloc())?), "a list");
+    assert_row(&rt, Ok(are_words_held(rt.alloc())?), "slots");
     Ok(())
 }

@@ -1,6 +1,7 @@
 //! Which bytes are modules, where the first fault of others is told, and limits at their edges.
 
 use crate::decoding::Wanted::{Accepted, Past};
+use crate::rows::{assert_number, assert_row};
 use crate::spelled::{Refused, append, spell};
 use std::alloc::Global;
 use wasm_decode::DecodeFault::{self, Float, Malformed};
@@ -279,7 +280,6 @@ static TOLD: [Told; 109] = [
 ];
 
 /// What is told of a long module.
-#[derive(Debug)]
 enum Wanted {
     Accepted,
     Malformed(usize),
@@ -517,12 +517,10 @@ fn append_times(bytes: &mut Vec<u8>, text: &str, times: usize) -> Result<(), Ref
     Ok(())
 }
 
-fn spell_long(alloc: Global, row: &Long) -> Result<Vec<u8>, Refused> {
-    let mut bytes = spell(alloc, row.0, row.1)?;
-    append_times(&mut bytes, row.2, row.3)?;
-    append(&mut bytes, row.4)?;
-    append_times(&mut bytes, row.5, row.3)?;
-    Ok(bytes)
+fn append_long(bytes: &mut Vec<u8>, row: &Long) -> Result<(), Refused> {
+    append_times(bytes, row.2, row.3)?;
+    append(bytes, row.4)?;
+    append_times(bytes, row.5, row.3)
 }
 
 fn fault_wanted(wanted: &Wanted) -> Option<DecodeFault> {
@@ -537,7 +535,8 @@ fn fault_wanted(wanted: &Wanted) -> Option<DecodeFault> {
 }
 
 fn is_long_told_so(alloc: Global, row: &Long) -> Result<bool, Refused> {
-    let bytes = spell_long(alloc, row)?;
+    let mut bytes = spell(alloc, row.0, row.1)?;
+    append_long(&mut bytes, row)?;
     Ok(fault_of(alloc, bytes.as_slice()) == fault_wanted(&row.6))
 }
 
@@ -557,15 +556,13 @@ fn is_front_told_so(alloc: Global, len: usize) -> bool {
 #[test]
 fn the_first_fault_is_told(rt: HostRuntime) {
     for row in &TOLD {
-        let told = is_told_so(rt.alloc(), row);
-        assert!(rt; told == Ok(true), "{row:?} {told:?}");
+        assert_row(&rt, is_told_so(rt.alloc(), row), row.1);
     }
     for row in &LONG {
-        let told = is_long_told_so(rt.alloc(), row);
-        assert!(rt; told == Ok(true), "{row:?} {told:?}");
+        assert_row(&rt, is_long_told_so(rt.alloc(), row), row.1);
     }
     for len in 0..=50 {
-        assert!(rt; is_front_told_so(rt.alloc(), len), "{len}");
+        assert_number(&rt, is_front_told_so(rt.alloc(), len), len);
     }
 }
 
@@ -662,11 +659,14 @@ fn has_constant(module: &Module, wanted: &Value) -> bool {
 }
 
 fn has_counts(module: &Module, counts: &[usize; 5]) -> bool {
-    module.types.len() == counts[0]
-        && module.imports.len() == counts[1]
-        && module.functions.len() == counts[2]
-        && module.exports.len() == counts[3]
-        && module.data_segments.len() == counts[4]
+    let lengths = [
+        module.types.len(),
+        module.imports.len(),
+        module.functions.len(),
+        module.exports.len(),
+        module.data_segments.len(),
+    ];
+    lengths == *counts
 }
 
 fn has(module: &Module, wanted: &Read) -> bool {
@@ -687,7 +687,9 @@ fn is_fault(fault: DecodeFault, wanted: &Read) -> Result<bool, Refused> {
 
 fn is_read_so(alloc: Global, row: &(&str, &str, Read)) -> Result<bool, Refused> {
     let bytes = spell(alloc, row.0, row.1)?;
-    match decode(alloc, bytes.as_slice()) {
+    let read = decode(alloc, bytes.as_slice());
+    drop(bytes);
+    match read {
         Ok(module) => {
             let is_so = has(module.module(), &row.2);
             drop(module);
@@ -717,10 +719,10 @@ static SIZES: [Long; 3] = [
 #[test]
 fn modules_are_read(rt: HostRuntime) -> Result<(), Refused> {
     for row in &READ {
-        assert!(rt; is_read_so(rt.alloc(), row)?, "{} {}", row.0, row.1);
+        assert_row(&rt, Ok(is_read_so(rt.alloc(), row)?), row.1);
     }
     for row in &SIZES {
-        assert!(rt; is_long_told_so(rt.alloc(), row)?, "{row:?}");
+        assert_row(&rt, Ok(is_long_told_so(rt.alloc(), row)?), row.1);
     }
     Ok(())
 }
@@ -766,7 +768,7 @@ fn kind_told(alloc: Global, opcode: u8) -> Result<u8, Refused> {
 #[test]
 fn opcodes_are_of_integers_of_floats_or_none(rt: HostRuntime) -> Result<(), Refused> {
     for (opcode, kind) in KINDS.iter().enumerate() {
-        assert!(rt; kind_told(rt.alloc(), opcode as u8)? == *kind, "{opcode}");
+        assert_number(&rt, kind_told(rt.alloc(), opcode as u8)? == *kind, opcode);
     }
     Ok(())
 }

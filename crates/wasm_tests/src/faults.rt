@@ -1,5 +1,6 @@
 //! Faults are printed by their names.
 
+use crate::rows::assert_row;
 use guest_memory::MemoryFault;
 use machine::LinkFault;
 use std::alloc::{AllocError, Global};
@@ -51,7 +52,10 @@ static FAULTS: [(Fault, &str); 17] = [
 ];
 
 fn prints<T: Display>(alloc: Global, value: &T, text: &str) -> Result<bool, AllocError> {
-    Ok(format!(in alloc; "{value}")?.as_str() == text)
+    let told = format!(in alloc; "{value}")?;
+    let is_so = told.as_str() == text;
+    drop(told);
+    Ok(is_so)
 }
 
 /// Whether it is printed as this text, and has its place.
@@ -69,7 +73,7 @@ fn is_printed_so(alloc: Global, fault: &Fault, text: &str) -> Result<bool, Alloc
 #[test]
 fn are_printed_by_their_names(rt: HostRuntime) -> Result<(), AllocError> {
     for (fault, text) in &FAULTS {
-        assert!(rt; is_printed_so(rt.alloc(), fault, text)?, "{text}");
+        assert_row(&rt, Ok(is_printed_so(rt.alloc(), fault, text)?), text);
     }
     Ok(())
 }

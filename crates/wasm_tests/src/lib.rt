@@ -1,6 +1,6 @@
-//! What tests alone can show of modules. That is what bytes decode, validate and link to, and where
-//! their branches lead. It is also what they do when they run, a row an instruction, and that
-//! bodies are translated.
+//! What tests alone can show of modules: what bytes decode, validate and link to, and where their
+//! branches lead. Also what modules do when they run, a row an instruction, and that bodies are
+//! translated.
 //!
 //! Each test is a table of rows whose expected values come from outside. Those that take memory
 //! return their error, so that `scripts/runs/refused-allocations` refuses each allocation in turn.
@@ -22,6 +22,8 @@ mod memories;
 mod opcodes;
 #[cfg(test)]
 mod operators;
+#[cfg(test)]
+mod rows;
 #[cfg(test)]
 mod runs;
 #[cfg(test)]

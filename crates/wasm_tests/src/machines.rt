@@ -1,6 +1,7 @@
 //! The kind of each fault of linking, two faults at once, what a machine begins with.
 
 use crate::decoding::ECHO;
+use crate::rows::{assert_number, assert_row};
 use crate::runs::{Outcome, Runs, comes_to, runs_so};
 use crate::spelled::{Refused, spell, spell_each};
 use guest_memory::Memory;
@@ -347,37 +348,32 @@ const ECHO_LENGTH: usize = 193;
 
 const CODE_END: usize = 173;
 
-/// The first front of `ECHO` that is accepted and should not be, or the other way round.
-fn first_miss(alloc: Global, echo: &[u8]) -> Option<usize> {
-    for len in 0..=ECHO_LENGTH {
-        let is_whole = len == CODE_END || len == ECHO_LENGTH;
-        let Some(front) = echo.get(..len) else {
-            return Some(len);
-        };
-        if is_accepted(alloc, front) != is_whole {
-            return Some(len);
-        }
-    }
-    None
-}
-
-fn first_miss_of_echo(alloc: Global) -> Result<Option<usize>, Refused> {
-    let echo = spell(alloc, ECHO, "")?;
-    Ok(first_miss(alloc, echo.as_slice()))
+/// Whether a front of `ECHO` is accepted where it should be, and else refused.
+fn is_front_told_so(alloc: Global, len: usize) -> Result<bool, Refused> {
+    let mut front = spell(alloc, ECHO, "")?;
+    front.truncate(len);
+    let is_whole = len == CODE_END || len == ECHO_LENGTH;
+    let is_so = front.len() == len && is_accepted(alloc, front.as_slice()) == is_whole;
+    drop(front);
+    Ok(is_so)
 }
 
 #[test]
-fn modules_are_linked_and_tell_what_they_come_to(rt: HostRuntime) {
+fn modules_are_linked_and_tell_what_they_come_to(rt: HostRuntime) -> Result<(), Refused> {
     for row in &LINKED {
-        let linked = is_linked_so(rt.alloc(), row);
-        assert!(rt; linked == Ok(true), "{row:?} {linked:?}");
+        assert_row(
+            &rt,
+            is_linked_so(rt.alloc(), row),
+            row.0.last().copied().unwrap_or(""),
+        );
     }
     for run in TOLD.3 {
-        let told = runs_so(rt.alloc(), &TOLD, run);
-        assert!(rt; told == Ok(true), "{} {told:?}", run.0);
+        assert_row(&rt, runs_so(rt.alloc(), &TOLD, run), run.0);
     }
-    let miss = first_miss_of_echo(rt.alloc());
-    assert!(rt; miss == Ok(None), "{miss:?}");
+    for len in 0..=ECHO_LENGTH {
+        assert_number(&rt, is_front_told_so(rt.alloc(), len)?, len);
+    }
+    Ok(())
 }
 
 /// The first function of two: it gives its parameter where that isn't zero, and else its declared
@@ -464,18 +460,20 @@ static RUNS: [Runs; 2] = [
 fn asks_first(alloc: Global) -> Result<bool, Refused> {
     let echo = spell(alloc, ECHO, "")?;
     let outcome = Outcome::Asks(Call::FdRead, &[0, 0, 1, 16]);
-    Ok(comes_to(alloc, echo.as_slice(), &outcome)?)
+    let told = comes_to(alloc, echo.as_slice(), &outcome);
+    drop(echo);
+    Ok(told?)
 }
 
 /// `scripts/runs/refused-allocations` refuses each allocation in turn, and then this ends out of
 /// memory.
 #[test]
 fn machines_begin_and_call(rt: HostRuntime) -> Result<(), Refused> {
-    assert!(rt; is_linked(rt.alloc())?);
-    assert!(rt; asks_first(rt.alloc())?);
+    assert_row(&rt, Ok(is_linked(rt.alloc())?), "WHOLE");
+    assert_row(&rt, Ok(asks_first(rt.alloc())?), "ECHO");
     for runs in &RUNS {
         for run in runs.3 {
-            assert!(rt; runs_so(rt.alloc(), runs, run)?, "{}", run.0);
+            assert_row(&rt, Ok(runs_so(rt.alloc(), runs, run)?), run.0);
         }
     }
     Ok(())

@@ -1,5 +1,6 @@
 //! Edges of ranges, growth up to the limit and past it, and out of memory.
 
+use crate::rows::assert_number;
 use guest_memory::{Memory, MemoryFault};
 use std::alloc::Global;
 
@@ -157,7 +158,8 @@ fn has_three_pages(memory: &Memory) -> bool {
         && is_zero_from(memory.bytes(), 65_536)
 }
 
-fn is_seen(memory: &mut Memory, call: &Call) -> bool {
+/// Whether that is seen of memory.
+fn is_read(memory: &Memory, call: &Call) -> bool {
     match call {
         Call::Read(address, offset, byte, four) => {
             memory.load_u8(*address, *offset).is_some() == *byte
@@ -166,6 +168,15 @@ fn is_seen(memory: &mut Memory, call: &Call) -> bool {
         Call::Range(from, len, there) => {
             memory.part(*from, *len).is_some() == *there && memory.has(*from, *len) == *there
         }
+        Call::HasThreePages => has_three_pages(memory),
+        Call::EndsWith(bytes) => memory.bytes().ends_with(bytes),
+        _ => false,
+    }
+}
+
+/// Whether a call goes as it is to.
+fn goes_so(memory: &mut Memory, call: &Call) -> bool {
+    match call {
         Call::Store(at, there) => memory.store_u32(*at, 0, 0xdead_beef).is_some() == *there,
         Call::Write(from, there) => memory.write(*from, b"\x04\x05").is_some() == *there,
         Call::Grow(by, pages) => memory.grow(*by) == *pages,
@@ -176,31 +187,29 @@ fn is_seen(memory: &mut Memory, call: &Call) -> bool {
         }
         Call::Lend => is_lent(memory),
         Call::StoreSeven => memory.store_u8(65_535, 0, 7).is_some(),
-        Call::HasThreePages => has_three_pages(memory),
-        Call::EndsWith(bytes) => memory.bytes().ends_with(bytes),
+        call => is_read(memory, call),
     }
 }
 
-/// How many calls go as they are to, before one that doesn't.
-fn count_seen(memory: &mut Memory, calls: &[Call]) -> usize {
-    for (place, call) in calls.iter().enumerate() {
-        if !is_seen(memory, call) {
-            return place;
+/// Whether all calls go as they are to.
+fn go_so(memory: &mut Memory, calls: &[Call]) -> bool {
+    for call in calls {
+        if !goes_so(memory, call) {
+            return false;
         }
     }
-    calls.len()
+    true
 }
 
-/// The same of a story, if its memory begins as it is to.
-fn count_told(alloc: Global, story: &Story) -> Result<Option<usize>, MemoryFault> {
+/// Whether a story's memory begins as it is to, and all calls go so.
+fn is_told_so(alloc: Global, story: &Story) -> Result<bool, MemoryFault> {
     if story.0 > story.1 || story.1 > 256 {
-        return Ok(None);
+        return Ok(false);
     }
     let mut memory = Memory::new(alloc, story.0, story.1)?;
-    if !is_begun_so(&memory, story) {
-        return Ok(None);
-    }
-    Ok(Some(count_seen(&mut memory, story.3)))
+    let is_so = is_begun_so(&memory, story) && go_so(&mut memory, story.3);
+    drop(memory);
+    Ok(is_so)
 }
 
 /// `scripts/runs/refused-allocations` refuses each allocation in turn, and then this ends out of
@@ -208,8 +217,7 @@ fn count_told(alloc: Global, story: &Story) -> Result<Option<usize>, MemoryFault
 #[test]
 fn memory_is_held_within_its_limit(rt: HostRuntime) -> Result<(), MemoryFault> {
     for (place, story) in STORIES.iter().enumerate() {
-        let told = count_told(rt.alloc(), story)?;
-        assert!(rt; told == Some(story.3.len()), "{place} {told:?}");
+        assert_number(&rt, is_told_so(rt.alloc(), story)?, place);
     }
     Ok(())
 }

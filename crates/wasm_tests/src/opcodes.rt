@@ -2,6 +2,7 @@
 //! number that it leaves. The operands tell it from its neighbours. Each number was worked out from
 //! the standard.
 
+use crate::rows::assert_row;
 use crate::runs::{Outcome, Runs, comes_to, runs_so};
 use crate::spelled::{Refused, append, spell};
 use std::alloc::Global;
@@ -506,11 +507,9 @@ static INSTRUCTIONS: Runs = (
 #[test]
 fn instructions_do_what_the_standard_says(rt: HostRuntime) {
     for row in &OPERATIONS {
-        let given = is_given(rt.alloc(), row);
-        assert!(rt; given == Ok(true), "{} {given:?}", row.0);
+        assert_row(&rt, is_given(rt.alloc(), row), row.0);
     }
     for run in INSTRUCTIONS.3 {
-        let done = runs_so(rt.alloc(), &INSTRUCTIONS, run);
-        assert!(rt; done == Ok(true), "{} {} {done:?}", run.0, run.1);
+        assert_row(&rt, runs_so(rt.alloc(), &INSTRUCTIONS, run), run.1);
     }
 }

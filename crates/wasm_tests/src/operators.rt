@@ -1,5 +1,6 @@
 //! Values of integer operations, worked by hand from the standard.
 
+use crate::rows::{assert_number, assert_row};
 use int_ops::{binary, compare, convert, unary};
 use wasm_syntax::BinaryOperator::{self, DivS, DivU, RemS, RemU, Rotl, Rotr, Shl, ShrS};
 use wasm_syntax::Comparison::{self, GeS, LtS, LtU};
@@ -58,12 +59,17 @@ fn is_given(operation: &Operation) -> bool {
     }
 }
 
+/// The same of conversions. What each requires of its operand isn't known of a row.
+fn are_converted_so() -> bool {
+    convert(I32WrapI64, 0x1_0000_0005) == 5
+        && convert(I64ExtendI32S, 0x8000_0000) == 0xffff_ffff_8000_0000
+        && convert(I64ExtendI32U, 0x8000_0000) == 0x8000_0000
+}
+
 #[test]
 fn operations_have_the_values_of_the_standard(rt: HostRuntime) {
     for (place, operation) in OPERATIONS.iter().enumerate() {
-        assert!(rt; is_given(operation), "{place}");
+        assert_number(&rt, is_given(operation), place);
     }
-    assert!(rt; convert(I32WrapI64, 0x1_0000_0005) == 5);
-    assert!(rt; convert(I64ExtendI32S, 0x8000_0000) == 0xffff_ffff_8000_0000);
-    assert!(rt; convert(I64ExtendI32U, 0x8000_0000) == 0x8000_0000);
+    assert_row(&rt, Ok(are_converted_so()), "conversions");
 }

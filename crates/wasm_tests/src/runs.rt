@@ -51,6 +51,18 @@ fn waits_for(waits: Option<&HostCall>, call: Call, arguments: &[u64]) -> bool {
     }
 }
 
+/// Whether a machine that has this call waiting tells the outcome.
+fn tells(machine: &Machine, waits: Option<&HostCall>, outcome: &Outcome) -> bool {
+    match outcome {
+        Outcome::TellsEnd => machine.has_ended(),
+        Outcome::TellsCall(call, arguments) => {
+            !machine.has_ended() && waits_for(waits, *call, arguments)
+        }
+        Outcome::TellsNeither => !machine.has_ended() && waits.is_none(),
+        _ => false,
+    }
+}
+
 /// Whether a machine that paused so, and has this call waiting, has come to the outcome.
 fn has_come_to(
     machine: &Machine,
@@ -66,11 +78,7 @@ fn has_come_to(
         Outcome::Spends => matches!(why, Pause::Spent),
         Outcome::Traps(trap) => has_trapped(why, *trap),
         Outcome::Asks(call, arguments) => has_asked(why, *call, arguments),
-        Outcome::TellsEnd => machine.has_ended(),
-        Outcome::TellsCall(call, arguments) => {
-            !machine.has_ended() && waits_for(waits, *call, arguments)
-        }
-        Outcome::TellsNeither => !machine.has_ended() && waits.is_none(),
+        outcome => tells(machine, waits, outcome),
     }
 }
 
@@ -92,5 +100,7 @@ pub type Runs = (&'static str, &'static str, &'static str, &'static [Run]);
 
 pub fn runs_so(alloc: Global, runs: &Runs, run: &Run) -> Result<bool, Refused> {
     let bytes = with_code(alloc, runs.0, runs.1, run.1, runs.2)?;
-    Ok(comes_to(alloc, bytes.as_slice(), &run.2)?)
+    let told = comes_to(alloc, bytes.as_slice(), &run.2);
+    drop(bytes);
+    Ok(told?)
 }

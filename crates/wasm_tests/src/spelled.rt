@@ -6,7 +6,7 @@ use wasm_decode::DecodeFault;
 use wasm_validate::ValidFault;
 
 /// Why a test has nothing to compare.
-#[derive(Debug, Drop, PartialEq, Eq)]
+#[derive(Clone, Copy, Debug)]
 pub enum Refused {
     Memory,
     /// A row's text spells no bytes, or too many.
@@ -57,6 +57,19 @@ fn digit(letter: u8) -> Option<u8> {
     }
 }
 
+/// Appends the byte of a pair, if the first digit of one stands before this one. Else this one is
+/// that.
+fn append_digit(bytes: &mut Vec<u8>, high: Option<u8>, letter: u8) -> Result<Option<u8>, Refused> {
+    let Some(low) = digit(letter) else {
+        return Err(Refused::Misspelled);
+    };
+    let Some(first) = high else {
+        return Ok(Some(low));
+    };
+    bytes.push((first << 4) | low)?;
+    Ok(None)
+}
+
 /// Appends the bytes that pairs of digits spell, with spaces between some, and the letters of names
 /// in quotes.
 pub fn append(bytes: &mut Vec<u8>, text: &str) -> Result<(), Refused> {
@@ -68,30 +81,13 @@ pub fn append(bytes: &mut Vec<u8>, text: &str) -> Result<(), Refused> {
         } else if quoted {
             bytes.push(letter)?;
         } else if letter != b' ' || high.is_some() {
-            let Some(low) = digit(letter) else {
-                return Err(Refused::Misspelled);
-            };
-            match high {
-                None => high = Some(low),
-                Some(first) => {
-                    bytes.push((first << 4) | low)?;
-                    high = None;
-                }
-            }
+            high = append_digit(bytes, high, letter)?;
         }
     }
     if quoted || high.is_some() {
         return Err(Refused::Misspelled);
     }
     Ok(())
-}
-
-/// The bytes that two texts spell together.
-pub fn spell(alloc: Global, first: &str, second: &str) -> Result<Vec<u8>, Refused> {
-    let mut bytes = Vec::new(alloc);
-    append(&mut bytes, first)?;
-    append(&mut bytes, second)?;
-    Ok(bytes)
 }
 
 fn append_each(bytes: &mut Vec<u8>, texts: &[&str]) -> Result<(), Refused> {
@@ -108,30 +104,47 @@ pub fn spell_each(alloc: Global, texts: &[&str]) -> Result<Vec<u8>, Refused> {
     Ok(bytes)
 }
 
-/// Appends a code section of these bytes, the number of entries and some of them, and a last entry.
-fn append_code(bytes: &mut Vec<u8>, others: &[u8], last: &[u8]) -> Result<(), Refused> {
-    if others.len() > 62 || last.len() > 64 {
-        return Err(Refused::Misspelled);
+/// The bytes that two texts spell together.
+pub fn spell(alloc: Global, first: &str, second: &str) -> Result<Vec<u8>, Refused> {
+    spell_each(alloc, &[first, second])
+}
+
+/// Puts the number of bytes behind a place there.
+fn put_size(bytes: &mut Vec<u8>, at: usize) -> Result<(), Refused> {
+    let size = bytes.len().saturating_sub(at).saturating_sub(1);
+    match bytes.get_mut(at) {
+        Some(byte) if size < 128 => {
+            *byte = size as u8;
+            Ok(())
+        }
+        _ => Err(Refused::Misspelled),
     }
-    bytes.push(10)?;
-    bytes.push((others.len() + 1 + last.len()) as u8)?;
-    bytes.extend_from_slice(others)?;
-    bytes.push(last.len() as u8)?;
-    bytes.extend_from_slice(last)?;
-    Ok(())
 }
 
 /// Appends a code section whose entries two texts spell: their number and some of them, and a last
 /// one.
-fn append_spelled_code(
-    alloc: Global,
+fn append_code(bytes: &mut Vec<u8>, others: &str, last: &str) -> Result<(), Refused> {
+    bytes.push(10)?;
+    let section = bytes.len();
+    bytes.push(0)?;
+    append(bytes, others)?;
+    let entry = bytes.len();
+    bytes.push(0)?;
+    append(bytes, last)?;
+    put_size(bytes, entry)?;
+    put_size(bytes, section)
+}
+
+fn append_with_code(
     bytes: &mut Vec<u8>,
+    front: &str,
     others: &str,
     last: &str,
+    rest: &str,
 ) -> Result<(), Refused> {
-    let others = spell(alloc, others, "")?;
-    let last = spell(alloc, last, "")?;
-    append_code(bytes, others.as_slice(), last.as_slice())
+    append(bytes, front)?;
+    append_code(bytes, others, last)?;
+    append(bytes, rest)
 }
 
 /// What is before a module's code section, that section without sizes, as its number of entries
@@ -143,8 +156,7 @@ pub fn with_code(
     last: &str,
     rest: &str,
 ) -> Result<Vec<u8>, Refused> {
-    let mut bytes = spell(alloc, front, "")?;
-    append_spelled_code(alloc, &mut bytes, others, last)?;
-    append(&mut bytes, rest)?;
+    let mut bytes = Vec::new(alloc);
+    append_with_code(&mut bytes, front, others, last, rest)?;
     Ok(bytes)
 }

@@ -6,6 +6,7 @@
 //! own. The last register instruction of a body leaves it at its end.
 
 use crate::branches::{context_of, first_table};
+use crate::rows::assert_row;
 use crate::spelled::{Refused, with_code};
 use machine_frame::{RegisterCode, translate};
 use machine_loader::read;
@@ -20,8 +21,6 @@ const FEW: usize = 100;
 
 /// The code of the first function, which has no parameters, if it is translated.
 fn first_code(alloc: Global, valid: &ValidModule) -> Result<Option<RegisterCode>, Refused> {
-    let table = first_table(alloc, valid)?;
-    let context = context_of(alloc, valid)?;
     let Some(function) = valid.module().functions.get(0) else {
         return Err(Refused::Misspelled);
     };
@@ -30,7 +29,12 @@ fn first_code(alloc: Global, valid: &ValidModule) -> Result<Option<RegisterCode>
     if body.len() > FEW || locals > FEW {
         return Err(Refused::Misspelled);
     }
-    Ok(translate(alloc, &context, body, &table, locals as u16)?)
+    let table = first_table(alloc, valid)?;
+    let context = context_of(alloc, valid)?;
+    let code = translate(alloc, &context, body, &table, locals as u16);
+    drop(context);
+    drop(table);
+    Ok(code?)
 }
 
 fn code_of(alloc: Global, bytes: &[u8]) -> Result<Option<RegisterCode>, Refused> {
@@ -55,7 +59,9 @@ type Row = (&'static str, Option<usize>);
 
 fn is_translated_so(alloc: Global, row: &Row) -> Result<bool, Refused> {
     let bytes = with_code(alloc, FRONT, "01", row.0, "")?;
-    let code = code_of(alloc, bytes.as_slice())?;
+    let code = code_of(alloc, bytes.as_slice());
+    drop(bytes);
+    let code = code?;
     let is_so = match &code {
         Some(code) => has_register_code(code, row.1),
         None => row.1.is_none(),
@@ -107,7 +113,6 @@ static BODIES: [Row; 14] = [
 #[test]
 fn small_bodies_are_translated(rt: HostRuntime) {
     for row in &BODIES {
-        let translated = is_translated_so(rt.alloc(), row);
-        assert!(rt; translated == Ok(true), "{row:?} {translated:?}");
+        assert_row(&rt, is_translated_so(rt.alloc(), row), row.0);
     }
 }

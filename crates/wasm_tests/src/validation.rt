@@ -1,5 +1,6 @@
 //! The kind of a module's first fault, part by part and in the bodies of its functions.
 
+use crate::rows::{assert_number, assert_row};
 use crate::spelled::{Refused, spell, with_code};
 use machine_loader::{ModuleFault, read};
 use std::alloc::Global;
@@ -228,8 +229,7 @@ static PARTS: [(&str, &[Row]); 9] = [
 fn the_first_part_at_fault_is_told(rt: HostRuntime) {
     for (front, rows) in &PARTS {
         for row in *rows {
-            let told = is_told_so(rt.alloc(), front, row);
-            assert!(rt; told == Ok(true), "{row:?} {told:?}");
+            assert_row(&rt, is_told_so(rt.alloc(), front, row), row.0);
         }
     }
 }
@@ -356,8 +356,7 @@ static BODIES: [(&str, &str, &[Row]); 7] = [
 fn the_first_body_at_fault_is_told(rt: HostRuntime) {
     for (front, rest, rows) in &BODIES {
         for row in *rows {
-            let told = is_body_told_so(rt.alloc(), front, rest, row);
-            assert!(rt; told == Ok(true), "{row:?} {told:?}");
+            assert_row(&rt, is_body_told_so(rt.alloc(), front, rest, row), row.0);
         }
     }
 }
@@ -481,9 +480,9 @@ fn functions_read(alloc: Global, bytes: &[u8]) -> Result<usize, ModuleFault> {
 /// memory.
 #[test]
 fn modules_are_valid_or_not(rt: HostRuntime) -> Result<(), Refused> {
-    assert!(rt; functions_read(rt.alloc(), &WHOLE)? == 2);
+    assert_row(&rt, Ok(functions_read(rt.alloc(), &WHOLE)? == 2), "WHOLE");
     for (place, (part, fault)) in UNSPELLED.iter().enumerate() {
-        assert!(rt; fault_with(rt.alloc(), part)? == *fault, "{place}");
+        assert_number(&rt, fault_with(rt.alloc(), part)? == *fault, place);
     }
     Ok(())
 }

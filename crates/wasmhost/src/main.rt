@@ -1,13 +1,13 @@
-//! The program `wasmhost`: its words, files and streams around the commands of `wasmhost_commands`
-//! (this project's own).
+//! The program `wasmhost`: its words, files and streams around the commands of `command_words`,
+//! `disk_commands` and `story_commands` (this project's own).
 //!
 //! # Promises
 //!
 //! - Each function that answers an exit status answers 7 at most. No clause says more of the
 //!   program.
 //!
-//! What the commands promise of bytes, disks, readers and writers is said in `wasmhost_commands`.
-//! This crate brings these to them:
+//! What the commands promise of bytes, disks, readers and writers is said in these crates. This one
+//! brings these to them:
 //!
 //! - It reads the command line, and opens the modules and scripts that it names. What the words say
 //!   of a creation, a run or an upgrade it hands on whole.
@@ -20,7 +20,8 @@
 //! - Before all that it takes the numbers of standard streams that are closed (`StreamNumbers`), so
 //!   that no file that it opens gets one. No clause says so: `scripts/runs/closed-streams` does.
 //! - A file that can't be read is told by `report_unread`, want of memory by `report`, and a fault
-//!   of the words by `report_words`.
+//!   of the words by `report_words`. An output that can't be written is told by `report_output`,
+//!   but for `create`, `run` and `upgrade`, which tell it themselves.
 //! - Each command is handed fresh printers, of which no write has failed. That of the error output
 //!   is told whether it is a terminal.
 //!
@@ -31,13 +32,21 @@
 //! # Who may touch what
 //!
 //! Of the crates here only this one has the runtime's handle: the words of the command line,
-//! files, standard streams, the clock and the allocator. All else is lent to `wasmhost_commands`. A
-//! disk in a file is `sector_disk`'s. It takes memory for the words, the file, the reader's buffer
-//! and a line.
+//! files, standard streams, the clock and the allocator. All else is lent to the commands. A disk in
+//! a file is `sector_disk`'s. It takes memory for the words, the file, the reader's buffer and a
+//! line.
 #![tactic(auto)]
 
 ghost use Rattle.std.specs.Prelude.{◌≤◌};
 
+use command_words::{
+    BufferedLines, CreateOrder, LineOutlet, Obstacle, Order, Printer, RunOrder, Sizes, StoryOrder,
+    SweepOrder, WordsFault, check_module, read_module, read_words, report, report_output,
+    report_words,
+};
+use disk_commands::{
+    System, create_disk, files_file, inspect_file, report_unread, run_file, show_file, upgrade_file,
+};
 use std::alloc::Global;
 use std::env;
 use std::fs::File;
@@ -45,11 +54,9 @@ use std::io::{self, BufReader, ErrorKind, Input, IsTerminal, Read, Write};
 use std::process::ExitCode;
 use std::rt::{Env, Files};
 use std::time::Clock;
-use wasmhost_commands::{
-    BufferedLines, CreateOrder, LineOutlet, Obstacle, Order, Printer, RunOrder, Sizes, StoryOrder,
-    SweepChoice, SweepOrder, System, check_bytes, create_disk, files_file, fronts_of, inspect_file,
-    read_module, read_script, read_sweep, read_words, report, report_script, report_sweep_script,
-    report_unread, report_words, run_file, show_file, tell, tell_sweep, upgrade_file,
+use story_commands::{
+    SweepChoice, fronts_of, read_script, read_sweep, report_script, report_sweep_script, tell,
+    tell_sweep,
 };
 
 /// It is read to keep a number from other files. It has no bytes, and takes none from a reader.
@@ -91,13 +98,18 @@ fn check<R: Files, W: Write + Drop, E: Write + Drop>(
     rt: &R,
     alloc: Global,
     path: &str,
+    pages: u64,
     out: &mut W,
     err: &mut Printer<E>,
 ) -> u8
     ensures { result ≤ 7 }
 {
     match read_file(rt, alloc, path) {
-        Ok(wasm) => check_bytes(alloc, wasm.as_slice(), &mut Printer::new(out, false)),
+        Ok(wasm) => {
+            let out = &mut Printer::new(out, false);
+            let status = check_module(alloc, wasm.as_slice(), pages, out, err);
+            report_output(out, status, err)
+        }
         Err(error) => report_unread(err, path, error),
     }
 }
@@ -119,6 +131,53 @@ fn create<R: Files<File = File>, W: Write + Drop, E: Write + Drop>(
         }
         Err(error) => report_unread(err, order.module, error),
     }
+}
+
+/// Says where the worker of a disk is.
+fn show<R: Files<File = File>, W: Write + Drop, E: Write + Drop>(
+    rt: &R,
+    alloc: Global,
+    path: &str,
+    out: &mut W,
+    err: &mut Printer<E>,
+) -> u8
+    ensures { result ≤ 7 }
+{
+    let out = &mut Printer::new(out, false);
+    let status = show_file(alloc, rt, path, out, err);
+    report_output(out, status, err)
+}
+
+/// Says all that is on a disk.
+fn inspect<R: Files<File = File>, W: Write + Drop, E: Write + Drop>(
+    rt: &R,
+    alloc: Global,
+    path: &str,
+    as_json: bool,
+    out: &mut W,
+    err: &mut Printer<E>,
+) -> u8
+    ensures { result ≤ 7 }
+{
+    let out = &mut Printer::new(out, false);
+    let status = inspect_file(alloc, rt, path, as_json, out, err);
+    report_output(out, status, err)
+}
+
+/// Lists the files of the worker of a disk, or writes one.
+fn files<R: Files<File = File>, W: Write + Drop, E: Write + Drop>(
+    rt: &R,
+    alloc: Global,
+    disk: &str,
+    path: Option<&str>,
+    out: &mut W,
+    err: &mut Printer<E>,
+) -> u8
+    ensures { result ≤ 7 }
+{
+    let out = &mut Printer::new(out, false);
+    let status = files_file(alloc, rt, disk, path, out, err);
+    report_output(out, status, err)
 }
 
 /// Runs the worker of a disk on the lines of the standard input and the machine's clock.
@@ -203,7 +262,8 @@ fn story<R: Files, W: Write + Drop, E: Write + Drop>(
         journal: order.journal,
     };
     let out = &mut Printer::new(out, false);
-    tell(alloc, script.as_slice(), wasm.as_slice(), sizes, out, err)
+    let status = tell(alloc, script.as_slice(), wasm.as_slice(), sizes, out, err);
+    report_output(out, status, err)
 }
 
 /// Tells that the module of a sweep can't be read, but first what is wrong with the script.
@@ -254,7 +314,22 @@ fn sweep<R: Files, W: Write + Drop, E: Write + Drop>(
         life: order.life,
     };
     let out = &mut Printer::new(out, false);
-    tell_sweep(alloc, script.as_slice(), wasm.as_slice(), choice, out, err)
+    let status = tell_sweep(alloc, script.as_slice(), wasm.as_slice(), choice, out, err);
+    report_output(out, status, err)
+}
+
+/// Prints help or the version, or what is wrong with the words.
+fn explain<W: Write + Drop, E: Write + Drop>(
+    alloc: Global,
+    fault: &WordsFault,
+    out: &mut W,
+    err: &mut Printer<E>,
+) -> u8
+    ensures { result ≤ 7 }
+{
+    let out = &mut Printer::new(out, false);
+    let status = report_words(alloc, fault, out, err);
+    report_output(out, status, err)
 }
 
 /// Runs the command line, and answers the exit status.
@@ -275,20 +350,16 @@ where
         Err(_) => return report(err, Obstacle::NoText),
     };
     match read_words(alloc, words.as_slice()) {
-        Ok(Order::Check { path }) => check(rt, alloc, path, out, err),
+        Ok(Order::Check { path, pages }) => check(rt, alloc, path, pages, out, err),
         Ok(Order::Create(order)) => create(rt, alloc, &order, out, err),
         Ok(Order::Run(order)) => run(rt, alloc, &order, out, err),
-        Ok(Order::Show { path }) => show_file(alloc, rt, path, &mut Printer::new(out, false), err),
-        Ok(Order::Inspect { path, as_json }) => {
-            inspect_file(alloc, rt, path, as_json, &mut Printer::new(out, false), err)
-        }
-        Ok(Order::Files { disk, path }) => {
-            files_file(alloc, rt, disk, path, &mut Printer::new(out, false), err)
-        }
+        Ok(Order::Show { path }) => show(rt, alloc, path, out, err),
+        Ok(Order::Inspect { path, as_json }) => inspect(rt, alloc, path, as_json, out, err),
+        Ok(Order::Files { disk, path }) => files(rt, alloc, disk, path, out, err),
         Ok(Order::Upgrade { path }) => upgrade(rt, alloc, path, out, err),
         Ok(Order::Story(order)) => story(rt, alloc, &order, out, err),
         Ok(Order::Sweep(order)) => sweep(rt, alloc, &order, out, err),
-        Err(fault) => report_words(alloc, &fault, &mut Printer::new(out, false), err),
+        Err(fault) => explain(alloc, &fault, out, err),
     }
 }
 

@@ -1,6 +1,6 @@
 -- What a recovery and a look at a disk answer, whatever is there.
 use Rattle.std.proofs.Common.{◌≡◌, inl, inr, ℕ, ◌+◌, List, refl, sym, ap, ◌∙◌, subst}
-use Rattle.std.proofs.Common.{◌*◌, ◌<◌, length, false}
+use Rattle.std.proofs.Common.{◌*◌, ◌<◌, length, false, is_some}
 use Rattle.std.specs.Prelude.{Result, Ok, Err, IfErr}
 use Rattle.wasi_abi.specs.declared.version.Version.{Version}
 use Rattle.wasi_calls_rules.specs.WasiStates.{WasiState}
@@ -106,9 +106,9 @@ module _ (sectors : ℕ) (disk : DiskImage) (found : Found) (at : IsFoundIn sect
     pub revives_held : (w : DurableValue) (mid new : Medium)
         → IsReplayed takes found w.process w.replayed outlet outlet'
         → OpensStore found.geometry found.generation w.process w.store mid new
-        → w.has_failed ≡ false → w.is_abreast ≡ false
+        → w.has_failed ≡ false → w.is_abreast ≡ is_some w.process.ended
         → RevivesHeld takes held_in w outlet outlet'
-    revives_held w mid new replayed opens works behind =
+    revives_held w mid new replayed opens works abreast =
         let ends = ends_held w.process w.replayed replayed in
         let restored = at.process.restored in
         record {
@@ -119,7 +119,7 @@ module _ (sectors : ℕ) (disk : DiskImage) (found : Found) (at : IsFoundIn sect
           generation = opens.numbered;
           counted = replayed.counted;
           unfailed = works;
-          behind = behind;
+          abreast = (let shows = ends.shows in abreast ∙ ap is_some shows.ended);
           told = ends.told;
         }
 

@@ -32,8 +32,8 @@ use Rattle.disk_layout.specs.rules.Places.{geometry_of, total_sectors}
 use Rattle.disk_layout.specs.rules.Sectors.{HasWorker}
 use Rattle.restart_theorem.specs.Stands.{IsBlank}
 use Rattle.restart_theorem.specs.Between.{FindsNoWorker}
-use Rattle.restart_theorem.specs.Lives.{Inputs, Opened}
-use Rattle.restart_theorem.specs.Courses.{at_first}
+use Rattle.restart_theorem.specs.Lives.{Inputs, Opened, Creates}
+use Rattle.restart_theorem.specs.Courses.{at_beginning}
 use Rattle.restart_theorem.specs.Promises.{Promise, after}
 use Rattle.restart_theorem.specs.Holds.{IsNothingYet, DiskImageHolds, IsBounded, StaysWithin}
 use Rattle.restart_theorem.proofs.Disks.{blank_is_within, stands_within}
@@ -367,10 +367,11 @@ module _ {D : Type 0} (medium : D → Medium) (bytes : List ℕ) (config : Setti
         let is_stored = stored in
         let saved : IsSavedAs begun.spelled config guest start (saved_of v) =
         shown_is_saved begun.spelled config guest v start shows begun.started.guest in
-        let life = lives_open begun.spelled config guest promise (at_first inputs) 0 start
-        (saved_of v)
+        let life = lives_open begun.spelled config guest promise (at_beginning Creates inputs) 0
+        start (saved_of v)
         (fresh_lives_begin begun.spelled config guest promise inputs start nothing begins) saved
-        created (fresh_holds_nothing begun.spelled config guest promise start nothing begins) in
+        created (fresh_holds_nothing begun.spelled config guest promise start nothing begins)
+        (inl refl) in
         let more : Promise = after promise (Opened 0 (saved_of v)) in
         let lines : length start.host.lines ≡ 0 =
         no_lines begun.spelled config guest start begins in

@@ -1,6 +1,6 @@
 -- What a search of a disk does, and what its errors say.
 use Rattle.std.proofs.Common.{ℕ, ◌+◌, ◌≤◌, arith}
-use Rattle.std.specs.Prelude.{Result, Ok, Err, IfErr}
+use Rattle.std.specs.Prelude.{Result, Ok, Err, IfOk, IfErr}
 use Rattle.process.specs.rules.Values.{IsProcess}
 use Rattle.sector_disk.specs.rules.DiskImage.{DiskImage}
 use Rattle.sector_disk.specs.rules.Medium.{Medium, CallsUpTo}
@@ -19,6 +19,7 @@ use Rattle.worker.specs.declared.fault.WorkFault.TheVariants as work
 use Rattle.worker.specs.declared.recover_fault.RecoverFault.TheVariants as recover
 use Rattle.snapshot.specs.declared.fault.SnapshotFault.TheVariants as snapshot
 use Rattle.journal.specs.declared.fault.JournalFault.TheVariants as journal
+use Rattle.worker.specs.rules.CallCounts.{most_behind}
 use Rattle.worker.specs.rules.RecoverFaults.{fault_of_read}
 use Rattle.worker.specs.rules.Recoveries.{SaysNothing, SaysNoWorker, SaysNoWorkerOr}
 use Rattle.worker.specs.rules.Recoveries.{MarksDecide}
@@ -132,6 +133,14 @@ searches_no_more most m e cause = record {
   cause = cause;
   asks = omega arith;
 }
+
+-- Configuration and module were read before.
+pub few_on : (first : ℕ) (old mid new : Medium) (result : Result Found RecoverFault)
+    → CallsUpTo first old mid
+    → IfOk result (λ found. CallsUpTo (most_behind found.geometry) mid new)
+    → IfOk result (λ found. CallsUpTo (first + most_behind found.geometry) old new)
+few_on first old mid new (Ok found) asked few = omega (arith, asked, few)
+few_on first old mid new (Err why) asked few = tt
 
 -- ---- marks
 

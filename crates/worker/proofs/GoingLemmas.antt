@@ -1,8 +1,7 @@
 -- Lives go on, one after another.
 use Rattle.std.proofs.Common.{◌≡◌, ℕ, ◌<◌, ◌≤◌, ◌+◌, ◌++◌, List, [], ◌∷◌, length, refl, sym, ap}
 use Rattle.std.proofs.Common.{◌∙◌}
-use Rattle.std.proofs.Common.{subst, inl, arith, take, get_or, suc, ◌^◌, ◌*◌}
-use Prim.Native.Nat.{zero}
+use Rattle.std.proofs.Common.{subst, inl, arith, take, get_or, ◌^◌, ◌*◌}
 use Rattle.std.specs.Prelude.{Result, Ok, Err, Option, map, replicate, IfOk}
 use Rattle.std.proofs.lemmas.List.{length-replicate, take_all, take_more}
 use Rattle.std.proofs.Math.Nat.{le_refl}
@@ -22,7 +21,6 @@ use Rattle.sector_disk.specs.rules.Memory.{memory_medium, MemoryState}
 use Rattle.sector_disk.specs.rules.Trouble.{CallCounts, call_number}
 use Rattle.disk_layout.specs.rules.Places.{geometry_of, total_sectors}
 use Rattle.disk_layout.specs.rules.Unsynced.{most_unsynced}
-use Rattle.disk_layout.specs.rules.Sectors.{IsMarked}
 use Rattle.record_replay.specs.declared.line_list.NumberedLine.{NumberedLine}
 use Rattle.record_replay.specs.rules.Calls.{Exchange, Exchanges}
 use Rattle.restart_theorem.specs.Stands.{IsBlank}

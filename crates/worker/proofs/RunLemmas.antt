@@ -89,6 +89,7 @@ one_life_is_run bytes config planned found next report first last heard heard'
       begun = begun;
       last = last;
       counted = ends.calls;
+      torn_front = ends.torn_front;
       begins = once.begins;
       worker = once.worker;
       ended = lived.ended;

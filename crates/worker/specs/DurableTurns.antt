@@ -25,9 +25,9 @@ use Rattle.state_image.specs.rules.Saving.{saved_of}
 use Rattle.journal.specs.rules.State.{room_of}
 use Rattle.record_replay.specs.rules.Calls.{Giving, Taking, Begun, Exchange, Asks, Tells}
 use Rattle.record_replay.specs.rules.Calls.{Releases, Exchanges}
-use Rattle.restart_theorem.specs.Lives.{Slice, Reply, Fails, Waits, Cause, SourceSaid, Ended}
+use Rattle.restart_theorem.specs.Lives.{Act, Slice, Reply, Fails, Waits, Cause, SourceSaid, Ended}
 use Rattle.restart_theorem.specs.Courses.{Stage, Open, phase_ended, next_stage}
-use Rattle.restart_theorem.specs.Promises.{Promise, after, IsEnding}
+use Rattle.restart_theorem.specs.Promises.{Promise, after, fuel_of, IsEnding}
 use Rattle.restart_theorem.specs.Holds.{KeepsPromise, StaysWithin}
 use Rattle.worker_store.specs.laws.Underway.{IsUnderWay}
 use Rattle.worker_store.specs.rules.BetweenCalls.{IsForetold}
@@ -47,12 +47,12 @@ use Rattle.worker.specs.rules.DurableCalls.{ComesOf, HasCauseOf, HasCauseAt, IsR
 
 -- ---- within a slice
 
--- what a slice is of, how much fuel it has, and at which step it began
+-- what a slice is of, by which act of a life, and at which step it began
 pub record Course : Type 0 where
   pub code : Module
   pub config : Settings
   pub guest : Guest
-  pub fuel : ℕ
+  pub act : Act
   pub first : ℕ
 
 -- A worker within a slice, which has come to p. The disk holds what is promised, the guest's syncs
@@ -63,7 +63,7 @@ pub record IsRunningOn (c : Course) (promise : Promise) (stage : Stage) (p : Pro
   pub texts : IsOfBytes (host_of c.config)
   pub shows : ShowsProcess w.process c.guest p
   pub module_is : w.process.machine.guest ≡ c.code
-  pub way : IsUnderWay c.code c.config c.guest promise stage c.fuel w.process.host.released p
+  pub way : IsUnderWay c.code c.config c.guest promise stage c.act w.process.host.released p
   pub began : stage.step ≡ c.first
   pub on_disk : IsOnDisk c.code c.config c.guest promise p step latest w.store disk
   pub synced : promise.synced ≤ p.steps
@@ -87,7 +87,7 @@ pub record IsAskingOn (c : Course) (promise : Promise) (stage : Stage) (p : Proc
   pub none_waits : waiting_in w.process ≡ []
   pub unended : p.ended ≡ None
   pub wants : next_of c.guest p None ≡ Wants question
-  pub room : p.steps < stage.step + c.fuel
+  pub room : p.steps < stage.step + fuel_of c.act
 
 -- ---- what a turn does
 
@@ -102,10 +102,9 @@ pub record TurnGoes (c : Course) (promise : Promise) (stage : Stage) (exchanges 
   pub bounded : StaysWithin promise'.events disk disk'
   pub running : IsBetweenTurns c promise' stage' process w disk'
 
--- the end of a slice
-abbrev pub slice_end : Promise → ℕ → Reply → ℕ → RunningWorker → Promise
-slice_end promise fuel reply held w =
-    after promise (Ended (Slice fuel) reply held (saved_of w.process))
+-- what is promised at its end, by whichever act that takes steps
+abbrev pub slice_end : Promise → Reply → ℕ → RunningWorker → Promise
+slice_end promise reply held w = after promise (Ended (Slice 0) reply held (saved_of w.process))
 
 -- it ends the slice, by these exchanges
 pub record TurnEnds (c : Course) (promise : Promise) (stage : Stage) (reply : Reply)
@@ -115,18 +114,18 @@ pub record TurnEnds (c : Course) (promise : Promise) (stage : Stage) (reply : Re
   pub held : ℕ
   pub done : AreDone c.code c.config promise stage exchanges between inside
   pub ending : IsEnding c.code c.config between inside (record {
-    act = Slice c.fuel;
+    act = c.act;
     reply = reply;
     held = held;
     shown = saved_of w.process;
   })
-  pub onward : GoesOnFrom c.code c.config promise (slice_end between c.fuel reply held w) disk
+  pub onward : GoesOnFrom c.code c.config promise (slice_end between reply held w) disk
       disk'
-  pub bounded : StaysWithin (slice_end between c.fuel reply held w).events disk disk'
-  pub keeps : KeepsPromise c.code c.config (slice_end between c.fuel reply held w) disk'
+  pub bounded : StaysWithin (slice_end between reply held w).events disk disk'
+  pub keeps : KeepsPromise c.code c.config (slice_end between reply held w) disk'
   pub goes_on : phase_ended reply ≡ Open → (replayed : ℕ) → (q : ProcessState)
-      × IsOpenOn c.code c.config c.guest (slice_end between c.fuel reply held w)
-      (next_stage inside (Ended (Slice c.fuel) reply held (saved_of w.process))) q
+      × IsOpenOn c.code c.config c.guest (slice_end between reply held w)
+      (next_stage inside (Ended c.act reply held (saved_of w.process))) q
       (durable_of w replayed) disk'
 
 -- an error ends it
@@ -308,7 +307,7 @@ abbrev pub WorksOn : {S O : Type 0} → Giving S → Taking O → RunningWorker 
     → RunningWorker → Medium → Medium → S → S → O → O → Type 0
 WorksOn gives takes old fuel result new disk disk' source source' outlet outlet' =
     (exchanges : List Exchange) × Exchanges gives takes source outlet exchanges source' outlet'
-    × ((c : Course) (promise : Promise) (stage : Stage) (p : ProcessState) → c.fuel ≡ fuel
+    × ((c : Course) (promise : Promise) (stage : Stage) (p : ProcessState) → fuel_of c.act ≡ fuel
     → c.first ≡ old.process.steps → IsBetweenTurns c promise stage p old disk
     → IsForetold stage exchanges → (reply : Reply) × IsReplyOf result reply
     × HasCauseOf result c.guest c.config new.process disk disk'

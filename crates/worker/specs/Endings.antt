@@ -2,7 +2,7 @@
 use Rattle.std.specs.Prelude.{◌≡◌, Bool, false}
 use Rattle.sector_disk.specs.declared.fault_disk.FaultDisk.{FaultDisk}
 use Rattle.sector_disk.specs.declared.memory.MemDisk.{MemDisk}
-use Rattle.sector_disk.specs.rules.FaultDisk.{call_counts_of, disk_below}
+use Rattle.sector_disk.specs.rules.FaultDisk.{call_counts_of, disk_below, torn_front_of}
 use Rattle.sector_disk.specs.rules.Memory.{memory_medium}
 use Rattle.sector_disk.specs.rules.Trouble.{call_number}
 use Rattle.restart_theorem.specs.Between.{IsFoundAfterCut}
@@ -30,6 +30,7 @@ pub record EndsLife (lived : LivedOnce) (disk : FaultDisk MemDisk) (heard : Hear
   pub opened : report.opened ≡ lived.opened
   pub releases : report.releases ≡ heard.lines
   pub calls : report.calls ≡ call_number (call_counts_of disk)
+  pub torn_front : report.has_torn_front ≡ torn_front_of disk
   pub stopped : Bool
   pub stops : StopSays stopped (call_at life.stop) (call_number (call_counts_of disk))
   pub ended : report.ended ≡ reported_end stopped lived.ended

@@ -1,5 +1,5 @@
 -- What the parts of a recovery do after the reads: a replay, and the next generation.
-use Rattle.std.specs.Prelude.{◌≡◌, ◌⊎◌, ℕ, ◌+◌, false, Result, Ok, Err}
+use Rattle.std.specs.Prelude.{◌≡◌, ◌⊎◌, ℕ, ◌+◌, false, is_some, Result, Ok, Err}
 use Rattle.process.specs.rules.Values.{ProcessValue, IsProcess}
 use Rattle.sector_disk.specs.rules.DiskImage.{DiskImage}
 use Rattle.sector_disk.specs.rules.Medium.{Medium, CallsUpTo, Passes, CountsUpTo}
@@ -16,6 +16,7 @@ use Rattle.worker_store.specs.rules.Stores.{begun_store}
 use Rattle.worker.specs.declared.found.Found.{Found}
 use Rattle.worker.specs.declared.recover_fault.RecoverFault.{RecoverFault}
 use Rattle.worker.specs.declared.recover_fault.RecoverFault.TheVariants.{Worker, Replay}
+use Rattle.worker.specs.rules.CallCounts.{most_committing}
 use Rattle.worker.specs.rules.WorkFaults.{fault_of_store}
 use Rattle.worker.specs.rules.DurableValues.{DurableValue}
 
@@ -31,6 +32,7 @@ pub record WritesNext (geometry : Geometry) (generation : ℕ) (v : ProcessValue
   pub some : (image : DiskImage) → new.crash_images image → (before : DiskImage)
       × mid.crash_images before
   pub counted : CallsUpTo (mid.sectors + 2) mid new
+  pub few : CallsUpTo (most_committing geometry) mid new
 
 -- it is there, and this is its store
 pub record OpensStore (geometry : Geometry) (generation : ℕ) (v : ProcessValue)
@@ -62,7 +64,7 @@ pub record IsOpenedAs (v : ProcessValue) (count : ℕ) (w : DurableValue) : Type
   pub process : w.process ≡ v
   pub replayed : w.replayed ≡ count
   pub unfailed : w.has_failed ≡ false
-  pub behind : w.is_abreast ≡ false
+  pub abreast : w.is_abreast ≡ is_some v.ended
 
 abbrev pub OpensAgain : Geometry → ℕ → ProcessValue → ℕ → Result DurableValue RecoverFault
     → Medium → Medium → Type 0
@@ -103,7 +105,7 @@ abbrev pub RevivesFound : {D O : Type 0} → (D → Medium) → Taking O → Fou
 RevivesFound medium takes found (Ok w) mid new outlet outlet' =
     IsReplayed takes found w.process w.replayed outlet outlet'
     × OpensStore found.geometry found.generation w.process w.store (medium mid) (medium new)
-    × (w.has_failed ≡ false) × (w.is_abreast ≡ false)
+    × (w.has_failed ≡ false) × (w.is_abreast ≡ is_some w.process.ended)
 RevivesFound medium takes found (Err why) mid new outlet outlet' =
     StopsInVain takes found why mid new outlet outlet'
     ⊎ ReplaysForNothing takes found why (medium mid) (medium new) outlet outlet'

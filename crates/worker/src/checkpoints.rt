@@ -1,4 +1,7 @@
 //! A worker's process, saved at its own wish.
+//!
+//! A checkpoint and an upgrade are handed the outlet, as a slice is. No line waits between two
+//! calls, so they release none.
 
 use crate::durable::Worker;
 use crate::fault::WorkFault;

@@ -1,8 +1,10 @@
 //! What is on a worker's disk, read before anything is told or written.
 
-ghost use Rattle.std.specs.Prelude.{◌*◌, ◌≤◌};
+ghost use Rattle.std.specs.Prelude.{◌+◌, ◌*◌, ◌≤◌, IfOk};
 ghost use Rattle.sector_disk.specs.rules.DiskImage.{DiskImage};
+ghost use Rattle.sector_disk.specs.rules.Medium.{CallsUpTo};
 ghost use Rattle.disk_layout.specs.rules.Places.{total_sectors};
+ghost use Rattle.worker.specs.rules.CallCounts.{most_behind};
 ghost use Rattle.worker.specs.rules.Recoveries.{MarksDecide, SaysNoWorker};
 ghost use Rattle.worker.specs.Findings.{FindsOne, FindsBehind, Searches};
 ghost use Rattle.worker.specs.FoundDisks.{FindsIn, FindsBehindIn};
@@ -26,6 +28,9 @@ use worker_store::{read_newest, read_records, read_worker};
 pub(crate) fn find<D: Disk>(alloc: Global, disk: &mut D) -> Result<Found, RecoverFault>
     ensures searches { Searches (2 * (D.medium disk.old).sectors) result (D.medium disk.old)
         (D.medium disk.new) }
+    ensures few { IfOk result (λ found.
+        CallsUpTo ((D.medium disk.old).sectors + most_behind found.geometry) (D.medium disk.old)
+        (D.medium disk.new)) }
     ensures finds { FindsOne (D.medium disk.old).sectors (D.medium disk.new) result }
     ensures shows { (image : DiskImage) → (D.medium disk.new).shows image
         → FindsIn (D.medium disk.old).sectors image result }
@@ -45,6 +50,8 @@ pub(crate) fn find_linked<D: Disk>(
     requires { total_sectors contents.geometry ≤ (D.medium disk.old).sectors }
     ensures searches { Searches (D.medium disk.old).sectors result (D.medium disk.old)
         (D.medium disk.new) }
+    ensures few { IfOk result (λ found. CallsUpTo (most_behind found.geometry)
+        (D.medium disk.old) (D.medium disk.new)) }
     ensures finds { (image : DiskImage) → (D.medium disk.new).shows image
         → FindsBehind contents image result }
     ensures shows { (image : DiskImage) → (D.medium disk.new).shows image

@@ -1,6 +1,13 @@
 //! A worker that is recovered from its disk.
+//!
+//! # Choices
+//!
+//! - **The promise of a recovery is of a disk that obeys the model.** Of one whose answers fit no
+//!   image nothing can be known. So the clause asks for one image that a cut may leave in the end.
+//! - **Until a life has opened, a cut may leave any of the answers kept so far.** The opening then
+//!   keeps those of the prefix on which it opens, and no others.
 
-ghost use Rattle.std.specs.Prelude.{◌≡◌, ◌≤◌, []};
+ghost use Rattle.std.specs.Prelude.{◌≡◌, ◌≤◌, [], is_some};
 ghost use Rattle.process.specs.rules.Values.{IsProcess, waiting_in};
 ghost use Rattle.disk_layout.specs.rules.Places.{total_sectors};
 ghost use Rattle.worker.specs.Revivals.{OpensNext, OpensAgain, RevivesFound};
@@ -96,17 +103,27 @@ fn open_again<D: Disk>(
         (D.medium disk.old) (D.medium disk.new) }
 {
     match open_next(alloc, disk, last, &process) {
-        Ok(store) => Ok(Worker {
-            running: RunningWorker {
-                alloc,
-                process,
-                store,
-                is_abreast: false,
-            },
-            replayed,
-        }),
+        Ok(store) => {
+            let is_abreast = has_ended(&process);
+            Ok(Worker {
+                running: RunningWorker {
+                    alloc,
+                    process,
+                    store,
+                    is_abreast,
+                },
+                replayed,
+            })
+        }
         Err(fault) => Err(fault),
     }
+}
+
+/// Whether a process has ended. If it has, no line is beyond it.
+fn has_ended(process: &Process) -> bool
+    ensures { result ≡ is_some process.now.ended }
+{
+    process.reached_end().is_some()
 }
 
 /// Saves a process as the next generation. Where the process is still the one of the last snapshot,

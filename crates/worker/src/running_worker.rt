@@ -11,7 +11,7 @@ pub struct RunningWorker {
     pub(crate) alloc: Global,
     pub(crate) process: Process,
     pub(crate) store: WorkerStore,
-    /// True from a creation, a question or an end on: no line beyond those of the process was told,
-    /// in this life or in an earlier one.
+    /// True from a creation, a question or an end on, also where a recovery finds the end: no line
+    /// beyond those of the process was told, in this life or in an earlier one.
     pub(crate) is_abreast: bool,
 }

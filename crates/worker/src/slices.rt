@@ -1,4 +1,7 @@
 //! Slices of a worker on its disk.
+//!
+//! **What a call exchanged with source and outlet doesn't hang on what was promised.** So any
+//! source and any outlet may be in the theorem, which is told what they did afterwards.
 
 ghost use Rattle.std.specs.Prelude.{◌≡◌, ◌≢◌, ◌≤◌, [], true, IfErr, IfOk, OnOk};
 ghost use Rattle.process.specs.rules.Values.{IsProcess, waiting_in};

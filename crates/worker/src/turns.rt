@@ -1,5 +1,8 @@
 //! The turns of a slice of a worker on its disk. Each takes steps up to where something is owed or
 //! asked, and does what that wants of the disk and of the outside.
+//!
+//! **An answer is tested before it is kept.** One that doesn't fit is never a record, not even in
+//! memory. No record has to be taken back, and none is too long for the journal.
 
 ghost use Rattle.std.specs.Prelude.{◌≡◌, ◌≤◌, IfErr, IfOk, OnErr, OnOk, Ok, true};
 ghost use Rattle.process.specs.rules.Values.{IsProcess};

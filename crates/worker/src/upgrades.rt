@@ -46,8 +46,8 @@ impl Worker {
     /// calls, so none is released.
     ///
     /// A journal of fewer than 133 sectors is too small for it. A worker of version 1 that was
-    /// recovered has to have asked since, or to have ended: else lines that an earlier life told
-    /// may be told again, with another text.
+    /// recovered has to have asked since, or to have ended, in this life or before: else lines that
+    /// an earlier life told may be told again, with another text.
     pub fn upgrade<D: Disk, O: Outlet>(
         &mut self,
         disk: &mut D,

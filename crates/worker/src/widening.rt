@@ -1,4 +1,7 @@
 //! A barrier, and then a commit in version 2.
+//!
+//! The process is widened after the barrier and before the commit, once the next generation is
+//! known to have a number. What it then shows is what its disk may hold.
 
 ghost use Rattle.std.specs.Prelude.{◌≡◌, ◌+◌, ◌<◌, ◌≤◌, IfErr, OnErr, OnOk};
 ghost use Rattle.process.specs.rules.Values.{IsProcess};

@@ -12,6 +12,7 @@ pub mod Acts
 pub mod CallEnds
 pub mod Pieces
 pub mod Telling
+pub mod LastTaken
 pub mod Reopening
 pub mod Carrying
 pub mod Raising

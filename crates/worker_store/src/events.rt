@@ -7,9 +7,12 @@ ghost use Rattle.process_rules.specs.Processes.{Guest};
 ghost use Rattle.worker_store.specs.laws.Underway.{StepsGoOn, LinesAreTold, TakenLinesGoOn};
 ghost use Rattle.worker_store.specs.laws.Underway.{RefusedLinesBreak, QuestionsAreAsked};
 ghost use Rattle.worker_store.specs.laws.Underway.{AnswersGoOn, AnswersAreKept, OtherAnswersBreak};
+ghost use Rattle.worker_store.specs.laws.Underway.{LinesAreLeft, LeftIsBroken};
 ghost use Rattle.worker_store.specs.laws.Telling.{AllLinesAreTold, LinesAreToldInVain};
+ghost use Rattle.worker_store.specs.laws.Telling.{LeftLinesAreTold, LeftLinesAreToldInVain};
 ghost use Rattle.worker_store.specs.laws.CallEnds.{SpentSlicesEnd, EndedSlicesEnd};
 ghost use Rattle.worker_store.specs.laws.CallEnds.{WaitingSlicesEnd, FailedSlicesEnd};
+ghost use Rattle.worker_store.specs.laws.CallEnds.{LateFaultsEnd};
 ghost use Rattle.worker_store.specs.laws.CallEnds.{DoneSavesEnd, FailedSavesEnd};
 ghost use Rattle.worker_store.specs.laws.CallEnds.{SlicesBegin, CallsLeaveBetween};
 ghost use Rattle.worker_store.specs.laws.Pieces.{PartsJoin, PartsAreForetold, EndsJoin};
@@ -29,6 +32,20 @@ pub fn slices_tell_lines()
         → AllLinesAreTold m config guest }
     ensures in_vain { (m : Module) (config : Settings) (guest : Guest)
         → LinesAreToldInVain m config guest }
+{}
+
+/// Lines that wait in a batch are told also behind its last question.
+pub fn batches_tell_lines()
+    ensures left { (m : Module) (config : Settings) (guest : Guest)
+        → LinesAreLeft m config guest }
+    ensures broken { (m : Module) (config : Settings) (guest : Guest)
+        → LeftIsBroken m config guest }
+    ensures told { (m : Module) (config : Settings) (guest : Guest)
+        → LeftLinesAreTold m config guest }
+    ensures in_vain { (m : Module) (config : Settings) (guest : Guest)
+        → LeftLinesAreToldInVain m config guest }
+    ensures fails { (m : Module) (config : Settings) (guest : Guest)
+        → LateFaultsEnd m config guest }
 {}
 
 /// Each question keeps what was promised. An answer that fits is kept, whether the process takes it

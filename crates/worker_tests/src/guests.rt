@@ -143,13 +143,9 @@ pub(crate) const RANDOM: &[u8] = &[
 /// many.
 pub(crate) const SECTORS: u64 = 4_676;
 
-/// So many pages of memory, room for files of one, 64 sectors of records, and the name of a worker.
-pub(crate) fn config_of(alloc: Global, pages: u64) -> Result<Config, Halt> {
-    config_with(alloc, pages, 64)
-}
-
-/// The same with so many sectors of records.
-pub(crate) fn config_with(alloc: Global, pages: u64, journal: u64) -> Result<Config, Halt> {
+/// So many pages of memory, room for files of one, so many sectors of records, and the name of a
+/// worker.
+pub(crate) fn config_of(alloc: Global, pages: u64, journal: u64) -> Result<Config, Halt> {
     let mut arguments = ItemList::new(alloc);
     arguments.push(ItemList::from_vec(Vec::from_slice(alloc, b"worker")?))?;
     Ok(Config::new(pages, 1, journal, arguments, ItemList::new(alloc))?)
@@ -159,6 +155,20 @@ pub(crate) fn config_with(alloc: Global, pages: u64, journal: u64) -> Result<Con
 pub(crate) fn request(alloc: Global, text: &[u8]) -> Result<Answer, Halt> {
     let text = ItemList::from_vec(Vec::from_slice(alloc, text)?);
     Ok(Answer::Request { text })
+}
+
+fn push_requests(alloc: Global, answers: &mut Vec<Answer>, texts: &[&[u8]]) -> Result<(), Halt> {
+    for text in texts {
+        answers.push(request(alloc, *text)?)?;
+    }
+    Ok(())
+}
+
+/// The answers that are these requests.
+pub(crate) fn requests(alloc: Global, texts: &[&[u8]]) -> Result<Vec<Answer>, Halt> {
+    let mut answers = Vec::new(alloc);
+    push_requests(alloc, &mut answers, texts)?;
+    Ok(answers)
 }
 
 /// So many sectors of zeros, with room for as many writes between two syncs.

@@ -50,6 +50,12 @@ impl From<DiskFault> for Halt {
     }
 }
 
+impl From<SliceFault> for Halt {
+    fn from(fault: SliceFault) -> Halt {
+        Halt::from(WorkFault::Work(fault))
+    }
+}
+
 /// The outlet of the lives fails only when out of memory, here and in a replay.
 impl From<WorkFault> for Halt {
     fn from(fault: WorkFault) -> Halt {

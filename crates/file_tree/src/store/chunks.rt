@@ -1,5 +1,16 @@
 //! Bytes in chunks of one size. The chunks of all files are in one slab, and a file has the keys of
 //! its own.
+//!
+//! # Choices
+//!
+//! - **A file's bytes lie in chunks of 4,096 bytes**, each a vector made once at its full length.
+//!   More bytes move none of those that are there: only the list of their keys is copied when it
+//!   grows, 256 entries at most. A place is found by a division. A box of an array would be made on
+//!   the stack first, and then copied.
+//! - **All chunks of a tree are in one slab**, and a chunk that is free again is the next one that
+//!   a file gets. One invariant says that keys are there, differ and leave none over
+//!   (`KeepsFiles`). Each change of it is a change of one file's keys (`Rekeys`), from which all
+//!   other files have their chunks as before. The number of chunks is what the slab holds.
 
 ghost use Rattle.std.specs.Prelude.{◌≡◌, ◌+◌, ◌*◌, ◌-◌, ◌<◌, ◌≤◌, ◌^◌, ◌%◌, ◌++◌, ◌∷◌, [], length};
 ghost use Rattle.std.specs.Prelude.{take, drop, replicate, IfOk};

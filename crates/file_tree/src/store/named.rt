@@ -1,4 +1,7 @@
 //! Keys of nodes in the order of their directories and names.
+//!
+//! The order compares a directory's number and the name as one list, so the laws of the order of
+//! names are those of both.
 
 ghost use Rattle.std.specs.Prelude.{◌≡◌, ◌≢◌, ◌<◌, ◌≤◌, [], ◌∷◌, length, option_copied};
 ghost use Rattle.std.specs.Vec.{vec_len, vec_capacity};

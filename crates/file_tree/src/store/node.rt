@@ -1,4 +1,12 @@
 //! Nodes of a file tree.
+//!
+//! # Choices
+//!
+//! - **A node names its directory by number, never by its key in the slab.** So a number that a
+//!   descriptor holds means the same whatever is removed. No number is used again: the next one
+//!   only rises, and a dropped node's isn't given out.
+//! - **A path isn't kept.** Climbing from a node to the root finds it, and a rename changes one
+//!   node. Climbing ends, since the numbers on the way differ and lie below the next one.
 
 ghost use Rattle.std.specs.Prelude.{◌≡◌, ◌+◌, ◌≤◌, ◌++◌, [], false, length, take, drop, OnOk};
 ghost use Rattle.std.specs.Prelude.{OnErr};

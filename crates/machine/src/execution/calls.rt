@@ -1,4 +1,11 @@
 //! Frames that are entered and left.
+//!
+//! # Choices
+//!
+//! - The results of the last frame are dropped: a function that the host calls may give one, as far
+//!   as the definitions go.
+//! - Frames and words are cleared at a trap, so that a trapped machine shows what the rules leave:
+//!   the store and no thread.
 
 ghost use Rattle.std.specs.Prelude.{◌≡◌, ◌<◌, ◌≤◌, ◌+◌, ◌-◌, ◌++◌, length, replicate};
 ghost use Rattle.machine_slots.specs.declared.slots.TheConstants.{SLOTS};

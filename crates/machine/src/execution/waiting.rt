@@ -1,4 +1,8 @@
 //! The call of the host that waits for its answer.
+//!
+//! How many words a waiting call takes is read from the types. At a `call` that is the function's
+//! type. At a `call_indirect` it is the one that it names, which the called function has. An answer
+//! looks into no table, and a pause has nothing to keep.
 
 ghost use Rattle.std.specs.Prelude.{◌≡◌, ◌<◌, ◌≤◌, ◌+◌, ℕ, Some, length, slice_get};
 ghost use Rattle.wasm_syntax.specs.declared.types.FunctionType.{FunctionType as Signature};

@@ -32,6 +32,13 @@
 //!
 //! `frame::StackFrame` is plain data: a function, a position and the place of its first local.
 //! `machine` uses it, and proves its turns by these laws. The functions of `laws` are empty.
+//!
+//! # Choices
+//!
+//! - **Between a counted step and the ends after it a machine stands for an unreduced
+//!   configuration.** A walk (`Walks`) counts rules and lets the others come anywhere. From one
+//!   reduced configuration to another it is so many steps.
+//! - A return costs its step, and an end none. Both are one function of the code.
 
 mod frame;
 pub mod laws;

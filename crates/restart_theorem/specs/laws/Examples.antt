@@ -18,7 +18,8 @@ use Rattle.restart_theorem.specs.Lives.{Ended}
 use Rattle.restart_theorem.specs.Lives.{Recovers, Creates, Finished, Stopped, Failed, Life}
 use Rattle.restart_theorem.specs.Lives.{kept_after, kept_answers, told_lines}
 use Rattle.restart_theorem.specs.Courses.{Stage, Shut, Unheard, Open, NoneThere, Broken, Closed}
-use Rattle.restart_theorem.specs.Courses.{at_first, stage_after, IsToldIn, IsAskedIn, MayEnd}
+use Rattle.restart_theorem.specs.Courses.{at_first, at_beginning, stage_after, IsToldIn, IsAskedIn}
+use Rattle.restart_theorem.specs.Courses.{MayEnd}
 use Rattle.restart_theorem.specs.Promises.{Promise, nothing_yet, promised}
 
 -- ---- events
@@ -228,15 +229,20 @@ pub record CourseExamples : Type 0 where
   pub told_by_an_upgrade : IsToldIn Open (Upgrade ∷ []) 3 3 → ⊥
   pub asked_within : IsAskedIn Open (Slice 20 ∷ []) 3 22
   pub asked_without_fuel : IsAskedIn Open (Slice 20 ∷ []) 3 23 → ⊥
-  -- a life is abreast once it has asked, or ended; where it opens again it isn't
+  -- a life is abreast once it has asked, or ended
   pub abreast_at_a_question : (stage_behind
       (Opened 0 (saved_at 0 0) ∷ Asked 5 question.Request (Ok None) true ∷ [])).is_abreast ≡ true
   pub abreast_at_the_end : (stage_behind (Opened 0 (saved_at 0 0)
       ∷ Ended (Slice 20) (Over (Exited 7)) 0 (saved_at 8 1) ∷ [])).is_abreast ≡ true
   pub not_abreast_after_a_slice : (stage_behind (Opened 0 (saved_at 0 0)
       ∷ Ended (Slice 20) Spent 0 (saved_at 20 0) ∷ [])).is_abreast ≡ false
-  pub not_abreast_when_opened : (stage_behind (Opened 0 (saved_at 0 0) ∷ hello_request
-      ∷ Opened 1 (saved_at 6 0) ∷ [])).is_abreast ≡ false
+  -- where a recovery opens it isn't, but where the process has ended; a created life always is
+  pub not_abreast_when_recovered : (stage_behind (Opened 1 (saved_at 6 0) ∷ [])).is_abreast
+      ≡ false
+  pub abreast_when_recovered_at_the_end : (stage_behind
+      (Opened 0 (record (saved_at 8 1) { ended = Some (Exited 7) }) ∷ [])).is_abreast ≡ true
+  pub abreast_when_created : (stage_after (at_beginning Creates some_inputs)
+      (Opened 0 (saved_at 0 0) ∷ [])).is_abreast ≡ true
   -- how lives end, whose stop was to come at their eighth call of the disk
   pub stopped : MayEnd some_inputs 0 8 (at_first some_inputs) Stopped
   pub stopped_too_early : MayEnd some_inputs 0 7 (at_first some_inputs) Stopped → ⊥

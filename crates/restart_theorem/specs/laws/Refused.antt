@@ -1,6 +1,6 @@
 -- Workers that nobody wants: of their lives the restart theorem does not hold.
 use Rattle.std.specs.Prelude.{◌≡◌, ◌≢◌, ◌≤◌, ◌<◌, ℕ, ◌+◌, Bool, true, false, List, [], ◌∷◌}
-use Rattle.std.specs.Prelude.{length, Some, None, Ok}
+use Rattle.std.specs.Prelude.{◌++◌, length, Some, None, Ok}
 use Rattle.wasm_syntax.specs.declared.module.Module.{Module}
 use Rattle.wasm_semantics.specs.Validity.{IsValid}
 use Rattle.wasi_abi.specs.declared.answer.Question.{Question}
@@ -12,7 +12,7 @@ use Rattle.wasi_abi.specs.rules.Answers.{IsRequestText}
 use Rattle.wasi_abi.specs.rules.Configs.{Settings}
 use Rattle.wasi_calls_rules.specs.WasiStates.{Line}
 use Rattle.wasi_calls_rules.specs.declared.output_stream.OutputStream.TheVariants.{Stdout}
-use Rattle.process_rules.specs.Processes.{ProcessState}
+use Rattle.process_rules.specs.Processes.{Ending, ProcessState}
 use Rattle.process_rules.specs.Runs.{Given, version_after, Reaches}
 use Rattle.process_rules.specs.Behind.{AnswersBehindSync}
 use Rattle.state_image.specs.rules.ProcessImage.{Saved}
@@ -24,7 +24,8 @@ use Rattle.restart_theorem.specs.Lives.{Ended}
 use Rattle.restart_theorem.specs.Lives.{Beginning, Recovers, Creates, End, Stopped, Failed, Life}
 use Rattle.restart_theorem.specs.Lives.{kept_by_end}
 use Rattle.restart_theorem.specs.Courses.{Stage, Shut, Open, Closed}
-use Rattle.restart_theorem.specs.Promises.{Promise, nothing_yet, as_begun, fuel_of, IsKept, GoesOn}
+use Rattle.restart_theorem.specs.Promises.{Promise, nothing_yet, as_begun, fuel_of, IsKept}
+use Rattle.restart_theorem.specs.Promises.{IsLived, GoesOn}
 
 -- ---- words
 
@@ -221,9 +222,10 @@ pub record RefusedWorkers (m : Module) (config : Settings) : Type 0 where
       ∷ recovered_life (Opened 0 second ∷ rest) more others ∷ [])
       → (second.machine.memory ≡ first.machine.memory) × (second.files ≡ first.files)
       × (second.descriptors ≡ first.descriptors)
-  -- a question while a line waits
-  pub asks_early : (inputs : Inputs) (p : ProcessState) (steps calls : ℕ) (question : Question)
-      (said : SourceSaid) (fits : Bool) (events : List Event) (ends : End) (first : Saved)
+  -- a question of a slice while a line waits
+  pub asks_early : (inputs : Inputs) (fuel : ℕ) (acts : List Act) (p : ProcessState)
+      (steps calls : ℕ) (question : Question) (said : SourceSaid) (fits : Bool)
+      (events : List Event) (ends : End) (first : Saved) → inputs.acts ≡ Slice fuel ∷ acts
       → IsValid m → Reaches m config [] steps p → first.lines < length p.host.lines
       → GoesOn m config (inputs ∷ []) (created_life
       (Opened 0 first ∷ Asked steps question said fits ∷ events) calls ends ∷ []) → ⊥
@@ -284,6 +286,13 @@ pub record RefusedWorkers (m : Module) (config : Settings) : Type 0 where
       (ends : End) (rest : List Event)
       → GoesOn m config (inputs ∷ [])
       (created_life (Told r is_taken ∷ rest) calls ends ∷ []) → ⊥
+  -- one that runs on beyond its last answer while it recovers, and tells the line that comes there
+  pub runs_on : (i j : Inputs) (answer : Answer) (question : Question) (steps calls more : ℕ)
+      (ends others : End) (first second : Saved) (r : Release) (is_taken : Bool)
+      (rest : List Event) → IsValid m → steps + 1 < second.steps
+      → GoesOn m config (i ∷ j ∷ [])
+      (created_life (Opened 0 first ∷ Asked steps question (Ok (Some answer)) true ∷ []) calls
+      ends ∷ recovered_life (Told r is_taken ∷ Opened 1 second ∷ rest) more others ∷ []) → ⊥
 
 -- Whole lives with upgrades that nobody wants.
 pub record RefusedUpgraders (m : Module) (config : Settings) : Type 0 where
@@ -314,6 +323,22 @@ pub record RefusedUpgraders (m : Module) (config : Settings) : Type 0 where
       → GoesOn m config (inputs ∷ []) (created_life (Opened 0 first ∷ Asked steps question said fits
       ∷ Ended (Slice fuel) Waits held second ∷ Ended Upgrade (Fails OfLines) late third ∷ rest)
       calls ends ∷ []) → ⊥
+  -- one that does so in a life that began by a creation, whatever has happened in it
+  pub created_worker_is_never_upgraded : (so_far : Promise) (inputs : Inputs)
+      (before rest : List Event) (held calls : ℕ) (ends : End) (shown : Saved)
+      → IsLived m config so_far inputs (created_life
+      (before ++ Ended Upgrade (Fails OfLines) held shown ∷ rest) calls ends) → ⊥
+  -- or in one that opened with a process that has ended
+  pub ended_worker_is_never_upgraded : (so_far : Promise) (inputs : Inputs) (begins : Beginning)
+      (told before rest : List Event) (held late calls : ℕ) (ends : End) (why : Ending)
+      (first shown : Saved) → first.ended ≡ Some why
+      → IsLived m config so_far inputs (record {
+        begins = begins;
+        events = told ++ Opened held first ∷ (before
+            ++ Ended Upgrade (Fails OfLines) late shown ∷ rest);
+        calls = calls;
+        ends = ends;
+      }) → ⊥
   -- a worker that is created in version 2
   pub created_wide : (inputs : Inputs) (held calls : ℕ) (ends : End) (shown : Saved)
       (rest : List Event) → shown.version ≡ Two

@@ -18,8 +18,9 @@ use Rattle.disk_layout.specs.rules.Journal.{TakesRecords}
 use Rattle.restart_theorem.specs.Lives.{Slice, Checkpoint, Upgrade, SourceSaid, Inputs, Release}
 use Rattle.restart_theorem.specs.Lives.{Over}
 use Rattle.restart_theorem.specs.Lives.{Done}
-use Rattle.restart_theorem.specs.Lives.{Told, Asked, Opened, Ended, Finished, Stopped, Life}
-use Rattle.restart_theorem.specs.Courses.{Stage, at_first}
+use Rattle.restart_theorem.specs.Lives.{Told, Asked, Opened, Ended, Creates, Finished, Stopped}
+use Rattle.restart_theorem.specs.Lives.{Life}
+use Rattle.restart_theorem.specs.Courses.{Stage, at_beginning}
 use Rattle.restart_theorem.specs.Promises.{Promise, IsKept, AreKept, GoesOn}
 use Rattle.restart_theorem.specs.laws.Refused.{in_peace, created_life, recovered_life}
 use Rattle.restart_theorem.specs.laws.Refused.{creation_begun}
@@ -76,7 +77,7 @@ pub record HelloLives (config : Settings) : Type 0 where
       → IsKept hello config creation_begun stage (Opened 0 shown) → ⊥
   pub ends_behind_a_line_untold : (inputs : Inputs) (fuel code : ℕ) (first last : Saved)
       → last.steps ≡ 8
-      → AreKept hello config creation_begun (at_first inputs)
+      → AreKept hello config creation_begun (at_beginning Creates inputs)
       (Opened 0 first ∷ Ended (Slice fuel) (Over (Exited code)) 0 last ∷ []) → ⊥
   -- it exits with this code
   pub exits_otherwise : (so_far : Promise) (stage : Stage) (fuel code : ℕ) (last : Saved)
@@ -113,7 +114,7 @@ early_upgrade =
 abbrev pub opened_wide : Life
 opened_wide = recovered_life (Opened 1 wide_first ∷ []) 20 Finished
 
--- or when it has ended, twice, which widens it once
+-- or when it has ended, twice, which widens it once,
 abbrev pub late_upgrade : Life
 late_upgrade = created_life (Opened 0 hello_first ∷ Told hi_told true
     ∷ Ended (Slice 100) (Over (Exited 7)) 0 hello_last ∷ Ended Upgrade Done 1 wide_last
@@ -123,7 +124,20 @@ abbrev pub ended_wide : Life
 ended_wide = recovered_life (Opened 1 wide_last
     ∷ Ended (Slice 1) (Over (Exited 7)) 1 wide_last ∷ []) 20 Finished
 
--- Both go on, where the journal takes each record of version 2.
+-- or by a life that finds that it has ended, and takes no step.
+abbrev pub saved_inputs : Inputs
+saved_inputs = in_peace [] (Slice 100 ∷ Checkpoint ∷ [])
+
+abbrev pub saved_life : Life
+saved_life = created_life (Opened 0 hello_first ∷ Told hi_told true
+    ∷ Ended (Slice 100) (Over (Exited 7)) 0 hello_last
+    ∷ Ended Checkpoint Done 0 hello_last ∷ []) 40 Finished
+
+abbrev pub found_ended : Life
+found_ended = recovered_life
+    (Opened 0 hello_last ∷ Ended Upgrade Done 1 wide_last ∷ []) 30 Finished
+
+-- All go on, where the journal takes each record of version 2.
 pub record HelloUpgrades (config : Settings) : Type 0 where
   pub early : 1 ≤ config.pages → config.pages ≤ 2 ^ 16 → TakesRecords Two config.journal
       → GoesOn hello config (in_peace [] (Upgrade ∷ []) ∷ in_peace [] [] ∷ [])
@@ -132,6 +146,9 @@ pub record HelloUpgrades (config : Settings) : Type 0 where
       → GoesOn hello config
       (in_peace [] (Slice 100 ∷ Upgrade ∷ Upgrade ∷ []) ∷ in_peace [] (Slice 1 ∷ []) ∷ [])
       (late_upgrade ∷ ended_wide ∷ [])
+  pub found : 1 ≤ config.pages → config.pages ≤ 2 ^ 16 → TakesRecords Two config.journal
+      → GoesOn hello config (saved_inputs ∷ in_peace [] (Upgrade ∷ []) ∷ [])
+      (saved_life ∷ found_ended ∷ [])
 
 -- ---- a module that tells what it is asked
 

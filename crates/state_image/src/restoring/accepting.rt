@@ -1,4 +1,9 @@
 //! Whether a process that was read from an image is one that is accepted.
+//!
+//! **A well-typed image is within the limits on modules by clauses of its own** (`IsWithinBounds`):
+//! functions, positions, slots in all, globals. Typing alone bounds none of these, since a module
+//! of the rules may be of any size. Each field has room for what it holds, and an area for the
+//! image.
 
 ghost use Rattle.std.specs.Prelude.{◌≡◌, ◌↔◌, ◌≤◌, ◌+◌, ℕ, IsTrue, [], Some, length};
 ghost use Rattle.std.specs.List.{AllByRecursion};

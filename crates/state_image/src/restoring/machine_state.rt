@@ -1,4 +1,7 @@
 //! The machine of an image, put together again.
+//!
+//! **What fits is what shows.** `FitsProgram` says of frames and slots what a check can test. A law
+//! says that this is so exactly where some configuration is shown.
 
 ghost use Rattle.std.specs.Prelude.{◌≡◌, ◌≢◌, ◌+◌, ◌<◌, ◌≤◌, ◌∷◌, [], ℕ, List, length};
 ghost use Rattle.std.specs.Prelude.{IfOk, IfErr, OnOk, Err};

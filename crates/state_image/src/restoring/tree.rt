@@ -1,4 +1,7 @@
 //! A tree of what an image tells of its nodes.
+//!
+//! **A file system is built anew by three changes**: a node without a path, a path for it, a higher
+//! next number. Directories are filled from the root on, since a path needs that of its directory.
 
 ghost use Rattle.std.specs.Prelude.{◌≡◌, ◌↔◌, IsTrue, IfOk, OnOk, map};
 ghost use Rattle.file_tree.specs.rules.Files.{fresh};

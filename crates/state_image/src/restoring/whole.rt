@@ -1,4 +1,10 @@
 //! The process of an image, made again.
+//!
+//! # Choices
+//!
+//! - **`restore_into` takes the machine that `link` gave.** A recovery links before it reads the
+//!   image, since a refused module is answered first. Nothing is linked twice.
+//! - **A module that can't be linked has no image**: `restore` then says `I1 NotAnImage`.
 
 ghost use Rattle.std.specs.Prelude.{◌≡◌, ◌≢◌, ◌↔◌, ℕ, [], IsTrue, IfOk, Err};
 ghost use Rattle.wasm_semantics.specs.Linking.{HasEntry, IsLinkable};

@@ -1,4 +1,7 @@
 //! The mark of an image.
+//!
+//! **The mark tells the version.** The version says how long texts may be (`text_limit`), so an
+//! image has no field for that. All after the mark is spelled alike in both versions.
 
 ghost use Rattle.std.specs.Prelude.{◌≡◌};
 ghost use Rattle.state_image.specs.rules.ProcessImage.{process_image_mark};

@@ -1,4 +1,17 @@
 //! The image of a process, pushed into a sink.
+//!
+//! # Choices
+//!
+//! - **A process is asked, and gives its parts.** This writer is above `process`, and takes each
+//!   field from a question of it. Frames and chunks of files are lent as they lie. No copy is made,
+//!   and no layer below knows what an image is.
+//! - **An image doesn't hold the table**, which nothing changes, nor the texts of emitted lines, of
+//!   which it has the number.
+//! - **A length goes out by its lowest bytes**, so writing has no premise. Of a well-typed process
+//!   each length is small enough to be whole.
+//! - **An image names the position at which a frame of the machine is.** What the frame shows fixes
+//!   that position (`shapes_tell_positions`), also in the two parts of one `if`. So image and
+//!   process determine each other to the byte.
 
 mod counts;
 mod descriptors;

@@ -1,4 +1,7 @@
 //! Nodes of a host's files: those that paths lead to, new ones and removed ones.
+//!
+//! **A new node's number is the next one, which only rises.** No clause bounds it. Where 2^64 - 1
+//! is reached, a call answers out of memory. A process ends its count of steps long before.
 
 ghost use Rattle.std.specs.Prelude.{◌≡◌, ◌<◌, ◌++◌, ◌∷◌, [], Some, length, ℕ, true, is_some};
 ghost use Rattle.std.specs.Prelude.{IfOk, OnOk, OnErr};

@@ -1,4 +1,6 @@
 //! How many tables and memories a module has, and how many globals it imports (section 3.4.10).
+//!
+//! Counts saturate at the largest `usize`.
 
 ghost use Rattle.std.specs.Prelude.{◌≡◌, min, length};
 ghost use Rattle.wasm_semantics.specs.Types.{imported_tables, imported_memories};

@@ -1,4 +1,7 @@
 //! Exports (sections 3.4.8 and 3.4.10).
+//!
+//! Names go through a set in order, n log n in their bytes. A hash with a fixed seed would let a
+//! hostile module make it slow.
 
 ghost use Rattle.std.specs.Prelude.{◌↔◌, IsTrue, List};
 ghost use Rattle.std.specs.List.{AllByRecursion};

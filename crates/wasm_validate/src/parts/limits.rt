@@ -1,4 +1,7 @@
 //! Types of functions, tables and memories (section 3.2).
+//!
+//! A second table or memory is a fault where it is. An imported one is found among the imports, and
+//! one of the module's own after the types of functions.
 
 ghost use Rattle.std.specs.Prelude.{◌≤◌, ◌↔◌, IsTrue, length};
 ghost use Rattle.std.specs.List.{AllByRecursion};

@@ -1,6 +1,10 @@
 //! The checks of a whole module but the bodies (section 3.4.10). They go in this order: types,
 //! imports, functions, tables, memories, globals, exports, the start function, element segments,
 //! data segments.
+//!
+//! Types and imports have a pass of their own before the types of functions are looked up, for the
+//! sake of that order. The clause of this pass (`IsFirstTypeFault`) names its first fault. Of the
+//! others tests show the order.
 
 ghost use Rattle.std.specs.Prelude.{List, IfErr, OnOk};
 ghost use Rattle.std.specs.List.{AllByRecursion};

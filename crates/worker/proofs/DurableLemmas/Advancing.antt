@@ -18,10 +18,10 @@ use Rattle.record_replay.proofs.Emitted.{released_whole}
 use Rattle.record_replay.proofs.OnTheWay.{quiet_runs, owing_runs}
 use Rattle.sector_disk.specs.rules.Medium.{Medium}
 use Rattle.state_image.specs.rules.Saving.{saved_of}
-use Rattle.restart_theorem.specs.Lives.{Slice, Reply, Spent, Over, Fails, Cause, OfMemory, OfBounds}
+use Rattle.restart_theorem.specs.Lives.{Reply, Spent, Over, Fails, Cause, OfMemory, OfBounds}
 use Rattle.restart_theorem.specs.Lives.{Ended}
 use Rattle.restart_theorem.specs.Courses.{Stage, Open, MayFail, phase_ended, next_stage}
-use Rattle.restart_theorem.specs.Promises.{Promise, IsEnding, synced_by}
+use Rattle.restart_theorem.specs.Promises.{Promise, fuel_of, IsEnding, synced_by}
 use Rattle.restart_theorem.specs.Holds.{StaysWithin}
 use Rattle.worker_store.specs.laws.Underway.{IsUnderWay}
 use Rattle.worker_store.specs.laws.CallEnds.{IsSliceOver, HasBound}
@@ -86,11 +86,11 @@ module _ {D : Type 0} (medium : D → Medium) (c : Course) (promise : Promise) (
       (λ e. absurd (not_open cause e))
 
   module _ (none_waits : waiting_in w.process ≡ []) where
-    way_told : IsUnderWay c.code c.config c.guest promise stage c.fuel (length p.host.lines) p
-    way_told = subst (λ n. IsUnderWay c.code c.config c.guest promise stage c.fuel n p)
+    way_told : IsUnderWay c.code c.config c.guest promise stage c.act (length p.host.lines) p
+    way_told = subst (λ n. IsUnderWay c.code c.config c.guest promise stage c.act n p)
         (released_whole w.process c.guest p running.shows none_waits) running.way
 
-    over : IsSliceOver c.code c.config c.guest promise stage c.fuel p (saved_of w.process)
+    over : IsSliceOver c.code c.config c.guest promise stage c.act p (saved_of w.process)
     over = record {
       way = way_told;
       saved = shown_is_saved c.code c.config c.guest w.process p running.shows running.module_is;
@@ -99,14 +99,14 @@ module _ {D : Type 0} (medium : D → Medium) (c : Course) (promise : Promise) (
     -- in order
     slice_over : (reply : Reply) → synced_by reply w.process.steps ≡ w.process.steps
         → IsEnding c.code c.config promise stage (record {
-          act = Slice c.fuel;
+          act = c.act;
           reply = reply;
           held = length promise.kept;
           shown = saved_of w.process;
         })
         → (phase_ended reply ≡ Open → IsAbreast
-        (slice_end promise c.fuel reply (length promise.kept) w)
-        (next_stage stage (Ended (Slice c.fuel) reply (length promise.kept) (saved_of w.process)))
+        (slice_end promise reply (length promise.kept) w)
+        (next_stage stage (Ended c.act reply (length promise.kept) (saved_of w.process)))
         p w.is_abreast)
         → TurnEnds c promise stage reply [] w (medium disk) (medium disk)
     slice_over reply all_synced ending abreast =
@@ -129,18 +129,18 @@ module _ {D : Type 0} (medium : D → Medium) (c : Course) (promise : Promise) (
               is_over (abreast is_over),
         ))
 
-    pub spent_ends : p.steps ≡ c.first + c.fuel → p.ended ≡ None
+    pub spent_ends : p.steps ≡ c.first + fuel_of c.act → p.ended ≡ None
         → TurnEnds c promise stage Spent [] w (medium disk) (medium disk)
     spent_ends all unended =
-        slice_over Spent refl (spent_slices_end c.code c.config c.guest promise stage c.fuel p
-        (saved_of w.process) over (all ∙ ap (λ n. n + c.fuel) (sym running.began)) unended)
+        slice_over Spent refl (spent_slices_end c.code c.config c.guest promise stage c.act p
+        (saved_of w.process) over (all ∙ ap (λ n. n + fuel_of c.act) (sym running.began)) unended)
         (λ is_over. let so_far = running.abreast in
         record { none_beyond = so_far.none_beyond; says_so = so_far.says_so })
 
     pub over_ends : (why : Ending) → p.ended ≡ Some why → w.is_abreast ≡ true
         → TurnEnds c promise stage (Over why) [] w (medium disk) (medium disk)
     over_ends why ended says =
-        slice_over (Over why) refl (ended_slices_end c.code c.config c.guest promise stage c.fuel p
+        slice_over (Over why) refl (ended_slices_end c.code c.config c.guest promise stage c.act p
         (saved_of w.process) why over ended)
         (λ is_over. record {
           none_beyond = λ here. none_beyond medium c.code c.config c.guest promise p p.steps
@@ -153,26 +153,26 @@ module _ {D : Type 0} (medium : D → Medium) (c : Course) (promise : Promise) (
 module _ {D : Type 0} (medium : D → Medium) (c : Course) (promise : Promise) (stage : Stage)
     (p : ProcessState) (w : RunningWorker) (v : ProcessValue) (disk : D)
     (running : IsBetweenTurns c promise stage p w (medium disk))
-    (fuel_left : ℕ) (fuel_left_is : fuel_left ≡ c.fuel - (w.process.steps - c.first))
+    (fuel_left : ℕ) (fuel_left_is : fuel_left ≡ fuel_of c.act - (w.process.steps - c.first))
     (same : v.host.released ≡ w.process.host.released)
     (same_guest : v.machine.guest ≡ w.process.machine.guest) where
   -- what was taken of the fuel, and what is left of it
-  in_time : (n : ℕ) → n ≤ fuel_left → p.steps + n ≤ stage.step + c.fuel
+  in_time : (n : ℕ) → n ≤ fuel_left → p.steps + n ≤ stage.step + fuel_of c.act
   in_time n few =
       let shows = running.shows in
       let told : w.process.steps ≡ p.steps = shows.steps in
       let way = running.way in
       let slice = way.in_slice in
       let begun : stage.step ≤ p.steps = slice.begun in
-      let within : p.steps ≤ stage.step + c.fuel = slice.in_time in
+      let within : p.steps ≤ stage.step + fuel_of c.act = slice.in_time in
       let began = running.began in
       omega (arith, few, fuel_left_is, told, begun, within, began)
 
   way_on : (q : ProcessState) (n : ℕ) → Runs c.guest p [] n q → n ≤ fuel_left
-      → IsUnderWay c.code c.config c.guest promise stage c.fuel v.host.released q
+      → IsUnderWay c.code c.config c.guest promise stage c.act v.host.released q
   way_on q n runs few =
-      subst (λ k. IsUnderWay c.code c.config c.guest promise stage c.fuel k q) (sym same)
-      (steps_go_on c.code c.config c.guest promise stage c.fuel w.process.host.released n p q
+      subst (λ k. IsUnderWay c.code c.config c.guest promise stage c.act k q) (sym same)
+      (steps_go_on c.code c.config c.guest promise stage c.act w.process.host.released n p q
       running.way runs (in_time n few))
 
   -- steps take no line back
@@ -255,7 +255,7 @@ module _ {D : Type 0} (medium : D → Medium) (c : Course) (promise : Promise) (
           texts = running.texts;
           shows = subst (λ z. ShowsProcess z c.guest p) (sym waits.1) running.shows;
           module_is = same_guest ∙ running.module_is;
-          way = subst (λ n. IsUnderWay c.code c.config c.guest promise stage c.fuel n p) (sym same)
+          way = subst (λ n. IsUnderWay c.code c.config c.guest promise stage c.act n p) (sym same)
               running.way;
           began = running.began;
           on_disk = lowered_to medium c.code c.config c.guest promise p p.steps promise.events
@@ -284,7 +284,7 @@ module _ {D : Type 0} (medium : D → Medium) (c : Course) (promise : Promise) (
       let runs = quiet_runs v c.guest p come in
       let count : come.process.steps ≡ p.steps + come.steps =
       runs_count c.guest p come.process [] come.steps runs in
-      let within : p.steps + (come.steps + 1) ≤ stage.step + c.fuel =
+      let within : p.steps + (come.steps + 1) ≤ stage.step + fuel_of c.act =
       in_time (come.steps + 1) (omega (arith, less)) in
       record {
         process = come.process;
@@ -313,7 +313,7 @@ module _ {D : Type 0} (medium : D → Medium) (c : Course) (promise : Promise) (
       let way = running.way in
       let slice = way.in_slice in
       let begun : stage.step ≤ p.steps = slice.begun in
-      let within : p.steps ≤ stage.step + c.fuel = slice.in_time in
+      let within : p.steps ≤ stage.step + fuel_of c.act = slice.in_time in
       let began = running.began in
       spent_ends medium c promise stage come.process (with_process w v) disk (quiet_on come few)
       come.none_waits (omega (arith, all, count, fuel_left_is, told, begun, within, began)) k.3

@@ -66,7 +66,7 @@ module _ {D : Type 0} (medium : D → Medium) (c : Course) (promise : Promise) (
     done = turn.done;
     ending = turn.ending;
     onward = turns_join medium c.code c.config promise promise
-        (slice_end turn.between c.fuel reply turn.held w) disk mid disk' goes turn.onward;
+        (slice_end turn.between reply turn.held w) disk mid disk' goes turn.onward;
     bounded = bounds_join (promise.events + 1) (turn.between.events + 1) (medium disk)
         (medium mid) (medium disk') (one_on begun.events) bounded turn.bounded;
     keeps = turn.keeps;

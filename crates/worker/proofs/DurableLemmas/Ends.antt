@@ -133,7 +133,7 @@ module _ {D : Type 0} (medium : D → Medium) (c : Course) where
       (w : RunningWorker) (disk disk' : D) (reply : Reply) (held : ℕ)
       (done : AreDone c.code c.config promise stage exchanges between inside)
       (ending : IsEnding c.code c.config between inside (record {
-        act = Slice c.fuel;
+        act = c.act;
         reply = reply;
         held = held;
         shown = saved_of w.process;
@@ -147,20 +147,20 @@ module _ {D : Type 0} (medium : D → Medium) (c : Course) where
         → SyncsAreHeld c.code c.config between.kept (count_at point records)
         (synced_by reply w.process.steps)
         → (phase_ended reply ≡ Open → (replayed : ℕ) → (q : ProcessState)
-        × IsOpenOn c.code c.config c.guest (slice_end between c.fuel reply held w)
-        (next_stage inside (Ended (Slice c.fuel) reply held (saved_of w.process))) q
+        × IsOpenOn c.code c.config c.guest (slice_end between reply held w)
+        (next_stage inside (Ended c.act reply held (saved_of w.process))) q
         (durable_of w replayed) (medium disk'))
         → TurnEnds c promise stage reply exchanges w (medium disk) (medium disk')
     ends_on goes bounded point journal records pending last now carried syncs goes_on =
         let later = ended_carries medium c.code c.config between point journal records pending last
-        now (Slice c.fuel) reply held (saved_of w.process) disk' carried refl (λ count. refl) syncs
+        now (Slice 0) reply held (saved_of w.process) disk' carried refl (λ count. refl) syncs
         in
-        let keeps = carried_keeps medium c.code c.config (slice_end between c.fuel reply held w)
+        let keeps = carried_keeps medium c.code c.config (slice_end between reply held w)
         point journal records pending last now disk' later in
         let rest = rests_go_on medium c.code c.config between
-        (slice_end between c.fuel reply held w) disk' goes.opened_now goes.opened_now
-        (ends_promise_no_less between (Slice c.fuel) reply held (saved_of w.process))
-        (ended_still_holds c.code c.config between (Slice c.fuel) reply held (saved_of w.process)
+        (slice_end between reply held w) disk' goes.opened_now goes.opened_now
+        (ends_promise_no_less between (Slice 0) reply held (saved_of w.process))
+        (ended_still_holds c.code c.config between (Slice 0) reply held (saved_of w.process)
         refl)
         keeps in
         record {
@@ -170,7 +170,7 @@ module _ {D : Type 0} (medium : D → Medium) (c : Course) where
           done = done;
           ending = ending;
           onward = turns_join medium c.code c.config promise between
-              (slice_end between c.fuel reply held w) disk disk' disk' goes rest;
+              (slice_end between reply held w) disk disk' disk' goes rest;
           bounded = bounded;
           keeps = keeps;
           goes_on = goes_on;
@@ -180,12 +180,12 @@ module _ {D : Type 0} (medium : D → Medium) (c : Course) where
   pub fails_at_call : (promise : Promise) (stage : Stage) (w : RunningWorker) (disk disk' : D)
       (cause : Cause) (held : ℕ) → promise.has_opened ≡ true
       → IsEnding c.code c.config promise stage (record {
-        act = Slice c.fuel;
+        act = c.act;
         reply = Fails cause;
         held = held;
         shown = saved_of w.process;
       })
-      → CarriesPromise c.code c.config promise (slice_end promise c.fuel (Fails cause) held w)
+      → CarriesPromise c.code c.config promise (slice_end promise (Fails cause) held w)
       (medium disk) (medium disk')
       → StaysWithin (promise.events + 1) (medium disk) (medium disk')
       → TurnEnds c promise stage (Fails cause) [] w (medium disk) (medium disk')
@@ -198,9 +198,9 @@ module _ {D : Type 0} (medium : D → Medium) (c : Course) where
     onward = record {
       opened = opened;
       opened_now = opened;
-      no_more = ends_promise_no_less promise (Slice c.fuel) (Fails cause) held
+      no_more = ends_promise_no_less promise (Slice 0) (Fails cause) held
           (saved_of w.process);
-      still = ended_still_holds c.code c.config promise (Slice c.fuel) (Fails cause) held
+      still = ended_still_holds c.code c.config promise (Slice 0) (Fails cause) held
           (saved_of w.process) refl;
       leaves = carries.at_any_moment;
     };
@@ -214,24 +214,24 @@ module _ {D : Type 0} (medium : D → Medium) (c : Course) where
 -- an error where the process has come to p
 pub failed_end : (c : Course) (promise : Promise) (stage : Stage) (p : ProcessState)
     (w : RunningWorker) (phase : Phase) (held : ℕ) (cause : Cause)
-    → IsBroken c.code c.config c.guest promise stage c.fuel held p phase
+    → IsBroken c.code c.config c.guest promise stage c.act held p phase
     → ShowsProcess w.process c.guest p → w.process.machine.guest ≡ c.code → MayFail phase cause
     → HasBound c.code c.config c.guest promise p cause
     → IsEnding c.code c.config promise stage (record {
-      act = Slice c.fuel;
+      act = c.act;
       reply = Fails cause;
       held = held;
       shown = saved_of w.process;
     })
 failed_end c promise stage p w phase held cause broken shows module_is may bound =
-    failed_slices_end c.code c.config c.guest promise stage c.fuel held p (saved_of w.process) phase
+    failed_slices_end c.code c.config c.guest promise stage c.act held p (saved_of w.process) phase
     cause broken (shown_is_saved c.code c.config c.guest w.process p shows module_is) may bound
 
 -- what is under way is where it was
 pub broken_open : (c : Course) (promise : Promise) (stage : Stage) (p : ProcessState)
     (step latest : ℕ) (w : RunningWorker) (disk : Medium)
     → IsRunningOn c promise stage p step latest w disk
-    → IsBroken c.code c.config c.guest promise stage c.fuel (length promise.kept) p Open
+    → IsBroken c.code c.config c.guest promise stage c.act (length promise.kept) p Open
 broken_open c promise stage p step latest w disk running = record {
   in_slice = running.way.in_slice;
   is = running.way.is_open;
@@ -246,16 +246,16 @@ pub open_again : {D : Type 0} (medium : D → Medium) (c : Course) (promise : Pr
     (held replayed : ℕ) → promise.has_opened ≡ true → IsOfBytes (host_of c.config)
     → ShowsProcess w.process c.guest p → w.process.machine.guest ≡ c.code
     → waiting_in w.process ≡ []
-    → IsInItsSlice c.code c.config c.guest promise stage c.fuel (length promise.kept) p
+    → IsInItsSlice c.code c.config c.guest promise stage c.act (length promise.kept) p
     → stage.line ≡ Some (length p.host.lines) → length p.host.lines ≤ promise.heard
     → promise.passed ≤ length p.host.lines → promise.synced ≤ p.steps
     → latest ≤ promise.events + 1
     → IsOnDisk c.code c.config c.guest promise p p.steps latest w.store (medium disk)
     → synced_by reply w.process.steps ≤ p.steps → phase_ended reply ≡ Open
-    → IsAbreast (slice_end promise c.fuel reply held w)
-    (next_stage stage (Ended (Slice c.fuel) reply held (saved_of w.process))) p w.is_abreast
-    → IsOpenOn c.code c.config c.guest (slice_end promise c.fuel reply held w)
-    (next_stage stage (Ended (Slice c.fuel) reply held (saved_of w.process))) p
+    → IsAbreast (slice_end promise reply held w)
+    (next_stage stage (Ended c.act reply held (saved_of w.process))) p w.is_abreast
+    → IsOpenOn c.code c.config c.guest (slice_end promise reply held w)
+    (next_stage stage (Ended c.act reply held (saved_of w.process))) p
     (durable_of w replayed) (medium disk)
 open_again medium c promise stage p latest w disk reply held replayed opened texts shows module_is
     none_waits slice line heard passed synced early on_disk told over abreast =
@@ -267,7 +267,7 @@ open_again medium c promise stage p latest w disk reply held replayed opened tex
       texts = texts;
       shows = shows;
       module_is = module_is;
-      between = calls_leave_between c.code c.config c.guest promise stage (Slice c.fuel) reply held
+      between = calls_leave_between c.code c.config c.guest promise stage (Slice 0) reply held
           p (saved_of w.process) slice.start slice.begins
           (subst (λ l. Runs c.guest slice.start l p.steps p)
           (take_all (length promise.kept) promise.kept (omega arith)) slice.runs)
@@ -275,10 +275,10 @@ open_again medium c promise stage p latest w disk reply held replayed opened tex
       heard = heard;
       passed = omega (arith, passed);
       none_waits = none_waits;
-      on_disk = lowered_to medium c.code c.config c.guest (slice_end promise c.fuel reply held w) p
+      on_disk = lowered_to medium c.code c.config c.guest (slice_end promise reply held w) p
           p.steps latest w.store disk
           (ended_on medium c.code c.config c.guest promise p p.steps latest w.store disk on_disk
-          (Slice c.fuel) reply held (saved_of w.process) refl (λ count. refl) told)
+          (Slice 0) reply held (saved_of w.process) refl (λ count. refl) told)
           p.steps (promise.events + 1) (omega arith) early;
       synced = omega (arith, synced, told);
       abreast = abreast;

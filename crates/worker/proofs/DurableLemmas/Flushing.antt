@@ -121,7 +121,7 @@ module _ {D : Type 0} (medium : D → Medium) (c : Course) (promise : Promise) (
       let told : w.process.steps ≡ p.steps = (let shows = owing.shows in shows.steps) in
       let here : w.process.steps - 1 ≤ p.steps - 1 = omega (arith, told) in
       let later = ended_carries medium c.code c.config promise point w.store.journal is.records
-      is.pending is.last is.now (Slice c.fuel) (Fails OfDisk) held (saved_of w.process) disk
+      is.pending is.last is.now (Slice 0) (Fails OfDisk) held (saved_of w.process) disk
       is.carried refl
       (λ count. refl)
       (fewer_syncs c.code c.config promise (count_at point is.records) (p.steps - 1)
@@ -137,9 +137,9 @@ module _ {D : Type 0} (medium : D → Medium) (c : Course) (promise : Promise) (
             (broken_open c promise stage p _ _ w (medium disk) owing) owing.shows owing.module_is
             tt tt)
             (barrier_carries medium c.code c.config promise
-            (slice_end promise c.fuel (Fails OfDisk) held w) point w.store.journal is.records
+            (slice_end promise (Fails OfDisk) held w) point w.store.journal is.records
             is.pending is.last is.now disk disk'
-            (ends_promise_no_less promise (Slice c.fuel) (Fails OfDisk) held
+            (ends_promise_no_less promise (Slice 0) (Fails OfDisk) held
             (saved_of w.process)) later
             (fronts c.code c.config point is.records is.pending is.last is.now is.stores))
             (barrier_bounds (promise.events + 1) (omega arith)),
@@ -236,7 +236,7 @@ module _ {D : Type 0} (medium : D → Medium) (c : Course) (promise : Promise) (
           → TurnGoes c promise stage (told_lines_of (all_taken (suc w.process.host.released)
           (waiting_in w.process))) w' (medium disk) (medium disk')
       lines_flushed released foretold =
-          let told = all_lines_are_told c.code c.config c.guest promise stage c.fuel
+          let told = all_lines_are_told c.code c.config c.guest promise stage c.act
           w.process.host.released p (waiting_in w.process) owing.way drops foretold in
           let made = told.0 in
           let leaves = parts_leave_begun c.code c.config promise made.promise' stage made.stage'
@@ -258,7 +258,7 @@ module _ {D : Type 0} (medium : D → Medium) (c : Course) (promise : Promise) (
               shows = shown;
               module_is = ap (λ (v : ProcessValue). v.machine.guest) released.released.is
                   ∙ owing.module_is;
-              way = subst (λ n. IsUnderWay c.code c.config c.guest made.promise' made.stage' c.fuel
+              way = subst (λ n. IsUnderWay c.code c.config c.guest made.promise' made.stage' c.act
                   n p) (sym (released_whole w'.process c.guest p shown none_left)) told.1;
               began = leaves.step ∙ owing.began;
               on_disk = subst (λ s. IsOnDisk c.code c.config c.guest made.promise' p p.steps
@@ -295,7 +295,7 @@ module _ {D : Type 0} (medium : D → Medium) (c : Course) (promise : Promise) (
           (last_refused (suc w.process.host.released) some.told some.line)) w' (medium disk)
           (medium disk')
       lines_in_vain some foretold =
-          let told = lines_are_told_in_vain c.code c.config c.guest promise stage c.fuel
+          let told = lines_are_told_in_vain c.code c.config c.guest promise stage c.act
           w.process.host.released p some.told some.others some.line owing.way
           (drops ∙ some.waiting) foretold in
           let made = told.0 in

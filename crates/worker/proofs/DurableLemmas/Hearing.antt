@@ -97,10 +97,12 @@ module _ {D : Type 0} (medium : D → Medium) (c : Course) (promise : Promise) (
   all_told = let running = asking.running in
       released_whole w.process c.guest p running.shows asking.none_waits
 
-  at_question : IsAtQuestion c.code c.config c.guest promise stage c.fuel p question
+  abbrev at_question : IsAtQuestion c.code c.config c.guest promise stage c.act p question
   at_question = let running = asking.running in record {
-    way = subst (λ n. IsUnderWay c.code c.config c.guest promise stage c.fuel n p) all_told
+    told = length p.host.lines;
+    way = subst (λ n. IsUnderWay c.code c.config c.guest promise stage c.act n p) all_told
         running.way;
+    few = omega arith;
     running = asking.unended;
     wants = asking.wants;
     room = asking.room;
@@ -140,7 +142,7 @@ module _ {D : Type 0} (medium : D → Medium) (c : Course) (promise : Promise) (
         let is_first : said ≡ first_said stage.says = foretold.0 in
         let there : IsFitting (text_limit p.host.version) question (first_said stage.says) fits =
         subst (λ s. IsFitting (text_limit p.host.version) question s fits) is_first fitting in
-        let inquiring = questions_are_asked c.code c.config c.guest promise stage c.fuel
+        let inquiring = questions_are_asked c.code c.config c.guest promise stage c.act
         p question fits at_question there in
         let here : IsInquiring c.code c.config promise stage
         (record { steps = p.steps; question = question; said = said; fits = fits }) =
@@ -216,7 +218,7 @@ module _ {D : Type 0} (medium : D → Medium) (c : Course) (promise : Promise) (
       -- the slice fails
       fails_once : (phase : Phase) (cause : Cause)
           → IsBroken c.code c.config c.guest (promise_once promise p question said fits)
-          (stage_once stage p question said fits) c.fuel (length promise.kept) p phase
+          (stage_once stage p question said fits) c.act (length promise.kept) p phase
           → MayFail phase cause
           → HasBound c.code c.config c.guest (promise_once promise p question said fits) p cause
           → TurnEnds c promise stage (Fails cause) (asks_once question said) w' (medium disk)
@@ -247,11 +249,11 @@ module _ {D : Type 0} (medium : D → Medium) (c : Course) (promise : Promise) (
       let more : Promise = promise_once promise p question (Ok None) false in
       let inside : Stage = stage_once stage p question (Ok None) false in
       let none_more : more.kept ≡ promise.kept = append-nil promise.kept in
-      let others = other_answers_break c.code c.config c.guest promise stage c.fuel p
+      let others = other_answers_break c.code c.config c.guest promise stage c.act p
       question at_question in
-      let broken : IsBroken c.code c.config c.guest more inside c.fuel (length more.kept) p
+      let broken : IsBroken c.code c.config c.guest more inside c.act (length more.kept) p
       (NoneThere p.steps) =
-      subst (λ n. IsBroken c.code c.config c.guest more inside c.fuel n p (NoneThere p.steps))
+      subst (λ n. IsBroken c.code c.config c.guest more inside c.act n p (NoneThere p.steps))
       (ap (λ l. length l) (sym none_more)) (others.none_there false) in
       let told : w.process.steps ≡ p.steps = (let shows = running.shows in shows.steps) in
       let few : promise.synced ≤ p.steps = running.synced in
@@ -273,7 +275,7 @@ module _ {D : Type 0} (medium : D → Medium) (c : Course) (promise : Promise) (
       } in
       ends_on medium c promise more stage inside (asks_once question (Ok None)) w disk disk Waits
       (length more.kept) (done_once (Ok None) false tt foretold)
-      (waiting_slices_end c.code c.config c.guest more inside c.fuel p (saved_of w.process) broken
+      (waiting_slices_end c.code c.config c.guest more inside c.act p (saved_of w.process) broken
       (shown_is_saved c.code c.config c.guest w.process p running.shows running.module_is) way.line
       asking.unended asking.room)
       (goes_once (Ok None) false tt foretold) (bounds_still (promise.events + 1 + 1) (omega arith))
@@ -295,7 +297,7 @@ module _ {D : Type 0} (medium : D → Medium) (c : Course) (promise : Promise) (
       → TurnEnds c promise stage (Fails OfSource) (asks_once question (Err e)) w (medium disk)
       (medium disk)
   source_fails e foretold =
-      let others = other_answers_break c.code c.config c.guest promise stage c.fuel p
+      let others = other_answers_break c.code c.config c.guest promise stage c.act p
       question at_question in
       fails_once (Err e) false w refl tt foretold (Broken OfSource) OfSource (others.fault e false)
       refl tt
@@ -309,7 +311,7 @@ module _ {D : Type 0} (medium : D → Medium) (c : Course) (promise : Promise) (
         → TurnFails c promise stage why (asks_once question (Ok (Some a))) w' (medium disk)
         (medium disk)
     misfits step why w' h =
-        let others = other_answers_break c.code c.config c.guest promise stage c.fuel p question
+        let others = other_answers_break c.code c.config c.guest promise stage c.act p question
         at_question in (
           OfAnswer,
           subst (λ z. ComesOf z OfAnswer) (sym h.is) (inr refl),
@@ -329,7 +331,7 @@ module _ {D : Type 0} (medium : D → Medium) (c : Course) (promise : Promise) (
           w' (medium disk) (medium disk)
       kept_once same cause may bound =
           fails_once (Ok (Some a)) true w' same fits foretold Open cause
-          (answers_are_kept c.code c.config c.guest promise stage c.fuel p question a
+          (answers_are_kept c.code c.config c.guest promise stage c.act p question a
           at_question) may bound
 
       needs_memory : w'.process ≡ w.process
@@ -486,7 +488,7 @@ module _ {D : Type 0} (medium : D → Medium) (c : Course) (promise : Promise) (
           let running = asking.running in
           let few : promise.synced ≤ p.steps = running.synced in
           let one_more = counted in
-          let way = answers_go_on c.code c.config c.guest promise stage c.fuel p q
+          let way = answers_go_on c.code c.config c.guest promise stage c.act p q
           question a at_question moves in
           record {
             promise' = more_promise;
@@ -501,7 +503,7 @@ module _ {D : Type 0} (medium : D → Medium) (c : Course) (promise : Promise) (
               shows = shows;
               module_is = takes.guest_same ∙ running.module_is;
               way = subst (λ n. IsUnderWay c.code c.config c.guest more_promise
-                  (stage_once stage p question (Ok (Some a)) true) c.fuel n q)
+                  (stage_once stage p question (Ok (Some a)) true) c.act n q)
                   (sym (takes.released_same ∙ all_told)) way;
               began = running.began;
               on_disk = on_disk_next;

@@ -203,7 +203,7 @@ module _ {D : Type 0} (medium : D → Medium) (w : RunningWorker) (after : Worke
         let told : w.process.steps ≡ p.steps = (let shows = running.shows in shows.steps) in
         let here : w.process.steps - 1 ≤ p.steps = omega (arith, told) in
         let later = ended_carries medium c.code c.config promise point w.store.journal is.records
-        is.pending is.last is.now (Slice c.fuel) (Fails why.cause) held (saved_of w.process) disk
+        is.pending is.last is.now (Slice 0) (Fails why.cause) held (saved_of w.process) disk
         is.carried refl
         (λ count. refl)
         (fewer_syncs c.code c.config promise (count_at point is.records) p.steps
@@ -217,11 +217,11 @@ module _ {D : Type 0} (medium : D → Medium) (w : RunningWorker) (after : Worke
               (broken_open c promise stage p _ _ w (medium disk) running) running.shows
               running.module_is why.may why.bound)
               (save_carries medium c.code c.config promise
-              (slice_end promise c.fuel (Fails why.cause) held w) point can.next w.store.journal
+              (slice_end promise (Fails why.cause) held w) point can.next w.store.journal
               is.records is.pending [] is.last is.now disk disk'
-              (ends_promise_no_less promise (Slice c.fuel) (Fails why.cause) held
+              (ends_promise_no_less promise (Slice 0) (Fails why.cause) held
               (saved_of w.process)) later
-              (next_is.saves (slice_end promise c.fuel (Fails why.cause) held w) all_kept
+              (next_is.saves (slice_end promise (Fails why.cause) held w) all_kept
               widens_none heard)
               (leaves c.code c.config point can.next is.records is.pending is.last is.now is.stores
               next_is.comes next_is.saved))

@@ -20,11 +20,13 @@ use Rattle.record_replay.specs.rules.Calls.{Releases, AnswersInOrder}
 use Rattle.record_replay.proofs.Following.{exchanges_join}
 use Rattle.restart_theorem.specs.Lives.{Act, Slice, Reply, Spent, Over, Waits, Fails, Ended}
 use Rattle.restart_theorem.specs.Courses.{Stage, Open, phase_ended, next_stage, stage_after}
-use Rattle.restart_theorem.specs.Promises.{Promise}
+use Rattle.restart_theorem.specs.Promises.{Promise, fuel_of}
 use Rattle.restart_theorem.specs.Holds.{CarriesPromise, StaysWithin}
+use Rattle.worker_store.specs.laws.Acts.{TakesSteps}
 use Rattle.worker_store.specs.laws.Underway.{IsUnderWay}
 use Rattle.worker_store.specs.rules.BetweenCalls.{IsForetold}
 use Rattle.worker_store.specs.laws.Turns.{LeavesBegun}
+use Rattle.worker_store.proofs.LawLemmas.Acts.{steps_end_alike}
 use Rattle.worker_store.proofs.LawLemmas.CallEnds.{slices_begin}
 use Rattle.worker_store.proofs.LawLemmas.Pieces.{parts_join, parts_are_foretold, ends_join}
 use Rattle.worker_store.proofs.LawLemmas.TurnLemmas.{turns_join, turns_carry, parts_leave_begun}
@@ -90,7 +92,7 @@ module _ {D : Type 0} (medium : D → Medium) (c : Course) (promise : Promise) (
         a.done b.done;
     ending = b.ending;
     onward = turns_join medium c.code c.config promise a.promise'
-        (slice_end b.between c.fuel reply b.held w') disk mid disk' a.onward b.onward;
+        (slice_end b.between reply b.held w') disk mid disk' a.onward b.onward;
     bounded = bounds_join a.promise'.events (b.between.events + 1) (medium disk) (medium mid)
         (medium disk') (one_on begun.events) a.bounded b.bounded;
     keeps = b.keeps;
@@ -143,7 +145,7 @@ module _ {D S O : Type 0} (medium : D → Medium) (gives : Giving S) (takes : Ta
   SoFar old fuel w disk disk' source source' outlet outlet' =
       (exchanges : List Exchange)
       × Exchanges gives takes source outlet exchanges source' outlet'
-      × ((c : Course) (promise : Promise) (stage : Stage) (p : ProcessState) → c.fuel ≡ fuel
+      × ((c : Course) (promise : Promise) (stage : Stage) (p : ProcessState) → fuel_of c.act ≡ fuel
       → c.first ≡ old.process.steps → IsBetweenTurns c promise stage p old (medium disk)
       → IsForetold stage exchanges
       → TurnGoes c promise stage exchanges w (medium disk) (medium disk'))
@@ -176,7 +178,7 @@ module _ {D S O : Type 0} (medium : D → Medium) (gives : Giving S) (takes : Ta
       (more : Exchanges gives takes t q ys u r) where
     -- it goes on
     pub then_goes : ((c : Course) (promise : Promise) (stage : Stage) (p : ProcessState)
-        → c.fuel ≡ fuel → c.first ≡ old.process.steps
+        → fuel_of c.act ≡ fuel → c.first ≡ old.process.steps
         → IsBetweenTurns c promise stage p w (medium mid) → IsForetold stage ys
         → TurnGoes c promise stage ys w' (medium mid) (medium disk'))
         → (medium disk').counted + owed (medium disk).sectors w'.store.journal.kept
@@ -205,7 +207,7 @@ module _ {D S O : Type 0} (medium : D → Medium) (gives : Giving S) (takes : Ta
     -- it is over
     pub then_ends : (result : Result Now WorkFault)
         → ((c : Course) (promise : Promise) (stage : Stage) (p : ProcessState)
-        → c.fuel ≡ fuel → c.first ≡ old.process.steps
+        → fuel_of c.act ≡ fuel → c.first ≡ old.process.steps
         → IsBetweenTurns c promise stage p w (medium mid) → IsForetold stage ys
         → (reply : Reply) × IsReplyOf result reply
         × HasCauseOf result c.guest c.config w'.process (medium mid) (medium disk')
@@ -254,11 +256,11 @@ module _ {D S O : Type 0} (medium : D → Medium) (gives : Giving S) (takes : Ta
         + owed (medium disk).sectors w.store.journal.kept + most_saving (medium disk).sectors
     nothing_called = omega arith
 
-    fuel_left_of : (c : Course) → c.fuel ≡ fuel → c.first ≡ old.process.steps
-        → fuel_left ≡ c.fuel - (w.process.steps - c.first)
+    fuel_left_of : (c : Course) → fuel_of c.act ≡ fuel → c.first ≡ old.process.steps
+        → fuel_left ≡ fuel_of c.act - (w.process.steps - c.first)
     fuel_left_of c fuel_is first_is =
         fuel_left_is ∙ ap (λ n. n - (w.process.steps - old.process.steps)) (sym fuel_is)
-        ∙ ap (λ n. c.fuel - (w.process.steps - n)) (sym first_is)
+        ∙ ap (λ n. fuel_of c.act - (w.process.steps - n)) (sym first_is)
 
     pub works_spent : AdvancesProcess w.process fuel_left (Ok stops.Spent) v
         → WorksOn gives takes old fuel (Ok now.Spent) (with_process w v) (medium disk) (medium mid)
@@ -396,7 +398,7 @@ begins : (m : Module) (config : Settings) (guest : Guest) (promise : Promise) (s
       code = m;
       config = config;
       guest = guest;
-      fuel = fuel;
+      act = Slice fuel;
       first = running.process.steps;
     }) promise stage p running disk
 begins m config guest promise stage p acts running replayed fuel disk open_on next_act =
@@ -407,10 +409,10 @@ begins m config guest promise stage p acts running replayed fuel disk open_on ne
       texts = open_on.texts;
       shows = open_on.shows;
       module_is = open_on.module_is;
-      way = subst (λ n. IsUnderWay m config guest promise stage fuel n p)
+      way = subst (λ n. IsUnderWay m config guest promise stage (Slice fuel) n p)
           (sym (released_whole running.process guest p open_on.shows open_on.none_waits))
-          (slices_begin m config guest promise stage fuel acts p between next_act open_on.heard
-          open_on.passed);
+          (slices_begin m config guest promise stage (Slice fuel) acts p between next_act tt
+          open_on.heard open_on.passed);
       began = between.step ∙ sym shows.steps;
       on_disk = open_on.on_disk;
       synced = open_on.synced;
@@ -423,39 +425,41 @@ module _ {D : Type 0} (medium : D → Medium) (c : Course) (promise : Promise) (
     (replayed : ℕ) (disk disk' : D)
     (ends : TurnEnds c promise stage reply exchanges w (medium disk) (medium disk'))
     (few : CallsForEvents (length exchanges + 1) (medium disk) (medium disk')) where
-  call_carries : (phase_ended reply ≡ Open → store ≡ w.store)
-      → CallCarries c.code c.config c.guest promise stage (Slice c.fuel) reply
+  call_carries : TakesSteps c.act → (phase_ended reply ≡ Open → store ≡ w.store)
+      → CallCarries c.code c.config c.guest promise stage c.act reply
       (durable_of (record w { store = store }) replayed) (medium disk) (medium disk') exchanges
-  call_carries same =
+  call_carries stepping same =
       let done = ends.done in
       let joined = ends_join c.code c.config promise ends.between stage ends.inside exchanges
-      (Ended (Slice c.fuel) reply ends.held (saved_of w.process)) done ends.ending in
+      (Ended c.act reply ends.held (saved_of w.process)) done ends.ending in
+      let promised_then = joined.1
+      ∙ steps_end_alike c.act ends.between reply ends.held (saved_of w.process) stepping in
       record {
         events = done.events;
         are = done.are;
         held = ends.held;
         kept = joined.0;
         carried = subst (λ z. CarriesPromise c.code c.config promise z (medium disk)
-            (medium disk')) (sym joined.1)
+            (medium disk')) (sym promised_then)
             (turns_carry medium c.code c.config promise _ disk disk' ends.onward ends.keeps);
         bounded = subst (λ (z : Promise). StaysWithin z.events (medium disk) (medium disk'))
-            (sym joined.1) ends.bounded;
+            (sym promised_then) ends.bounded;
         counted = few;
         goes_on = λ over.
             let again = ends.goes_on over replayed in (
               again.0,
               subst (λ z. IsOpenOn c.code c.config c.guest z (stage_after stage (done.events
-                  ++ Ended (Slice c.fuel) reply ends.held (saved_of w.process) ∷ [])) again.0
+                  ++ Ended c.act reply ends.held (saved_of w.process) ∷ [])) again.0
                   (durable_of (record w { store = store }) replayed) (medium disk'))
-                  (sym joined.1)
+                  (sym promised_then)
                   (subst (λ z. IsOpenOn c.code c.config c.guest
-                  (slice_end ends.between c.fuel reply ends.held w) z again.0
+                  (slice_end ends.between reply ends.held w) z again.0
                   (durable_of (record w { store = store }) replayed) (medium disk'))
                   (sym joined.2)
                   (subst (λ (s : WorkerStore). IsOpenOn c.code c.config c.guest
-                  (slice_end ends.between c.fuel reply ends.held w)
+                  (slice_end ends.between reply ends.held w)
                   (next_stage ends.inside
-                  (Ended (Slice c.fuel) reply ends.held (saved_of w.process))) again.0
+                  (Ended c.act reply ends.held (saved_of w.process))) again.0
                   (durable_of (record w { store = s }) replayed) (medium disk'))
                   (sym (same over)) again.1)),
             );
@@ -480,7 +484,7 @@ module _ {D S O : Type 0} (medium : D → Medium) (gives : Giving S) (takes : Ta
           code = m;
           config = config;
           guest = guest;
-          fuel = fuel;
+          act = Slice fuel;
           first = old.process.steps;
         } in
         let ended = worked.2 c promise stage p refl refl
@@ -490,7 +494,7 @@ module _ {D S O : Type 0} (medium : D → Medium) (gives : Giving S) (takes : Ta
           ended.1,
           ended.2,
           call_carries medium c promise stage ended.0 worked.0 new store replayed disk disk'
-              ended.3 worked.3 (same ended.0 ended.1),
+              ended.3 worked.3 tt (same ended.0 ended.1),
         ),
   )
 

@@ -6,18 +6,19 @@ use Rattle.wasi_abi.specs.rules.Configs.{Settings}
 use Rattle.process_rules.specs.Runs.{Kept}
 use Rattle.state_image.specs.rules.ProcessImage.{Saved}
 use Rattle.record_replay.specs.rules.Calls.{Exchange, Asks, Tells}
-use Rattle.restart_theorem.specs.Lives.{Act, Slice, Checkpoint, Upgrade, Inputs, Cause, OfOutlet}
+use Rattle.restart_theorem.specs.Lives.{Act, Slice, Batch, Checkpoint, Upgrade, Inputs, Cause}
+use Rattle.restart_theorem.specs.Lives.{OfOutlet}
 use Rattle.restart_theorem.specs.Lives.{Reply, Spent, kept_by_end}
 use Rattle.restart_theorem.specs.Lives.{Waits, Over, Done, Fails, Event, Told, Asked, Opened, Ended}
 use Rattle.restart_theorem.specs.Lives.{told_in, End, Finished, Stopped, Failed, Life}
 use Rattle.restart_theorem.specs.Courses.{Stage, Phase, Shut, Unheard, Open, NoneThere, Broken}
-use Rattle.restart_theorem.specs.Courses.{Closed}
+use Rattle.restart_theorem.specs.Courses.{Closed, HasLastAsked}
 use Rattle.restart_theorem.specs.Courses.{phase_told, phase_ended, next_stage, stage_after}
 use Rattle.restart_theorem.specs.Courses.{first_taken, without_first, IsToldIn, IsAskedIn}
-use Rattle.restart_theorem.specs.Courses.{MayFail, HasFailed, HasStopped, MayEnd, at_first}
+use Rattle.restart_theorem.specs.Courses.{MayFail, HasFailed, HasStopped, MayEnd, at_beginning}
 use Rattle.restart_theorem.specs.Promises.{Promise, as_begun, after, promised, AreKept, IsKept}
 use Rattle.restart_theorem.specs.Promises.{IsReply, IsLived}
-use Rattle.restart_theorem.proofs.Pleas.{fails_or_open}
+use Rattle.restart_theorem.proofs.Pleas.{fails_or_open, fails_or_last}
 use Rattle.worker.specs.laws.OneLife.{released_in, taken_in}
 use Rattle.worker.specs.laws.Uncut.{AreTrue}
 
@@ -30,14 +31,25 @@ IsDeaf (Broken OfOutlet) = Unit {0}
 IsDeaf (Closed OfOutlet) = Unit {0}
 IsDeaf _ = ⊥
 
+-- it has not asked since
+deaf_unasked_last : (phase : Phase) → IsDeaf phase → HasLastAsked phase → ⊥
+deaf_unasked_last Shut deaf asked = deaf
+deaf_unasked_last Unheard deaf asked = asked
+deaf_unasked_last Open deaf asked = deaf
+deaf_unasked_last (NoneThere n) deaf asked = deaf
+deaf_unasked_last (Broken OfOutlet) deaf asked = asked
+deaf_unasked_last (Broken other) deaf asked = absurd deaf
+deaf_unasked_last (Closed cause) deaf asked = asked
+
 deaf_untold : (phase : Phase) (acts : List Act) (step steps : ℕ) → IsDeaf phase
     → IsToldIn phase acts step steps → ⊥
 deaf_untold Shut acts step steps deaf told = deaf
-deaf_untold Unheard acts step steps deaf told = told
+deaf_untold Unheard acts step steps deaf told = told.0
 deaf_untold Open acts step steps deaf told = deaf
 deaf_untold (NoneThere n) acts step steps deaf told = deaf
-deaf_untold (Broken cause) acts step steps deaf told = told
-deaf_untold (Closed cause) acts step steps deaf told = told
+deaf_untold (Broken cause) acts step steps deaf told =
+    deaf_unasked_last (Broken cause) deaf told.0
+deaf_untold (Closed cause) acts step steps deaf told = told.0
 
 deaf_unasked : (phase : Phase) (acts : List Act) (step steps : ℕ) → IsDeaf phase
     → IsAskedIn phase acts step steps → ⊥
@@ -78,6 +90,19 @@ module _ (m : Module) (config : Settings) where
   deaf_ends kept stage held shown (Slice fuel) Done deaf is = absurd is
   deaf_ends kept stage held shown (Slice fuel) (Fails cause) deaf is =
       deaf_fails stage.phase cause deaf is.0
+  deaf_ends kept stage held shown (Batch fuel most) Spent deaf is =
+      absurd (not_deaf stage.phase Open is.0 (λ d. d) deaf)
+  deaf_ends kept stage held shown (Batch fuel most) Waits deaf is =
+      absurd (not_deaf stage.phase (NoneThere shown.steps) is.0 (λ d. d) deaf)
+  deaf_ends kept stage held shown (Batch fuel most) (Over why) deaf is =
+      absurd (not_deaf stage.phase Open is.0 (λ d. d) deaf)
+  deaf_ends kept stage held shown (Batch fuel most) Done deaf is = absurd is
+  deaf_ends kept stage held shown (Batch fuel most) (Fails cause) deaf is =
+      ⊎_elim
+      (λ (may : MayFail stage.phase cause). deaf_fails stage.phase cause deaf may)
+      (λ (asked : HasLastAsked stage.phase).
+      absurd (deaf_unasked_last stage.phase deaf asked))
+      (fails_or_last stage.phase cause is.0)
   deaf_ends kept stage held shown Checkpoint Spent deaf is = absurd is
   deaf_ends kept stage held shown Checkpoint Waits deaf is = absurd is
   deaf_ends kept stage held shown Checkpoint (Over why) deaf is = absurd is
@@ -95,7 +120,7 @@ module _ (m : Module) (config : Settings) where
       (λ (may : MayFail stage.phase cause). deaf_fails stage.phase cause deaf may)
       (λ (opened : stage.phase ≡ Open).
       absurd (not_deaf stage.phase Open opened (λ d. d) deaf))
-      (fails_or_open config kept stage Upgrade cause is.0)
+      (fails_or_open config kept stage cause is.0)
 
   deaf_next : (so_far : Promise) (stage : Stage) (e : Event) → IsDeaf stage.phase
       → IsKept m config so_far stage e → IsDeaf (next_stage stage e).phase
@@ -215,10 +240,11 @@ module _ (m : Module) (config : Settings) where
       → AreTrue inputs.takes ⊎ (life.ends ≡ Failed OfOutlet)
   all_heard so_far inputs life none few lived =
       let first : Promise = as_begun life.begins so_far in
-      ⊎_elim (λ heard. inl (takes_all life.events first (at_first inputs) lived.kept heard few))
+      ⊎_elim (λ heard. inl (takes_all life.events first
+      (at_beginning life.begins inputs) lived.kept heard few))
       (λ deaf. inr (deaf_end inputs (promised first life.events).events life.calls
-      (stage_after (at_first inputs) life.events) life.ends none deaf lived.ends))
-      (heard_or_deaf life.events first (at_first inputs) lived.kept)
+      (stage_after (at_beginning life.begins inputs) life.events) life.ends none deaf lived.ends))
+      (heard_or_deaf life.events first (at_beginning life.begins inputs) lived.kept)
 
 -- as many were taken or refused as were released
 pub as_many : (exchanges : List Exchange)

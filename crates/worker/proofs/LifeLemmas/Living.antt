@@ -22,18 +22,18 @@ use Rattle.restart_theorem.specs.Lives.{Act, Inputs, Cause, OfDisk, OfSource, Of
 use Rattle.restart_theorem.specs.Lives.{OfMemory, OfBounds, OfJournal, OfLines, Fails, Event, Ended}
 use Rattle.restart_theorem.specs.Lives.{told_in, kept_by_end, Beginning}
 use Rattle.restart_theorem.specs.Lives.{Creates, End, Finished, Stopped, Failed, Life}
-use Rattle.restart_theorem.specs.Lives.{Slice, Checkpoint, Upgrade}
+use Rattle.restart_theorem.specs.Lives.{Slice, Batch, Checkpoint, Upgrade}
 use Rattle.restart_theorem.specs.Courses.{Stage, Phase, Shut, Unheard, NoneThere, Broken, MayFail}
-use Rattle.restart_theorem.specs.Courses.{Open, Closed, at_first, next_stage, stage_after}
+use Rattle.restart_theorem.specs.Courses.{Open, Closed, at_beginning, next_stage, stage_after}
 use Rattle.restart_theorem.specs.Courses.{HasFailed, HasDiskFault, HasStopped, HasNotStopped}
-use Rattle.restart_theorem.specs.Courses.{IsCutIn, MayEnd}
+use Rattle.restart_theorem.specs.Courses.{HasLastAsked, IsCutIn, MayEnd}
 use Rattle.restart_theorem.specs.Promises.{Promise, as_begun, after, promised, IsKept}
 use Rattle.restart_theorem.specs.Promises.{AreKept, OpensAnew}
 use Rattle.restart_theorem.specs.Holds.{HoldsPromise, KeepsPromise}
 use Rattle.restart_theorem.specs.Holds.{KeepsBounds}
 use Rattle.restart_theorem.specs.Between.{IsLivedOn}
 use Rattle.restart_theorem.proofs.Promised.{calls_join}
-use Rattle.restart_theorem.proofs.Pleas.{fails_or_open}
+use Rattle.restart_theorem.proofs.Pleas.{fails_or_open, fails_or_last}
 use Rattle.worker_store.specs.laws.Carried.{PromisesNoMore}
 use Rattle.worker_store.proofs.LawLemmas.Carrying.{less_is_held}
 use Rattle.worker_store.proofs.LawLemmas.Pieces.{parts_are_foretold}
@@ -233,18 +233,31 @@ may_fail_cut (NoneThere steps) cause may = tt
 may_fail_cut (Broken why) cause may = tt
 may_fail_cut (Closed why) cause may = absurd may
 
+last_cut : (phase : Phase) → HasLastAsked phase → IsCutIn phase
+last_cut Shut asked = tt
+last_cut Unheard asked = tt
+last_cut Open asked = tt
+last_cut (NoneThere steps) asked = tt
+last_cut (Broken why) asked = tt
+last_cut (Closed why) asked = absurd asked
+
 failed_cut : (m : Module) (config : Settings) (promise : Promise) (stage : Stage) (act : Act)
     (cause : Cause) (held : ℕ) (shown : Saved)
     → IsKept m config promise stage (Ended act (Fails cause) held shown) → IsCutIn stage.phase
 failed_cut m config promise stage (Slice fuel) cause held shown kept =
     may_fail_cut stage.phase cause kept.reply.0
+failed_cut m config promise stage (Batch fuel most) cause held shown kept =
+    ⊎_elim
+    (λ (may : MayFail stage.phase cause). may_fail_cut stage.phase cause may)
+    (λ (asked : HasLastAsked stage.phase). last_cut stage.phase asked)
+    (fails_or_last stage.phase cause kept.reply.0)
 failed_cut m config promise stage Checkpoint cause held shown kept =
     may_fail_cut stage.phase cause kept.reply.0
 failed_cut m config promise stage Upgrade cause held shown kept =
     ⊎_elim
     (λ (may : MayFail stage.phase cause). may_fail_cut stage.phase cause may)
     (λ (opened : stage.phase ≡ Open). subst (λ (q : Phase). IsCutIn q) (sym opened) tt)
-    (fails_or_open config (kept_by_end Upgrade shown promise.kept) stage Upgrade cause kept.reply.0)
+    (fails_or_open config (kept_by_end Upgrade shown promise.kept) stage cause kept.reply.0)
 
 module _ (m : Module) (config : Settings) (bytes : List ℕ) (before : Promise) (inputs : Inputs)
     (begins : Beginning) (exchanges : List Exchange) (worker : Option DurableValue) (calls : ℕ)
@@ -264,13 +277,13 @@ module _ (m : Module) (config : Settings) (bytes : List ℕ) (before : Promise) 
   life_of events ends = record { begins = begins; events = events; calls = calls; ends = ends }
 
   module _ (undone : Result (List Act) RecoverFault) (events : List Event)
-      (kept : AreKept m config so_far (at_first inputs) events)
+      (kept : AreKept m config so_far (at_beginning begins inputs) events)
       (told : told_in events ≡ released_in exchanges)
       (shown : opened_in events ≡ shown_first worker)
       (anew : begins ≡ Creates → (so_far.has_opened ≡ false) × OpensAnew events) where
     ends_so : (ends : End) → EndsBy inputs calls undone ends
         → MayEnd inputs (promised so_far events).events calls
-        (stage_after (at_first inputs) events) ends
+        (stage_after (at_beginning begins inputs) events) ends
         → KeepsPromise m config (promised so_far events) last
         → KeepsBounds ((promised so_far events).events + 1) last → IsLater found last
         → CallsForEvents (length events + 1) found last → LifeGoesOn undone
@@ -287,7 +300,8 @@ module _ (m : Module) (config : Settings) (bytes : List ℕ) (before : Promise) 
       few,
     )
 
-  module _ (events : List Event) (kept : AreKept m config so_far (at_first inputs) events)
+  module _ (events : List Event)
+      (kept : AreKept m config so_far (at_beginning begins inputs) events)
       (told : told_in events ≡ released_in exchanges)
       (shown : opened_in events ≡ shown_first worker)
       (anew : begins ≡ Creates → (so_far.has_opened ≡ false)
@@ -299,7 +313,8 @@ module _ (m : Module) (config : Settings) (bytes : List ℕ) (before : Promise) 
 
     -- no call has failed
     ends_going : (acts : List Act)
-        → IsGoing m config (promised so_far events) (stage_after (at_first inputs) events) acts last
+        → IsGoing m config (promised so_far events)
+        (stage_after (at_beginning begins inputs) events) acts last
         → IsLifeOver inputs calls (Ok acts) → IsLater found last
         → CallsForEvents (length events + 1) found last → LifeGoesOn (Ok acts)
     ends_going acts go over later few = by acts go over (stops_or_not inputs.stop calls)
@@ -310,7 +325,8 @@ module _ (m : Module) (config : Settings) (bytes : List ℕ) (before : Promise) 
             ((promised so_far events).events + 1) last (omega arith) bounded
 
         by : (acts : List Act)
-            → IsGoing m config (promised so_far events) (stage_after (at_first inputs) events) acts
+            → IsGoing m config (promised so_far events)
+            (stage_after (at_beginning begins inputs) events) acts
             last
             → IsLifeOver inputs calls (Ok acts)
             → HasStopped inputs.stop calls ⊎ HasNotStopped inputs.stop calls
@@ -326,7 +342,8 @@ module _ (m : Module) (config : Settings) (bytes : List ℕ) (before : Promise) 
     -- a call has
     ends_broken : (why : RecoverFault)
         → CameTrue bytes config inputs exchanges (Err why) calls found last
-        → HasBroken m config (promised so_far events) (stage_after (at_first inputs) events) why
+        → HasBroken m config (promised so_far events)
+        (stage_after (at_beginning begins inputs) events) why
         found last → IsLater found last → CallsForEvents (length events + 1) found last
         → LifeGoesOn (Err why)
     ends_broken why came b later few = by (stops_or_not inputs.stop calls)
@@ -337,13 +354,13 @@ module _ (m : Module) (config : Settings) (bytes : List ℕ) (before : Promise) 
         joined : promised so_far (events ++ end ∷ []) ≡ after (promised so_far events) end
         joined = promised_join so_far events (end ∷ [])
 
-        staged : stage_after (at_first inputs) (events ++ end ∷ [])
-            ≡ next_stage (stage_after (at_first inputs) events) end
-        staged = stage_join (at_first inputs) events (end ∷ [])
+        staged : stage_after (at_beginning begins inputs) (events ++ end ∷ [])
+            ≡ next_stage (stage_after (at_beginning begins inputs) events) end
+        staged = stage_join (at_beginning begins inputs) events (end ∷ [])
 
-        all_kept : AreKept m config so_far (at_first inputs) (events ++ end ∷ [])
+        all_kept : AreKept m config so_far (at_beginning begins inputs) (events ++ end ∷ [])
         all_kept =
-            let all = calls_join m config so_far (at_first inputs) events (end ∷ []) kept
+            let all = calls_join m config so_far (at_beginning begins inputs) events (end ∷ []) kept
             (b.ended, tt) in all.0
 
         still_shown : opened_in (events ++ end ∷ []) ≡ shown_first worker
@@ -351,7 +368,7 @@ module _ (m : Module) (config : Settings) (bytes : List ℕ) (before : Promise) 
 
         fails : HasNotStopped inputs.stop calls
             → MayEnd inputs (promised so_far (events ++ end ∷ [])).events calls
-            (stage_after (at_first inputs) (events ++ end ∷ [])) (Failed b.cause)
+            (stage_after (at_beginning begins inputs) (events ++ end ∷ [])) (Failed b.cause)
         fails going = (
           subst (λ (s : Stage). HasFailed (promised so_far (events ++ end ∷ [])).events s.phase
               b.cause) (sym staged) refl,
@@ -364,14 +381,15 @@ module _ (m : Module) (config : Settings) (bytes : List ℕ) (before : Promise) 
         -- The power was cut, and the call has seen it as a fault of the disk.
         cut_at_end : b.cause ≡ OfDisk → HasStopped inputs.stop calls
             → MayEnd inputs (promised so_far (events ++ end ∷ [])).events calls
-            (stage_after (at_first inputs) (events ++ end ∷ [])) Stopped
+            (stage_after (at_beginning begins inputs) (events ++ end ∷ [])) Stopped
         cut_at_end of_disk stopped =
             (subst (λ (s : Stage). IsCutIn s.phase) (sym staged) of_disk, stopped)
 
         -- with the end of the call
         with_end : (ends : End) → EndsBy inputs calls (Err why) ends
             → MayEnd inputs (promised so_far (events ++ end ∷ [])).events calls
-            (stage_after (at_first inputs) (events ++ end ∷ [])) ends → LifeGoesOn (Err why)
+            (stage_after (at_beginning begins inputs) (events ++ end ∷ [])) ends
+            → LifeGoesOn (Err why)
         with_end ends by may =
             ends_so (Err why) (events ++ end ∷ []) all_kept
             (told_join events (end ∷ []) ∙ append-nil (told_in events) ∙ told) still_shown
@@ -388,7 +406,8 @@ module _ (m : Module) (config : Settings) (bytes : List ℕ) (before : Promise) 
             → LifeGoesOn (Err why)
         without_end stopped other =
             ends_so (Err why) events kept told shown anew_alone Stopped stopped (
-              failed_cut m config (promised so_far events) (stage_after (at_first inputs) events)
+              failed_cut m config (promised so_far events)
+                  (stage_after (at_beginning begins inputs) events)
                   b.act b.cause b.held b.shown b.ended,
               stopped,
             )
@@ -418,7 +437,7 @@ module _ (m : Module) (config : Settings) (bytes : List ℕ) (before : Promise) 
   ends_unopened why came nobody u = by (stops_or_not inputs.stop calls)
     where
       because : HasNotOpened m config so_far inputs (promised so_far u.events).events
-          (stage_after (at_first inputs) u.events).phase why found last
+          (stage_after (at_beginning begins inputs) u.events).phase why found last
       because = u.because
 
       shown : opened_in u.events ≡ shown_first worker
@@ -443,18 +462,20 @@ module _ (m : Module) (config : Settings) (bytes : List ℕ) (before : Promise) 
       → exchanges ≡ told ++ more
       → CameTrue bytes config inputs exchanges undone calls found last
       → (o : IsOpened m config so_far inputs begins told w found disk)
-      → CallsMake m config (promised so_far o.events) (stage_after (at_first inputs) o.events) more
+      → CallsMake m config (promised so_far o.events)
+      (stage_after (at_beginning begins inputs) o.events) more
       undone disk last → LifeGoesOn undone
   ends_opened w told more undone disk somebody are came o c = by undone came come
     where
       events : List Event
       events = o.events ++ c.events
 
-      joined : AreKept m config so_far (at_first inputs) events
+      joined : AreKept m config so_far (at_beginning begins inputs) events
           × (promised so_far events ≡ promised (promised so_far o.events) c.events)
-          × (stage_after (at_first inputs) events
-          ≡ stage_after (stage_after (at_first inputs) o.events) c.events)
-      joined = calls_join m config so_far (at_first inputs) o.events c.events o.kept c.kept
+          × (stage_after (at_beginning begins inputs) events
+          ≡ stage_after (stage_after (at_beginning begins inputs) o.events) c.events)
+      joined =
+          calls_join m config so_far (at_beginning begins inputs) o.events c.events o.kept c.kept
 
       all_told : told_in events ≡ released_in exchanges
       all_told = told_join o.events c.events ∙ ap (λ l. l ++ told_in c.events) o.told
@@ -474,11 +495,12 @@ module _ (m : Module) (config : Settings) (bytes : List ℕ) (before : Promise) 
                 (both.1 (c.events ++ others)),
           )
 
-      come : ComeTo m config (promised so_far events) (stage_after (at_first inputs) events) undone
-          found last
-      come = come_since m config (promised so_far events) (stage_after (at_first inputs) events)
-          undone found disk last o.later
-          (subst (λ (p : Promise). ComeTo m config p (stage_after (at_first inputs) events) undone
+      come : ComeTo m config (promised so_far events)
+          (stage_after (at_beginning begins inputs) events) undone found last
+      come = come_since m config (promised so_far events)
+          (stage_after (at_beginning begins inputs) events) undone found disk last o.later
+          (subst (λ (p : Promise). ComeTo m config p
+          (stage_after (at_beginning begins inputs) events) undone
           disk last) (sym joined.1)
           (subst (λ (s : Stage). ComeTo m config (promised (promised so_far o.events) c.events) s
           undone disk last) (sym joined.2) c.come))
@@ -494,7 +516,8 @@ module _ (m : Module) (config : Settings) (bytes : List ℕ) (before : Promise) 
 
       by : (undone : Result (List Act) RecoverFault)
           → CameTrue bytes config inputs exchanges undone calls found last
-          → ComeTo m config (promised so_far events) (stage_after (at_first inputs) events) undone
+          → ComeTo m config (promised so_far events)
+          (stage_after (at_beginning begins inputs) events) undone
           found last → LifeGoesOn undone
       by (Ok acts) met so =
           ends_going events joined.0 all_told shown anew acts so met.over still few
@@ -525,7 +548,7 @@ module _ {D S O : Type 0} (medium : D → Medium) (gives : Giving S) (takes : Ta
         exchanges_join gives takes source source' source outlet outlet' inside (map Tells o.0) c.0
             (told_alone gives takes source outlet inside o.0 o.1) c.1,
         λ inputs count acts_are came.
-            let stage = at_first inputs in
+            let stage = at_beginning begins inputs in
             let heard = parts_are_foretold m config so_far so_far stage stage (map Tells o.0) c.0
             came.foretold in
             let is = o.2 inputs came.sectors came.room heard.1 in

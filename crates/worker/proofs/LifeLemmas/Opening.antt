@@ -21,7 +21,7 @@ use Rattle.record_replay.specs.rules.Calls.{Taking, Begun, Exchange, Tells, Rele
 use Rattle.restart_theorem.specs.Lives.{Inputs, Cause, OfDisk, OfMemory, OfOutlet, OfBounds, Event}
 use Rattle.restart_theorem.specs.Lives.{Beginning, Creates, Opened, told_in}
 use Rattle.restart_theorem.specs.Lives.Beginning.{Recovers as recovers}
-use Rattle.restart_theorem.specs.Courses.{Stage, Phase, Shut, at_first}
+use Rattle.restart_theorem.specs.Courses.{Stage, Phase, Shut, at_first, at_beginning}
 use Rattle.restart_theorem.specs.Courses.{stage_after, HasFailed, IsCutIn}
 use Rattle.restart_theorem.specs.Promises.{Promise, as_begun, after, promised, AreKept, OpensAnew}
 use Rattle.restart_theorem.specs.Holds.{IsNothingYet, KeepsPromise, KeepsBounds}
@@ -89,20 +89,21 @@ module _ (m : Module) (config : Settings) (so_far : Promise) (inputs : Inputs) w
   pub record IsOpened (begins : Beginning) (exchanges : List Exchange) (w : DurableValue)
       (old new : Medium) : Type 0 where
     pub events : List Event
-    pub kept : AreKept m config so_far (at_first inputs) events
+    pub kept : AreKept m config so_far (at_beginning begins inputs) events
     pub told : told_in events ≡ released_in exchanges
     pub shown : opened_in events ≡ Some (saved_of w.process)
     pub guest : Guest
     pub process : ProcessState
     pub opened : IsOpenOn m config guest (promised so_far events)
-        (stage_after (at_first inputs) events) process w new
-    pub acts : (stage_after (at_first inputs) events).acts ≡ inputs.acts
+        (stage_after (at_beginning begins inputs) events) process w new
+    pub acts : (stage_after (at_beginning begins inputs) events).acts ≡ inputs.acts
     pub keeps : KeepsPromise m config (promised so_far events) new
     pub bounded : KeepsBounds (promised so_far events).events new
     pub later : IsLater old new
     pub counted : CallsForEvents (length events) old new
-    pub foretold : (rest : List Exchange) → IsForetold (at_first inputs) (exchanges ++ rest)
-        → IsForetold (stage_after (at_first inputs) events) rest
+    pub foretold : (rest : List Exchange)
+        → IsForetold (at_beginning begins inputs) (exchanges ++ rest)
+        → IsForetold (stage_after (at_beginning begins inputs) events) rest
     pub anew : IsAnew begins events
 
   -- why a life isn't opened, where it is so
@@ -117,11 +118,11 @@ module _ (m : Module) (config : Settings) (so_far : Promise) (inputs : Inputs) w
   pub record IsUnopenedBy (begins : Beginning) (exchanges : List Exchange) (why : RecoverFault)
       (old last : Medium) : Type 0 where
     pub events : List Event
-    pub kept : AreKept m config so_far (at_first inputs) events
+    pub kept : AreKept m config so_far (at_beginning begins inputs) events
     pub told : told_in events ≡ released_in exchanges
     pub shut : opened_in events ≡ None
     pub because : HasNotOpened (promised so_far events).events
-        (stage_after (at_first inputs) events).phase why old last
+        (stage_after (at_beginning begins inputs) events).phase why old last
     pub keeps : KeepsPromise m config (promised so_far events) last
     pub bounded : KeepsBounds ((promised so_far events).events + 1) last
     pub later : IsLater old last
@@ -137,9 +138,8 @@ module _ (m : Module) (config : Settings) (so_far : Promise) (inputs : Inputs) w
 
   reopened : (told : List Begun) (w : DurableValue) (old new : Medium)
       → Reopens m config so_far inputs told w old new
-      → (begins : Beginning) → (begins ≡ Creates → ⊥)
-      → IsOpened begins (map Tells told) w old new
-  reopened told w old new r begins not_created =
+      → IsOpened recovers (map Tells told) w old new
+  reopened told w old new r =
       let end : Event = Opened r.held (saved_of w.process) in
       let all : List Event = r.events ++ end ∷ [] in
       let leaves = r.at_any_moment in
@@ -171,7 +171,7 @@ module _ (m : Module) (config : Settings) (so_far : Promise) (inputs : Inputs) w
               promised_is = refl;
               stage_is = refl;
             }));
-        anew = λ creates. absurd (not_created creates);
+        anew = λ creates. absurd (cc);
       }
 
   -- why it fails
@@ -223,9 +223,8 @@ module _ (m : Module) (config : Settings) (so_far : Promise) (inputs : Inputs) w
 
   reopened_in_vain : (told : List Begun) (why : RecoverFault) (old new : Medium)
       → ReopensInVain m config so_far inputs told why old new
-      → (begins : Beginning) → (begins ≡ Creates → ⊥)
-      → IsUnopenedBy begins (map Tells told) why old new
-  reopened_in_vain told why old new r begins not_created =
+      → IsUnopenedBy recovers (map Tells told) why old new
+  reopened_in_vain told why old new r =
       let carried = r.carried in
       record {
         events = r.events;
@@ -240,7 +239,7 @@ module _ (m : Module) (config : Settings) (so_far : Promise) (inputs : Inputs) w
         later = passed_later old new _ carried.at_any_moment.passes;
         counted = calls_once (most_recovering old.sectors) (length r.events + 1) old new r.counted
             (omega arith) (omega arith);
-        anew = λ creates. absurd (not_created creates);
+        anew = λ creates. absurd (cc);
       }
 
   -- ---- a creation
@@ -361,11 +360,10 @@ module _ (m : Module) (config : Settings) (so_far : Promise) (inputs : Inputs) w
           → ReopensOrNot m config so_far inputs told result (medium found) (medium disk)
           → OpensSo recovers (map Tells told) result (medium found) (medium disk)
       recovered_so told (Ok w) says reopens =
-          reopened told w (medium found) (medium disk) reopens recovers (λ e. absurd (cc))
+          reopened told w (medium found) (medium disk) reopens
       recovered_so told (Err why) says reopens =
           reopened_in_vain told why (medium found) (medium disk)
           (in_vain m config so_far inputs told why (medium found) (medium disk) says reopens)
-          recovers (λ e. absurd (cc))
 
       module _ (accepted : IsAccepted offer config.pages bytes m) (mid : D)
           (sectors : total_sectors (geometry_of config (length bytes)) ≤ (medium found).sectors)

@@ -5,20 +5,22 @@ use Rattle.std.specs.Prelude.{Result, map}
 use Rattle.wasm_syntax.specs.declared.module.Module.{Module}
 use Rattle.wasi_abi.specs.rules.Configs.{Settings}
 use Rattle.process_rules.specs.Processes.{ProcessState, Guest}
+use Rattle.state_image.specs.rules.ProcessImage.{Saved}
 use Rattle.state_image.specs.rules.Saving.{saved_of}
 use Rattle.sector_disk.specs.rules.Medium.{Medium}
 use Rattle.record_replay.specs.rules.Calls.{Giving, Taking, Exchange, Tells, Exchanges}
 use Rattle.record_replay.proofs.Following.{exchanges_join}
 use Rattle.ephemeral_worker.specs.declared.now.Now.{Now}
 use Rattle.ephemeral_worker.specs.declared.now.Now.TheVariants as now
-use Rattle.restart_theorem.specs.Lives.{Act, Slice, Checkpoint, Upgrade, Reply, Spent, Event, Told}
-use Rattle.restart_theorem.specs.Lives.{Asked, Opened, Ended, told_in, Inputs}
-use Rattle.restart_theorem.specs.Courses.{Stage, at_first, phase_ended, stage_after}
+use Rattle.restart_theorem.specs.Lives.{Act, Slice, Batch, Checkpoint, Upgrade, Reply, Spent, Event}
+use Rattle.restart_theorem.specs.Lives.{Told, Asked, Opened, Ended, told_in, Inputs, Beginning}
+use Rattle.restart_theorem.specs.Courses.{Stage, at_beginning, phase_ended, stage_after}
 use Rattle.restart_theorem.specs.Courses.{without_first}
 use Rattle.restart_theorem.specs.Promises.{Promise, as_begun, after, promised, IsKept, AreKept}
 use Rattle.restart_theorem.specs.Exchanges as exchanged
 use Rattle.restart_theorem.specs.Exchanges.{AreEvents}
 use Rattle.restart_theorem.proofs.Promised.{calls_join}
+use Rattle.worker_store.specs.laws.Acts.{TakesSteps}
 use Rattle.worker_store.specs.rules.BetweenCalls.{IsForetold}
 use Rattle.worker_store.proofs.LawLemmas.Pieces.{parts_are_foretold}
 use Rattle.worker.specs.declared.recover_fault.RecoverFault.{RecoverFault}
@@ -52,6 +54,8 @@ reply_join before (Told r t ∷ first) rest = reply_join before first rest
 reply_join before (Asked n k said fits ∷ first) rest = reply_join before first rest
 reply_join before (Opened held shown ∷ first) rest = reply_join before first rest
 reply_join before (Ended (Slice fuel) reply held shown ∷ first) rest = reply_join reply first rest
+reply_join before (Ended (Batch fuel most) reply held shown ∷ first) rest =
+    reply_join reply first rest
 reply_join before (Ended Checkpoint reply held shown ∷ first) rest = reply_join before first rest
 reply_join before (Ended Upgrade reply held shown ∷ first) rest = reply_join before first rest
 
@@ -263,13 +267,36 @@ module _ {D S O : Type 0} (medium : D → Medium) (gives : Giving S) (takes : Ta
 
 -- ---- the slice that ends last
 
-module _ (m : Module) (config : Settings) (so_far : Promise) (inputs : Inputs) where
-  -- the first of these, where no slice ends after it
+module _ (m : Module) (config : Settings) (so_far : Promise) (begins : Beginning)
+    (inputs : Inputs) where
+  -- it ends last, where none that takes steps ends after it
+  ends_last : (front : List Event) (act : Act) (reply : Reply) (held : ℕ) (shown : Saved)
+      (events : List Event) → TakesSteps act
+      → IsKept m config (promised so_far front) (stage_after (at_beginning begins inputs) front)
+      (Ended act reply held shown)
+      → ((b : Reply) → reply_after b events ≡ b)
+      → LastSliceEnds m config so_far begins inputs
+      (front ++ (Ended act reply held shown ∷ events)) (reply_after reply events)
+  ends_last front act reply held shown events stepping kept none =
+      subst (λ r. LastSliceEnds m config so_far begins inputs
+      (front ++ (Ended act reply held shown ∷ events)) r) (sym (none reply)) (record {
+        front = front;
+        back = events;
+        act = act;
+        takes_steps = stepping;
+        held = held;
+        shown = shown;
+        is = refl;
+        none_later = none;
+        ends = kept;
+      })
+
+  -- the first of these, where none ends after it
   first_ends : (front : List Event) (e : Event) (events : List Event) (before : Reply)
-      → IsKept m config (promised so_far front) (stage_after (at_first inputs) front) e
+      → IsKept m config (promised so_far front) (stage_after (at_beginning begins inputs) front) e
       → ((b : Reply) → reply_after b events ≡ b)
       → ((b : Reply) → reply_after b (e ∷ events) ≡ b)
-      ⊎ LastSliceEnds m config so_far inputs (front ++ (e ∷ events))
+      ⊎ LastSliceEnds m config so_far begins inputs (front ++ (e ∷ events))
       (reply_after before (e ∷ events))
   first_ends front (Told r t) events before kept none = inl none
   first_ends front (Asked n k said fits) events before kept none = inl none
@@ -277,42 +304,36 @@ module _ (m : Module) (config : Settings) (so_far : Promise) (inputs : Inputs) w
   first_ends front (Ended Checkpoint reply held shown) events before kept none = inl none
   first_ends front (Ended Upgrade reply held shown) events before kept none = inl none
   first_ends front (Ended (Slice fuel) reply held shown) events before kept none =
-      inr (subst (λ r. LastSliceEnds m config so_far inputs
-      (front ++ (Ended (Slice fuel) reply held shown ∷ events)) r) (sym (none reply)) (record {
-        front = front;
-        back = events;
-        fuel = fuel;
-        held = held;
-        shown = shown;
-        is = refl;
-        none_later = none;
-        ends = kept;
-      }))
+      inr (ends_last front (Slice fuel) reply held shown events tt kept none)
+  first_ends front (Ended (Batch fuel most) reply held shown) events before kept none =
+      inr (ends_last front (Batch fuel most) reply held shown events tt kept none)
 
   -- among events that keep what was promised none ends, or one ends last
   last_ends : (front events : List Event) (before : Reply)
-      → AreKept m config (promised so_far front) (stage_after (at_first inputs) front) events
+      → AreKept m config (promised so_far front)
+      (stage_after (at_beginning begins inputs) front) events
       → ((b : Reply) → reply_after b events ≡ b)
-      ⊎ LastSliceEnds m config so_far inputs (front ++ events) (reply_after before events)
+      ⊎ LastSliceEnds m config so_far begins inputs (front ++ events) (reply_after before events)
   last_ends front [] before kept = inl (λ b. refl)
   last_ends front (e ∷ events) before kept =
       by (last_ends (front ++ (e ∷ [])) events (reply_after before (e ∷ []))
-      (subst (λ p. AreKept m config p (stage_after (at_first inputs) (front ++ (e ∷ []))) events)
+      (subst (λ p. AreKept m config p
+      (stage_after (at_beginning begins inputs) (front ++ (e ∷ []))) events)
       (sym (promised_join so_far front (e ∷ [])))
       (subst (λ s. AreKept m config (after (promised so_far front) e) s events)
-      (sym (stage_join (at_first inputs) front (e ∷ []))) kept.1)))
+      (sym (stage_join (at_beginning begins inputs) front (e ∷ []))) kept.1)))
     where
       by : ((b : Reply) → reply_after b events ≡ b)
-          ⊎ LastSliceEnds m config so_far inputs ((front ++ (e ∷ [])) ++ events)
+          ⊎ LastSliceEnds m config so_far begins inputs ((front ++ (e ∷ [])) ++ events)
           (reply_after (reply_after before (e ∷ [])) events)
           → ((b : Reply) → reply_after b (e ∷ events) ≡ b)
-          ⊎ LastSliceEnds m config so_far inputs (front ++ (e ∷ events))
+          ⊎ LastSliceEnds m config so_far begins inputs (front ++ (e ∷ events))
           (reply_after before (e ∷ events))
       by (inl none) = first_ends front e events before kept.0 none
       by (inr last) =
-          inr (subst (λ r. LastSliceEnds m config so_far inputs (front ++ (e ∷ events)) r)
+          inr (subst (λ r. LastSliceEnds m config so_far begins inputs (front ++ (e ∷ events)) r)
           (sym (reply_join before (e ∷ []) events))
-          (subst (λ l. LastSliceEnds m config so_far inputs l
+          (subst (λ l. LastSliceEnds m config so_far begins inputs l
           (reply_after (reply_after before (e ∷ [])) events))
           (append_assoc front (e ∷ []) events) last))
 
@@ -324,22 +345,23 @@ goes_on_alone now.Spent e = refl
 goes_on_alone now.Waiting e = absurd (cc)
 goes_on_alone (now.Ended how) e = absurd (cc)
 
-answered_so : (m : Module) (config : Settings) (so_far : Promise) (inputs : Inputs)
-    (front events : List Event) (outcome : Now)
-    → AreKept m config (promised so_far front) (stage_after (at_first inputs) front) events
+answered_so : (m : Module) (config : Settings) (so_far : Promise) (begins : Beginning)
+    (inputs : Inputs) (front events : List Event) (outcome : Now)
+    → AreKept m config (promised so_far front)
+    (stage_after (at_beginning begins inputs) front) events
     → reply_after Spent events ≡ reply_of outcome
     → (outcome ≡ now.Spent)
-    ⊎ LastSliceEnds m config so_far inputs (front ++ events) (reply_of outcome)
-answered_so m config so_far inputs front events outcome kept says =
-    by (last_ends m config so_far inputs front events Spent kept)
+    ⊎ LastSliceEnds m config so_far begins inputs (front ++ events) (reply_of outcome)
+answered_so m config so_far begins inputs front events outcome kept says =
+    by (last_ends m config so_far begins inputs front events Spent kept)
   where
     by : ((b : Reply) → reply_after b events ≡ b)
-        ⊎ LastSliceEnds m config so_far inputs (front ++ events) (reply_after Spent events)
+        ⊎ LastSliceEnds m config so_far begins inputs (front ++ events) (reply_after Spent events)
         → (outcome ≡ now.Spent)
-        ⊎ LastSliceEnds m config so_far inputs (front ++ events) (reply_of outcome)
+        ⊎ LastSliceEnds m config so_far begins inputs (front ++ events) (reply_of outcome)
     by (inl none) = inl (goes_on_alone outcome (sym says ∙ none Spent))
     by (inr last) =
-        inr (subst (λ r. LastSliceEnds m config so_far inputs (front ++ events) r) says last)
+        inr (subst (λ r. LastSliceEnds m config so_far begins inputs (front ++ events) r) says last)
 
 module _ {D S O : Type 0} (medium : D → Medium) (gives : Giving S) (takes : Taking O) where
   pub lives_end_as_said : LivesEndAsSaid medium gives takes
@@ -352,7 +374,7 @@ module _ {D S O : Type 0} (medium : D → Medium) (gives : Giving S) (takes : Ta
       outlet' undone calls is in
       let all : List Exchange = map Tells o.0 ++ c.0 in
       let inputs : Inputs = uncut acts all in
-      let stage : Stage = at_first inputs in
+      let stage : Stage = at_beginning begins inputs in
       let heard = parts_are_foretold m config so_far so_far stage stage (map Tells o.0) c.0
       (anything_comes_true all) in
       let op = o.2 inputs sectors room heard.1 in
@@ -368,7 +390,7 @@ module _ {D S O : Type 0} (medium : D → Medium) (gives : Giving S) (takes : Ta
         told = told_join op.events more.events ∙ ap (λ l. l ++ told_in more.events) op.told
             ∙ ap (λ l. released_in (map Tells o.0) ++ l) more.told
             ∙ sym (released_join (map Tells o.0) c.0);
-        answered = answered_so m config first inputs op.events more.events
+        answered = answered_so m config first begins inputs op.events more.events
             (outcome_after now.Spent calls) more.kept (more.says now.Spent);
       }
   lives_end_as_said m config bytes so_far acts found last source source' outlet outlet' begins

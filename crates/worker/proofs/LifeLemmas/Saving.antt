@@ -6,7 +6,7 @@ use Rattle.process_rules.specs.Processes.{ProcessState, Guest}
 use Rattle.sector_disk.specs.rules.Medium.{Medium}
 use Rattle.process.specs.rules.Values.{ProcessValue}
 use Rattle.state_image.specs.rules.Saving.{saved_of}
-use Rattle.restart_theorem.specs.Lives.{Cause, OfDisk, Event, kept_by_end}
+use Rattle.restart_theorem.specs.Lives.{Slice, Cause, OfDisk, Event, kept_by_end}
 use Rattle.restart_theorem.specs.Lives.Act.{Upgrade as upgrading}
 use Rattle.restart_theorem.specs.Exchanges.{AreEvents, none}
 use Rattle.restart_theorem.specs.Courses.{Stage}
@@ -29,8 +29,8 @@ pub cause_of_saving : (m : Module) (config : Settings) (guest : Guest) (promise 
     → IsOpenOn m config guest promise stage p w old → IsCheckpointFault w old new why
     → HasDiskCause config (Worker why) old new
 cause_of_saving m config guest promise stage p w (Disk fault) old new open_on fails =
-    disk_cause (record { code = m; config = config; guest = guest; fuel = 0; first = 0 }) promise p
-    p.steps promise.events w.store w.process w.process old new fault open_on.on_disk fails
+    disk_cause (record { code = m; config = config; guest = guest; act = Slice 0; first = 0 })
+    promise p p.steps promise.events w.store w.process w.process old new fault open_on.on_disk fails
 cause_of_saving m config guest promise stage p w (Work fault) old new open_on fails = tt
 cause_of_saving m config guest promise stage p w (Store fault) old new open_on fails = tt
 cause_of_saving m config guest promise stage p w (Upgrade fault) old new open_on fails = tt

@@ -1,6 +1,6 @@
 -- The next generation of a recovered worker: a savepoint of the process at hand.
 use Rattle.std.proofs.Common.{◌≡◌, ◌⊎◌, inl, inr, ⊎_elim, ℕ, ◌+◌, ◌≤◌, List, [], length, refl, sym}
-use Rattle.std.proofs.Common.{ap, ◌∙◌, subst, arith, append-nil}
+use Rattle.std.proofs.Common.{ap, ◌∙◌, subst, arith, append-nil, is_some}
 use Rattle.std.specs.Prelude.{Result, Ok, Err}
 use Rattle.wasm_syntax.specs.declared.module.Module.{Module}
 use Rattle.wasi_abi.specs.declared.numbers.TheConstants.{NUMBERS_END}
@@ -38,6 +38,7 @@ use Rattle.worker.specs.declared.fault.WorkFault.TheVariants.{Store}
 use Rattle.worker.specs.declared.found.Found.{Found}
 use Rattle.worker.specs.declared.recover_fault.RecoverFault.{RecoverFault}
 use Rattle.worker.specs.declared.recover_fault.RecoverFault.TheVariants.{Worker, Replay}
+use Rattle.worker.specs.rules.CallCounts.{most_committing}
 use Rattle.worker.specs.rules.WorkFaults.{fault_of_store}
 use Rattle.worker.specs.rules.DurableValues.{DurableValue}
 use Rattle.worker.specs.Revivals.{WritesNext, OpensStore, OpensNone, OpensAgain}
@@ -160,6 +161,7 @@ module _ {D : Type 0} (medium : D → Medium) (geometry : Geometry) (generation 
       counts = counts_same (medium mid) _;
       some = λ image crashed. (image, crashed);
       counted = omega arith;
+      few = omega arith;
     };
     fault = store.TooBig;
     fails = inl late;
@@ -173,7 +175,8 @@ module _ {D : Type 0} (medium : D → Medium) (geometry : Geometry) (generation 
       (medium new))
       (some : (image : DiskImage) → (medium new).crash_images image
       → (before : DiskImage) × (medium mid).crash_images before)
-      (few : CallsUpTo ((medium mid).sectors + 2) (medium mid) (medium new)) where
+      (room : total_sectors geometry ≤ (medium mid).sectors)
+      (few : CallsUpTo (most_committing geometry) (medium mid) (medium new)) where
     writes_next : WritesNext geometry generation v (medium mid) (medium new)
     writes_next = record {
       leaves = subst (λ n. LeavesPointOrNext geometry n v (medium mid) (medium new)) is_next
@@ -181,7 +184,8 @@ module _ {D : Type 0} (medium : D → Medium) (geometry : Geometry) (generation 
       passes = passes;
       counts = counts;
       some = some;
-      counted = few;
+      counted = omega (arith, room, few);
+      few = few;
     }
 
     pub opens_next : (store : WorkerStore)
@@ -230,7 +234,8 @@ module _ {D O : Type 0} (medium : D → Medium) (takes : Taking O) (found : Foun
         subst (λ (x : ProcessValue). OpensStore found.geometry found.generation x w.store
             (medium mid) (medium new)) (sym same.process) opens.1,
         same.unfailed,
-        same.behind,
+        subst (λ (x : ProcessValue). w.is_abreast ≡ is_some x.ended) (sym same.process)
+            same.abreast,
       )
   revives_found v count new replayed (Err why) opens = inr (record {
     process = v;

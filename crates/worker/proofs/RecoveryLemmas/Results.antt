@@ -1,6 +1,6 @@
 -- What a recovery answers, by what its disk shows and by what was promised.
 use Rattle.std.proofs.Common.{◌≡◌, ◌⊎◌, inl, inr, ⊎_elim, ℕ, suc, ◌+◌, ◌<◌, ◌≤◌, List, []}
-use Rattle.std.proofs.Common.{◌*◌}
+use Rattle.std.proofs.Common.{◌*◌, is_some}
 use Rattle.std.proofs.Common.{◌++◌, length, drop, take, refl, sym, ap, ◌∙◌, subst, arith, false}
 use Rattle.std.specs.Prelude.{Result, Ok, Err}
 use Rattle.std.proofs.lemmas.List.{append-nil}
@@ -49,6 +49,7 @@ use Rattle.worker.specs.declared.found.Found.{Found}
 use Rattle.worker.specs.declared.recover_fault.RecoverFault.{RecoverFault}
 use Rattle.worker.specs.declared.recover_fault.RecoverFault.TheVariants as recover
 use Rattle.worker.specs.rules.WorkFaults.{fault_of_store}
+use Rattle.worker.specs.rules.CallCounts.{most_behind, most_opening}
 use Rattle.worker.specs.rules.DurableValues.{DurableValue}
 use Rattle.worker.specs.rules.Recoveries.{IsNoWorker, IsNoWorkerOr, SaysNothing}
 use Rattle.worker.specs.rules.Recoveries.{MarksDecide, IsJustSynced}
@@ -306,6 +307,16 @@ opening_calls found w mid new opens =
       subst (λ g. new.calls ≡ with_head g calls.0 ++ mid.calls) (sym opens.numbered) made.all,
     )
 
+-- so many calls at most, from before the sync on
+few_calls : (found : Found) (w : DurableValue) (old mid new : Medium)
+    → OpensStore found.geometry found.generation w.process w.store mid new
+    → CallsUpTo (1 + old.sectors + most_behind found.geometry) old mid
+    → CallsUpTo (most_opening w.store.geometry old.sectors) old new
+few_calls found w old mid new opens few =
+    let writes = opens.writes in
+    subst (λ (g : Geometry). CallsUpTo (most_opening g old.sectors) old new) (sym opens.placed)
+    (omega (arith, few, writes.few))
+
 -- what an image stands for, by which it was found
 module _ {O : Type 0} (takes : Taking O) (found : Found) (wasm : List ℕ) (disk : DiskImage)
     (m : Module) (config : Settings) (kept : List Kept) (n : ℕ)
@@ -328,8 +339,9 @@ module _ {O : Type 0} (takes : Taking O) (found : Found) (wasm : List ℕ) (disk
   pub revived : (w : DurableValue) (mid new : Medium)
       → IsReplayed takes found w.process w.replayed outlet outlet'
       → OpensStore found.geometry found.generation w.process w.store mid new
-      → w.has_failed ≡ false → w.is_abreast ≡ false → Revives takes stands (Ok w) outlet outlet'
-  revived w mid new replayed opens works behind =
+      → w.has_failed ≡ false → w.is_abreast ≡ is_some w.process.ended
+      → Revives takes stands (Ok w) outlet outlet'
+  revived w mid new replayed opens works abreast =
       let back = back_of w.process w.replayed replayed in
       let counted : stands.last.steps ≡ stands.process.steps + w.replayed = back.counted in
       let step : n ≡ stands.last.steps = stands.at_step in (
@@ -339,7 +351,7 @@ module _ {O : Type 0} (takes : Taking O) (found : Found) (wasm : List ℕ) (disk
           generation = opens.numbered ∙ ap (λ g. g + 1) at.generation;
           counted = omega (arith, counted, step);
           unfailed = works;
-          behind = behind;
+          abreast = (let shows = back.shows in abreast ∙ ap is_some shows.ended);
         },
         back.told,
       )
@@ -414,7 +426,9 @@ module _ {D O : Type 0} (medium : D → Medium) (takes : Taking O) (old mid new 
     (finds : (image : DiskImage) → (medium mid).shows image
     → FindsWorker (medium old).sectors wasm image (Ok found))
     (marks : (image : DiskImage) → (medium mid).shows image
-    → MarksDecide {T = Found} image (Ok found)) where
+    → MarksDecide {T = Found} image (Ok found))
+    (few : CallsUpTo (1 + (medium old).sectors + most_behind found.geometry) (medium old)
+    (medium mid)) where
   found_for : (image : DiskImage) → (medium mid).shows image → (m : Module) (config : Settings)
       (kept : List Kept) (n : ℕ) (stands : StandsFor image m config kept n)
       → total_sectors (geometry_of config (length stands.wasm)) ≤ (medium old).sectors
@@ -440,7 +454,10 @@ module _ {D O : Type 0} (medium : D → Medium) (takes : Taking O) (old mid new 
           (medium new) revives.0 revives.1 revives.2 revives.3;
     }),
     λ denies. absurd denies,
-    opening_calls found w (medium mid) (medium new) revives.1,
+    (
+      opening_calls found w (medium mid) (medium new) revives.1,
+      few_calls found w (medium old) (medium mid) (medium new) revives.1 few,
+    ),
   )
   found_recovers (Err why) (inl stops) = inr (
     mid,
@@ -559,12 +576,19 @@ module _ {D O T : Type 0} (medium : D → Medium) (takes : Taking O) (old sync m
   module _ (new : D) (outlet' : O) (fit : ProcessImagesFitAreas) (found : Found)
       (one : FindsOne (medium sync).sectors (medium mid) (Ok found))
       (marks : (image : DiskImage) → (medium mid).shows image
-      → MarksDecide {T = Found} image (Ok found)) (result : Result DurableValue RecoverFault)
+      → MarksDecide {T = Found} image (Ok found))
+      (calls : CallsUpTo ((medium sync).sectors + most_behind found.geometry) (medium sync)
+      (medium mid)) (result : Result DurableValue RecoverFault)
       (revives : RevivesFound medium takes found result mid new outlet outlet') where
+    from_first : CallsUpTo (1 + (medium old).sectors + most_behind found.geometry) (medium old)
+        (medium mid)
+    from_first =
+        let passes = syncs.passes in omega (arith, syncs.counted, calls, passes.sectors)
+
     pub is_found_recovers : Recovers medium takes result old new outlet outlet'
     is_found_recovers = found_recovers medium takes old mid new outlet outlet' fit just_synced found
-        one.0 (finds_of (Ok found) one) marks result revives
+        one.0 (finds_of (Ok found) one) marks from_first result revives
 
     pub is_found_carries : RecoveryCarries takes result (medium old) (medium new) outlet outlet'
     is_found_carries = found_carries medium takes old mid new outlet outlet' fit just_synced found
-        one.0 (finds_of (Ok found) one) marks result revives
+        one.0 (finds_of (Ok found) one) marks from_first result revives

@@ -1,4 +1,5 @@
--- What the last slice of a life has answered, among what happened in it (this project's own).
+-- What the last slice or batch of a life has answered, among what happened in it (this project's
+-- own).
 use Rattle.std.specs.Prelude.{◌≡◌, ◌⊎◌, ℕ, ◌≤◌, List, [], ◌∷◌, ◌++◌, length, Option, Result, Ok}
 use Rattle.wasm_syntax.specs.declared.module.Module.{Module}
 use Rattle.wasm_semantics.specs.Acceptance.{IsAccepted}
@@ -10,12 +11,14 @@ use Rattle.sector_disk.specs.rules.Medium.{Medium}
 use Rattle.disk_layout.specs.rules.Places.{geometry_of, total_sectors}
 use Rattle.disk_layout.specs.rules.Unsynced.{most_unsynced}
 use Rattle.record_replay.specs.rules.Calls.{Giving, Taking, Exchange, Exchanges}
-use Rattle.restart_theorem.specs.Lives.{Act, Slice, Checkpoint, Upgrade, Reply, Spent, Waits, Over}
+use Rattle.restart_theorem.specs.Lives.{Act, Slice, Batch, Checkpoint, Upgrade, Reply, Spent}
+use Rattle.restart_theorem.specs.Lives.{Waits, Over}
 use Rattle.restart_theorem.specs.Lives.{Event, Told, Asked, Opened, Ended, told_in, Beginning}
 use Rattle.restart_theorem.specs.Lives.{Inputs}
-use Rattle.restart_theorem.specs.Courses.{at_first, stage_after}
+use Rattle.restart_theorem.specs.Courses.{at_beginning, stage_after}
 use Rattle.restart_theorem.specs.Promises.{Promise, as_begun, promised, AreKept, IsEnding}
 use Rattle.restart_theorem.specs.Holds.{KeepsPromise, KeepsBounds}
+use Rattle.worker_store.specs.laws.Acts.{TakesSteps}
 use Rattle.ephemeral_worker.specs.declared.now.Now.{Now}
 use Rattle.ephemeral_worker.specs.declared.now.Now.TheVariants as now
 use Rattle.worker.specs.declared.recover_fault.RecoverFault.{RecoverFault}
@@ -31,44 +34,49 @@ reply_of now.Spent = Spent
 reply_of now.Waiting = Waits
 reply_of (now.Ended how) = Over (ending_of how)
 
--- What the last slice that ends among these events has answered; where there is none, what was
--- answered before them.
+-- What the last slice or batch that ends among these events has answered; where there is none,
+-- what was answered before them.
 abbrev pub reply_after : Reply → List Event → Reply
 reply_after before [] = before
 reply_after before (Told r is_taken ∷ events) = reply_after before events
 reply_after before (Asked steps question said fits ∷ events) = reply_after before events
 reply_after before (Opened held shown ∷ events) = reply_after before events
 reply_after before (Ended (Slice fuel) reply held shown ∷ events) = reply_after reply events
+reply_after before (Ended (Batch fuel most) reply held shown ∷ events) = reply_after reply events
 reply_after before (Ended Checkpoint reply held shown ∷ events) = reply_after before events
 reply_after before (Ended Upgrade reply held shown ∷ events) = reply_after before events
 
--- The last slice among these events ends so, after others. It keeps what was promised then: the
--- process that it shows is one that all kept answers lead to.
-pub record LastSliceEnds (m : Module) (config : Settings) (so_far : Promise) (inputs : Inputs)
-    (events : List Event) (reply : Reply) : Type 0 where
+-- The last slice or batch among these events ends so, after others. It keeps what was promised
+-- then: the process that it shows is one that all kept answers lead to.
+pub record LastSliceEnds (m : Module) (config : Settings) (so_far : Promise) (begins : Beginning)
+    (inputs : Inputs) (events : List Event) (reply : Reply) : Type 0 where
   pub front : List Event
   pub back : List Event
-  pub fuel : ℕ
+  pub act : Act
+  pub takes_steps : TakesSteps act
   pub held : ℕ
   pub shown : Saved
-  pub is : events ≡ front ++ (Ended (Slice fuel) reply held shown ∷ back)
+  pub is : events ≡ front ++ (Ended act reply held shown ∷ back)
   pub none_later : (before : Reply) → reply_after before back ≡ before
-  pub ends : IsEnding m config (promised so_far front) (stage_after (at_first inputs) front)
-      (record { act = Slice fuel; reply = reply; held = held; shown = shown })
+  pub ends : IsEnding m config (promised so_far front)
+      (stage_after (at_beginning begins inputs) front)
+      (record { act = act; reply = reply; held = held; shown = shown })
 
--- The exchanges of a life in which the power isn't cut, and its events, which keep what was
--- promised. Either its outcome is that the worker goes on, of which no more is said. Or its last
--- slice has answered this outcome.
+-- The exchanges of a life that begins so, in which the power isn't cut, and its events, which keep
+-- what was promised. Either its outcome is that the worker goes on, of which no more is said. Or
+-- its last slice has answered this outcome.
 pub record EndsAsSaid {S O : Type 0} (gives : Giving S) (takes : Taking O) (m : Module)
-    (config : Settings) (so_far : Promise) (acts : List Act) (outcome : Now) (source source' : S)
-    (outlet outlet' : O) : Type 0 where
+    (config : Settings) (so_far : Promise) (begins : Beginning) (acts : List Act) (outcome : Now)
+    (source source' : S) (outlet outlet' : O) : Type 0 where
   pub exchanges : List Exchange
   pub exchanged : Exchanges gives takes source outlet exchanges source' outlet'
   pub events : List Event
-  pub kept : AreKept m config so_far (at_first (uncut acts exchanges)) events
+  pub kept : AreKept m config (as_begun begins so_far)
+      (at_beginning begins (uncut acts exchanges)) events
   pub told : told_in events ≡ released_in exchanges
   pub answered : (outcome ≡ now.Spent)
-      ⊎ LastSliceEnds m config so_far (uncut acts exchanges) events (reply_of outcome)
+      ⊎ LastSliceEnds m config (as_begun begins so_far) begins (uncut acts exchanges) events
+      (reply_of outcome)
 
 -- so it is of each life without an error, on a disk with room for the worker
 abbrev pub LivesEndAsSaid : {D S O : Type 0} → (D → Medium) → Giving S → Taking O → Type 0
@@ -82,5 +90,5 @@ LivesEndAsSaid {D} {S} {O} medium gives takes =
     → total_sectors (geometry_of config (length bytes)) ≤ (medium found).sectors
     → most_unsynced (geometry_of config (length bytes)) ≤ (medium found).room
     → KeepsPromise m config so_far (medium found) → KeepsBounds so_far.events (medium found)
-    → EndsAsSaid gives takes m config (as_begun begins so_far) acts (life_outcome one) source
-    source' outlet outlet'
+    → EndsAsSaid gives takes m config so_far begins acts (life_outcome one) source source' outlet
+    outlet'

@@ -18,8 +18,8 @@ use Rattle.disk_layout.specs.rules.Places.{geometry_of, total_sectors}
 use Rattle.disk_layout.specs.rules.Unsynced.{most_unsynced}
 use Rattle.disk_layout.specs.rules.Sectors.{HasWorker}
 use Rattle.restart_theorem.specs.Between.{FindsNoWorker}
-use Rattle.restart_theorem.specs.Lives.{Inputs, Opened}
-use Rattle.restart_theorem.specs.Courses.{at_first, next_stage}
+use Rattle.restart_theorem.specs.Lives.{Inputs, Opened, Creates}
+use Rattle.restart_theorem.specs.Courses.{at_beginning, next_stage}
 use Rattle.restart_theorem.specs.Promises.{Promise, after, AreKept, OpensAnew}
 use Rattle.restart_theorem.specs.Holds.{IsNothingYet, CarriesPromise, StaysWithin}
 use Rattle.worker_store.specs.declared.fault.StoreFault.TheVariants as store
@@ -96,10 +96,11 @@ pub record OpensOn (m : Module) (config : Settings) (promise : Promise) (inputs 
     (w : DurableValue) (old new : Medium) : Type 0 where
   pub guest : Guest
   pub process : ProcessState
-  pub kept : AreKept m config promise (at_first inputs) (Opened 0 (saved_of w.process) ∷ [])
+  pub kept : AreKept m config promise (at_beginning Creates inputs)
+      (Opened 0 (saved_of w.process) ∷ [])
   pub anew : OpensAnew (Opened 0 (saved_of w.process) ∷ [])
   pub opened : IsOpenOn m config guest (after promise (Opened 0 (saved_of w.process)))
-      (next_stage (at_first inputs) (Opened 0 (saved_of w.process))) process w new
+      (next_stage (at_beginning Creates inputs) (Opened 0 (saved_of w.process))) process w new
   pub leaves : FindsNoWorker old
       → LeavesCreation m config promise (after promise (Opened 0 (saved_of w.process))) old new
 

@@ -37,8 +37,8 @@ pub record IsOnDisk (m : Module) (config : Settings) (guest : Guest) (promise : 
   pub syncs : SyncsAreHeld m config promise.kept (count_at point records) step
   pub early : point.generation ≤ latest
 
--- Where a worker says so, no line was ever begun beyond those of its process. It says so once this
--- life has asked, or its process has ended.
+-- Where a worker says so, no line was ever begun beyond those of its process. It says so in a life
+-- that began by a creation, once it has asked, or where its process has ended.
 pub record IsAbreast (promise : Promise) (stage : Stage) (p : ProcessState) (says : Bool)
     : Type 0 where
   pub none_beyond : says ≡ true → promise.begun ≤ length p.host.lines

@@ -1,6 +1,6 @@
 -- A worker that is recovered from its disk (this project's own).
 use Rattle.std.specs.Prelude.{◌≡◌, ◌⊎◌, ℕ, suc, ◌+◌, ◌-◌, ◌*◌, ◌≤◌, ◌<◌, false, List, [], ◌∷◌}
-use Rattle.std.specs.Prelude.{◌++◌, length, map, drop, Result, Ok, Err, IfOk}
+use Rattle.std.specs.Prelude.{◌++◌, length, map, drop, is_some, Result, Ok, Err, IfOk}
 use Rattle.wasm_syntax.specs.declared.module.Module.{Module}
 use Rattle.wasi_abi.specs.declared.numbers.TheConstants.{NUMBERS_END}
 use Rattle.wasi_abi.specs.rules.Configs.{Settings}
@@ -37,7 +37,7 @@ use Rattle.worker_store.specs.declared.fault.StoreFault.TheVariants as store
 use Rattle.worker.specs.declared.fault.WorkFault.TheVariants.{Disk, Store}
 use Rattle.worker.specs.declared.recover_fault.RecoverFault.{RecoverFault}
 use Rattle.worker.specs.declared.recover_fault.RecoverFault.TheVariants.{Worker, Layout, Replay}
-use Rattle.worker.specs.rules.CallCounts.{most_recovering}
+use Rattle.worker.specs.rules.CallCounts.{most_opening, most_recovering}
 use Rattle.worker.specs.rules.DurableCalls.{TakesTooFew}
 use Rattle.worker.specs.rules.DurableValues.{DurableValue}
 use Rattle.worker.specs.rules.OpenWorkers.{IsOpenOn}
@@ -79,8 +79,8 @@ pub record MarksDecide {T : Type 0} (disk : DiskImage) (result : Result T Recove
   pub always : IsBlank disk → SaysNoWorkerOr result
 
 -- The worker is at the process that the image's answers lead to, one generation on. As many steps
--- were replayed as lie between the saved process and that one. It doesn't say that no line is
--- beyond that process: an earlier life may have told some.
+-- were replayed as lie between the saved process and that one. Only where that has ended does the
+-- worker say that no line is beyond it: else an earlier life may have told some.
 pub record IsRevived {disk : DiskImage} {m : Module} {config : Settings} {kept : List Kept} {n : ℕ}
     (stands : StandsFor disk m config kept n) (w : DurableValue) : Type 0 where
   pub shows : ShowsProcess w.process stands.reached.guest stands.last
@@ -88,7 +88,7 @@ pub record IsRevived {disk : DiskImage} {m : Module} {config : Settings} {kept :
   pub generation : w.store.journal.generation ≡ stands.generation + 1
   pub counted : w.replayed ≡ n - stands.process.steps
   pub unfailed : w.has_failed ≡ false
-  pub behind : w.is_abreast ≡ false
+  pub abreast : w.is_abreast ≡ is_some stands.last.ended
 
 -- Some of the lines of p after the first so many were released, each once, in their order, with
 -- their numbers. The outlet took them.
@@ -164,7 +164,8 @@ OpeningCalls w mid new = (stores : List DiskCall)
     × (new.calls ≡ with_head w.store.journal.generation stores ++ mid.calls)
 
 -- Nothing is written or told before a good sync. What the disk then shows decides the result.
--- Where there is no worker nothing is written or told at all.
+-- Where there is no worker nothing is written or told at all. Where one is opened, few calls of the
+-- disk were begun: those of the sync, the reads and one commit.
 abbrev pub Recovers : {D O : Type 0} → (D → Medium) → Taking O → Result DurableValue RecoverFault
     → D → D → O → O → Type 0
 Recovers {D} medium takes result old new outlet outlet' =
@@ -173,7 +174,8 @@ Recovers {D} medium takes result old new outlet outlet' =
     × ((image : DiskImage) → (medium mid).shows image
     → RecoversFrom takes (medium old).sectors image result outlet outlet')
     × (SaysNoWorker result → OnlyReads (medium mid) (medium new) × (outlet' ≡ outlet))
-    × IfOk result (λ w. OpeningCalls w (medium mid) (medium new)))
+    × IfOk result (λ w. OpeningCalls w (medium mid) (medium new)
+    × CallsUpTo (most_opening w.store.geometry (medium old).sectors) (medium old) (medium new)))
 
 -- ---- what was promised
 

@@ -1,6 +1,6 @@
 -- What a recovery answers whatever is on its disk (this project's own).
 use Rattle.std.specs.Prelude.{◌≡◌, ◌≢◌, ◌⊎◌, ℕ, ◌+◌, ◌*◌, ◌≤◌, ◌<◌, false, List, length, Result}
-use Rattle.std.specs.Prelude.{Ok, Err, IfErr}
+use Rattle.std.specs.Prelude.{is_some, Ok, Err, IfErr}
 use Rattle.wasm_syntax.specs.declared.module.Module.{Module}
 use Rattle.wasm_semantics.specs.Acceptance.{IsAccepted}
 use Rattle.wasi_abi.specs.declared.numbers.TheConstants.{NUMBERS_END}
@@ -153,7 +153,8 @@ ShowsFault sectors disk other = ⊥
 -- ---- what comes of a worker that was found
 
 -- The records lead from the saved process to that of the worker, one generation on. Each line after
--- those of the saved process was told, once and in order.
+-- those of the saved process was told, once and in order. Only where its process has ended does the
+-- worker say that no line is beyond it.
 pub record RevivesHeld {O : Type 0} {sectors : ℕ} {disk : DiskImage} (takes : Taking O)
     (held : HoldsWorker sectors disk) (w : DurableValue) (outlet outlet' : O) : Type 0 where
   pub last : ProcessState
@@ -163,7 +164,7 @@ pub record RevivesHeld {O : Type 0} {sectors : ℕ} {disk : DiskImage} (takes : 
   pub generation : w.store.journal.generation ≡ held.generation + 1
   pub counted : w.process.steps ≡ held.saved.steps + w.replayed
   pub unfailed : w.has_failed ≡ false
-  pub behind : w.is_abreast ≡ false
+  pub abreast : w.is_abreast ≡ is_some last.ended
   pub told : TellsFrom takes held.saved.lines last outlet outlet'
 
 -- The records have led so far, and a replay stops there for this. The lines up to there were told.

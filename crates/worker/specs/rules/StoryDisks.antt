@@ -110,14 +110,15 @@ reported_end false (Ok done) = Finished
 reported_end false (Err why) = Failed why
 
 -- One life on the disk that it finds. Its calls are those of a worker, each as its clause says.
--- This is told of its opening, its lines, its calls of the disk and its end. Then comes what the
--- next life finds.
+-- This is told of its opening, its lines, its calls of the disk and its end, and whether its stop
+-- has left a front of a write. Then comes what the next life finds.
 pub record IsRunOn (bytes : List ℕ) (config : Settings) (planned : PlannedLife)
     (report : LifeReport) (found next : MemDisk) : Type 0 where
   pub first : FaultDisk MemDisk
   pub begun : IsBegunOn planned found first
   pub last : FaultDisk MemDisk
   pub counted : report.calls ≡ call_number (call_counts_of last)
+  pub torn_front : report.has_torn_front ≡ torn_front_of last
   pub begins : Beginning
   pub worker : Option DurableValue
   pub ended : Result (Unit {0}) RecoverFault

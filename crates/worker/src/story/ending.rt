@@ -1,6 +1,11 @@
 //! How a life ended, and what it leaves to the next one.
+//!
+//! **How often a disk was called is counted by a `FaultDisk` alone**, whose three counters are
+//! there anyway. A function's bound is of any disk, so of one that counts too. Exact numbers would
+//! bind each function to its order of calls once more. A bound is enough against a stop that never
+//! came.
 
-ghost use Rattle.std.specs.Prelude.{◌≡◌, ◌↔◌, ◌-◌, IfOk, IsTrue, length, take};
+ghost use Rattle.std.specs.Prelude.{◌≡◌, ◌↔◌, ◌-◌, IsTrue, length, take};
 ghost use Rattle.sector_disk.specs.rules.FaultDisk.{call_counts_of, disk_below, torn_front_of};
 ghost use Rattle.sector_disk.specs.rules.Memory.{memory_medium, memory_state_of, after_cut};
 ghost use Rattle.sector_disk.specs.rules.Trouble.{call_number};
@@ -11,10 +16,8 @@ ghost use Rattle.worker.specs.rules.StoryDisks.{IsNextDisk, front_count, reporte
 ghost use Rattle.worker.specs.Endings.{IsFoundBehind};
 
 use crate::RecoverFault;
-use crate::story::fault::StoryFault;
 use crate::story::report::LifeEnd;
 use sector_disk::{FaultDisk, MemDisk, Place};
-use std::alloc::Global;
 
 /// How many reads, writes and syncs were begun.
 pub(crate) fn call_count(disk: &FaultDisk<MemDisk>) -> u64
@@ -48,44 +51,30 @@ pub(crate) fn end_of(has_stopped: bool, ended: Result<(), RecoverFault>) -> Life
 }
 
 /// What the next life finds: what a cut leaves, or after an error the same disk.
-pub(crate) fn disk_behind(
-    alloc: Global,
-    disk: FaultDisk<MemDisk>,
-    ended: LifeEnd,
-    tears: &[u16],
-) -> Result<MemDisk, StoryFault>
-    ensures behind { IfOk result (IsFoundBehind ended (disk_below disk)) }
-    ensures next_disk { IfOk result (IsNextDisk tears.now ended disk) }
-    ensures room { IfOk result (λ next.
-        (memory_medium next).room ≡ (memory_medium (disk_below disk)).room) }
+pub(crate) fn disk_behind(disk: FaultDisk<MemDisk>, ended: LifeEnd, tears: &[u16]) -> MemDisk
+    ensures behind { IsFoundBehind ended (disk_below disk) result }
+    ensures next_disk { IsNextDisk tears.now ended disk result }
+    ensures room { (memory_medium result).room ≡ (memory_medium (disk_below disk)).room }
 {
     let has_torn_front = disk.has_torn_front();
     let last = disk.into_inner();
     match ended {
-        LifeEnd::Failed(_) => Ok(last),
-        LifeEnd::Finished | LifeEnd::Stopped => cut_by(alloc, &last, has_torn_front, tears),
+        LifeEnd::Failed(_) => last,
+        LifeEnd::Finished | LifeEnd::Stopped => cut_by(last, has_torn_front, tears),
     }
 }
 
 /// What a cut leaves of the writes since the last good sync. Where the last of them is the front
 /// that a stop has left, no number names it.
-fn cut_by(
-    alloc: Global,
-    disk: &MemDisk,
-    has_torn_front: bool,
-    tears: &[u16],
-) -> Result<MemDisk, StoryFault>
-    ensures cut { IfOk result (λ d. memory_state_of d ≡ after_cut (memory_state_of disk.now)
-        (take (length (memory_state_of disk.now).pending - front_count has_torn_front) tears.now)) }
-    ensures found { IfOk result (λ d. IsFoundAfterCut (memory_medium disk.now) (memory_medium d)) }
-    ensures room { IfOk result (λ d. (memory_medium d).room ≡ (memory_medium disk.now).room) }
+fn cut_by(disk: MemDisk, has_torn_front: bool, tears: &[u16]) -> MemDisk
+    ensures cut { memory_state_of result ≡ after_cut (memory_state_of disk)
+        (take (length (memory_state_of disk).pending - front_count has_torn_front) tears.now) }
+    ensures found { IsFoundAfterCut (memory_medium disk) (memory_medium result) }
+    ensures room { (memory_medium result).room ≡ (memory_medium disk).room }
 {
     let earlier = disk
         .unsynced_count()
         .saturating_sub(usize::from(has_torn_front));
     let named = tears.len().min(earlier);
-    match disk.cut(alloc, &tears[..named]) {
-        Ok(cut) => Ok(cut),
-        Err(_) => Err(StoryFault::Memory),
-    }
+    disk.into_cut(&tears[..named])
 }

@@ -1,4 +1,7 @@
 //! Where the lines of a life go.
+//!
+//! This outlet refuses a line only for lack of memory. The memory is that of the report, so there
+//! is then no report.
 
 ghost use Rattle.std.specs.Prelude.{◌≡◌, [], false};
 

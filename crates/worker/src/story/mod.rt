@@ -42,14 +42,17 @@
 //! # Who may touch what
 //!
 //! It makes its disk, its sources and its outlets itself, and hands out none. It makes the four
-//! calls of a `Worker`, over the disks of `sector_disk`. It takes memory for the disk, and
-//! for what a cut leaves of it. It takes some for copies of the answers, and for the lines and
-//! images that it tells.
+//! calls of a `Worker`, over the disks of `sector_disk`. It takes memory for the disk, for copies of
+//! the answers, and for the lines and images that it tells. A cut takes none.
+//!
+//! A story is handed the module's bytes, which a creation writes to the disk, and not a module. One
+//! that isn't accepted opens no life, and each life says why.
 
 ghost use Rattle.std.specs.Prelude.{◌≡◌, ◌<◌, ◌^◌, IfOk, length};
 ghost use Rattle.record_replay.specs.rules.Lists.{inner_outlet};
 ghost use Rattle.worker.specs.rules.Planned.{number_refused};
-ghost use Rattle.worker.specs.rules.StoryDisks.{IsEmptyDiskFor, IsRunOn, TellsLives};
+ghost use Rattle.worker.specs.rules.StoryDisks.{IsEmptyDisk, IsEmptyDiskFor, IsRunOn};
+ghost use Rattle.worker.specs.rules.StoryDisks.{TellsLives};
 ghost use Rattle.disk_layout.specs.rules.Unsynced.{most_unsynced};
 ghost use Rattle.worker.specs.Endings.{EndsLife};
 ghost use Rattle.worker.specs.Going.{LivesOn};
@@ -73,7 +76,7 @@ pub use fault::StoryFault;
 pub use life::{PlannedAct, PlannedLife};
 use record_replay::{AnswerList, RefusingOutlet};
 pub use report::{LifeEnd, LifeReport, Opening, Report};
-use sector_disk::{FaultDisk, MemDisk};
+use sector_disk::{Disk, DiskFault, FaultDisk, MemDisk};
 use std::alloc::Global;
 use wasi_abi::Config;
 use wasm_syntax::ItemList;
@@ -90,7 +93,51 @@ pub fn story(
 ) -> Result<Report, StoryFault>
     ensures { IfOk result (λ report. TellsLives wasm.now config.now lives.now report.lives) }
 {
-    let mut disk = empty_disk(alloc, wasm, config)?;
+    story_in(alloc, &mut StoryRoom::new(), wasm, config, lives)
+}
+
+/// Memory for the disk of a story, which the next story can use again.
+#[derive(Drop)]
+pub struct StoryRoom {
+    disk: Option<MemDisk>,
+}
+
+impl StoryRoom {
+    /// One that has no memory yet.
+    pub fn new() -> StoryRoom {
+        StoryRoom { disk: None }
+    }
+
+    /// A disk of zeros of so many sectors, which takes so many writes between two syncs. It is the
+    /// one that is here, if that has this size.
+    fn take_disk(
+        &mut self,
+        alloc: Global,
+        sectors: u64,
+        writes: usize,
+    ) -> Result<MemDisk, DiskFault>
+        ensures { IfOk result (IsEmptyDisk sectors writes) }
+    {
+        match self.disk.take() {
+            Some(disk) if disk.sectors() == sectors && disk.write_limit() == writes => {
+                Ok(disk.wiped())
+            }
+            _ => MemDisk::new(alloc, sectors, writes),
+        }
+    }
+}
+
+/// The same lives as `story` tells, in memory that other stories have used.
+pub fn story_in(
+    alloc: Global,
+    room: &mut StoryRoom,
+    wasm: &[u8],
+    config: &Config,
+    lives: &[PlannedLife],
+) -> Result<Report, StoryFault>
+    ensures { IfOk result (λ report. TellsLives wasm.now config.now lives.now report.lives) }
+{
+    let mut disk = empty_disk(alloc, room, wasm, config)?;
     let mut told = ItemList::new(alloc);
     for life in lives {
         let LivedOn { report, disk: last } = live(
@@ -105,17 +152,23 @@ pub fn story(
             Err(_) => return Err(StoryFault::Memory),
         }
     }
+    room.disk = Some(disk);
     Ok(Report { lives: told })
 }
 
 /// A disk of zeros with all sectors of this worker, which takes as many writes between two syncs as
 /// ever wait for one.
-fn empty_disk(alloc: Global, wasm: &[u8], config: &Config) -> Result<MemDisk, StoryFault>
+fn empty_disk(
+    alloc: Global,
+    room: &mut StoryRoom,
+    wasm: &[u8],
+    config: &Config,
+) -> Result<MemDisk, StoryFault>
     ensures { IfOk result (λ disk. length wasm.now < 2 ^ 32
         → IsEmptyDiskFor wasm.now config.now disk) }
 {
     let places = Geometry::of(config, module_len(wasm));
-    match MemDisk::new(alloc, places.total_sectors(), writes_at_once(&places)) {
+    match room.take_disk(alloc, places.total_sectors(), writes_at_once(&places)) {
         Ok(disk) => Ok(disk),
         Err(_) => Err(StoryFault::Memory),
     }
@@ -167,7 +220,7 @@ fn live(
     let acts = life.acts.as_slice();
     calls_make_lives::<FaultDisk<MemDisk>, AnswerList, RefusingOutlet<HeardLines>>();
     match live_once(alloc, spelled, &mut disk, acts, &mut source, &mut outlet) {
-        Ok(lived) => end_life(alloc, lived, disk, outlet, life),
+        Ok(lived) => end_life(lived, disk, outlet, life),
         Err(_) => Err(StoryFault::Memory),
     }
 }
@@ -184,7 +237,6 @@ fn number_refused(refuse: Option<u64>) -> u64
 
 /// What is told of a life that was lived, and what it leaves.
 fn end_life(
-    alloc: Global,
     lived: LivedOnce,
     disk: FaultDisk<MemDisk>,
     outlet: RefusingOutlet<HeardLines>,
@@ -198,14 +250,16 @@ fn end_life(
         return Err(StoryFault::Memory);
     }
     let calls = call_count(&disk);
+    let has_torn_front = disk.has_torn_front();
     let ended = end_of(has_stopped(life.stop, calls), lived.ended);
-    let disk = disk_behind(alloc, disk, ended, life.tears.as_slice())?;
+    let disk = disk_behind(disk, ended, life.tears.as_slice());
     Ok(LivedOn {
         report: LifeReport {
             opened: lived.opened,
             releases: heard.lines,
             ended,
             calls,
+            has_torn_front,
         },
         disk,
     })

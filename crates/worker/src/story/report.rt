@@ -1,4 +1,7 @@
 //! What is told of lives.
+//!
+//! **A story prints how each life ended, and with how many calls.** Else a body that runs nothing
+//! could plead any cause. One that pleads out of memory is left to tests.
 
 use crate::RecoverFault;
 use record_replay::LineList;
@@ -42,6 +45,8 @@ pub struct LifeReport {
     pub ended: LifeEnd,
     /// How many reads, writes and syncs of the disk were begun in it.
     pub calls: u64,
+    /// Whether it was cut inside of a write, and left a front of that, were it of no byte.
+    pub has_torn_front: bool,
 }
 
 /// What is told of a list of lives, in order.

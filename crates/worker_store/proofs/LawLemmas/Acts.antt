@@ -8,13 +8,16 @@ use Rattle.wasi_abi.specs.rules.Configs.{Settings}
 use Rattle.process_rules.specs.Runs.{Kept, Wider, version_after}
 use Rattle.process_rules.specs.Behind.{IsNarrowTo}
 use Rattle.state_image.specs.rules.ProcessImage.{Saved}
-use Rattle.restart_theorem.specs.Lives.{Act, Slice, Checkpoint, Upgrade, Reply, Spent, Waits, Over}
+use Rattle.restart_theorem.specs.Lives.{Act, Slice, Batch, Checkpoint, Upgrade, Reply, Spent}
+use Rattle.restart_theorem.specs.Lives.{Waits, Over}
 use Rattle.restart_theorem.specs.Lives.{Done, Fails, Cause, OfDisk, OfSource, OfAnswer, OfOutlet}
 use Rattle.restart_theorem.specs.Lives.{OfMemory, OfBounds, OfJournal, OfLines, Ended}
 use Rattle.restart_theorem.specs.Lives.{kept_by_widening, kept_by_end}
 use Rattle.restart_theorem.specs.Courses.{Phase, Stage, Open, MayFail}
 use Rattle.restart_theorem.specs.Promises.{Promise, after, MayPlead, IsReply, IsCaughtUp, IsOneOf}
+use Rattle.restart_theorem.proofs.Pleas.{batch_fails}
 use Rattle.restart_theorem.proofs.Widenings.{AddsWidening, end_keeps, wider_by}
+use Rattle.worker_store.specs.laws.Acts.{TakesSteps}
 use Rattle.worker_store.specs.laws.Acts.{IsSaving, ShowsItsVersion, SavesWith, keeping_more}
 use Rattle.worker_store.specs.laws.Acts.{CheckpointsSave, SavingEndsAlike, UpgradesWiden}
 use Rattle.worker_store.specs.laws.Acts.{UpgradesSave}
@@ -34,6 +37,7 @@ as_checkpoint promise more shown reply held saves =
 
 pub saving_ends_alike : SavingEndsAlike
 saving_ends_alike promise (Slice fuel) more shown reply held saves = absurd saves.saving
+saving_ends_alike promise (Batch fuel most) more shown reply held saves = absurd saves.saving
 saving_ends_alike promise Checkpoint more shown reply held saves =
     ap (λ (l : List Kept). record (after promise (Ended Checkpoint reply held shown)) { kept = l })
     (saves.kept reply held)
@@ -47,6 +51,15 @@ saving_ends_alike promise Upgrade more shown Done held saves =
     as_checkpoint promise more shown Done held saves
 saving_ends_alike promise Upgrade more shown (Fails cause) held saves =
     as_checkpoint promise more shown (Fails cause) held saves
+
+-- Acts that take steps promise the same in their end.
+pub steps_end_alike : (act : Act) (promise : Promise) (reply : Reply) (held : ℕ) (shown : Saved)
+    → TakesSteps act
+    → after promise (Ended act reply held shown) ≡ after promise (Ended (Slice 0) reply held shown)
+steps_end_alike (Slice fuel) promise reply held shown stepping = refl
+steps_end_alike (Batch fuel most) promise reply held shown stepping = refl
+steps_end_alike Checkpoint promise reply held shown stepping = absurd stepping
+steps_end_alike Upgrade promise reply held shown stepping = absurd stepping
 
 -- ---- what is kept besides
 
@@ -116,6 +129,8 @@ lines_emitted promise act more shown saves differs =
 pub acts_may_fail : ActsMayFail
 acts_may_fail config kept stage (Slice fuel) cause opened may =
     subst (λ (q : Phase). MayFail q cause) (sym opened) may
+acts_may_fail config kept stage (Batch fuel most) cause opened may =
+    batch_fails stage.phase cause (subst (λ (q : Phase). MayFail q cause) (sym opened) may)
 acts_may_fail config kept stage Checkpoint cause opened may =
     subst (λ (q : Phase). MayFail q cause) (sym opened) may
 acts_may_fail config kept stage Upgrade OfDisk opened may =
@@ -136,6 +151,8 @@ pub done_reply : (config : Settings) (kept : List Kept) (stage : Stage) (held : 
     → IsReply config kept stage held shown act Done
 done_reply config kept stage held shown (Slice fuel) saving version opened steps caught =
     absurd saving
+done_reply config kept stage held shown (Batch fuel most) saving version opened steps caught =
+    absurd saving
 done_reply config kept stage held shown Checkpoint saving version opened steps caught =
     (opened, steps, caught)
 done_reply config kept stage held shown Upgrade saving version opened steps caught =
@@ -146,6 +163,8 @@ pub failed_reply : (config : Settings) (kept : List Kept) (stage : Stage) (held 
     → MayPlead config kept stage act cause → shown.steps ≡ stage.step
     → IsOneOf stage.line shown.lines → IsReply config kept stage held shown act (Fails cause)
 failed_reply config kept stage held shown (Slice fuel) cause saving may steps told = absurd saving
+failed_reply config kept stage held shown (Batch fuel most) cause saving may steps told =
+    absurd saving
 failed_reply config kept stage held shown Checkpoint cause saving may steps told =
     (may, omega (arith, steps), told)
 failed_reply config kept stage held shown Upgrade cause saving may steps told =

@@ -1,34 +1,101 @@
 -- How a worker's call ends.
 use Rattle.std.proofs.Common.{◌≡◌, ◌≢◌, ℕ, suc, ◌+◌, ◌≤◌, ◌^◌, List, ◌∷◌, ◌++◌, length}
 use Rattle.std.proofs.Common.{take, refl, sym, ap, ◌∙◌, subst, arith, inl, inr, Option}
-use Rattle.std.proofs.Common.{Some}
+use Rattle.std.proofs.Common.{◌<◌, Some, None}
 use Rattle.std.proofs.Math.Seq.{take-length}
 use Rattle.wasm_syntax.specs.declared.module.Module.{Module}
 use Rattle.wasi_abi.specs.declared.numbers.TheConstants.{NUMBERS_END}
 use Rattle.wasi_abi.specs.declared.answer.Answer.{Answer}
 use Rattle.wasi_abi.specs.rules.Configs.{Settings}
-use Rattle.process_rules.specs.Processes.{ProcessState, Guest, IsStart}
-use Rattle.process_rules.specs.Runs.{Kept, Runs, Next, On, Over, Wants, Nowhere, next_of}
+use Rattle.process_rules.specs.Processes.{Ending, ProcessState, Guest, IsStart}
+use Rattle.process_rules.specs.Runs.{Kept, Runs, Next, On, Wants, Nowhere, next_of}
+use Rattle.process_rules.specs.Runs.{Over as Ends}
 use Rattle.process_rules.proofs.Growing.{runs_count}
 use Rattle.process_rules.proofs.Quiet.{runs_join}
 use Rattle.process.specs.rules.Stops.{LacksNumbers}
 use Rattle.state_image.specs.rules.ProcessImage.{Saved}
-use Rattle.restart_theorem.specs.Lives.{Act, Slice, Done, Ended}
+use Rattle.restart_theorem.specs.Lives.{Act, Slice, Batch, Checkpoint, Upgrade, Spent, Waits, Over}
+use Rattle.restart_theorem.specs.Lives.{Done, Ended, Reply}
 use Rattle.restart_theorem.specs.Lives.{Fails, Cause, OfDisk, OfSource, OfAnswer, OfOutlet}
 use Rattle.restart_theorem.specs.Lives.{OfMemory, OfBounds, OfJournal, OfLines, kept_by_end}
-use Rattle.restart_theorem.specs.Courses.{Stage, NoneThere, MayFail}
-use Rattle.restart_theorem.specs.Courses.{IsNextAct}
+use Rattle.restart_theorem.specs.Courses.{Stage, Open, NoneThere, MayFail}
+use Rattle.restart_theorem.specs.Courses.{IsNextAct, IsInBatch, HasLastAsked}
 use Rattle.restart_theorem.specs.Promises.{Promise, after, IsAt, IsAtBound, HasLastLines}
-use Rattle.restart_theorem.specs.Promises.{IsCaughtUp, IsOneOf, MayPlead, MayWiden}
+use Rattle.restart_theorem.specs.Promises.{IsCaughtUp, IsOneOf, IsReply, MayPlead, MayWiden}
+use Rattle.restart_theorem.specs.Promises.{fuel_of, IsEnding}
+use Rattle.worker_store.specs.laws.Acts.{TakesSteps}
+use Rattle.restart_theorem.proofs.Pleas.{batch_fails}
 use Rattle.worker_store.proofs.LawLemmas.Underway.{among_first}
+use Rattle.worker_store.specs.laws.Underway.{IsInItsSlice}
 use Rattle.worker_store.specs.laws.CallEnds.{IsSavedAs, SpentSlicesEnd, EndedSlicesEnd}
 use Rattle.worker_store.specs.laws.CallEnds.{WaitingSlicesEnd, HasBound, FailedSlicesEnd}
 use Rattle.worker_store.specs.laws.CallEnds.{IsSavingNext, DoneSavesEnd, FailedSavesEnd}
 use Rattle.worker_store.proofs.LawLemmas.Acts.{done_reply, failed_reply, lines_emitted}
-use Rattle.worker_store.specs.laws.CallEnds.{SlicesBegin, CallsLeaveBetween}
+use Rattle.worker_store.specs.laws.CallEnds.{LateFaultsEnd, SlicesBegin, CallsLeaveBetween}
 
 next_act : (act : Act) (acts rest : List Act) → acts ≡ act ∷ rest → IsNextAct act acts
 next_act act acts rest is = subst (λ z. IsNextAct act z) (sym is) refl
+
+-- ---- what an act that takes steps answers
+
+keeps_all : (act : Act) (shown : Saved) (kept : List Kept) → TakesSteps act
+    → kept_by_end act shown kept ≡ kept
+keeps_all (Slice fuel) shown kept stepping = refl
+keeps_all (Batch fuel most) shown kept stepping = refl
+keeps_all Checkpoint shown kept stepping = absurd stepping
+keeps_all Upgrade shown kept stepping = absurd stepping
+
+spent_reply : (config : Settings) (kept : List Kept) (stage : Stage) (held : ℕ) (shown : Saved)
+    (act : Act) → TakesSteps act → stage.phase ≡ Open → shown.steps ≡ stage.step + fuel_of act
+    → shown.ended ≡ None → IsCaughtUp kept stage held shown
+    → IsReply config kept stage held shown act Spent
+spent_reply config kept stage held shown (Slice fuel) stepping opened all running caught =
+    (opened, all, running, caught)
+spent_reply config kept stage held shown (Batch fuel most) stepping opened all running caught =
+    (opened, all, running, caught)
+spent_reply config kept stage held shown Checkpoint stepping opened all running caught =
+    absurd stepping
+spent_reply config kept stage held shown Upgrade stepping opened all running caught =
+    absurd stepping
+
+over_reply : (config : Settings) (kept : List Kept) (stage : Stage) (held : ℕ) (shown : Saved)
+    (act : Act) (why : Ending) → TakesSteps act → stage.phase ≡ Open
+    → shown.steps ≤ stage.step + fuel_of act → shown.ended ≡ Some why
+    → IsCaughtUp kept stage held shown → IsReply config kept stage held shown act (Over why)
+over_reply config kept stage held shown (Slice fuel) why stepping opened some is caught =
+    (opened, some, is, caught)
+over_reply config kept stage held shown (Batch fuel most) why stepping opened some is caught =
+    (opened, some, is, caught)
+over_reply config kept stage held shown Checkpoint why stepping opened some is caught =
+    absurd stepping
+over_reply config kept stage held shown Upgrade why stepping opened some is caught =
+    absurd stepping
+
+waits_reply : (config : Settings) (kept : List Kept) (stage : Stage) (held : ℕ) (shown : Saved)
+    (act : Act) → TakesSteps act → stage.phase ≡ NoneThere shown.steps
+    → shown.steps < stage.step + fuel_of act → shown.ended ≡ None
+    → IsCaughtUp kept stage held shown → IsReply config kept stage held shown act Waits
+waits_reply config kept stage held shown (Slice fuel) stepping none room running caught =
+    (none, room, running, caught)
+waits_reply config kept stage held shown (Batch fuel most) stepping none room running caught =
+    (none, room, running, caught)
+waits_reply config kept stage held shown Checkpoint stepping none room running caught =
+    absurd stepping
+waits_reply config kept stage held shown Upgrade stepping none room running caught =
+    absurd stepping
+
+failure_reply : (config : Settings) (kept : List Kept) (stage : Stage) (held : ℕ) (shown : Saved)
+    (act : Act) (cause : Cause) → TakesSteps act → MayFail stage.phase cause
+    → shown.steps ≤ stage.step + fuel_of act → IsOneOf stage.line shown.lines
+    → IsReply config kept stage held shown act (Fails cause)
+failure_reply config kept stage held shown (Slice fuel) cause stepping may some told =
+    (may, some, told)
+failure_reply config kept stage held shown (Batch fuel most) cause stepping may some told =
+    (batch_fails stage.phase cause may, some, told)
+failure_reply config kept stage held shown Checkpoint cause stepping may some told =
+    absurd stepping
+failure_reply config kept stage held shown Upgrade cause stepping may some told =
+    absurd stepping
 
 module _ (m : Module) (config : Settings) (guest : Guest) where
   -- the process, shown whole
@@ -57,65 +124,63 @@ module _ (m : Module) (config : Settings) (guest : Guest) where
     all_told = line ∙ ap (λ n. Some n) (sym saved.shows.lines);
   }
 
+  -- an act that takes steps ends where it has come to
+  ending : (promise : Promise) (stage : Stage) (act : Act) (reply : Reply) (held : ℕ)
+      (p : ProcessState) (shown : Saved) (at : IsInItsSlice m config guest promise stage act held p)
+      (saved : IsSavedAs m config guest p shown)
+      → IsReply config promise.kept stage held shown act reply
+      → ((kept : List Kept) (runs : Runs guest at.start kept p.steps p)
+      → IsAtBound promise (at_of kept p shown at.start at.begins runs saved) reply)
+      → IsEnding m config promise stage
+      (record { act = act; reply = reply; held = held; shown = shown })
+  ending promise stage act reply held p shown at saved answers bound =
+      let kept : List Kept = kept_by_end act shown promise.kept in
+      let same : kept ≡ promise.kept = keeps_all act shown promise.kept at.takes_steps in
+      let long : length kept ≡ length promise.kept = ap (λ (l : List Kept). length l) same in
+      let steps : shown.steps ≡ p.steps = saved.shows.steps in
+      let runs : Runs guest at.start (take held kept) p.steps p =
+      subst (λ (l : List Kept). Runs guest at.start (take held l) p.steps p) (sym same) at.runs in
+      record {
+        is_next = next_act act stage.acts at.acts at.slice;
+        within = (let w = at.within in omega (arith, w, long));
+        at = at_of (take held kept) p shown at.start at.begins runs saved;
+        onward = (let b = at.begun in omega (arith, b, steps));
+        reply = subst (λ (l : List Kept). IsReply config l stage held shown act reply) (sym same)
+            answers;
+        bound = bound (take held kept) runs;
+        widens = λ differs. absurd (differs same);
+      }
+
   pub spent_slices_end : SpentSlicesEnd m config guest
-  spent_slices_end promise stage fuel p shown over all running =
+  spent_slices_end promise stage act p shown over all running =
       let at = over.way.in_slice in
       let steps : shown.steps ≡ p.steps = over.saved.shows.steps in
-      record {
-        is_next = next_act (Slice fuel) stage.acts at.acts at.slice;
-        within = at.within;
-        at = at_of (take (length promise.kept) promise.kept) p shown at.start at.begins at.runs
-            over.saved;
-        onward = (let b = at.begun in omega (arith, b, steps));
-        reply = (
-          over.way.is_open,
-          omega (arith, steps, all),
-          over.saved.shows.ended ∙ running,
-          caught_up promise stage p shown over.way.line over.saved,
-        );
-        bound = tt;
-        widens = λ differs. absurd (differs refl);
-      }
+      ending promise stage act Spent (length promise.kept) p shown at over.saved
+      (spent_reply config promise.kept stage (length promise.kept) shown act at.takes_steps
+      over.way.is_open (omega (arith, steps, all)) (over.saved.shows.ended ∙ running)
+      (caught_up promise stage p shown over.way.line over.saved))
+      (λ kept runs. tt)
 
   pub ended_slices_end : EndedSlicesEnd m config guest
-  ended_slices_end promise stage fuel p shown why over is =
+  ended_slices_end promise stage act p shown why over is =
       let at = over.way.in_slice in
       let steps : shown.steps ≡ p.steps = over.saved.shows.steps in
-      record {
-        is_next = next_act (Slice fuel) stage.acts at.acts at.slice;
-        within = at.within;
-        at = at_of (take (length promise.kept) promise.kept) p shown at.start at.begins at.runs
-            over.saved;
-        onward = (let b = at.begun in omega (arith, b, steps));
-        reply = (
-          over.way.is_open,
-          (let b = at.in_time in omega (arith, b, steps)),
-          over.saved.shows.ended ∙ is,
-          caught_up promise stage p shown over.way.line over.saved,
-        );
-        bound = tt;
-        widens = λ differs. absurd (differs refl);
-      }
+      let b = at.in_time in
+      ending promise stage act (Over why) (length promise.kept) p shown at over.saved
+      (over_reply config promise.kept stage (length promise.kept) shown act why at.takes_steps
+      over.way.is_open (omega (arith, b, steps)) (over.saved.shows.ended ∙ is)
+      (caught_up promise stage p shown over.way.line over.saved))
+      (λ kept runs. tt)
 
   pub waiting_slices_end : WaitingSlicesEnd m config guest
-  waiting_slices_end promise stage fuel p shown broken saved line running room =
+  waiting_slices_end promise stage act p shown broken saved line running room =
       let at = broken.in_slice in
       let steps : shown.steps ≡ p.steps = saved.shows.steps in
-      record {
-        is_next = next_act (Slice fuel) stage.acts at.acts at.slice;
-        within = at.within;
-        at = at_of (take (length promise.kept) promise.kept) p shown at.start at.begins at.runs
-            saved;
-        onward = (let b = at.begun in omega (arith, b, steps));
-        reply = (
-          broken.is ∙ ap (λ n. NoneThere n) (sym steps),
-          omega (arith, room, steps),
-          saved.shows.ended ∙ running,
-          caught_up promise stage p shown line saved,
-        );
-        bound = tt;
-        widens = λ differs. absurd (differs refl);
-      }
+      ending promise stage act Waits (length promise.kept) p shown at saved
+      (waits_reply config promise.kept stage (length promise.kept) shown act at.takes_steps
+      (broken.is ∙ ap (λ n. NoneThere n) (sym steps)) (omega (arith, room, steps))
+      (saved.shows.ended ∙ running) (caught_up promise stage p shown line saved))
+      (λ kept runs. tt)
 
   -- ---- errors
 
@@ -133,7 +198,7 @@ module _ (m : Module) (config : Settings) (guest : Guest) where
     leads = leads;
     no_numbers = lacks;
   }
-  lacking given kept p shown at (Over why configuration host) leads lacks = absurd lacks
+  lacking given kept p shown at (Ends why configuration host) leads lacks = absurd lacks
   lacking given kept p shown at (Wants question) leads lacks = absurd lacks
   lacking given kept p shown at Nowhere leads lacks = absurd lacks
 
@@ -157,23 +222,37 @@ module _ (m : Module) (config : Settings) (guest : Guest) where
   at_bound promise kept p shown start begins runs saved OfLines bound = tt
 
   pub failed_slices_end : FailedSlicesEnd m config guest
-  failed_slices_end promise stage fuel held p shown phase cause broken saved may bound =
+  failed_slices_end promise stage act held p shown phase cause broken saved may bound =
       let at = broken.in_slice in
       let steps : shown.steps ≡ p.steps = saved.shows.steps in
-      record {
-        is_next = next_act (Slice fuel) stage.acts at.acts at.slice;
-        within = at.within;
-        at = at_of (take held promise.kept) p shown at.start at.begins at.runs saved;
-        onward = (let b = at.begun in omega (arith, b, steps));
-        reply = (
-          subst (λ z. MayFail z cause) (sym broken.is) may,
-          (let b = at.in_time in omega (arith, b, steps)),
-          subst (λ (n : ℕ). IsOneOf stage.line n) (sym saved.shows.lines) broken.told,
-        );
-        bound = at_bound promise (take held promise.kept) p shown at.start at.begins at.runs
-            saved cause bound;
-        widens = λ differs. absurd (differs refl);
-      }
+      let b = at.in_time in
+      ending promise stage act (Fails cause) held p shown at saved
+      (failure_reply config promise.kept stage held shown act cause at.takes_steps
+      (subst (λ z. MayFail z cause) (sym broken.is) may) (omega (arith, b, steps))
+      (subst (λ (n : ℕ). IsOneOf stage.line n) (sym saved.shows.lines) broken.told))
+      (λ kept runs. at_bound promise kept p shown at.start at.begins runs saved cause bound)
+
+  -- what takes steps in a batch is one
+  late_reply : (kept : List Kept) (stage : Stage) (held : ℕ) (shown : Saved) (act : Act)
+      (acts : List Act) → IsInBatch (act ∷ acts) → HasLastAsked stage.phase
+      → shown.steps ≤ stage.step + fuel_of act → IsOneOf stage.line shown.lines
+      → IsReply config kept stage held shown act (Fails OfDisk)
+  late_reply kept stage held shown (Slice fuel) acts batch asked some told = absurd batch
+  late_reply kept stage held shown (Batch fuel most) acts batch asked some told =
+      (inr asked, some, told)
+  late_reply kept stage held shown Checkpoint acts batch asked some told = absurd batch
+  late_reply kept stage held shown Upgrade acts batch asked some told = absurd batch
+
+  pub late_faults_end : LateFaultsEnd m config guest
+  late_faults_end promise stage act held p shown broken saved batch asked =
+      let at = broken.in_slice in
+      let steps : shown.steps ≡ p.steps = saved.shows.steps in
+      let b = at.in_time in
+      ending promise stage act (Fails OfDisk) held p shown at saved
+      (late_reply promise.kept stage held shown act at.acts
+      (subst (λ (l : List Act). IsInBatch l) at.slice batch) asked (omega (arith, b, steps))
+      (subst (λ (n : ℕ). IsOneOf stage.line n) (sym saved.shows.lines) broken.told))
+      (λ kept runs. tt)
 
   -- ---- an act that saves
 
@@ -291,10 +370,11 @@ module _ (m : Module) (config : Settings) (guest : Guest) where
   -- ---- from call to call
 
   pub slices_begin : SlicesBegin m config guest
-  slices_begin promise stage fuel acts p at is heard passed = record {
+  slices_begin promise stage act acts p at is takes heard passed = record {
     in_slice = record {
       acts = acts;
       slice = is;
+      takes_steps = takes;
       within = omega arith;
       start = at.start;
       begins = at.begins;

@@ -497,7 +497,7 @@ point_is_at m config point =
     }
 
 pub point_opens : PointOpens
-point_opens m config promise point stage held shut last =
+point_opens m config promise point stage held shut last further =
     let reached = point.reached in
     let all = held.holds in
     let n : ℕ = length point.front in
@@ -534,6 +534,7 @@ point_opens m config promise point stage held shut last =
           all.up_to));
       all_heard = held.heard;
       none_beyond = last;
+      no_further = further;
     }
 
 -- ---- a disk

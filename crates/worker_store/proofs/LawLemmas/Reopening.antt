@@ -1,5 +1,5 @@
 -- A worker that is recovered or created.
-use Rattle.std.proofs.Common.{◌≡◌, ℕ, ◌+◌, ◌≤◌, ◌<◌, max, List, [], ◌∷◌, ◌++◌}
+use Rattle.std.proofs.Common.{◌≡◌, ◌⊎◌, ℕ, ◌+◌, ◌≤◌, ◌<◌, max, List, [], ◌∷◌, ◌++◌}
 use Rattle.std.proofs.Common.{length, map, drop, take, refl, sym, ap, ◌∙◌, subst, arith}
 use Rattle.std.proofs.Common.{Bool, true, false, Option, Some, None, Ok, Err}
 use Rattle.std.specs.Prelude.{slice_get}
@@ -19,7 +19,7 @@ use Rattle.record_replay.specs.rules.Calls.{Tells, all_taken}
 use Rattle.restart_theorem.specs.Lives.{Release, Told}
 use Rattle.restart_theorem.specs.Courses.{Stage, Unheard, first_taken, next_stage}
 use Rattle.restart_theorem.specs.Courses.{IsLast, IsToldIn, ComesAfter, phase_refused}
-use Rattle.restart_theorem.specs.Promises.{Promise, after, HoldsAll, IsTelling}
+use Rattle.restart_theorem.specs.Promises.{Promise, after, HoldsAll, IsTelling, TakesLast}
 use Rattle.worker_store.specs.rules.BetweenCalls.{IsForetold}
 use Rattle.worker_store.specs.laws.Telling.{ArePerformed}
 use Rattle.worker_store.specs.laws.Reopening.{IsReviving, LinesAreRetold, LinesAreRetoldInVain}
@@ -175,7 +175,7 @@ module _ (m : Module) (config : Settings) (guest : Guest) where
   -- ---- the opening
 
   pub lives_open : LivesOpen m config guest
-  lives_open promise stage held p shown at saved created holds =
+  lives_open promise stage held p shown at saved created holds further =
       let steps : shown.steps ≡ p.steps = saved.shows.steps in
       let lines : shown.lines ≡ length p.host.lines = saved.shows.lines in (
         record {
@@ -198,6 +198,8 @@ module _ (m : Module) (config : Settings) (guest : Guest) where
           holds = subst (λ n. HoldsAll m config promise.kept promise held n) (sym steps) holds;
           all_heard = (let h = at.heard in omega (arith, h, lines));
           none_beyond = subst (λ n. IsLast stage.line n) (sym lines) at.last;
+          no_further = subst (λ n. (stage.line ≡ None)
+              ⊎ TakesLast m config (take held promise.kept) n) (sym steps) further;
         },
         record {
           start = at.start;

@@ -1,17 +1,31 @@
--- Acts that save a worker, and what is promised in their end.
-use Rattle.std.specs.Prelude.{◌≡◌, ◌⊎◌, ℕ, ◌≤◌, List, [], ◌∷◌, ◌++◌}
+-- Acts that take steps, acts that save a worker, and what is promised in their end.
+use Rattle.std.specs.Prelude.{◌≡◌, ◌⊎◌, ℕ, ◌-◌, ◌≤◌, List, [], ◌∷◌, ◌++◌}
 use Rattle.wasi_abi.specs.declared.version.Version.TheVariants.{One, Two}
 use Rattle.wasi_abi.specs.rules.Configs.{Settings}
 use Rattle.process_rules.specs.Runs.{Kept, Wider, version_after}
 use Rattle.process_rules.specs.Behind.{IsNarrowTo}
 use Rattle.state_image.specs.rules.ProcessImage.{Saved}
-use Rattle.restart_theorem.specs.Lives.{Act, Slice, Checkpoint, Upgrade, Reply, Cause, Ended}
+use Rattle.restart_theorem.specs.Lives.{Act, Slice, Batch, Checkpoint, Upgrade, Reply, Cause}
+use Rattle.restart_theorem.specs.Lives.{Ended}
 use Rattle.restart_theorem.specs.Courses.{Stage, Open, MayFail}
 use Rattle.restart_theorem.specs.Promises.{Promise, after, MayPlead}
+
+-- An act that takes steps, in which lines are told and questions asked.
+abbrev pub TakesSteps : Act → Type 0
+TakesSteps (Slice fuel) = Unit {0}
+TakesSteps (Batch fuel most) = Unit {0}
+TakesSteps Checkpoint = ⊥
+TakesSteps Upgrade = ⊥
+
+-- How many lines may wait where it asks: in a batch fewer than `most`.
+abbrev pub most_held : Act → ℕ
+most_held (Batch fuel most) = most - 1
+most_held act = 0
 
 -- An act that saves: once it is done, no later life comes after the process that it shows.
 abbrev pub IsSaving : Act → Type 0
 IsSaving (Slice fuel) = ⊥
+IsSaving (Batch fuel most) = ⊥
 IsSaving Checkpoint = Unit {0}
 IsSaving Upgrade = Unit {0}
 

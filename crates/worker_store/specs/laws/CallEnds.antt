@@ -13,12 +13,12 @@ use Rattle.process_rules.specs.Runs.{Kept, Runs}
 use Rattle.process.specs.rules.Stops.{IsBeyond}
 use Rattle.disk_layout.specs.rules.Journal.{TakesRecords}
 use Rattle.state_image.specs.rules.ProcessImage.{Saved, SavedShowsProcess}
-use Rattle.restart_theorem.specs.Lives.{Act, Slice, Reply, Spent, Waits, Over, Done}
-use Rattle.restart_theorem.specs.Lives.{Fails, Cause, OfBounds, Ended, kept_by_end}
+use Rattle.restart_theorem.specs.Lives.{Act, Reply, Spent, Waits, Over, Done}
+use Rattle.restart_theorem.specs.Lives.{Fails, Cause, OfDisk, OfBounds, Ended, kept_by_end}
 use Rattle.restart_theorem.specs.Courses.{Stage, Phase, Open, NoneThere, MayFail, next_stage}
-use Rattle.restart_theorem.specs.Courses.{phase_ended}
-use Rattle.restart_theorem.specs.Promises.{Promise, after, MayPlead, IsEnding}
-use Rattle.worker_store.specs.laws.Acts.{SavesWith, ShowsItsVersion}
+use Rattle.restart_theorem.specs.Courses.{IsInBatch, HasLastAsked, phase_ended}
+use Rattle.restart_theorem.specs.Promises.{Promise, after, fuel_of, MayPlead, IsEnding}
+use Rattle.worker_store.specs.laws.Acts.{TakesSteps, SavesWith, ShowsItsVersion}
 use Rattle.worker_store.specs.laws.Underway.{IsUnderWay, IsBroken}
 use Rattle.worker_store.specs.rules.BetweenCalls.{IsBetween}
 
@@ -36,20 +36,20 @@ module _ (m : Module) (config : Settings) (guest : Guest) where
     pub table : List (Option ℕ)
     pub shows : SavedShowsProcess (module_context m functions) guest.program table shown p
 
-  -- ---- a slice
+  -- ---- an act that takes steps
 
-  -- A slice that is over, all of whose lines were told.
-  pub record IsSliceOver (promise : Promise) (stage : Stage) (fuel : ℕ) (p : ProcessState)
+  -- Such an act that is over, all of whose lines were told.
+  pub record IsSliceOver (promise : Promise) (stage : Stage) (act : Act) (p : ProcessState)
       (shown : Saved) : Type 0 where
-    pub way : IsUnderWay m config guest promise stage fuel (length p.host.lines) p
+    pub way : IsUnderWay m config guest promise stage act (length p.host.lines) p
     pub saved : IsSavedAs p shown
 
   abbrev pub SpentSlicesEnd : Type 0
   SpentSlicesEnd =
-      (promise : Promise) (stage : Stage) (fuel : ℕ) (p : ProcessState) (shown : Saved)
-      → IsSliceOver promise stage fuel p shown → p.steps ≡ stage.step + fuel → p.ended ≡ None
+      (promise : Promise) (stage : Stage) (act : Act) (p : ProcessState) (shown : Saved)
+      → IsSliceOver promise stage act p shown → p.steps ≡ stage.step + fuel_of act → p.ended ≡ None
       → IsEnding m config promise stage (record {
-        act = Slice fuel;
+        act = act;
         reply = Spent;
         held = length promise.kept;
         shown = shown;
@@ -57,24 +57,24 @@ module _ (m : Module) (config : Settings) (guest : Guest) where
 
   abbrev pub EndedSlicesEnd : Type 0
   EndedSlicesEnd =
-      (promise : Promise) (stage : Stage) (fuel : ℕ) (p : ProcessState) (shown : Saved)
-      (why : Ending) → IsSliceOver promise stage fuel p shown → p.ended ≡ Some why
+      (promise : Promise) (stage : Stage) (act : Act) (p : ProcessState) (shown : Saved)
+      (why : Ending) → IsSliceOver promise stage act p shown → p.ended ≡ Some why
       → IsEnding m config promise stage (record {
-        act = Slice fuel;
+        act = act;
         reply = Over why;
         held = length promise.kept;
         shown = shown;
       })
 
-  -- Where an answer isn't there, all lines were told before the question.
+  -- Where an answer isn't there, all lines were told.
   abbrev pub WaitingSlicesEnd : Type 0
   WaitingSlicesEnd =
-      (promise : Promise) (stage : Stage) (fuel : ℕ) (p : ProcessState) (shown : Saved)
-      → IsBroken m config guest promise stage fuel (length promise.kept) p (NoneThere p.steps)
+      (promise : Promise) (stage : Stage) (act : Act) (p : ProcessState) (shown : Saved)
+      → IsBroken m config guest promise stage act (length promise.kept) p (NoneThere p.steps)
       → IsSavedAs p shown → stage.line ≡ Some (length p.host.lines) → p.ended ≡ None
-      → p.steps < stage.step + fuel
+      → p.steps < stage.step + fuel_of act
       → IsEnding m config promise stage (record {
-        act = Slice fuel;
+        act = act;
         reply = Waits;
         held = length promise.kept;
         shown = shown;
@@ -90,13 +90,26 @@ module _ (m : Module) (config : Settings) (guest : Guest) where
   -- An error ends it, where something may come from that.
   abbrev pub FailedSlicesEnd : Type 0
   FailedSlicesEnd =
-      (promise : Promise) (stage : Stage) (fuel held : ℕ) (p : ProcessState) (shown : Saved)
+      (promise : Promise) (stage : Stage) (act : Act) (held : ℕ) (p : ProcessState) (shown : Saved)
       (phase : Phase) (cause : Cause)
-      → IsBroken m config guest promise stage fuel held p phase → IsSavedAs p shown
+      → IsBroken m config guest promise stage act held p phase → IsSavedAs p shown
       → MayFail phase cause → HasBound promise p cause
       → IsEnding m config promise stage (record {
-        act = Slice fuel;
+        act = act;
         reply = Fails cause;
+        held = held;
+        shown = shown;
+      })
+
+  -- The disk fails a batch behind its last question, before the lines that wait are told.
+  abbrev pub LateFaultsEnd : Type 0
+  LateFaultsEnd =
+      (promise : Promise) (stage : Stage) (act : Act) (held : ℕ) (p : ProcessState) (shown : Saved)
+      → IsBroken m config guest promise stage act held p stage.phase → IsSavedAs p shown
+      → IsInBatch stage.acts → HasLastAsked stage.phase
+      → IsEnding m config promise stage (record {
+        act = act;
+        reply = Fails OfDisk;
         held = held;
         shown = shown;
       })
@@ -143,13 +156,13 @@ module _ (m : Module) (config : Settings) (guest : Guest) where
 
   -- ---- from call to call
 
-  -- What is between two calls is under way in the next one, if that is a slice.
+  -- What is between two calls is under way in the next one, if that takes steps.
   abbrev pub SlicesBegin : Type 0
   SlicesBegin =
-      (promise : Promise) (stage : Stage) (fuel : ℕ) (acts : List Act) (p : ProcessState)
-      → IsBetween m config guest promise stage p → stage.acts ≡ Slice fuel ∷ acts
+      (promise : Promise) (stage : Stage) (act : Act) (acts : List Act) (p : ProcessState)
+      → IsBetween m config guest promise stage p → stage.acts ≡ act ∷ acts → TakesSteps act
       → length p.host.lines ≤ promise.heard → promise.passed ≤ length p.host.lines
-      → IsUnderWay m config guest promise stage fuel (length p.host.lines) p
+      → IsUnderWay m config guest promise stage act (length p.host.lines) p
 
   -- After a call without an error it is between two calls again.
   abbrev pub CallsLeaveBetween : Type 0

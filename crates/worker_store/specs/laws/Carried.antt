@@ -1,5 +1,5 @@
 -- What a worker's disk holds of what was promised, between the calls of the disk and within each.
-use Rattle.std.specs.Prelude.{◌≡◌, ◌⊎◌, ℕ, ◌≤◌, true, List, [], ◌++◌, length, take, drop}
+use Rattle.std.specs.Prelude.{◌≡◌, ◌⊎◌, ℕ, ◌≤◌, true, List, [], ◌++◌, length, take, drop, None}
 use Rattle.wasm_syntax.specs.declared.module.Module.{Module}
 use Rattle.wasi_abi.specs.rules.Configs.{Settings}
 use Rattle.process_rules.specs.Processes.{ProcessState}
@@ -13,7 +13,7 @@ use Rattle.journal.specs.rules.State.{JournalState}
 use Rattle.restart_theorem.specs.Stands.{IsBlank}
 use Rattle.restart_theorem.specs.Lives.{Act, Done, Opened, Ended}
 use Rattle.restart_theorem.specs.Courses.{Stage, Shut, IsLast}
-use Rattle.restart_theorem.specs.Promises.{Promise, after, IsAt, IsOpening}
+use Rattle.restart_theorem.specs.Promises.{Promise, after, IsAt, TakesLast, IsOpening}
 use Rattle.restart_theorem.specs.Holds.{HoldsPromise, IsNothingYet, DiskImageHolds, KeepsPromise}
 use Rattle.restart_theorem.specs.Holds.{CarriesPromise}
 use Rattle.worker_store.specs.rules.Savepoints.{Savepoint, IsAtSavepoint, IsAtFront, BeginsAtPoint}
@@ -119,12 +119,15 @@ PointIsAt =
     (m : Module) (config : Settings) (point : Savepoint m config)
     → IsAt m config point.front point.saved.steps point.saved
 
--- So a life may open there that has told no line beyond.
+-- So a life may open there that has told no line beyond, and if it has told one, has just taken the
+-- last of its answers.
 abbrev pub PointOpens : Type 0
 PointOpens =
     (m : Module) (config : Settings) (promise : Promise) (point : Savepoint m config)
     (stage : Stage) → IsHeldAt promise point [] point.process → stage.phase ≡ Shut
     → IsLast stage.line point.saved.lines
+    → (stage.line ≡ None)
+    ⊎ TakesLast m config (take (length point.front) promise.kept) point.saved.steps
     → IsOpening m config promise stage (length point.front) point.saved
 
 -- ---- a disk

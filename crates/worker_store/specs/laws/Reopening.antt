@@ -1,6 +1,6 @@
 -- A worker that is recovered or created, as events of a life: the lines that are told again, and
 -- the opening.
-use Rattle.std.specs.Prelude.{◌≡◌, ℕ, ◌+◌, ◌≤◌, true, List, ◌∷◌, ◌++◌}
+use Rattle.std.specs.Prelude.{◌≡◌, ◌⊎◌, ℕ, ◌+◌, ◌≤◌, true, List, ◌∷◌, ◌++◌, None}
 use Rattle.std.specs.Prelude.{length, map, drop, take}
 use Rattle.wasm_syntax.specs.declared.module.Module.{Module}
 use Rattle.wasi_abi.specs.rules.Configs.{Settings}
@@ -10,10 +10,10 @@ use Rattle.process_rules.specs.Behind.{IsNarrowTo}
 use Rattle.process_rules.specs.Runs.{Runs}
 use Rattle.record_replay.specs.rules.Calls.{Tells, all_taken, last_refused}
 use Rattle.state_image.specs.rules.ProcessImage.{Saved}
-use Rattle.restart_theorem.specs.Lives.{Inputs, Opened}
-use Rattle.restart_theorem.specs.Courses.{Stage, Shut, Unheard, at_first, next_stage}
+use Rattle.restart_theorem.specs.Lives.{Inputs, Opened, Creates}
+use Rattle.restart_theorem.specs.Courses.{Stage, Shut, Unheard, at_beginning, next_stage}
 use Rattle.restart_theorem.specs.Courses.{IsLast}
-use Rattle.restart_theorem.specs.Promises.{Promise, after, HoldsAll, IsOpening}
+use Rattle.restart_theorem.specs.Promises.{Promise, after, HoldsAll, TakesLast, IsOpening}
 use Rattle.restart_theorem.specs.Holds.{IsNothingYet}
 use Rattle.worker_store.specs.rules.BetweenCalls.{IsForetold, IsBetween}
 use Rattle.worker_store.specs.laws.Telling.{ArePerformed}
@@ -58,13 +58,15 @@ module _ (m : Module) (config : Settings) (guest : Guest) where
 
   -- ---- the opening
 
-  -- Where a creation was begun, all that was promised is held, and all lines are told, it opens.
+  -- Where a creation was begun, all that was promised is held, and all lines are told, it opens. If
+  -- it has told one, it has just taken the last of its answers.
   abbrev pub LivesOpen : Type 0
   LivesOpen =
       (promise : Promise) (stage : Stage) (held : ℕ) (p : ProcessState) (shown : Saved)
       → IsReviving promise stage held (length p.host.lines) p
       → IsSavedAs m config guest p shown → promise.was_created ≡ true
       → HoldsAll m config promise.kept promise held p.steps
+      → (stage.line ≡ None) ⊎ TakesLast m config (take held promise.kept) p.steps
       → IsOpening m config promise stage held shown
       × IsBetween m config guest (after promise (Opened held shown))
       (next_stage stage (Opened held shown)) p
@@ -80,4 +82,4 @@ module _ (m : Module) (config : Settings) (guest : Guest) where
   FreshLivesBegin =
       (promise : Promise) (inputs : Inputs) (start : ProcessState) → IsNothingYet promise
       → IsStart m config guest start
-      → IsReviving promise (at_first inputs) 0 (length start.host.lines) start
+      → IsReviving promise (at_beginning Creates inputs) 0 (length start.host.lines) start

@@ -5,10 +5,10 @@ use Rattle.wasi_abi.specs.rules.Configs.{Settings}
 use Rattle.wasi_calls_rules.specs.WasiStates.{Line}
 use Rattle.process_rules.specs.Processes.{ProcessState, Guest}
 use Rattle.record_replay.specs.rules.Calls.{Exchange, Tells, all_taken, last_refused}
-use Rattle.restart_theorem.specs.Lives.{OfOutlet}
+use Rattle.restart_theorem.specs.Lives.{Act, OfOutlet}
 use Rattle.restart_theorem.specs.Courses.{Stage, Broken}
 use Rattle.restart_theorem.specs.Promises.{Promise}
-use Rattle.worker_store.specs.laws.Underway.{IsUnderWay, IsBroken}
+use Rattle.worker_store.specs.laws.Underway.{IsUnderWay, IsBroken, HasLinesLeft}
 use Rattle.worker_store.specs.rules.BetweenCalls.{IsForetold}
 use Rattle.worker_store.specs.laws.Pieces.{AreDone}
 
@@ -37,23 +37,48 @@ module _ (m : Module) (config : Settings) (guest : Guest) where
   -- All lines that were not told are told, and the outlet takes them: then all are.
   abbrev pub AllLinesAreTold : Type 0
   AllLinesAreTold =
-      (promise : Promise) (stage : Stage) (fuel told : ℕ) (p : ProcessState)
-      (lines : List Line) → IsUnderWay m config guest promise stage fuel told p
+      (promise : Promise) (stage : Stage) (act : Act) (told : ℕ) (p : ProcessState)
+      (lines : List Line) → IsUnderWay m config guest promise stage act told p
       → drop told p.host.lines ≡ lines
       → IsForetold stage (map Tells (all_taken (suc told) lines))
       → (made : ArePerformed m config promise stage (length p.host.lines)
       (map Tells (all_taken (suc told) lines)))
-      × IsUnderWay m config guest made.promise' made.stage' fuel (length p.host.lines) p
+      × IsUnderWay m config guest made.promise' made.stage' act (length p.host.lines) p
 
   -- Some are told, and the next one is refused.
   abbrev pub LinesAreToldInVain : Type 0
   LinesAreToldInVain =
-      (promise : Promise) (stage : Stage) (fuel told : ℕ) (p : ProcessState)
+      (promise : Promise) (stage : Stage) (act : Act) (told : ℕ) (p : ProcessState)
       (first others : List Line) (line : Line)
-      → IsUnderWay m config guest promise stage fuel told p
+      → IsUnderWay m config guest promise stage act told p
       → drop told p.host.lines ≡ first ++ (line ∷ others)
       → IsForetold stage (map Tells (last_refused (suc told) first line))
       → (made : ArePerformed m config promise stage (length p.host.lines)
       (map Tells (last_refused (suc told) first line)))
-      × IsBroken m config guest made.promise' made.stage' fuel (length promise.kept) p
+      × IsBroken m config guest made.promise' made.stage' act (length promise.kept) p
+      (Broken OfOutlet)
+
+  -- Lines that wait behind the last question of a batch are told, and the outlet takes them.
+  abbrev pub LeftLinesAreTold : Type 0
+  LeftLinesAreTold =
+      (promise : Promise) (stage : Stage) (act : Act) (told : ℕ) (p : ProcessState)
+      (lines : List Line) → HasLinesLeft m config guest promise stage act told p
+      → drop told p.host.lines ≡ lines
+      → IsForetold stage (map Tells (all_taken (suc told) lines))
+      → (made : ArePerformed m config promise stage (length p.host.lines)
+      (map Tells (all_taken (suc told) lines)))
+      × HasLinesLeft m config guest made.promise' made.stage' act (length p.host.lines) p
+      × (made.stage'.phase ≡ stage.phase)
+
+  -- Some are told, and the next one is refused.
+  abbrev pub LeftLinesAreToldInVain : Type 0
+  LeftLinesAreToldInVain =
+      (promise : Promise) (stage : Stage) (act : Act) (told : ℕ) (p : ProcessState)
+      (first others : List Line) (line : Line)
+      → HasLinesLeft m config guest promise stage act told p
+      → drop told p.host.lines ≡ first ++ (line ∷ others)
+      → IsForetold stage (map Tells (last_refused (suc told) first line))
+      → (made : ArePerformed m config promise stage (length p.host.lines)
+      (map Tells (last_refused (suc told) first line)))
+      × IsBroken m config guest made.promise' made.stage' act (length promise.kept) p
       (Broken OfOutlet)

@@ -1,6 +1,6 @@
 -- What becomes of a store and of its disk by each of its calls (this project's own).
-use Rattle.std.specs.Prelude.{◌≡◌, ◌⊎◌, ℕ, ◌+◌, [], false, true, length, Result, OnOk, OnErr, IfOk}
-use Rattle.std.specs.Prelude.{IfErr}
+use Rattle.std.specs.Prelude.{◌≡◌, ◌⊎◌, ℕ, ◌+◌, ◌*◌, [], false, true, length, Result, OnOk, OnErr}
+use Rattle.std.specs.Prelude.{IfOk, IfErr}
 use Rattle.process.specs.rules.Values.{ProcessValue}
 use Rattle.state_image.specs.rules.Saving.{saved_of}
 use Rattle.sector_disk.specs.rules.DiskImage.{DiskImage}
@@ -92,6 +92,7 @@ pub record ReopensStore (geometry : Geometry) (generation : ℕ) (process : Proc
   -- sectors of the image, a sync, the head, and a sync; after an error these calls are begun
   pub calls : CommitCalls geometry generation process result old new
   pub cause : IfErr result (λ e. ReopeningFails geometry generation process old new e)
-  pub asks : CallsUpTo (old.sectors + 2) old new
+  -- two calls for each sector of an area at most, and five
+  pub asks : CallsUpTo (2 * geometry.area_sectors + 5) old new
   -- at no moment were there more unsynced writes than before, an area's, and the head
   pub counts : CountsUpTo (old.unsynced + geometry.area_sectors + 1) old new

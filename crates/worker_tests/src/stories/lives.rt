@@ -1,6 +1,6 @@
 //! Lives that tests put together, and what is told of them.
 
-use crate::guests::{ECHO, request};
+use crate::guests::requests;
 use crate::halt::Halt;
 use sector_disk::Place;
 use std::alloc::Global;
@@ -9,11 +9,13 @@ use wasi_calls_rules::OutputStream;
 use wasm_syntax::ItemList;
 use worker::story::{LifeEnd, LifeReport, Opening, PlannedAct, PlannedLife, Report, story};
 
-/// A life: its requests, then so many steps, where it is stopped, where its disk fails, the release
-/// that is refused, and the fronts that a cut keeps.
+/// A life: requests and a time that it is given, and what the worker is told to do. Where it is
+/// stopped, where its disk fails, the release that is refused, and the fronts that a cut keeps.
+#[derive(Clone, Copy)]
 pub(crate) struct Plan {
     pub(crate) requests: &'static [&'static [u8]],
-    pub(crate) fuel: u64,
+    pub(crate) time: Option<u64>,
+    pub(crate) acts: &'static [PlannedAct],
     pub(crate) stop: Option<Place>,
     pub(crate) fail: Option<Place>,
     pub(crate) refuse: Option<u64>,
@@ -23,7 +25,8 @@ pub(crate) struct Plan {
 /// Up to the line of the first request.
 pub(crate) const FIRST: Plan = Plan {
     requests: &[b"hello"],
-    fuel: 20,
+    time: None,
+    acts: &[PlannedAct::Slice { fuel: 20 }],
     stop: None,
     fail: None,
     refuse: None,
@@ -33,7 +36,8 @@ pub(crate) const FIRST: Plan = Plan {
 /// The same with another request.
 pub(crate) const OTHER: Plan = Plan {
     requests: &[b"world"],
-    fuel: 20,
+    time: None,
+    acts: &[PlannedAct::Slice { fuel: 20 }],
     stop: None,
     fail: None,
     refuse: None,
@@ -43,17 +47,19 @@ pub(crate) const OTHER: Plan = Plan {
 /// From the answer to its line.
 pub(crate) const TELLS: Plan = Plan {
     requests: &[],
-    fuel: 14,
+    time: None,
+    acts: &[PlannedAct::Slice { fuel: 14 }],
     stop: None,
     fail: None,
     refuse: None,
     tears: &[],
 };
 
-/// Nothing at all.
+/// No step at all.
 pub(crate) const IDLE: Plan = Plan {
     requests: &[],
-    fuel: 0,
+    time: None,
+    acts: &[PlannedAct::Slice { fuel: 0 }],
     stop: None,
     fail: None,
     refuse: None,
@@ -83,69 +89,38 @@ pub(crate) const AGAIN: Told = Told {
     line: b"hello",
 };
 
-/// Lives of a guest, and what is told of each.
+/// What is told of lives.
+pub(crate) enum AllTold {
+    /// So much of each, one after another, and no other one is told.
+    Each(&'static [Told]),
+    /// The generation with which the second one was opened.
+    Second(u64),
+    /// So many lives, of which each ended by an error before its stop, was not opened, and told
+    /// nothing.
+    Shut(usize),
+}
+
+/// Lives of a guest, and what is told of them.
 pub(crate) struct Tale {
     pub(crate) name: &'static str,
     pub(crate) guest: &'static [u8],
     pub(crate) plans: &'static [Plan],
-    pub(crate) told: &'static [Told],
+    pub(crate) told: AllTold,
 }
 
-fn requests(alloc: Global, texts: &[&[u8]]) -> Result<ItemList<Answer>, Halt> {
-    let mut answers = ItemList::new(alloc);
-    for text in texts {
-        answers.push(request(alloc, *text)?)?;
+/// What the source of a life hands out: requests, and a time behind them where one is planned.
+fn answers_of(alloc: Global, plan: &Plan) -> Result<ItemList<Answer>, Halt> {
+    let mut answers = requests(alloc, plan.requests)?;
+    if let Some(nanoseconds) = plan.time {
+        answers.push(Answer::Realtime { nanoseconds })?;
     }
-    Ok(answers)
-}
-
-fn slice(alloc: Global, fuel: u64) -> Result<ItemList<PlannedAct>, Halt> {
-    let mut acts = ItemList::new(alloc);
-    acts.push(PlannedAct::Slice { fuel })?;
-    Ok(acts)
-}
-
-/// A life with these answers that takes so many steps. Nothing stops it.
-pub(crate) fn life_with(
-    alloc: Global,
-    answers: ItemList<Answer>,
-    fuel: u64,
-) -> Result<PlannedLife, Halt> {
-    let acts = slice(alloc, fuel)?;
-    Ok(PlannedLife {
-        answers,
-        acts,
-        stop: None,
-        fail: None,
-        refuse: None,
-        tears: ItemList::new(alloc),
-    })
-}
-
-/// A life that opens, and does nothing.
-pub(crate) fn with_nothing_to_do(alloc: Global) -> PlannedLife {
-    PlannedLife {
-        answers: ItemList::new(alloc),
-        acts: ItemList::new(alloc),
-        stop: None,
-        fail: None,
-        refuse: None,
-        tears: ItemList::new(alloc),
-    }
-}
-
-/// A life that does nothing but save its worker, whose disk fails there, if it does.
-pub(crate) fn saving_life(alloc: Global, fail: Option<Place>) -> Result<PlannedLife, Halt> {
-    let mut life = with_nothing_to_do(alloc);
-    life.acts.push(PlannedAct::Checkpoint)?;
-    life.fail = fail;
-    Ok(life)
+    Ok(ItemList::from_vec(answers))
 }
 
 fn life_of(alloc: Global, plan: &Plan) -> Result<PlannedLife, Halt> {
-    let answers = requests(alloc, plan.requests)?;
-    let acts = slice(alloc, plan.fuel)?;
+    let acts = ItemList::from_vec(Vec::from_slice(alloc, plan.acts)?);
     let tears = ItemList::from_vec(Vec::from_slice(alloc, plan.tears)?);
+    let answers = answers_of(alloc, plan)?;
     Ok(PlannedLife {
         answers,
         acts,
@@ -156,36 +131,37 @@ fn life_of(alloc: Global, plan: &Plan) -> Result<PlannedLife, Halt> {
     })
 }
 
+fn push_lives(
+    alloc: Global,
+    lives: &mut ItemList<PlannedLife>,
+    plans: &[Plan],
+) -> Result<(), Halt> {
+    for plan in plans {
+        lives.push(life_of(alloc, plan)?)?;
+    }
+    Ok(())
+}
+
 /// What is told of these lives of a module, with a page, a unit of files and a journal of 64
 /// sectors.
-pub(crate) fn told_of(alloc: Global, wasm: &[u8], lives: &[PlannedLife]) -> Result<Report, Halt> {
+fn told_of(alloc: Global, wasm: &[u8], lives: &[PlannedLife]) -> Result<Report, Halt> {
     let config = Config::new(1, 1, 64, ItemList::new(alloc), ItemList::new(alloc))?;
-    Ok(story(alloc, wasm, &config, lives)?)
+    let told = story(alloc, wasm, &config, lives);
+    drop(config);
+    Ok(told?)
 }
 
 /// What is told of the lives of these plans.
 pub(crate) fn report_of(alloc: Global, guest: &[u8], plans: &[Plan]) -> Result<Report, Halt> {
     let mut lives = ItemList::new(alloc);
-    for plan in plans {
-        lives.push(life_of(alloc, plan)?)?;
-    }
-    told_of(alloc, guest, lives.as_slice())
-}
-
-/// What is told of this life of `ECHO` and of another one.
-pub(crate) fn report_of_two(
-    alloc: Global,
-    first: PlannedLife,
-    second: &Plan,
-) -> Result<Report, Halt> {
-    let mut lives = ItemList::new(alloc);
-    lives.push(first)?;
-    lives.push(life_of(alloc, second)?)?;
-    told_of(alloc, ECHO, lives.as_slice())
+    push_lives(alloc, &mut lives, plans)?;
+    let told = told_of(alloc, guest, lives.as_slice());
+    drop(lives);
+    told
 }
 
 /// How a life was opened, as `Told` has it.
-pub(crate) fn opened_as(life: &LifeReport) -> [u64; 4] {
+fn opened_as(life: &LifeReport) -> [u64; 4] {
     match &life.opened {
         Opening::Created { process_image: _ } => [1, 0, 0, 0],
         Opening::Recovered {
@@ -208,7 +184,7 @@ fn tells_only(life: &LifeReport, text: &[u8]) -> bool {
 }
 
 /// Whether a life told nothing.
-pub(crate) fn tells_nothing(life: &LifeReport) -> bool {
+fn tells_nothing(life: &LifeReport) -> bool {
     life.releases.lines().is_empty()
 }
 
@@ -235,8 +211,33 @@ pub(crate) fn are_told_so(report: &Report, told: &[Told]) -> bool {
     true
 }
 
-/// Whether all lives are told so.
+/// Whether the second life was opened in this generation.
+fn is_second(report: &Report, generation: u64) -> bool {
+    match report.lives.get(1) {
+        Some(life) => opened_as(life)[0] == generation,
+        None => false,
+    }
+}
+
+fn is_shut(life: &LifeReport) -> bool {
+    match &life.ended {
+        LifeEnd::Failed(_) => opened_as(life) == [0, 0, 0, 0] && tells_nothing(life),
+        _ => false,
+    }
+}
+
+fn are_shut(report: &Report, count: usize) -> bool {
+    report.lives.len() == count && report.lives.as_slice().iter().all(is_shut)
+}
+
+/// Whether the lives are told so.
 pub(crate) fn is_told(alloc: Global, tale: &Tale) -> Result<bool, Halt> {
     let report = report_of(alloc, tale.guest, tale.plans)?;
-    Ok(are_told_so(&report, tale.told))
+    let is_told = match &tale.told {
+        AllTold::Each(told) => are_told_so(&report, told),
+        AllTold::Second(generation) => is_second(&report, *generation),
+        AllTold::Shut(count) => are_shut(&report, *count),
+    };
+    drop(report);
+    Ok(is_told)
 }

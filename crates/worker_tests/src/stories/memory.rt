@@ -2,6 +2,7 @@
 
 use crate::guests::ECHO;
 use crate::halt::Halt;
+use crate::rows::assert_row;
 use crate::stories::lives::{AGAIN, CREATED, FIRST, Plan, TELLS, Told, are_told_so, report_of};
 use sector_disk::DiskFault;
 use std::alloc::Global;
@@ -38,13 +39,15 @@ fn is_told_with_memory(report: &Report) -> Result<bool, Halt> {
 
 fn are_both_told(alloc: Global) -> Result<bool, Halt> {
     let report = report_of(alloc, ECHO, &TWO)?;
-    is_told_with_memory(&report)
+    let is_told = is_told_with_memory(&report);
+    drop(report);
+    is_told
 }
 
 /// `scripts/runs/refused-allocations` refuses each allocation in turn. Then there is no report, or
 /// one of the lives has ended out of memory, and the other one as it should.
 #[test]
 fn a_story_with_memory(rt: HostRuntime) -> Result<(), Halt> {
-    assert!(rt; are_both_told(rt.alloc())?);
+    assert_row(&rt, are_both_told(rt.alloc())?, &"two lives");
     Ok(())
 }

@@ -1,12 +1,13 @@
 //! A stop, a failure and a refusal wherever a life may meet one.
 
-use crate::guests::{ECHO, request};
+use crate::guests::ECHO;
 use crate::halt::Halt;
-use crate::stories::lives::{told_of, with_nothing_to_do};
+use crate::rows::assert_row;
+use crate::stories::lives::{Plan, report_of};
 use sector_disk::Place;
 use std::alloc::Global;
-use wasm_syntax::ItemList;
-use worker::story::{LifeEnd, LifeReport, Opening, PlannedAct, PlannedLife, Report};
+use std::process::Abort;
+use worker::story::{LifeEnd, LifeReport, Opening, PlannedAct, Report};
 
 /// A sync and a read find no worker. A creation has 198 writes and 6 syncs. Each of two lines has a
 /// write and a sync, and the checkpoint has 129 reads, 3 writes and 2 syncs.
@@ -31,34 +32,23 @@ enum Mishap {
     Failure,
 }
 
-/// Where a life is stopped, where its disk fails, and the release that is refused.
-#[derive(Clone, Copy)]
-struct Trouble {
-    stop: Option<Place>,
-    fail: Option<Place>,
-    refuse: Option<u64>,
-}
-
 /// Two requests, all steps up to the second line, and a checkpoint.
-fn troubled_life(alloc: Global, trouble: &Trouble) -> Result<PlannedLife, Halt> {
-    let mut life = with_nothing_to_do(alloc);
-    life.answers.push(request(alloc, b"hello")?)?;
-    life.answers.push(request(alloc, b"again")?)?;
-    life.acts.push(PlannedAct::Slice { fuel: 42 })?;
-    life.acts.push(PlannedAct::Checkpoint)?;
-    life.stop = trouble.stop;
-    life.fail = trouble.fail;
-    life.refuse = trouble.refuse;
-    Ok(life)
-}
+const BUSY: Plan = Plan {
+    requests: &[b"hello", b"again"],
+    time: None,
+    acts: &[PlannedAct::Slice { fuel: 42 }, PlannedAct::Checkpoint],
+    stop: None,
+    fail: None,
+    refuse: None,
+    tears: &[],
+};
 
-/// What is told of such a life, and of an empty one after it.
-fn report_of_trouble(alloc: Global, trouble: &Trouble) -> Result<Report, Halt> {
-    let mut lives = ItemList::new(alloc);
-    lives.push(troubled_life(alloc, trouble)?)?;
-    lives.push(with_nothing_to_do(alloc))?;
-    told_of(alloc, ECHO, lives.as_slice())
-}
+/// A life that opens, and does nothing.
+const UNUSED: Plan = Plan {
+    requests: &[],
+    acts: &[],
+    ..BUSY
+};
 
 /// How many answers a life opened with: a created one with none.
 fn answers_of(life: &LifeReport) -> Option<u64> {
@@ -85,136 +75,123 @@ fn opens_behind(first: &LifeReport, second: &LifeReport) -> bool {
 }
 
 /// How the first life ended, where the second one opened as it must.
-fn end_of(alloc: Global, trouble: &Trouble) -> Result<Option<LifeEnd>, Halt> {
-    let report = report_of_trouble(alloc, trouble)?;
-    let (Some(first), Some(second)) = (report.lives.get(0), report.lives.get(1)) else {
-        return Ok(None);
-    };
+fn end_told(report: &Report) -> Option<LifeEnd> {
+    let first = report.lives.get(0)?;
+    let second = report.lives.get(1)?;
     if opens_behind(first, second) {
-        Ok(Some(first.ended))
+        Some(first.ended)
     } else {
-        Ok(None)
+        None
     }
 }
 
-fn is_stopped(alloc: Global, place: Place) -> Result<bool, Halt> {
-    let trouble = Trouble {
-        stop: Some(place),
-        fail: None,
-        refuse: None,
-    };
-    Ok(end_of(alloc, &trouble)? == Some(LifeEnd::Stopped))
-}
-
-/// Whether a life has ended by an error.
-fn is_failure(ended: Option<LifeEnd>) -> bool {
+/// Whether a life has ended by its stop, where it has one, and else by an error.
+fn has_ended_so(plan: &Plan, ended: Option<LifeEnd>) -> bool {
     match ended {
-        Some(LifeEnd::Failed(_)) => true,
+        Some(LifeEnd::Stopped) => plan.stop.is_some(),
+        Some(LifeEnd::Failed(_)) => plan.stop.is_none(),
         _ => false,
     }
 }
 
-fn fails_at(alloc: Global, place: Place) -> Result<bool, Halt> {
-    let trouble = Trouble {
-        stop: None,
-        fail: Some(place),
-        refuse: None,
-    };
-    Ok(is_failure(end_of(alloc, &trouble)?))
+/// Whether such a life ends so, and an empty one after it opens as it must.
+fn ends_so(alloc: Global, plan: Plan) -> Result<bool, Halt> {
+    let report = report_of(alloc, ECHO, &[plan, UNUSED])?;
+    let ended = end_told(&report);
+    drop(report);
+    Ok(has_ended_so(&plan, ended))
 }
 
-fn refuses(alloc: Global, nth: u64) -> Result<bool, Halt> {
-    let trouble = Trouble {
-        stop: None,
-        fail: None,
-        refuse: Some(nth),
-    };
-    Ok(is_failure(end_of(alloc, &trouble)?))
-}
-
-fn opens_after(alloc: Global, mishap: Mishap, place: Place) -> Result<bool, Halt> {
+/// The busy life, which meets with a mishap there.
+fn plan_of(mishap: Mishap, place: Place) -> Plan {
     match mishap {
-        Mishap::Stop => is_stopped(alloc, place),
-        Mishap::Failure => fails_at(alloc, place),
+        Mishap::Stop => Plan {
+            stop: Some(place),
+            ..BUSY
+        },
+        Mishap::Failure => Plan {
+            fail: Some(place),
+            ..BUSY
+        },
     }
 }
 
-/// The first call and front after which the next life doesn't open as it must.
-fn first_miss(alloc: Global, mishap: Mishap, fronts: &[u16; 5]) -> Result<Option<Place>, Halt> {
+/// Each call, and each of these fronts: the next life opens as it must.
+fn lose_nothing(
+    rt: &impl Abort,
+    alloc: Global,
+    mishap: Mishap,
+    fronts: &[u16; 5],
+) -> Result<(), Halt> {
     for call in 1..=CALLS {
         for front in fronts {
             let place = Place {
                 call,
                 front: *front,
             };
-            if !opens_after(alloc, mishap, place)? {
-                return Ok(Some(place));
-            }
+            assert_row(rt, ends_so(alloc, plan_of(mishap, place))?, &place);
         }
     }
-    Ok(None)
+    Ok(())
 }
 
 #[test]
 fn stops_outside_of_a_stamp_lose_nothing(rt: HostRuntime) -> Result<(), Halt> {
-    let miss = first_miss(rt.alloc(), Mishap::Stop, &OUTSIDE)?;
-    assert!(rt; miss.is_none(), "{miss:?}");
-    Ok(())
+    lose_nothing(&rt, rt.alloc(), Mishap::Stop, &OUTSIDE)
 }
 
 #[test]
 fn stops_early_in_a_stamp_lose_nothing(rt: HostRuntime) -> Result<(), Halt> {
-    let miss = first_miss(rt.alloc(), Mishap::Stop, &EARLY)?;
-    assert!(rt; miss.is_none(), "{miss:?}");
-    Ok(())
+    lose_nothing(&rt, rt.alloc(), Mishap::Stop, &EARLY)
 }
 
 #[test]
 fn stops_amid_a_stamp_lose_nothing(rt: HostRuntime) -> Result<(), Halt> {
-    let miss = first_miss(rt.alloc(), Mishap::Stop, &AMID)?;
-    assert!(rt; miss.is_none(), "{miss:?}");
-    Ok(())
+    lose_nothing(&rt, rt.alloc(), Mishap::Stop, &AMID)
 }
 
 #[test]
 fn stops_late_in_a_stamp_lose_nothing(rt: HostRuntime) -> Result<(), Halt> {
-    let miss = first_miss(rt.alloc(), Mishap::Stop, &LATE)?;
-    assert!(rt; miss.is_none(), "{miss:?}");
-    Ok(())
+    lose_nothing(&rt, rt.alloc(), Mishap::Stop, &LATE)
 }
 
 #[test]
 fn failures_outside_of_a_stamp_lose_nothing(rt: HostRuntime) -> Result<(), Halt> {
-    let miss = first_miss(rt.alloc(), Mishap::Failure, &OUTSIDE)?;
-    assert!(rt; miss.is_none(), "{miss:?}");
-    Ok(())
+    lose_nothing(&rt, rt.alloc(), Mishap::Failure, &OUTSIDE)
 }
 
 #[test]
 fn failures_early_in_a_stamp_lose_nothing(rt: HostRuntime) -> Result<(), Halt> {
-    let miss = first_miss(rt.alloc(), Mishap::Failure, &EARLY)?;
-    assert!(rt; miss.is_none(), "{miss:?}");
-    Ok(())
+    lose_nothing(&rt, rt.alloc(), Mishap::Failure, &EARLY)
 }
 
 #[test]
 fn failures_amid_a_stamp_lose_nothing(rt: HostRuntime) -> Result<(), Halt> {
-    let miss = first_miss(rt.alloc(), Mishap::Failure, &AMID)?;
-    assert!(rt; miss.is_none(), "{miss:?}");
-    Ok(())
+    lose_nothing(&rt, rt.alloc(), Mishap::Failure, &AMID)
 }
 
 #[test]
 fn failures_late_in_a_stamp_lose_nothing(rt: HostRuntime) -> Result<(), Halt> {
-    let miss = first_miss(rt.alloc(), Mishap::Failure, &LATE)?;
-    assert!(rt; miss.is_none(), "{miss:?}");
-    Ok(())
+    lose_nothing(&rt, rt.alloc(), Mishap::Failure, &LATE)
 }
+
+/// The busy life, where one of its two lines is refused.
+static REFUSALS: [Plan; 2] = [
+    Plan {
+        refuse: Some(1),
+        ..BUSY
+    },
+    Plan {
+        refuse: Some(2),
+        ..BUSY
+    },
+];
 
 /// Each of two lines refused: the next life has the answers behind each line that was begun.
 #[test]
 fn lives_open_after_a_refused_line(rt: HostRuntime) -> Result<(), Halt> {
-    assert!(rt; refuses(rt.alloc(), 1)?, "refuse 1");
-    assert!(rt; refuses(rt.alloc(), 2)?, "refuse 2");
+    for plan in &REFUSALS {
+        assert_row(&rt, ends_so(rt.alloc(), *plan)?, &plan.refuse);
+    }
     Ok(())
 }

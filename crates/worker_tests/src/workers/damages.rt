@@ -2,6 +2,7 @@
 
 use crate::guests::{ECHO, SECTORS, blank};
 use crate::halt::{Halt, NO_WORKER};
+use crate::rows::assert_row;
 use crate::workers::working::{WorkerProgress, create, open};
 use disk_layout::LayoutFault;
 use record_replay::ReplayFault;
@@ -18,11 +19,14 @@ struct Piece {
     bytes: &'static [u8],
 }
 
-/// What is changed on a fresh disk of `ECHO`, and what a recovery then says.
+/// What is changed on a fresh disk of `ECHO`, or on one of zeros. What a recovery then says, and
+/// its reads, writes and syncs where they are told.
 struct Damage {
     name: &'static str,
+    is_created: bool,
     pieces: &'static [Piece],
     opens: Result<WorkerProgress, Halt>,
+    calls: Option<(u64, u64, u64)>,
 }
 
 /// A fresh worker that was recovered.
@@ -114,104 +118,127 @@ const AREA_1: u64 = 2_308;
 
 const JOURNAL: u64 = 4_612;
 
-static DAMAGES: [Damage; 30] = [
+static DAMAGES: [Damage; 33] = [
     Damage {
         name: "nothing",
+        is_created: true,
         pieces: &[],
         opens: Ok(FRESH),
+        calls: None,
     },
     Damage {
         name: "the first mark",
+        is_created: true,
         pieces: &[Piece {
             sector: SUPER,
             place: 0,
             bytes: &[0],
         }],
         opens: Err(NO_WORKER),
+        calls: None,
     },
     Damage {
         name: "the last mark",
+        is_created: true,
         pieces: &[Piece {
             sector: SUPER,
             place: 511,
             bytes: &[0],
         }],
         opens: Err(NO_WORKER),
+        calls: None,
     },
     Damage {
         name: "another layout",
+        is_created: true,
         pieces: &[Piece {
             sector: SUPER,
             place: 8,
             bytes: &[2],
         }],
         opens: Err(VERSION),
+        calls: None,
     },
     Damage {
         name: "a length that fits no configuration",
+        is_created: true,
         pieces: &[Piece {
             sector: SUPER,
             place: 12,
             bytes: &[27],
         }],
         opens: Err(FIELDS),
+        calls: None,
     },
     Damage {
         name: "another number of module sectors",
+        is_created: true,
         pieces: &[Piece {
             sector: SUPER,
             place: 20,
             bytes: &[2],
         }],
         opens: Err(FIELDS),
+        calls: None,
     },
     Damage {
         name: "another length of the areas",
+        is_created: true,
         pieces: &[Piece {
             sector: SUPER,
             place: 25,
             bytes: &[10],
         }],
         opens: Err(FIELDS),
+        calls: None,
     },
     Damage {
         name: "another digest of the module",
+        is_created: true,
         pieces: &[Piece {
             sector: SUPER,
             place: 32,
             bytes: &[0, 0],
         }],
         opens: Err(FIELDS),
+        calls: None,
     },
     Damage {
         name: "another page limit",
+        is_created: true,
         pieces: &[Piece {
             sector: MODULE,
             place: 0,
             bytes: &[2],
         }],
         opens: Err(FIELDS),
+        calls: None,
     },
     Damage {
         name: "the last byte of the module",
+        is_created: true,
         pieces: &[Piece {
             sector: MODULE,
             place: 220,
             bytes: &[1],
         }],
         opens: Err(FIELDS),
+        calls: None,
     },
     Damage {
         name: "a version of the image that there isn't",
+        is_created: true,
         pieces: &[Piece {
             sector: HEAD_1,
             place: 8,
             bytes: &[3],
         }],
         opens: Err(VERSION),
+        calls: None,
     },
     Damage {
         name: "such a version, and another byte of the image",
+        is_created: true,
         pieces: &[
             Piece {
                 sector: HEAD_1,
@@ -225,18 +252,22 @@ static DAMAGES: [Damage; 30] = [
             },
         ],
         opens: Err(VERSION),
+        calls: None,
     },
     Damage {
         name: "version 2 of the image, whose journal is too small for it",
+        is_created: true,
         pieces: &[Piece {
             sector: HEAD_1,
             place: 8,
             bytes: &[2],
         }],
         opens: Err(FIELDS),
+        calls: None,
     },
     Damage {
         name: "version 2 with such a journal, and another byte of the image",
+        is_created: true,
         pieces: &[
             Piece {
                 sector: HEAD_1,
@@ -250,95 +281,117 @@ static DAMAGES: [Damage; 30] = [
             },
         ],
         opens: Err(FIELDS),
+        calls: None,
     },
     Damage {
         name: "no mark of a head",
+        is_created: true,
         pieces: &[Piece {
             sector: HEAD_1,
             place: 0,
             bytes: &[0],
         }],
         opens: Err(SNAPSHOT),
+        calls: None,
     },
     Damage {
         name: "another place of a head",
+        is_created: true,
         pieces: &[Piece {
             sector: HEAD_1,
             place: 504,
             bytes: &[2],
         }],
         opens: Err(SNAPSHOT),
+        calls: None,
     },
     Damage {
         name: "a generation of the other area",
+        is_created: true,
         pieces: &[Piece {
             sector: HEAD_1,
             place: 496,
             bytes: &[2],
         }],
         opens: Err(SNAPSHOT),
+        calls: None,
     },
     Damage {
         name: "a length beyond the area",
+        is_created: true,
         pieces: &[TOO_LONG],
         opens: Err(SNAPSHOT),
+        calls: None,
     },
     Damage {
         name: "the last generation",
+        is_created: true,
         pieces: &[Piece {
             sector: HEAD_1,
             place: 496,
             bytes: &[255, 255, 255, 255, 255, 255, 255, 127],
         }],
         opens: Err(TOO_BIG),
+        calls: None,
     },
     Damage {
         name: "another digest of the image",
+        is_created: true,
         pieces: &[Piece {
             sector: HEAD_1,
             place: 24,
             bytes: &[0, 0],
         }],
         opens: Err(SNAPSHOT),
+        calls: None,
     },
     Damage {
         name: "a byte of memory in the image",
+        is_created: true,
         pieces: &[Piece {
             sector: AREA_1,
             place: 190,
             bytes: &[1],
         }],
         opens: Err(SNAPSHOT),
+        calls: None,
     },
     Damage {
         name: "the length and digest of the image",
+        is_created: true,
         pieces: &[Piece {
             sector: HEAD_1,
             place: 16,
             bytes: WHOLE,
         }],
         opens: Ok(FRESH),
+        calls: None,
     },
     Damage {
         name: "one byte of the image fewer",
+        is_created: true,
         pieces: &[Piece {
             sector: HEAD_1,
             place: 16,
             bytes: SHORT,
         }],
         opens: Err(NO_IMAGE),
+        calls: None,
     },
     Damage {
         name: "one byte of the image more",
+        is_created: true,
         pieces: &[Piece {
             sector: HEAD_1,
             place: 16,
             bytes: LONG,
         }],
         opens: Err(NO_IMAGE),
+        calls: None,
     },
     Damage {
         name: "a record that fits no question",
+        is_created: true,
         pieces: &[
             Piece {
                 sector: JOURNAL,
@@ -352,9 +405,11 @@ static DAMAGES: [Damage; 30] = [
             },
         ],
         opens: Err(DIVERGED),
+        calls: None,
     },
     Damage {
         name: "a record of no kind",
+        is_created: true,
         pieces: &[
             Piece {
                 sector: JOURNAL,
@@ -368,38 +423,70 @@ static DAMAGES: [Damage; 30] = [
             },
         ],
         opens: Ok(FRESH),
+        calls: None,
     },
     Damage {
         name: "the same without its stamp",
+        is_created: true,
         pieces: &[Piece {
             sector: JOURNAL,
             place: 0,
             bytes: TIME,
         }],
         opens: Ok(FRESH),
+        calls: None,
     },
     Damage {
         name: "a later generation",
+        is_created: true,
         pieces: &[LATER_JOURNAL],
         opens: Err(FIELDS),
+        calls: None,
     },
     Damage {
         name: "a later generation of another place",
+        is_created: true,
         pieces: &[Piece {
             sector: JOURNAL,
             place: 496,
             bytes: LATER_BEHIND,
         }],
         opens: Ok(FRESH),
+        calls: None,
     },
     Damage {
         name: "a later generation in the second sector",
+        is_created: true,
         pieces: &[Piece {
             sector: JOURNAL + 1,
             place: 496,
             bytes: LATER_BEHIND,
         }],
         opens: Ok(FRESH),
+        calls: None,
+    },
+    // The super, the contents and both heads are read, and nothing else.
+    Damage {
+        name: "an image that isn't read",
+        is_created: true,
+        pieces: &[TOO_LONG],
+        opens: Err(SNAPSHOT),
+        calls: Some((4, 0, 1)),
+    },
+    // All of the image is read, and one sector of the journal, which shows a later generation.
+    Damage {
+        name: "the first sector of a journal",
+        is_created: true,
+        pieces: &[LATER_JOURNAL],
+        opens: Err(FIELDS),
+        calls: Some((4 + 129 + 1, 0, 1)),
+    },
+    Damage {
+        name: "a blank disk",
+        is_created: false,
+        pieces: &[],
+        opens: Err(NO_WORKER),
+        calls: None,
     },
 ];
 
@@ -430,35 +517,39 @@ fn created_disk(alloc: Global) -> Result<MemDisk, Halt> {
 }
 
 /// What a recovery says, unless memory runs out.
-fn says(alloc: Global, disk: &mut MemDisk) -> Result<Result<WorkerProgress, Halt>, Halt> {
+fn says<D: Disk>(alloc: Global, disk: &mut D) -> Result<Result<WorkerProgress, Halt>, Halt> {
     match open(alloc, disk) {
         Err(Halt::Memory) => Err(Halt::Memory),
         opens => Ok(opens),
     }
 }
 
+/// The disk that a damage is done to.
+fn disk_of(alloc: Global, damage: &Damage) -> Result<MemDisk, Halt> {
+    if damage.is_created {
+        created_disk(alloc)
+    } else {
+        blank(alloc, SECTORS)
+    }
+}
+
+/// Whether a recovery says so after the damage, with so many calls.
+fn is_said_of(alloc: Global, disk: &mut FaultDisk<MemDisk>, damage: &Damage) -> Result<bool, Halt> {
+    let opens = says(alloc, disk)?;
+    let are_so_many = match damage.calls {
+        Some(calls) => disk.calls() == calls,
+        None => true,
+    };
+    Ok(opens == damage.opens && are_so_many)
+}
+
 fn is_told_so(alloc: Global, damage: &Damage) -> Result<bool, Halt> {
-    let mut disk = created_disk(alloc)?;
+    let mut disk = disk_of(alloc, damage)?;
     put_each(&mut disk, damage.pieces)?;
-    Ok(says(alloc, &mut disk)? == damage.opens)
-}
-
-/// Whether a recovery reads the super, the contents and both heads, and nothing else, where the
-/// newest image is longer than its area.
-fn reads_no_image(alloc: Global) -> Result<bool, Halt> {
-    let mut disk = created_disk(alloc)?;
-    put_each(&mut disk, &[TOO_LONG])?;
     let mut counting = FaultDisk::new(disk, None, None);
-    Ok(open(alloc, &mut counting) == Err(SNAPSHOT) && counting.calls() == (4, 0, 1))
-}
-
-/// Whether a recovery reads all of the image, and one sector of the journal, where that shows a
-/// later generation.
-fn reads_one_of_the_journal(alloc: Global) -> Result<bool, Halt> {
-    let mut disk = created_disk(alloc)?;
-    put_each(&mut disk, &[LATER_JOURNAL])?;
-    let mut counting = FaultDisk::new(disk, None, None);
-    Ok(open(alloc, &mut counting) == Err(FIELDS) && counting.calls() == (4 + 129 + 1, 0, 1))
+    let is_so = is_said_of(alloc, &mut counting, damage);
+    drop(counting);
+    is_so
 }
 
 /// Whether a creation is refused for want of sectors, and writes nothing.
@@ -484,33 +575,30 @@ fn shows_too_few(alloc: Global, disk: &mut MemDisk, whole: &mut MemDisk) -> Resu
     Ok(says(alloc, disk)? == Err(TOO_SMALL))
 }
 
-/// Whether both are so on a disk with one sector too few.
-fn is_too_small(alloc: Global) -> Result<bool, Halt> {
-    let mut disk = blank(alloc, SECTORS - 1)?;
-    if !is_refused(alloc, &mut disk)? {
+/// Whether both are so on this disk.
+fn shows_both(alloc: Global, disk: &mut MemDisk) -> Result<bool, Halt> {
+    if !is_refused(alloc, disk)? {
         return Ok(false);
     }
     let mut whole = created_disk(alloc)?;
-    shows_too_few(alloc, &mut disk, &mut whole)
+    let is_so = shows_too_few(alloc, disk, &mut whole);
+    drop(whole);
+    is_so
 }
 
-/// Whether a disk on which no worker was made is told so.
-fn has_none(alloc: Global) -> Result<bool, Halt> {
-    let mut disk = blank(alloc, SECTORS)?;
-    Ok(says(alloc, &mut disk)? == Err(NO_WORKER))
+/// The same of a disk with one sector too few.
+fn is_too_small(alloc: Global) -> Result<bool, Halt> {
+    let mut disk = blank(alloc, SECTORS - 1)?;
+    let is_so = shows_both(alloc, &mut disk);
+    drop(disk);
+    is_so
 }
 
 #[test]
 fn other_disks_are_refused(rt: HostRuntime) -> Result<(), Halt> {
     for damage in &DAMAGES {
-        assert!(rt; is_told_so(rt.alloc(), damage)?, "{}", damage.name);
+        assert_row(&rt, is_told_so(rt.alloc(), damage)?, &damage.name);
     }
-    assert!(rt; reads_no_image(rt.alloc())?, "an image that isn't read");
-    assert!(rt;
-        reads_one_of_the_journal(rt.alloc())?,
-        "the first sector of a journal"
-    );
-    assert!(rt; is_too_small(rt.alloc())?, "a small disk");
-    assert!(rt; has_none(rt.alloc())?, "a blank disk");
+    assert_row(&rt, is_too_small(rt.alloc())?, &"a small disk");
     Ok(())
 }

@@ -3,6 +3,7 @@
 
 use crate::guests::{SPIN, blank};
 use crate::halt::Halt;
+use crate::rows::assert_row;
 use crate::workers::saves::work_on_each;
 use crate::workers::working::{
     IDLE, Work, WorkerProgress, are_lines, create_with, live_on, progress_of,
@@ -61,7 +62,7 @@ const OPENS: WorkerProgress = WorkerProgress {
 
 /// Where the first life ends.
 fn first_life(alloc: Global, disk: &mut MemDisk) -> Result<WorkerProgress, Halt> {
-    match create_with(alloc, disk, SPIN, PAGES) {
+    match create_with(alloc, disk, SPIN, PAGES, 64) {
         Ok(mut worker) => {
             let worked = work_on_each(alloc, &mut worker, disk, &PARTS);
             let progress = progress_of(&worker);
@@ -77,20 +78,23 @@ fn first_life(alloc: Global, disk: &mut MemDisk) -> Result<WorkerProgress, Halt>
 fn goes_on(alloc: Global, disk: &mut MemDisk) -> Result<bool, Halt> {
     let mut told = LineList::new(alloc);
     let mut told_then = LineList::new(alloc);
-    let opens = live_on(alloc, disk, &mut told, &IDLE, &mut told_then)?;
-    Ok(opens == OPENS && are_lines(&told, 2, &[b"again"]))
+    let opens = live_on(alloc, disk, &mut told, &IDLE, &mut told_then);
+    let are_told = are_lines(&told, 2, &[b"again"]);
+    drop(told);
+    drop(told_then);
+    Ok(opens? == OPENS && are_told)
 }
 
 fn lives_so(alloc: Global) -> Result<bool, Halt> {
     let mut disk = blank(alloc, SECTORS)?;
-    if first_life(alloc, &mut disk)? != LEFT {
-        return Ok(false);
-    }
-    goes_on(alloc, &mut disk)
+    let left = first_life(alloc, &mut disk);
+    let goes_on = goes_on(alloc, &mut disk);
+    drop(disk);
+    Ok(left? == LEFT && goes_on?)
 }
 
 #[test]
 fn a_large_worker_lives(rt: HostRuntime) -> Result<(), Halt> {
-    assert!(rt; lives_so(rt.alloc())?);
+    assert_row(&rt, lives_so(rt.alloc())?, &"16 pages");
     Ok(())
 }

@@ -6,6 +6,7 @@ ghost use Rattle.sector_disk.specs.rules.Memory.{memory_medium};
 
 use crate::guests::{ECHO, HELLO, SECTORS, SYNC_FOLDER, SYNC_OUTPUT, THREE, blank};
 use crate::halt::Halt;
+use crate::rows::assert_row;
 use crate::workers::working::{
     IDLE, Work, WorkerProgress, are_lines, create, live_on, open, was_stopped, work_on,
 };
@@ -352,6 +353,7 @@ fn disk_after_life(
     let mut stopping = FaultDisk::new(disk, story.stop, None);
     let worked = work_on(alloc, &mut worker, &mut stopping, &story.work, &mut told);
     drop(worker);
+    drop(told);
     (stopping.into_inner(), was_stopped(worked))
 }
 
@@ -376,7 +378,9 @@ fn first_life(alloc: Global, story: &Story) -> Result<Option<MemDisk>, Halt> {
     match create(alloc, &mut disk, story.guest) {
         Ok(worker) => {
             let (disk_after, stopped) = disk_after_life(alloc, worker, disk, story);
-            cut_so(alloc, &disk_after, stopped, story)
+            let left = cut_so(alloc, &disk_after, stopped, story);
+            drop(disk_after);
+            left
         }
         Err(halt) => Err(halt),
     }
@@ -386,17 +390,21 @@ fn first_life(alloc: Global, story: &Story) -> Result<Option<MemDisk>, Halt> {
 fn goes_on_so(alloc: Global, disk: &mut MemDisk, story: &Story) -> Result<bool, Halt> {
     let mut told = LineList::new(alloc);
     let mut told_then = LineList::new(alloc);
-    let opens = live_on(alloc, disk, &mut told, &story.goes_on, &mut told_then)?;
-    Ok(
-        opens == story.opens
-            && are_lines(&told, story.told.first, story.told.texts)
-            && are_lines(&told_then, story.told_then.first, story.told_then.texts),
-    )
+    let opens = live_on(alloc, disk, &mut told, &story.goes_on, &mut told_then);
+    let are_told = are_lines(&told, story.told.first, story.told.texts)
+        && are_lines(&told_then, story.told_then.first, story.told_then.texts);
+    drop(told);
+    drop(told_then);
+    Ok(opens? == story.opens && are_told)
 }
 
 fn is_told(alloc: Global, story: &Story) -> Result<bool, Halt> {
     match first_life(alloc, story)? {
-        Some(mut disk) => goes_on_so(alloc, &mut disk, story),
+        Some(mut disk) => {
+            let is_so = goes_on_so(alloc, &mut disk, story);
+            drop(disk);
+            is_so
+        }
         None => Ok(false),
     }
 }
@@ -416,7 +424,11 @@ fn opens_twice(alloc: Global, disk: &mut MemDisk, story: &Story) -> Result<bool,
 
 fn is_opened_again(alloc: Global, story: &Story) -> Result<bool, Halt> {
     match first_life(alloc, story)? {
-        Some(mut disk) => opens_twice(alloc, &mut disk, story),
+        Some(mut disk) => {
+            let is_so = opens_twice(alloc, &mut disk, story);
+            drop(disk);
+            is_so
+        }
         None => Ok(false),
     }
 }
@@ -425,12 +437,8 @@ fn is_opened_again(alloc: Global, story: &Story) -> Result<bool, Halt> {
 #[test]
 fn later_lives_go_on(rt: HostRuntime) -> Result<(), Halt> {
     for story in &STORIES {
-        assert!(rt; is_told(rt.alloc(), story)?, "{}", story.name);
-        assert!(rt;
-            is_opened_again(rt.alloc(), story)?,
-            "{}: again",
-            story.name
-        );
+        assert_row(&rt, is_told(rt.alloc(), story)?, &story.name);
+        assert_row(&rt, is_opened_again(rt.alloc(), story)?, &story.name);
     }
     Ok(())
 }
@@ -442,7 +450,7 @@ static TWO: [Story; 2] = [UNASKED, RECOVERED];
 #[test]
 fn two_lives_with_memory(rt: HostRuntime) -> Result<(), Halt> {
     for story in &TWO {
-        assert!(rt; is_told(rt.alloc(), story)?, "{}", story.name);
+        assert_row(&rt, is_told(rt.alloc(), story)?, &story.name);
     }
     Ok(())
 }

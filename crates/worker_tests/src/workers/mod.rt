@@ -10,4 +10,4 @@ mod saves;
 mod sources;
 mod stops;
 mod upgrades;
-mod working;
+pub(crate) mod working;

@@ -4,8 +4,9 @@ ghost use Rattle.std.specs.Prelude.{◌≤◌, ⊤};
 ghost use Rattle.disk_layout.specs.rules.Places.{total_sectors};
 ghost use Rattle.sector_disk.specs.rules.Memory.{memory_medium};
 
-use crate::guests::{ECHO, SECTORS, THREE, blank, request};
+use crate::guests::{ECHO, SECTORS, THREE, blank, request, requests};
 use crate::halt::Halt;
+use crate::rows::assert_row;
 use crate::workers::working::{WorkerProgress, create, progress_of};
 use record_replay::{AnswerList, LineList, Source, SourceFault};
 use sector_disk::{Disk, FaultDisk, MemDisk};
@@ -106,31 +107,22 @@ fn random(alloc: Global) -> Result<Answer, Halt> {
     Ok(Answer::Random { bytes })
 }
 
-/// The last answer, if there is one.
-fn last_answer(alloc: Global, last: &Last) -> Result<Option<Answer>, Halt> {
-    match last {
-        Last::Fault => Ok(None),
-        Last::Realtime => Ok(Some(Answer::Realtime { nanoseconds: 1 })),
-        Last::Monotonic => Ok(Some(Answer::Monotonic { nanoseconds: 1 })),
-        Last::Random => {
-            let answer = random(alloc)?;
-            Ok(Some(answer))
-        }
-        Last::Text(text) => {
-            let answer = request(alloc, text)?;
-            Ok(Some(answer))
-        }
-    }
+/// Appends the last answer, if there is one.
+fn push_last(alloc: Global, answers: &mut Vec<Answer>, last: &Last) -> Result<(), Halt> {
+    let answer = match last {
+        Last::Fault => return Ok(()),
+        Last::Realtime => Answer::Realtime { nanoseconds: 1 },
+        Last::Monotonic => Answer::Monotonic { nanoseconds: 1 },
+        Last::Random => random(alloc)?,
+        Last::Text(text) => request(alloc, text)?,
+    };
+    answers.push(answer)?;
+    Ok(())
 }
 
 fn source_of(alloc: Global, asked: &Asked) -> Result<FailingSource, Halt> {
-    let mut answers = Vec::new(alloc);
-    for text in asked.requests {
-        answers.push(request(alloc, *text)?)?;
-    }
-    if let Some(answer) = last_answer(alloc, &asked.last)? {
-        answers.push(answer)?;
-    }
+    let mut answers = requests(alloc, asked.requests)?;
+    push_last(alloc, &mut answers, &asked.last)?;
     Ok(FailingSource(AnswerList::new(answers)))
 }
 
@@ -169,7 +161,11 @@ fn fails_so(alloc: Global, worker: &mut Worker, disk: MemDisk, asked: &Asked) ->
     let mut told = LineList::new(alloc);
     let mut counting = FaultDisk::new(disk, None, None);
     let said = say_four(worker, &mut counting, &mut source, &mut told);
-    Ok(said == SAID && told.lines().is_empty() && counting.calls() == (0, 0, 0))
+    let is_so = said == SAID && told.lines().is_empty() && counting.calls() == (0, 0, 0);
+    drop(source);
+    drop(told);
+    drop(counting);
+    Ok(is_so)
 }
 
 /// Whether the worker is where it has asked.
@@ -196,7 +192,7 @@ fn is_failed_so(alloc: Global, asked: &Asked) -> Result<bool, Halt> {
 #[test]
 fn faults_of_sources_leave_the_disk(rt: HostRuntime) -> Result<(), Halt> {
     for asked in &ASKED {
-        assert!(rt; is_failed_so(rt.alloc(), asked)?, "{}", asked.name);
+        assert_row(&rt, is_failed_so(rt.alloc(), asked)?, &asked.name);
     }
     Ok(())
 }

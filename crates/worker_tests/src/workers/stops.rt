@@ -6,6 +6,7 @@ ghost use Rattle.sector_disk.specs.rules.Memory.{memory_medium};
 
 use crate::guests::{ECHO, HELLO, SECTORS, blank};
 use crate::halt::{Halt, NO_WORKER};
+use crate::rows::assert_row;
 use crate::workers::working::{
     Work, WorkerProgress, are_all_told, create, open, progress_of, was_stopped, work_on,
 };
@@ -81,11 +82,10 @@ fn failed_checkpoint(alloc: Global) -> Result<Option<MemDisk>, Halt> {
 /// How many calls a recovery of this disk begins, if it finds generation 2.
 fn calls_of_recovery(alloc: Global, disk: MemDisk) -> Result<Option<u64>, Halt> {
     let mut counting = FaultDisk::new(disk, None, None);
-    if open(alloc, &mut counting)? == SECOND {
-        Ok(Some(count_of(&counting)))
-    } else {
-        Ok(None)
-    }
+    let opens = open(alloc, &mut counting);
+    let count = count_of(&counting);
+    drop(counting);
+    Ok(if opens? == SECOND { Some(count) } else { None })
 }
 
 /// The disk that a recovery leaves which is stopped there, and what it says.
@@ -102,13 +102,17 @@ fn stopped_recovery(
 /// Whether generation 2 is found once the power is cut.
 fn is_second(alloc: Global, disk: &MemDisk) -> Result<bool, Halt> {
     let mut disk_after = disk.cut(alloc, &[])?;
-    Ok(open(alloc, &mut disk_after)? == SECOND)
+    let opens = open(alloc, &mut disk_after);
+    drop(disk_after);
+    Ok(opens? == SECOND)
 }
 
 /// Whether a recovery of this disk that is stopped at this call leaves generation 2.
 fn is_kept_over_a_stop(alloc: Global, disk: MemDisk, call: u64) -> Result<bool, Halt> {
     let (disk_after, opens) = stopped_recovery(alloc, disk, Place { call, front: 100 });
-    Ok(opens == Err(CUT) && is_second(alloc, &disk_after)?)
+    let is_second = is_second(alloc, &disk_after);
+    drop(disk_after);
+    Ok(opens == Err(CUT) && is_second?)
 }
 
 /// Whether generation 2 is found after a checkpoint whose last call fails, also where a recovery is
@@ -325,8 +329,11 @@ fn stopped_life(
 ) -> Result<(MemDisk, bool, u64), Halt> {
     let disk = blank(alloc, SECTORS)?;
     let (disk_after, stopped, count) = life_on(alloc, disk, stop, task, told);
-    match disk_after.cut(alloc, &[]) {
-        Ok(disk_after) => Ok((disk_after, stopped?, count)),
+    let left = disk_after.cut(alloc, &[]);
+    drop(disk_after);
+    let is_stopped = stopped?;
+    match left {
+        Ok(left) => Ok((left, is_stopped, count)),
         Err(fault) => Err(Halt::from(fault)),
     }
 }
@@ -334,17 +341,30 @@ fn stopped_life(
 /// How many calls of its disk a life of this task begins that isn't stopped.
 fn calls_of_life(alloc: Global, task: &Task) -> Result<u64, Halt> {
     let mut told = LineList::new(alloc);
-    let (_left, _is_stopped, count) = stopped_life(alloc, None, task, &mut told)?;
+    let lived = stopped_life(alloc, None, task, &mut told);
+    drop(told);
+    let (left, _is_stopped, count) = lived?;
+    drop(left);
     Ok(count)
 }
 
-/// Whether a life is stopped at this call, and once another one has gone on, all lines are told.
+/// Whether a life was stopped at this call, and another one has gone on then.
+fn lives_twice(alloc: Global, call: u64, task: &Task, told: &mut LineList) -> Result<bool, Halt> {
+    let stop = Place { call, front: 505 };
+    let (mut disk, is_stopped, _count) = stopped_life(alloc, Some(stop), task, told)?;
+    let opens = live(alloc, &mut disk, task, told);
+    drop(disk);
+    opens?;
+    Ok(is_stopped)
+}
+
+/// Whether all lines are told after both.
 fn goes_on_after(alloc: Global, call: u64, task: &Task) -> Result<bool, Halt> {
     let mut told = LineList::new(alloc);
-    let stop = Place { call, front: 505 };
-    let (mut disk, is_stopped, _count) = stopped_life(alloc, Some(stop), task, &mut told)?;
-    live(alloc, &mut disk, task, &mut told)?;
-    Ok(is_stopped && are_all_told(&told, task.texts))
+    let is_stopped = lives_twice(alloc, call, task, &mut told);
+    let are_told = are_all_told(&told, task.texts);
+    drop(told);
+    Ok(is_stopped? && are_told)
 }
 
 /// A sync and a read find no worker. A creation has 198 writes and 6 syncs. Each of two lines has a
@@ -355,11 +375,9 @@ const CALLS: u64 = 344;
 /// generation nevertheless, since reads give it.
 #[test]
 fn failed_head_syncs_are_recovered(rt: HostRuntime) -> Result<(), Halt> {
-    assert!(rt; is_found(rt.alloc())?);
-    assert!(rt;
-        calls_of_life(rt.alloc(), &ECHOES)? == CALLS,
-        "calls of a life"
-    );
+    assert_row(&rt, is_found(rt.alloc())?, &"generation 2");
+    let calls = calls_of_life(rt.alloc(), &ECHOES)?;
+    assert_row(&rt, calls == CALLS, &calls);
     Ok(())
 }
 
@@ -367,7 +385,7 @@ fn failed_head_syncs_are_recovered(rt: HostRuntime) -> Result<(), Halt> {
 #[test]
 fn lives_go_on_after_any_stop(rt: HostRuntime) -> Result<(), Halt> {
     for call in 1..=CALLS {
-        assert!(rt; goes_on_after(rt.alloc(), call, &ECHOES)?, "{call}");
+        assert_row(&rt, goes_on_after(rt.alloc(), call, &ECHOES)?, &call);
     }
     Ok(())
 }
@@ -405,7 +423,9 @@ fn cut_life(
     told: &mut LineList,
 ) -> Result<(MemDisk, Result<WorkerProgress, Halt>), Halt> {
     let opens = live(alloc, &mut disk, task, told);
-    let (disk_after, again) = cut_again(alloc, &disk)?;
+    let cut = cut_again(alloc, &disk);
+    drop(disk);
+    let (disk_after, again) = cut?;
     match again {
         Ok(()) => Ok((disk_after, opens)),
         Err(halt) => Ok((disk_after, Err(halt))),
@@ -422,7 +442,8 @@ fn three_lives(
 ) -> Result<[Result<WorkerProgress, Halt>; 3], Halt> {
     let (disk, first) = cut_life(alloc, disk, task, told)?;
     let (disk, second) = cut_life(alloc, disk, task, told)?;
-    let (_disk, third) = cut_life(alloc, disk, task, told)?;
+    let (disk, third) = cut_life(alloc, disk, task, told)?;
+    drop(disk);
     Ok([first, second, third])
 }
 
@@ -449,12 +470,12 @@ fn open_so(lives: &[Result<WorkerProgress, Halt>; 3], task: &Task) -> bool {
 fn are_told_in_three(alloc: Global, task: &Task) -> Result<(bool, Result<(), Halt>), Halt> {
     let (disk, made) = blank_again(alloc)?;
     let mut told = LineList::new(alloc);
-    let lives = three_lives(alloc, disk, task, &mut told)?;
+    let lived = three_lives(alloc, disk, task, &mut told);
+    let are_told = are_all_told(&told, task.texts);
+    drop(told);
+    let lives = lived?;
     let said = made.and(said_by(&lives));
-    Ok((
-        are_all_told(&told, task.texts) && (said.is_err() || open_so(&lives, task)),
-        said,
-    ))
+    Ok((are_told && (said.is_err() || open_so(&lives, task)), said))
 }
 
 /// For the refusal of each allocation: the last life with memory gives all lines.
@@ -462,7 +483,7 @@ fn are_told_in_three(alloc: Global, task: &Task) -> Result<(bool, Result<(), Hal
 fn lives_go_on_after_want_of_memory(rt: HostRuntime) -> Result<(), Halt> {
     for task in &TASKS {
         let (are_told, said) = are_told_in_three(rt.alloc(), task)?;
-        assert!(rt; are_told, "{said:?}");
+        assert_row(&rt, are_told, &said);
         said?;
     }
     Ok(())

@@ -7,12 +7,14 @@ ghost use Rattle.sector_disk.specs.rules.Memory.{memory_medium};
 
 use crate::guests::{ECHO, RANDOM, blank};
 use crate::halt::Halt;
+use crate::rows::assert_row;
 use crate::workers::working::{
-    IDLE, Work, WorkerProgress, are_lines, create_long, progress_of, work_on,
+    IDLE, Work, WorkerProgress, are_lines, create_with, progress_of, work_on,
 };
 use record_replay::{AnswerList, LineList};
 use sector_disk::{Disk, FaultDisk, MemDisk, Place};
 use std::alloc::Global;
+use std::process::Abort;
 use wasi_abi::{Answer, Version};
 use wasm_syntax::ItemList;
 use worker::{SliceFault, UpgradeFault, WorkFault, Worker};
@@ -33,6 +35,13 @@ const ALONE: Work = Work {
     requests: &[],
     fuel: 100,
     is_saved: false,
+};
+
+/// The same, saved in the end.
+const SAVED: Work = Work {
+    requests: &[],
+    fuel: 100,
+    is_saved: true,
 };
 
 /// Up to the question behind a line.
@@ -61,7 +70,7 @@ struct Case {
     version: Version,
 }
 
-static CASES: [Case; 7] = [
+static CASES: [Case; 8] = [
     Case {
         name: "a journal of 132 sectors",
         guest: ECHO,
@@ -104,6 +113,15 @@ static CASES: [Case; 7] = [
         journal: JOURNAL,
         first: Some(ALONE),
         next: ALONE,
+        says: [None, None],
+        version: Version::Two,
+    },
+    Case {
+        name: "it had ended when it was saved",
+        guest: RANDOM,
+        journal: JOURNAL,
+        first: Some(SAVED),
+        next: IDLE,
         says: [None, None],
         version: Version::Two,
     },
@@ -157,17 +175,30 @@ fn says_so(
     Ok(said == case.says && worker.process().version() == case.version)
 }
 
-/// The same of a worker that is recovered from a disk.
-fn says_so_again(alloc: Global, mut disk: MemDisk, case: &Case) -> Result<bool, Halt> {
-    let mut told = LineList::new(alloc);
-    match Worker::recover(alloc, &mut disk, &mut told) {
+/// The same of a worker that is recovered from a disk, whose recovery tells these lines.
+fn says_so_again(
+    alloc: Global,
+    disk: &mut MemDisk,
+    told: &mut LineList,
+    case: &Case,
+) -> Result<bool, Halt> {
+    match Worker::recover(alloc, disk, told) {
         Ok(mut worker) => {
-            let is_so = says_so(alloc, &mut worker, &mut disk, case);
+            let is_so = says_so(alloc, &mut worker, disk, case);
             drop(worker);
             is_so
         }
         Err(fault) => Err(Halt::from(fault)),
     }
+}
+
+/// The same of a disk of its own.
+fn says_so_on(alloc: Global, mut disk: MemDisk, case: &Case) -> Result<bool, Halt> {
+    let mut told = LineList::new(alloc);
+    let is_so = says_so_again(alloc, &mut disk, &mut told, case);
+    drop(told);
+    drop(disk);
+    is_so
 }
 
 /// What a cut leaves of a disk after this work.
@@ -180,28 +211,40 @@ fn cut_after(
     requires { total_sectors worker.old.store.geometry ≤ (memory_medium disk.old).sectors }
 {
     let mut told = LineList::new(alloc);
-    work_on(alloc, worker, disk, work, &mut told)?;
+    let worked = work_on(alloc, worker, disk, work, &mut told);
+    drop(told);
+    worked?;
     Ok(disk.cut(alloc, &[])?)
+}
+
+fn is_case_on(alloc: Global, disk: &mut MemDisk, case: &Case) -> Result<bool, Halt> {
+    let mut worker = create_with(alloc, disk, case.guest, 1, case.journal)?;
+    match &case.first {
+        Some(first) => {
+            let disk_after = cut_after(alloc, &mut worker, disk, first);
+            drop(worker);
+            says_so_on(alloc, disk_after?, case)
+        }
+        None => {
+            let is_so = says_so(alloc, &mut worker, disk, case);
+            drop(worker);
+            is_so
+        }
+    }
 }
 
 fn is_case(alloc: Global, case: &Case) -> Result<bool, Halt> {
     let mut disk = blank(alloc, SECTORS)?;
-    let mut worker = create_long(alloc, &mut disk, case.guest, case.journal)?;
-    let Some(first) = case.first else {
-        let is_so = says_so(alloc, &mut worker, &mut disk, case);
-        drop(worker);
-        return is_so;
-    };
-    let disk_after = cut_after(alloc, &mut worker, &mut disk, &first);
-    drop(worker);
-    says_so_again(alloc, disk_after?, case)
+    let is_so = is_case_on(alloc, &mut disk, case);
+    drop(disk);
+    is_so
 }
 
 /// An upgrade is refused for its journal, and for lines that an earlier life told.
 #[test]
 fn upgrades_are_refused(rt: HostRuntime) -> Result<(), Halt> {
     for case in &CASES {
-        assert!(rt; is_case(rt.alloc(), case)?, "{}", case.name);
+        assert_row(&rt, is_case(rt.alloc(), case)?, &case.name);
     }
     Ok(())
 }
@@ -235,17 +278,21 @@ fn tells(
 
 fn tells_at_first(alloc: Global, is_upgraded: bool, text: &'static [u8]) -> Result<bool, Halt> {
     let mut disk = blank(alloc, SECTORS)?;
-    let mut worker = create_long(alloc, &mut disk, RANDOM, JOURNAL)?;
+    let mut worker = create_with(alloc, &mut disk, RANDOM, 1, JOURNAL)?;
     let is_so = tells(alloc, &mut worker, &mut disk, is_upgraded, text);
     drop(worker);
     is_so
 }
 
-/// Version 1 gives 4,096 random bytes at most: the call for 5,000 has error 28.
+/// Whether a worker is upgraded, and its line then. Version 1 gives 4,096 random bytes at most: the
+/// call for 5,000 has error 28.
+static TOLD: [(bool, &[u8]); 2] = [(false, b"28"), (true, b"00")];
+
 #[test]
 fn random_bytes_are_more_in_version_2(rt: HostRuntime) -> Result<(), Halt> {
-    assert!(rt; tells_at_first(rt.alloc(), false, b"28")?, "version 1");
-    assert!(rt; tells_at_first(rt.alloc(), true, b"00")?, "version 2");
+    for (is_upgraded, text) in &TOLD {
+        assert_row(&rt, tells_at_first(rt.alloc(), *is_upgraded, *text)?, text);
+    }
     Ok(())
 }
 
@@ -313,13 +360,18 @@ fn meets(
     };
     let said = worker.upgrade(&mut faulty, &mut told).is_err();
     let again = worker.upgrade(&mut faulty, &mut told).err() == Some(FAILED);
+    drop(told);
     (faulty.into_inner(), said && again)
 }
 
 /// What the next life finds: what a cut leaves, or the same disk.
 fn found_after(alloc: Global, disk_after: MemDisk, mishap: Mishap) -> Result<MemDisk, Halt> {
     match mishap {
-        Mishap::Stop => Ok(disk_after.cut(alloc, &[])?),
+        Mishap::Stop => {
+            let left = disk_after.cut(alloc, &[]);
+            drop(disk_after);
+            Ok(left?)
+        }
         Mishap::Failure => Ok(disk_after),
     }
 }
@@ -335,16 +387,21 @@ fn found(
     requires { total_sectors worker.old.store.geometry ≤ (memory_medium disk).sectors }
 {
     let mut told = LineList::new(alloc);
-    work_on(alloc, worker, &mut disk, &ANSWERED, &mut told)?;
+    let worked = work_on(alloc, worker, &mut disk, &ANSWERED, &mut told);
+    drop(told);
+    worked?;
     let (disk_after, is_said) = meets(alloc, worker, disk, mishap, place);
     let next = found_after(alloc, disk_after, mishap)?;
     Ok(if is_said { Some(next) } else { None })
 }
 
 /// The version and the place with which the next life opens.
-fn opens(alloc: Global, mut disk: MemDisk) -> Result<(Version, WorkerProgress), Halt> {
-    let mut told = LineList::new(alloc);
-    match Worker::recover(alloc, &mut disk, &mut told) {
+fn opens(
+    alloc: Global,
+    disk: &mut MemDisk,
+    told: &mut LineList,
+) -> Result<(Version, WorkerProgress), Halt> {
+    match Worker::recover(alloc, disk, told) {
         Ok(worker) => {
             let opened = (worker.process().version(), progress_of(&worker));
             drop(worker);
@@ -352,6 +409,15 @@ fn opens(alloc: Global, mut disk: MemDisk) -> Result<(Version, WorkerProgress), 
         }
         Err(fault) => Err(Halt::from(fault)),
     }
+}
+
+/// The same of a disk of its own.
+fn opens_on(alloc: Global, mut disk: MemDisk) -> Result<(Version, WorkerProgress), Halt> {
+    let mut told = LineList::new(alloc);
+    let opened = opens(alloc, &mut disk, &mut told);
+    drop(told);
+    drop(disk);
+    opened
 }
 
 /// Whether it is whole in the one version or the other. Once the barrier is done it has the answer.
@@ -364,11 +430,11 @@ fn is_whole(opened: (Version, WorkerProgress), place: Place) -> bool {
 
 fn is_whole_after(alloc: Global, mishap: Mishap, place: Place) -> Result<bool, Halt> {
     let mut disk = blank(alloc, SECTORS)?;
-    let mut worker = create_long(alloc, &mut disk, ECHO, JOURNAL)?;
+    let mut worker = create_with(alloc, &mut disk, ECHO, 1, JOURNAL)?;
     let disk_after = found(alloc, &mut worker, disk, mishap, place);
     drop(worker);
     match disk_after? {
-        Some(disk_after) => Ok(is_whole(opens(alloc, disk_after)?, place)),
+        Some(disk_after) => Ok(is_whole(opens_on(alloc, disk_after)?, place)),
         None => Ok(false),
     }
 }
@@ -378,32 +444,33 @@ fn is_tried(call: u64, prefix: u16) -> bool {
     prefix == PART || call <= BARRIER || CALLS - WRITES_AND_SYNCS < call
 }
 
-/// The first call and prefix after which the next life is not as it must be.
-fn first_miss(alloc: Global, mishap: Mishap) -> Result<Option<Place>, Halt> {
-    for call in 1..=CALLS {
-        for prefix in &PREFIXES {
-            let place = Place {
-                call,
-                front: *prefix,
-            };
-            if is_tried(call, *prefix) && !is_whole_after(alloc, mishap, place)? {
-                return Ok(Some(place));
-            }
+/// Whether the next life is as it must be, after this call and each prefix that is tried.
+fn is_whole_each_time(alloc: Global, mishap: Mishap, call: u64) -> Result<bool, Halt> {
+    for prefix in &PREFIXES {
+        let place = Place {
+            call,
+            front: *prefix,
+        };
+        if is_tried(call, *prefix) && !is_whole_after(alloc, mishap, place)? {
+            return Ok(false);
         }
     }
-    Ok(None)
+    Ok(true)
+}
+
+fn leave_one_version(rt: &impl Abort, alloc: Global, mishap: Mishap) -> Result<(), Halt> {
+    for call in 1..=CALLS {
+        assert_row(rt, is_whole_each_time(alloc, mishap, call)?, &call);
+    }
+    Ok(())
 }
 
 #[test]
 fn stopped_upgrades_leave_one_version(rt: HostRuntime) -> Result<(), Halt> {
-    let miss = first_miss(rt.alloc(), Mishap::Stop)?;
-    assert!(rt; miss.is_none(), "{miss:?}");
-    Ok(())
+    leave_one_version(&rt, rt.alloc(), Mishap::Stop)
 }
 
 #[test]
 fn failed_upgrades_leave_one_version(rt: HostRuntime) -> Result<(), Halt> {
-    let miss = first_miss(rt.alloc(), Mishap::Failure)?;
-    assert!(rt; miss.is_none(), "{miss:?}");
-    Ok(())
+    leave_one_version(&rt, rt.alloc(), Mishap::Failure)
 }

@@ -3,7 +3,7 @@
 ghost use Rattle.std.specs.Prelude.{◌≤◌, IfOk, OnOk};
 ghost use Rattle.disk_layout.specs.rules.Places.{total_sectors};
 
-use crate::guests::{config_of, config_with, request};
+use crate::guests::{config_of, requests};
 use crate::halt::Halt;
 use record_replay::{AnswerList, LineList, NumberedLine};
 use sector_disk::{Disk, DiskFault};
@@ -48,47 +48,24 @@ pub(crate) const IDLE: Work = Work {
     is_saved: false,
 };
 
-fn requests(alloc: Global, texts: &[&[u8]]) -> Result<AnswerList, Halt> {
-    let mut answers = Vec::new(alloc);
-    for text in texts {
-        answers.push(request(alloc, *text)?)?;
-    }
-    Ok(AnswerList::new(answers))
-}
-
-/// A worker of this guest with one page, on this disk.
+/// A worker of this guest with one page and 64 sectors of records, on this disk.
 pub(crate) fn create<D: Disk>(alloc: Global, disk: &mut D, guest: &[u8]) -> Result<Worker, Halt>
     ensures { IfOk result (λ w. total_sectors w.store.geometry ≤ (D.medium disk.new).sectors) }
 {
-    create_with(alloc, disk, guest, 1)
+    create_with(alloc, disk, guest, 1, 64)
 }
 
-/// A worker of this guest with so many pages, on this disk.
+/// A worker of this guest with so many pages and sectors of records, on this disk.
 pub(crate) fn create_with<D: Disk>(
     alloc: Global,
     disk: &mut D,
     guest: &[u8],
     pages: u64,
-) -> Result<Worker, Halt>
-    ensures { IfOk result (λ w. total_sectors w.store.geometry ≤ (D.medium disk.new).sectors) }
-{
-    let settings = config_of(alloc, pages)?;
-    match Worker::create(alloc, disk, guest, &settings) {
-        Ok(worker) => Ok(worker),
-        Err(fault) => Err(Halt::from(fault)),
-    }
-}
-
-/// A worker of this guest with one page and so many sectors of records, on this disk.
-pub(crate) fn create_long<D: Disk>(
-    alloc: Global,
-    disk: &mut D,
-    guest: &[u8],
     journal: u64,
 ) -> Result<Worker, Halt>
     ensures { IfOk result (λ w. total_sectors w.store.geometry ≤ (D.medium disk.new).sectors) }
 {
-    let settings = config_with(alloc, 1, journal)?;
+    let settings = config_of(alloc, pages, journal)?;
     match Worker::create(alloc, disk, guest, &settings) {
         Ok(worker) => Ok(worker),
         Err(fault) => Err(Halt::from(fault)),
@@ -142,8 +119,10 @@ pub(crate) fn work_on<D: Disk>(
     requires { total_sectors worker.old.store.geometry ≤ (D.medium disk.old).sectors }
     ensures { OnOk result (total_sectors worker.new.store.geometry ≤ (D.medium disk.new).sectors) }
 {
-    let mut source = requests(alloc, work.requests)?;
-    run(worker, disk, work, &mut source, told)
+    let mut source = AnswerList::new(requests(alloc, work.requests)?);
+    let worked = run(worker, disk, work, &mut source, told);
+    drop(source);
+    worked
 }
 
 /// A life of the worker that the disk stands for. What it opens with; the lines of its recovery and
@@ -167,10 +146,12 @@ pub(crate) fn live_on<D: Disk>(
     }
 }
 
-/// What a life opens with that does nothing.
-pub(crate) fn open<D: Disk>(alloc: Global, disk: &mut D) -> Result<WorkerProgress, Halt> {
-    let mut told = LineList::new(alloc);
-    match Worker::recover(alloc, disk, &mut told) {
+fn open_with<D: Disk>(
+    alloc: Global,
+    disk: &mut D,
+    told: &mut LineList,
+) -> Result<WorkerProgress, Halt> {
+    match Worker::recover(alloc, disk, told) {
         Ok(worker) => {
             let opens = progress_of(&worker);
             drop(worker);
@@ -178,6 +159,14 @@ pub(crate) fn open<D: Disk>(alloc: Global, disk: &mut D) -> Result<WorkerProgres
         }
         Err(fault) => Err(Halt::from(fault)),
     }
+}
+
+/// What a life opens with that does nothing.
+pub(crate) fn open<D: Disk>(alloc: Global, disk: &mut D) -> Result<WorkerProgress, Halt> {
+    let mut told = LineList::new(alloc);
+    let opens = open_with(alloc, disk, &mut told);
+    drop(told);
+    opens
 }
 
 /// Whether a life was stopped. It ends so, or by itself.

@@ -1,4 +1,4 @@
-use Rattle.std.proofs.Common.{◌≡◌, ◌<◌, ◌≤◌, ◌+◌, ◌++◌, ℕ, List, length, sym, ap, ◌∙◌}
+use Rattle.std.proofs.Common.{◌≡◌, ◌<◌, ◌+◌, ◌++◌, ℕ, List, length, sym, ap, ◌∙◌}
 use Rattle.std.proofs.Common.{subst, arith, rules}
 use Rattle.sector_disk.specs.rules.DiskImage.{sector_at}
 use Rattle.sector_disk.specs.rules.Medium.{Tears, TakesWrite, BothFollow}

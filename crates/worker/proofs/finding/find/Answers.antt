@@ -3,7 +3,7 @@ use Rattle.std.proofs.lemmas.Result.{err_from_is_err_and}
 use Rattle.sector_disk.proofs.Moments.{stays_shows}
 use Rattle.disk_layout.specs.declared.reading.contents.Contents.{Contents}
 use Rattle.worker_store.specs.rules.Savepoints.{places}
-use Rattle.worker.proofs.FindingLemmas.{unread_says, searches_on, searches_in_vain}
+use Rattle.worker.proofs.FindingLemmas.{unread_says, searches_on, searches_in_vain, few_on}
 use Rattle.worker.proofs.FindingLemmas.{marks_there, marks_unread}
 use Rattle.worker.proofs.FoundDiskLemmas.{contents_unread}
 use Rattle.worker.proofs.finding.find.Goals as goal
@@ -18,6 +18,11 @@ returns-in_err-contents-clause-searches g c =
     rw (p.1, p.2) (searches_in_vain old.sectors (2 * old.sectors) old
     (g.D.Disk.medium c.read_worker.new.disk) c.in_err-contents.field-0.0 (omega arith)
     failed.reads failed.asks failed.cause)
+
+pub returns-in_err-contents-clause-few : goal.returns-in_err-contents-clause-few
+returns-in_err-contents-clause-few g c =
+    let p = err_from_is_err_and c.from_residual.result c.from_residual.ensures.1 in
+    rw p.1 tt
 
 pub returns-in_err-contents-clause-finds : goal.returns-in_err-contents-clause-finds
 returns-in_err-contents-clause-finds g c =
@@ -57,6 +62,13 @@ returns-clause-searches g c =
     searches_on old.sectors mid.sectors (2 * old.sectors) old mid
     (g.D.Disk.medium c.find_linked.new.disk) c.find_linked.result (omega (arith, same))
     read.reads read.asks c.find_linked.ensures.searches
+
+pub returns-clause-few : goal.returns-clause-few
+returns-clause-few g c =
+    let old = g.D.Disk.medium c.args.disk.now in
+    few_on old.sectors old (g.D.Disk.medium c.read_worker.new.disk)
+    (g.D.Disk.medium c.find_linked.new.disk) c.find_linked.result c.in_ok-contents.ensures.asks
+    c.find_linked.ensures.few
 
 pub returns-clause-finds : goal.returns-clause-finds
 returns-clause-finds g c = (

@@ -30,6 +30,11 @@ returns-in_err-machine-clause-searches g c =
     let m = g.D.Disk.medium c.args.disk.now in
     rw (p.1, p.2) (searches_no_more m.sectors m (recover.Module c.in_err-machine.field-0.0) tt)
 
+pub returns-in_err-machine-clause-few : goal.returns-in_err-machine-clause-few
+returns-in_err-machine-clause-few g c =
+    let p = err_from_is_err_and c.from_residual.result c.from_residual.ensures.1 in
+    rw p.1 tt
+
 pub returns-in_err-machine-clause-finds : goal.returns-in_err-machine-clause-finds
 returns-in_err-machine-clause-finds g c =
     let p = err_from_is_err_and c.from_residual.result c.from_residual.ensures.1 in
@@ -63,6 +68,12 @@ returns-in_err-newest-clause-searches g c =
     rw (p.1, p.2) (searches_in_vain (c.args.contents.geometry.area_sectors + 2) old.sectors old
     (g.D.Disk.medium c.read_newest.new.disk) c.in_err-newest.field-0.0 (omega (arith, room))
     failed.reads failed.asks failed.cause)
+
+pub returns-in_err-newest-clause-few : goal.returns-in_err-newest-clause-few
+returns-in_err-newest-clause-few g c =
+    let p = err_from_is_err_and c.from_residual-in_err-newest.result
+    c.from_residual-in_err-newest.ensures.1 in
+    rw p.1 tt
 
 pub returns-in_err-newest-clause-finds : goal.returns-in_err-newest-clause-finds
 returns-in_err-newest-clause-finds g c =
@@ -105,6 +116,12 @@ returns-in_err-process-clause-searches g c =
     let room = c.requires in
     rw (p.1, p.2) (searches_on (c.args.contents.geometry.area_sectors + 2) 0 old.sectors old mid
     mid (Err fault) (omega (arith, room)) read.reads read.asks (searches_no_more 0 mid fault tt))
+
+pub returns-in_err-process-clause-few : goal.returns-in_err-process-clause-few
+returns-in_err-process-clause-few g c =
+    let p = err_from_is_err_and c.from_residual-in_err-process.result
+    c.from_residual-in_err-process.ensures.1 in
+    rw p.1 tt
 
 pub returns-in_err-process-clause-finds : goal.returns-in_err-process-clause-finds
 returns-in_err-process-clause-finds g c =
@@ -152,6 +169,12 @@ returns-in_err-records-clause-searches g c =
     old mid new (Err (fault_of_read c.in_err-records.field-0.0)) (omega (arith, room)) read.reads
     read.asks (searches_in_vain geometry.journal_sectors geometry.journal_sectors mid new
     c.in_err-records.field-0.0 (omega arith) failed.reads failed.asks failed.cause))
+
+pub returns-in_err-records-clause-few : goal.returns-in_err-records-clause-few
+returns-in_err-records-clause-few g c =
+    let p = err_from_is_err_and c.from_residual-in_err-records.result
+    c.from_residual-in_err-records.ensures.1 in
+    rw p.1 tt
 
 pub returns-in_err-records-clause-finds : goal.returns-in_err-records-clause-finds
 returns-in_err-records-clause-finds g c =
@@ -218,6 +241,12 @@ returns-clause-searches g c =
     (Ok found) (omega (arith, room)) newest.reads newest.asks
     (searched geometry.journal_sectors mid new found (omega (arith, room, same)) read.reads
     read.asks c.in_ok-process.ensures.shows)
+
+pub returns-clause-few : goal.returns-clause-few
+returns-clause-few g c =
+    let newest = c.in_ok-newest.ensures.asks in
+    let read = c.in_ok-records.ensures.asks in
+    omega (arith, newest, read)
 
 pub returns-clause-finds : goal.returns-clause-finds
 returns-clause-finds g c = λ image shown m config point records last at content.

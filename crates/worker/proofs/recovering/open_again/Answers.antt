@@ -9,7 +9,7 @@ returns-in-Ok g c =
         process = refl;
         replayed = refl;
         unfailed = ap (λ (s : WorkerStore). s.journal.has_failed) opens.begun;
-        behind = refl;
+        abreast = c.has_ended-is_abreast.ensures;
       },
       opens,
     )

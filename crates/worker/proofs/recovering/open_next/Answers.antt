@@ -13,7 +13,7 @@ returns-in-Ok g c =
     let done = c.in-Ok.ensures in
     opens_next g.D.Disk.medium c.args.last.geometry c.args.last.generation c.args.process.now
     c.args.disk.now c.in-Some.next next.1 c.reopen.new.disk done.point_or_next done.passes
-    done.counts done.some done.asks c.in-Ok.store done.durable done.begun done.numbered done.placed
+    done.counts done.some c.requires done.asks c.in-Ok.store done.durable done.begun done.numbered done.placed
     done.calls
 
 pub returns-in-Err : goal.returns-in-Err
@@ -22,4 +22,4 @@ returns-in-Err g c =
     let failed = c.in-Err.ensures in
     opens_none g.D.Disk.medium c.args.last.geometry c.args.last.generation c.args.process.now
     c.args.disk.now c.in-Some.next next.1 c.reopen.new.disk failed.point_or_next failed.passes
-    failed.counts failed.some failed.asks c.in-Err.fault c.from.result failed.cause c.from.ensures
+    failed.counts failed.some c.requires failed.asks c.in-Err.fault c.from.result failed.cause c.from.ensures

@@ -2,7 +2,7 @@ use Rattle.std.proofs.Common.{rules, inl, inr, ⊎_elim, ◌≡◌, List, [], le
 use Rattle.std.proofs.Common.{arith}
 use Rattle.sector_disk.specs.rules.DiskImage.{DiskImage, IsDiskImage}
 use Rattle.sector_disk.specs.rules.Memory.{calls_in}
-use Rattle.sector_disk.specs.rules.Pending.{Leaves, HadCrashImage, replayed, torn_by}
+use Rattle.sector_disk.specs.rules.Pending.{Leaves, HadCrashImage, torn_by}
 use Rattle.sector_disk.specs.laws.Pending.{had_more, had_less, whole_crashed, whole_by_none}
 use Rattle.sector_disk.proofs.CountLemmas.{had_keeps, had_grows}
 use Rattle.sector_disk.specs.declared.memory.MemDisk.{MemDisk}

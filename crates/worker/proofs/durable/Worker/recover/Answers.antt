@@ -80,7 +80,7 @@ returns-in-Ok g c =
       recovers = is_found_recovers g.D.Disk.medium g.O.Outlet.takes c.args.disk.now
           c.sync.new.self c.find.new.disk c.in_default.field-0 syncs found.searches.reads
           found.searches.asks c.args.outlet.now c.revive.new.disk c.revive.new.outlet
-          c.process_images_fit_areas.ensures c.in-Ok.found found.finds found.marks
+          c.process_images_fit_areas.ensures c.in-Ok.found found.finds found.marks found.few
           c.revive.result c.revive.ensures;
       shown = found_shown g.D.Disk.medium g.O.Outlet.takes c.args.disk.now c.sync.new.self
           c.find.new.disk c.in_default.field-0 syncs found.searches.reads found.searches.asks
@@ -89,7 +89,7 @@ returns-in-Ok g c =
       carries = is_found_carries g.D.Disk.medium g.O.Outlet.takes c.args.disk.now
           c.sync.new.self c.find.new.disk c.in_default.field-0 syncs found.searches.reads
           found.searches.asks c.args.outlet.now c.revive.new.disk c.revive.new.outlet
-          c.process_images_fit_areas.ensures c.in-Ok.found found.finds found.marks
+          c.process_images_fit_areas.ensures c.in-Ok.found found.finds found.marks found.few
           c.revive.result c.revive.ensures;
       room = revival_room g.D.Disk.medium g.O.Outlet.takes c.in-Ok.found c.revive.result
           c.find.new.disk c.revive.new.disk c.args.outlet.now c.revive.new.outlet

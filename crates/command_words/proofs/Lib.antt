@@ -1,0 +1,12 @@
+pub mod Told
+pub mod SeedLemmas
+pub mod LimitLemmas
+pub mod LineLemmas
+pub mod PrinterLemmas
+pub mod WordLemmas
+pub mod FrontLemmas
+pub mod VerdictLemmas
+pub mod EntryLemmas
+pub mod PieceLemmas
+pub mod PreparingLemmas
+pub mod SeparatorLemmas

@@ -1,0 +1,140 @@
+-- A use of an argument for which no fault is listed leaves good rows good.
+use Rattle.std.proofs.Common.{◌≡◌, ◌-◌, ◌^◌, ℕ, Bool, cond, true, false, arith, refl, List, []}
+use Rattle.std.proofs.Common.{◌∷◌, length, codes, eqb-true, inl}
+use Rattle.std.specs.Prelude.{◌==◌}
+use Rattle.clap.specs.Walk.{Text}
+use Rattle.clap.specs.Simple.{filled, help_rule, with_index}
+use Rattle.clap.specs.ValueTests.{accepts}
+use Rattle.clap.specs.Kinds.{or_else, range_kinds, value_kinds}
+use Rattle.clap.specs.Faults.{repeat_fault}
+use Rattle.clap.specs.declared.builder.value_parser.ValueParser.{ValueParser}
+use Rattle.clap.specs.declared.builder.value_parser.ValueParser.TheVariants.{Unsigned}
+use Rattle.clap.specs.declared.error.kind.ErrorKind.TheVariants as kind
+use Rattle.clap.specs.declared.parser.matches.ValueSource.TheVariants.{CommandLine}
+use Rattle.clap.proofs.ValueTestLemmas.{accepts-Accepts}
+use Rattle.command_words.specs.rules.CommandLine.{env_rule, number_rule, path_rule}
+use Rattle.command_words.specs.rules.CommandLine.{device_rule, fronts_rule, json_rule}
+use Rattle.command_words.specs.rules.CommandLine.{last_rule}
+use Rattle.command_words.specs.rules.CommandLine.{rewrite_rule, seed_rule, status_rule}
+use Rattle.command_words.specs.rules.CommandLine.{seed_file_rule, verbose_rule}
+use Rattle.command_words.specs.rules.Commands.{IsNumberFrom}
+use Rattle.command_words.proofs.WordLemmas.Walks.{Keeps, no_first, no_second, some_kind}
+use Rattle.command_words.proofs.WordLemmas.Rows.{IsGood, Passes, added_good, with_good}
+
+accepted : (parser : ValueParser) (v : Text) → value_kinds false parser v ≡ []
+    → accepts false parser v ≡ true
+accepted parser v e = go (accepts false parser v) e
+  where
+    go : (b : Bool) → cond b [] (Rattle.clap.specs.Values.refused_kind parser ∷ []) ≡ [] → b ≡ true
+    go true e = refl
+    go false e = absurd (some_kind _ [] e)
+
+-- exactly one value is wanted
+one_value : (n : ℕ) → range_kinds 1 1 n ≡ [] → 1 ≡ n
+one_value n e = go (n == 0) (1 == n) refl e
+  where
+    go : (a b : Bool) → (1 == n) ≡ b
+        → cond a (kind.InvalidValue ∷ []) (cond b [] (kind.WrongNumberOfValues ∷ [])) ≡ [] → 1 ≡ n
+    go true b is e = absurd (some_kind _ [] e)
+    go false true is e = eqb-true 1 n is
+    go false false is e = absurd (some_kind _ [] e)
+
+-- several values are too many
+too_many : (v w : Text) (vs : List Text) → range_kinds 1 1 (length (v ∷ w ∷ vs)) ≡ [] → ⊥
+too_many v w vs e =
+    let one = one_value (length (v ∷ w ∷ vs)) e in omega (arith, one)
+
+-- no value is wanted
+no_value : (n : ℕ) → range_kinds 0 0 n ≡ [] → 0 ≡ n
+no_value n e = go (0 == n) refl e
+  where
+    go : (b : Bool) → (0 == n) ≡ b → cond b [] (kind.WrongNumberOfValues ∷ []) ≡ [] → 0 ≡ n
+    go true is e = eqb-true 0 n is
+    go false is e = absurd (some_kind _ [] e)
+
+some_values : (v : Text) (vs : List Text) → range_kinds 0 0 (length (v ∷ vs)) ≡ [] → ⊥
+some_values v vs e = let none = no_value (length (v ∷ vs)) e in omega (arith, none)
+
+-- ---- arguments and options
+
+pub keeps_path : (n : ℕ) (name : Text) → ((v : Text) → Passes name v)
+    → Keeps IsGood false (with_index n (filled (path_rule name)))
+keeps_path n name free [] rows e good = absurd (some_kind _ _ e)
+keeps_path n name free (v ∷ []) rows e good = with_good name v rows (free v) good
+keeps_path n name free (v ∷ w ∷ vs) rows e good =
+    absurd (too_many v w vs (no_first (range_kinds 1 1 (length (v ∷ w ∷ vs))) _ e))
+
+pub keeps_last : (n : ℕ) (name : Text) → ((v : Text) → Passes name v)
+    → Keeps IsGood false (with_index n (filled (last_rule name)))
+keeps_last n name free [] rows e good = absurd (some_kind _ _ e)
+keeps_last n name free (v ∷ []) rows e good = with_good name v rows (free v) good
+keeps_last n name free (v ∷ w ∷ vs) rows e good =
+    absurd (too_many v w vs (no_first (range_kinds 1 1 (length (v ∷ w ∷ vs))) _ e))
+
+pub keeps_number : (n : ℕ) (name : Text) (least : ℕ)
+    → ((v : Text) → IsNumberFrom least v → Passes name v)
+    → Keeps IsGood false (with_index n (filled (number_rule name least)))
+keeps_number n name least passes [] rows e good = absurd (some_kind _ _ e)
+keeps_number n name least passes (v ∷ []) rows e good =
+    let parser : ValueParser = Unsigned least (2 ^ 64 - 1) in
+    let read : or_else (value_kinds false parser v) [] ≡ [] =
+    no_second (repeat_fault false name rows) _ e in
+    let fits : IsNumberFrom least v = accepts-Accepts false parser v
+    (accepted parser v (no_first (value_kinds false parser v) [] read)) in
+    with_good name v rows (passes v fits) good
+keeps_number n name least passes (v ∷ w ∷ vs) rows e good =
+    absurd (too_many v w vs (no_first (range_kinds 1 1 (length (v ∷ w ∷ vs))) _ e))
+
+pub keeps_seed : (n : ℕ) → Keeps IsGood false (with_index n (filled seed_rule))
+keeps_seed n [] rows e good = absurd (some_kind _ _ e)
+keeps_seed n (v ∷ []) rows e good = with_good (codes "seed") v rows tt good
+keeps_seed n (v ∷ w ∷ vs) rows e good =
+    absurd (too_many v w vs (no_first (range_kinds 1 1 (length (v ∷ w ∷ vs))) _ e))
+
+pub keeps_status : (n : ℕ) → Keeps IsGood false (with_index n (filled status_rule))
+keeps_status n [] rows e good = absurd (some_kind _ _ e)
+keeps_status n (v ∷ []) rows e good = with_good (codes "status") v rows tt good
+keeps_status n (v ∷ w ∷ vs) rows e good =
+    absurd (too_many v w vs (no_first (range_kinds 1 1 (length (v ∷ w ∷ vs))) _ e))
+
+pub keeps_seed_file : (n : ℕ) → Keeps IsGood false (with_index n (filled seed_file_rule))
+keeps_seed_file n [] rows e good = absurd (some_kind _ _ e)
+keeps_seed_file n (v ∷ []) rows e good = with_good (codes "seed-file") v rows tt good
+keeps_seed_file n (v ∷ w ∷ vs) rows e good =
+    absurd (too_many v w vs (no_first (range_kinds 1 1 (length (v ∷ w ∷ vs))) _ e))
+
+pub keeps_fronts : (n : ℕ) → Keeps IsGood false (with_index n (filled fronts_rule))
+keeps_fronts n [] rows e good = absurd (some_kind _ _ e)
+keeps_fronts n (v ∷ []) rows e good = with_good (codes "fronts") v rows tt good
+keeps_fronts n (v ∷ w ∷ vs) rows e good =
+    absurd (too_many v w vs (no_first (range_kinds 1 1 (length (v ∷ w ∷ vs))) _ e))
+
+pub keeps_env : (n : ℕ) → Keeps IsGood false (with_index n (filled env_rule))
+keeps_env n [] rows e good = absurd (some_kind _ _ e)
+keeps_env n (v ∷ []) rows e good = added_good CommandLine (codes "env") v rows tt good
+keeps_env n (v ∷ w ∷ vs) rows e good =
+    absurd (too_many v w vs (no_first (range_kinds 1 1 (length (v ∷ w ∷ vs))) _ e))
+
+-- a use of the flag has no value, and stands for yes
+pub keeps_rewrite : (n : ℕ) → Keeps IsGood false (with_index n (filled rewrite_rule))
+keeps_rewrite n [] rows e good = with_good (codes "rewrite") (codes "true") rows (inl refl) good
+keeps_rewrite n (v ∷ vs) rows e good =
+    absurd (some_values v vs (no_first (range_kinds 0 0 (length (v ∷ vs))) _ e))
+
+pub keeps_verbose : (n : ℕ) → Keeps IsGood false (with_index n (filled verbose_rule))
+keeps_verbose n [] rows e good = with_good (codes "verbose") (codes "true") rows (inl refl) good
+keeps_verbose n (v ∷ vs) rows e good =
+    absurd (some_values v vs (no_first (range_kinds 0 0 (length (v ∷ vs))) _ e))
+
+pub keeps_device : (n : ℕ) → Keeps IsGood false (with_index n (filled device_rule))
+keeps_device n [] rows e good = with_good (codes "device") (codes "true") rows (inl refl) good
+keeps_device n (v ∷ vs) rows e good =
+    absurd (some_values v vs (no_first (range_kinds 0 0 (length (v ∷ vs))) _ e))
+
+pub keeps_json : (n : ℕ) → Keeps IsGood false (with_index n (filled json_rule))
+keeps_json n [] rows e good = with_good (codes "json") (codes "true") rows (inl refl) good
+keeps_json n (v ∷ vs) rows e good =
+    absurd (some_values v vs (no_first (range_kinds 0 0 (length (v ∷ vs))) _ e))
+
+pub keeps_help : Keeps IsGood false (filled help_rule)
+keeps_help values rows e good = good

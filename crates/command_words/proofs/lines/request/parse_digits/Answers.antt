@@ -1,0 +1,19 @@
+use Rattle.std.proofs.Common.{sym, ap, ◌∙◌, subst}
+use Rattle.std.specs.Fmt.{decimal}
+use Rattle.std.specs.Result.{result_ok}
+use Rattle.std.specs.Str.{IsUtf8}
+use Rattle.std.proofs.lemmas.Fmt.{parse-decimal, IsAscii-decimal}
+use Rattle.std.proofs.lemmas.Str.{IsUtf8-from_ascii}
+use Rattle.command_words.proofs.lines.request.parse_digits.Goals as goal
+
+pub returns-in-Ok : goal.returns-in-Ok
+returns-in-Ok c = λ n small is.
+    let text = c.in-Ok.ensures.cases.0 ∙ is in
+    c.ok.ensures.value
+    ∙ ap result_ok (parse-decimal 64 n _ _ small small text c.parse.ensures.value.0)
+
+pub returns-in-Err : goal.returns-in-Err
+returns-in-Err c =
+    λ n small is.
+    absurd (c.in-Err.ensures.cases.0
+    (subst IsUtf8 (sym is) (IsUtf8-from_ascii (decimal n) (IsAscii-decimal n small))))

@@ -1,0 +1,206 @@
+-- The commands of the program, their arguments and their options.
+use Rattle.std.specs.Prelude.{◌≡◌, ℕ, ◌-◌, ◌^◌, true, false, Some, codes, IsSomeAnd}
+use Rattle.clap.specs.Words.{App, Rule, Text, app_of, is_broken, new_app, new_rule, rule_of}
+use Rattle.clap.specs.Words.{with_rule, with_subcommand}
+use Rattle.clap.specs.Simple.{on_top}
+use Rattle.clap.specs.declared.builder.action.ArgAction.TheVariants.{Append, Set, SetTrue}
+use Rattle.clap.specs.declared.builder.arg.Arg.{Arg}
+use Rattle.clap.specs.declared.builder.command.Command.TheViews.{out-Command}
+use Rattle.clap.specs.declared.builder.command.Command.{Command}
+use Rattle.clap.specs.declared.builder.value_parser.ValueParser.TheVariants.{Unsigned}
+
+-- ---- arguments and options
+
+-- an argument that has to be given, known by its place
+abbrev pub path_rule : Text → Rule
+path_rule name = record (new_rule name) { required = true; action = Some Set }
+
+-- an argument that may be given, after those that have to be
+abbrev pub last_rule : Text → Rule
+last_rule name = record (new_rule name) { action = Some Set }
+
+-- an option with a number from the least one to 2^64 - 1
+abbrev pub number_rule : Text → ℕ → Rule
+number_rule name least = record (new_rule name) {
+  long = Some name;
+  value_names = 1;
+  parser = Some (Unsigned least (2 ^ 64 - 1));
+}
+
+-- the option `--seed`, with any text
+abbrev pub seed_rule : Rule
+seed_rule = record (new_rule (codes "seed")) { long = Some (codes "seed"); value_names = 1 }
+
+-- the option `--seed-file`, with any text
+abbrev pub seed_file_rule : Rule
+seed_file_rule = record (new_rule (codes "seed-file")) {
+  long = Some (codes "seed-file");
+  value_names = 1;
+}
+
+-- the option `--status`, with any text
+abbrev pub status_rule : Rule
+status_rule = record (new_rule (codes "status")) {
+  long = Some (codes "status");
+  value_names = 1;
+}
+
+-- the option `--fronts`, with any text
+abbrev pub fronts_rule : Rule
+fronts_rule = record (new_rule (codes "fronts")) {
+  long = Some (codes "fronts");
+  value_names = 1;
+}
+
+-- the option `--env`, which may be repeated
+abbrev pub env_rule : Rule
+env_rule = record (new_rule (codes "env")) {
+  long = Some (codes "env");
+  value_names = 1;
+  action = Some Append;
+}
+
+-- the flag `--verbose`
+abbrev pub verbose_rule : Rule
+verbose_rule = record (new_rule (codes "verbose")) {
+  long = Some (codes "verbose");
+  action = Some SetTrue;
+}
+
+-- the flag `--rewrite`
+abbrev pub rewrite_rule : Rule
+rewrite_rule = record (new_rule (codes "rewrite")) {
+  long = Some (codes "rewrite");
+  action = Some SetTrue;
+}
+
+-- the flag `--device`
+abbrev pub device_rule : Rule
+device_rule = record (new_rule (codes "device")) {
+  long = Some (codes "device");
+  action = Some SetTrue;
+}
+
+-- the flag `--json`
+abbrev pub json_rule : Rule
+json_rule = record (new_rule (codes "json")) {
+  long = Some (codes "json");
+  action = Some SetTrue;
+}
+
+-- ---- commands
+
+-- a command with the argument DISK
+abbrev pub disk_app : Text → App
+disk_app name = with_rule (new_app name) (path_rule (codes "DISK"))
+
+-- `check MODULE`, with `--pages` where it is wanted
+abbrev pub check_app : App
+check_app = with_rule (with_rule (new_app (codes "check")) (path_rule (codes "MODULE")))
+    (number_rule (codes "pages") 0)
+
+-- `create DISK MODULE`
+abbrev pub bare_create_app : App
+bare_create_app = with_rule (disk_app (codes "create")) (path_rule (codes "MODULE"))
+
+-- the same, with `--pages`, `--files` and `--journal` where they are wanted
+abbrev pub sized_create_app : App
+sized_create_app = with_rule (with_rule (with_rule bare_create_app (number_rule (codes "pages") 0))
+    (number_rule (codes "files") 0)) (number_rule (codes "journal") 0)
+
+-- the same, with `--env` as often as it is wanted, and with `--device` where it is wanted
+abbrev pub create_app : App
+create_app = with_rule (with_rule sized_create_app env_rule) device_rule
+
+-- `run DISK`, with `--fuel` and `--every` where they are wanted
+abbrev pub paced_run_app : App
+paced_run_app = with_rule (with_rule (disk_app (codes "run")) (number_rule (codes "fuel") 1))
+    (number_rule (codes "every") 1)
+
+-- the same, with `--seed` and `--clock` where they are wanted
+abbrev pub seeded_run_app : App
+seeded_run_app = with_rule (with_rule paced_run_app seed_rule) (number_rule (codes "clock") 0)
+
+-- the same, with `--rewrite`, `--status`, `--verbose` and `--seed-file` where they are wanted
+abbrev pub run_app : App
+run_app = with_rule (with_rule (with_rule (with_rule seeded_run_app rewrite_rule) status_rule)
+    verbose_rule) seed_file_rule
+
+-- `show DISK`
+abbrev pub show_app : App
+show_app = disk_app (codes "show")
+
+-- `inspect DISK`, with `--json` where it is wanted
+abbrev pub inspect_app : App
+inspect_app = with_rule (disk_app (codes "inspect")) json_rule
+
+-- `files DISK`, with PATH where it is wanted
+abbrev pub files_app : App
+files_app = with_rule (disk_app (codes "files")) (last_rule (codes "PATH"))
+
+-- `upgrade DISK`
+abbrev pub upgrade_app : App
+upgrade_app = disk_app (codes "upgrade")
+
+-- a command with the arguments SCRIPT and MODULE
+abbrev pub bare_script_app : Text → App
+bare_script_app name = with_rule (with_rule (new_app name) (path_rule (codes "SCRIPT")))
+    (path_rule (codes "MODULE"))
+
+-- the same, with `--pages`, `--files` and `--journal` where they are wanted
+abbrev pub script_app : Text → App
+script_app name = with_rule (with_rule (with_rule (bare_script_app name)
+    (number_rule (codes "pages") 0)) (number_rule (codes "files") 0))
+    (number_rule (codes "journal") 0)
+
+-- `story SCRIPT MODULE`
+abbrev pub story_app : App
+story_app = script_app (codes "story")
+
+-- `sweep SCRIPT MODULE`, with `--fronts` and `--life` where they are wanted
+abbrev pub sweep_app : App
+sweep_app = with_rule (with_rule (script_app (codes "sweep")) fronts_rule)
+    (number_rule (codes "life") 1)
+
+-- What `--version` says of the program: its version, the layout of its disks, and the logic that
+-- its proofs are of.
+abbrev pub version_words : Text
+version_words = codes "0.1.0, disk layout 1, logic dac8208d650f15bf"
+
+-- the program, which requires a command, and has a version
+abbrev pub bare_app : App
+bare_app = on_top (λ top. record top { subcommand_required = true; has_version = true })
+    (new_app (codes "wasmhost"))
+
+-- the same, with the commands for modules
+abbrev pub half_app : App
+half_app = with_subcommand (with_subcommand bare_app check_app.top) create_app.top
+
+-- the same, with the commands for disks
+abbrev pub disks_app : App
+disks_app = with_subcommand (with_subcommand half_app run_app.top) show_app.top
+
+-- the same, with the commands that look into a disk
+abbrev pub looks_app : App
+looks_app = with_subcommand (with_subcommand disks_app inspect_app.top) files_app.top
+
+-- the same, with the command that upgrades a disk, and those for scripts
+abbrev pub wasmhost : App
+wasmhost = with_subcommand (with_subcommand (with_subcommand looks_app upgrade_app.top)
+    story_app.top) sweep_app.top
+
+-- ---- what the code makes of them
+
+-- the argument has this rule, and belongs to its command alone
+abbrev pub IsArgument : Rule → Arg → Type 0
+IsArgument rule argument = (rule_of argument ≡ rule) × (argument.global ≡ false)
+
+-- the command says this of its version
+abbrev pub HasVersion : Text → Command → Type 0
+HasVersion words command =
+    IsSomeAnd (out-Command command).version (λ text. text.now ≡ words)
+
+-- the command is this one, whole, and none of its arguments is global
+abbrev pub IsCommand : App → Command → Type 0
+IsCommand app command = (app_of command ≡ app) × (is_broken command ≡ false)
+    × ((out-Command command).has_globals ≡ false)

@@ -1,0 +1,54 @@
+-- What the program says beside the lines of a worker (this project's own).
+use Rattle.std.specs.Prelude.{◌≡◌, ◌⊎◌, ℕ, Bool, true, false, List, [], ◌∷◌, ◌++◌, codes}
+use Rattle.wasi_abi.specs.rules.Answers.{newline}
+use Rattle.command_words.specs.declared.telling.Obstacle.{Obstacle}
+use Rattle.command_words.specs.declared.telling.Obstacle.TheVariants as obstacle
+use Rattle.command_words.specs.rules.Printers.{PrinterState, IsPrinted, SaysText}
+
+-- The line is printed, with its newline, and the status is this one; or it is 7, and a write has
+-- failed.
+abbrev pub SaysLine : List ℕ → ℕ → PrinterState → ℕ → PrinterState → Type 0
+SaysLine line status old answered new =
+    SaysText (line ++ newline ∷ []) status old answered new
+
+-- the exit status of a command that isn't begun, or whose output can't be written
+abbrev pub obstacle_status : Obstacle → ℕ
+obstacle_status obstacle.Memory = 5
+obstacle_status obstacle.Unread = 4
+obstacle_status obstacle.NoText = 2
+obstacle_status obstacle.NoSeed = 2
+obstacle_status obstacle.TwoSeeds = 2
+obstacle_status obstacle.NoFronts = 2
+obstacle_status obstacle.NoLife = 2
+obstacle_status obstacle.Unwritten = 7
+
+-- the line that says why
+abbrev pub obstacle_words : Obstacle → List ℕ
+obstacle_words obstacle.Memory = codes "failed N4 Memory"
+obstacle_words obstacle.Unread = codes "failed K2 Io"
+obstacle_words obstacle.NoText = codes "error: an argument is no text"
+obstacle_words obstacle.NoSeed = codes "error: a seed is 64 hexadecimal digits"
+obstacle_words obstacle.TwoSeeds = codes "error: --seed and --seed-file can't both be given"
+obstacle_words obstacle.NoFronts = codes "error: fronts are numbers from 0 to 512"
+obstacle_words obstacle.NoLife = codes "error: the script has no such life"
+obstacle_words obstacle.Unwritten = codes "failed N3 Outlet"
+
+-- The text is printed on the output, and the status is this one. Or a write of the output has
+-- failed: the status is 7, and that is told on the error output.
+abbrev pub SaysOnOutput : List ℕ → ℕ → PrinterState → PrinterState → PrinterState → PrinterState
+    → ℕ → Type 0
+SaysOnOutput text status out out' err err' answered =
+    ((answered ≡ status) × IsPrinted out out' text × (err' ≡ err))
+    ⊎ ((out'.failed ≡ true) × SaysLine (obstacle_words obstacle.Unwritten) 7 err answered err')
+
+-- What is said after a command of its output: where a write of it has failed, that is told on the
+-- error output, with status 7.
+abbrev pub SaysOfOutput : Bool → ℕ → PrinterState → ℕ → PrinterState → Type 0
+SaysOfOutput true status err answered err' =
+    SaysLine (obstacle_words obstacle.Unwritten) 7 err answered err'
+SaysOfOutput false status err answered err' = (answered ≡ status) × (err' ≡ err)
+
+-- The text is these two with a tip between them: to write after `--` what begins with a hyphen.
+abbrev pub IsAroundTip : List ℕ → List ℕ → List ℕ → Type 0
+IsAroundTip text before behind = (tip : List ℕ) × (text
+    ≡ before ++ (codes "\n\n  tip: to pass '-" ++ (tip ++ (codes "\n\n" ++ behind))))

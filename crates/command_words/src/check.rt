@@ -1,0 +1,177 @@
+//! `wasmhost check`.
+//!
+//! # Promises
+//!
+//! - `check_bytes`: status 0 says that the bytes spell a module that is accepted with so many pages
+//!   (`accepted`), and that `accepted` was printed (`printed`). 3 says that they spell none
+//!   (`refused`), and what else is known of it is told last (`more`). All others are 5 and 7
+//!   (`known`), and 7 comes just where a write has failed (`heeded`). `check_module` is that of as
+//!   many pages as a worker may have, and tells their bounds of others (`ChecksModule`).
+//!
+//! # Choices
+//!
+//! - `check` is the front end and a line of text. By default the page limit is 256. A module file
+//!   is read up to one byte more than the longest module has, by which a longer one is known.
+//! - `check_bytes` answers 0 only where the bytes spell an accepted module and `accepted` was
+//!   written. It answers 3 only where they spell none, and its other statuses are 5 and 7. That 5
+//!   comes only for lack of memory no clause can say, since the host's room is in no contract.
+//!   Tests and refused allocations show it. Tests also show the text of refusals, which derived
+//!   `Display`s print.
+
+ghost use Rattle.std.specs.Prelude.{◌≡◌, ◌≤◌, ◌⊎◌, ◌^◌, true, IsOk, Err, IfErr, OnErr, OnOk};
+ghost use Rattle.std.specs.Prelude.{MatchOption, Some, codes};
+ghost use Rattle.std.specs.Io.KnownBytes.{Appends};
+ghost use Rattle.machine_loader.specs.declared.fault.ModuleFault.{ModuleFault};
+ghost use Rattle.machine_loader.specs.rules.Acceptance.{HasAcceptedModule, HasNoAcceptedModule};
+ghost use Rattle.machine_loader.specs.rules.Acceptance.{IsReported, passed_in};
+ghost use Rattle.wasm_decode.specs.declared.items.limit.PassedLimit.{PassedLimit};
+ghost use Rattle.command_words.specs.rules.Bounds.{IsOutside};
+ghost use Rattle.command_words.specs.rules.ModuleLimits.{TellsLimit};
+ghost use Rattle.command_words.specs.rules.Printers.{HeedsWrites};
+ghost use Rattle.command_words.specs.rules.Statuses.{IsRight, status_by};
+ghost use Rattle.command_words.specs.rules.Verdicts.{ChecksModule, EndsWithMore, TellsRefusal};
+
+use crate::bounds::{Bound, PAGES_BOUND, words_of_range};
+use crate::module_limits::print_limit;
+use crate::printer::Printer;
+use crate::status::{NO_MEMORY, REFUSED, UNWRITTEN};
+use crate::telling::say_line;
+use crate::verdicts::print_more;
+use machine_loader::{ModuleFault, accept};
+use std::alloc::Global;
+use std::io::{self, Write};
+
+/// Whether the bytes spell a module that is accepted with so many pages, and why not.
+fn verdict_on(alloc: Global, wasm: &[u8], pages: u32) -> Result<(), ModuleFault>
+    requires { pages ≤ 2 ^ 16 }
+    ensures right { IsRight pages wasm.now result }
+    ensures reported { IfErr result (IsReported pages wasm.now) }
+{
+    match accept(alloc, wasm, pages) {
+        Ok(machine) => {
+            drop(machine);
+            Ok(())
+        }
+        Err(fault) => Err(fault),
+    }
+}
+
+/// Prints a fault of a module: its code and name, and its place if it has one.
+fn print_fault<W: Write + Drop>(fault: ModuleFault, out: &mut Printer<W>) -> io::Result<()>
+    ensures steady { OnOk result (out.new.failed ≡ out.old.failed) }
+    ensures failed { OnErr result (out.new.failed ≡ true) }
+{
+    match fault.place() {
+        Some(at) => writeln!(out, "refused {fault} at {at}"),
+        None => writeln!(out, "refused {fault}"),
+    }
+}
+
+/// Prints that a module is refused. A limit that is passed is on a line of its own, and so is what
+/// else is known of the module.
+fn print_refusal<W: Write + Drop>(
+    alloc: Global,
+    wasm: &[u8],
+    fault: ModuleFault,
+    out: &mut Printer<W>,
+) -> io::Result<()>
+    ensures limit { (passed : PassedLimit) → passed_in fault ≡ Some passed
+        → OnOk result (TellsLimit wasm.now (codes "refused") passed out.old out.new) }
+    ensures more { OnOk result (EndsWithMore wasm.now fault out.new) }
+    ensures steady { OnOk result (out.new.failed ≡ out.old.failed) }
+    ensures failed { OnErr result (out.new.failed ≡ true) }
+{
+    if let Some(passed) = fault.passed_limit() {
+        return print_limit(out, wasm, "refused", passed);
+    }
+    print_fault(fault, out)?;
+    print_more(alloc, wasm, fault, out)
+}
+
+/// Prints a verdict: `accepted`, or why not.
+fn print_verdict<W: Write + Drop>(
+    alloc: Global,
+    wasm: &[u8],
+    verdict: Result<(), ModuleFault>,
+    out: &mut Printer<W>,
+) -> io::Result<()>
+    ensures accepted { IsOk verdict
+        → OnOk result (Appends out.old.contents out.new.contents (codes "accepted\n")) }
+    ensures limit { (fault : ModuleFault) (passed : PassedLimit) → verdict ≡ Err fault
+        → passed_in fault ≡ Some passed
+        → OnOk result (TellsLimit wasm.now (codes "refused") passed out.old out.new) }
+    ensures more { OnOk result (IfErr verdict (λ fault. EndsWithMore wasm.now fault out.new)) }
+    ensures steady { OnOk result (out.new.failed ≡ out.old.failed) }
+    ensures failed { OnErr result (out.new.failed ≡ true) }
+{
+    match verdict {
+        Ok(()) => writeln!(out, "accepted"),
+        Err(fault) => print_refusal(alloc, wasm, fault, out),
+    }
+}
+
+/// The exit status of a verdict that is printed.
+fn status_of(verdict: Result<(), ModuleFault>) -> u8
+    ensures { result ≡ status_by verdict }
+{
+    match verdict {
+        Ok(()) => 0,
+        Err(fault) if fault.is_want_of_memory() => NO_MEMORY,
+        Err(_) => REFUSED,
+    }
+}
+
+/// Says whether a module is accepted with so many pages: prints a line, and why not on a further
+/// one. Answers the exit status, 0, 3 where it is refused, 5 for out of memory, 7 where a write has
+/// failed.
+pub fn check_bytes<W: Write + Drop>(
+    alloc: Global,
+    wasm: &[u8],
+    pages: u32,
+    out: &mut Printer<W>,
+) -> u8
+    requires { pages ≤ 2 ^ 16 }
+    ensures accepted { result ≡ 0 → HasAcceptedModule pages wasm.now }
+    ensures printed { result ≡ 0
+        → Appends out.old.contents out.new.contents (codes "accepted\n") }
+    ensures refused { result ≡ 3 → HasNoAcceptedModule pages wasm.now }
+    ensures more { result ≡ 3 → TellsRefusal pages wasm.now out.new }
+    ensures heeded { HeedsWrites out.old result out.new }
+    ensures known { (result ≡ 0) ⊎ (result ≡ 3) ⊎ (result ≡ 5) ⊎ (result ≡ 7) }
+{
+    let verdict = verdict_on(alloc, wasm, pages);
+    match print_verdict(alloc, wasm, verdict, out) {
+        Ok(()) => status_of(verdict),
+        Err(_) => UNWRITTEN,
+    }
+}
+
+/// So many pages, if a worker may have them.
+fn allowed_pages(pages: u64) -> Option<u32>
+    ensures { MatchOption result (IsOutside 1 256 pages)
+        (λ n. (n ≡ pages) × (1 ≤ pages) × (pages ≤ 256)) }
+{
+    if (1..=PAGES_BOUND).contains(&pages) {
+        Some(pages as u32)
+    } else {
+        None
+    }
+}
+
+/// `wasmhost check` of a module with so many pages, which are from 1 to 256. Answers the exit
+/// status.
+pub fn check_module<W: Write + Drop, E: Write + Drop>(
+    alloc: Global,
+    wasm: &[u8],
+    pages: u64,
+    out: &mut Printer<W>,
+    err: &mut Printer<E>,
+) -> u8
+    ensures checks { ChecksModule pages wasm.now out.old out.new err.old err.new result }
+    ensures known { result ≤ 7 }
+{
+    match allowed_pages(pages) {
+        Some(pages) => check_bytes(alloc, wasm, pages, out),
+        None => say_line(err, REFUSED, words_of_range(Bound::Pages)),
+    }
+}

@@ -1,0 +1,30 @@
+//! Laws of the command line. The functions do nothing: what they ensure is the law.
+//!
+//! # Promises
+//!
+//! - `laws::faultless_words_mean`, `laws::worked_examples`: words without a fault mean an order,
+//!   with numbers in their ranges; ninety-seven command lines. What `--version` is told of the
+//!   program is `version_words` (`HasVersion`).
+
+ghost use Rattle.command_words.specs.laws.Examples.{CreateOrderExamples, HelpExamples};
+ghost use Rattle.command_words.specs.laws.Examples.{OptionMistakes, PathExamples, PathMistakes};
+ghost use Rattle.command_words.specs.laws.Examples.{RunOrderExamples, StoryOrderExamples};
+ghost use Rattle.command_words.specs.laws.Examples.{SweepOrderExamples};
+ghost use Rattle.command_words.specs.laws.Words.{FaultlessWordsMean};
+
+/// Command lines, and what they mean.
+pub fn worked_examples()
+    ensures paths { PathExamples }
+    ensures creations { CreateOrderExamples }
+    ensures runs { RunOrderExamples }
+    ensures stories { StoryOrderExamples }
+    ensures sweeps { SweepOrderExamples }
+    ensures wrong_paths { PathMistakes }
+    ensures wrong_options { OptionMistakes }
+    ensures help { HelpExamples }
+{}
+
+/// Words without a mistake mean an order.
+pub fn faultless_words_mean()
+    ensures { FaultlessWordsMean }
+{}

@@ -1,0 +1,36 @@
+//! Requests that were read ahead, and that nobody took.
+
+ghost use Rattle.std.specs.Prelude.{◌≡◌, true, false};
+ghost use Rattle.command_words.specs.rules.Pieces.{lines_of};
+ghost use Rattle.command_words.specs.rules.Later.{CountsLater, IsLaterLine, IsOtherLine};
+
+use crate::lines::request::read_request;
+use crate::pieces::cut_line;
+
+/// Whether a line is that of a request beyond those that were taken, with a text of at most `limit`
+/// bytes.
+fn is_later(limit: usize, line: &[u8], taken: u64) -> bool
+    ensures later { result ≡ true → IsLaterLine limit taken line.now }
+    ensures other { result ≡ false → IsOtherLine limit taken line.now }
+{
+    match read_request(limit, line) {
+        Some(request) => request.number() > taken,
+        None => false,
+    }
+}
+
+/// How many lines of a text are such.
+pub fn count_later(limit: usize, text: &[u8], taken: u64) -> usize
+    ensures { CountsLater limit taken (lines_of text.now) result }
+{
+    let mut rest = text;
+    let mut count = 0;
+    while !rest.is_empty() {
+        let (line, behind) = cut_line(rest);
+        rest = behind;
+        if is_later(limit, line, taken) {
+            count += 1;
+        }
+    }
+    count
+}

@@ -1,0 +1,380 @@
+//! The commands of the program, as `clap` is told of them.
+
+ghost use Rattle.std.specs.Prelude.{IfOk, codes};
+ghost use Rattle.command_words.specs.rules.CommandLine.{IsArgument, IsCommand, bare_app};
+ghost use Rattle.command_words.specs.rules.CommandLine.{bare_create_app, bare_script_app};
+ghost use Rattle.command_words.specs.rules.CommandLine.{check_app, create_app, device_rule};
+ghost use Rattle.command_words.specs.rules.CommandLine.{disk_app};
+ghost use Rattle.command_words.specs.rules.CommandLine.{disks_app, env_rule, fronts_rule};
+ghost use Rattle.command_words.specs.rules.CommandLine.{half_app};
+ghost use Rattle.command_words.specs.rules.CommandLine.{number_rule, paced_run_app, path_rule};
+ghost use Rattle.command_words.specs.rules.CommandLine.{rewrite_rule, run_app, seed_rule};
+ghost use Rattle.command_words.specs.rules.CommandLine.{script_app, seed_file_rule, show_app};
+ghost use Rattle.command_words.specs.rules.CommandLine.{seeded_run_app};
+ghost use Rattle.command_words.specs.rules.CommandLine.{status_rule};
+ghost use Rattle.command_words.specs.rules.CommandLine.{sized_create_app, story_app, sweep_app};
+ghost use Rattle.command_words.specs.rules.CommandLine.{files_app, inspect_app, json_rule};
+ghost use Rattle.command_words.specs.rules.CommandLine.{last_rule, looks_app, upgrade_app};
+ghost use Rattle.command_words.specs.rules.CommandLine.{verbose_rule, wasmhost};
+ghost use Rattle.command_words.specs.rules.CommandLine.{HasVersion, version_words};
+
+use clap::{Arg, ArgAction, Command, value_parser};
+use std::alloc::{AllocError, Global};
+
+/// What `--version` says: the version of the program, of the disks that it makes, and the kit.
+const VERSION: &str = "0.1.0, disk layout 1, logic dac8208d650f15bf";
+
+/// What MODULE is.
+const MODULE: &str = "File of the WebAssembly module";
+
+/// What DISK is, where its worker is there already.
+const WORKER_DISK: &str = "File of the disk";
+
+/// How requests are given to a run.
+const REQUESTS: &str = "\
+Requests are lines of the standard input. N r TEXT is request N, from 1 on, and N e the end
+of all requests. For example: 1 r hello";
+
+/// A path, which has to be given.
+fn path_argument<'a>(alloc: Global, name: &'a str, help: &'a str) -> Arg<'a>
+    ensures { IsArgument (path_rule name.entry.now) result }
+{
+    Arg::new(alloc, name)
+        .help(help)
+        .required(true)
+        .action(ArgAction::Set)
+}
+
+/// A path, which may be given after others.
+fn last_argument<'a>(alloc: Global, name: &'a str, help: &'a str) -> Arg<'a>
+    ensures { IsArgument (last_rule name.entry.now) result }
+{
+    Arg::new(alloc, name).help(help).action(ArgAction::Set)
+}
+
+/// An option with any number of 64 bits.
+fn number_option<'a>(alloc: Global, name: &'a str, help: &'a str) -> Arg<'a>
+    ensures { IsArgument (number_rule name.entry.now 0) result }
+{
+    Arg::new(alloc, name)
+        .long(name)
+        .help(help)
+        .value_name("N")
+        .value_parser(value_parser!(u64))
+}
+
+/// An option with a number from 1 on.
+fn positive_option<'a>(alloc: Global, name: &'a str, help: &'a str) -> Arg<'a>
+    ensures { IsArgument (number_rule name.entry.now 1) result }
+{
+    Arg::new(alloc, name)
+        .long(name)
+        .help(help)
+        .value_name("N")
+        .value_parser(value_parser!(u64).range(1..))
+}
+
+/// The flag `--verbose`.
+fn verbose_flag<'a>(alloc: Global) -> Arg<'a>
+    ensures { IsArgument verbose_rule result }
+{
+    Arg::new(alloc, "verbose")
+        .long("verbose")
+        .help("Say on the error output what a terminal is told")
+        .action(ArgAction::SetTrue)
+}
+
+/// The flag `--rewrite`.
+fn rewrite_flag<'a>(alloc: Global) -> Arg<'a>
+    ensures { IsArgument rewrite_rule result }
+{
+    Arg::new(alloc, "rewrite")
+        .long("rewrite")
+        .help("Write every sector back first, after a disk fault")
+        .action(ArgAction::SetTrue)
+}
+
+/// The flag `--device`.
+fn device_flag<'a>(alloc: Global) -> Arg<'a>
+    ensures { IsArgument device_rule result }
+{
+    Arg::new(alloc, "device")
+        .long("device")
+        .help("DISK is a block device, whose first sectors are overwritten")
+        .action(ArgAction::SetTrue)
+}
+
+/// The flag `--json`.
+fn json_flag<'a>(alloc: Global) -> Arg<'a>
+    ensures { IsArgument json_rule result }
+{
+    Arg::new(alloc, "json")
+        .long("json")
+        .help("Say it as one JSON value")
+        .action(ArgAction::SetTrue)
+}
+
+/// The option `--seed`.
+fn seed_option<'a>(alloc: Global) -> Arg<'a>
+    ensures { IsArgument seed_rule result }
+{
+    Arg::new(alloc, "seed")
+        .long("seed")
+        .help("Seed of random bytes, 64 hexadecimal digits; default zeros")
+        .value_name("HEX")
+}
+
+/// The option `--seed-file`.
+fn seed_file_option<'a>(alloc: Global) -> Arg<'a>
+    ensures { IsArgument seed_file_rule result }
+{
+    Arg::new(alloc, "seed-file")
+        .long("seed-file")
+        .help("File with the seed, in place of --seed")
+        .value_name("FILE")
+}
+
+/// The option `--status`.
+fn status_option<'a>(alloc: Global) -> Arg<'a>
+    ensures { IsArgument status_rule result }
+{
+    Arg::new(alloc, "status")
+        .long("status")
+        .help("File that says where the worker stands, replaced at each checkpoint")
+        .value_name("FILE")
+}
+
+/// The option `--fronts`.
+fn fronts_option<'a>(alloc: Global) -> Arg<'a>
+    ensures { IsArgument fronts_rule result }
+{
+    Arg::new(alloc, "fronts")
+        .long("fronts")
+        .help("Bytes that a cut leaves of a write, default 0,1,256,511,512")
+        .value_name("N,N,..")
+}
+
+/// The option `--env`, which may be repeated.
+fn env_option<'a>(alloc: Global) -> Arg<'a>
+    ensures { IsArgument env_rule result }
+{
+    Arg::new(alloc, "env")
+        .long("env")
+        .help("An entry of the guest's environment; may be repeated")
+        .value_name("NAME=VALUE")
+        .action(ArgAction::Append)
+}
+
+fn check_command<'a>(alloc: Global) -> Result<Command<'a>, AllocError>
+    ensures { IfOk result (IsCommand check_app) }
+{
+    let pages = "Pages of 65536 bytes that its memory may have, default 256";
+    Command::new(alloc, "check")
+        .about("Say whether a module is accepted")
+        .arg(path_argument(alloc, "MODULE", MODULE))?
+        .arg(number_option(alloc, "pages", pages))
+}
+
+/// A command with the path of a disk.
+fn disk_command<'a>(
+    alloc: Global,
+    name: &'a str,
+    about: &'a str,
+    disk: &'a str,
+) -> Result<Command<'a>, AllocError>
+    ensures { IfOk result (IsCommand (disk_app name.entry.now)) }
+{
+    Command::new(alloc, name)
+        .about(about)
+        .arg(path_argument(alloc, "DISK", disk))
+}
+
+/// The command `create`, with its paths.
+fn bare_create_command<'a>(alloc: Global) -> Result<Command<'a>, AllocError>
+    ensures { IfOk result (IsCommand bare_create_app) }
+{
+    let about = "Make a disk with a fresh worker; arguments after -- go to the worker";
+    let disk = "File of the disk, which must not be there yet";
+    disk_command(alloc, "create", about, disk)?
+        .override_usage("wasmhost create [OPTIONS] <DISK> <MODULE> [-- ARG..]")
+        .arg(path_argument(alloc, "MODULE", MODULE))
+}
+
+/// The same with the options `--pages`, `--files` and `--journal`.
+fn sized_create_command<'a>(alloc: Global) -> Result<Command<'a>, AllocError>
+    ensures { IfOk result (IsCommand sized_create_app) }
+{
+    let pages = "Pages of 65536 bytes of its memory, default 16";
+    let files = "Units of 65536 bytes of its files, default 16";
+    let journal = "Sectors of its journal, default 256";
+    bare_create_command(alloc)?
+        .arg(number_option(alloc, "pages", pages))?
+        .arg(number_option(alloc, "files", files))?
+        .arg(number_option(alloc, "journal", journal))
+}
+
+fn create_command<'a>(alloc: Global) -> Result<Command<'a>, AllocError>
+    ensures { IfOk result (IsCommand create_app) }
+{
+    sized_create_command(alloc)?
+        .arg(env_option(alloc))?
+        .arg(device_flag(alloc))
+}
+
+/// The command `run`, with its path and the options `--fuel` and `--every`.
+fn paced_run_command<'a>(alloc: Global) -> Result<Command<'a>, AllocError>
+    ensures { IfOk result (IsCommand paced_run_app) }
+{
+    let about = "Run the worker of a disk: request lines in, its lines out";
+    let fuel = "Steps of a slice, default 100000";
+    let every = "Slices between two checkpoints, default 100";
+    disk_command(alloc, "run", about, WORKER_DISK)?
+        .after_help(REQUESTS)
+        .arg(positive_option(alloc, "fuel", fuel))?
+        .arg(positive_option(alloc, "every", every))
+}
+
+/// The same with the options `--seed` and `--clock`.
+fn seeded_run_command<'a>(alloc: Global) -> Result<Command<'a>, AllocError>
+    ensures { IfOk result (IsCommand seeded_run_app) }
+{
+    let clock = "Nanoseconds of both clocks, default the machine's time";
+    paced_run_command(alloc)?
+        .arg(seed_option(alloc))?
+        .arg(number_option(alloc, "clock", clock))
+}
+
+fn run_command<'a>(alloc: Global) -> Result<Command<'a>, AllocError>
+    ensures { IfOk result (IsCommand run_app) }
+{
+    seeded_run_command(alloc)?
+        .arg(rewrite_flag(alloc))?
+        .arg(status_option(alloc))?
+        .arg(verbose_flag(alloc))?
+        .arg(seed_file_option(alloc))
+}
+
+fn show_command<'a>(alloc: Global) -> Result<Command<'a>, AllocError>
+    ensures { IfOk result (IsCommand show_app) }
+{
+    let about = "Say where the worker of a disk stands";
+    disk_command(alloc, "show", about, WORKER_DISK)
+}
+
+fn inspect_command<'a>(alloc: Global) -> Result<Command<'a>, AllocError>
+    ensures { IfOk result (IsCommand inspect_app) }
+{
+    let about = "Say all that stands on a disk, one fact a line";
+    disk_command(alloc, "inspect", about, WORKER_DISK)?.arg(json_flag(alloc))
+}
+
+fn files_command<'a>(alloc: Global) -> Result<Command<'a>, AllocError>
+    ensures { IfOk result (IsCommand files_app) }
+{
+    let about = "List the files of the worker of a disk, or write one of them";
+    let path = "Path of the file to write, as it is listed";
+    disk_command(alloc, "files", about, WORKER_DISK)?.arg(last_argument(alloc, "PATH", path))
+}
+
+fn upgrade_command<'a>(alloc: Global) -> Result<Command<'a>, AllocError>
+    ensures { IfOk result (IsCommand upgrade_app) }
+{
+    let about = "Bring the worker of a disk to version 2, with texts of 65536 bytes";
+    disk_command(alloc, "upgrade", about, WORKER_DISK)
+}
+
+/// A command with the paths of a script and of a module.
+fn bare_script_command<'a>(
+    alloc: Global,
+    name: &'a str,
+    about: &'a str,
+) -> Result<Command<'a>, AllocError>
+    ensures { IfOk result (IsCommand (bare_script_app name.entry.now)) }
+{
+    Command::new(alloc, name)
+        .about(about)
+        .arg(path_argument(alloc, "SCRIPT", "File of the script"))?
+        .arg(path_argument(alloc, "MODULE", MODULE))
+}
+
+/// The same with the options `--pages`, `--files` and `--journal`.
+fn script_command<'a>(
+    alloc: Global,
+    name: &'a str,
+    about: &'a str,
+) -> Result<Command<'a>, AllocError>
+    ensures { IfOk result (IsCommand (script_app name.entry.now)) }
+{
+    let pages = "Pages of 65536 bytes of its memory, default 1";
+    let files = "Units of 65536 bytes of its files, default 1";
+    let journal = "Sectors of its journal, default 64";
+    bare_script_command(alloc, name, about)?
+        .arg(number_option(alloc, "pages", pages))?
+        .arg(number_option(alloc, "files", files))?
+        .arg(number_option(alloc, "journal", journal))
+}
+
+fn story_command<'a>(alloc: Global) -> Result<Command<'a>, AllocError>
+    ensures { IfOk result (IsCommand story_app) }
+{
+    let about = "Tell the lives of a worker on a disk in memory, as a script says";
+    script_command(alloc, "story", about)
+}
+
+fn sweep_command<'a>(alloc: Global) -> Result<Command<'a>, AllocError>
+    ensures { IfOk result (IsCommand sweep_app) }
+{
+    let about = "Cut the power at each call of the disk in a script's life, and compare the lines";
+    let life = "Number of the life that is cut, default the last one";
+    script_command(alloc, "sweep", about)?
+        .arg(fronts_option(alloc))?
+        .arg(positive_option(alloc, "life", life))
+}
+
+/// The program, without its commands.
+fn bare_command<'a>(alloc: Global) -> Command<'a>
+    ensures command { IsCommand bare_app result }
+    ensures version { HasVersion version_words result }
+{
+    Command::new(alloc, "wasmhost")
+        .about("Durable WebAssembly workers")
+        .version(VERSION)
+        .subcommand_required(true)
+}
+
+/// The program, with the commands for modules.
+fn half_command<'a>(alloc: Global) -> Result<Command<'a>, AllocError>
+    ensures { IfOk result (IsCommand half_app) }
+{
+    bare_command(alloc)
+        .subcommand(check_command(alloc)?)?
+        .subcommand(create_command(alloc)?)
+}
+
+/// The program, with the commands for modules and for disks.
+fn disks_command<'a>(alloc: Global) -> Result<Command<'a>, AllocError>
+    ensures { IfOk result (IsCommand disks_app) }
+{
+    half_command(alloc)?
+        .subcommand(run_command(alloc)?)?
+        .subcommand(show_command(alloc)?)
+}
+
+/// The program, with the commands that look into a disk, too.
+fn looks_command<'a>(alloc: Global) -> Result<Command<'a>, AllocError>
+    ensures { IfOk result (IsCommand looks_app) }
+{
+    disks_command(alloc)?
+        .subcommand(inspect_command(alloc)?)?
+        .subcommand(files_command(alloc)?)
+}
+
+/// The program, with all its commands.
+pub(crate) fn command<'a>(alloc: Global) -> Result<Command<'a>, AllocError>
+    ensures { IfOk result (IsCommand wasmhost) }
+{
+    looks_command(alloc)?
+        .subcommand(upgrade_command(alloc)?)?
+        .subcommand(story_command(alloc)?)?
+        .subcommand(sweep_command(alloc)?)
+}

@@ -1,0 +1,279 @@
+-- Where slices lead, and where one or the checkpoint after it has failed.
+use Rattle.std.proofs.Common.{◌≡◌, inl, inr, ℕ, ◌+◌, Bool, true, false, List, [], ◌∷◌, ◌++◌}
+use Rattle.std.proofs.Common.{None, Err, refl, sym, ap, subst, arith, append_assoc}
+use Rattle.std.proofs.Common.{append-nil}
+use Rattle.std.specs.Prelude.{Result, replicate}
+use Rattle.std.proofs.lemmas.List.{replicate_more}
+use Rattle.wasi_abi.specs.declared.answer.Question.TheVariants as questions
+use Rattle.process_rules.specs.Processes.{ProcessState, Guest}
+use Rattle.process_rules.specs.Runs.{none}
+use Rattle.process.specs.rules.Values.{ProcessValue, ShowsProcess}
+use Rattle.record_replay.specs.rules.Calls.{Giving, Taking, Exchanges}
+use Rattle.record_replay.proofs.Following.{exchanges_join}
+use Rattle.ephemeral_worker.specs.declared.fault.SliceFault.TheVariants as slice
+use Rattle.ephemeral_worker.specs.declared.now.Now.{Now}
+use Rattle.ephemeral_worker.specs.declared.now.Now.TheVariants as now
+use Rattle.ephemeral_worker.specs.rules.Slices.{SliceLeadsTo, AreWanted, Slices}
+use Rattle.ephemeral_worker.specs.rules.Faults.{LeadsUpTo}
+use Rattle.ephemeral_worker.proofs.Joining.{answered_join, leads_join, none_answered, none_wanted}
+use Rattle.ephemeral_worker.proofs.Joining.{wanted_join}
+use Rattle.worker.specs.declared.fault.WorkFault.{WorkFault}
+use Rattle.worker.specs.declared.fault.WorkFault.TheVariants as work
+use Rattle.worker.specs.rules.DurableValues.{DurableValue, without_disk}
+use Rattle.worker.specs.rules.DurableFailures.{SlicesOnDiskInVain, IsDiskCause}
+use Rattle.worker.specs.rules.LifeWords.{Act, Slice, Batch, Checkpoint, Upgrade}
+use Rattle.disk_commands.specs.rules.BrokenLives.{steps_among, in_slice, in_checkpoint}
+use Rattle.disk_commands.specs.rules.BrokenLives.{SlicesLead, BreaksOff, BreaksOffFrom}
+use Rattle.disk_commands.specs.rules.BrokenLives.{BreaksInSlice, BreaksInSliceFrom}
+use Rattle.disk_commands.specs.rules.Paces.{round_of}
+
+-- ---- the steps of acts
+
+pub steps_both : (xs ys : List Act) → steps_among (xs ++ ys) ≡ steps_among xs + steps_among ys
+steps_both [] ys = omega arith
+steps_both (Slice fuel ∷ acts) ys =
+    let e : steps_among (acts ++ ys) ≡ steps_among acts + steps_among ys = steps_both acts ys in
+    let all : fuel + steps_among (acts ++ ys) ≡ (fuel + steps_among acts) + steps_among ys =
+    omega (arith, e) in all
+steps_both (Batch fuel most ∷ acts) ys =
+    let e : steps_among (acts ++ ys) ≡ steps_among acts + steps_among ys = steps_both acts ys in
+    let all : fuel + steps_among (acts ++ ys) ≡ (fuel + steps_among acts) + steps_among ys =
+    omega (arith, e) in all
+steps_both (Checkpoint ∷ acts) ys = steps_both acts ys
+steps_both (Upgrade ∷ acts) ys = steps_both acts ys
+
+-- one slice more
+pub slice_more : (fuel n : ℕ) → steps_among (replicate (n + 1) (Slice fuel))
+    ≡ steps_among (replicate n (Slice fuel)) + fuel
+slice_more fuel n =
+    let both : steps_among (replicate n (Slice fuel) ++ (Slice fuel ∷ []))
+    ≡ steps_among (replicate n (Slice fuel)) + (fuel + 0) =
+    steps_both (replicate n (Slice fuel)) (Slice fuel ∷ []) in
+    let same : steps_among (replicate (n + 1) (Slice fuel))
+    ≡ steps_among (replicate n (Slice fuel) ++ (Slice fuel ∷ [])) =
+    ap (λ z. steps_among z) (sym (replicate_more n (Slice fuel))) in
+    omega (arith, both, same)
+
+-- a checkpoint after them takes none
+pub round_steps : (fuel n : ℕ)
+    → steps_among (round_of fuel n) ≡ steps_among (replicate n (Slice fuel))
+round_steps fuel n =
+    let both : steps_among (round_of fuel n) ≡ steps_among (replicate n (Slice fuel)) + 0 =
+    steps_both (replicate n (Slice fuel)) (Checkpoint ∷ []) in
+    omega (arith, both)
+
+-- ---- nothing yet
+
+leads_nowhere : (guest : Guest) (p : ProcessState) → SliceLeadsTo guest p [] 0 p
+leads_nowhere guest p = record {
+  runs = none;
+  lines = [];
+  emitted = sym (append-nil p.host.lines);
+  released = refl;
+}
+
+up_to_nowhere : (guest : Guest) (p : ProcessState) → LeadsUpTo guest p [] 0 p None
+up_to_nowhere guest p = record {
+  front = [];
+  question = questions.Request;
+  is = refl;
+  leads = leads_nowhere guest p;
+  answered = none_answered;
+}
+
+fails_nowhere : (fuel : ℕ) (guest : Guest) (p : ProcessState)
+    → IsDiskCause guest p fuel [] 0 p (work.Work slice.Failed)
+fails_nowhere fuel guest p = (omega arith, inl (inr (up_to_nowhere guest p)))
+
+module _ {S O : Type 0} (gives : Giving S) (takes : Taking O) where
+  pub lead_nowhere : (v : ProcessValue) (s : S) (o : O) (guest : Guest) (p : ProcessState)
+      → ShowsProcess v guest p → SlicesLead gives takes guest p s s o o 0 v
+  lead_nowhere v s o guest p is = record {
+    exchanges = [];
+    exchanged = record { asked = refl; released = refl };
+    wanted = none_wanted guest p;
+    answered = none_answered;
+    process = p;
+    leads = leads_nowhere guest p;
+    shows = is;
+  }
+
+  -- ---- a slice
+
+  module _ (fuel : ℕ) (s t : S) (o p : O) where
+    -- one whose fuel is spent
+    pub lead_by_slice : (w w' : DurableValue)
+        → Slices gives takes (without_disk w) fuel now.Spent (without_disk w') s t o p
+        → (guest : Guest) (start : ProcessState) → ShowsProcess w.process guest start
+        → SlicesLead gives takes guest start s t o p fuel w'.process
+    lead_by_slice w w' slices guest start is =
+        let works = slices.shown guest start is in
+        record {
+          exchanges = works.0.exchanges;
+          exchanged = works.0.exchanged;
+          wanted = works.0.wanted;
+          answered = works.1.2;
+          process = works.0.process;
+          leads = subst (λ n. SliceLeadsTo guest start works.0.exchanges n works.0.process)
+              works.1.0 works.0.leads;
+          shows = works.0.shows;
+        }
+
+    abbrev pub BreaksBy : ProcessValue → WorkFault → Type 0
+    BreaksBy old why = BreaksOffFrom gives takes old fuel fuel why s t o p
+
+    -- where it is the slice that has failed
+    abbrev pub BreaksInBy : ProcessValue → WorkFault → Type 0
+    BreaksInBy old why = BreaksInSliceFrom gives takes old fuel fuel why s t o p
+
+    -- one that fails
+    breaks_in_slice : (old new : ProcessValue) (why : WorkFault)
+        → SlicesOnDiskInVain gives takes old fuel why new s t o p → BreaksInBy old why
+    breaks_in_slice old new why vain guest start is =
+        let fails = vain guest start is in
+        record {
+          broken = record {
+            front = [];
+            answered = none_answered;
+            steps = 0;
+            begun = start;
+            leads = leads_nowhere guest start;
+            back = fails.0.exchanges;
+            exchanged = fails.0.exchanged;
+            wanted = fails.0.wanted;
+            more = fails.0.steps;
+            process = fails.0.process;
+            broken = in_slice fails.1;
+            counted = omega arith;
+          };
+          cause = fails.1;
+        }
+
+    -- a checkpoint that fails after one that doesn't
+    pub breaks_in_checkpoint : (w w' : DurableValue) (said : Now) (why : WorkFault)
+        → Slices gives takes (without_disk w) fuel said (without_disk w') s t o p
+        → BreaksBy w.process why
+    breaks_in_checkpoint w w' said why slices guest start is =
+        let works = slices.shown guest start is in
+        record {
+          front = [];
+          answered = none_answered;
+          steps = 0;
+          begun = start;
+          leads = leads_nowhere guest start;
+          back = works.0.exchanges;
+          exchanged = works.0.exchanged;
+          wanted = works.0.wanted;
+          more = works.0.steps;
+          process = works.0.process;
+          broken = in_checkpoint said works.0.leads works.1;
+          counted = omega arith;
+        }
+
+  -- a worker that had failed does nothing
+  breaks_failed : (fuel : ℕ) (s : S) (o : O) (old : ProcessValue)
+      → BreaksInBy fuel s s o o old (work.Work slice.Failed)
+  breaks_failed fuel s o old guest start is = record {
+    broken = record {
+      front = [];
+      answered = none_answered;
+      steps = 0;
+      begun = start;
+      leads = leads_nowhere guest start;
+      back = [];
+      exchanged = record { asked = refl; released = refl };
+      wanted = none_wanted guest start;
+      more = 0;
+      process = start;
+      broken = in_slice (fails_nowhere fuel guest start);
+      counted = omega arith;
+    };
+    cause = fails_nowhere fuel guest start;
+  }
+
+  pub same_fault : (a b : WorkFault) → ◌≡◌ {A = Result Now WorkFault} (Err a) (Err b) → a ≡ b
+  same_fault a b e = cc
+
+  module _ (fuel : ℕ) (s t : S) (o p : O) (old new : ProcessValue) (why : WorkFault) where
+    -- a slice that fails, of a worker that had failed or not
+    pub slice_breaks_in : (has_failed : Bool)
+        → (has_failed ≡ false → SlicesOnDiskInVain gives takes old fuel why new s t o p)
+        → (has_failed ≡ true
+        → ◌≡◌ {A = Result Now WorkFault} (Err why) (Err (work.Work slice.Failed)))
+        → (has_failed ≡ true → t ≡ s) → (has_failed ≡ true → p ≡ o)
+        → BreaksInBy fuel s t o p old why
+    slice_breaks_in false vain failed steady silent =
+        breaks_in_slice fuel s t o p old new why (vain refl)
+    slice_breaks_in true vain failed steady silent =
+        subst (λ z. BreaksInBy fuel s t o p old z)
+        (sym (same_fault why (work.Work slice.Failed) (failed refl)))
+        (subst (λ z. BreaksInBy fuel s z o p old (work.Work slice.Failed)) (sym (steady refl))
+        (subst (λ z. BreaksInBy fuel s s o z old (work.Work slice.Failed)) (sym (silent refl))
+        (breaks_failed fuel s o old)))
+
+    pub slice_breaks_off : (has_failed : Bool)
+        → (has_failed ≡ false → SlicesOnDiskInVain gives takes old fuel why new s t o p)
+        → (has_failed ≡ true
+        → ◌≡◌ {A = Result Now WorkFault} (Err why) (Err (work.Work slice.Failed)))
+        → (has_failed ≡ true → t ≡ s) → (has_failed ≡ true → p ≡ o)
+        → BreaksBy fuel s t o p old why
+    slice_breaks_off has_failed vain failed steady silent guest start is =
+        let breaks = slice_breaks_in has_failed vain failed steady silent guest start is in
+        breaks.broken
+
+  -- ---- slices, and what comes behind them
+
+  module _ (guest : Guest) (start : ProcessState) (s u t : S) (o q p : O) (n : ℕ)
+      (mid : ProcessValue) (first : SlicesLead gives takes guest start s u o q n mid) where
+    pub lead_join : (m : ℕ) (new : ProcessValue)
+        → SlicesLead gives takes guest first.process u t q p m new
+        → SlicesLead gives takes guest start s t o p (n + m) new
+    lead_join m new second = record {
+      exchanges = first.exchanges ++ second.exchanges;
+      exchanged = exchanges_join gives takes s t u o p q first.exchanges second.exchanges
+          first.exchanged second.exchanged;
+      wanted = wanted_join guest start first.process first.exchanges second.exchanges n
+          first.wanted first.leads first.answered second.wanted;
+      answered = answered_join first.exchanges second.exchanges first.answered second.answered;
+      process = second.process;
+      leads = leads_join guest start first.process second.process first.exchanges
+          second.exchanges n m first.leads second.leads;
+      shows = second.shows;
+    }
+
+    pub breaks_join : (fuel all : ℕ) (why : WorkFault)
+        → BreaksOff gives takes guest first.process u t q p fuel all why
+        → BreaksOff gives takes guest start s t o p fuel (n + all) why
+    breaks_join fuel all why second =
+        let counted = second.counted in
+        let same = sym (append_assoc first.exchanges second.front second.back) in
+        record {
+          front = first.exchanges ++ second.front;
+          answered = answered_join first.exchanges second.front first.answered second.answered;
+          steps = n + second.steps;
+          begun = second.begun;
+          leads = leads_join guest start first.process second.begun first.exchanges second.front n
+              second.steps first.leads second.leads;
+          back = second.back;
+          exchanged = subst (λ z. Exchanges gives takes s o z t p) same
+              (exchanges_join gives takes s t u o p q first.exchanges
+              (second.front ++ second.back) first.exchanged second.exchanged);
+          wanted = subst (λ z. AreWanted guest start z) same
+              (wanted_join guest start first.process first.exchanges
+              (second.front ++ second.back) n first.wanted first.leads first.answered
+              second.wanted);
+          more = second.more;
+          process = second.process;
+          broken = second.broken;
+          counted = omega (arith, counted);
+        }
+
+    -- so it is where the slice itself has failed
+    pub breaks_in_join : (fuel all : ℕ) (why : WorkFault)
+        → BreaksInSlice gives takes guest first.process u t q p fuel all why
+        → BreaksInSlice gives takes guest start s t o p fuel (n + all) why
+    unfolding breaks_join
+    breaks_in_join fuel all why second = record {
+      broken = breaks_join fuel all why second.broken;
+      cause = second.cause;
+    }

@@ -1,0 +1,27 @@
+pub mod WatchingLemmas
+pub mod ShowingLemmas
+pub mod HearingLemmas
+pub mod BreakLemmas
+pub mod PrintedLemmas
+pub mod LivingLemmas
+pub mod UpgradingLemmas
+pub mod ReleasedLemmas
+pub mod ShownLemmas
+pub mod OnDiskLemmas
+pub mod CreationLemmas
+pub mod AnsweredLemmas
+pub mod RefusalLemmas
+pub mod CauseLemmas
+pub mod ServedLemmas
+pub mod SevenLemmas
+pub mod TakingLemmas
+pub mod FileLemmas
+pub mod OpeningLemmas
+pub mod StatusLineLemmas
+pub mod StatusLemmas
+pub mod StatusFileLemmas
+mod SpellingLemmas
+mod InspectingLemmas
+mod ValueLemmas
+mod PlainLemmas
+pub mod FlawLemmas

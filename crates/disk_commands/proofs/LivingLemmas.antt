@@ -1,0 +1,520 @@
+-- Slices and checkpoints of an open worker, one after another.
+use Rattle.std.proofs.Common.{◌≡◌, inl, ℕ, ◌+◌, ◌-◌, ◌^◌, ◌<◌, ◌≤◌, List, [], ◌∷◌}
+use Rattle.std.proofs.Common.{◌++◌, Ok, Err, refl, sym, ap, ◌∙◌, subst, arith, append_assoc}
+use Rattle.std.proofs.Common.{append-nil, false}
+use Rattle.std.specs.Prelude.{Result, IfOk, IfErr, replicate}
+use Rattle.std.proofs.lemmas.List.{replicate_more}
+use Rattle.std.proofs.lemmas.Result.{IfErr-weaker}
+use mathlib.Core.Path.{subst_refl, path_j}
+use Rattle.sector_disk.specs.rules.Medium.{Medium}
+use Rattle.disk_layout.specs.rules.Places.{total_sectors}
+use Rattle.record_replay.specs.rules.Calls.{Giving, Taking, asks_of}
+use Rattle.process_rules.proofs.Growing.{runs_count}
+use Rattle.process.specs.rules.Values.{IsProcess}
+use Rattle.ephemeral_worker.specs.declared.now.Now.{Now}
+use Rattle.ephemeral_worker.specs.declared.now.Now.TheVariants as now
+use Rattle.ephemeral_worker.specs.rules.Values.{WorkerValue}
+use Rattle.ephemeral_worker.specs.rules.Slices.{handed, Slices}
+use Rattle.worker.specs.declared.fault.WorkFault.{WorkFault}
+use Rattle.worker.specs.declared.recover_fault.RecoverFault.{RecoverFault}
+use Rattle.worker.specs.declared.recover_fault.RecoverFault.TheVariants as recover
+use Rattle.worker.specs.rules.DurableValues.{DurableValue, without_disk}
+use Rattle.worker.specs.rules.DurableCalls.{SliceCarries, CheckpointCarries}
+use Rattle.worker.specs.rules.LifeWords.{Act, Slice, Checkpoint}
+use Rattle.worker.specs.rules.Outlets.{TakesEach, HeedsOutlet, SaysOutletFault}
+use Rattle.worker.proofs.OutletLemmas.{none_told, takes_both, heeds_on}
+use Rattle.worker.specs.rules.OneLife.{no_more, sliced, slice_failed, saved, saving_failed}
+use Rattle.worker.specs.rules.Outcomes.{outcome_after}
+use Rattle.disk_commands.specs.rules.BrokenLives.{BreaksOff, SlicesLead, steps_among}
+use Rattle.disk_commands.specs.rules.Hearings.{AsksUnless, IsOfSource}
+use Rattle.disk_commands.specs.rules.Paces.{round_of, IsPaced, last, more}
+use Rattle.disk_commands.specs.Livings.{Scene, scene, undone_after, steps_left, AreCalled}
+use Rattle.disk_commands.specs.Livings.{ActsLead}
+use Rattle.disk_commands.specs.Livings.{IsRested, IsRound, IsBrokenRound, LivesAtPace}
+use Rattle.disk_commands.specs.Livings.{SlicesLeadOn, BreaksOffAt}
+use Rattle.disk_commands.proofs.BreakLemmas.{steps_both, slice_more, round_steps, lead_nowhere}
+use Rattle.disk_commands.proofs.BreakLemmas.{lead_by_slice, lead_join, breaks_in_checkpoint}
+use Rattle.disk_commands.proofs.BreakLemmas.{BreaksBy, breaks_join}
+use Rattle.disk_commands.proofs.HearingLemmas.{nothing_asked, asked_on, asked_so_far}
+use Rattle.disk_commands.proofs.TakingLemmas.{IsOutletsCall, saving_is_other}
+
+-- a slice whose fuel is spent leaves fewer steps that can be counted
+fewer_left : {S O : Type 0} (gives : Giving S) (takes : Taking O) (old new : WorkerValue)
+    (fuel : ℕ) (s t : S) (o p : O)
+    → IsProcess old.process → 0 < fuel → Slices gives takes old fuel now.Spent new s t o p
+    → 2 ^ 63 - new.process.steps < 2 ^ 63 - old.process.steps
+fewer_left gives takes old new fuel s t o p is some slices =
+    let works = slices.shown is.guest is.process is.shows in
+    let spent : works.0.steps ≡ fuel = works.1.0 in
+    let before : old.process.steps ≡ is.process.steps = is.shows.steps in
+    let after : new.process.steps ≡ works.0.process.steps = works.0.shows.steps in
+    let count : works.0.process.steps ≡ is.process.steps + works.0.steps =
+    runs_count is.guest is.process works.0.process (handed (asks_of works.0.exchanges))
+    works.0.steps works.0.leads.runs in
+    let few : old.process.steps < 2 ^ 63 = is.few_steps in
+    fewer (2 ^ 63) old.process.steps new.process.steps few (omega arith)
+  where
+    fewer : (n a b : ℕ) → a < n → a < b → n - b < n - a
+    fewer n a b h k = omega arith
+
+-- one more of the same, in front of the rest
+pub turned : {X : Type 0} (n : ℕ) (x : X) (rest : List X)
+    → replicate n x ++ (x ∷ rest) ≡ replicate (n + 1) x ++ rest
+turned n x rest = sym (append_assoc (replicate n x) (x ∷ []) rest)
+    ∙ ap (λ z. z ++ rest) (replicate_more n x)
+
+-- what is made of a value stays, where the value is one of equal types
+pub carried_over : {A B : Type 0} (P : A → Type 0) (made : (a : A) → P a → B) (a b : A)
+    (same : a ≡ b) (value : P a) → made b (subst P same value) ≡ made a value
+carried_over P made a b same value =
+    path_j (λ c e. made c (subst P e value) ≡ made a value)
+    (ap (λ v. made a v) (subst_refl P value)) same
+
+module _ {D S O : Type 0} (medium : D → Medium) (gives : Giving S) (takes : Taking O) where
+  -- ---- calls one after another
+
+  pub no_acts_lead : (here : Scene D S O) → ActsLead medium gives takes [] here now.Spent here
+  no_acts_lead here = record {
+    behind = λ rest undone disk source outlet done. done;
+    says = λ rest undone disk source outlet done. refl;
+  }
+
+  module _ (from : Scene D S O) (undone : Result (List Act) RecoverFault) (disk : D) (source : S)
+      (outlet : O) (acts acts' : List Act) (same : acts ≡ acts') where
+    -- the calls of equal acts
+    pub called_as : AreCalled medium gives takes acts from undone disk source outlet
+        → AreCalled medium gives takes acts' from undone disk source outlet
+    called_as done = subst (λ z. AreCalled medium gives takes z from undone disk source outlet) same
+        done
+
+    -- they say the same
+    pub says_as : (before : Now) (done : AreCalled medium gives takes acts from undone disk source
+        outlet) → outcome_after before (called_as done) ≡ outcome_after before done
+    unfolding called_as
+    says_as before done =
+        carried_over (λ z. AreCalled medium gives takes z from undone disk source outlet)
+        (λ z calls. outcome_after before calls) acts acts' same done
+
+  module _ (acts : List Act) (from : Scene D S O) (said : Now) (to : Scene D S O)
+      (leads : ActsLead medium gives takes acts from said to) where
+    -- where nothing follows
+    pub leads_out : AreCalled medium gives takes acts from (Ok []) to.disk to.source to.outlet
+    leads_out = called_as from (Ok []) to.disk to.source to.outlet (acts ++ []) acts
+        (append-nil acts) (leads.behind [] (Ok []) to.disk to.source to.outlet no_more)
+
+    pub says_out : outcome_after now.Spent leads_out ≡ said
+    unfolding leads_out
+    says_out =
+        says_as from (Ok []) to.disk to.source to.outlet (acts ++ []) acts (append-nil acts)
+        now.Spent (leads.behind [] (Ok []) to.disk to.source to.outlet no_more)
+        ∙ leads.says [] (Ok []) to.disk to.source to.outlet no_more
+
+  module _ (fuel n : ℕ) (from : Scene D S O) (w w' : DurableValue) (disk disk' : D)
+      (source source' : S) (outlet outlet' : O)
+      (leads : ActsLead medium gives takes (replicate n (Slice fuel)) from now.Spent
+      (scene w disk source outlet)) where
+    -- a slice more
+    pub slices_lead : (said : Now)
+        → SliceCarries gives takes w fuel (Ok said) w' (medium disk) (medium disk') source source'
+        outlet outlet'
+        → ActsLead medium gives takes (replicate (n + 1) (Slice fuel)) from said
+        (scene w' disk' source' outlet')
+    slices_lead said carries = record {
+      behind = λ rest undone end s o done.
+          called_as from undone end s o (replicate n (Slice fuel) ++ (Slice fuel ∷ rest))
+          (replicate (n + 1) (Slice fuel) ++ rest) (turned n (Slice fuel) rest)
+          (leads.behind (Slice fuel ∷ rest) undone end s o (sliced said carries done));
+      says = λ rest undone end s o done.
+          says_as from undone end s o (replicate n (Slice fuel) ++ (Slice fuel ∷ rest))
+          (replicate (n + 1) (Slice fuel) ++ rest) (turned n (Slice fuel) rest) now.Spent
+          (leads.behind (Slice fuel ∷ rest) undone end s o (sliced said carries done))
+          ∙ leads.says (Slice fuel ∷ rest) undone end s o (sliced said carries done);
+    }
+
+    -- one that fails, in a round
+    slice_breaks : (why : WorkFault)
+        → SliceCarries gives takes w fuel (Err why) w' (medium disk) (medium disk') source source'
+        outlet outlet'
+        → AreCalled medium gives takes (round_of fuel (n + 1)) from (Err (recover.Worker why)) disk'
+        source' outlet'
+    slice_breaks why carries =
+        subst (λ z. AreCalled medium gives takes z from (Err (recover.Worker why)) disk' source'
+        outlet') (turned n (Slice fuel) (Checkpoint ∷ []))
+        (leads.behind (Slice fuel ∷ Checkpoint ∷ []) (Err (recover.Worker why)) disk' source'
+        outlet' (slice_failed carries))
+
+  module _ (fuel every n : ℕ) (from : Scene D S O) (w w' : DurableValue) (disk disk' : D)
+      (source : S) (outlet : O) (said : Now)
+      (leads : ActsLead medium gives takes (replicate n (Slice fuel)) from said
+      (scene w disk source outlet)) where
+    -- a checkpoint after so many slices
+    round_leads : CheckpointCarries w (Ok tt) w' (medium disk) (medium disk')
+        → ActsLead medium gives takes (round_of fuel n) from said (scene w' disk' source outlet)
+    round_leads carries = record {
+      behind = λ rest undone end s o done.
+          called_as from undone end s o (replicate n (Slice fuel) ++ (Checkpoint ∷ rest))
+          (round_of fuel n ++ rest)
+          (sym (append_assoc (replicate n (Slice fuel)) (Checkpoint ∷ []) rest))
+          (leads.behind (Checkpoint ∷ rest) undone end s o (saved carries done));
+      says = λ rest undone end s o done.
+          says_as from undone end s o (replicate n (Slice fuel) ++ (Checkpoint ∷ rest))
+          (round_of fuel n ++ rest)
+          (sym (append_assoc (replicate n (Slice fuel)) (Checkpoint ∷ []) rest)) now.Spent
+          (leads.behind (Checkpoint ∷ rest) undone end s o (saved carries done))
+          ∙ leads.says (Checkpoint ∷ rest) undone end s o (saved carries done);
+    }
+
+    rested : (some : 1 ≤ n) (within : n ≤ every) (heard : AsksUnless gives ⊥ from.source source)
+        (taken : TakesEach takes from.outlet outlet)
+        (lead : said ≡ now.Spent → SlicesLeadOn gives takes from
+        (steps_among (replicate n (Slice fuel))) (scene w disk source outlet))
+        (result : Result Now WorkFault) → (said ≡ now.Spent → n ≡ every)
+        → IsRested said result w w' (medium disk) (medium disk')
+        → IfOk result (λ why. IsRound medium gives takes fuel every from why
+        (scene w' disk' source outlet))
+    rested some within heard taken lead (Ok told) whole rests = record {
+      count = n;
+      some = some;
+      within = within;
+      whole = λ spent. whole (sym rests.0 ∙ spent);
+      heard = heard;
+      taken = taken;
+      leads = subst (λ z. ActsLead medium gives takes (round_of fuel n) from z
+          (scene w' disk' source outlet)) (sym rests.0) (round_leads rests.1);
+      spent = λ spent guest p is.
+          subst (λ v. SlicesLead gives takes guest p from.source source from.outlet outlet
+          (steps_among (round_of fuel n)) v) (sym rests.2)
+          (subst (λ k. SlicesLead gives takes guest p from.source source from.outlet outlet k
+          w.process) (sym (round_steps fuel n)) (lead (sym rests.0 ∙ spent) guest p is));
+    }
+    rested some within heard taken lead (Err fault) whole rests = tt
+
+    broken : (some : 1 ≤ n) (within : n ≤ every) (heard : AsksUnless gives ⊥ from.source source)
+        (taken : TakesEach takes from.outlet outlet)
+        (breaks : (why : WorkFault) → BreaksOffAt gives takes fuel
+        (steps_among (round_of fuel n)) from why source outlet)
+        (result : Result Now WorkFault)
+        → IsRested said result w w' (medium disk) (medium disk')
+        → IfErr result (λ why. IsBrokenRound medium gives takes fuel every from why disk' source
+        outlet)
+    broken some within heard taken breaks (Ok told) rests = tt
+    broken some within heard taken breaks (Err fault) rests = record {
+      count = n;
+      some = some;
+      within = within;
+      heard = asked_so_far gives (IsOfSource (Err (recover.Worker fault))) from.source source heard;
+      heeded = inl (taken, saving_is_other w (medium disk) (medium disk') fault rests.2);
+      done = leads.behind (Checkpoint ∷ []) (Err (recover.Worker fault)) disk' source outlet
+          (saving_failed rests.0 rests.1);
+      broken = breaks fault;
+    }
+
+  -- So many slices were taken in a round from there on, each of which has spent its fuel. No
+  -- question was refused, and no line.
+  pub record IsWithin (fuel every n : ℕ) (from here : Scene D S O) : Type 0 where
+    pub fewer : n < every
+    pub heard : AsksUnless gives ⊥ from.source here.source
+    pub taken : TakesEach takes from.outlet here.outlet
+    pub leads : ActsLead medium gives takes (replicate n (Slice fuel)) from now.Spent here
+    pub lead : SlicesLeadOn gives takes from (steps_among (replicate n (Slice fuel))) here
+    pub steps : steps_left here.worker ≤ steps_left from.worker
+    pub room : total_sectors here.worker.store.geometry ≤ (medium here.disk).sectors
+
+  pub none_taken : (fuel every : ℕ) (here : Scene D S O) → 0 < every
+      → total_sectors here.worker.store.geometry ≤ (medium here.disk).sectors
+      → IsWithin fuel every 0 here here
+  none_taken fuel every here some room = record {
+    fewer = some;
+    heard = nothing_asked gives here.source;
+    taken = none_told takes here.outlet;
+    leads = no_acts_lead here;
+    lead = λ guest p is. lead_nowhere gives takes here.worker.process here.source here.outlet guest
+        p is;
+    steps = omega arith;
+    room = room;
+  }
+
+  -- a slice whose fuel is spent leaves fewer steps
+  pub slice_fewer : (w w' : DurableValue) (fuel : ℕ) (said : Now) (s t : S) (o p : O)
+      → (w.has_failed ≡ false → IsProcess w.process) → 0 < fuel
+      → Slices gives takes (without_disk w) fuel said (without_disk w') s t o p
+      → said ≡ now.Spent → steps_left w' < steps_left w
+  slice_fewer w w' fuel said s t o p shows some slices spent =
+      fewer_left gives takes (without_disk w) (without_disk w') fuel s t o p
+      (shows slices.had_not_failed) some
+      (subst (λ z. Slices gives takes (without_disk w) fuel z (without_disk w') s t o p) spent
+      slices)
+
+  module _ (fuel every n : ℕ) (from here : Scene D S O)
+      (so_far : IsWithin fuel every n from here) (given : ℕ) (same : given ≡ fuel)
+      (w' : DurableValue) (disk' : D) (source' : S) (outlet' : O) where
+    -- what a slice of this fuel carries
+    abbrev Slicing : Result Now WorkFault → Type 0
+    Slicing result = SliceCarries gives takes here.worker given result w' (medium here.disk)
+        (medium disk') here.source source' here.outlet outlet'
+
+    -- what it does, where it has no error
+    abbrev Sliced : ℕ → Now → Type 0
+    Sliced steps said = Slices gives takes (without_disk here.worker) steps said (without_disk w')
+        here.source source' here.outlet outlet'
+
+    sliced_so : (said : Now) → Sliced given said → Sliced fuel said
+    sliced_so said slices = subst (λ f. Sliced f said) same slices
+
+    -- the slices so far and this one
+    leads_more : (said : Now) → Slicing (Ok said)
+        → ActsLead medium gives takes (replicate (n + 1) (Slice fuel)) from said
+        (scene w' disk' source' outlet')
+    leads_more said carries =
+        slices_lead fuel n from here.worker w' here.disk disk' here.source source' here.outlet
+        outlet' so_far.leads said
+        (subst (λ f. SliceCarries gives takes here.worker f (Ok said) w' (medium here.disk)
+        (medium disk') here.source source' here.outlet outlet') same carries)
+
+    lead_more : (said : Now) → Sliced given said → said ≡ now.Spent
+        → SlicesLeadOn gives takes from (steps_among (replicate (n + 1) (Slice fuel)))
+        (scene w' disk' source' outlet')
+    lead_more said slices spent guest p is =
+        let first = so_far.lead guest p is in
+        subst (λ k. SlicesLead gives takes guest p from.source source' from.outlet outlet' k
+        w'.process) (sym (slice_more fuel n))
+        (lead_join gives takes guest p from.source here.source source' from.outlet here.outlet
+        outlet' (steps_among (replicate n (Slice fuel))) here.worker.process first fuel w'.process
+        (lead_by_slice gives takes fuel here.source source' here.outlet outlet' here.worker w'
+        (subst (λ z. Sliced fuel z) spent (sliced_so said slices)) guest first.process
+        first.shows))
+
+    -- this one has failed, or a checkpoint after it
+    breaks_more : (why : WorkFault)
+        → BreaksBy gives takes fuel here.source source' here.outlet outlet' here.worker.process why
+        → BreaksOffAt gives takes fuel (steps_among (round_of fuel (n + 1))) from why source'
+        outlet'
+    breaks_more why breaks guest p is =
+        let first = so_far.lead guest p is in
+        subst (λ k. BreaksOff gives takes guest p from.source source' from.outlet outlet' fuel k
+        why) (sym (round_steps fuel (n + 1) ∙ slice_more fuel n))
+        (breaks_join gives takes guest p from.source here.source source' from.outlet here.outlet
+        outlet' (steps_among (replicate n (Slice fuel))) here.worker.process first fuel fuel why
+        (breaks guest first.process first.shows))
+
+    -- whatever is asked after the slices so far
+    heard_on : (Refused : Type 0) → AsksUnless gives Refused here.source source'
+        → AsksUnless gives Refused from.source source'
+    heard_on Refused heard =
+        asked_on gives Refused from.source here.source source' so_far.heard heard
+
+    -- whatever is told after them
+    taken_on : TakesEach takes here.outlet outlet' → TakesEach takes from.outlet outlet'
+    taken_on taken = takes_both takes from.outlet here.outlet outlet' so_far.taken taken
+
+    -- one more, after which others come
+    pub within_more : (said : Now) → Slicing (Ok said) → AsksUnless gives ⊥ here.source source'
+        → TakesEach takes here.outlet outlet' → Sliced given said → said ≡ now.Spent → n + 1 < every
+        → steps_left w' < steps_left here.worker
+        → total_sectors w'.store.geometry ≤ (medium disk').sectors
+        → IsWithin fuel every (n + 1) from (scene w' disk' source' outlet')
+    within_more said carries heard taken slices spent few fewer room =
+        let before = so_far.steps in
+        record {
+          fewer = few;
+          heard = heard_on ⊥ heard;
+          taken = taken_on taken;
+          leads = subst (λ z. ActsLead medium gives takes (replicate (n + 1) (Slice fuel)) from z
+              (scene w' disk' source' outlet')) spent (leads_more said carries);
+          lead = lead_more said slices spent;
+          steps = omega (arith, before, fewer);
+          room = room;
+        }
+
+    module _ (most : ℕ) (is_most : every ≡ most) where
+      some : 1 ≤ n + 1
+      some = omega arith
+
+      within : n + 1 ≤ most
+      within = let few = so_far.fewer in omega (arith, few, is_most)
+
+      -- one that fails
+      pub within_breaks : (why : WorkFault) → Slicing (Err why)
+          → AsksUnless gives (IsOfSource (Err (recover.Worker why))) here.source source'
+          → HeedsOutlet takes (IsOutletsCall why) here.outlet outlet'
+          → BreaksBy gives takes given here.source source' here.outlet outlet' here.worker.process
+          why
+          → IsBrokenRound medium gives takes fuel most from why disk' source' outlet'
+      within_breaks why carries heard heeded breaks = record {
+        count = n + 1;
+        some = some;
+        within = within;
+        heard = heard_on (IsOfSource (Err (recover.Worker why))) heard;
+        heeded = heeds_on takes (IsOutletsCall why) from.outlet here.outlet outlet' so_far.taken
+            heeded;
+        done = slice_breaks fuel n from here.worker w' here.disk disk' here.source source'
+            here.outlet outlet' so_far.leads why
+            (subst (λ f. SliceCarries gives takes here.worker f (Err why) w' (medium here.disk)
+            (medium disk') here.source source' here.outlet outlet') same carries);
+        broken = breaks_more why (subst (λ f. BreaksBy gives takes f here.source source'
+            here.outlet outlet' here.worker.process why) same breaks);
+      }
+
+      -- the last one, and a checkpoint
+      module _ (said : Now) (carries : Slicing (Ok said)) (slices : Sliced given said)
+          (result : Result Now WorkFault) (w'' : DurableValue) (disk'' : D)
+          (rests : IsRested said result w' w'' (medium disk') (medium disk'')) where
+        pub within_rests : AsksUnless gives ⊥ here.source source'
+            → TakesEach takes here.outlet outlet' → (said ≡ now.Spent → n + 1 ≡ every)
+            → IfOk result (λ why. IsRound medium gives takes fuel most from why
+            (scene w'' disk'' source' outlet'))
+        within_rests heard taken whole =
+            rested fuel most (n + 1) from w' w'' disk' disk'' source' outlet' said
+            (leads_more said carries) some within (heard_on ⊥ heard) (taken_on taken)
+            (lead_more said slices) result
+            (λ e. whole e ∙ is_most) rests
+
+        pub within_broken : AsksUnless gives ⊥ here.source source'
+            → TakesEach takes here.outlet outlet'
+            → IfErr result (λ why. IsBrokenRound medium gives takes fuel most from why disk''
+            source' outlet')
+        within_broken heard taken =
+            broken fuel most (n + 1) from w' w'' disk' disk'' source' outlet' said
+            (leads_more said carries) some within (heard_on ⊥ heard) (taken_on taken)
+            (λ why. breaks_more why (breaks_in_checkpoint gives takes fuel here.source source'
+            here.outlet outlet' here.worker w' said why (sliced_so said slices))) result rests
+
+        pub within_fewer : (said ≡ now.Spent → steps_left w' < steps_left here.worker)
+            → IfOk result (λ why. why ≡ now.Spent → steps_left w'' < steps_left from.worker)
+        within_fewer fewer = ends result rests
+          where
+            ends : (result : Result Now WorkFault)
+                → IsRested said result w' w'' (medium disk') (medium disk'')
+                → IfOk result (λ why. why ≡ now.Spent → steps_left w'' < steps_left from.worker)
+            ends (Ok told) r = λ spent.
+                let last : steps_left w' < steps_left here.worker = fewer (sym r.0 ∙ spent) in
+                let before = so_far.steps in
+                let same : steps_left w'' ≡ steps_left w' = ap (λ p. 2 ^ 63 - p.steps) r.2 in
+                omega (arith, last, before, same)
+            ends (Err fault) r = tt
+
+  -- ---- rounds one after another
+
+  -- Some rounds were done: whatever is done from here on at this pace, is done at this pace from
+  -- there on.
+  pub record SoFar (fuel every : ℕ) (from here : Scene D S O) : Type 0 where
+    pub room : total_sectors here.worker.store.geometry ≤ (medium here.disk).sectors
+    pub heard : AsksUnless gives ⊥ from.source here.source
+    pub taken : TakesEach takes from.outlet here.outlet
+    pub on : (rest : List Act) (result : Result Now WorkFault) (disk : D) (source : S)
+        (outlet : O) → IsPaced fuel every rest
+        → AsksUnless gives (IsOfSource (undone_after result)) from.source source
+        → HeedsOutlet takes (SaysOutletFault (undone_after result)) from.outlet outlet
+        → (done : AreCalled medium gives takes rest here (undone_after result) disk source outlet)
+        → IfOk result (λ told. outcome_after now.Spent done ≡ told)
+        → IfErr result (λ why. BreaksOffAt gives takes fuel (steps_among rest) here why source
+        outlet)
+        → LivesAtPace medium gives takes fuel every from result disk source outlet
+
+  pub none_yet : (fuel every : ℕ) (here : Scene D S O)
+      → total_sectors here.worker.store.geometry ≤ (medium here.disk).sectors
+      → SoFar fuel every here here
+  none_yet fuel every here room = record {
+    room = room;
+    heard = nothing_asked gives here.source;
+    taken = none_told takes here.outlet;
+    on = λ rest result disk source outlet paced heard heeded done says broken. record {
+      acts = rest;
+      paced = paced;
+      heard = heard;
+      heeded = heeded;
+      done = done;
+      says = says;
+      broken = broken;
+    };
+  }
+
+  module _ (fuel every : ℕ) (from here : Scene D S O) (so_far : SoFar fuel every from here) where
+    -- what is done after a round whose fuel is spent
+    module _ (there : Scene D S O) (r : IsRound medium gives takes fuel every here now.Spent there)
+        (rest : List Act) (result : Result Now WorkFault) (disk : D) (source : S) (outlet : O)
+        (done : AreCalled medium gives takes rest there (undone_after result) disk source outlet)
+      where
+        is_whole : round_of fuel r.count ++ rest ≡ round_of fuel every ++ rest
+        is_whole = ap (λ n. round_of fuel n ++ rest) (r.whole refl)
+
+        then_done : AreCalled medium gives takes (round_of fuel every ++ rest) here
+            (undone_after result) disk source outlet
+        then_done = called_as here (undone_after result) disk source outlet
+            (round_of fuel r.count ++ rest) (round_of fuel every ++ rest) is_whole
+            (r.leads.behind rest (undone_after result) disk source outlet done)
+
+        then_says : IfOk result (λ told. outcome_after now.Spent done ≡ told)
+            → IfOk result (λ told. outcome_after now.Spent then_done ≡ told)
+        unfolding then_done
+        then_says says =
+            subst (λ z. IfOk result (λ told. z ≡ told))
+            (sym (says_as here (undone_after result) disk source outlet
+            (round_of fuel r.count ++ rest) (round_of fuel every ++ rest) is_whole now.Spent
+            (r.leads.behind rest (undone_after result) disk source outlet done)
+            ∙ r.leads.says rest (undone_after result) disk source outlet done)) says
+
+        abbrev Breaks : List Act → Scene D S O → WorkFault → Type 0
+        Breaks acts at why = BreaksOffAt gives takes fuel (steps_among acts) at why source outlet
+
+        all_steps : steps_among (round_of fuel r.count) + steps_among rest
+            ≡ steps_among (round_of fuel every ++ rest)
+        all_steps = ap (λ n. steps_among (round_of fuel n) + steps_among rest) (r.whole refl)
+            ∙ sym (steps_both (round_of fuel every) rest)
+
+        then_breaks : (why : WorkFault) → Breaks rest there why
+            → Breaks (round_of fuel every ++ rest) here why
+        then_breaks why breaks guest p is =
+            let first = r.spent refl guest p is in
+            subst (λ k. BreaksOff gives takes guest p here.source source here.outlet outlet fuel k
+            why) all_steps
+            (breaks_join gives takes guest p here.source there.source source here.outlet
+            there.outlet outlet (steps_among (round_of fuel r.count)) there.worker.process first
+            fuel (steps_among rest) why (breaks guest first.process first.shows))
+
+        then_broken : IfErr result (λ why. Breaks rest there why)
+            → IfErr result (λ why. Breaks (round_of fuel every ++ rest) here why)
+        then_broken broken =
+            IfErr-weaker result (λ why. Breaks rest there why)
+            (λ why. Breaks (round_of fuel every ++ rest) here why) then_breaks broken
+
+    pub round_more : (there : Scene D S O)
+        → total_sectors there.worker.store.geometry ≤ (medium there.disk).sectors
+        → IsRound medium gives takes fuel every here now.Spent there → SoFar fuel every from there
+    round_more there room r = record {
+      room = room;
+      heard = asked_on gives ⊥ from.source here.source there.source so_far.heard r.heard;
+      taken = takes_both takes from.outlet here.outlet there.outlet so_far.taken r.taken;
+      on = λ rest result disk source outlet paced heard heeded done says broken.
+          so_far.on (round_of fuel every ++ rest) result disk source outlet (more rest paced) heard
+          heeded (then_done there r rest result disk source outlet done)
+          (then_says there r rest result disk source outlet done says)
+          (then_broken there r rest result disk source outlet done broken);
+    }
+
+    pub round_last : (why : Now) (there : Scene D S O)
+        → IsRound medium gives takes fuel every here why there
+        → LivesAtPace medium gives takes fuel every from (Ok why) there.disk there.source
+        there.outlet
+    round_last why there r =
+        so_far.on (round_of fuel r.count) (Ok why) there.disk there.source there.outlet
+        (last r.count r.some r.within)
+        (asked_so_far gives (IsOfSource (Ok [])) from.source there.source
+        (asked_on gives ⊥ from.source here.source there.source so_far.heard r.heard))
+        (inl (
+          takes_both takes from.outlet here.outlet there.outlet so_far.taken r.taken,
+          λ told.
+              told,
+        )) (leads_out (round_of fuel r.count) here why there r.leads)
+        (says_out (round_of fuel r.count) here why there r.leads) tt
+
+    pub round_broken : (why : WorkFault) (disk : D) (source : S) (outlet : O)
+        → IsBrokenRound medium gives takes fuel every here why disk source outlet
+        → LivesAtPace medium gives takes fuel every from (Err why) disk source outlet
+    round_broken why disk source outlet r =
+        so_far.on (round_of fuel r.count) (Err why) disk source outlet
+        (last r.count r.some r.within)
+        (asked_on gives (IsOfSource (Err (recover.Worker why))) from.source here.source source
+        so_far.heard r.heard)
+        (heeds_on takes (IsOutletsCall why) from.outlet here.outlet outlet so_far.taken r.heeded)
+        r.done tt r.broken

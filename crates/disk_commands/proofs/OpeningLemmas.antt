@@ -1,0 +1,63 @@
+-- What is told of a path that was refused.
+use Rattle.std.proofs.Common.{◌≡◌, ◌≢◌, ◌∙◌, ap, inl, inr, refl, sym, subst, ℕ, List, [], ◌∷◌}
+use Rattle.std.proofs.Common.{◌++◌, append_assoc, codes}
+use Rattle.std.specs.Io.KnownBytes.{Appends}
+use Rattle.std.specs.declared.io.ErrorKind.{ErrorKind}
+use Rattle.std.specs.declared.io.ErrorKind.TheVariants.{OutOfMemory}
+use Rattle.sector_disk.specs.rules.Open.{open_cause}
+use Rattle.sector_disk.specs.declared.open_fault.OpenFault.{OpenFault}
+use Rattle.sector_disk.specs.declared.open_fault.OpenFault.TheVariants.{Busy, Io}
+use Rattle.wasi_abi.specs.rules.Answers.{newline}
+use Rattle.command_words.specs.rules.Printers.{PrinterState, SaysText}
+use Rattle.command_words.specs.rules.Reports.{SaysLine}
+use Rattle.disk_commands.specs.rules.Openings.{SaysUnread, open_words}
+use Rattle.disk_commands.specs.rules.SeedFiles.{seedless_words}
+
+-- an error of a file other than out of memory
+pub cause_told : (path : List ℕ) (kind : ErrorKind) (told : OpenFault) (old : PrinterState)
+    (status : ℕ) (new : PrinterState) → kind ≢ OutOfMemory → told ≡ Io (open_cause kind)
+    → SaysLine (open_words path told) 4 old status new → SaysUnread path kind old status new
+cause_told path kind told old status new other is says =
+    inr (other, subst (λ fault. SaysLine (open_words path fault) 4 old status new) is says)
+
+-- a path and its cause, as they are written
+spelled_so : (path words : List ℕ) → path ++ (58 ∷ 32 ∷ (words ++ newline ∷ []))
+    ≡ path ++ codes ": " ++ words ++ newline ∷ []
+spelled_so path words =
+    sym (append_assoc (path ++ codes ": ") words (newline ∷ [])
+    ∙ append_assoc path (codes ": ") (words ++ newline ∷ []))
+
+pub cause_said : (path words told : List ℕ) (old new : PrinterState) → words ≡ told
+    → Appends old.contents new.contents
+    (codes "failed K2 Io\n" ++ (path ++ (58 ∷ 32 ∷ (words ++ newline ∷ []))))
+    → new.failed ≡ old.failed
+    → SaysText (codes "failed K2 Io\n" ++ path ++ codes ": " ++ told ++ newline ∷ []) 4 old 4 new
+cause_said path words told old new is bytes steady =
+    let whole : List ℕ → List ℕ = λ t. codes "failed K2 Io\n" ++ t in
+    let text = spelled_so path words
+    ∙ ap (λ w. path ++ codes ": " ++ w ++ newline ∷ []) is in
+    inl (refl, (subst (λ t. Appends old.contents new.contents (whole t)) text bytes, steady))
+
+-- a disk that another host has, as it is written
+pub busy_said : (path : List ℕ) (old new : PrinterState)
+    → Appends old.contents new.contents
+    (codes "failed K5 Busy\n" ++ (path ++ codes ": another host is using this disk\n"))
+    → new.failed ≡ old.failed → SaysLine (open_words path Busy) 4 old 4 new
+busy_said path old new bytes steady =
+    let text : codes "failed K5 Busy\n" ++ (path ++ codes ": another host is using this disk\n")
+    ≡ open_words path Busy ++ newline ∷ [] =
+    ap (λ t. codes "failed K5 Busy\n" ++ t)
+    (sym (append_assoc path (codes ": another host is using this disk") (newline ∷ []))) in
+    inl (refl, (subst (λ t. Appends old.contents new.contents t) text bytes, steady))
+
+-- a file that has no seed, as it is written
+pub seedless_said : (path : List ℕ) (old new : PrinterState)
+    → Appends old.contents new.contents
+    (codes "failed C2 Text\n" ++ (path ++ codes ": isn't 64 hexadecimal digits\n"))
+    → new.failed ≡ old.failed → SaysLine (seedless_words path) 3 old 3 new
+seedless_said path old new bytes steady =
+    let text : codes "failed C2 Text\n" ++ (path ++ codes ": isn't 64 hexadecimal digits\n")
+    ≡ seedless_words path ++ newline ∷ [] =
+    ap (λ t. codes "failed C2 Text\n" ++ t)
+    (sym (append_assoc path (codes ": isn't 64 hexadecimal digits") (newline ∷ []))) in
+    inl (refl, (subst (λ t. Appends old.contents new.contents t) text bytes, steady))

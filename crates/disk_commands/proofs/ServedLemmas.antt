@@ -1,0 +1,114 @@
+-- A disk in a file whose worker goes on.
+use Rattle.std.proofs.Common.{◌≡◌, refl, subst, inl, inr, ℕ, Bool, List, Bor}
+use Rattle.std.specs.Prelude.{Option, Some, None, Result, IfSome, IsSome, option_map}
+use Rattle.std.specs.Int.NonZero.{non_zero_u64_get}
+use Rattle.sector_disk.specs.declared.file.FileDisk.{FileDisk}
+use Rattle.sector_disk.specs.rules.File.{file_medium}
+use Rattle.sector_disk.specs.rules.Medium.{Medium}
+use Rattle.record_replay.specs.rules.Calls.{Taking}
+use Rattle.command_words.specs.declared.lines.outside.Outside.{Outside}
+use Rattle.command_words.specs.rules.Commands.{RunMeaning}
+use Rattle.command_words.specs.rules.Printers.{PrinterState, read_along}
+use Rattle.command_words.specs.rules.Prints.{printing}
+use Rattle.disk_commands.specs.declared.on_disk.found_file.FoundFile.{FoundFile}
+use Rattle.disk_commands.specs.declared.on_disk.running.RunJob.{RunJob}
+use Rattle.disk_commands.specs.declared.on_disk.upgrading.Upgraded.{Upgraded}
+use Rattle.disk_commands.specs.rules.Openings.{IsOpenedFor, IsUntouched}
+use Rattle.disk_commands.specs.rules.Refusals.{HeedsRefusal}
+use Rattle.disk_commands.specs.rules.ServedFiles.{IsJobOf, RunsFile, RunsJob, SaysUpgraded}
+use Rattle.disk_commands.specs.rules.ServedFiles.{SaysNoStatusFile, ServesToEnd}
+use Rattle.disk_commands.specs.rules.SeedFiles.{SaysSeedless}
+use Rattle.disk_commands.specs.rules.ServedFiles.{seedless}
+use Rattle.disk_commands.specs.rules.StatusFiles.{SaysUnwatched}
+use Rattle.disk_commands.specs.rules.ServedFiles.{UpgradesFile, job_given, named_status, opened}
+use Rattle.disk_commands.specs.rules.ServedOnDisk.{RunStart, disk_job, run_start}
+use Rattle.disk_commands.specs.rules.Upgradings.{UpgradesOnDisk, status_so_far}
+
+-- what is said of the path that a job names
+pub status_untold : (has_found : List ℕ → FoundFile → Bool) (job : RunJob)
+    (err err' : PrinterState) (status : ℕ) → IsSome job.status
+    → IfSome job.status (λ text. SaysUnwatched has_found text.now err status err')
+    → SaysNoStatusFile (named_status job) err status err'
+status_untold has_found job err err' status some says = of_path job.status some says
+  where
+    of_path : (path : Option (Bor (List ℕ))) → IsSome path
+        → IfSome path (λ text. SaysUnwatched has_found text.now err status err')
+        → SaysNoStatusFile (option_map (λ text. text.now) path) err status err'
+    of_path (Some text) some says = (has_found, says)
+    of_path None some says = absurd cc
+
+-- a worker that was served on the lines of a reader, of whose status file nothing was said
+pub job_served : {D O : Type 0} (medium : D → Medium) (takes : Taking O)
+    (path : Option (List ℕ)) (job : RunJob) (lines found : Option (List ℕ)) (failed broken : Bool)
+    (outside : Outside) (disk disk' : D) (outlet outlet' : O) (err between err' : PrinterState)
+    (status : ℕ) → outside ≡ job.outside → found ≡ lines → broken ≡ failed → between ≡ err
+    → ServesToEnd medium takes (run_start (disk_job (non_zero_u64_get job.pace.fuel)
+    (non_zero_u64_get job.pace.every) found outside broken) disk outlet between) disk' outlet' err'
+    status
+    → RunsJob medium takes path (run_start (job_given job lines failed) disk outlet err) disk' outlet'
+    err' status
+job_served {D} {O} medium takes path job lines found failed broken outside disk disk' outlet outlet'
+    err between err' status of_job of_lines of_failed quiet serves =
+    let start : Outside → Option (List ℕ) → Bool → PrinterState → RunStart D O =
+    λ o l f e. run_start (disk_job (non_zero_u64_get job.pace.fuel)
+    (non_zero_u64_get job.pace.every) l o f) disk outlet e in
+    let does : RunStart D O → Type 0 =
+    λ before. ServesToEnd medium takes before disk' outlet' err' status in
+    inr (subst (λ e. does (start job.outside lines failed e)) quiet
+    (subst (λ f. does (start job.outside lines f between)) of_failed
+    (subst (λ l. does (start job.outside l broken between)) of_lines
+    (subst (λ o. does (start o found broken between)) of_job serves))))
+
+module _ {F O : Type 0} (takes : Taking O) (said : RunMeaning) (lines : Option (List ℕ))
+    (failed : Bool) (outlet outlet' : O) (err between err' : PrinterState) (status : ℕ) where
+  -- a run before which nothing was said
+  pub runs_quietly : between ≡ err
+      → RunsFile F takes said lines failed outlet outlet' between err' status
+      → RunsFile F takes said lines failed outlet outlet' err err' status
+  runs_quietly quiet runs =
+      subst (λ old. RunsFile F takes said lines failed outlet outlet' old err' status) quiet runs
+
+-- a run without a seed
+pub runs_seedless : {F O : Type 0} (takes : Taking O) (said : RunMeaning) (lines : Option (List ℕ))
+    (failed : Bool) (outlet : O) (err err' : PrinterState) (status : ℕ)
+    → SaysSeedless said.seed_file said.seed err status err'
+    → RunsFile F takes said lines failed outlet outlet err err' status
+runs_seedless takes said lines failed outlet err err' status says = seedless says refl
+
+module _ {F : Type 0} (disk disk' : FileDisk F) where
+  -- a run of a disk that was opened, of whose opening nothing was said
+  pub runs_opened : {O : Type 0} (takes : Taking O) (said : RunMeaning) (lines : Option (List ℕ))
+      (failed : Bool) (outlet outlet' : O) (err between err' : PrinterState) (status : ℕ)
+      (job : RunJob) → IsJobOf said job → IsOpenedFor said.rewrites disk
+      → between ≡ read_along said.is_verbose err
+      → RunsJob file_medium takes (named_status job)
+      (run_start (job_given job lines failed) disk outlet between) disk' outlet' err' status
+      → RunsFile F takes said lines failed outlet outlet' err err' status
+  runs_opened takes said lines failed outlet outlet' err between err' status job is for quiet runs =
+      let of_path = subst (λ path. RunsJob file_medium takes path
+      (run_start (job_given job lines failed) disk outlet between) disk' outlet' err' status)
+      is.status runs in
+      opened job is disk disk' for (subst (λ old. RunsJob file_medium takes said.status
+      (run_start (job_given job lines failed) disk outlet old) disk' outlet' err' status)
+      quiet of_path)
+
+  -- an upgrade of such a disk
+  pub upgrades_opened : (path : List ℕ) (out told out' err opening between err' : PrinterState)
+      (status : ℕ) (upgraded : Result Upgraded ℕ) → IsUntouched disk → opening ≡ err
+      → UpgradesOnDisk file_medium printing upgraded disk disk' out told opening between
+      → HeedsRefusal printing out told between (status_so_far upgraded)
+      → SaysUpgraded upgraded told out' between err' status
+      → UpgradesFile F path out out' err err' status
+  upgrades_opened path out told out' err opening between err' status upgraded untouched quiet does
+      heeds says = inl (record {
+        disk = disk;
+        disk' = disk';
+        untouched = untouched;
+        upgraded = upgraded;
+        told = told;
+        between = between;
+        upgrades = subst (λ old. UpgradesOnDisk file_medium printing upgraded disk disk' out told
+            old between) quiet does;
+        heeds = heeds;
+        says = says;
+      })

@@ -1,0 +1,99 @@
+-- Calls of a life, seen by where its source is.
+use Rattle.std.proofs.Common.{◌≡◌, ℕ, List, [], ◌∷◌, ◌++◌, refl, ap}
+use Rattle.std.specs.Prelude.{Result}
+use Rattle.sector_disk.specs.rules.Medium.{Medium}
+use Rattle.record_replay.specs.rules.Calls.{Giving, Taking, Ask, Exchange, Exchanges}
+use Rattle.record_replay.specs.rules.Calls.{AnswersInOrder, asks_of}
+use Rattle.ephemeral_worker.specs.declared.now.Now.{Now}
+use Rattle.worker.specs.declared.recover_fault.RecoverFault.{RecoverFault}
+use Rattle.worker.specs.rules.DurableValues.{DurableValue}
+use Rattle.worker.specs.rules.LifeWords.{Act}
+use Rattle.worker.specs.rules.OneLife.{CallsInOrder, no_more, sliced, slice_failed, saved}
+use Rattle.worker.specs.rules.OneLife.{saving_failed, was_upgraded, upgrade_failed}
+use Rattle.worker.specs.rules.Outcomes.{outcome_after}
+use Rattle.process.specs.rules.Values.{ProcessValue}
+use Rattle.worker.specs.declared.fault.WorkFault.{WorkFault}
+use Rattle.disk_commands.specs.rules.BrokenLives.{BreaksOffFrom}
+
+module _ {S T O : Type 0} (state_of : S → T) (gives : Giving T) (takes : Taking O) where
+  abbrev pub gives_so : Giving S
+  gives_so old question said new = gives (state_of old) question said (state_of new)
+
+  pub asked_so : (asks : List Ask) (s t : S) → AnswersInOrder gives_so s asks t
+      → AnswersInOrder gives (state_of s) asks (state_of t)
+  asked_so [] s t leads = ap state_of leads
+  asked_so (ask ∷ asks) s t leads = (state_of leads.0, leads.1, asked_so asks leads.0 t leads.2)
+
+  exchanged_so : (exchanges : List Exchange) (s t : S) (o p : O)
+      → Exchanges gives_so takes s o exchanges t p
+      → Exchanges gives takes (state_of s) o exchanges (state_of t) p
+  exchanged_so exchanges s t o p h = record {
+    asked = asked_so (asks_of exchanges) s t h.asked;
+    released = h.released;
+  }
+
+  -- a call that has failed
+  pub broken_so : (v : ProcessValue) (fuel all : ℕ) (why : WorkFault) (s t : S) (o p : O)
+      → BreaksOffFrom gives_so takes v fuel all why s t o p
+      → BreaksOffFrom gives takes v fuel all why (state_of s) (state_of t) o p
+  broken_so v fuel all why s t o p breaks guest start is =
+      let b = breaks guest start is in
+      record {
+        front = b.front;
+        answered = b.answered;
+        steps = b.steps;
+        begun = b.begun;
+        leads = b.leads;
+        back = b.back;
+        exchanged = exchanged_so (b.front ++ b.back) s t o p b.exchanged;
+        wanted = b.wanted;
+        more = b.more;
+        process = b.process;
+        broken = b.broken;
+        counted = b.counted;
+      }
+
+  module _ {D : Type 0} (medium : D → Medium) where
+    pub calls_so : (acts : List Act) (w : DurableValue) (disk last : D) (s t : S) (o p : O)
+        (undone : Result (List Act) RecoverFault)
+        → CallsInOrder medium gives_so takes acts w disk s o undone last t p
+        → CallsInOrder medium gives takes acts w disk (state_of s) o undone last (state_of t) p
+    calls_so acts w disk last s t o p undone no_more = no_more
+    calls_so acts w disk last s t o p undone
+        (sliced {fuel = fuel} {acts = others} {w' = w'} {disk' = mid} {source' = u} {outlet' = q}
+        said slice more) =
+        sliced said (slice.0, exchanged_so slice.0 s u o q slice.1, slice.2)
+        (calls_so others w' mid last u t q p undone more)
+    calls_so acts w disk last s t o p undone (slice_failed slice) =
+        slice_failed (slice.0, exchanged_so slice.0 s t o p slice.1, slice.2)
+    calls_so acts w disk last s t o p undone
+        (saved {acts = others} {w' = w'} {disk' = mid} carries more) =
+        saved carries (calls_so others w' mid last s t o p undone more)
+    calls_so acts w disk last s t o p undone (saving_failed carries cause) =
+        saving_failed carries cause
+    calls_so acts w disk last s t o p undone
+        (was_upgraded {acts = others} {w' = w'} {disk' = mid} carries more) =
+        was_upgraded carries (calls_so others w' mid last s t o p undone more)
+    calls_so acts w disk last s t o p undone (upgrade_failed carries cause) =
+        upgrade_failed carries cause
+
+    -- they say the same
+    pub outcome_so : (before : Now) (acts : List Act) (w : DurableValue) (disk last : D) (s t : S)
+        (o p : O) (undone : Result (List Act) RecoverFault)
+        (calls : CallsInOrder medium gives_so takes acts w disk s o undone last t p)
+        → outcome_after before (calls_so acts w disk last s t o p undone calls)
+        ≡ outcome_after before calls
+    unfolding calls_so
+    outcome_so before acts w disk last s t o p undone no_more = refl
+    outcome_so before acts w disk last s t o p undone
+        (sliced {fuel = fuel} {acts = others} {w' = w'} {disk' = mid} {source' = u} {outlet' = q}
+        said slice more) = outcome_so said others w' mid last u t q p undone more
+    outcome_so before acts w disk last s t o p undone (slice_failed slice) = refl
+    outcome_so before acts w disk last s t o p undone
+        (saved {acts = others} {w' = w'} {disk' = mid} carries more) =
+        outcome_so before others w' mid last s t o p undone more
+    outcome_so before acts w disk last s t o p undone (saving_failed carries cause) = refl
+    outcome_so before acts w disk last s t o p undone
+        (was_upgraded {acts = others} {w' = w'} {disk' = mid} carries more) =
+        outcome_so before others w' mid last s t o p undone more
+    outcome_so before acts w disk last s t o p undone (upgrade_failed carries cause) = refl

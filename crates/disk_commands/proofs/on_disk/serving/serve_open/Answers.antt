@@ -1,0 +1,43 @@
+use Rattle.std.proofs.Common.{◌∙◌, ap, Ok, Err}
+use Rattle.disk_commands.proofs.OnDiskLemmas.{few_told, says_over}
+use Rattle.disk_commands.proofs.WatchingLemmas.{watches_fault, watches_end}
+use Rattle.disk_commands.proofs.on_disk.serving.serve_open.Goals as goal
+
+pub returns-in-Ok-clause-serves : goal.returns-in-Ok-clause-serves
+returns-in-Ok-clause-serves g c = (
+  c.tell_recovered.new.err,
+  Ok c.in-Ok.now,
+  c.go_on.new.source.requests.taken,
+  c.tell_recovered.ensures,
+  c.in-Ok.ensures.gone,
+  says_over c.is_terminal-is_heard.result c.args.err.now.on_terminal c.taken.result
+      c.go_on.new.source.requests.taken c.in-Ok.now c.tell_recovered.new.err c.say.result
+      c.say.new.err c.is_terminal-is_heard.ensures
+      (c.taken.ensures ∙ ap (λ r. r.taken) c.requests.ensures) c.say.ensures,
+)
+
+pub returns-in-Ok-clause-watched : goal.returns-in-Ok-clause-watched
+returns-in-Ok-clause-watched g c =
+    watches_end (g.T.Watcher.is_notified c.args.drive.watcher.now) c.say.result c.say.new.err
+    c.go_on.new.worker c.in-Ok.now c.tell_recovered.new.err c.is_terminal-is_heard.result
+    c.taken.result c.in-Ok.ensures.told.0 c.in-Ok.ensures.told.1 c.say.ensures
+
+pub returns-in-Err-clause-serves : goal.returns-in-Err-clause-serves
+returns-in-Err-clause-serves g c = (
+  c.tell_recovered.new.err,
+  Err c.in-Err.fault,
+  c.go_on.new.source.requests.taken,
+  c.tell_recovered.ensures,
+  c.in-Err.ensures.gone,
+  c.say_disk_fault.ensures,
+)
+
+pub returns-in-Err-clause-watched : goal.returns-in-Err-clause-watched
+returns-in-Err-clause-watched g c =
+    watches_fault (g.T.Watcher.is_notified c.args.drive.watcher.now) c.say_disk_fault.result
+    c.say_disk_fault.new.err c.in-Err.fault c.tell_recovered.new.err c.say_disk_fault.ensures
+
+pub returns-in-Err-clause-known : goal.returns-in-Err-clause-known
+returns-in-Err-clause-known g c =
+    few_told c.in-Err.fault c.tell_recovered.new.err c.say_disk_fault.result
+    c.say_disk_fault.new.err c.say_disk_fault.ensures

@@ -1,0 +1,5 @@
+pub mod Livings
+pub mod ComingUp
+pub mod StatusLines
+pub mod laws
+pub mod rules

@@ -1,0 +1,171 @@
+-- The parts of a life on a disk: calls that were made of an open worker, and those that may follow.
+use Rattle.std.specs.Prelude.{◌≡◌, ◌≢◌, ℕ, ◌-◌, ◌^◌, ◌≤◌, Bool, List, [], ◌++◌, Result, Ok}
+use Rattle.std.specs.Prelude.{Err, IfOk, IfErr}
+use Rattle.process_rules.specs.Processes.{ProcessState, Guest}
+use Rattle.process.specs.rules.Values.{ShowsProcess}
+use Rattle.sector_disk.specs.rules.Medium.{Medium}
+use Rattle.record_replay.specs.rules.Calls.{Giving, Taking}
+use Rattle.ephemeral_worker.specs.declared.now.Now.{Now}
+use Rattle.ephemeral_worker.specs.declared.now.Now.TheVariants as now
+use Rattle.worker.specs.declared.fault.WorkFault.{WorkFault}
+use Rattle.worker.specs.declared.recover_fault.RecoverFault.{RecoverFault}
+use Rattle.worker.specs.declared.recover_fault.RecoverFault.TheVariants as recover
+use Rattle.worker.specs.rules.DurableValues.{DurableValue}
+use Rattle.worker.specs.rules.DurableCalls.{CheckpointCarries}
+use Rattle.worker.specs.rules.Checkpoints.{CheckpointFails, HasCheckpointCause}
+use Rattle.worker.specs.rules.LifeWords.{Act}
+use Rattle.worker.specs.rules.Outlets.{TakesEach, HeedsOutlet, IsOutletFault}
+use Rattle.worker.specs.rules.Outlets.{SaysOutletFault}
+use Rattle.worker.specs.rules.OneLife.{CallsInOrder}
+use Rattle.command_words.specs.Lines.Answers.{SourceState}
+use Rattle.command_words.specs.rules.Printers.{PrinterState, IsSaid, SaysText, TellsPerson}
+use Rattle.disk_commands.specs.declared.on_disk.fault.OnDiskFault.{OnDiskFault}
+use Rattle.disk_commands.specs.rules.DiskStatuses.{IsReportedOnDisk, status_on_disk}
+use Rattle.worker.specs.rules.Outcomes.{outcome_after}
+use Rattle.disk_commands.specs.rules.BrokenLives.{BreaksOffFrom, SlicesLead, steps_among}
+use Rattle.disk_commands.specs.rules.Hearings.{AsksUnless, IsOfSource}
+use Rattle.disk_commands.specs.rules.LastWords.{ended_by, over_words}
+use Rattle.disk_commands.specs.rules.Paces.{round_of, IsPaced}
+use Rattle.disk_commands.specs.rules.ServedOnDisk.{DiskJob, source_behind, handing}
+use Rattle.disk_commands.specs.rules.ServedOnDisk.{RunStart, RunEnd, recovered_line}
+
+-- a worker between two calls, with its disk, its source and its outlet
+pub record Scene (D S O : Type 0) : Type 0 where
+  pub worker : DurableValue
+  pub disk : D
+  pub source : S
+  pub outlet : O
+
+abbrev pub scene : {D S O : Type 0} → DurableValue → D → S → O → Scene D S O
+scene worker disk source outlet = record {
+  worker = worker;
+  disk = disk;
+  source = source;
+  outlet = outlet;
+}
+
+-- Slices lead from there to there by all of these steps, whichever process the worker showed.
+abbrev pub SlicesLeadOn : {D S O : Type 0} → Giving S → Taking O → Scene D S O → ℕ → Scene D S O
+    → Type 0
+SlicesLeadOn gives takes from steps to =
+    (guest : Guest) (p : ProcessState) → ShowsProcess from.worker.process guest p
+    → SlicesLead gives takes guest p from.source to.source from.outlet to.outlet steps
+    to.worker.process
+
+-- Calls from there on, whose slices of this fuel may take so many steps, have failed so.
+abbrev pub BreaksOffAt : {D S O : Type 0} → Giving S → Taking O → ℕ → ℕ → Scene D S O
+    → WorkFault → S → O → Type 0
+BreaksOffAt gives takes fuel all from why source outlet =
+    BreaksOffFrom gives takes from.worker.process fuel all why from.source source from.outlet
+    outlet
+
+-- nothing is left to be done, or there was this error
+abbrev pub undone_after : Result Now WorkFault → Result (List Act) RecoverFault
+undone_after (Ok now) = Ok []
+undone_after (Err why) = Err (recover.Worker why)
+
+-- the steps that can still be counted
+abbrev pub steps_left : DurableValue → ℕ
+steps_left w = 2 ^ 63 - w.process.steps
+
+module _ {D S O : Type 0} (medium : D → Medium) (gives : Giving S) (takes : Taking O) where
+  -- These acts are done in order, from there to there, or up to the first error.
+  abbrev pub AreCalled : List Act → Scene D S O → Result (List Act) RecoverFault → D → S → O
+      → Type 0
+  AreCalled acts from undone disk source outlet =
+      CallsInOrder medium gives takes acts from.worker from.disk from.source from.outlet undone disk
+      source outlet
+
+  -- These acts lead from there to there: whatever is done then is done after them. Their last slice
+  -- has answered this; where there is none, it is that the worker goes on.
+  pub record ActsLead (acts : List Act) (from : Scene D S O) (said : Now) (to : Scene D S O)
+      : Type 0 where
+    pub behind : (rest : List Act) (undone : Result (List Act) RecoverFault) (disk : D) (source : S)
+        (outlet : O) → AreCalled rest to undone disk source outlet
+        → AreCalled (acts ++ rest) from undone disk source outlet
+    pub says : (rest : List Act) (undone : Result (List Act) RecoverFault) (disk : D) (source : S)
+        (outlet : O) (done : AreCalled rest to undone disk source outlet)
+        → outcome_after now.Spent (behind rest undone disk source outlet done)
+        ≡ outcome_after said done
+
+  -- At most so many slices of this fuel, with a checkpoint after them. The last one has answered
+  -- this. They are just as many where its fuel is spent, and have taken all of their steps. No
+  -- question was refused, and no line.
+  pub record IsRound (fuel every : ℕ) (from : Scene D S O) (why : Now) (to : Scene D S O)
+      : Type 0 where
+    pub count : ℕ
+    pub some : 1 ≤ count
+    pub within : count ≤ every
+    pub whole : why ≡ now.Spent → count ≡ every
+    pub heard : AsksUnless gives ⊥ from.source to.source
+    pub taken : TakesEach takes from.outlet to.outlet
+    pub leads : ActsLead (round_of fuel count) from why to
+    pub spent : why ≡ now.Spent
+        → SlicesLeadOn gives takes from (steps_among (round_of fuel count)) to
+
+  -- One within which there was an error. No question was refused, unless it is the source's, and no
+  -- line, unless it is the outlet's.
+  pub record IsBrokenRound (fuel every : ℕ) (from : Scene D S O) (why : WorkFault) (disk : D)
+      (source : S) (outlet : O) : Type 0 where
+    pub count : ℕ
+    pub some : 1 ≤ count
+    pub within : count ≤ every
+    pub heard : AsksUnless gives (IsOfSource (Err (recover.Worker why))) from.source source
+    pub heeded : HeedsOutlet takes (IsOutletFault (recover.Worker why)) from.outlet outlet
+    pub done : AreCalled (round_of fuel count) from (Err (recover.Worker why)) disk source outlet
+    pub broken : BreaksOffAt gives takes fuel (steps_among (round_of fuel count)) from why source
+        outlet
+
+  -- All that a worker is told at this pace is done, and the last slice has answered this; or it is
+  -- done up to this error. No question was refused, unless that is the source's, and no line,
+  -- unless it is the outlet's.
+  pub record LivesAtPace (fuel every : ℕ) (from : Scene D S O) (result : Result Now WorkFault)
+      (disk : D) (source : S) (outlet : O) : Type 0 where
+    pub acts : List Act
+    pub paced : IsPaced fuel every acts
+    pub heard : AsksUnless gives (IsOfSource (undone_after result)) from.source source
+    pub heeded : HeedsOutlet takes (SaysOutletFault (undone_after result)) from.outlet outlet
+    pub done : AreCalled acts from (undone_after result) disk source outlet
+    pub says : IfOk result (λ told. outcome_after now.Spent done ≡ told)
+    pub broken : IfErr result (λ why. BreaksOffAt gives takes fuel (steps_among acts) from why
+        source outlet)
+
+-- a checkpoint of a worker whose slice has answered this
+abbrev pub IsRested : Now → Result Now WorkFault → DurableValue → DurableValue → Medium → Medium
+    → Type 0
+IsRested why (Ok told) old new disk disk' = (told ≡ why)
+    × CheckpointCarries old (Ok tt) new disk disk' × (new.process ≡ old.process)
+IsRested why (Err fault) old new disk disk' = CheckpointCarries old (Err fault) new disk disk'
+    × CheckpointFails old disk disk' fault × HasCheckpointCause old disk disk' fault
+
+-- An open worker has lived at its pace, on answers of a source that begins after the requests that
+-- it has taken. It is over, as its last slice has answered, and the source has handed out so many
+-- requests in all. Or an error is told.
+abbrev pub HasGoneOn : {D O : Type 0} → (D → Medium) → Taking O → DiskJob → DurableValue → D → D
+    → O → O → Bool → ℕ → Result Now OnDiskFault → Type 0
+HasGoneOn medium takes given w disk disk' outlet outlet' failed' taken' (Ok why) =
+    (source' : SourceState) × (why ≢ now.Spent) × (source'.failed ≡ failed')
+    × (source'.taken ≡ taken') × LivesAtPace medium handing takes given.fuel given.every
+    (scene w disk (source_behind given w) outlet) (Ok why) disk' source' outlet'
+HasGoneOn medium takes given w disk disk' outlet outlet' failed' taken' (Err told) =
+    (source' : SourceState) × (why : WorkFault) × IsReportedOnDisk why source'.fault told
+    × (source'.failed ≡ failed') × LivesAtPace medium handing takes given.fuel given.every
+    (scene w disk (source_behind given w) outlet) (Err why) disk' source' outlet'
+
+-- What is said of a worker that has gone on so, with so many requests: its last words, where a
+-- person may read along, or its error.
+abbrev pub SaysGone : Bool → ℕ → Result Now OnDiskFault → PrinterState → ℕ → PrinterState
+    → Type 0
+SaysGone heard taken (Ok why) old status new =
+    SaysText (over_words heard (ended_by why) taken) 0 old status new
+SaysGone heard taken (Err told) old status new = IsSaid (status_on_disk told) old status new
+
+-- A person is told that this worker is recovered, where one reads along. It is open on the disk,
+-- and goes on. Then that is said of it.
+abbrev pub RunsOpen : {D O : Type 0} → (D → Medium) → Taking O → DurableValue → RunStart D O
+    → RunEnd D O → ℕ → Type 0
+RunsOpen medium takes w before after status =
+    (between : PrinterState) × (gone : Result Now OnDiskFault) × (taken : ℕ)
+    × TellsPerson (recovered_line w) before.err between
+    × HasGoneOn medium takes before.given w before.disk after.disk before.outlet after.outlet
+    after.failed taken gone × SaysGone before.err.on_terminal taken gone between status after.err

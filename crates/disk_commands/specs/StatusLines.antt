@@ -1,0 +1,46 @@
+-- The parts of a status line, in the order in which they are read.
+use Rattle.std.specs.Prelude.{◌≡◌, ◌<◌, ◌^◌, ℕ, List, ◌∷◌, ◌++◌, Option, IfSome, codes}
+use Rattle.std.specs.Fmt.{decimal}
+use Rattle.ephemeral_worker.specs.declared.now.Now.{Now}
+use Rattle.wasm_syntax.specs.declared.value.Trap.{Trap}
+use Rattle.command_words.specs.rules.Texts.{trap_text}
+use Rattle.disk_commands.specs.rules.Watchings.{HasCodeInRange, state_words, watch_words}
+
+-- a name, this number of 64 bits, a space, and the rest
+abbrev pub IsBehindNumber : List ℕ → ℕ → List ℕ → List ℕ → Type 0
+IsBehindNumber name n bytes rest = (n < 2 ^ 64) × (bytes ≡ name ++ (decimal n ++ 32 ∷ rest))
+
+-- the four numbers, and the rest
+pub record IsBehindNumbers (bytes rest : List ℕ) : Type 0 where
+  pub generation : ℕ
+  pub steps : ℕ
+  pub answers : ℕ
+  pub lines : ℕ
+  pub behind_generation : List ℕ
+  pub behind_steps : List ℕ
+  pub behind_answers : List ℕ
+  pub first : IsBehindNumber (codes "generation ") generation bytes behind_generation
+  pub second : IsBehindNumber (codes "steps ") steps behind_generation behind_steps
+  pub third : IsBehindNumber (codes "answers ") answers behind_steps behind_answers
+  pub last : IsBehindNumber (codes "lines ") lines behind_answers rest
+
+-- the words of a worker that has exited
+abbrev pub IsExitWords : List ℕ → Type 0
+IsExitWords words = (code : ℕ) × (code < 2 ^ 32)
+    × (words ≡ codes "exited " ++ decimal code ++ codes "\n")
+
+-- those of one that has trapped
+abbrev pub IsTrapWords : List ℕ → Type 0
+IsTrapWords words = (why : Trap) × (words ≡ codes "trapped " ++ trap_text why ++ codes "\n")
+
+-- those of one that runs on or is over
+abbrev pub IsWatchWords : List ℕ → Type 0
+IsWatchWords words = (said : Now) × HasCodeInRange said × (words ≡ watch_words said)
+
+-- such words, or the number of its requests and such words
+pub record IsStateWords (words : List ℕ) : Type 0 where
+  pub requests : Option ℕ
+  pub said : Now
+  pub requests_fit : IfSome requests (λ n. n < 2 ^ 64)
+  pub code_fits : HasCodeInRange said
+  pub spelled : words ≡ state_words requests said

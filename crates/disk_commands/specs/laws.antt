@@ -1,0 +1,3 @@
+pub mod DiskCauses
+pub mod Answered
+pub mod Released

@@ -1,0 +1,62 @@
+-- A worker that is created on a disk by a command (this project's own).
+use Rattle.std.specs.Prelude.{◌≡◌, ◌⊎◌, ℕ, ◌<◌, List, ◌++◌, Option, codes}
+use Rattle.std.specs.Prelude.{Result, Ok}
+use Rattle.std.specs.Fmt.{decimal}
+use Rattle.std.specs.Io.KnownBytes.{Appends}
+use Rattle.wasi_abi.specs.rules.Configs.{Settings}
+use Rattle.machine_loader.specs.rules.Acceptance.{HasNoAcceptedModule}
+use Rattle.sector_disk.specs.rules.Medium.{Medium, spare}
+use Rattle.disk_layout.specs.rules.Unsynced.{most_unsynced}
+use Rattle.worker.specs.declared.fault.WorkFault.{WorkFault}
+use Rattle.worker.specs.rules.DurableCreations.{CreationCalls, CreationKeeps, IsCreatedOn}
+use Rattle.worker.specs.rules.DurableCreations.{places_for}
+use Rattle.worker.specs.rules.DurableValues.{DurableValue}
+use Rattle.command_words.specs.declared.telling.Obstacle.TheVariants.{Unwritten}
+use Rattle.command_words.specs.rules.Printers.{PrinterState, HeedsBoth}
+use Rattle.command_words.specs.rules.Reports.{SaysLine, obstacle_words}
+use Rattle.command_words.specs.rules.Preparations.{disk_sectors}
+
+-- the line that a creation prints
+abbrev pub created_line : ℕ → List ℕ
+created_line sectors = codes "created " ++ decimal sectors ++ codes " sectors\n"
+
+-- The worker of these bytes and this configuration is created on the disk, and how many sectors it
+-- has was printed.
+pub record IsCreatedAndPrinted (bytes : List ℕ) (config : Settings)
+    (answer : Result DurableValue WorkFault) (disk : Medium) (out out' : Option (List ℕ))
+    : Type 0 where
+  pub worker : DurableValue
+  pub answered : answer ≡ Ok worker
+  pub created : IsCreatedOn bytes config worker disk
+  pub told : Appends out out' (created_line (disk_sectors config bytes))
+
+-- the module isn't accepted, or the disk has too few sectors
+abbrev pub IsCreationRefused : List ℕ → Settings → Medium → Type 0
+IsCreationRefused bytes config disk = HasNoAcceptedModule config.pages bytes
+    ⊎ (disk.sectors < disk_sectors config bytes)
+
+-- the disk has failed, or it surely takes too few writes between two syncs
+abbrev pub HasDiskFailed : List ℕ → Settings → Medium → Medium → Type 0
+HasDiskFailed bytes config old new = (spare old ≡ 0)
+    ⊎ (old.room < most_unsynced (places_for config bytes)) ⊎ (old.faults < new.faults)
+
+-- 0: the worker is created. 3: it is refused. 4: the disk failed. 5: there is no memory. A refused
+-- worker and out of memory leave the disk as it was. 7: a write of a printer has failed, and
+-- whether the worker was created isn't known. Whatever the status, nothing that was promised of a
+-- disk without a worker is lost, and a cut at any moment leaves no worker on it, or this one. The
+-- disk takes the calls of a creation and no other, in their order: the super comes last. Where the
+-- output can't be written, that is told on the error output.
+pub record CreatesOn {D : Type 0} (medium : D → Medium) (bytes : List ℕ) (config : Settings)
+    (old new : D) (out out' err err' : PrinterState) (status : ℕ) : Type 0 where
+  pub answer : Result DurableValue WorkFault
+  pub keeps : CreationKeeps bytes config answer (medium old) (medium new)
+  pub calls : CreationCalls bytes config answer (medium old) (medium new)
+  pub made : status ≡ 0
+      → IsCreatedAndPrinted bytes config answer (medium new) out.contents out'.contents
+  pub refused : status ≡ 3 → IsCreationRefused bytes config (medium old) × (new ≡ old)
+      × (out' ≡ out)
+  pub failed : status ≡ 4 → HasDiskFailed bytes config (medium old) (medium new) × (out' ≡ out)
+  pub starved : status ≡ 5 → (new ≡ old) × (out' ≡ out)
+  pub unwritten : status ≡ 7 → SaysLine (obstacle_words Unwritten) 7 err status err'
+  pub heeded : HeedsBoth out out' err err' status
+  pub known : (status ≡ 0) ⊎ (status ≡ 3) ⊎ (status ≡ 4) ⊎ (status ≡ 5) ⊎ (status ≡ 7)

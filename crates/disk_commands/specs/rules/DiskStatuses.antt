@@ -1,0 +1,74 @@
+-- What is told of a worker on its disk that isn't opened, or that fails, and the exit status that
+-- says it (this project's own).
+use Rattle.std.specs.Prelude.{◌≡◌, ◌⊎◌, ℕ, Option, Some, None, if◌then◌else◌}
+use Rattle.sector_disk.specs.declared.fault.DiskFault.{DiskFault}
+use Rattle.sector_disk.specs.declared.fault.DiskFault.TheVariants as disk
+use Rattle.record_replay.specs.declared.fault.ReplayFault.TheVariants as replay
+use Rattle.ephemeral_worker.specs.declared.fault.SliceFault.TheVariants as slice
+use Rattle.worker.specs.declared.fault.WorkFault.{WorkFault}
+use Rattle.worker.specs.declared.fault.WorkFault.TheVariants as work
+use Rattle.worker.specs.declared.recover_fault.RecoverFault.{RecoverFault}
+use Rattle.worker.specs.declared.recover_fault.RecoverFault.TheVariants as recover
+use Rattle.worker.specs.rules.RecoverFaults.{wants_memory}
+use Rattle.command_words.specs.declared.lines.fault.LineFault.{LineFault}
+use Rattle.command_words.specs.rules.Statuses.{status_of_line}
+use Rattle.disk_commands.specs.declared.on_disk.fault.OnDiskFault.{OnDiskFault}
+use Rattle.disk_commands.specs.declared.on_disk.fault.OnDiskFault.TheVariants as told
+use Rattle.ephemeral_worker.specs.declared.fault.SliceFault.{SliceFault}
+
+-- While it is opened, a fault of the disk is told as that, and any other one under the name of the
+-- layer that has found it.
+abbrev pub opening_fault : RecoverFault → OnDiskFault
+opening_fault (recover.Worker (work.Disk fault)) = told.Disk fault
+opening_fault other = told.Recovery other
+
+-- a fault of a call is told as it is
+abbrev pub call_fault : WorkFault → OnDiskFault
+call_fault fault = told.Call fault
+
+-- A fault of a call is told as it is; or, where it is the source's, as that of a line, where there
+-- is one.
+abbrev pub IsReportedOnDisk : WorkFault → Option LineFault → OnDiskFault → Type 0
+IsReportedOnDisk why found is =
+    ((is ≡ call_fault why) × (why ≡ work.Work slice.Source → found ≡ None))
+    ⊎ ((line : LineFault) × (why ≡ work.Work slice.Source) × (found ≡ Some line)
+    × (is ≡ told.Line line))
+
+-- ---- exit statuses
+
+-- a disk that failed before the worker was open
+abbrev pub status_of_disk : DiskFault → ℕ
+status_of_disk disk.Memory = 5
+status_of_disk other = 4
+
+-- the exit status of what a worker's call says
+abbrev pub status_of_work : SliceFault → ℕ
+status_of_work slice.Source = 4
+status_of_work slice.Outlet = 7
+status_of_work slice.Memory = 5
+status_of_work slice.Failed = 4
+status_of_work (slice.Refused why) = 3
+
+-- What a call of a worker on its disk says. What a store refuses is neither out of memory nor a
+-- fault of the disk. An upgrade may be refused before anything is asked of the disk.
+abbrev pub status_of_call : WorkFault → ℕ
+status_of_call (work.Work fault) = status_of_work fault
+status_of_call (work.Disk fault) = 4
+status_of_call (work.Store fault) = 3
+status_of_call (work.Upgrade fault) = 3
+
+-- A recovery that fails, but for a fault of the disk. What is on the disk is refused, or a layer
+-- wants memory, or the outlet has refused a line that is told once more.
+abbrev pub status_of_recovery : RecoverFault → ℕ
+status_of_recovery (recover.Worker fault) = status_of_call fault
+status_of_recovery (recover.Replay replay.Diverged) = 3
+status_of_recovery (recover.Replay replay.Memory) = 5
+status_of_recovery (recover.Replay replay.Outlet) = 7
+status_of_recovery other = if wants_memory other then 5 else 3
+
+-- all that is told, where that is printed
+abbrev pub status_on_disk : OnDiskFault → ℕ
+status_on_disk (told.Disk fault) = status_of_disk fault
+status_on_disk (told.Recovery fault) = status_of_recovery fault
+status_on_disk (told.Call fault) = status_of_call fault
+status_on_disk (told.Line fault) = status_of_line fault

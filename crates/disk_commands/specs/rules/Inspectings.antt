@@ -1,0 +1,172 @@
+-- What `wasmhost inspect` and `wasmhost files` say of a disk (this project's own).
+use Rattle.std.specs.Prelude.{◌≡◌, ◌⊎◌, ℕ, ◌*◌, Bool, List, [], ◌∷◌, ◌++◌, length, codes}
+use Rattle.std.specs.Prelude.{Option, Some, None, Result, Ok, Err, Vec, if◌then◌else◌, ◌==◌}
+use Rattle.std.specs.declared.alloc.Global.{Global}
+use Rattle.std.specs.Fmt.{decimal}
+use Rattle.std.specs.List.{flat_map}
+use Rattle.hex.specs.Hex.{encode_lower}
+use Rattle.sha2.specs.Sha256.{sha256}
+use Rattle.serde_json.specs.Data.{Data, string, object, no_members}
+use Rattle.serde_json.specs.Written.{compact_text}
+use Rattle.sector_disk.specs.rules.Medium.{Medium}
+use Rattle.file_tree.specs.declared.limits.TheConstants.{UNIT_BYTES}
+use Rattle.file_tree.specs.rules.Files.{Files}
+use Rattle.file_listing.specs.declared.fault.PathFault.{PathFault}
+use Rattle.file_listing.specs.declared.fault.PathFault.TheVariants as fault
+use Rattle.file_listing.specs.declared.listed.ListedNode.{ListedNode}
+use Rattle.file_listing.specs.rules.Listed.{listing_in, ReadsPath}
+use Rattle.wasi_abi.specs.declared.version.Version.{Version}
+use Rattle.wasi_abi.specs.rules.Versions.{version_number}
+use Rattle.disk_layout.specs.declared.reading.contents.Contents.{Contents}
+use Rattle.disk_layout.specs.declared.superblock.TheConstants.{LAYOUT}
+use Rattle.worker.specs.declared.inspection.Inspection.{Inspection}
+use Rattle.worker.specs.declared.recover_fault.RecoverFault.{RecoverFault}
+use Rattle.worker.specs.rules.Inspections.{Inspects}
+use Rattle.command_words.specs.rules.Printers.{PrinterState, IsSaid, SaysText}
+use Rattle.disk_commands.specs.rules.DiskStatuses.{opening_fault, status_on_disk}
+use Rattle.disk_commands.specs.rules.InspectionTexts.{number_fact, text_fact, settings_facts}
+use Rattle.disk_commands.specs.rules.InspectionTexts.{snapshot_facts, host_facts}
+use Rattle.disk_commands.specs.rules.InspectionTexts.{journal_facts}
+use Rattle.disk_commands.specs.rules.InspectionValues.{Member, number_data, put_all}
+use Rattle.disk_commands.specs.rules.InspectionValues.{settings_members, snapshot_members}
+use Rattle.disk_commands.specs.rules.InspectionValues.{host_members, journal_members}
+use Rattle.disk_commands.specs.rules.ProcessTexts.{process_facts}
+use Rattle.disk_commands.specs.rules.ProcessValues.{process_members}
+
+-- ---- the facts of a disk
+
+-- the layout of the disk, the version of its worker, and the module's length and digest
+abbrev pub module_facts : Version → List ℕ → List ℕ
+module_facts version wasm =
+    number_fact (codes "layout") LAYOUT
+    ++ number_fact (codes "version") (version_number version)
+    ++ number_fact (codes "module") (length wasm)
+    ++ text_fact (codes "digest") (encode_lower (sha256 wasm))
+
+-- these, and the configuration
+abbrev pub contents_facts : Version → Contents → List ℕ
+contents_facts version contents =
+    module_facts version contents.wasm ++ settings_facts contents.config
+
+-- all that is told of a disk
+abbrev pub inspection_text : Inspection → List ℕ
+inspection_text told =
+    contents_facts told.process.host.host.version told.contents
+    ++ snapshot_facts told.generation told.process_image_bytes
+    ++ process_facts told.process told.question
+    ++ host_facts (told.contents.config.files * UNIT_BYTES) told.process.host.host
+    ++ journal_facts told.records.items told.journal_left
+
+-- ---- the same as one value
+
+-- the layout of the disk, the version of its worker, and the module's length and digest
+abbrev pub module_members : Version → List ℕ → List Member
+module_members version wasm =
+    (codes "layout", number_data LAYOUT)
+    ∷ (codes "version", number_data (version_number version))
+    ∷ (codes "module", number_data (length wasm))
+    ∷ (codes "digest", string (encode_lower (sha256 wasm))) ∷ []
+
+-- these, and the configuration
+abbrev pub contents_members : Version → Contents → List Member
+contents_members version contents =
+    module_members version contents.wasm ++ settings_members contents.config
+
+-- all that is told of a disk
+abbrev pub inspection_members : Inspection → List Member
+inspection_members told =
+    contents_members told.process.host.host.version told.contents
+    ++ snapshot_members told.generation told.process_image_bytes
+    ++ process_members told.process told.question
+    ++ host_members (told.contents.config.files * UNIT_BYTES) told.process.host.host
+    ++ journal_members told.records.items told.journal_left
+
+-- one object of these members
+abbrev pub inspection_data : Inspection → Data
+inspection_data told = object (put_all (inspection_members told) no_members)
+
+-- what is printed: the text of that value on a line, or one fact a line
+abbrev pub inspection_words : Bool → Inspection → List ℕ
+inspection_words as_json told =
+    if as_json then compact_text (inspection_data told) ++ codes "\n" else inspection_text told
+
+-- ---- its files
+
+-- a listed node: whether it is a directory or a file, a file's size, and its path
+abbrev pub node_line : ListedNode → List ℕ
+node_line node = if node.is_directory then codes "d " ++ node.path ++ codes "\n"
+    else codes "f " ++ decimal node.size ++ codes " " ++ node.path ++ codes "\n"
+
+-- all of them, one a line
+abbrev pub listing_text : Files → List ℕ
+listing_text fs = flat_map node_line (listing_in fs)
+
+-- a path without a `/` in front, as it is listed
+abbrev pub listed_path : List ℕ → List ℕ
+listed_path [] = []
+listed_path (byte ∷ path) = if byte == 47 then path else byte ∷ path
+
+-- ---- what is said
+
+-- The text is printed, and nothing on the error output. Or there is no memory for it: that is told
+-- there, and nothing is printed.
+abbrev pub SaysOrWants : List ℕ → PrinterState → PrinterState → PrinterState → PrinterState → ℕ
+    → Type 0
+SaysOrWants text out out' err err' status =
+    (SaysText text 0 out status out' × (err' ≡ err)) ⊎ (IsSaid 5 err status err' × (out' ≡ out))
+
+-- 3 for a path that isn't that of a file, and 5 for out of memory
+abbrev pub status_of_path : PathFault → ℕ
+status_of_path fault.Memory = 5
+status_of_path other = 3
+
+-- The bytes of the file are written, and nothing on the error output. Or it is told there why none
+-- are.
+abbrev pub SaysFile : Result (Vec ℕ Global) PathFault → PrinterState → PrinterState → PrinterState
+    → PrinterState → ℕ → Type 0
+SaysFile (Ok bytes) out out' err err' status =
+    SaysText bytes.items 0 out status out' × (err' ≡ err)
+SaysFile (Err why) out out' err err' status =
+    IsSaid (status_of_path why) err status err' × (out' ≡ out)
+
+-- all files are listed, or the one at this path is written, which may have a `/` in front
+abbrev pub SaysFiles : Files → Option (List ℕ) → PrinterState → PrinterState → PrinterState
+    → PrinterState → ℕ → Type 0
+SaysFiles fs None out out' err err' status = SaysOrWants (listing_text fs) out out' err err' status
+SaysFiles fs (Some path) out out' err err' status =
+    (read : Result (Vec ℕ Global) PathFault) × ReadsPath fs (listed_path path) read
+    × SaysFile read out out' err err' status
+
+-- Of a fault of the disk the status is told on the error output, and nothing is printed.
+abbrev pub SaysRefusal : RecoverFault → PrinterState → PrinterState → PrinterState → PrinterState
+    → ℕ → Type 0
+SaysRefusal why out out' err err' status =
+    IsSaid (status_on_disk (opening_fault why)) err status err' × (out' ≡ out)
+
+-- what is said of a disk that was inspected
+abbrev pub SaysInspected : Bool → Result Inspection RecoverFault → PrinterState → PrinterState
+    → PrinterState → PrinterState → ℕ → Type 0
+SaysInspected as_json (Ok told) out out' err err' status =
+    SaysOrWants (inspection_words as_json told) out out' err err' status
+SaysInspected as_json (Err why) out out' err err' status = SaysRefusal why out out' err err' status
+
+-- what is said of its files
+abbrev pub SaysListed : Option (List ℕ) → Result Inspection RecoverFault → PrinterState
+    → PrinterState → PrinterState → PrinterState → ℕ → Type 0
+SaysListed path (Ok told) out out' err err' status =
+    SaysFiles told.process.host.host.files path out out' err err' status
+SaysListed path (Err why) out out' err err' status = SaysRefusal why out out' err err' status
+
+-- The disk was inspected, and the facts that it holds are said.
+pub record TellsDisk (as_json : Bool) (disk disk' : Medium) (out out' err err' : PrinterState)
+    (status : ℕ) : Type 0 where
+  pub result : Result Inspection RecoverFault
+  pub inspects : Inspects result disk disk'
+  pub says : SaysInspected as_json result out out' err err' status
+
+-- The disk was inspected, and the files of the saved process are said.
+pub record TellsFiles (path : Option (List ℕ)) (disk disk' : Medium)
+    (out out' err err' : PrinterState) (status : ℕ) : Type 0 where
+  pub result : Result Inspection RecoverFault
+  pub inspects : Inspects result disk disk'
+  pub says : SaysListed path result out out' err err' status

@@ -1,0 +1,47 @@
+-- What a run says of its input after its last words (this project's own).
+use Rattle.std.specs.Prelude.{◌≡◌, ◌≢◌, ◌⊎◌, ℕ, ◌<◌, List, ◌++◌, Option, codes}
+use Rattle.wasi_abi.specs.declared.version.Version.{Version}
+use Rattle.wasi_abi.specs.rules.Versions.{text_limit}
+use Rattle.command_words.specs.declared.lines.flaw.LineFlaw.{LineFlaw}
+use Rattle.command_words.specs.rules.Flaws.{flaw_line}
+use Rattle.command_words.specs.rules.Later.{CountsLater}
+use Rattle.command_words.specs.rules.Pieces.{lines_of}
+use Rattle.command_words.specs.rules.Printers.{PrinterState, SaysText, TellsPerson}
+use Rattle.command_words.specs.rules.Texts.{named_number}
+
+-- where the refused line is
+abbrev pub place_line : ℕ → List ℕ
+place_line number = named_number (codes "at input line ") number ++ codes "\n"
+
+-- how many lines were passed over
+abbrev pub skipped_line : ℕ → List ℕ
+skipped_line count = named_number (codes "skipped ") count ++ codes "\n"
+
+-- A person is told how many lines were passed over, where there are any.
+abbrev pub TellsSkipped : ℕ → PrinterState → PrinterState → Type 0
+TellsSkipped count old new =
+    ((count ≡ 0) × (new ≡ old)) ⊎ ((0 < count) × TellsPerson (skipped_line count) old new)
+
+-- how many requests nobody took
+abbrev pub untaken_line : ℕ → List ℕ
+untaken_line count = named_number (codes "requests not taken: ") count ++ codes "\n"
+
+-- The requests among the bytes that were read ahead are counted, but for those that were taken
+-- before. A text has so many bytes at most. Their number is said, where there are any.
+abbrev pub SaysUntaken : ℕ → ℕ → List ℕ → PrinterState → ℕ → PrinterState → Type 0
+SaysUntaken limit taken ahead old answered new =
+    (count : ℕ) × CountsLater limit taken (lines_of ahead) count
+    × (((count ≡ 0) × (answered ≡ 0) × (new ≡ old))
+    ⊎ ((0 < count) × SaysText (untaken_line count) 0 old answered new))
+
+-- 6: a line was refused, and its number is told, and what is wrong with it, if something is. 0: the
+-- worker is over or waits. Lines that were passed over are counted, and so are the requests that are
+-- left. Of another status nothing more is said.
+pub record SaysOfInput (version : Version) (taken : ℕ) (ahead : List ℕ) (line skipped : ℕ)
+    (flaw : Option LineFlaw) (status : ℕ) (old : PrinterState) (answered : ℕ) (new : PrinterState)
+    : Type 0 where
+  pub refused : status ≡ 6
+      → SaysText (place_line line ++ flaw_line version flaw) 6 old answered new
+  pub over : status ≡ 0 → (between : PrinterState) × TellsSkipped skipped old between
+      × SaysUntaken (text_limit version) taken ahead between answered new
+  pub others : status ≢ 6 → status ≢ 0 → (answered ≡ status) × (new ≡ old)

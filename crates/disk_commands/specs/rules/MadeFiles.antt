@@ -1,0 +1,106 @@
+-- A disk that is made for a worker, in a new file or on a device (this project's own).
+use Rattle.std.specs.Prelude.{◌≡◌, ◌≢◌, ◌⊎◌, ℕ, Bool, true, false, List, IsTrue, Some, codes}
+use Rattle.std.specs.declared.io.ErrorKind.{ErrorKind}
+use Rattle.sector_disk.specs.declared.file.FileDisk.{FileDisk}
+use Rattle.sector_disk.specs.declared.open_fault.OpenFault.{OpenFault}
+use Rattle.sector_disk.specs.rules.File.{file_medium, file_of}
+use Rattle.sector_disk.specs.rules.Open.{IsUnmade}
+use Rattle.wasi_abi.specs.rules.Configs.{Settings}
+use Rattle.wasm_decode.specs.declared.items.limit.PassedLimit.{PassedLimit}
+use Rattle.machine_loader.specs.declared.fault.ModuleFault.{ModuleFault}
+use Rattle.command_words.specs.declared.bounds.Bound.{Bound}
+use Rattle.command_words.specs.declared.preparing.Prepared.{Prepared}
+use Rattle.command_words.specs.declared.preparing.Unprepared.{Unprepared}
+use Rattle.command_words.specs.declared.preparing.Unprepared.TheVariants as unprepared
+use Rattle.command_words.specs.rules.Bounds.{range_words}
+use Rattle.command_words.specs.rules.Commands.{CreateMeaning}
+use Rattle.command_words.specs.rules.Preparations.{IsPreparedAs, IsUnprepared}
+use Rattle.command_words.specs.rules.Preparations.{config_as, passed_by, status_unprepared}
+use Rattle.command_words.specs.rules.Entries.{entry_text}
+use Rattle.command_words.specs.rules.ModuleLimits.{SaysLimit}
+use Rattle.command_words.specs.rules.Printers.{PrinterState, IsSaid, SaysText}
+use Rattle.command_words.specs.rules.Reports.{SaysLine}
+use Rattle.command_words.specs.rules.Verdicts.{SaysMore}
+use Rattle.disk_commands.specs.rules.Creations.{CreatesOn}
+use Rattle.disk_commands.specs.rules.Openings.{IsUntouched, open_words}
+
+-- The disk was made, of as many sectors as are needed, and the worker is created on it. Where the
+-- status isn't 0, its file was removed again.
+pub record IsCreatedInFile (F : Type 0) (removed : Bool) (bytes : List ℕ) (prepared : Prepared)
+    (out out' err err' : PrinterState) (status : ℕ) : Type 0 where
+  pub disk : FileDisk F
+  pub disk' : FileDisk F
+  pub untouched : IsUntouched disk
+  pub sectors : (file_medium disk).sectors ≡ prepared.sectors
+  pub creates : CreatesOn file_medium bytes prepared.config disk disk' out out' err err' status
+  pub removes : status ≢ 0 → IsTrue removed
+
+-- No file is made at this path, or none is left, and it is said why. Or one is made, and the worker
+-- created on it.
+abbrev pub CreatesFile : (F : Type 0) → (ErrorKind → Bool) → Bool → Bool → List ℕ → List ℕ
+    → Prepared → PrinterState → PrinterState → PrinterState → PrinterState → ℕ → Type 0
+CreatesFile F refused made removed path bytes prepared out out' err err' status =
+    ((why : OpenFault) × IsUnmade refused made removed prepared.sectors why
+    × SaysLine (open_words path why) 4 err status err' × (out' ≡ out))
+    ⊎ IsCreatedInFile F removed bytes prepared out out' err err' status
+
+-- ---- on a device
+
+-- The disk is on such a device, of as many sectors as are needed, and the worker is created on it.
+pub record IsCreatedOnDevice {F : Type 0} (is_device : F → Bool) (bytes : List ℕ)
+    (prepared : Prepared) (out out' err err' : PrinterState) (status : ℕ) : Type 0 where
+  pub disk : FileDisk F
+  pub disk' : FileDisk F
+  pub device : IsTrue (is_device (file_of disk))
+  pub untouched : IsUntouched disk
+  pub sectors : (file_medium disk).sectors ≡ prepared.sectors
+  pub creates : CreatesOn file_medium bytes prepared.config disk disk' out out' err err' status
+
+-- It is said why the path can't be taken. Or the worker is created on the device that it names.
+abbrev pub CreatesOnDevice : {F : Type 0} → (F → Bool) → List ℕ → List ℕ → Prepared
+    → PrinterState → PrinterState → PrinterState → PrinterState → ℕ → Type 0
+CreatesOnDevice is_device path bytes prepared out out' err err' status =
+    ((why : OpenFault) × SaysLine (open_words path why) 4 err status err' × (out' ≡ out))
+    ⊎ IsCreatedOnDevice is_device bytes prepared out out' err err' status
+
+-- ---- as the words say
+
+-- the settings that the words say
+abbrev pub settings_said : CreateMeaning → Settings
+settings_said said = config_as
+    (record { pages = said.pages; files = said.files; journal = said.journal })
+    said.arguments said.environment
+
+-- It is said why no worker of these bytes is created: by the bounds of what is out of them, by
+-- the entry that has no name, by a limit that the module passes, by what else is known of it, or
+-- else by the status.
+pub record SaysUnprepared (bytes : List ℕ) (why : Unprepared) (old : PrinterState) (answered : ℕ)
+    (new : PrinterState) : Type 0 where
+  pub range : (bound : Bound) → why ≡ unprepared.Range bound
+      → SaysLine (range_words bound) 3 old answered new
+  pub entry : (number : ℕ) → why ≡ unprepared.Text (Some number)
+      → SaysText (entry_text number) 3 old answered new
+  pub limit : (passed : PassedLimit) → passed_by why ≡ Some passed
+      → SaysLimit bytes (codes "failed") passed 3 old answered new
+  pub more : (fault : ModuleFault) → why ≡ unprepared.Module fault → SaysMore bytes fault new
+  pub status : IsSaid (status_unprepared why) old answered new
+
+module _ (F : Type 0) (is_device : F → Bool) (refused : ErrorKind → Bool) (made removed : Bool)
+  where
+    -- The disk is a device that is there, where the words ask for one, and a new file where not.
+    abbrev pub MakesDisk : Bool → List ℕ → List ℕ → Prepared → PrinterState → PrinterState
+        → PrinterState → PrinterState → ℕ → Type 0
+    MakesDisk true path bytes prepared out out' err err' status =
+        CreatesOnDevice is_device path bytes prepared out out' err err' status
+    MakesDisk false path bytes prepared out out' err err' status =
+        CreatesFile F refused made removed path bytes prepared out out' err err' status
+
+    -- It is said why the settings or the module keep a worker from being created, and nothing is
+    -- made. Or a worker of these settings is created on the disk of the words.
+    abbrev pub CreatesDisk : CreateMeaning → List ℕ → PrinterState → PrinterState → PrinterState
+        → PrinterState → ℕ → Type 0
+    CreatesDisk said bytes out out' err err' status =
+        ((why : Unprepared) × IsUnprepared (settings_said said) bytes why
+        × SaysUnprepared bytes why err status err' × (out' ≡ out))
+        ⊎ ((prepared : Prepared) × IsPreparedAs (settings_said said) bytes prepared
+        × MakesDisk said.on_device said.disk bytes prepared out out' err err' status)

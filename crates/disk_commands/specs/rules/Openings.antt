@@ -1,0 +1,85 @@
+-- A disk in a file as a command opens it, or why there is none (this project's own).
+use Rattle.std.specs.Prelude.{◌≡◌, ◌≢◌, ◌⊎◌, ◌++◌, List, [], ℕ, Bool, true, false, codes}
+use Rattle.std.specs.declared.io.ErrorKind.{ErrorKind}
+use Rattle.std.specs.declared.io.ErrorKind.TheVariants.{OutOfMemory}
+use Rattle.sector_disk.specs.declared.file.FileDisk.{FileDisk}
+use Rattle.sector_disk.specs.declared.open_fault.OpenCause.{OpenCause}
+use Rattle.sector_disk.specs.declared.open_fault.OpenCause.TheVariants as cause
+use Rattle.sector_disk.specs.declared.open_fault.OpenFault.{OpenFault}
+use Rattle.sector_disk.specs.declared.open_fault.OpenFault.TheVariants as opening
+use Rattle.sector_disk.specs.rules.Calls.{synced_writes}
+use Rattle.sector_disk.specs.rules.File.{answers_of, file_medium}
+use Rattle.sector_disk.specs.rules.Medium.{IsAllSynced}
+use Rattle.sector_disk.specs.rules.Open.{open_cause}
+use Rattle.sector_disk.specs.rules.Rewrite.{AddsNothing}
+use Rattle.command_words.specs.rules.Printers.{PrinterState}
+use Rattle.command_words.specs.rules.Reports.{SaysLine, obstacle_words}
+use Rattle.command_words.specs.declared.telling.Obstacle.TheVariants.{Memory, Unread}
+use Rattle.disk_commands.specs.rules.Showings.{ShowsDisk}
+
+-- what the operating system says of a path, in the words of its library
+abbrev pub cause_words : OpenCause → List ℕ
+cause_words cause.Folder = codes "is a directory"
+cause_words cause.NoFolder = codes "not a directory"
+cause_words cause.Missing = codes "no such file or directory"
+cause_words cause.Forbidden = codes "permission denied"
+cause_words cause.ReadOnly = codes "read-only file system"
+cause_words cause.Exists = codes "file exists"
+cause_words cause.NoRoom = codes "no space left on device"
+cause_words cause.Quota = codes "disk quota exceeded"
+cause_words cause.TooLarge = codes "file too large"
+cause_words cause.LongName = codes "file name too long"
+cause_words cause.Loop = codes "too many levels of symbolic links"
+cause_words cause.NoDevice = codes "block device required"
+cause_words cause.Other = codes "the system failed"
+
+-- The fault, and on a line of its own the path and what the operating system says of it, or that
+-- another host has it.
+abbrev pub open_words : List ℕ → OpenFault → List ℕ
+open_words path opening.Busy =
+    codes "failed K5 Busy\n" ++ path ++ codes ": another host is using this disk"
+open_words path (opening.Io cause) =
+    codes "failed K2 Io\n" ++ path ++ codes ": " ++ cause_words cause
+
+-- A file can't be read, for an error of this kind. Want of memory is told as that, and any other
+-- error by the path and the cause.
+abbrev pub SaysUnread : List ℕ → ErrorKind → PrinterState → ℕ → PrinterState → Type 0
+SaysUnread path kind old status new =
+    ((kind ≡ OutOfMemory) × SaysLine (obstacle_words Memory) 5 old status new)
+    ⊎ ((kind ≢ OutOfMemory)
+    × SaysLine (open_words path (opening.Io (open_cause kind))) 4 old status new)
+
+-- ---- the disk of a command
+
+-- It is said why the file isn't opened, or that the disk failed before a command began with it. The
+-- status is 4, or 7 where a write has failed.
+abbrev pub SaysUnopened : List ℕ → PrinterState → ℕ → PrinterState → Type 0
+SaysUnopened path old status new =
+    ((why : OpenFault) × SaysLine (open_words path why) 4 old status new)
+    ⊎ SaysLine (obstacle_words Unread) 4 old status new
+
+module _ {F : Type 0} where
+  -- no call of its file was made since it was opened
+  abbrev pub IsUntouched : FileDisk F → Type 0
+  IsUntouched disk = answers_of disk ≡ []
+
+  -- Since it was opened each sector was written back, in rising order, and then synced once. Reads
+  -- give what they gave.
+  pub record IsWrittenBack (opened disk : FileDisk F) : Type 0 where
+    pub untouched : IsUntouched opened
+    pub adds_nothing : AddsNothing (file_medium opened) (file_medium disk)
+    pub all_synced : IsAllSynced (file_medium disk)
+    pub calls : (file_medium disk).calls ≡ synced_writes 0 (file_medium disk).sectors
+
+  -- It is written back where that was asked for, and untouched where it wasn't.
+  abbrev pub IsOpenedFor : Bool → FileDisk F → Type 0
+  IsOpenedFor true disk = (opened : FileDisk F) × IsWrittenBack opened disk
+  IsOpenedFor false disk = IsUntouched disk
+
+-- A disk in a file was opened, and nothing was done with it but to show it. Or none was opened.
+abbrev pub ShowsFile : (F : Type 0) → List ℕ → PrinterState → PrinterState → PrinterState
+    → PrinterState → ℕ → Type 0
+ShowsFile F path out out' err err' status =
+    ((disk : FileDisk F) × (disk' : FileDisk F) × IsUntouched disk
+    × ShowsDisk (file_medium disk) (file_medium disk') out out' err err' status)
+    ⊎ (SaysUnopened path err status err' × (out' ≡ out))

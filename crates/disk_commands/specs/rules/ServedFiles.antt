@@ -1,0 +1,126 @@
+-- A disk in a file whose worker goes on, as the words say (this project's own).
+use Rattle.std.specs.Prelude.{◌≡◌, ◌⊎◌, ℕ, Bool, List, Option, Some, None, Result, Ok, Err}
+use Rattle.std.specs.Prelude.{option_map}
+use Rattle.std.specs.Int.NonZero.{non_zero_u64_get}
+use Rattle.sector_disk.specs.declared.file.FileDisk.{FileDisk}
+use Rattle.sector_disk.specs.rules.File.{file_medium}
+use Rattle.sector_disk.specs.rules.Medium.{Medium}
+use Rattle.wasi_abi.specs.declared.version.Version.{Version}
+use Rattle.record_replay.specs.rules.Calls.{Taking}
+use Rattle.command_words.specs.declared.lines.flaw.LineFlaw.{LineFlaw}
+use Rattle.command_words.specs.rules.Commands.{RunMeaning}
+use Rattle.command_words.specs.rules.Printers.{PrinterState, read_along}
+use Rattle.command_words.specs.rules.Prints.{printing}
+use Rattle.command_words.specs.rules.Reports.{SaysOnOutput}
+use Rattle.disk_commands.specs.declared.on_disk.found_file.FoundFile.{FoundFile}
+use Rattle.disk_commands.specs.declared.on_disk.running.RunJob.{RunJob}
+use Rattle.disk_commands.specs.declared.on_disk.upgrading.Upgraded.{Upgraded}
+use Rattle.disk_commands.specs.rules.Leavings.{SaysOfInput}
+use Rattle.disk_commands.specs.rules.Openings.{IsOpenedFor, IsUntouched, SaysUnopened}
+use Rattle.disk_commands.specs.rules.StatusFiles.{SaysUnwatched}
+use Rattle.disk_commands.specs.rules.Refusals.{HeedsRefusal}
+use Rattle.disk_commands.specs.rules.SeedFiles.{IsSeedFrom, SaysSeedless}
+use Rattle.disk_commands.specs.rules.ServedOnDisk.{DiskJob, ServesOnDisk, disk_job}
+use Rattle.disk_commands.specs.rules.ServedOnDisk.{RunStart, run_start, run_end}
+use Rattle.disk_commands.specs.rules.Upgradings.{UpgradesOnDisk, status_so_far}
+use Rattle.disk_commands.specs.rules.Upgradings.{upgraded_words}
+
+-- ---- a run
+
+-- the path of the status file of a job
+abbrev pub named_status : RunJob → Option (List ℕ)
+named_status job = option_map (λ text. text.now) job.status
+
+-- The job is that of the words: their fuel, their pace, their clock or the machine's, the seed that
+-- they spell or that is in their file, and their status file.
+pub record IsJobOf (said : RunMeaning) (job : RunJob) : Type 0 where
+  pub fuel : non_zero_u64_get job.pace.fuel ≡ said.fuel
+  pub every : non_zero_u64_get job.pace.every ≡ said.every
+  pub clock : job.outside.clock ≡ said.clock
+  pub seed : IsSeedFrom said.seed_file said.seed job.outside.seed
+  pub status : named_status job ≡ said.status
+
+-- what such a run is given, with the lines of a reader, and whether a read of it has failed
+abbrev pub job_given : RunJob → Option (List ℕ) → Bool → DiskJob
+job_given job lines failed = disk_job (non_zero_u64_get job.pace.fuel)
+    (non_zero_u64_get job.pace.every) lines job.outside failed
+
+module _ {D O : Type 0} (medium : D → Medium) (takes : Taking O) (before : RunStart D O)
+    (disk' : D) (outlet' : O) (err' : PrinterState) (status : ℕ) where
+  -- The worker is served. Then it is said what is left of the input.
+  pub record ServesToEnd : Type 0 where
+    pub failed' : Bool
+    pub between : PrinterState
+    pub served : ℕ
+    pub serves : ServesOnDisk medium takes before (run_end disk' outlet' between failed') served
+    pub heeds : HeedsRefusal takes before.outlet outlet' between served
+    pub version : Version
+    pub taken : ℕ
+    pub ahead : List ℕ
+    pub line : ℕ
+    pub skipped : ℕ
+    pub flaw : Option LineFlaw
+    pub says : SaysOfInput version taken ahead line skipped flaw served between status err'
+
+-- It is said why there is no status file at this path, if one is named: by what was found there or
+-- beside it, or by an error of the system.
+abbrev pub SaysNoStatusFile : Option (List ℕ) → PrinterState → ℕ → PrinterState → Type 0
+SaysNoStatusFile (Some path) err status err' =
+    (has_found : List ℕ → FoundFile → Bool) × SaysUnwatched has_found path err status err'
+SaysNoStatusFile None err status err' = ⊥
+
+-- It is said why there is no status file, and nothing else is done. Or the worker is served.
+abbrev pub RunsJob : {D O : Type 0} → (D → Medium) → Taking O → Option (List ℕ) → RunStart D O
+    → D → O → PrinterState → ℕ → Type 0
+RunsJob medium takes path before disk' outlet' err' status =
+    (SaysNoStatusFile path before.err status err' × (disk' ≡ before.disk)
+    × (outlet' ≡ before.outlet))
+    ⊎ ServesToEnd medium takes before disk' outlet' err' status
+
+-- It is said why the seed or the disk keeps it from running, and no line is released. Or the disk
+-- was opened as the words say, and their job is done on it. Where they ask for it the error output is
+-- told what a person is told.
+pub data RunsFile (F : Type 0) {O : Type 0} (takes : Taking O) (said : RunMeaning)
+    (lines : Option (List ℕ)) (failed : Bool) (outlet outlet' : O) (err err' : PrinterState)
+    (status : ℕ) : Type 0 where
+  seedless : SaysSeedless said.seed_file said.seed err status err' → outlet' ≡ outlet
+      → RunsFile F takes said lines failed outlet outlet' err err' status
+  unopened : SaysUnopened said.disk err status err' → outlet' ≡ outlet
+      → RunsFile F takes said lines failed outlet outlet' err err' status
+  opened : (job : RunJob) → IsJobOf said job → (disk : FileDisk F) (disk' : FileDisk F)
+      → IsOpenedFor said.rewrites disk → RunsJob file_medium takes said.status
+      (run_start (job_given job lines failed) disk outlet (read_along said.is_verbose err)) disk'
+      outlet' err' status
+      → RunsFile F takes said lines failed outlet outlet' err err' status
+
+-- ---- an upgrade
+
+-- Of a worker that is of version 2 that is said on the output. Else the status is that of the
+-- error, and nothing more is said.
+abbrev pub SaysUpgraded : Result Upgraded ℕ → PrinterState → PrinterState → PrinterState
+    → PrinterState → ℕ → Type 0
+SaysUpgraded (Ok upgraded) out out' err err' status =
+    SaysOnOutput (upgraded_words upgraded) 0 out out' err err' status
+SaysUpgraded (Err fault) out out' err err' status =
+    (status ≡ fault) × (out' ≡ out) × (err' ≡ err)
+
+-- The disk was opened, and not written back. Its worker was brought to version 2, with its lines on
+-- the output, or that has failed. Then the result is said.
+pub record UpgradesOpened (F : Type 0) (out out' err err' : PrinterState) (status : ℕ)
+    : Type 0 where
+  pub disk : FileDisk F
+  pub disk' : FileDisk F
+  pub untouched : IsUntouched disk
+  pub upgraded : Result Upgraded ℕ
+  pub told : PrinterState
+  pub between : PrinterState
+  pub upgrades : UpgradesOnDisk file_medium printing upgraded disk disk' out told err between
+  pub heeds : HeedsRefusal printing out told between (status_so_far upgraded)
+  pub says : SaysUpgraded upgraded told out' between err' status
+
+-- So it was. Or none was opened.
+abbrev pub UpgradesFile : (F : Type 0) → List ℕ → PrinterState → PrinterState → PrinterState
+    → PrinterState → ℕ → Type 0
+UpgradesFile F path out out' err err' status =
+    UpgradesOpened F out out' err err' status
+    ⊎ (SaysUnopened path err status err' × (out' ≡ out))

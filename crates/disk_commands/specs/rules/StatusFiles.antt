@@ -1,0 +1,67 @@
+-- What a status file may take the place of (this project's own).
+use Rattle.std.specs.Prelude.{◌≡◌, ◌⊎◌, ℕ, Bool, IsTrue, List, [], ◌++◌, codes}
+use Rattle.std.specs.declared.io.ErrorKind.{ErrorKind}
+use Rattle.command_words.specs.rules.Printers.{PrinterState}
+use Rattle.command_words.specs.rules.Reports.{SaysLine}
+use Rattle.disk_commands.specs.declared.on_disk.found_file.FoundFile.{FoundFile}
+use Rattle.disk_commands.specs.declared.on_disk.found_file.FoundFile.TheVariants as found
+use Rattle.disk_commands.specs.rules.Openings.{SaysUnread}
+use Rattle.disk_commands.specs.rules.Watchings.{IsStatusLine}
+
+-- a regular file that is empty, or that has a status line and nothing else
+abbrev pub IsStatusFile : FoundFile → Type 0
+IsStatusFile found.Missing = ⊥
+IsStatusFile (found.Regular bytes) = (bytes.items ≡ []) ⊎ IsStatusLine bytes.items
+IsStatusFile found.Locked = ⊥
+IsStatusFile found.Link = ⊥
+IsStatusFile found.Folder = ⊥
+IsStatusFile found.Special = ⊥
+
+-- Nothing is there, or a status file is.
+abbrev pub IsFreePath : FoundFile → Type 0
+IsFreePath here = (here ≡ found.Missing) ⊎ IsStatusFile here
+
+-- what a path is told to be
+abbrev pub found_words : FoundFile → List ℕ
+found_words found.Missing = codes "no such file or directory"
+found_words (found.Regular bytes) = codes "has other bytes than a status line"
+found_words found.Locked = codes "is locked"
+found_words found.Link = codes "is a symbolic link"
+found_words found.Folder = codes "is a directory"
+found_words found.Special = codes "isn't a regular file"
+
+-- ---- looking at a path
+
+-- A status file was found there.
+abbrev pub HasFoundStatusFile : (FoundFile → Bool) → Type 0
+HasFoundStatusFile has_found = (here : FoundFile) × IsTrue (has_found here) × IsStatusFile here
+
+-- It was found free.
+abbrev pub HasFoundFree : (FoundFile → Bool) → Type 0
+HasFoundFree has_found = (here : FoundFile) × IsTrue (has_found here) × IsFreePath here
+
+-- It is said why a status file can't have this path: by what was found there, or by an error of the
+-- system.
+abbrev pub SaysTaken : (FoundFile → Bool) → List ℕ → PrinterState → ℕ → PrinterState → Type 0
+SaysTaken has_found path old status new =
+    ((here : FoundFile) × IsTrue (has_found here) × (IsFreePath here → ⊥)
+    × SaysLine (codes "failed K2 Io\n" ++ path ++ codes ": " ++ found_words here) 4 old status new)
+    ⊎ ((kind : ErrorKind) × SaysUnread path kind old status new)
+
+-- where a line is written before it gets its path
+abbrev pub beside : List ℕ → List ℕ
+beside path = path ++ codes ".new"
+
+-- Both paths of a status file were found free. A new file was made at the one beside, and removed.
+abbrev pub IsWatchable : (List ℕ → FoundFile → Bool) → (List ℕ → Bool) → (List ℕ → Bool) → List ℕ
+    → Type 0
+IsWatchable has_found has_made has_removed path =
+    HasFoundFree (has_found path) × HasFoundFree (has_found (beside path))
+    × IsTrue (has_made (beside path)) × IsTrue (has_removed (beside path))
+
+-- It is said of one of them why it can't be had.
+abbrev pub SaysUnwatched : (List ℕ → FoundFile → Bool) → List ℕ → PrinterState → ℕ
+    → PrinterState → Type 0
+SaysUnwatched has_found path old status new =
+    SaysTaken (has_found path) path old status new
+    ⊎ SaysTaken (has_found (beside path)) (beside path) old status new

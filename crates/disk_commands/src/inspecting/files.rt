@@ -1,0 +1,161 @@
+//! `wasmhost files`.
+
+ghost use Rattle.std.specs.Prelude.{◌≡◌, ◌≤◌, IfOk, OnOk, Some, None, Ok, Err, option_map};
+ghost use Rattle.std.specs.List.{flat_map};
+ghost use Rattle.std.specs.Io.KnownBytes.{Appends};
+ghost use Rattle.command_words.specs.rules.Printers.{IsSaid};
+ghost use Rattle.disk_commands.specs.rules.Inspectings.{SaysFile, SaysFiles, TellsFiles};
+ghost use Rattle.disk_commands.specs.rules.Inspectings.{listed_path, listing_text, node_line};
+ghost use Rattle.disk_commands.specs.rules.Inspectings.{status_of_path};
+
+use crate::on_disk::{OnDiskFault, say_disk_fault};
+use command_words::status::{NO_MEMORY, REFUSED, UNWRITTEN};
+use command_words::{Obstacle, Printer, report, say_text};
+use file_listing::{ListedNode, PathFault, list_nodes, read_path};
+use file_tree::Tree;
+use sector_disk::Disk;
+use std::alloc::Global;
+use std::io::{self, Write};
+use worker::inspect;
+
+/// Spells a listed node.
+fn spell_node<W: Write>(out: &mut W, node: &ListedNode) -> io::Result<()>
+    ensures { OnOk result (Appends (W.contents out.old) (W.contents out.new)
+        (node_line node.now)) }
+{
+    if node.is_directory {
+        out.write_all(b"d ")?;
+    } else {
+        write!(out, "f {} ", node.size)?;
+    }
+    out.write_all(node.path.as_slice())?;
+    out.write_all(b"\n")
+}
+
+/// Spells listed nodes, one a line.
+fn spell_nodes<W: Write>(out: &mut W, nodes: &[ListedNode]) -> io::Result<()>
+    ensures { OnOk result (Appends (W.contents out.old) (W.contents out.new)
+        (flat_map node_line nodes.now)) }
+{
+    for node in nodes {
+        spell_node(out, node)?;
+    }
+    Ok(())
+}
+
+/// The text of a tree's list.
+fn text_of(alloc: Global, tree: &Tree) -> io::Result<Vec<u8>>
+    ensures { IfOk result (λ text. text.items ≡ listing_text tree.now) }
+{
+    let nodes = list_nodes(alloc, tree)?;
+    let mut text = Vec::new(alloc);
+    spell_nodes(&mut text, nodes.as_slice())?;
+    Ok(text)
+}
+
+/// Lists the files of a tree. Answers the exit status.
+fn say_list<W: Write + Drop, E: Write + Drop>(
+    alloc: Global,
+    tree: &Tree,
+    out: &mut Printer<W>,
+    err: &mut Printer<E>,
+) -> u8
+    ensures says { SaysFiles tree.now None out.old out.new err.old err.new result }
+    ensures known { result ≤ 7 }
+{
+    match text_of(alloc, tree) {
+        Ok(text) => say_text(out, text.as_slice()),
+        Err(_) => report(err, Obstacle::Memory),
+    }
+}
+
+/// The exit status of a path that isn't that of a file.
+fn status_of_path(fault: PathFault) -> u8
+    ensures { result ≡ status_of_path fault }
+{
+    match fault {
+        PathFault::Memory => NO_MEMORY,
+        PathFault::Missing | PathFault::Directory => REFUSED,
+    }
+}
+
+/// Says why there are no bytes under a path. Answers the exit status.
+fn say_path_fault<E: Write + Drop>(err: &mut Printer<E>, fault: PathFault) -> u8
+    ensures said { IsSaid (status_of_path fault) err.old result err.new }
+    ensures known { result ≤ 7 }
+{
+    match writeln!(err, "failed {fault}") {
+        Ok(()) => status_of_path(fault),
+        Err(_) => UNWRITTEN,
+    }
+}
+
+/// A path without a `/` in front, as it is listed.
+fn listed_path(path: &[u8]) -> &[u8]
+    ensures { result.now ≡ listed_path path.now }
+{
+    match path {
+        [b'/', listed @ ..] => listed,
+        _ => path,
+    }
+}
+
+/// Writes the file under a path, which may have a `/` in front. Answers the exit status.
+fn say_file<W: Write + Drop, E: Write + Drop>(
+    alloc: Global,
+    tree: &Tree,
+    path: &[u8],
+    out: &mut Printer<W>,
+    err: &mut Printer<E>,
+) -> u8
+    ensures says { SaysFiles tree.now (Some path.now) out.old out.new err.old err.new result }
+    ensures known { result ≤ 7 }
+{
+    match read_path(alloc, tree, listed_path(path)) {
+        Ok(bytes) => say_text(out, bytes.as_slice()),
+        Err(fault) => say_path_fault(err, fault),
+    }
+}
+
+/// Lists the files of a tree, or writes the one under a path. Answers the exit status.
+fn say_files<W: Write + Drop, E: Write + Drop>(
+    alloc: Global,
+    tree: &Tree,
+    path: Option<&str>,
+    out: &mut Printer<W>,
+    err: &mut Printer<E>,
+) -> u8
+    ensures says { SaysFiles tree.now (option_map (λ text. text.now) path.entry) out.old out.new
+        err.old err.new result }
+    ensures known { result ≤ 7 }
+{
+    match path {
+        Some(path) => say_file(alloc, tree, path.as_bytes(), out, err),
+        None => say_list(alloc, tree, out, err),
+    }
+}
+
+/// Lists the files of the process that was saved last on a worker's disk, or writes the one under a
+/// path. Nothing is changed on the disk, but that it is synced. Answers the exit status: 0 where
+/// they are listed or written, 3 for a disk that is refused or a path that isn't that of a file, 4
+/// where the disk fails, 5 for out of memory, 7 where a write of a printer has failed.
+pub fn list_files<D: Disk, W: Write + Drop, E: Write + Drop>(
+    alloc: Global,
+    disk: &mut D,
+    path: Option<&str>,
+    out: &mut Printer<W>,
+    err: &mut Printer<E>,
+) -> u8
+    ensures tells { TellsFiles (option_map (λ text. text.now) path.entry) (D.medium disk.old)
+        (D.medium disk.new) out.old out.new err.old err.new result }
+    ensures known { result ≤ 7 }
+{
+    match inspect(alloc, disk) {
+        Ok(told) => {
+            let status = say_files(alloc, told.process.host().tree(), path, out, err);
+            drop(told);
+            status
+        }
+        Err(fault) => say_disk_fault(err, OnDiskFault::from(fault)),
+    }
+}

@@ -1,0 +1,68 @@
+//! The commands on a worker's disk: it is created, run, upgraded, shown and inspected (this
+//! project's own). A command works on bytes, disks, readers and writers that are lent to it, and
+//! answers the exit status. What it says itself, and what it reads, is of `command_words`.
+//!
+//! ```text
+//! let status = show_file(alloc, rt, "worker.disk", &mut Printer::new(out, false), &mut err);
+//! ```
+//!
+//! # Promises
+//!
+//! Each is in full at the head of the module that has the function. `docs/PROMISES.md` has them with
+//! their clauses.
+//!
+//! - `create_disk`, `create_file`, `create_device`, `create_on`: 0 only if the worker is created and
+//!   `created N sectors` printed. Where the status isn't 0, a file that was made is removed again.
+//! - `run_file`, `serve`: all that is done of a worker is one life that goes on, in slices of the
+//!   fuel and checkpoints of the pace. Each status has its cause, and the last words are true.
+//! - `upgrade_file`, `upgrade_worker`: one life without an answer, and an upgrade in it; 0 only if
+//!   the worker is in version 2.
+//! - `show_file`, `inspect_file`, `files_file`: what the disk shows is printed whole, or what keeps
+//!   it from that is told. The disk is only synced.
+//! - `Watcher`, `StatusFile`, `status_file_of`: who is told where the worker is. No file is touched
+//!   but one that was found free.
+//! - `report_input`, `report_open`, `report_unread`: what is wrong with an input, and why a file
+//!   can't be had.
+//! - `laws`: what statuses come from, which answers come from the lines, and that such calls are a
+//!   life that goes on.
+//!
+//! # Definitions to read
+//!
+//! In `specs/rules/`: `last_words`, `next_line` (`LastWords.antt`); `AsksUnless` (`Hearings.antt`);
+//! `CreatesOn` (`Creations.antt`); `CreatesFile`, `CreatesOnDevice`, `CreatesDisk`
+//! (`MadeFiles.antt`); `SaysOfInput` (`Leavings.antt`); `ShowsDisk`, `ShowsSurvey`, `survey_line`
+//! (`Showings.antt`); `open_words`, `IsOpenedFor`, `ShowsFile` (`Openings.antt`); `watch_line`,
+//! `IsDue`, `IsStatusLine`, `WatchesEnd` (`Watchings.antt`); `IsFreePath`, `IsStatusFile`,
+//! `SaysUnwatched` (`StatusFiles.antt`); `inspection_text`, `inspection_data`, `listing_text`,
+//! `TellsDisk`, `TellsFiles` (`Inspectings.antt`), with their lines in `InspectionTexts.antt` and
+//! `ProcessTexts.antt`, and the members of the JSON value in `InspectionValues.antt` and
+//! `ProcessValues.antt`; `TellsFile`, `TellsFilesOf` (`LookedFiles.antt`); `RunStart`, `RunEnd`,
+//! `ServesOnDisk`, `LivesOnDisk`, `HasOutcome`, `HasBrokenOff`, `source_behind`
+//! (`ServedOnDisk.antt`); `RunsFile`, `IsJobOf`, `UpgradesFile` (`ServedFiles.antt`); `BreaksOff`,
+//! `LeavesNoLine`, `TellsItsLines` (`BrokenLives.antt`); `HeedsRefusal` (`Refusals.antt`);
+//! `UpgradesOnDisk`, `LivesToUpgrade`, `HasRunOn`, `HasFailedAt`, `IsOfCaughtUp`
+//! (`Upgradings.antt`); `IsPaced` (`Paces.antt`); `status_on_disk`, `opening_fault`,
+//! `IsReportedOnDisk` (`DiskStatuses.antt`).
+//! In `specs/laws/`, what the laws say: `SaysOnDisk`, `HasToldItsLines` (`DiskCauses.antt`);
+//! `AreOfLines` (`Answered.antt`); `SevenIsAFailedWrite` (`Released.antt`).
+//!
+//! # Who may touch what
+//!
+//! `wasmhost` calls this crate. It uses `worker`, and `command_words` for all that is read and
+//! said. A disk is lent to each call of a worker on it. Beside these only `open_disk`,
+//! `create_file` and `create_device` touch one. They, `WatchedPaths` and `StatusFile` are the
+//! places here that open a file. A `StatusFile` also reads the machine's clock.
+#![tactic(auto)]
+
+mod inspecting;
+pub mod laws;
+mod on_disk;
+
+pub use inspecting::{inspect_disk, list_files};
+pub use on_disk::{
+    Drive, FoundFile, NewDisk, Pace, StatusFile, System, Upgraded, WatchedPaths, Watcher,
+    create_device, create_disk, create_file, create_on, files_file, inspect_file, open_disk,
+    report_input, report_open, report_unread, run_file, serve, show_file, status_file_of, survey,
+    upgrade_file, upgrade_worker,
+};
+pub use worker::Worker;

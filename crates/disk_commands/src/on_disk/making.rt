@@ -1,0 +1,201 @@
+//! `wasmhost create`, on a disk whose file is made for it, or on a device.
+//!
+//! # Promises
+//!
+//! - `create_on`: status 0 says that the worker of these bytes and this configuration is created on
+//!   the disk, at its start. `created N sectors` was printed then. What the other statuses say is
+//!   said too, and what a cut at any moment leaves (`creates`). Where the output can't be written,
+//!   that is told on the error output.
+//! - `create_file` is `create_on` of a disk whose file it makes. Where the status isn't 0 that file
+//!   is removed again, and no other one is (`CreatesFile`). `create_device` is `create_on` of a
+//!   block device that is there (`CreatesOnDevice`). `create_disk` does what the words of a
+//!   creation say: with their sizes, arguments and environment, on a device or in a new file
+//!   (`CreatesDisk`).
+//!
+//! # Choices
+//!
+//! - **A configuration and a module are looked at before the disk's file is made**, and once more
+//!   by the creation. That costs a second decoding, once in a worker's life.
+
+ghost use Rattle.std.specs.Prelude.{◌≡◌, ◌≤◌, IfErr, IfOk, true};
+ghost use Rattle.command_words.specs.rules.Commands.{create_said};
+ghost use Rattle.command_words.specs.rules.Preparations.{IsPreparedAs, IsUnprepared};
+ghost use Rattle.disk_commands.specs.rules.MadeFiles.{CreatesDisk, CreatesFile};
+ghost use Rattle.disk_commands.specs.rules.MadeFiles.{CreatesOnDevice, MakesDisk};
+ghost use Rattle.disk_commands.specs.rules.MadeFiles.{settings_said};
+
+use crate::on_disk::creation::create_on;
+use crate::on_disk::opening::report_open;
+use command_words::{
+    CreateOrder, Prepared, Printer, Sizes, Unprepared, prepare, report_unprepared,
+};
+use sector_disk::{DeviceFile, FileDisk, LockFile, NewFiles, SizeFile};
+use std::alloc::Global;
+use std::fs::OpenFile;
+use std::io::Write;
+use std::os::unix::fs::FileExt;
+use std::rt::Files;
+
+/// A disk that is to be made, and the worker that is to be created on it.
+#[derive(Clone, Copy)]
+pub struct NewDisk<'a> {
+    /// The path of its file, or of its device.
+    pub path: &'a str,
+    /// The bytes of the worker's module.
+    pub wasm: &'a [u8],
+    /// What the worker is created with.
+    pub prepared: &'a Prepared,
+}
+
+/// `wasmhost create` of a disk in a file: the file is made, and a worker created on it. Where that
+/// fails, the file is removed again. Returns the exit status.
+pub fn create_file<F, R, W, E>(
+    alloc: Global,
+    files: &R,
+    new: NewDisk<'_>,
+    out: &mut Printer<W>,
+    err: &mut Printer<E>,
+) -> u8
+where
+    F: OpenFile + FileExt + LockFile + SizeFile + Drop,
+    R: Files<File = F> + NewFiles,
+    W: Write + Drop,
+    E: Write + Drop,
+    ensures creates { CreatesFile F (R.has_refused files.now new.entry.path.now)
+        (R.has_made files.now new.entry.path.now) (R.has_removed files.now new.entry.path.now)
+        new.entry.path.now new.entry.wasm.now new.entry.prepared.now
+        out.old out.new err.old err.new result }
+    ensures known { result ≤ 7 }
+{
+    let NewDisk {
+        path,
+        wasm,
+        prepared,
+    } = new;
+    let mut disk = match FileDisk::create(files, path, prepared.sectors) {
+        Ok(disk) => disk,
+        Err(fault) => return report_open(err, path, fault),
+    };
+    let status = create_on(alloc, &mut disk, wasm, &prepared.config, out, err);
+    if status != 0 {
+        files.remove_new(path);
+    }
+    status
+}
+
+/// `wasmhost create --device`: a worker is created on a block device that is there. Nothing is made
+/// or removed. Returns the exit status.
+pub fn create_device<F, R, W, E>(
+    alloc: Global,
+    files: &R,
+    new: NewDisk<'_>,
+    out: &mut Printer<W>,
+    err: &mut Printer<E>,
+) -> u8
+where
+    F: OpenFile + FileExt + LockFile + SizeFile + DeviceFile + Drop,
+    R: Files<File = F>,
+    W: Write + Drop,
+    E: Write + Drop,
+    ensures creates { CreatesOnDevice (λ file. F.is_found_device file true) new.entry.path.now
+        new.entry.wasm.now new.entry.prepared.now out.old out.new err.old err.new result }
+    ensures known { result ≤ 7 }
+{
+    let NewDisk {
+        path,
+        wasm,
+        prepared,
+    } = new;
+    let mut disk = match FileDisk::create_on_device(files, path, prepared.sectors) {
+        Ok(disk) => disk,
+        Err(fault) => return report_open(err, path, fault),
+    };
+    create_on(alloc, &mut disk, wasm, &prepared.config, out, err)
+}
+
+/// A creation on a block device, where that is asked for, or in a new file. Returns the exit
+/// status.
+fn make_disk<F, R, W, E>(
+    alloc: Global,
+    files: &R,
+    new: NewDisk<'_>,
+    on_device: bool,
+    out: &mut Printer<W>,
+    err: &mut Printer<E>,
+) -> u8
+where
+    F: OpenFile + FileExt + LockFile + SizeFile + DeviceFile + Drop,
+    R: Files<File = F> + NewFiles,
+    W: Write + Drop,
+    E: Write + Drop,
+    ensures makes { MakesDisk F (λ file. F.is_found_device file true)
+        (R.has_refused files.now new.entry.path.now) (R.has_made files.now new.entry.path.now)
+        (R.has_removed files.now new.entry.path.now) on_device new.entry.path.now
+        new.entry.wasm.now new.entry.prepared.now out.old out.new err.old err.new result }
+    ensures known { result ≤ 7 }
+{
+    if on_device {
+        create_device(alloc, files, new, out, err)
+    } else {
+        create_file(alloc, files, new, out, err)
+    }
+}
+
+/// What a worker of these bytes is created with, as the words say.
+fn prepare_order(
+    alloc: Global,
+    order: &CreateOrder<'_>,
+    wasm: &[u8],
+) -> Result<Prepared, Unprepared>
+    ensures prepared { IfOk result (IsPreparedAs (settings_said (create_said order.now))
+        wasm.now) }
+    ensures refused { IfErr result (IsUnprepared (settings_said (create_said order.now))
+        wasm.now) }
+{
+    let sizes = Sizes {
+        pages: order.pages,
+        files: order.files,
+        journal: order.journal,
+    };
+    let arguments = order.arguments.as_slice();
+    let environment = order.environment.as_slice();
+    prepare(alloc, wasm, sizes, arguments, environment)
+}
+
+/// `wasmhost create` of a worker of the module that the bytes spell, as the words say: with their
+/// sizes, arguments and environment, on the device or in the new file that they name. Nothing is
+/// made for a configuration out of its limits and for a module that isn't accepted: that is told.
+/// Returns the exit status.
+pub fn create_disk<F, R, W, E>(
+    alloc: Global,
+    files: &R,
+    order: &CreateOrder<'_>,
+    wasm: &[u8],
+    out: &mut Printer<W>,
+    err: &mut Printer<E>,
+) -> u8
+where
+    F: OpenFile + FileExt + LockFile + SizeFile + DeviceFile + Drop,
+    R: Files<File = F> + NewFiles,
+    W: Write + Drop,
+    E: Write + Drop,
+    ensures creates { CreatesDisk F (λ file. F.is_found_device file true)
+        (R.has_refused files.now order.now.disk.now) (R.has_made files.now order.now.disk.now)
+        (R.has_removed files.now order.now.disk.now) (create_said order.now) wasm.now
+        out.old out.new err.old err.new result }
+    ensures known { result ≤ 7 }
+{
+    match prepare_order(alloc, order, wasm) {
+        Ok(prepared) => {
+            let new = NewDisk {
+                path: order.disk,
+                wasm,
+                prepared: &prepared,
+            };
+            let status = make_disk(alloc, files, new, order.on_device, out, err);
+            drop(prepared);
+            status
+        }
+        Err(fault) => report_unprepared(alloc, wasm, fault, err),
+    }
+}

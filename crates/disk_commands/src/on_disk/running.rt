@@ -1,0 +1,240 @@
+//! `wasmhost run` and `wasmhost upgrade` of a disk in a file, as the words say.
+//!
+//! # Choices
+//!
+//! - **What the words of a command say is handed over whole**, and one function makes the job of a
+//!   run of it (`job_of`). So the program has no number to pass, and each is in a clause.
+
+ghost use Rattle.std.specs.Prelude.{◌≤◌};
+ghost use Rattle.std.specs.Int.NonZero.{non_zero_u64_get};
+ghost use Rattle.std.specs.Io.Buffered.{reader_remaining};
+ghost use Rattle.command_words.specs.rules.Commands.{run_said};
+ghost use Rattle.disk_commands.specs.rules.ServedFiles.{IsJobOf, RunsFile};
+ghost use Rattle.disk_commands.specs.rules.ServedFiles.{RunsJob, ServesToEnd, UpgradesFile};
+ghost use Rattle.disk_commands.specs.rules.ServedFiles.{job_given, named_status};
+ghost use Rattle.disk_commands.specs.rules.SeedFiles.{IsSeedFrom};
+ghost use Rattle.disk_commands.specs.rules.ServedOnDisk.{disk_job, run_start};
+
+use crate::on_disk::disk_file::open_disk;
+use crate::on_disk::leaving::report_input;
+use crate::on_disk::living::Pace;
+use crate::on_disk::seed_file::seed_for;
+use crate::on_disk::serving::{Drive, serve};
+use crate::on_disk::status_file::status_file_of;
+use crate::on_disk::upgrading::{say_upgraded, upgrade_worker};
+use crate::on_disk::watching::Watcher;
+use command_words::{
+    BufferedLines, LineOutlet, Outside, Printer, RealTime, RequestSource, RunOrder,
+};
+use record_replay::Outlet;
+use sector_disk::{Disk, FileDisk, LockFile, SizeFile};
+use std::alloc::Global;
+use std::fs::OpenFile;
+use std::io::{BufReader, Read, Seek, Write};
+use std::os::unix::fs::FileExt;
+use std::rt::Files;
+use std::time::Clock;
+
+/// What the system lends a run.
+#[derive(Drop)]
+pub struct System<'a, R, I: Read + Drop, C: RealTime + Drop> {
+    /// Where the disk and the status file are, and the clock by which that file is written.
+    pub files: &'a R,
+    /// The lines of its input.
+    pub lines: BufferedLines<BufReader<I>>,
+    /// The machine's clock.
+    pub clock: C,
+}
+
+/// What the words say of a run whose disk is open.
+#[derive(Clone, Copy, Debug)]
+pub(crate) struct RunJob<'a> {
+    pub(crate) pace: Pace,
+    pub(crate) outside: Outside,
+    /// The path of the status file.
+    pub(crate) status: Option<&'a str>,
+}
+
+/// What the words say of a run, with their seed. No other place takes a number of theirs.
+fn job_of<'a>(order: &RunOrder<'a>, seed: [u8; 32]) -> RunJob<'a>
+    requires { IsSeedFrom (run_said order.now).seed_file (run_said order.now).seed seed }
+    ensures { IsJobOf (run_said order.now) result }
+{
+    RunJob {
+        pace: Pace {
+            fuel: order.fuel,
+            every: order.every,
+        },
+        outside: Outside {
+            seed,
+            clock: order.clock,
+        },
+        status: order.status,
+    }
+}
+
+/// The worker on a disk goes on, and then it is said what is left of its input. Answers the exit
+/// status.
+fn serve_to_end<D, I, C, O, E, T>(
+    alloc: Global,
+    disk: &mut D,
+    drive: Drive<'_, T>,
+    source: &mut RequestSource<BufferedLines<BufReader<I>>, C>,
+    outlet: &mut O,
+    err: &mut Printer<E>,
+) -> u8
+where
+    D: Disk,
+    I: Read + Drop,
+    C: RealTime + Drop,
+    O: Outlet,
+    E: Write + Drop,
+    T: Watcher,
+    ensures serves { ServesToEnd D.medium O.takes
+        (run_start (disk_job (non_zero_u64_get drive.entry.pace.fuel)
+        (non_zero_u64_get drive.entry.pace.every)
+        (reader_remaining I.remaining source.old.requests.reader.reader) source.old.outside
+        source.old.requests.reader.has_failed) disk.old outlet.old err.old)
+        disk.new outlet.new err.new result }
+    ensures known { result ≤ 7 }
+{
+    let status = serve(alloc, disk, drive, source, outlet, err);
+    report_input(source, status, err)
+}
+
+/// Does the job of a run on its disk: where a status file is named its paths must be free, and the
+/// worker goes on. Answers the exit status.
+fn run_job<D, F, R, I, C, O, E>(
+    alloc: Global,
+    disk: &mut D,
+    job: RunJob<'_>,
+    system: System<'_, R, I, C>,
+    outlet: &mut O,
+    err: &mut Printer<E>,
+) -> u8
+where
+    D: Disk,
+    F: LockFile + OpenFile + Read + Write + Seek + Drop,
+    R: Files<File = F> + Clock,
+    I: Read + Drop,
+    C: RealTime + Drop,
+    O: Outlet,
+    E: Write + Drop,
+    ensures runs { RunsJob D.medium O.takes (named_status job.entry)
+        (run_start (job_given job.entry
+        (reader_remaining I.remaining system.entry.lines.reader) system.entry.lines.has_failed)
+        disk.old outlet.old err.old) disk.new outlet.new err.new result }
+    ensures known { result ≤ 7 }
+{
+    let System {
+        files,
+        lines,
+        clock,
+    } = system;
+    match status_file_of(alloc, files, job.status, err) {
+        Ok(watcher) => {
+            let drive = Drive {
+                pace: job.pace,
+                watcher: &watcher,
+            };
+            let mut source = RequestSource::new(alloc, lines, clock, job.outside, 0);
+            let status = serve_to_end(alloc, disk, drive, &mut source, outlet, err);
+            drop(source);
+            drop(watcher);
+            status
+        }
+        Err(status) => status,
+    }
+}
+
+/// Does what the words say of a run, with this seed. The disk is opened, and written back where
+/// they ask for it. A status file that they name is made. Then the worker goes on, as `serve` says, and
+/// it is said what is left of the input. Returns the exit status.
+fn run_seeded<F, R, I, C, O, E>(
+    alloc: Global,
+    system: System<'_, R, I, C>,
+    order: &RunOrder<'_>,
+    seed: [u8; 32],
+    outlet: &mut O,
+    err: &mut Printer<E>,
+) -> u8
+where
+    F: OpenFile + FileExt + LockFile + SizeFile + Read + Write + Seek + Drop,
+    R: Files<File = F> + Clock,
+    I: Read + Drop,
+    C: RealTime + Drop,
+    O: Outlet,
+    E: Write + Drop,
+    requires { IsSeedFrom (run_said order.now).seed_file (run_said order.now).seed seed }
+    ensures runs { RunsFile F O.takes (run_said order.now)
+        (reader_remaining I.remaining system.entry.lines.reader) system.entry.lines.has_failed
+        outlet.old outlet.new err.old err.new result }
+    ensures known { result ≤ 7 }
+{
+    let job = job_of(order, seed);
+    match open_disk(system.files, order.disk, order.rewrites, err) {
+        Ok(mut disk) => {
+            err.read_along(order.is_verbose);
+            let status = run_job(alloc, &mut disk, job, system, outlet, err);
+            drop(disk);
+            status
+        }
+        Err(status) => status,
+    }
+}
+
+/// `wasmhost run` of the disk in a file, as the words say: with their fuel, their pace, their seed
+/// and their clock, or else the machine's. A seed that is none is told before the disk is opened.
+/// Returns the exit status.
+pub fn run_file<F, R, I, C, O, E>(
+    alloc: Global,
+    system: System<'_, R, I, C>,
+    order: &RunOrder<'_>,
+    outlet: &mut O,
+    err: &mut Printer<E>,
+) -> u8
+where
+    F: OpenFile + FileExt + LockFile + SizeFile + Read + Write + Seek + Drop,
+    R: Files<File = F> + Clock,
+    I: Read + Drop,
+    C: RealTime + Drop,
+    O: Outlet,
+    E: Write + Drop,
+    ensures runs { RunsFile F O.takes (run_said order.now)
+        (reader_remaining I.remaining system.entry.lines.reader) system.entry.lines.has_failed
+        outlet.old outlet.new err.old err.new result }
+    ensures known { result ≤ 7 }
+{
+    match seed_for(alloc, system.files, order, err) {
+        Ok(seed) => run_seeded(alloc, system, order, seed, outlet, err),
+        Err(status) => status,
+    }
+}
+
+/// `wasmhost upgrade` of the disk in a file: it is opened, and not written back. Its worker comes
+/// to version 2, as `upgrade_worker` says, and after its lines the outlet's writer gets the result.
+/// Returns the exit status.
+pub fn upgrade_file<F, R, W, E>(
+    alloc: Global,
+    files: &R,
+    path: &str,
+    outlet: &mut LineOutlet<W>,
+    err: &mut Printer<E>,
+) -> u8
+where
+    F: OpenFile + FileExt + LockFile + SizeFile + Drop,
+    R: Files<File = F>,
+    W: Write + Drop,
+    E: Write + Drop,
+    ensures upgrades { UpgradesFile F path.now outlet.old outlet.new err.old err.new result }
+    ensures known { result ≤ 7 }
+{
+    match open_disk(files, path, false, err) {
+        Ok(mut disk) => {
+            let upgraded = upgrade_worker(alloc, &mut disk, outlet, err);
+            drop(disk);
+            say_upgraded(upgraded, outlet, err)
+        }
+        Err(status) => status,
+    }
+}

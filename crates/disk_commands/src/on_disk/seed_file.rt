@@ -1,0 +1,149 @@
+//! The seed of a run: digits among its words, or a file with them.
+
+ghost use Rattle.std.specs.Prelude.{◌≡◌, ◌≤◌, ℕ, List, IfErr, IfOk, IfSome, IsNone, OnOk, Some};
+ghost use Rattle.std.specs.Prelude.{option_map};
+ghost use Rattle.command_words.specs.rules.Commands.{run_said};
+ghost use Rattle.command_words.specs.rules.Reports.{SaysLine, obstacle_words};
+ghost use Rattle.disk_commands.specs.rules.SeedFiles.{IsNoSeed, IsSeedFrom, IsSeedIn, IsSeedOf};
+ghost use Rattle.disk_commands.specs.rules.SeedFiles.{SaysSeedless, SaysSeedlessFile};
+ghost use Rattle.disk_commands.specs.rules.SeedFiles.{seedless_words};
+
+use crate::on_disk::opening::report_unread;
+use crate::on_disk::status_line::before_newline;
+use command_words::status::{REFUSED, UNWRITTEN};
+use command_words::{Obstacle, Printer, RunOrder, read_seed, report};
+use std::alloc::Global;
+use std::fs::{File, OpenFile};
+use std::io::{self, Read, Write};
+use std::rt::Files;
+
+/// As many bytes as a file with a seed may have, and one more, by which a longer file is known.
+const FRONT_BYTES: u64 = 66;
+
+/// The seed that the words give, or zeros, which anyone can foresee.
+fn seed_of(digits: Option<&str>) -> Option<[u8; 32]>
+    ensures spelled { IfSome result (IsSeedOf (option_map (λ text. text.now) digits.entry)) }
+    ensures none { IsNone result → IsNoSeed (option_map (λ text. text.now) digits.entry) }
+{
+    match digits {
+        Some(digits) => read_seed(digits),
+        None => Some([0; 32]),
+    }
+}
+
+/// The seed that a text spells.
+fn seed_of_text(text: &[u8]) -> Option<[u8; 32]>
+    ensures { IfSome result (IsSeedOf (Some text.now)) }
+{
+    match std::str::from_utf8(text) {
+        Ok(digits) => read_seed(digits),
+        Err(_) => None,
+    }
+}
+
+/// The seed that the bytes of a file are: its digits, and a newline or none.
+fn seed_in(bytes: &[u8]) -> Option<[u8; 32]>
+    ensures { IfSome result (IsSeedIn bytes.now) }
+{
+    match before_newline(bytes) {
+        Some(digits) => seed_of_text(digits),
+        None => seed_of_text(bytes),
+    }
+}
+
+/// The first bytes of a file.
+fn read_front<F, R>(alloc: Global, files: &R, path: &str) -> io::Result<Vec<u8>>
+where
+    F: OpenFile + Read + Drop,
+    R: Files<File = F>,
+{
+    let mut front = Vec::new(alloc);
+    File::open(files, path)?
+        .take(FRONT_BYTES)
+        .read_to_end(&mut front)?;
+    Ok(front)
+}
+
+/// Says that a file has no seed, and answers the exit status.
+fn say_seedless<E: Write + Drop>(err: &mut Printer<E>, path: &str) -> u8
+    ensures said { SaysLine (seedless_words path.now) 3 err.old result err.new }
+    ensures known { result ≤ 7 }
+{
+    match writeln!(err, "failed C2 Text\n{path}: isn't 64 hexadecimal digits") {
+        Ok(()) => REFUSED,
+        Err(_) => UNWRITTEN,
+    }
+}
+
+/// The seed in a file. Where there is none, that is said, and the error is the exit status.
+fn seed_of_file<F, R, E>(
+    alloc: Global,
+    files: &R,
+    path: &str,
+    err: &mut Printer<E>,
+) -> Result<[u8; 32], u8>
+where
+    F: OpenFile + Read + Drop,
+    R: Files<File = F>,
+    E: Write + Drop,
+    ensures spelled { IfOk result (λ seed. (bytes : List ℕ) × IsSeedIn bytes seed) }
+    ensures quiet { OnOk result (err.new ≡ err.old) }
+    ensures said { IfErr result (λ status.
+        SaysSeedlessFile path.now err.old status err.new) }
+    ensures known { IfErr result (λ status. status ≤ 7) }
+{
+    let front = match read_front(alloc, files, path) {
+        Ok(front) => front,
+        Err(error) => return Err(report_unread(err, path, error)),
+    };
+    match seed_in(front.as_slice()) {
+        Some(seed) => Ok(seed),
+        None => Err(say_seedless(err, path)),
+    }
+}
+
+/// The seed of digits, or zeros. Where there is none, that is said, and the error is the exit
+/// status.
+fn seed_of_words<E: Write + Drop>(
+    digits: Option<&str>,
+    err: &mut Printer<E>,
+) -> Result<[u8; 32], u8>
+    ensures spelled { IfOk result (IsSeedOf (option_map (λ text. text.now) digits.entry)) }
+    ensures quiet { OnOk result (err.new ≡ err.old) }
+    ensures said { IfErr result (λ status. IsNoSeed (option_map (λ text. text.now) digits.entry)
+        × SaysLine (obstacle_words Obstacle.NoSeed) 2 err.old status err.new) }
+    ensures known { IfErr result (λ status. status ≤ 7) }
+{
+    match seed_of(digits) {
+        Some(seed) => Ok(seed),
+        None => Err(report(err, Obstacle::NoSeed)),
+    }
+}
+
+/// The seed of a run, as its words say. Where there is none, that is said, and the error is the
+/// exit status.
+pub(super) fn seed_for<F, R, E>(
+    alloc: Global,
+    files: &R,
+    order: &RunOrder<'_>,
+    err: &mut Printer<E>,
+) -> Result<[u8; 32], u8>
+where
+    F: OpenFile + Read + Drop,
+    R: Files<File = F>,
+    E: Write + Drop,
+    ensures spelled { IfOk result (IsSeedFrom (run_said order.now).seed_file
+        (run_said order.now).seed) }
+    ensures quiet { OnOk result (err.new ≡ err.old) }
+    ensures said { IfErr result (λ status. SaysSeedless (run_said order.now).seed_file
+        (run_said order.now).seed err.old status err.new) }
+    ensures known { IfErr result (λ status. status ≤ 7) }
+{
+    let Some(path) = order.seed_file else {
+        return seed_of_words(order.seed, err);
+    };
+    if order.seed.is_some() {
+        return Err(report(err, Obstacle::TwoSeeds));
+    }
+    seed_of_file(alloc, files, path, err)
+}

@@ -1,0 +1,302 @@
+//! The file of `--status`: a small one with one line, where a worker on a disk is.
+//!
+//! # Promises
+//!
+//! - `status_file_of`: there is a status file only where both of its paths were found free. Else it
+//!   is said which one isn't, and why (`SaysUnwatched`). A path is free exactly where it is
+//!   missing, or a regular file that is empty or has one status line (`FoundFile::is_free`). By
+//!   `WatchedPaths` no other file is removed than one found to be such, or made by this run, and
+//!   only a path that was found free gets a new file. Where a line isn't put there, the new file
+//!   was removed again, or none was made (`left` of `StatusFile::put`).
+
+ghost use Rattle.std.specs.Prelude.{◌≡◌, ◌≤◌, ◌↔◌, ◌⊎◌, ◌++◌, IfErr, IfOk, IfSome, IsSome, IsTrue};
+ghost use Rattle.std.specs.Prelude.{OnOk, codes, string_bytes};
+ghost use Rattle.std.specs.IoError.{error_kind};
+ghost use Rattle.std.specs.Io.KnownBytes.{Appends};
+ghost use Rattle.ephemeral_worker.specs.declared.now.Now.TheVariants.{Spent};
+ghost use Rattle.command_words.specs.rules.Reports.{SaysLine};
+ghost use Rattle.disk_commands.specs.rules.StatusFiles.{HasFoundFree, IsFreePath, IsWatchable};
+ghost use Rattle.disk_commands.specs.rules.StatusFiles.{SaysTaken, SaysUnwatched, beside};
+ghost use Rattle.disk_commands.specs.rules.StatusFiles.{found_words};
+ghost use Rattle.disk_commands.specs.rules.Watchings.{IsDue, watch_line};
+
+use crate::on_disk::found_file::FoundFile;
+use crate::on_disk::opening::report_unread;
+use crate::on_disk::watched_paths::WatchedPaths;
+use crate::on_disk::watching::{Watcher, print_status};
+use command_words::status::{UNREAD, UNWRITTEN};
+use command_words::{Printer, nanoseconds_of};
+use ephemeral_worker::Now;
+use std::alloc::Global;
+use std::cell::Cell;
+use std::io::{self, Error, ErrorKind, Write};
+use std::time::Clock;
+use worker::Worker;
+
+/// Nanoseconds between two lines of a worker that runs on.
+const PAUSE: u64 = 500_000_000;
+
+/// Says what is at a path, which a status file can't have, and answers the exit status.
+fn say_taken<E: Write + Drop>(err: &mut Printer<E>, path: &str, here: &FoundFile) -> u8
+    ensures said { SaysLine (codes "failed K2 Io\n" ++ path.now ++ codes ": "
+        ++ found_words here.now) 4 err.old result err.new }
+    ensures known { result ≤ 7 }
+{
+    let words = here.words();
+    match writeln!(err, "failed K2 Io\n{path}: {words}") {
+        Ok(()) => UNREAD,
+        Err(_) => UNWRITTEN,
+    }
+}
+
+/// Looks at a path that a status file is to get. Where it can't have it, that is said, and the
+/// error is the exit status.
+fn look_at_free<R: WatchedPaths, E: Write + Drop>(
+    alloc: Global,
+    files: &R,
+    path: &str,
+    err: &mut Printer<E>,
+) -> Result<FoundFile, u8>
+    ensures found { IfOk result (λ here. IsTrue (R.has_found files.now path.now here)) }
+    ensures free { IfOk result IsFreePath }
+    ensures quiet { OnOk result (err.new ≡ err.old) }
+    ensures said { IfErr result (λ status.
+        SaysTaken (R.has_found files.now path.now) path.now err.old status err.new) }
+    ensures known { IfErr result (λ status. status ≤ 7) }
+{
+    let here = match files.look_at(alloc, path) {
+        Ok(here) => here,
+        Err(error) => return Err(report_unread(err, path, error)),
+    };
+    if !here.is_free() {
+        return Err(say_taken(err, path, &here));
+    }
+    Ok(here)
+}
+
+/// Makes a new file at a path that was found free, and removes it again. A status file that is
+/// there is removed first.
+fn try_new<R: WatchedPaths>(files: &R, path: &str, here: &FoundFile) -> io::Result<()>
+    requires found { IsTrue (R.has_found files.now path.now here.now) }
+    ensures made { OnOk result (IsTrue (R.has_made files.now path.now)) }
+    ensures removed { OnOk result (IsTrue (R.has_removed files.now path.now)) }
+{
+    if here.is_status_file() {
+        files.remove_status_file(path)?;
+    }
+    drop(files.make_new(path)?);
+    files.remove_new(path);
+    Ok(())
+}
+
+/// Makes sure that a new file can be made at a path, where a status file is removed. Else it is said
+/// why not, and the error is the exit status.
+fn clear_beside<R: WatchedPaths, E: Write + Drop>(
+    alloc: Global,
+    files: &R,
+    path: &str,
+    err: &mut Printer<E>,
+) -> Result<(), u8>
+    ensures free { OnOk result (HasFoundFree (R.has_found files.now path.now)
+        × IsTrue (R.has_made files.now path.now) × IsTrue (R.has_removed files.now path.now)) }
+    ensures quiet { OnOk result (err.new ≡ err.old) }
+    ensures said { IfErr result (λ status.
+        SaysTaken (R.has_found files.now path.now) path.now err.old status err.new) }
+    ensures known { IfErr result (λ status. status ≤ 7) }
+{
+    let here = match look_at_free(alloc, files, path, err) {
+        Ok(here) => here,
+        Err(status) => return Err(status),
+    };
+    match try_new(files, path, &here) {
+        Ok(()) => Ok(()),
+        Err(error) => Err(report_unread(err, path, error)),
+    }
+}
+
+/// Makes sure that both paths of a status file are free, and that a new file can be made at the one
+/// beside. Else it is said why not, and the error is the exit status.
+fn clear_paths<R: WatchedPaths, E: Write + Drop>(
+    alloc: Global,
+    files: &R,
+    path: &str,
+    new: &str,
+    err: &mut Printer<E>,
+) -> Result<(), u8>
+    requires { new.now ≡ beside path.now }
+    ensures free { OnOk result (IsWatchable (R.has_found files.now) (R.has_made files.now)
+        (R.has_removed files.now) path.now) }
+    ensures quiet { OnOk result (err.new ≡ err.old) }
+    ensures said { IfErr result (λ status.
+        SaysUnwatched (R.has_found files.now) path.now err.old status err.new) }
+    ensures known { IfErr result (λ status. status ≤ 7) }
+{
+    let seen = match look_at_free(alloc, files, path, err) {
+        Ok(seen) => seen,
+        Err(status) => return Err(status),
+    };
+    drop(seen);
+    clear_beside(alloc, files, new, err)
+}
+
+/// Writes bytes by one write, so that a program that is killed leaves all of them or none.
+fn write_at_once<W: Write>(out: &mut W, bytes: &[u8]) -> io::Result<()>
+    ensures { OnOk result (Appends (W.contents out.old) (W.contents out.new) bytes.now) }
+{
+    if out.write(bytes)? == bytes.len() {
+        Ok(())
+    } else {
+        Err(Error::from(ErrorKind::WriteZero))
+    }
+}
+
+/// The line that says where a worker is.
+fn spelled_status(alloc: Global, worker: &Worker, now: Now) -> io::Result<Vec<u8>>
+    ensures { IfOk result (λ line. line.items ≡ watch_line worker.now now) }
+{
+    let mut out = Printer::new(Vec::new(alloc), false);
+    print_status(&mut out, worker, now)?;
+    Ok(out.into_writer())
+}
+
+/// Whether a worker that runs on is told again, where the last time and now are in nanoseconds.
+fn is_due(last: Option<u64>, now: u64) -> bool
+    ensures { IsTrue result ↔ IsDue last now }
+{
+    match last {
+        Some(last) => now < last || now - last >= PAUSE,
+        None => true,
+    }
+}
+
+/// A file with one line, where a worker is. Each line is written beside its path, and then gets
+/// the path, so that whoever reads it finds a whole line. A worker runs on though that fails.
+#[derive(Drop)]
+pub struct StatusFile<'a, R> {
+    alloc: Global,
+    files: &'a R,
+    path: &'a str,
+    beside: String,
+    /// When a line was written last, in nanoseconds of the machine's clock that never goes back.
+    last: Cell<Option<u64>>,
+}
+
+impl<R: WatchedPaths> StatusFile<'_, R> {
+    /// Writes a line to a new file, and gives that the path, which was found free. Where one of
+    /// these fails, the new file is removed.
+    fn put(&self, line: &[u8]) -> io::Result<()>
+        requires { HasFoundFree (R.has_found self.now.files.now self.now.path.now) }
+        ensures put { OnOk result (IsTrue (R.has_renamed self.now.files.now
+            (string_bytes self.now.beside) self.now.path.now)) }
+        ensures left { IfErr result (λ error.
+            IsTrue (R.has_refused self.now.files.now (string_bytes self.now.beside)
+            (error_kind error))
+            ⊎ IsTrue (R.has_removed self.now.files.now (string_bytes self.now.beside))) }
+    {
+        let beside = self.beside.as_str();
+        let mut file = self.files.make_new(beside)?;
+        let written = write_at_once(&mut file, line);
+        drop(file);
+        let put = match written {
+            Ok(()) => self.files.rename_new(beside, self.path),
+            Err(error) => Err(error),
+        };
+        if put.is_err() {
+            self.files.remove_new(beside);
+        }
+        put
+    }
+
+    /// Gives the path a line, unless it has got a file of another kind since.
+    fn replace(&self, line: &[u8]) -> io::Result<()> {
+        let here = self.files.look_at(self.alloc, self.path)?;
+        if !here.is_free() {
+            return Ok(());
+        }
+        self.put(line)
+    }
+}
+
+impl<R: WatchedPaths + Clock> StatusFile<'_, R> {
+    /// The time in nanoseconds, where the clock can be read.
+    fn time(&self) -> Option<u64> {
+        match self.files.monotonic() {
+            Ok(time) => Some(nanoseconds_of(time)),
+            Err(_) => None,
+        }
+    }
+
+    /// The line of a worker that runs on, where it is due.
+    fn due_line(&self, worker: &Worker) -> Option<Vec<u8>>
+        ensures { IfSome result (λ line. line.items ≡ watch_line worker.now Spent) }
+    {
+        if !is_due(self.last.get(), self.time()?) {
+            return None;
+        }
+        spelled_status(self.alloc, worker, Now::Spent).ok()
+    }
+
+    /// Writes a line, and notes when.
+    fn write(&self, line: &[u8]) {
+        self.last.set(self.time());
+        let _ = self.replace(line);
+    }
+}
+
+// Of files no more is known than what they answer.
+impl<R: WatchedPaths + Clock> Watcher for StatusFile<'_, R> {
+    ghost use Rattle.std.specs.Prelude.{true};
+
+    ghost is_notified = { λ _ _ _. true };
+
+    fn tell(&self, worker: &Worker, now: Now) {
+        if let Ok(line) = spelled_status(self.alloc, worker, now) {
+            self.write(line.as_slice());
+        }
+    }
+
+    fn tell_running(&self, worker: &Worker) {
+        if let Some(line) = self.due_line(worker) {
+            self.write(line.as_slice());
+        }
+    }
+}
+
+/// The status file of a path, once there is something to tell. Its path must be free: nothing is
+/// there, or a status file is. So must be the path beside it, with `.new` at its end, where each
+/// line is written first. A status file that is left there is removed, and it is tried that a new
+/// one can be made. Where that fails, it is said, and the error is the exit status.
+pub fn status_file_of<'a, R: WatchedPaths, E: Write + Drop>(
+    alloc: Global,
+    files: &'a R,
+    path: Option<&'a str>,
+    err: &mut Printer<E>,
+) -> Result<Option<StatusFile<'a, R>>, u8>
+    ensures named { IfOk result (λ file. IsSome file ↔ IsSome path.entry) }
+    ensures free { IfSome path.entry (λ text. OnOk result (IsWatchable
+        (R.has_found files.entry.now) (R.has_made files.entry.now) (R.has_removed files.entry.now)
+        text.now)) }
+    ensures quiet { OnOk result (err.new ≡ err.old) }
+    ensures said { IfErr result (λ status. IfSome path.entry (λ text.
+        SaysUnwatched (R.has_found files.entry.now) text.now err.old status err.new)) }
+    ensures asked { IfErr result (λ _. IsSome path.entry) }
+    ensures known { IfErr result (λ status. status ≤ 7) }
+{
+    let Some(path) = path else {
+        return Ok(None);
+    };
+    let beside = match format!(in alloc; "{path}.new") {
+        Ok(beside) => beside,
+        Err(_) => return Err(report_unread(err, path, Error::from(ErrorKind::OutOfMemory))),
+    };
+    match clear_paths(alloc, files, path, beside.as_str(), err) {
+        Ok(()) => Ok(Some(StatusFile {
+            alloc,
+            files,
+            path,
+            beside,
+            last: Cell::new(None),
+        })),
+        Err(status) => Err(status),
+    }
+}

@@ -1,0 +1,4 @@
+pub mod ScriptLemmas
+pub mod StoryLemmas
+pub mod SweepLemmas
+pub mod TellingLemmas

@@ -1,0 +1,7 @@
+pub mod Numbers
+pub mod Drafts
+pub mod Lives
+pub mod Full
+pub mod Reading
+pub mod Calm
+pub mod Fronts

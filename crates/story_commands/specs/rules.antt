@@ -1,0 +1,4 @@
+pub mod Scripts
+pub mod Stories
+pub mod SweepTexts
+pub mod Sweeps

@@ -1,0 +1,147 @@
+-- What `wasmhost story` prints of lives, and what its exit status says (this project's own).
+use Rattle.std.specs.Prelude.{◌≡◌, ◌⊎◌, ℕ, ◌+◌, List, [], ◌∷◌, ◌++◌, Option, codes}
+use Rattle.std.specs.Io.KnownBytes.{Appends}
+use Rattle.hex.specs.Hex.{encode_lower}
+use Rattle.sha2.specs.Sha256.{sha256}
+use Rattle.record_replay.specs.declared.line_list.NumberedLine.{NumberedLine}
+use Rattle.worker.specs.declared.story.life.PlannedLife.{PlannedLife}
+use Rattle.worker.specs.declared.story.report.Opening.{Opening}
+use Rattle.worker.specs.declared.story.report.Opening.TheVariants.{Created, Recovered}
+use Rattle.worker.specs.declared.story.report.Opening.TheVariants.{Unopened}
+use Rattle.worker.specs.declared.fault.WorkFault.TheVariants as work
+use Rattle.worker.specs.declared.upgrade_fault.UpgradeFault.TheVariants as upgrade
+use Rattle.worker.specs.declared.recover_fault.RecoverFault.{RecoverFault}
+use Rattle.worker.specs.declared.recover_fault.RecoverFault.TheVariants.{Worker}
+use Rattle.worker.specs.declared.story.report.LifeEnd.{LifeEnd}
+use Rattle.worker.specs.declared.story.report.LifeEnd.TheVariants.{Failed}
+use Rattle.worker.specs.declared.story.report.LifeReport.{LifeReport}
+use Rattle.ephemeral_worker.specs.declared.fault.Refusal.TheVariants as refusal
+use Rattle.ephemeral_worker.specs.declared.fault.SliceFault.TheVariants as slice
+use Rattle.worker.specs.rules.StoryDisks.{TellsLives}
+use Rattle.command_words.specs.declared.configuring.Sizes.{Sizes}
+use Rattle.command_words.specs.declared.preparing.Prepared.{Prepared}
+use Rattle.command_words.specs.declared.preparing.Unprepared.{Unprepared}
+use Rattle.wasi_abi.specs.rules.Configs.{Settings}
+use Rattle.command_words.specs.rules.Preparations.{IsPreparedAs, IsUnprepared, config_as}
+use Rattle.command_words.specs.rules.Preparations.{status_unprepared}
+use Rattle.command_words.specs.rules.Pieces.{lines_of}
+use Rattle.command_words.specs.rules.Printers.{PrinterState, IsPrinted, HasOneFailed, HeedsBoth}
+use Rattle.command_words.specs.rules.Texts.{named_number}
+use Rattle.command_words.specs.rules.Texts.{printed}
+use Rattle.story_commands.specs.rules.Scripts.{IsScript, IsFaultAt}
+
+-- ---- the text
+
+-- the SHA-256 of an image, in hexadecimal digits, at the end of a line
+abbrev pub process_image_text : List ℕ → List ℕ
+process_image_text process_image = codes " image " ++ encode_lower
+    (sha256 process_image) ++ codes "\n"
+
+-- how a life was opened, as it is printed: of a recovered one its numbers and its image
+abbrev pub opening_line : ℕ → Opening → List ℕ
+opening_line number (Created process_image) = named_number (codes "life ") number
+    ++ codes " created\n"
+opening_line number (Recovered generation steps answers lines process_image) =
+    named_number (codes "life ") number
+    ++ named_number (codes " recovered generation ") generation
+    ++ named_number (codes " steps ") steps
+    ++ named_number (codes " answers ") answers
+    ++ named_number (codes " lines ") lines
+    ++ process_image_text process_image
+opening_line number Unopened = named_number (codes "life ") number ++ codes " not opened\n"
+
+-- a released line, as a run prints it
+abbrev pub release_text : NumberedLine → List ℕ
+release_text line = printed line.number (record { stream = line.stream; text = line.text })
+
+-- the text of lines that were released, one after another
+abbrev pub releases_text : List NumberedLine → List ℕ
+releases_text [] = []
+releases_text (line ∷ lines) = release_text line ++ releases_text lines
+
+-- The code and the name of an error by which a life ends that was opened. Of a store only the
+-- number of a generation is at its end then.
+abbrev pub error_name : RecoverFault → List ℕ
+error_name (Worker (work.Disk fault)) = codes "N1 Disk"
+error_name (Worker (work.Work slice.Source)) = codes "N2 Source"
+error_name (Worker (work.Work slice.Outlet)) = codes "N3 Outlet"
+error_name (Worker (work.Work slice.Memory)) = codes "N4 Memory"
+error_name (Worker (work.Work slice.Failed)) = codes "N5 Failed"
+error_name (Worker (work.Work (slice.Refused refusal.StepsSpent))) = codes "P3 StepsSpent"
+error_name (Worker (work.Store fault)) = codes "S1 TooBig"
+error_name (Worker (work.Upgrade upgrade.JournalTooSmall)) = codes "N7 JournalTooSmall"
+error_name (Worker (work.Upgrade upgrade.NotCaughtUp)) = codes "N8 NotCaughtUp"
+error_name other = codes "N6 Refused"
+
+-- the line that tells by which error a life ended that was opened, if by one
+abbrev pub end_line : ℕ → Opening → LifeEnd → List ℕ
+end_line number Unopened ended = []
+end_line number how (Failed why) =
+    named_number (codes "life ") number ++ codes " ended " ++ error_name why ++ codes "\n"
+end_line number how ended = []
+
+-- how a life was opened, its lines, and the error by which it ended
+abbrev pub life_text : ℕ → LifeReport → List ℕ
+life_text number report = opening_line number report.opened ++ releases_text report.releases
+    ++ end_line number report.opened report.ended
+
+-- lives with the numbers from `first` on
+abbrev pub story_text : ℕ → List LifeReport → List ℕ
+story_text first [] = []
+story_text first (report ∷ reports) = life_text first report ++ story_text (first + 1) reports
+
+-- ---- the exit status
+
+-- what a worker of a story is configured with: its name is its one argument
+abbrev pub story_config : Sizes → Settings
+story_config sizes = config_as sizes [] []
+
+-- the line that tells of a faulty line of the script
+abbrev pub script_line : ℕ → List ℕ
+script_line number = named_number (codes "failed script line ") number ++ codes "\n"
+
+-- The script spells lives, the module is accepted, and the text of what the worker's lives were is
+-- printed whole.
+pub record IsStoryPrinted (script wasm : List ℕ) (sizes : Sizes) (out out' : Option (List ℕ))
+    : Type 0 where
+  pub lives : List PlannedLife
+  pub spelled : IsScript (lines_of script) lives
+  pub prepared : Prepared
+  pub prepares : IsPreparedAs (story_config sizes) wasm prepared
+  pub reports : List LifeReport
+  pub tells : TellsLives wasm (story_config sizes) lives reports
+  pub printed_whole : Appends out out' (story_text 1 reports)
+
+-- the text of these lives is printed, or memory is wanted for it, or a write has failed
+abbrev pub SaysLives : List LifeReport → PrinterState → PrinterState → PrinterState → PrinterState
+    → ℕ → Type 0
+SaysLives reports out out' err err' status =
+    ((status ≡ 0) × IsPrinted out out' (story_text 1 reports) × (err' ≡ err))
+    ⊎ ((status ≡ 5) × (out' ≡ out) × (err'.failed ≡ err.failed))
+    ⊎ ((status ≡ 7) × HasOneFailed out' err')
+
+-- A line of the script is faulty, and its number is told.
+pub record IsLineReported (script : List ℕ) (err err' : Option (List ℕ)) : Type 0 where
+  pub number : ℕ
+  pub faulty : IsFaultAt (lines_of script) number
+  pub said : Appends err err' (script_line number)
+
+-- The script spells lives, and the configuration is out of its limits or the module isn't accepted.
+pub record IsStoryRefused (script wasm : List ℕ) (sizes : Sizes) : Type 0 where
+  pub lives : List PlannedLife
+  pub spelled : IsScript (lines_of script) lives
+  pub why : Unprepared
+  pub unprepared : IsUnprepared (story_config sizes) wasm why
+  pub refused : status_unprepared why ≡ 3
+
+-- 0: the story is told. 2: a line of the script is faulty. 3: the worker is refused. 5: there is no
+-- memory. 7: a write of a printer has failed. Nothing is printed on the output but a whole story,
+-- and nothing on the error output beside one.
+pub record TellsStory (script wasm : List ℕ) (sizes : Sizes) (out out' err err' : PrinterState)
+    (status : ℕ) : Type 0 where
+  pub told : status ≡ 0 → IsStoryPrinted script wasm sizes out.contents out'.contents × (err' ≡ err)
+  pub faulty : status ≡ 2 → IsLineReported script err.contents err'.contents × (out' ≡ out)
+  pub refused : status ≡ 3 → IsStoryRefused script wasm sizes × (out' ≡ out)
+  pub starved : status ≡ 5 → out' ≡ out
+  pub heeded : HeedsBoth out out' err err' status
+  pub known : (status ≡ 0) ⊎ (status ≡ 2) ⊎ (status ≡ 3) ⊎ (status ≡ 5) ⊎ (status ≡ 7)

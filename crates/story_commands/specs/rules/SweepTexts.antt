@@ -1,0 +1,135 @@
+-- What `wasmhost sweep` prints, and what its exit status says (this project's own).
+use Rattle.std.specs.Prelude.{◌≡◌, ◌⊎◌, ℕ, ◌==◌, ◌%◌, nat_lt, if◌then◌else◌, List, [], ◌∷◌, ◌++◌}
+use Rattle.std.specs.Prelude.{length, Option, codes, true}
+use Rattle.std.specs.Fmt.{decimal}
+use Rattle.std.specs.Io.KnownBytes.{Appends}
+use Rattle.wasi_abi.specs.rules.Answers.{newline}
+use Rattle.worker.specs.declared.recover_fault.RecoverFault.{RecoverFault}
+use Rattle.worker.specs.declared.story.life.PlannedLife.{PlannedLife}
+use Rattle.command_words.specs.declared.configuring.Sizes.{Sizes}
+use Rattle.command_words.specs.declared.preparing.Prepared.{Prepared}
+use Rattle.command_words.specs.rules.Preparations.{IsPreparedAs}
+use Rattle.command_words.specs.rules.Pieces.{lines_of}
+use Rattle.command_words.specs.declared.telling.Obstacle.TheVariants.{NoLife}
+use Rattle.command_words.specs.rules.Printers.{PrinterState, IsPrinted, IsSaid, SaysText}
+use Rattle.command_words.specs.rules.Printers.{HasOneFailed, HeedsBoth}
+use Rattle.command_words.specs.rules.Reports.{SaysLine, obstacle_words}
+use Rattle.command_words.specs.rules.Texts.{named_number}
+use Rattle.story_commands.specs.rules.Stories.{error_name, script_line, story_config}
+use Rattle.story_commands.specs.rules.Sweeps.{AreCompared, AreSweptLives, HasFailedPlan}
+use Rattle.story_commands.specs.rules.Sweeps.{IsDoneAgain, IsSwept}
+
+-- ---- the text
+
+-- a comma, where so many digits are left, and they are groups of three
+abbrev pub comma_before : ℕ → List ℕ
+comma_before digits_left =
+    if nat_lt 0 digits_left then (if digits_left % 3 == 0 then codes "," else []) else []
+
+-- digits with such commas
+abbrev pub grouped : List ℕ → List ℕ
+grouped [] = []
+grouped (digit ∷ digits) = (digit ∷ comma_before (length digits)) ++ grouped digits
+
+-- so many things of this name: one, or several
+abbrev pub quantity : ℕ → List ℕ → List ℕ
+quantity number name =
+    grouped (decimal number) ++ codes " " ++ name ++ (if number == 1 then [] else codes "s")
+
+-- how many cuts agree, and how many lines were told
+abbrev pub swept_line : ℕ → ℕ → List ℕ
+swept_line cuts lines = codes "swept " ++ quantity cuts (codes "cut") ++ codes ": "
+    ++ quantity lines (codes "line") ++ codes ", each told with one text\n"
+
+-- by which error the life of this number has ended
+abbrev pub plan_line : ℕ → RecoverFault → List ℕ
+plan_line number why = codes "the script's " ++ (named_number (codes "life ") number
+    ++ codes " ended " ++ error_name why ++ codes "\n")
+
+-- that an upgrade can't be done again
+abbrev pub no_upgrade_line : List ℕ
+no_upgrade_line = codes "the script's upgrade can't be done again after a cut" ++ newline ∷ []
+
+-- ---- the exit status
+
+-- The script spells lives that nothing befalls, the module is accepted, all cuts of one of the
+-- lives were run and agree with the run without a cut, and the line with their number is printed.
+pub record IsSweepDone (script wasm : List ℕ) (sizes : Sizes) (fronts : List ℕ)
+    (number : Option ℕ) (out out' : Option (List ℕ)) : Type 0 where
+  pub lives : List PlannedLife
+  pub place : ℕ
+  pub spelled : AreSweptLives (lines_of script) number lives place
+  pub prepared : Prepared
+  pub prepares : IsPreparedAs (story_config sizes) wasm prepared
+  pub cuts : ℕ
+  pub count : ℕ
+  pub swept : IsSwept wasm (story_config sizes) lives place fronts cuts count
+  pub printed_whole : Appends out out' (swept_line cuts count)
+
+-- the line is printed, or memory is wanted for it, or a write has failed
+abbrev pub SaysSwept : ℕ → ℕ → PrinterState → PrinterState → PrinterState → PrinterState → ℕ
+    → Type 0
+SaysSwept cuts lines out out' err err' status =
+    ((status ≡ 0) × IsPrinted out out' (swept_line cuts lines) × (err' ≡ err))
+    ⊎ ((status ≡ 5) × (out' ≡ out) × (err'.failed ≡ err.failed))
+    ⊎ ((status ≡ 7) × HasOneFailed out' err')
+
+-- lives that differ are told, or memory is wanted for that, or a write has failed
+abbrev pub SaysDifference : PrinterState → PrinterState → PrinterState → PrinterState → ℕ
+    → Type 0
+SaysDifference out out' err err' status =
+    ((status ≡ 1) × (out'.failed ≡ out.failed) × (err'.failed ≡ err.failed))
+    ⊎ ((status ≡ 5) × (out' ≡ out) × (err'.failed ≡ err.failed))
+    ⊎ ((status ≡ 7) × HasOneFailed out' err')
+
+-- The line of a plan that can't be run to its end is printed. Or memory is wanted for it, or a
+-- write has failed.
+abbrev pub SaysPlan : ℕ → RecoverFault → PrinterState → PrinterState → ℕ → Type 0
+SaysPlan number why err err' status =
+    ((status ≡ 2) × IsPrinted err err' (plan_line number why))
+    ⊎ ((status ≡ 5) × (err'.failed ≡ err.failed))
+    ⊎ ((status ≡ 7) × (err'.failed ≡ true))
+
+-- what is wrong with a script is printed, or memory is wanted for it
+abbrev pub SaysScriptFault : PrinterState → ℕ → PrinterState → Type 0
+SaysScriptFault old status new =
+    ((number : ℕ) × SaysText (script_line number) 2 old status new)
+    ⊎ SaysLine (obstacle_words NoLife) 2 old status new
+    ⊎ IsSaid 5 old status new
+
+-- The script spells lives that nothing befalls, the module is accepted, and this is so of them.
+pub record IsOfScript (script wasm : List ℕ) (sizes : Sizes) (number : Option ℕ)
+    (is : List PlannedLife → ℕ → Type 0) : Type 0 where
+  pub lives : List PlannedLife
+  pub place : ℕ
+  pub spelled : AreSweptLives (lines_of script) number lives place
+  pub prepared : Prepared
+  pub prepares : IsPreparedAs (story_config sizes) wasm prepared
+  pub holds : is lives place
+
+-- Why nothing is cut, as it is printed: a line is faulty, or there is no such life; or a life has
+-- ended by an error without a cut, or the upgrade can't be done again.
+abbrev pub IsUnsweepable : List ℕ → List ℕ → Sizes → Option ℕ → Option (List ℕ)
+    → Option (List ℕ) → Type 0
+IsUnsweepable script wasm sizes number err err' =
+    ((line : ℕ) × Appends err err' (script_line line))
+    ⊎ Appends err err' (obstacle_words NoLife ++ newline ∷ [])
+    ⊎ IsOfScript script wasm sizes number (λ lives place. (life : ℕ) × (why : RecoverFault)
+    × HasFailedPlan wasm (story_config sizes) lives life why
+    × Appends err err' (plan_line life why))
+    ⊎ (IsOfScript script wasm sizes number (IsDoneAgain wasm (story_config sizes))
+    × Appends err err' no_upgrade_line)
+
+-- 0: all cuts were run, and agree. 1: these lives were run that differ. 2: nothing was cut, and it
+-- is told why. 7 comes just where a write of a printer has failed. The others are 3 and 5.
+pub record TellsSweep (script wasm : List ℕ) (sizes : Sizes) (fronts : List ℕ)
+    (number : Option ℕ) (out out' err err' : PrinterState) (status : ℕ) : Type 0 where
+  pub done : status ≡ 0
+      → IsSweepDone script wasm sizes fronts number out.contents out'.contents
+  pub differs : status ≡ 1
+      → IsOfScript script wasm sizes number (AreCompared wasm (story_config sizes))
+  pub unswept : status ≡ 2 → (out' ≡ out)
+      × IsUnsweepable script wasm sizes number err.contents err'.contents
+  pub heeded : HeedsBoth out out' err err' status
+  pub known : (status ≡ 0) ⊎ (status ≡ 1) ⊎ (status ≡ 2) ⊎ (status ≡ 3) ⊎ (status ≡ 5)
+      ⊎ (status ≡ 7)

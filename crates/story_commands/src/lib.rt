@@ -1,0 +1,43 @@
+//! Scripts of a worker's lives, which are told as a story, or swept by cuts (this project's own).
+//! The disks are in memory. A command works on bytes and writers that are lent to it, and answers
+//! the exit status.
+//!
+//! # Promises
+//!
+//! - `read_script`: the lives that a script of a story spells (`IsScript`). A fault names the first
+//!   line after which the lines are no script (`IsFaultAt`), or memory has run out.
+//! - `tell`: status 0 says that a whole story was printed. It is of lives that go on as one that
+//!   was never stopped, with what the script put into each. What the other statuses say is said too
+//!   (`TellsStory`). `report_script` tells a fault of a script.
+//! - `tell_sweep`: status 0 says that the lives of a script, which nothing befalls, were run
+//!   without a cut, and did all that they were told (`HasDoneAll`). Then they were run with the
+//!   power cut at each call of one of them, for each prefix (`cuts_to`). Each cut's lives are told
+//!   as those of a story are (`TellsLives`). Those after the cut did all that they were told, and
+//!   handed out all answers that were not kept (`cut_at`). Over all lives each number has one text,
+//!   none is missing, and the first are those without a cut (`IsCutRun`). The printed line says how
+//!   many cuts and lines these are (`IsSweepDone`). 1 says that lives without a cut, or those of
+//!   one, were run and told (`AreCompared`). 2 says what is wrong with the script, or that a life
+//!   of it ended by an error, or that its upgrade was done again without a cut (`IsUnsweepable`). 7
+//!   comes just where a write has failed. `read_sweep`: the lives that the script spells, and which
+//!   one is swept (`AreSweptLives`). `fronts_of`: the fronts that a text spells.
+//!
+//! # Definitions to read
+//!
+//! In `specs/rules/`: `said_by`, `AreLivesOf`, `IsScript` (`Scripts.antt`); `story_text`,
+//! `TellsStory` (`Stories.antt`); `lives_after`, `cut_at`, `cuts_to`, `AreTextsOf`, `IsSwept`
+//! (`Sweeps.antt`); `TellsSweep` (`SweepTexts.antt`).
+//!
+//! # Who may touch what
+//!
+//! `wasmhost` calls this crate. It uses `worker` for lives, and `command_words` for all that is
+//! read and said. It opens no file, and knows nothing of `disk_commands`.
+#![tactic(auto)]
+
+mod stories;
+mod sweeping;
+
+pub use stories::{ScriptFault, ScriptLine, read_script, report_script, tell};
+pub use sweeping::{
+    SweepChoice, SweepScriptFault, SweptLives, fronts_of, read_sweep, report_sweep_script,
+    tell_sweep,
+};

@@ -1,0 +1,66 @@
+//! Scripts of lives that nothing befalls.
+
+ghost use Rattle.std.specs.Prelude.{◌≡◌, IfOk, OnOk, Some, true};
+ghost use Rattle.command_words.specs.rules.Pieces.{lines_of};
+ghost use Rattle.story_commands.specs.rules.Sweeps.{IsCalm, IsCalmScript};
+ghost use Rattle.story_commands.specs.laws.Drafts.{IsCalmDraft, put_text, put_texts};
+
+use crate::stories::draft::Draft;
+use crate::stories::fault::ScriptFault;
+use crate::stories::lives::{close, new_draft, put_text};
+use command_words::cut_line;
+use std::alloc::{AllocError, Global};
+use wasm_syntax::ItemList;
+use worker::story::PlannedLife;
+
+/// Whether nothing befalls a life.
+fn is_calm(life: &PlannedLife) -> bool
+    ensures { result ≡ true → IsCalm life.now }
+{
+    life.stop.is_none() && life.fail.is_none() && life.refuse.is_none() && life.tears.is_empty()
+}
+
+/// Reads a line, and puts what it says after a draft, if it may be there and nothing befalls its
+/// life by then.
+fn put_calm(alloc: Global, draft: &mut Draft, text: &[u8]) -> Result<bool, AllocError>
+    ensures { IfOk result (λ is_put. is_put ≡ true
+        → (put_text text.now draft.old ≡ Some draft.new) × IsCalm draft.new.life) }
+{
+    if !put_text(alloc, draft, text)? {
+        return Ok(false);
+    }
+    Ok(is_calm(&draft.life))
+}
+
+/// Puts what the lines say after a draft, up to the first one that may not be there.
+fn put_calm_lines(alloc: Global, draft: &mut Draft, text: &[u8]) -> Result<(), ScriptFault>
+    ensures { OnOk result ((put_texts (lines_of text.now) draft.old ≡ Some draft.new)
+        × (IsCalmDraft draft.old → IsCalmDraft draft.new)) }
+{
+    let mut rest = text;
+    let mut number = 0;
+    while !rest.is_empty() {
+        let (line, behind) = cut_line(rest);
+        rest = behind;
+        number += 1;
+        if !put_calm(alloc, draft, line)? {
+            return Err(ScriptFault::Line { number });
+        }
+    }
+    Ok(())
+}
+
+/// The lives that a script spells, if nothing befalls them. A fault names the first line after
+/// which the lines are no such script, or memory has run out.
+pub(crate) fn read_calm_script(
+    alloc: Global,
+    text: &[u8],
+) -> Result<ItemList<PlannedLife>, ScriptFault>
+    ensures { IfOk result (IsCalmScript (lines_of text.now)) }
+{
+    let mut draft = new_draft(alloc);
+    put_calm_lines(alloc, &mut draft, text)?;
+    close(alloc, &mut draft)?;
+    let Draft { lives, .. } = draft;
+    Ok(lives)
+}

@@ -1,0 +1,45 @@
+//! Scripts, line by line.
+
+ghost use Rattle.std.specs.Prelude.{◌≡◌, ◌<◌, OnOk, IfOk, IfErr, Some};
+ghost use Rattle.command_words.specs.rules.Pieces.{lines_of};
+ghost use Rattle.story_commands.specs.rules.Scripts.{IsScript, IsScriptFault};
+ghost use Rattle.story_commands.specs.laws.Drafts.{put_texts, IsReadingFault};
+
+use crate::stories::draft::Draft;
+use crate::stories::fault::ScriptFault;
+use crate::stories::lives::{close, new_draft, put_text};
+use command_words::cut_line;
+use std::alloc::Global;
+use wasm_syntax::ItemList;
+use worker::story::PlannedLife;
+
+/// Puts what the lines say after a draft, up to the first one that may not be there.
+fn put_lines(alloc: Global, draft: &mut Draft, text: &[u8]) -> Result<(), ScriptFault>
+    ensures put { OnOk result (put_texts (lines_of text.now) draft.old ≡ Some draft.new) }
+    ensures fault { IfErr result (IsReadingFault (lines_of text.now) draft.old) }
+{
+    let mut rest = text;
+    let mut number = 0;
+    while !rest.is_empty() {
+        let (line, behind) = cut_line(rest);
+        rest = behind;
+        number += 1;
+        if !put_text(alloc, draft, line)? {
+            return Err(ScriptFault::Line { number });
+        }
+    }
+    Ok(())
+}
+
+/// The lives that a script spells. A fault names the first line after which the lines are no
+/// script, or memory has run out.
+pub fn read_script(alloc: Global, text: &[u8]) -> Result<ItemList<PlannedLife>, ScriptFault>
+    ensures read { IfOk result (IsScript (lines_of text.now)) }
+    ensures fault { IfErr result (IsScriptFault (lines_of text.now)) }
+{
+    let mut draft = new_draft(alloc);
+    put_lines(alloc, &mut draft, text)?;
+    close(alloc, &mut draft)?;
+    let Draft { lives, .. } = draft;
+    Ok(lives)
+}

@@ -1,0 +1,6 @@
+mod EntryLemmas
+mod ImportLemmas
+mod PlaceLemmas
+mod SectionLemmas
+mod Texts
+mod Walks

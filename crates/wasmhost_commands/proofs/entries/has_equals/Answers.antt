@@ -1,5 +1,0 @@
-use Rattle.wasmhost_commands.proofs.EntryLemmas.{says_equals}
-use Rattle.wasmhost_commands.proofs.entries.has_equals.Goals as goal
-
-pub returns : goal.returns
-returns c = says_equals c.args.text.now c.contains.result c.contains.ensures.value

@@ -1,9 +1,0 @@
-use Rattle.std.proofs.Common.{length}
-use Rattle.wasmhost_commands.proofs.LineLemmas.Later.{HasCounted}
-use Rattle.wasmhost_commands.proofs.lines.later.count_later.Given as goal
-
-abbrev pub invariant-loop-rest : goal.invariant-loop-rest
-invariant-loop-rest l = HasCounted l.fn.limit l.fn.taken l.fn.text l.count l.rest
-
-abbrev pub decreases-loop-rest : goal.decreases-loop-rest
-decreases-loop-rest l = length l.rest

@@ -1,9 +1,0 @@
-use Rattle.std.proofs.Common.{rules}
-use Rattle.wasmhost_commands.proofs.LineLemmas.Drawing.{draws}
-use Rattle.wasmhost_commands.proofs.lines.source.RequestSource.find.Goals as goal
-
-pub returns-in_ok-answer-in-Random-clause-found :
-    goal.returns-in_ok-answer-in-Random-clause-found
-returns-in_ok-answer-in-Random-clause-found g c =
-    rw c.in-Random.is (draws c.in-Random.length _ _ c.in_ok-answer-in-Random.answer
-    c.in_ok-answer-in-Random.ensures.is (search rules) (search rules) (search rules))

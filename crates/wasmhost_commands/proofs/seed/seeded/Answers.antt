@@ -1,9 +1,0 @@
-use Rattle.std.proofs.Common.{◌∙◌}
-use Rattle.std.proofs.lemmas.Result.{IfOk-weaker}
-use Rattle.wasmhost_commands.proofs.SeedLemmas.{fills_seeded}
-use Rattle.wasmhost_commands.proofs.seed.seeded.Goals as goal
-
-pub returns : goal.returns
-returns c = IfOk-weaker c.fill.result _ _ (λ bytes is. is
-    ∙ fills_seeded c.args.seed c.args.stream c.args.place c.args.length
-    c.ranges.place.fits c.ranges.length.fits) c.fill.ensures

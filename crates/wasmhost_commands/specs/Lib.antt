@@ -1,6 +1,0 @@
-pub mod Livings
-pub mod ComingUp
-pub mod Lines
-pub mod StatusLines
-pub mod laws
-pub mod rules
