@@ -226,10 +226,11 @@ LINES = [
         (b"1 r " + b"x" * 5_000 + b"\n", "", refused(1, too_long(5_000))),
         # Of a line whose end isn't among the bytes that were read no more is known.
         (b"0 r " + b"x" * 5_000, "", refused(1, UNENDED)),
-        (b"1 r " + b"x" * 9_000 + b"\n", "", refused(1, UNENDED)),
-        # A line that comes in several pieces is one line.
-        (b"1 r a\n" * 1_300 + b"2 r " + b"x" * 5_000 + b"\n", "1 o a\n",
-         refused(1_301, too_long(5_000))),
+        # However the pieces of it come: two of the longest don't hold its end.
+        (b"1 r " + b"x" * 20_000 + b"\n", "", refused(1, UNENDED)),
+        # A line that comes in several pieces is one line. Its end comes with the second one.
+        (b"1 r a\n" * 1_300 + b"2 r " + b"x" * 4_200 + b"\n", "1 o a\n",
+         refused(1_301, too_long(4_200))),
         (b"1 r a\n" * 9_000 + b"b\n", "1 o a\n", refused(9_001)),
         (b"1 r a\n" * 3 + b"\n2 r b\n", "1 o a\n", refused(4))]
 ] + [
