@@ -1,7 +1,10 @@
 -- The examples of lives and promises hold.
-use Rattle.std.proofs.Common.{◌≤◌, ◌<◌, refl, subst, arith}
-use Rattle.restart_theorem.specs.Courses.{Phase, Shut}
+use Rattle.std.proofs.Common.{◌≡◌, ◌≤◌, ◌<◌, ℕ, zero, suc, Option, None, Some, refl, sym, subst, arith}
+use Rattle.wasi_abi.specs.rules.Configs.{Settings}
+use Rattle.restart_theorem.specs.Lives.{Cause, OfDisk, OfOutlet}
+use Rattle.restart_theorem.specs.Courses.{Phase, Shut, Open}
 use Rattle.restart_theorem.specs.laws.Examples.{LivesExamples, PromiseExamples, CourseExamples}
+use Rattle.restart_theorem.specs.laws.Examples.{ReplyExamples}
 
 pub lives_examples : LivesExamples
 lives_examples = record {
@@ -43,6 +46,27 @@ abbrev IsShut : Phase → Type 0
 IsShut Shut = Unit {0}
 IsShut _ = ⊥
 
+abbrev IsOpened : Phase → Type 0
+IsOpened Open = Unit {0}
+IsOpened _ = ⊥
+
+abbrev IsOfDisk : Cause → Type 0
+IsOfDisk OfDisk = Unit {0}
+IsOfDisk _ = ⊥
+
+abbrev IsOfOutlet : Cause → Type 0
+IsOfOutlet OfOutlet = Unit {0}
+IsOfOutlet _ = ⊥
+
+abbrev IsNothing : {X : Type 0} → Option X → Type 0
+IsNothing None = Unit {0}
+IsNothing (Some x) = ⊥
+
+abbrev IsNumberZero : Option ℕ → Type 0
+IsNumberZero None = ⊥
+IsNumberZero (Some zero) = Unit {0}
+IsNumberZero (Some (suc n)) = ⊥
+
 pub course_examples : CourseExamples
 course_examples = record {
   at_first_shut = refl;
@@ -72,4 +96,30 @@ course_examples = record {
   failed_by_memory = (tt, tt, omega arith);
   shut_by_a_source = λ h. h.0;
   shut_by_nothing = λ h. subst IsShut h.0 tt;
+  unheard = (tt, tt, omega arith);
+  unheard_told_as_memory = λ h. h.0;
+  closed = (refl, tt, omega arith);
+  closed_told_as_a_disk = λ h. subst IsOfDisk h.0 tt;
+  cut_in_a_call = (tt, omega arith);
+  cut_told_as_memory = λ h. subst IsOfDisk (sym h.0) tt;
+}
+
+pub reply_examples : (config : Settings) → ReplyExamples config
+reply_examples config = record {
+  spent = (refl, refl, refl, record { all_taken = refl; all_told = refl });
+  spent_too_early = λ h. (let odd : 19 ≡ 20 = h.1 in omega (arith, odd));
+  spent_with_a_line_untold = λ h. subst IsNumberZero h.3.all_told tt;
+  waits = (refl, omega arith, refl, record { all_taken = refl; all_told = refl });
+  waits_unasked = λ h. subst IsOpened h.0 tt;
+  batch_waits = (refl, omega arith, refl, record { all_taken = refl; all_told = refl });
+  batch_waits_with_a_line_untold = λ h. subst IsNumberZero h.3.all_told tt;
+  over = (refl, omega arith, refl, record { all_taken = refl; all_told = refl });
+  over_while_it_runs = λ h. subst IsNothing h.2 tt;
+  saved = (refl, refl, record { all_taken = refl; all_told = refl });
+  saved_a_step_on = λ h. (let odd : 1 ≡ 0 = h.1 in omega (arith, odd));
+  slice_that_is_done = λ h. h;
+  disk_fails = (tt, omega arith, omega arith);
+  outlet_refuses = (refl, omega arith, omega arith);
+  outlet_blamed = λ h. h.0;
+  refusal_told_as_memory = λ h. subst IsOfOutlet (sym h.0) tt;
 }

@@ -156,11 +156,17 @@ pub record IsAt (m : Module) (config : Settings) (kept : List Kept) (steps : ℕ
 -- none is told again after which something was saved.
 pub record IsTelling (m : Module) (config : Settings) (so_far : Promise) (stage : Stage)
     (r : Release) (is_taken : Bool) : Type 0 where
+  -- no line number has two texts
   pub is_line : IsLine m config so_far.kept r.number r.line
+  -- no line is told ahead of the call that makes it
   pub in_time : IsToldIn stage.phase stage.acts stage.step is_line.steps
+  -- in a life none is left out, and none is told twice
   pub follows : ComesAfter stage.line r.number
+  -- over all lives no number is skipped
   pub none_skipped : r.number ≤ so_far.heard + 1
+  -- what was saved for good is told no more
   pub not_passed : so_far.passed < r.number
+  -- an outlet that refuses a line is heard
   pub heard : is_taken ≡ first_taken stage.takes
 
 -- what is said of an answer is so
@@ -180,14 +186,21 @@ pub record Inquiry : Type 0 where
 -- fewer than `most` may wait. The source says what it was to say next.
 pub record IsInquiring (m : Module) (config : Settings) (so_far : Promise) (stage : Stage)
     (inquiry : Inquiry) : Type 0 where
+  -- no answer is lost or taken twice: this is the process of all that are kept
   pub process : ProcessState
   pub reached : Reaches m config so_far.kept inquiry.steps process
+  -- a process that has ended asks nothing
   pub running : process.ended ≡ None
+  -- no question but its own is asked
   pub wants : next_of reached.guest process None ≡ Wants inquiry.question
+  -- no question is asked ahead of its call
   pub in_time : IsAskedIn stage.phase stage.acts stage.step inquiry.steps
+  -- its lines come before the answer to its next question
   pub all_told : AreToldBy stage.acts stage.line (length process.host.lines)
+  -- what is said of an answer is so
   pub fitting : IsFitting (text_limit process.host.version) inquiry.question
       inquiry.said inquiry.fits
+  -- no answer is made up
   pub heard : inquiry.said ≡ first_said stage.says
 
 -- A prefix of so many kept answers, with a process of so many steps, holds all that was promised.
@@ -196,12 +209,17 @@ pub record IsInquiring (m : Module) (config : Settings) (so_far : Promise) (stag
 -- returned.
 pub record HoldsAll (m : Module) (config : Settings) (kept : List Kept) (so_far : Promise)
     (held steps : ℕ) : Type 0 where
+  -- nothing is added to the kept answers
   pub within : held ≤ length kept
+  -- an upgrade stays
   pub up_to : IsNarrowTo (drop held kept) steps
+  -- what was saved, or opened with, stays
   pub answers : so_far.answers ≤ held
   pub steps_held : so_far.steps ≤ steps
+  -- the answers behind a line that was begun stay, and so does its text
   pub lines : (i : ℕ) → i ≤ so_far.begun
       → (a : ℕ) × (a ≤ held) × AnswersBehindLine m config kept i a
+  -- the answers before a guest's sync that has returned stay
   pub syncs : (k a : ℕ) → k ≤ so_far.synced → AnswersBehindSync m config kept k a → a ≤ held
 
 -- The last of these answers is taken by the last of so many steps: the process that the others lead
@@ -224,19 +242,28 @@ pub record TakesLast (m : Module) (config : Settings) (kept : List Kept) (steps 
 -- step that took its last answer. One that has told none may also stand where it was saved.
 pub record IsOpening (m : Module) (config : Settings) (so_far : Promise) (stage : Stage) (held : ℕ)
     (shown : Saved) : Type 0 where
+  -- a life opens once
   pub shut : stage.phase ≡ Shut
+  -- no worker comes of nothing
   pub created : so_far.was_created ≡ true
+  -- the process that is shown is that of a prefix of the answers, whole
   pub at : IsAt m config (take held so_far.kept) shown.steps shown
+  -- nothing is lost that was promised
   pub holds : HoldsAll m config so_far.kept so_far held shown.steps
+  -- over all lives no line is skipped
   pub all_heard : shown.lines ≤ so_far.heard
+  -- a recovery tells no line beyond where it opens
   pub none_beyond : IsLast stage.line shown.lines
+  -- it takes no step further than its last answer leads
   pub no_further : (stage.line ≡ None) ⊎ TakesLast m config (take held so_far.kept) shown.steps
 
 -- ---- ends of calls
 
 -- all kept answers were taken, and each line was told, once in this life and none beyond
 pub record IsCaughtUp (kept : List Kept) (stage : Stage) (held : ℕ) (shown : Saved) : Type 0 where
+  -- no answer waits
   pub all_taken : held ≡ length kept
+  -- no line waits, and none was told beyond
   pub all_told : stage.line ≡ Some shown.lines
 
 -- The last line that was told, if there is one, is among the first so many.
@@ -336,12 +363,19 @@ kept_then so_far end = kept_by_end end.act end.shown so_far.kept
 -- takes no step back. It has widened that process only where it may.
 pub record IsEnding (m : Module) (config : Settings) (so_far : Promise) (stage : Stage)
     (end : CallEnd) : Type 0 where
+  -- calls come in the order in which they were wanted
   pub is_next : IsNextAct end.act stage.acts
+  -- no answer is made up
   pub within : end.held ≤ length (kept_then so_far end)
+  -- the process that is shown is that of a prefix of the answers, whole
   pub at : IsAt m config (take end.held (kept_then so_far end)) end.shown.steps end.shown
+  -- no step is taken back
   pub onward : stage.step ≤ end.shown.steps
+  -- what the call says is so
   pub reply : IsReply config (kept_then so_far end) stage end.held end.shown end.act end.reply
+  -- a number is said to be at its end only where it is
   pub bound : IsAtBound so_far at end.reply
+  -- an upgrade comes only where no later life can fall behind it
   pub widens : kept_then so_far end ≢ so_far.kept → MayWiden config so_far end.shown
 
 -- ---- lives
@@ -371,10 +405,13 @@ OpensAnew (e ∷ events) = ⊥
 -- created again.
 pub record IsLived (m : Module) (config : Settings) (so_far : Promise) (inputs : Inputs)
     (life : Life) : Type 0 where
+  -- each event keeps what was promised
   pub kept : AreKept m config (as_begun life.begins so_far) (at_beginning life.begins inputs)
       life.events
+  -- a life ends only for a cause
   pub ends : MayEnd inputs (promised (as_begun life.begins so_far) life.events).events life.calls
       (stage_after (at_beginning life.begins inputs) life.events) life.ends
+  -- a worker is created once
   pub begins : life.begins ≡ Creates → (so_far.has_opened ≡ false) × OpensAnew life.events
 
 -- Lives, one for each that was put in, keep what was promised so far.

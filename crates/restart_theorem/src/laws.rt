@@ -28,7 +28,7 @@ ghost use Rattle.restart_theorem.specs.laws.Disks.{OneGeneration};
 ghost use Rattle.restart_theorem.specs.laws.Disks.{OneSpelledWorker, StandsWithin, BlankIsWithin};
 ghost use Rattle.restart_theorem.specs.laws.Disks.{DiskExamples};
 ghost use Rattle.restart_theorem.specs.laws.Examples.{LivesExamples, PromiseExamples};
-ghost use Rattle.restart_theorem.specs.laws.Examples.{CourseExamples};
+ghost use Rattle.restart_theorem.specs.laws.Examples.{CourseExamples, ReplyExamples};
 ghost use Rattle.restart_theorem.specs.laws.Honest.{Teller, HonestStories};
 ghost use Rattle.restart_theorem.specs.laws.Honest.{Upgraded, HonestUpgrades};
 ghost use Rattle.restart_theorem.specs.laws.Refused.{RefusedEvents, RefusedWorkers};
@@ -189,11 +189,13 @@ pub fn honest_batches()
     ensures { (m : Module) (config : Settings) (t : Teller m config) → HonestBatches t }
 {}
 
-/// Two lives with a cut between them, what events promise, and where a life is after them.
+/// Two lives with a cut between them, what events promise, where a life is after them, and what calls
+/// may say.
 pub fn worked_examples()
     ensures lives { LivesExamples }
     ensures promises { PromiseExamples }
     ensures courses { CourseExamples }
+    ensures replies { (config : Settings) → ReplyExamples config }
 {}
 
 /// Lives of a module that writes a line go on, from its beginning to its end, and so do those that

@@ -10,17 +10,19 @@ use Rattle.wasi_calls_rules.specs.declared.output_stream.OutputStream.TheVariant
 use Rattle.process_rules.specs.Processes.{Exited}
 use Rattle.process_rules.specs.Runs.{Given, Wider}
 use Rattle.state_image.specs.rules.ProcessImage.{Saved}
-use Rattle.restart_theorem.specs.Lives.{Slice, Checkpoint, Upgrade, Inputs, Release, OfDisk}
-use Rattle.restart_theorem.specs.Lives.{OfMemory, OfOutlet, Over}
+use Rattle.wasi_abi.specs.rules.Configs.{Settings}
+use Rattle.restart_theorem.specs.Lives.{Slice, Batch, Checkpoint, Upgrade, Inputs, Release, OfDisk}
+use Rattle.restart_theorem.specs.Lives.{OfMemory, OfOutlet, Over, Waits}
 use Rattle.restart_theorem.specs.Lives.{OfSource, Reply, Spent, Done, Fails, Event, Told, Asked}
 use Rattle.restart_theorem.specs.Lives.{Opened}
 use Rattle.restart_theorem.specs.Lives.{Ended}
 use Rattle.restart_theorem.specs.Lives.{Recovers, Creates, Finished, Stopped, Failed, Life}
 use Rattle.restart_theorem.specs.Lives.{kept_after, kept_answers, told_lines}
+use Rattle.restart_theorem.specs.Courses.{Phase}
 use Rattle.restart_theorem.specs.Courses.{Stage, Shut, Unheard, Open, NoneThere, Broken, Closed}
 use Rattle.restart_theorem.specs.Courses.{at_first, at_beginning, stage_after, IsToldIn, IsAskedIn}
 use Rattle.restart_theorem.specs.Courses.{MayEnd}
-use Rattle.restart_theorem.specs.Promises.{Promise, nothing_yet, promised}
+use Rattle.restart_theorem.specs.Promises.{Promise, nothing_yet, promised, IsReply}
 
 -- ---- events
 
@@ -199,6 +201,10 @@ some_inputs = record {
 abbrev pub stage_behind : List Event → Stage
 stage_behind events = stage_after (at_first some_inputs) events
 
+-- a life of these inputs, in this phase
+abbrev pub in_phase : Phase → Stage
+in_phase phase = record (at_first some_inputs) { phase = phase }
+
 pub record CourseExamples : Type 0 where
   pub at_first_shut : (stage_behind []).phase ≡ Shut
   pub refused_in_a_recovery : (stage_behind (Told hello_line false ∷ [])).phase ≡ Unheard
@@ -251,3 +257,47 @@ pub record CourseExamples : Type 0 where
   pub failed_by_memory : MayEnd some_inputs 0 7 (at_first some_inputs) (Failed OfMemory)
   pub shut_by_a_source : MayEnd some_inputs 0 7 (at_first some_inputs) (Failed OfSource) → ⊥
   pub shut_by_nothing : MayEnd some_inputs 0 7 (at_first some_inputs) Finished → ⊥
+  -- a life that has failed says why
+  pub unheard : MayEnd some_inputs 0 7 (in_phase Unheard) (Failed OfOutlet)
+  pub unheard_told_as_memory : MayEnd some_inputs 0 7 (in_phase Unheard) (Failed OfMemory) → ⊥
+  pub closed : MayEnd some_inputs 0 7 (in_phase (Closed OfMemory)) (Failed OfMemory)
+  pub closed_told_as_a_disk : MayEnd some_inputs 0 7 (in_phase (Closed OfMemory)) (Failed OfDisk)
+      → ⊥
+  -- a call in which the power is cut has seen a fault of the disk, if it answers at all
+  pub cut_in_a_call : MayEnd some_inputs 0 8 (in_phase Open) Stopped
+  pub cut_told_as_memory : MayEnd some_inputs 0 8 (in_phase (Closed OfMemory)) Stopped → ⊥
+
+-- ---- what a call says
+
+-- a call that began at step 0 has told the lines up to this one
+abbrev pub in_call : Phase → ℕ → Stage
+in_call phase line = record (in_phase phase) { line = Some line }
+
+-- what a process shows that has exited
+abbrev pub exited_at : ℕ → ℕ → Saved
+exited_at steps lines = record (saved_at steps lines) { ended = Some (Exited 7) }
+
+-- What calls may say, and what they may not. No answer is kept here.
+pub record ReplyExamples (config : Settings) : Type 0 where
+  pub spent : IsReply config [] (in_call Open 1) 0 (saved_at 20 1) (Slice 20) Spent
+  pub spent_too_early : IsReply config [] (in_call Open 1) 0 (saved_at 19 1) (Slice 20) Spent → ⊥
+  pub spent_with_a_line_untold : IsReply config [] (in_call Open 0) 0 (saved_at 20 1) (Slice 20)
+      Spent → ⊥
+  pub waits : IsReply config [] (in_call (NoneThere 5) 1) 0 (saved_at 5 1) (Slice 20) Waits
+  pub waits_unasked : IsReply config [] (in_call Open 1) 0 (saved_at 5 1) (Slice 20) Waits → ⊥
+  pub batch_waits : IsReply config [] (in_call (NoneThere 5) 1) 0 (saved_at 5 1) (Batch 20 9) Waits
+  pub batch_waits_with_a_line_untold : IsReply config [] (in_call (NoneThere 5) 0) 0 (saved_at 5 1)
+      (Batch 20 9) Waits → ⊥
+  pub over : IsReply config [] (in_call Open 1) 0 (exited_at 8 1) (Slice 20) (Over (Exited 7))
+  pub over_while_it_runs : IsReply config [] (in_call Open 1) 0 (saved_at 8 1) (Slice 20)
+      (Over (Exited 7)) → ⊥
+  pub saved : IsReply config [] (in_call Open 1) 0 (saved_at 0 1) Checkpoint Done
+  pub saved_a_step_on : IsReply config [] (in_call Open 1) 0 (saved_at 1 1) Checkpoint Done → ⊥
+  pub slice_that_is_done : IsReply config [] (in_call Open 1) 0 (saved_at 20 1) (Slice 20) Done → ⊥
+  pub disk_fails : IsReply config [] (in_call Open 1) 0 (saved_at 3 1) (Slice 20) (Fails OfDisk)
+  pub outlet_refuses : IsReply config [] (in_call (Broken OfOutlet) 1) 0 (saved_at 3 1) (Slice 20)
+      (Fails OfOutlet)
+  pub outlet_blamed : IsReply config [] (in_call Open 1) 0 (saved_at 3 1) (Slice 20)
+      (Fails OfOutlet) → ⊥
+  pub refusal_told_as_memory : IsReply config [] (in_call (Broken OfOutlet) 1) 0 (saved_at 3 1)
+      (Slice 20) (Fails OfMemory) → ⊥

@@ -1,4 +1,5 @@
 use Rattle.restart_theorem.proofs.Examples.{lives_examples, promise_examples, course_examples}
+use Rattle.restart_theorem.proofs.Examples.{reply_examples}
 use Rattle.restart_theorem.proofs.laws.worked_examples.Goals as goal
 
 pub returns-clause-lives : goal.returns-clause-lives
@@ -9,3 +10,6 @@ returns-clause-promises c = promise_examples
 
 pub returns-clause-courses : goal.returns-clause-courses
 returns-clause-courses c = course_examples
+
+pub returns-clause-replies : goal.returns-clause-replies
+returns-clause-replies c = reply_examples
