@@ -1,5 +1,6 @@
 -- The examples of lives and promises hold.
-use Rattle.std.proofs.Common.{◌≡◌, ◌≤◌, ◌<◌, ℕ, zero, suc, Option, None, Some, refl, sym, subst, arith}
+use Rattle.std.proofs.Common.{◌≡◌, ◌≤◌, ◌<◌, ℕ, zero, suc, Option, None, Some, refl, sym, subst}
+use Rattle.std.proofs.Common.{arith}
 use Rattle.wasi_abi.specs.rules.Configs.{Settings}
 use Rattle.restart_theorem.specs.Lives.{Cause, OfDisk, OfOutlet}
 use Rattle.restart_theorem.specs.Courses.{Phase, Shut, Open}

@@ -189,8 +189,8 @@ pub fn honest_batches()
     ensures { (m : Module) (config : Settings) (t : Teller m config) → HonestBatches t }
 {}
 
-/// Two lives with a cut between them, what events promise, where a life is after them, and what calls
-/// may say.
+/// Two lives with a cut between them, what events promise, where a life is after them, and what
+/// calls may say.
 pub fn worked_examples()
     ensures lives { LivesExamples }
     ensures promises { PromiseExamples }
