@@ -10,6 +10,8 @@
 //! - **A disk is closed by a call** (`close`), which only clauses read. It says that the disk had
 //!   these answers in the end.
 
+ghost use Rattle.std.specs.Prelude.{◌≡◌};
+
 use crate::FileDisk;
 use crate::folder::folder_of;
 use std::fs::{File, OpenFile, OpenOptions};
@@ -44,6 +46,15 @@ pub trait DiskFiles {
 #[derive(Drop)]
 pub struct NewFile<'a> {
     path: &'a str,
+}
+
+impl NewFile<'_> {
+    /// The path at which it was made.
+    pub fn path(&self) -> &str
+        ensures { result.now ≡ self.now.path.now }
+    {
+        self.path
+    }
 }
 
 /// Files of which a new one can be made, and none but such a one be removed.
