@@ -4,7 +4,7 @@ use Rattle.std.proofs.Common.{◌++◌, append_assoc, codes}
 use Rattle.std.specs.Io.KnownBytes.{Appends}
 use Rattle.std.specs.declared.io.ErrorKind.{ErrorKind}
 use Rattle.std.specs.declared.io.ErrorKind.TheVariants.{OutOfMemory}
-use Rattle.sector_disk.specs.rules.Open.{open_cause}
+use Rattle.sector_disk.specs.rules.Causes.{open_cause}
 use Rattle.sector_disk.specs.declared.open_fault.OpenFault.{OpenFault}
 use Rattle.sector_disk.specs.declared.open_fault.OpenFault.TheVariants.{Busy, Io}
 use Rattle.wasi_abi.specs.rules.Answers.{newline}

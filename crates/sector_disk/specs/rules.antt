@@ -1,9 +1,11 @@
 pub mod Answered
 pub mod Calls
+pub mod Causes
 pub mod Counts
 pub mod FaultDisk
 pub mod File
 pub mod Folder
+pub mod Known
 pub mod DiskImage
 pub mod Medium
 pub mod Memory

@@ -12,22 +12,20 @@
 //!   call. These two, `sync_data` and `try_lock` call again after an interrupt. No clause says so:
 //!   it is read in the kit's code, and seen by `scripts/runs/file-calls`.
 //! - An empty file is a disk of no sectors.
-ghost use Rattle.std.specs.Prelude.{◌≡◌, ◌<◌, ◌≤◌, ◌^◌, ◌*◌, ◌/◌, ◌↔◌, ℕ, [], IfErr, IfOk};
-ghost use Rattle.std.specs.Prelude.{IsErrOf, IsTrue, OnOk, false, true};
+ghost use Rattle.std.specs.Prelude.{◌≡◌, ◌<◌, ◌≤◌, ◌^◌, ◌↔◌, [], IfErr, IfOk, IsErrOf};
 ghost use Rattle.sector_disk.specs.declared.open_fault.OpenFault.TheVariants.{Io};
-ghost use Rattle.sector_disk.specs.rules.DiskImage.{IsDiskImage, zeros};
-ghost use Rattle.sector_disk.specs.declared.open_fault.OpenCause.TheVariants.{NoDevice, TooLarge};
+ghost use Rattle.sector_disk.specs.rules.DiskImage.{IsDiskImage};
+ghost use Rattle.sector_disk.specs.declared.open_fault.OpenCause.TheVariants.{TooLarge};
 
 use crate::file_call::{Failure, FileCall, NO_BYTES};
 use crate::file_log::FileLog;
+use crate::filling::{fill_new_file, lock, take_device};
 use crate::first_image::FirstImage;
-use crate::folder::folder_of;
 use crate::{
-    DeviceFile, Disk, DiskFault, LockFile, NewFiles, OpenCause, OpenFault, SECTOR_SIZE, SizeFile,
+    Disk, DiskFault, DiskFile, DiskFiles, NewFile, NewFiles, OpenCause, OpenFault, SECTOR_SIZE,
 };
-use std::fs::{File, OpenFile, OpenOptions};
+use std::fs::OpenFile;
 use std::os::unix::fs::FileExt;
-use std::rt::Files;
 
 /// From so many sectors on a file is refused: its bytes would have numbers from 2^63 on.
 const SECTORS_END: u64 = 1 << 54;
@@ -52,47 +50,36 @@ pub struct FileDisk<F> {
     ghost whole: { IsDiskImage count first.image },
 }
 
-impl<F: OpenFile + FileExt + LockFile + SizeFile> FileDisk<F> {
-    ghost use Rattle.sector_disk.specs.rules.File.{file_medium, answers_of, file_of, first_of};
-    ghost use Rattle.sector_disk.specs.rules.Open.{IsUnmade};
+impl<F: DiskFile> FileDisk<F> {
+    ghost use Rattle.sector_disk.specs.rules.DiskImage.{zeros};
+    ghost use Rattle.sector_disk.specs.rules.File.{answers_of, file_medium, file_of, first_of};
+    ghost use Rattle.sector_disk.specs.rules.Open.{IsMadeAt, IsOpenedAt, IsTakenAt};
+    ghost use Rattle.sector_disk.specs.rules.Open.{IsUnmade, IsUnopened, IsUntaken};
 
     /// Makes a file of so many sectors of zeros, locks it, and makes its entry in its folder
     /// durable. It fails where there is such a path already, and from 2^54 sectors on. All zeros
     /// are written, so that a device without room for them is found now, and not in a later write.
-    /// After an error the file that it made is removed.
-    #[tactic(auto, using(crate::proofs::FirstImageLemmas::zeros_are))]
-    pub fn create<R: Files<File = F> + NewFiles>(
+    /// After an error the file that it made is removed. Else it is there, to be kept or removed.
+    pub fn create<'a, R: NewFiles<File = F>>(
         files: &R,
-        path: &str,
+        path: &'a str,
         sectors: u64,
-    ) -> Result<FileDisk<F>, OpenFault>
-    where
-        F: Drop,
-        ensures sectors { IfOk result (λ d. (file_medium d).sectors ≡ sectors) }
-        ensures resized { IfOk result (λ d. IsTrue (F.is_resized_to (file_of d)
-            (sectors * SECTOR_SIZE))) }
-        ensures fresh { IfOk result (λ d. answers_of d ≡ []) }
-        ensures zeros { IfOk result (λ d. first_of d ≡ zeros sectors) }
-        ensures locked { IfOk result (λ d. IsTrue (F.is_locked (file_of d))) }
-        ensures busy { IsErrOf result OpenFault.Busy → ((file : F) × IsTrue (F.is_refused file)) }
+    ) -> Result<(FileDisk<F>, NewFile<'a>), OpenFault>
+        ensures made { IfOk result (λ new.
+            IsMadeAt F.known (R.known files.now) path.entry.now sectors new.0) }
+        ensures there { IfOk result (λ new. new.1.path.now ≡ path.entry.now) }
         ensures large { 2 ^ 54 ≤ sectors → IsErrOf result (Io TooLarge) }
-        ensures made { OnOk result (IsTrue (R.has_made files.now path.now)) }
-        ensures unmade { IfErr result (IsUnmade (R.has_refused files.now path.now)
-            (R.has_made files.now path.now) (R.has_removed files.now path.now) sectors) }
+        ensures unmade { IfErr result
+            (IsUnmade F.known (R.known files.now) path.entry.now sectors) }
     {
         if sectors >= SECTORS_END {
             return Err(OpenFault::Io(OpenCause::TooLarge));
         }
-        let file = files.make_new(path)?;
-        match fill_new_file(files, path, &file, sectors) {
-            Ok(()) => Ok(FileDisk {
-                file,
-                count: sectors,
-                first: FirstImage::of(sectors),
-                past: FileLog::new(),
-            }),
+        let (file, new) = files.make_new(path)?;
+        match fill_new_file(files, &new, &file, sectors) {
+            Ok(()) => Ok((FileDisk::zeroed(file, sectors), new)),
             Err(fault) => {
-                files.remove_new(path);
+                files.remove_new(new);
                 Err(fault)
             }
         }
@@ -102,151 +89,58 @@ impl<F: OpenFile + FileExt + LockFile + SizeFile> FileDisk<F> {
     /// It fails where the path is no block device, where the device has fewer sectors, and from
     /// 2^54 sectors on. What the device has after these sectors stays. It makes and removes no
     /// file.
-    #[tactic(auto, using(crate::proofs::FirstImageLemmas::zeros_are))]
-    pub fn create_on_device<R: Files<File = F>>(
+    pub fn create_on_device<R: DiskFiles<File = F>>(
         files: &R,
         path: &str,
         sectors: u64,
     ) -> Result<FileDisk<F>, OpenFault>
-    where
-        F: DeviceFile + Drop,
-        ensures sectors { IfOk result (λ d. (file_medium d).sectors ≡ sectors) }
-        ensures device { IfOk result (λ d. IsTrue (F.is_found_device (file_of d) true)) }
-        ensures room { IfOk result (λ d. (bytes : ℕ)
-            × IsTrue (F.is_measured_at (file_of d) bytes) × (sectors ≤ bytes / SECTOR_SIZE)) }
-        ensures fresh { IfOk result (λ d. answers_of d ≡ []) }
-        ensures zeros { IfOk result (λ d. first_of d ≡ zeros sectors) }
-        ensures locked { IfOk result (λ d. IsTrue (F.is_locked (file_of d))) }
-        ensures busy { IsErrOf result OpenFault.Busy → ((file : F) × IsTrue (F.is_refused file)) }
+        ensures taken { IfOk result
+            (IsTakenAt F.known (R.known files.now) path.now sectors) }
         ensures large { 2 ^ 54 ≤ sectors → IsErrOf result (Io TooLarge) }
-        ensures other { IsErrOf result (Io NoDevice)
-            → ((file : F) × IsTrue (F.is_found_device file false)) }
+        ensures untaken { IfErr result
+            (IsUntaken F.known (R.known files.now) path.now sectors) }
     {
         if sectors >= SECTORS_END {
             return Err(OpenFault::Io(OpenCause::TooLarge));
         }
-        let file = OpenOptions::new().read(true).write(true).open(files, path)?;
+        let file = files.open_there(path)?;
         take_device(&file, sectors)?;
-        Ok(FileDisk {
-            file,
-            count: sectors,
-            first: FirstImage::of(sectors),
-            past: FileLog::new(),
-        })
+        Ok(FileDisk::zeroed(file, sectors))
     }
 
     /// Opens a file and locks it, before anything of it is read. Bytes past its last whole sector
-    /// are left alone. It has some first image, which no clause names.
-    #[tactic(auto, using(crate::proofs::FirstImageLemmas::zeros_are))]
-    pub fn open<R: Files<File = F>>(files: &R, path: &str) -> Result<FileDisk<F>, OpenFault>
-    where
-        F: Drop,
-        ensures measured { IfOk result (λ d. (bytes : ℕ)
-            × IsTrue (F.is_measured_at (file_of d) bytes)
-            × ((file_medium d).sectors ≡ bytes / SECTOR_SIZE)) }
-        ensures fresh { IfOk result (λ d. answers_of d ≡ []) }
-        ensures locked { IfOk result (λ d. IsTrue (F.is_locked (file_of d))) }
-        ensures busy { IsErrOf result OpenFault.Busy → ((file : F) × IsTrue (F.is_refused file)) }
+    /// are left alone.
+    pub fn open<R: DiskFiles<File = F>>(files: &R, path: &str) -> Result<FileDisk<F>, OpenFault>
+        ensures opened { IfOk result (IsOpenedAt F.known (R.known files.now) path.now) }
+        ensures unopened { IfErr result (IsUnopened F.known (R.known files.now) path.now) }
     {
-        let file = OpenOptions::new().read(true).write(true).open(files, path)?;
+        let file = files.open_there(path)?;
         lock(&file)?;
-        let sectors = file.measure()? / SECTOR_SIZE as u64;
+        let (bytes, first) = file.measure()?;
         Ok(FileDisk {
+            file,
+            count: bytes / SECTOR_SIZE as u64,
+            first,
+            past: FileLog::new(),
+        })
+    }
+
+    /// The disk of so many sectors in a file that was filled with zeros.
+    #[tactic(auto, using(crate::proofs::FirstImageLemmas::zeros_are))]
+    fn zeroed(file: F, sectors: u64) -> FileDisk<F>
+        requires { sectors < 2 ^ 54 }
+        ensures same { file_of result ≡ file }
+        ensures sectors { (file_medium result).sectors ≡ sectors }
+        ensures first { first_of result ≡ zeros sectors }
+        ensures untouched { answers_of result ≡ [] }
+    {
+        FileDisk {
             file,
             count: sectors,
             first: FirstImage::of(sectors),
             past: FileLog::new(),
-        })
+        }
     }
-}
-
-/// Takes the lock of a file for this handle.
-fn lock<F: LockFile>(file: &F) -> Result<(), OpenFault>
-    ensures locked { OnOk result (IsTrue (F.is_locked file.now)) }
-    ensures busy { IsErrOf result OpenFault.Busy → IsTrue (F.is_refused file.now) }
-    ensures device { IsErrOf result (Io NoDevice) → ⊥ }
-{
-    file.try_lock()?;
-    Ok(())
-}
-
-/// Locks a new file, fills it with so many sectors of zeros, and makes it durable with its entry in
-/// its folder.
-fn fill_new_file<F: OpenFile + FileExt + LockFile + SizeFile, R: Files>(
-    files: &R,
-    path: &str,
-    file: &F,
-    sectors: u64,
-) -> Result<(), OpenFault>
-    requires { sectors < 2 ^ 54 }
-    ensures resized { OnOk result (IsTrue (F.is_resized_to file.now (sectors * SECTOR_SIZE))) }
-    ensures locked { OnOk result (IsTrue (F.is_locked file.now)) }
-    ensures busy { IsErrOf result OpenFault.Busy → IsTrue (F.is_refused file.now) }
-{
-    lock(file)?;
-    file.resize(sectors * SECTOR_SIZE as u64)?;
-    fill(file, sectors)?;
-    file.sync_all()?;
-    sync_folder(files, path)
-}
-
-/// Locks a file that is a block device with so many sectors, and fills these.
-fn take_device<F: OpenFile + FileExt + LockFile + SizeFile + DeviceFile>(
-    file: &F,
-    sectors: u64,
-) -> Result<(), OpenFault>
-    requires { sectors < 2 ^ 54 }
-    ensures device { OnOk result (IsTrue (F.is_found_device file.now true)) }
-    ensures room { OnOk result ((bytes : ℕ) × IsTrue (F.is_measured_at file.now bytes)
-        × (sectors ≤ bytes / SECTOR_SIZE)) }
-    ensures locked { OnOk result (IsTrue (F.is_locked file.now)) }
-    ensures busy { IsErrOf result OpenFault.Busy → IsTrue (F.is_refused file.now) }
-    ensures other { IsErrOf result (Io NoDevice) → IsTrue (F.is_found_device file.now false) }
-{
-    if !file.is_block_device()? {
-        return Err(OpenFault::Io(OpenCause::NoDevice));
-    }
-    lock(file)?;
-    if file.measure()? / (SECTOR_SIZE as u64) < sectors {
-        return Err(OpenFault::Io(OpenCause::NoRoom));
-    }
-    fill_device(file, sectors)
-}
-
-/// Fills so many sectors of a block device with zeros, and makes these durable.
-fn fill_device<F: OpenFile + FileExt + LockFile + DeviceFile>(
-    file: &F,
-    sectors: u64,
-) -> Result<(), OpenFault>
-    requires bound { sectors < 2 ^ 54 }
-    requires device { IsTrue (F.is_found_device file.now true) }
-    requires locked { IsTrue (F.is_locked file.now) }
-    ensures busy { IsErrOf result OpenFault.Busy → ⊥ }
-    ensures device { IsErrOf result (Io NoDevice) → ⊥ }
-{
-    fill(file, sectors)?;
-    file.sync_all()?;
-    Ok(())
-}
-
-/// Writes zeros to so many sectors.
-fn fill<F: FileExt>(file: &F, sectors: u64) -> Result<(), OpenFault>
-    requires { sectors < 2 ^ 54 }
-    ensures busy { IsErrOf result OpenFault.Busy → ⊥ }
-    ensures device { IsErrOf result (Io NoDevice) → ⊥ }
-{
-    for sector in 0..sectors {
-        file.write_all_at(&NO_BYTES, sector * SECTOR_SIZE as u64)?;
-    }
-    Ok(())
-}
-
-/// Makes the entry of this path in its folder durable.
-fn sync_folder<R: Files>(files: &R, path: &str) -> Result<(), OpenFault>
-    ensures { IsErrOf result OpenFault.Busy → ⊥ }
-{
-    File::open(files, folder_of(path))?.sync_all()?;
-    Ok(())
 }
 
 impl<F: OpenFile + FileExt> Disk for FileDisk<F> {

@@ -3,8 +3,8 @@
 //!
 //! **A file has a first image, which no code knows.** The log alone would fit every image. Of a
 //! file that was just opened nothing could be said then, and no law about lives would have had an
-//! instance for it. `open` doesn't take that image as a ghost value, since a caller can't pick one
-//! for a call that takes a text.
+//! instance for it. It comes from the call that measures the file (`DiskFile::measure`), so no body
+//! that opens a file can choose it.
 ghost use Rattle.std.specs.Prelude.{◌≡◌};
 ghost use Rattle.std.specs.Borrow.{ftrue};
 ghost use Rattle.sector_disk.specs.rules.DiskImage.{DiskImage, IsDiskImage};
@@ -13,7 +13,7 @@ use std::marker::{Model, PhantomData};
 
 /// An image that code can't read, so it changes no result.
 #[derive(Drop)]
-pub(crate) struct FirstImage {
+pub struct FirstImage {
     mark: PhantomData<()>,
     pub(crate) ghost image: { DiskImage },
 }

@@ -28,9 +28,10 @@
 //! - `FaultDisk` stops or fails at the call that it is told, and hands all others on (`passed_on`).
 //!   Its `calls` are counted.
 //! - `FileDisk` logs each call that it made of its file, with the answer. After a write or a sync
-//!   that failed every call answers `Io`, and the file isn't asked (`logged`). `create`,
-//!   `create_on_device` and `open` give one only with the file's lock (`locked`). `OpenFault` says
-//!   why there is none.
+//!   that failed every call answers `Io`, and the file isn't asked (`logged`). `open`, `create` and
+//!   `create_on_device` give the disk of the file at the path, with its lock (`IsOpenedAt`,
+//!   `IsMadeAt`, `IsTakenAt`). Else a call for that path or of that file has failed, and `OpenFault`
+//!   says so (`IsUnopened`, `IsUnmade`, `IsUntaken`).
 //! - `rewrite` writes each sector of a disk back as it reads it, and syncs. At no moment does it
 //!   add an image to what reads give or to what a cut may leave (`same`, `any_moment`).
 //! - `store_run` writes sectors one after another, and syncs. A cut at any moment leaves of each
@@ -40,7 +41,8 @@
 //!
 //! In `specs/rules/`: `DiskImage`, `IsTorn` (`DiskImage.antt`); `Medium`, `LeavesOnly`, `Reads`,
 //! `Writes`, `SyncsMedium` (`Medium.antt`). Of a disk's state `Memory.antt`, `FaultDisk.antt` or
-//! `File.antt`.
+//! `File.antt`. Of a file that is opened or made `KnownHandles`, `KnownFiles` (`Known.antt`), and
+//! `Open.antt`.
 //!
 //! # Who may touch what
 //!
@@ -48,47 +50,44 @@
 //! crate uses no other one of this repository. A `MemDisk` takes memory in `new` and `cut` alone. A
 //! file is trusted to behave as a disk of the model (`docs/PROMISES.md`): of one that doesn't,
 //! clauses say nothing. A file is locked as long as its `FileDisk` lives, so that no second host
-//! reads or writes it. `LockFile`, `SizeFile`, `DeviceFile` and `NewFiles` are what files have to
-//! answer.
+//! reads or writes it. `DiskFile`, `DiskFiles` and `NewFiles` are what files have to answer.
 #![tactic(auto)]
 
-mod device;
 mod disk;
 mod disk_call;
+mod disk_file;
+mod disk_files;
 mod fault;
 mod fault_disk;
 mod file;
 mod file_call;
 mod file_log;
+mod filling;
 mod first_image;
 mod folder;
 mod front;
 pub mod laws;
-mod lock;
 mod log;
 mod memory;
-mod new_files;
 mod open_cause;
 mod open_fault;
 mod place;
 mod rewriting;
 mod run;
 mod sector;
-mod size;
 mod trouble;
 mod write;
 
-pub use device::DeviceFile;
 pub use disk::Disk;
+pub use disk_file::DiskFile;
+pub use disk_files::{DiskFiles, NewFile, NewFiles};
 pub use fault::DiskFault;
 pub use fault_disk::FaultDisk;
 pub use file::FileDisk;
-pub use lock::LockFile;
+pub use first_image::FirstImage;
 pub use memory::MemDisk;
-pub use new_files::NewFiles;
 pub use open_fault::{OpenCause, OpenFault};
 pub use place::Place;
 pub use rewriting::rewrite;
 pub use run::{store_run, write_run};
 pub use sector::SECTOR_SIZE;
-pub use size::SizeFile;

@@ -1,7 +1,7 @@
 //! What an error of the operating system says of a path.
 ghost use Rattle.std.specs.Prelude.{◌≡◌};
 ghost use Rattle.std.specs.IoError.{error_kind};
-ghost use Rattle.sector_disk.specs.rules.Open.{open_cause, lock_fault};
+ghost use Rattle.sector_disk.specs.rules.Causes.{open_cause, lock_fault};
 ghost use Rattle.sector_disk.specs.declared.open_fault.OpenFault.TheVariants.{Io};
 
 use crate::{OpenCause, OpenFault};

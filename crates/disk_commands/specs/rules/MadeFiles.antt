@@ -1,10 +1,10 @@
 -- A disk that is made for a worker, in a new file or on a device (this project's own).
 use Rattle.std.specs.Prelude.{◌≡◌, ◌≢◌, ◌⊎◌, ℕ, Bool, true, false, List, IsTrue, Some, codes}
-use Rattle.std.specs.declared.io.ErrorKind.{ErrorKind}
 use Rattle.sector_disk.specs.declared.file.FileDisk.{FileDisk}
 use Rattle.sector_disk.specs.declared.open_fault.OpenFault.{OpenFault}
-use Rattle.sector_disk.specs.rules.File.{file_medium, file_of}
-use Rattle.sector_disk.specs.rules.Open.{IsUnmade}
+use Rattle.sector_disk.specs.rules.File.{file_medium}
+use Rattle.sector_disk.specs.rules.Known.{KnownFiles, KnownHandles}
+use Rattle.sector_disk.specs.rules.Open.{IsMadeAt, IsTakenAt, IsUnmade, IsUntaken}
 use Rattle.wasi_abi.specs.rules.Configs.{Settings}
 use Rattle.wasm_decode.specs.declared.items.limit.PassedLimit.{PassedLimit}
 use Rattle.machine_loader.specs.declared.fault.ModuleFault.{ModuleFault}
@@ -22,46 +22,48 @@ use Rattle.command_words.specs.rules.Printers.{PrinterState, IsSaid, SaysText}
 use Rattle.command_words.specs.rules.Reports.{SaysLine}
 use Rattle.command_words.specs.rules.Verdicts.{SaysMore}
 use Rattle.disk_commands.specs.rules.Creations.{CreatesOn}
-use Rattle.disk_commands.specs.rules.Openings.{IsUntouched, open_words}
+use Rattle.disk_commands.specs.rules.Openings.{open_words}
 
--- The disk was made, of as many sectors as are needed, and the worker is created on it. Where the
--- status isn't 0, its file was removed again.
-pub record IsCreatedInFile (F : Type 0) (removed : Bool) (bytes : List ℕ) (prepared : Prepared)
-    (out out' err err' : PrinterState) (status : ℕ) : Type 0 where
-  pub disk : FileDisk F
-  pub disk' : FileDisk F
-  pub untouched : IsUntouched disk
-  pub sectors : (file_medium disk).sectors ≡ prepared.sectors
-  pub creates : CreatesOn file_medium bytes prepared.config disk disk' out out' err err' status
-  pub removes : status ≢ 0 → IsTrue removed
+module _ {F : Type 0} (handles : KnownHandles F) (files : KnownFiles F) where
+  -- The disk was made in a new file at this path, of as many sectors as are needed, the worker was
+  -- created on it, and it was closed. Its file is left there where the status is 0, and else it was
+  -- to be removed.
+  pub record IsCreatedInFile (path bytes : List ℕ) (prepared : Prepared)
+      (out out' err err' : PrinterState) (status : ℕ) : Type 0 where
+    pub disk : FileDisk F
+    pub disk' : FileDisk F
+    pub made : IsMadeAt handles files path prepared.sectors disk
+    pub closed : IsTrue (files.closed disk')
+    pub creates : CreatesOn file_medium bytes prepared.config disk disk' out out' err err' status
+    pub keeps : status ≡ 0 → IsTrue (files.kept path)
+    pub removes : status ≢ 0 → IsTrue (files.removed path)
 
--- No file is made at this path, or none is left, and it is said why. Or one is made, and the worker
--- created on it.
-abbrev pub CreatesFile : (F : Type 0) → (ErrorKind → Bool) → Bool → Bool → List ℕ → List ℕ
-    → Prepared → PrinterState → PrinterState → PrinterState → PrinterState → ℕ → Type 0
-CreatesFile F refused made removed path bytes prepared out out' err err' status =
-    ((why : OpenFault) × IsUnmade refused made removed prepared.sectors why
-    × SaysLine (open_words path why) 4 err status err' × (out' ≡ out))
-    ⊎ IsCreatedInFile F removed bytes prepared out out' err err' status
+  -- No file is made at this path, or none is left, and it is said why. Or one is made, and the
+  -- worker created on it.
+  abbrev pub CreatesFile : List ℕ → List ℕ → Prepared → PrinterState → PrinterState
+      → PrinterState → PrinterState → ℕ → Type 0
+  CreatesFile path bytes prepared out out' err err' status =
+      ((why : OpenFault) × IsUnmade handles files path prepared.sectors why
+      × SaysLine (open_words path why) 4 err status err' × (out' ≡ out))
+      ⊎ IsCreatedInFile path bytes prepared out out' err err' status
 
--- ---- on a device
+  -- The disk is on the block device at this path, of as many sectors as are needed, the worker was
+  -- created on it, and it was closed.
+  pub record IsCreatedOnDevice (path bytes : List ℕ) (prepared : Prepared)
+      (out out' err err' : PrinterState) (status : ℕ) : Type 0 where
+    pub disk : FileDisk F
+    pub disk' : FileDisk F
+    pub taken : IsTakenAt handles files path prepared.sectors disk
+    pub closed : IsTrue (files.closed disk')
+    pub creates : CreatesOn file_medium bytes prepared.config disk disk' out out' err err' status
 
--- The disk is on such a device, of as many sectors as are needed, and the worker is created on it.
-pub record IsCreatedOnDevice {F : Type 0} (is_device : F → Bool) (bytes : List ℕ)
-    (prepared : Prepared) (out out' err err' : PrinterState) (status : ℕ) : Type 0 where
-  pub disk : FileDisk F
-  pub disk' : FileDisk F
-  pub device : IsTrue (is_device (file_of disk))
-  pub untouched : IsUntouched disk
-  pub sectors : (file_medium disk).sectors ≡ prepared.sectors
-  pub creates : CreatesOn file_medium bytes prepared.config disk disk' out out' err err' status
-
--- It is said why the path can't be taken. Or the worker is created on the device that it names.
-abbrev pub CreatesOnDevice : {F : Type 0} → (F → Bool) → List ℕ → List ℕ → Prepared
-    → PrinterState → PrinterState → PrinterState → PrinterState → ℕ → Type 0
-CreatesOnDevice is_device path bytes prepared out out' err err' status =
-    ((why : OpenFault) × SaysLine (open_words path why) 4 err status err' × (out' ≡ out))
-    ⊎ IsCreatedOnDevice is_device bytes prepared out out' err err' status
+  -- It is said why the path can't be taken. Or the worker is created on the device that it names.
+  abbrev pub CreatesOnDevice : List ℕ → List ℕ → Prepared → PrinterState → PrinterState
+      → PrinterState → PrinterState → ℕ → Type 0
+  CreatesOnDevice path bytes prepared out out' err err' status =
+      ((why : OpenFault) × IsUntaken handles files path prepared.sectors why
+      × SaysLine (open_words path why) 4 err status err' × (out' ≡ out))
+      ⊎ IsCreatedOnDevice path bytes prepared out out' err err' status
 
 -- ---- as the words say
 
@@ -85,22 +87,21 @@ pub record SaysUnprepared (bytes : List ℕ) (why : Unprepared) (old : PrinterSt
   pub more : (fault : ModuleFault) → why ≡ unprepared.Module fault → SaysMore bytes fault new
   pub status : IsSaid (status_unprepared why) old answered new
 
-module _ (F : Type 0) (is_device : F → Bool) (refused : ErrorKind → Bool) (made removed : Bool)
-  where
-    -- The disk is a device that is there, where the words ask for one, and a new file where not.
-    abbrev pub MakesDisk : Bool → List ℕ → List ℕ → Prepared → PrinterState → PrinterState
-        → PrinterState → PrinterState → ℕ → Type 0
-    MakesDisk true path bytes prepared out out' err err' status =
-        CreatesOnDevice is_device path bytes prepared out out' err err' status
-    MakesDisk false path bytes prepared out out' err err' status =
-        CreatesFile F refused made removed path bytes prepared out out' err err' status
+module _ {F : Type 0} (handles : KnownHandles F) (files : KnownFiles F) where
+  -- The disk is a device that is there, where the words ask for one, and a new file where not.
+  abbrev pub MakesDisk : Bool → List ℕ → List ℕ → Prepared → PrinterState → PrinterState
+      → PrinterState → PrinterState → ℕ → Type 0
+  MakesDisk true path bytes prepared out out' err err' status =
+      CreatesOnDevice handles files path bytes prepared out out' err err' status
+  MakesDisk false path bytes prepared out out' err err' status =
+      CreatesFile handles files path bytes prepared out out' err err' status
 
-    -- It is said why the settings or the module keep a worker from being created, and nothing is
-    -- made. Or a worker of these settings is created on the disk of the words.
-    abbrev pub CreatesDisk : CreateMeaning → List ℕ → PrinterState → PrinterState → PrinterState
-        → PrinterState → ℕ → Type 0
-    CreatesDisk said bytes out out' err err' status =
-        ((why : Unprepared) × IsUnprepared (settings_said said) bytes why
-        × SaysUnprepared bytes why err status err' × (out' ≡ out))
-        ⊎ ((prepared : Prepared) × IsPreparedAs (settings_said said) bytes prepared
-        × MakesDisk said.on_device said.disk bytes prepared out out' err err' status)
+  -- It is said why the settings or the module keep a worker from being created, and nothing is
+  -- made. Or a worker of these settings is created on the disk of the words.
+  abbrev pub CreatesDisk : CreateMeaning → List ℕ → PrinterState → PrinterState → PrinterState
+      → PrinterState → ℕ → Type 0
+  CreatesDisk said bytes out out' err err' status =
+      ((why : Unprepared) × IsUnprepared (settings_said said) bytes why
+      × SaysUnprepared bytes why err status err' × (out' ≡ out))
+      ⊎ ((prepared : Prepared) × IsPreparedAs (settings_said said) bytes prepared
+      × MakesDisk said.on_device said.disk bytes prepared out out' err err' status)

@@ -1,5 +1,6 @@
 -- A disk in a file as a command opens it, or why there is none (this project's own).
-use Rattle.std.specs.Prelude.{◌≡◌, ◌≢◌, ◌⊎◌, ◌++◌, List, [], ℕ, Bool, true, false, codes}
+use Rattle.std.specs.Prelude.{◌≡◌, ◌≢◌, ◌<◌, ◌⊎◌, ◌++◌, List, ℕ, Bool, true, false, codes}
+use Rattle.std.specs.Prelude.{IsTrue}
 use Rattle.std.specs.declared.io.ErrorKind.{ErrorKind}
 use Rattle.std.specs.declared.io.ErrorKind.TheVariants.{OutOfMemory}
 use Rattle.sector_disk.specs.declared.file.FileDisk.{FileDisk}
@@ -8,9 +9,11 @@ use Rattle.sector_disk.specs.declared.open_fault.OpenCause.TheVariants as cause
 use Rattle.sector_disk.specs.declared.open_fault.OpenFault.{OpenFault}
 use Rattle.sector_disk.specs.declared.open_fault.OpenFault.TheVariants as opening
 use Rattle.sector_disk.specs.rules.Calls.{synced_writes}
-use Rattle.sector_disk.specs.rules.File.{answers_of, file_medium}
+use Rattle.sector_disk.specs.rules.File.{file_medium}
 use Rattle.sector_disk.specs.rules.Medium.{IsAllSynced}
-use Rattle.sector_disk.specs.rules.Open.{open_cause}
+use Rattle.sector_disk.specs.rules.Causes.{open_cause}
+use Rattle.sector_disk.specs.rules.Known.{KnownFiles, KnownHandles}
+use Rattle.sector_disk.specs.rules.Open.{IsOpenedAt, IsUnopened}
 use Rattle.sector_disk.specs.rules.Rewrite.{AddsNothing}
 use Rattle.command_words.specs.rules.Printers.{PrinterState}
 use Rattle.command_words.specs.rules.Reports.{SaysLine, obstacle_words}
@@ -51,35 +54,44 @@ SaysUnread path kind old status new =
 
 -- ---- the disk of a command
 
--- It is said why the file isn't opened, or that the disk failed before a command began with it. The
--- status is 4, or 7 where a write has failed.
-abbrev pub SaysUnopened : List ℕ → PrinterState → ℕ → PrinterState → Type 0
-SaysUnopened path old status new =
-    ((why : OpenFault) × SaysLine (open_words path why) 4 old status new)
-    ⊎ SaysLine (obstacle_words Unread) 4 old status new
+-- Of a disk that was opened each sector was written back, in rising order, and then synced once.
+-- Reads give what they gave.
+pub record IsWrittenBack {F : Type 0} (opened disk : FileDisk F) : Type 0 where
+  pub adds_nothing : AddsNothing (file_medium opened) (file_medium disk)
+  pub all_synced : IsAllSynced (file_medium disk)
+  pub calls : (file_medium disk).calls ≡ synced_writes 0 (file_medium disk).sectors
 
-module _ {F : Type 0} where
-  -- no call of its file was made since it was opened
-  abbrev pub IsUntouched : FileDisk F → Type 0
-  IsUntouched disk = answers_of disk ≡ []
+module _ {F : Type 0} (handles : KnownHandles F) (files : KnownFiles F) where
+  -- It was opened at this path, and written back where that was asked for.
+  abbrev pub IsOpenedFor : Bool → List ℕ → FileDisk F → Type 0
+  IsOpenedFor true path disk =
+      (opened : FileDisk F) × IsOpenedAt handles files path opened × IsWrittenBack opened disk
+  IsOpenedFor false path disk = IsOpenedAt handles files path disk
 
-  -- Since it was opened each sector was written back, in rising order, and then synced once. Reads
-  -- give what they gave.
-  pub record IsWrittenBack (opened disk : FileDisk F) : Type 0 where
-    pub untouched : IsUntouched opened
-    pub adds_nothing : AddsNothing (file_medium opened) (file_medium disk)
-    pub all_synced : IsAllSynced (file_medium disk)
-    pub calls : (file_medium disk).calls ≡ synced_writes 0 (file_medium disk).sectors
+  -- The disk that was opened at this path has failed while it was written back. That is said.
+  pub record SaysUnrewritten (path : List ℕ) (old : PrinterState) (status : ℕ) (new : PrinterState)
+      : Type 0 where
+    pub opened : FileDisk F
+    pub disk : FileDisk F
+    pub at : IsOpenedAt handles files path opened
+    pub fails : (file_medium opened).faults < (file_medium disk).faults
+    pub closed : IsTrue (files.closed disk)
+    pub says : SaysLine (obstacle_words Unread) 4 old status new
 
-  -- It is written back where that was asked for, and untouched where it wasn't.
-  abbrev pub IsOpenedFor : Bool → FileDisk F → Type 0
-  IsOpenedFor true disk = (opened : FileDisk F) × IsWrittenBack opened disk
-  IsOpenedFor false disk = IsUntouched disk
+  -- It is said why no disk is opened at this path, or, where it was to be written back, that this
+  -- has failed. The status is 4, or 7 where a write has failed.
+  abbrev pub SaysUnopened : Bool → List ℕ → PrinterState → ℕ → PrinterState → Type 0
+  SaysUnopened rewrites path old status new =
+      ((why : OpenFault) × IsUnopened handles files path why
+      × SaysLine (open_words path why) 4 old status new)
+      ⊎ (IsTrue rewrites × SaysUnrewritten path old status new)
 
--- A disk in a file was opened, and nothing was done with it but to show it. Or none was opened.
-abbrev pub ShowsFile : (F : Type 0) → List ℕ → PrinterState → PrinterState → PrinterState
-    → PrinterState → ℕ → Type 0
-ShowsFile F path out out' err err' status =
-    ((disk : FileDisk F) × (disk' : FileDisk F) × IsUntouched disk
-    × ShowsDisk (file_medium disk) (file_medium disk') out out' err err' status)
-    ⊎ (SaysUnopened path err status err' × (out' ≡ out))
+  -- A disk was opened at this path, nothing was done with it but to show it, and it was closed. Or
+  -- it is said why none was opened.
+  abbrev pub ShowsFile : List ℕ → PrinterState → PrinterState → PrinterState → PrinterState → ℕ
+      → Type 0
+  ShowsFile path out out' err err' status =
+      ((disk : FileDisk F) × (disk' : FileDisk F) × IsOpenedAt handles files path disk
+      × IsTrue (files.closed disk')
+      × ShowsDisk (file_medium disk) (file_medium disk') out out' err err' status)
+      ⊎ (SaysUnopened false path err status err' × (out' ≡ out))

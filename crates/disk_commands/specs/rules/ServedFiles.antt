@@ -1,10 +1,12 @@
 -- A disk in a file whose worker goes on, as the words say (this project's own).
 use Rattle.std.specs.Prelude.{◌≡◌, ◌⊎◌, ℕ, Bool, List, Option, Some, None, Result, Ok, Err}
-use Rattle.std.specs.Prelude.{option_map}
+use Rattle.std.specs.Prelude.{false, option_map, IsTrue}
 use Rattle.std.specs.Int.NonZero.{non_zero_u64_get}
 use Rattle.sector_disk.specs.declared.file.FileDisk.{FileDisk}
 use Rattle.sector_disk.specs.rules.File.{file_medium}
+use Rattle.sector_disk.specs.rules.Known.{KnownFiles, KnownHandles}
 use Rattle.sector_disk.specs.rules.Medium.{Medium}
+use Rattle.sector_disk.specs.rules.Open.{IsOpenedAt}
 use Rattle.wasi_abi.specs.declared.version.Version.{Version}
 use Rattle.record_replay.specs.rules.Calls.{Taking}
 use Rattle.command_words.specs.declared.lines.flaw.LineFlaw.{LineFlaw}
@@ -16,7 +18,7 @@ use Rattle.disk_commands.specs.declared.on_disk.found_file.FoundFile.{FoundFile}
 use Rattle.disk_commands.specs.declared.on_disk.running.RunJob.{RunJob}
 use Rattle.disk_commands.specs.declared.on_disk.upgrading.Upgraded.{Upgraded}
 use Rattle.disk_commands.specs.rules.Leavings.{SaysOfInput}
-use Rattle.disk_commands.specs.rules.Openings.{IsOpenedFor, IsUntouched, SaysUnopened}
+use Rattle.disk_commands.specs.rules.Openings.{IsOpenedFor, SaysUnopened}
 use Rattle.disk_commands.specs.rules.StatusFiles.{SaysUnwatched}
 use Rattle.disk_commands.specs.rules.Refusals.{HeedsRefusal}
 use Rattle.disk_commands.specs.rules.SeedFiles.{IsSeedFrom, SaysSeedless}
@@ -78,20 +80,22 @@ RunsJob medium takes path before disk' outlet' err' status =
     ⊎ ServesToEnd medium takes before disk' outlet' err' status
 
 -- It is said why the seed or the disk keeps it from running, and no line is released. Or the disk
--- was opened as the words say, and their job is done on it. Where they ask for it the error output is
--- told what a person is told.
-pub data RunsFile (F : Type 0) {O : Type 0} (takes : Taking O) (said : RunMeaning)
-    (lines : Option (List ℕ)) (failed : Bool) (outlet outlet' : O) (err err' : PrinterState)
-    (status : ℕ) : Type 0 where
+-- was opened as the words say, their job was done on it, and it was closed. Where they ask for it
+-- the error output is told what a person is told.
+pub data RunsFile {F O : Type 0} (handles : KnownHandles F) (files : KnownFiles F)
+    (takes : Taking O) (said : RunMeaning) (lines : Option (List ℕ)) (failed : Bool)
+    (outlet outlet' : O) (err err' : PrinterState) (status : ℕ) : Type 0 where
   seedless : SaysSeedless said.seed_file said.seed err status err' → outlet' ≡ outlet
-      → RunsFile F takes said lines failed outlet outlet' err err' status
-  unopened : SaysUnopened said.disk err status err' → outlet' ≡ outlet
-      → RunsFile F takes said lines failed outlet outlet' err err' status
+      → RunsFile handles files takes said lines failed outlet outlet' err err' status
+  unopened : SaysUnopened handles files said.rewrites said.disk err status err'
+      → outlet' ≡ outlet
+      → RunsFile handles files takes said lines failed outlet outlet' err err' status
   opened : (job : RunJob) → IsJobOf said job → (disk : FileDisk F) (disk' : FileDisk F)
-      → IsOpenedFor said.rewrites disk → RunsJob file_medium takes said.status
+      → IsOpenedFor handles files said.rewrites said.disk disk → IsTrue (files.closed disk')
+      → RunsJob file_medium takes said.status
       (run_start (job_given job lines failed) disk outlet (read_along said.is_verbose err)) disk'
       outlet' err' status
-      → RunsFile F takes said lines failed outlet outlet' err err' status
+      → RunsFile handles files takes said lines failed outlet outlet' err err' status
 
 -- ---- an upgrade
 
@@ -104,23 +108,25 @@ SaysUpgraded (Ok upgraded) out out' err err' status =
 SaysUpgraded (Err fault) out out' err err' status =
     (status ≡ fault) × (out' ≡ out) × (err' ≡ err)
 
--- The disk was opened, and not written back. Its worker was brought to version 2, with its lines on
--- the output, or that has failed. Then the result is said.
-pub record UpgradesOpened (F : Type 0) (out out' err err' : PrinterState) (status : ℕ)
-    : Type 0 where
-  pub disk : FileDisk F
-  pub disk' : FileDisk F
-  pub untouched : IsUntouched disk
-  pub upgraded : Result Upgraded ℕ
-  pub told : PrinterState
-  pub between : PrinterState
-  pub upgrades : UpgradesOnDisk file_medium printing upgraded disk disk' out told err between
-  pub heeds : HeedsRefusal printing out told between (status_so_far upgraded)
-  pub says : SaysUpgraded upgraded told out' between err' status
+module _ {F : Type 0} (handles : KnownHandles F) (files : KnownFiles F) where
+  -- The disk was opened at this path, and not written back. Its worker was brought to version 2,
+  -- with its lines on the output, or that has failed. Then it was closed, and the result is said.
+  pub record UpgradesOpened (path : List ℕ) (out out' err err' : PrinterState) (status : ℕ)
+      : Type 0 where
+    pub disk : FileDisk F
+    pub disk' : FileDisk F
+    pub at : IsOpenedAt handles files path disk
+    pub closed : IsTrue (files.closed disk')
+    pub upgraded : Result Upgraded ℕ
+    pub told : PrinterState
+    pub between : PrinterState
+    pub upgrades : UpgradesOnDisk file_medium printing upgraded disk disk' out told err between
+    pub heeds : HeedsRefusal printing out told between (status_so_far upgraded)
+    pub says : SaysUpgraded upgraded told out' between err' status
 
--- So it was. Or none was opened.
-abbrev pub UpgradesFile : (F : Type 0) → List ℕ → PrinterState → PrinterState → PrinterState
-    → PrinterState → ℕ → Type 0
-UpgradesFile F path out out' err err' status =
-    UpgradesOpened F out out' err err' status
-    ⊎ (SaysUnopened path err status err' × (out' ≡ out))
+  -- So it was. Or it is said why none was opened.
+  abbrev pub UpgradesFile : List ℕ → PrinterState → PrinterState → PrinterState → PrinterState
+      → ℕ → Type 0
+  UpgradesFile path out out' err err' status =
+      UpgradesOpened path out out' err err' status
+      ⊎ (SaysUnopened handles files false path err status err' × (out' ≡ out))

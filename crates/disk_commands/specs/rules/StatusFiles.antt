@@ -52,12 +52,11 @@ SaysTaken has_found path old status new =
 abbrev pub beside : List ℕ → List ℕ
 beside path = path ++ codes ".new"
 
--- Both paths of a status file were found free. A new file was made at the one beside, and removed.
-abbrev pub IsWatchable : (List ℕ → FoundFile → Bool) → (List ℕ → Bool) → (List ℕ → Bool) → List ℕ
-    → Type 0
-IsWatchable has_found has_made has_removed path =
+-- Both paths of a status file were found free. A file that was made at the one beside was removed.
+abbrev pub IsWatchable : (List ℕ → FoundFile → Bool) → (List ℕ → Bool) → List ℕ → Type 0
+IsWatchable has_found removed path =
     HasFoundFree (has_found path) × HasFoundFree (has_found (beside path))
-    × IsTrue (has_made (beside path)) × IsTrue (has_removed (beside path))
+    × IsTrue (removed (beside path))
 
 -- It is said of one of them why it can't be had.
 abbrev pub SaysUnwatched : (List ℕ → FoundFile → Bool) → List ℕ → PrinterState → ℕ

@@ -2,47 +2,52 @@
 //!
 //! # Promises
 //!
-//! - `open_disk`: where no rewrite is asked for, the disk of a file of which no call was made since
-//!   it was opened. Else each sector was written back, and synced (`IsOpenedFor`). `show_file` says
-//!   what `survey` says of a disk that was opened so (`ShowsFile`). No clause says of these that
-//!   the disk is the file at the path: scripts show it.
+//! - `open_disk`: the disk that this call has opened at the path. Where a rewrite is asked for each
+//!   sector was written back, and synced (`IsOpenedFor`). Else it is said why there is none: the
+//!   path was refused, or a call of that file has failed (`SaysUnopened`).
+//! - `show_file` opens the disk at the path, says of it what `survey` says, and closes it
+//!   (`ShowsFile`). So it is with the others here. What is printed is of that disk, whatever image
+//!   was on it.
 
-ghost use Rattle.std.specs.Prelude.{◌≡◌, ◌≤◌, false, IfErr, IfOk, OnOk, option_map};
+ghost use Rattle.std.specs.Prelude.{◌≡◌, ◌≤◌, ◌<◌, [], IfErr, IfOk, IsTrue, OnOk, option_map};
+ghost use Rattle.sector_disk.specs.rules.File.{answers_of, file_medium};
 ghost use Rattle.command_words.specs.rules.Reports.{SaysLine, obstacle_words};
-ghost use Rattle.disk_commands.specs.rules.Openings.{IsOpenedFor, SaysUnopened, ShowsFile};
+ghost use Rattle.disk_commands.specs.rules.Openings.{IsOpenedFor, IsWrittenBack, SaysUnopened};
+ghost use Rattle.disk_commands.specs.rules.Openings.{ShowsFile};
 ghost use Rattle.disk_commands.specs.rules.LookedFiles.{TellsFile, TellsFilesOf};
 
 use crate::inspecting::{inspect_disk, list_files};
 use crate::on_disk::opening::report_open;
 use crate::on_disk::showing::survey;
 use command_words::{Obstacle, Printer, report};
-use sector_disk::{FileDisk, LockFile, SizeFile, rewrite};
+use sector_disk::{DiskFile, DiskFiles, FileDisk, rewrite};
 use std::alloc::Global;
-use std::fs::OpenFile;
 use std::io::Write;
-use std::os::unix::fs::FileExt;
-use std::rt::Files;
 
-/// Writes every sector of a disk back where that is asked for, and hands the disk on.
-fn written_back<F: OpenFile + FileExt + LockFile + SizeFile + Drop, E: Write + Drop>(
+/// Writes every sector of a disk that was just opened back, and hands the disk on. Where that
+/// fails, it is closed, and that is said.
+fn written_back<F: DiskFile, R: DiskFiles<File = F>, E: Write + Drop>(
+    files: &R,
     disk: FileDisk<F>,
-    rewrites: bool,
     err: &mut Printer<E>,
 ) -> Result<FileDisk<F>, u8>
-    requires { IsOpenedFor false disk }
-    ensures opened { IfOk result (IsOpenedFor rewrites) }
+    requires { answers_of disk ≡ [] }
+    ensures written { IfOk result (IsWrittenBack disk) }
     ensures quiet { OnOk result (err.new ≡ err.old) }
+    ensures failed { IfErr result (λ _. (left : FileDisk F)
+        × ((file_medium disk).faults < (file_medium left).faults)
+        × IsTrue ((R.known files.now).closed left)) }
     ensures said { IfErr result (λ status.
         SaysLine (obstacle_words Obstacle.Unread) 4 err.old status err.new) }
     ensures known { IfErr result (λ status. status ≤ 7) }
 {
-    if !rewrites {
-        return Ok(disk);
-    }
     let mut disk = disk;
     match rewrite(&mut disk) {
         Ok(()) => Ok(disk),
-        Err(_) => Err(report(err, Obstacle::Unread)),
+        Err(_) => {
+            files.close(disk);
+            Err(report(err, Obstacle::Unread))
+        }
     }
 }
 
@@ -56,21 +61,23 @@ pub fn open_disk<F, R, E>(
     err: &mut Printer<E>,
 ) -> Result<FileDisk<F>, u8>
 where
-    F: OpenFile + FileExt + LockFile + SizeFile + Drop,
-    R: Files<File = F>,
+    F: DiskFile,
+    R: DiskFiles<File = F>,
     E: Write + Drop,
-    ensures opened { IfOk result (IsOpenedFor rewrites) }
+    ensures opened { IfOk result (IsOpenedFor F.known (R.known files.now) rewrites path.now) }
     ensures quiet { OnOk result (err.new ≡ err.old) }
-    ensures said { IfErr result (λ status. SaysUnopened path.now err.old status err.new) }
+    ensures said { IfErr result (λ status. SaysUnopened F.known (R.known files.now) rewrites
+        path.now err.old status err.new) }
     ensures known { IfErr result (λ status. status ≤ 7) }
 {
     match FileDisk::open(files, path) {
-        Ok(disk) => written_back(disk, rewrites, err),
+        Ok(disk) if rewrites => written_back(files, disk, err),
+        Ok(disk) => Ok(disk),
         Err(fault) => Err(report_open(err, path, fault)),
     }
 }
 
-/// `wasmhost show` of the disk in a file: it is opened, and then only surveyed. Returns the exit
+/// `wasmhost show` of the disk in a file: it is opened, only surveyed, and closed. Returns the exit
 /// status.
 pub fn show_file<F, R, W, E>(
     alloc: Global,
@@ -80,20 +87,25 @@ pub fn show_file<F, R, W, E>(
     err: &mut Printer<E>,
 ) -> u8
 where
-    F: OpenFile + FileExt + LockFile + SizeFile + Drop,
-    R: Files<File = F>,
+    F: DiskFile,
+    R: DiskFiles<File = F>,
     W: Write + Drop,
     E: Write + Drop,
-    ensures shows { ShowsFile F path.now out.old out.new err.old err.new result }
+    ensures shows { ShowsFile F.known (R.known files.now) path.now out.old out.new err.old err.new
+        result }
     ensures known { result ≤ 7 }
 {
     match open_disk(files, path, false, err) {
-        Ok(mut disk) => survey(alloc, &mut disk, out, err),
+        Ok(mut disk) => {
+            let status = survey(alloc, &mut disk, out, err);
+            files.close(disk);
+            status
+        }
         Err(status) => status,
     }
 }
 
-/// `wasmhost inspect` of the disk in a file: it is opened, and then only inspected. Returns the
+/// `wasmhost inspect` of the disk in a file: it is opened, only inspected, and closed. Returns the
 /// exit status.
 pub fn inspect_file<F, R, W, E>(
     alloc: Global,
@@ -104,21 +116,26 @@ pub fn inspect_file<F, R, W, E>(
     err: &mut Printer<E>,
 ) -> u8
 where
-    F: OpenFile + FileExt + LockFile + SizeFile + Drop,
-    R: Files<File = F>,
+    F: DiskFile,
+    R: DiskFiles<File = F>,
     W: Write + Drop,
     E: Write + Drop,
-    ensures tells { TellsFile F as_json path.now out.old out.new err.old err.new result }
+    ensures tells { TellsFile F.known (R.known files.now) as_json path.now out.old out.new err.old
+        err.new result }
     ensures known { result ≤ 7 }
 {
     match open_disk(files, path, false, err) {
-        Ok(mut disk) => inspect_disk(alloc, &mut disk, as_json, out, err),
+        Ok(mut disk) => {
+            let status = inspect_disk(alloc, &mut disk, as_json, out, err);
+            files.close(disk);
+            status
+        }
         Err(status) => status,
     }
 }
 
-/// `wasmhost files` of the disk in a file: it is opened, and then only inspected. Returns the exit
-/// status.
+/// `wasmhost files` of the disk in a file: it is opened, only inspected, and closed. Returns the
+/// exit status.
 pub fn files_file<F, R, W, E>(
     alloc: Global,
     files: &R,
@@ -128,16 +145,21 @@ pub fn files_file<F, R, W, E>(
     err: &mut Printer<E>,
 ) -> u8
 where
-    F: OpenFile + FileExt + LockFile + SizeFile + Drop,
-    R: Files<File = F>,
+    F: DiskFile,
+    R: DiskFiles<File = F>,
     W: Write + Drop,
     E: Write + Drop,
-    ensures tells { TellsFilesOf F (option_map (λ text. text.now) path.entry) disk.now out.old
-        out.new err.old err.new result }
+    ensures tells { TellsFilesOf F.known (R.known files.now)
+        (option_map (λ text. text.now) path.entry) disk.now out.old out.new err.old err.new
+        result }
     ensures known { result ≤ 7 }
 {
     match open_disk(files, disk, false, err) {
-        Ok(mut disk) => list_files(alloc, &mut disk, path, out, err),
+        Ok(mut disk) => {
+            let status = list_files(alloc, &mut disk, path, out, err);
+            files.close(disk);
+            status
+        }
         Err(status) => status,
     }
 }

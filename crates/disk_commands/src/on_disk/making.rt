@@ -6,18 +6,19 @@
 //!   the disk, at its start. `created N sectors` was printed then. What the other statuses say is
 //!   said too, and what a cut at any moment leaves (`creates`). Where the output can't be written,
 //!   that is told on the error output.
-//! - `create_file` is `create_on` of a disk whose file it makes. Where the status isn't 0 that file
-//!   is removed again, and no other one is (`CreatesFile`). `create_device` is `create_on` of a
-//!   block device that is there (`CreatesOnDevice`). `create_disk` does what the words of a
-//!   creation say: with their sizes, arguments and environment, on a device or in a new file
-//!   (`CreatesDisk`).
+//! - `create_file` is `create_on` of a disk whose file it makes at the path. Where the status is 0
+//!   that file is left there, and else it is removed again. No other one is (`CreatesFile`).
+//!   `create_device` is `create_on` of a block device that is there (`CreatesOnDevice`). Where no
+//!   file or device is had, the path was refused, or a call of the file has failed. `create_disk`
+//!   does what the words of a creation say: with their sizes, arguments and environment, on a
+//!   device or in a new file (`CreatesDisk`).
 //!
 //! # Choices
 //!
 //! - **A configuration and a module are looked at before the disk's file is made**, and once more
 //!   by the creation. That costs a second decoding, once in a worker's life.
 
-ghost use Rattle.std.specs.Prelude.{◌≡◌, ◌≤◌, IfErr, IfOk, true};
+ghost use Rattle.std.specs.Prelude.{◌≡◌, ◌≢◌, ◌≤◌, IfErr, IfOk, IsTrue};
 ghost use Rattle.command_words.specs.rules.Commands.{create_said};
 ghost use Rattle.command_words.specs.rules.Preparations.{IsPreparedAs, IsUnprepared};
 ghost use Rattle.disk_commands.specs.rules.MadeFiles.{CreatesDisk, CreatesFile};
@@ -29,12 +30,9 @@ use crate::on_disk::opening::report_open;
 use command_words::{
     CreateOrder, Prepared, Printer, Sizes, Unprepared, prepare, report_unprepared,
 };
-use sector_disk::{DeviceFile, FileDisk, LockFile, NewFiles, SizeFile};
+use sector_disk::{DiskFile, DiskFiles, FileDisk, NewFile, NewFiles};
 use std::alloc::Global;
-use std::fs::OpenFile;
 use std::io::Write;
-use std::os::unix::fs::FileExt;
-use std::rt::Files;
 
 /// A disk that is to be made, and the worker that is to be created on it.
 #[derive(Clone, Copy)]
@@ -47,6 +45,18 @@ pub struct NewDisk<'a> {
     pub prepared: &'a Prepared,
 }
 
+/// Leaves a new file at its path where the status is 0, and removes it where it isn't.
+fn keep_if_created<R: NewFiles>(files: &R, new: NewFile<'_>, status: u8)
+    ensures keeps { status ≡ 0 → IsTrue ((R.known files.now).kept new.entry.path.now) }
+    ensures removes { status ≢ 0 → IsTrue ((R.known files.now).removed new.entry.path.now) }
+{
+    if status == 0 {
+        files.keep_new(new);
+    } else {
+        files.remove_new(new);
+    }
+}
+
 /// `wasmhost create` of a disk in a file: the file is made, and a worker created on it. Where that
 /// fails, the file is removed again. Returns the exit status.
 pub fn create_file<F, R, W, E>(
@@ -57,14 +67,12 @@ pub fn create_file<F, R, W, E>(
     err: &mut Printer<E>,
 ) -> u8
 where
-    F: OpenFile + FileExt + LockFile + SizeFile + Drop,
-    R: Files<File = F> + NewFiles,
+    F: DiskFile,
+    R: NewFiles<File = F>,
     W: Write + Drop,
     E: Write + Drop,
-    ensures creates { CreatesFile F (R.has_refused files.now new.entry.path.now)
-        (R.has_made files.now new.entry.path.now) (R.has_removed files.now new.entry.path.now)
-        new.entry.path.now new.entry.wasm.now new.entry.prepared.now
-        out.old out.new err.old err.new result }
+    ensures creates { CreatesFile F.known (R.known files.now) new.entry.path.now
+        new.entry.wasm.now new.entry.prepared.now out.old out.new err.old err.new result }
     ensures known { result ≤ 7 }
 {
     let NewDisk {
@@ -72,14 +80,13 @@ where
         wasm,
         prepared,
     } = new;
-    let mut disk = match FileDisk::create(files, path, prepared.sectors) {
-        Ok(disk) => disk,
+    let (mut disk, made) = match FileDisk::create(files, path, prepared.sectors) {
+        Ok(made) => made,
         Err(fault) => return report_open(err, path, fault),
     };
     let status = create_on(alloc, &mut disk, wasm, &prepared.config, out, err);
-    if status != 0 {
-        files.remove_new(path);
-    }
+    keep_if_created(files, made, status);
+    files.close(disk);
     status
 }
 
@@ -93,11 +100,11 @@ pub fn create_device<F, R, W, E>(
     err: &mut Printer<E>,
 ) -> u8
 where
-    F: OpenFile + FileExt + LockFile + SizeFile + DeviceFile + Drop,
-    R: Files<File = F>,
+    F: DiskFile,
+    R: DiskFiles<File = F>,
     W: Write + Drop,
     E: Write + Drop,
-    ensures creates { CreatesOnDevice (λ file. F.is_found_device file true) new.entry.path.now
+    ensures creates { CreatesOnDevice F.known (R.known files.now) new.entry.path.now
         new.entry.wasm.now new.entry.prepared.now out.old out.new err.old err.new result }
     ensures known { result ≤ 7 }
 {
@@ -110,7 +117,9 @@ where
         Ok(disk) => disk,
         Err(fault) => return report_open(err, path, fault),
     };
-    create_on(alloc, &mut disk, wasm, &prepared.config, out, err)
+    let status = create_on(alloc, &mut disk, wasm, &prepared.config, out, err);
+    files.close(disk);
+    status
 }
 
 /// A creation on a block device, where that is asked for, or in a new file. Returns the exit
@@ -124,13 +133,11 @@ fn make_disk<F, R, W, E>(
     err: &mut Printer<E>,
 ) -> u8
 where
-    F: OpenFile + FileExt + LockFile + SizeFile + DeviceFile + Drop,
-    R: Files<File = F> + NewFiles,
+    F: DiskFile,
+    R: NewFiles<File = F>,
     W: Write + Drop,
     E: Write + Drop,
-    ensures makes { MakesDisk F (λ file. F.is_found_device file true)
-        (R.has_refused files.now new.entry.path.now) (R.has_made files.now new.entry.path.now)
-        (R.has_removed files.now new.entry.path.now) on_device new.entry.path.now
+    ensures makes { MakesDisk F.known (R.known files.now) on_device new.entry.path.now
         new.entry.wasm.now new.entry.prepared.now out.old out.new err.old err.new result }
     ensures known { result ≤ 7 }
 {
@@ -175,13 +182,11 @@ pub fn create_disk<F, R, W, E>(
     err: &mut Printer<E>,
 ) -> u8
 where
-    F: OpenFile + FileExt + LockFile + SizeFile + DeviceFile + Drop,
-    R: Files<File = F> + NewFiles,
+    F: DiskFile,
+    R: NewFiles<File = F>,
     W: Write + Drop,
     E: Write + Drop,
-    ensures creates { CreatesDisk F (λ file. F.is_found_device file true)
-        (R.has_refused files.now order.now.disk.now) (R.has_made files.now order.now.disk.now)
-        (R.has_removed files.now order.now.disk.now) (create_said order.now) wasm.now
+    ensures creates { CreatesDisk F.known (R.known files.now) (create_said order.now) wasm.now
         out.old out.new err.old err.new result }
     ensures known { result ≤ 7 }
 {

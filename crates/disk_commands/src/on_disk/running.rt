@@ -27,11 +27,9 @@ use command_words::{
     BufferedLines, LineOutlet, Outside, Printer, RealTime, RequestSource, RunOrder,
 };
 use record_replay::Outlet;
-use sector_disk::{Disk, FileDisk, LockFile, SizeFile};
+use sector_disk::{Disk, DiskFile, DiskFiles, FileDisk};
 use std::alloc::Global;
-use std::fs::OpenFile;
 use std::io::{BufReader, Read, Seek, Write};
-use std::os::unix::fs::FileExt;
 use std::rt::Files;
 use std::time::Clock;
 
@@ -114,7 +112,7 @@ fn run_job<D, F, R, I, C, O, E>(
 ) -> u8
 where
     D: Disk,
-    F: LockFile + OpenFile + Read + Write + Seek + Drop,
+    F: DiskFile + Read + Write + Seek,
     R: Files<File = F> + Clock,
     I: Read + Drop,
     C: RealTime + Drop,
@@ -159,24 +157,25 @@ fn run_seeded<F, R, I, C, O, E>(
     err: &mut Printer<E>,
 ) -> u8
 where
-    F: OpenFile + FileExt + LockFile + SizeFile + Read + Write + Seek + Drop,
-    R: Files<File = F> + Clock,
+    F: DiskFile + Read + Write + Seek,
+    R: DiskFiles<File = F> + Files<File = F> + Clock,
     I: Read + Drop,
     C: RealTime + Drop,
     O: Outlet,
     E: Write + Drop,
     requires { IsSeedFrom (run_said order.now).seed_file (run_said order.now).seed seed }
-    ensures runs { RunsFile F O.takes (run_said order.now)
+    ensures runs { RunsFile F.known (R.known system.entry.files.now) O.takes (run_said order.now)
         (reader_remaining I.remaining system.entry.lines.reader) system.entry.lines.has_failed
         outlet.old outlet.new err.old err.new result }
     ensures known { result ≤ 7 }
 {
     let job = job_of(order, seed);
-    match open_disk(system.files, order.disk, order.rewrites, err) {
+    let files = system.files;
+    match open_disk(files, order.disk, order.rewrites, err) {
         Ok(mut disk) => {
             err.read_along(order.is_verbose);
             let status = run_job(alloc, &mut disk, job, system, outlet, err);
-            drop(disk);
+            files.close(disk);
             status
         }
         Err(status) => status,
@@ -194,13 +193,13 @@ pub fn run_file<F, R, I, C, O, E>(
     err: &mut Printer<E>,
 ) -> u8
 where
-    F: OpenFile + FileExt + LockFile + SizeFile + Read + Write + Seek + Drop,
-    R: Files<File = F> + Clock,
+    F: DiskFile + Read + Write + Seek,
+    R: DiskFiles<File = F> + Files<File = F> + Clock,
     I: Read + Drop,
     C: RealTime + Drop,
     O: Outlet,
     E: Write + Drop,
-    ensures runs { RunsFile F O.takes (run_said order.now)
+    ensures runs { RunsFile F.known (R.known system.entry.files.now) O.takes (run_said order.now)
         (reader_remaining I.remaining system.entry.lines.reader) system.entry.lines.has_failed
         outlet.old outlet.new err.old err.new result }
     ensures known { result ≤ 7 }
@@ -222,17 +221,18 @@ pub fn upgrade_file<F, R, W, E>(
     err: &mut Printer<E>,
 ) -> u8
 where
-    F: OpenFile + FileExt + LockFile + SizeFile + Drop,
-    R: Files<File = F>,
+    F: DiskFile,
+    R: DiskFiles<File = F>,
     W: Write + Drop,
     E: Write + Drop,
-    ensures upgrades { UpgradesFile F path.now outlet.old outlet.new err.old err.new result }
+    ensures upgrades { UpgradesFile F.known (R.known files.now) path.now outlet.old outlet.new
+        err.old err.new result }
     ensures known { result ≤ 7 }
 {
     match open_disk(files, path, false, err) {
         Ok(mut disk) => {
             let upgraded = upgrade_worker(alloc, &mut disk, outlet, err);
-            drop(disk);
+            files.close(disk);
             say_upgraded(upgraded, outlet, err)
         }
         Err(status) => status,

@@ -13,6 +13,8 @@ ghost use Rattle.std.specs.Prelude.{◌≡◌, ◌≤◌, ◌↔◌, ◌⊎◌, 
 ghost use Rattle.std.specs.Prelude.{OnOk, codes, string_bytes};
 ghost use Rattle.std.specs.IoError.{error_kind};
 ghost use Rattle.std.specs.Io.KnownBytes.{Appends};
+ghost use Rattle.sector_disk.specs.declared.open_fault.OpenFault.TheVariants.{Io};
+ghost use Rattle.sector_disk.specs.rules.Causes.{open_cause};
 ghost use Rattle.ephemeral_worker.specs.declared.now.Now.TheVariants.{Spent};
 ghost use Rattle.command_words.specs.rules.Reports.{SaysLine};
 ghost use Rattle.disk_commands.specs.rules.StatusFiles.{HasFoundFree, IsFreePath, IsWatchable};
@@ -78,14 +80,14 @@ fn look_at_free<R: WatchedPaths, E: Write + Drop>(
 /// there is removed first.
 fn try_new<R: WatchedPaths>(files: &R, path: &str, here: &FoundFile) -> io::Result<()>
     requires found { IsTrue (R.has_found files.now path.now here.now) }
-    ensures made { OnOk result (IsTrue (R.has_made files.now path.now)) }
-    ensures removed { OnOk result (IsTrue (R.has_removed files.now path.now)) }
+    ensures { OnOk result (IsTrue ((R.known files.now).removed path.now)) }
 {
     if here.is_status_file() {
         files.remove_status_file(path)?;
     }
-    drop(files.make_new(path)?);
-    files.remove_new(path);
+    let (file, new) = files.make_new(path)?;
+    drop(file);
+    files.remove_new(new);
     Ok(())
 }
 
@@ -98,7 +100,7 @@ fn clear_beside<R: WatchedPaths, E: Write + Drop>(
     err: &mut Printer<E>,
 ) -> Result<(), u8>
     ensures free { OnOk result (HasFoundFree (R.has_found files.now path.now)
-        × IsTrue (R.has_made files.now path.now) × IsTrue (R.has_removed files.now path.now)) }
+        × IsTrue ((R.known files.now).removed path.now)) }
     ensures quiet { OnOk result (err.new ≡ err.old) }
     ensures said { IfErr result (λ status.
         SaysTaken (R.has_found files.now path.now) path.now err.old status err.new) }
@@ -124,8 +126,8 @@ fn clear_paths<R: WatchedPaths, E: Write + Drop>(
     err: &mut Printer<E>,
 ) -> Result<(), u8>
     requires { new.now ≡ beside path.now }
-    ensures free { OnOk result (IsWatchable (R.has_found files.now) (R.has_made files.now)
-        (R.has_removed files.now) path.now) }
+    ensures free { OnOk result (IsWatchable (R.has_found files.now) (R.known files.now).removed
+        path.now) }
     ensures quiet { OnOk result (err.new ≡ err.old) }
     ensures said { IfErr result (λ status.
         SaysUnwatched (R.has_found files.now) path.now err.old status err.new) }
@@ -189,20 +191,19 @@ impl<R: WatchedPaths> StatusFile<'_, R> {
         ensures put { OnOk result (IsTrue (R.has_renamed self.now.files.now
             (string_bytes self.now.beside) self.now.path.now)) }
         ensures left { IfErr result (λ error.
-            IsTrue (R.has_refused self.now.files.now (string_bytes self.now.beside)
-            (error_kind error))
-            ⊎ IsTrue (R.has_removed self.now.files.now (string_bytes self.now.beside))) }
+            IsTrue ((R.known self.now.files.now).refused (string_bytes self.now.beside)
+            (Io (open_cause (error_kind error))))
+            ⊎ IsTrue ((R.known self.now.files.now).removed (string_bytes self.now.beside))) }
     {
-        let beside = self.beside.as_str();
-        let mut file = self.files.make_new(beside)?;
+        let (mut file, new) = self.files.make_new(self.beside.as_str())?;
         let written = write_at_once(&mut file, line);
         drop(file);
         let put = match written {
-            Ok(()) => self.files.rename_new(beside, self.path),
+            Ok(()) => self.files.rename_new(&new, self.path),
             Err(error) => Err(error),
         };
         if put.is_err() {
-            self.files.remove_new(beside);
+            self.files.remove_new(new);
         }
         put
     }
@@ -274,8 +275,7 @@ pub fn status_file_of<'a, R: WatchedPaths, E: Write + Drop>(
 ) -> Result<Option<StatusFile<'a, R>>, u8>
     ensures named { IfOk result (λ file. IsSome file ↔ IsSome path.entry) }
     ensures free { IfSome path.entry (λ text. OnOk result (IsWatchable
-        (R.has_found files.entry.now) (R.has_made files.entry.now) (R.has_removed files.entry.now)
-        text.now)) }
+        (R.has_found files.entry.now) (R.known files.entry.now).removed text.now)) }
     ensures quiet { OnOk result (err.new ≡ err.old) }
     ensures said { IfErr result (λ status. IfSome path.entry (λ text.
         SaysUnwatched (R.has_found files.entry.now) text.now err.old status err.new)) }

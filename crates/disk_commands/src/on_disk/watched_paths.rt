@@ -5,9 +5,9 @@ ghost use Rattle.disk_commands.specs.declared.on_disk.status_line.TheConstants.{
 
 use crate::on_disk::found_file::FoundFile;
 use crate::on_disk::status_line::LONGEST;
-use sector_disk::{LockFile, NewFiles};
+use sector_disk::{DiskFile, NewFile, NewFiles};
 use std::alloc::Global;
-use std::fs::{File, OpenFile, TryLockError};
+use std::fs::{File, TryLockError};
 use std::io::{self, Error, ErrorKind, Read, Seek, Write};
 use std::rt::Files;
 
@@ -25,7 +25,7 @@ fn read_front<R: Read + Drop>(alloc: Global, reader: R) -> io::Result<Vec<u8>>
 }
 
 /// What a regular file is. An empty one may be a disk that is being made, which is locked then.
-fn look_into<F: LockFile + Read + Drop>(alloc: Global, mut file: F) -> io::Result<FoundFile> {
+fn look_into<F: DiskFile + Read>(alloc: Global, mut file: F) -> io::Result<FoundFile> {
     let front = read_front(alloc, &mut file)?;
     if front.is_empty() && matches!(file.try_lock(), Err(TryLockError::WouldBlock)) {
         return Ok(FoundFile::Locked);
@@ -55,16 +55,15 @@ pub trait WatchedPaths: NewFiles {
         requires { HasFoundStatusFile (has_found self.now path.now) };
 
     /// Gives a new file the name of a path.
-    fn rename_new(&self, new: &str, path: &str) -> io::Result<()>
-        requires made { IsTrue (Self.has_made self.now new.now) }
-        requires free { HasFoundFree (has_found self.now path.now) }
-        ensures { OnOk result (IsTrue (has_renamed self.now new.now path.now)) };
+    fn rename_new(&self, new: &NewFile<'_>, path: &str) -> io::Result<()>
+        requires { HasFoundFree (has_found self.now path.now) }
+        ensures { OnOk result (IsTrue (has_renamed self.now new.now.path.now path.now)) };
 }
 
 // Of the system's files no more is known than what it answers.
 impl<F, R> WatchedPaths for R
 where
-    F: LockFile + OpenFile + Read + Write + Seek + Drop,
+    F: DiskFile + Read + Write + Seek,
     R: Files<File = F>,
 {
     ghost use Rattle.std.specs.Prelude.{true};
@@ -99,7 +98,7 @@ where
         self.remove_file(path)
     }
 
-    fn rename_new(&self, new: &str, path: &str) -> io::Result<()> {
-        self.rename(new, path)
+    fn rename_new(&self, new: &NewFile<'_>, path: &str) -> io::Result<()> {
+        self.rename(new.path(), path)
     }
 }

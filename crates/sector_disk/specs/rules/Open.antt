@@ -1,46 +1,72 @@
--- What an error of the operating system says of a path, and why no file is made.
-use Rattle.std.specs.Prelude.{◌≡◌, ◌≤◌, ◌^◌, ◌⊎◌, ℕ, Bool, IsTrue}
-use Rattle.std.specs.IoError.{error_kind}
-use Rattle.std.specs.declared.io.ErrorKind.{ErrorKind}
-use Rattle.std.specs.declared.io.ErrorKind.TheVariants.{IsADirectory, NotADirectory, NotFound}
-use Rattle.std.specs.declared.io.ErrorKind.TheVariants.{PermissionDenied, ReadOnlyFilesystem}
-use Rattle.std.specs.declared.io.ErrorKind.TheVariants.{AlreadyExists, StorageFull}
-use Rattle.std.specs.declared.io.ErrorKind.TheVariants.{QuotaExceeded, FileTooLarge}
-use Rattle.std.specs.declared.io.ErrorKind.TheVariants.{InvalidFilename, FilesystemLoop}
-use Rattle.std.specs.declared.fs.locks.TryLockError.{TryLockError}
-use Rattle.std.specs.declared.fs.locks.TryLockError.TheVariants.{Error, WouldBlock}
-use Rattle.sector_disk.specs.declared.open_fault.OpenCause.{OpenCause}
-use Rattle.sector_disk.specs.declared.open_fault.OpenCause.TheVariants.{Folder, NoFolder, Missing}
-use Rattle.sector_disk.specs.declared.open_fault.OpenCause.TheVariants.{Forbidden, ReadOnly, Exists}
-use Rattle.sector_disk.specs.declared.open_fault.OpenCause.TheVariants.{NoRoom, Quota, TooLarge}
-use Rattle.sector_disk.specs.declared.open_fault.OpenCause.TheVariants.{LongName, Loop, Other}
+-- A disk in a file as it was opened or made at a path, or why there is none.
+use Rattle.std.specs.Prelude.{◌≡◌, ◌<◌, ◌≤◌, ◌⊎◌, ◌^◌, ◌*◌, ◌/◌, ℕ, List, [], true, false, IsTrue}
+use Rattle.sector_disk.specs.rules.DiskImage.{DiskImage, zeros}
+use Rattle.sector_disk.specs.rules.File.{answers_of, file_medium, file_of, first_of}
+use Rattle.sector_disk.specs.rules.Known.{KnownFiles, KnownHandles}
+use Rattle.sector_disk.specs.declared.file.FileDisk.{FileDisk}
+use Rattle.sector_disk.specs.declared.open_fault.OpenCause.TheVariants.{NoDevice, NoRoom, TooLarge}
 use Rattle.sector_disk.specs.declared.open_fault.OpenFault.{OpenFault}
-use Rattle.sector_disk.specs.declared.open_fault.OpenFault.TheVariants.{Busy, Io}
+use Rattle.sector_disk.specs.declared.open_fault.OpenFault.TheVariants.{Io}
+use Rattle.sector_disk.specs.declared.sector.TheConstants.{SECTOR_SIZE}
 
--- what an error of this kind says of a path
-abbrev pub open_cause : ErrorKind → OpenCause
-open_cause IsADirectory = Folder
-open_cause NotADirectory = NoFolder
-open_cause NotFound = Missing
-open_cause PermissionDenied = Forbidden
-open_cause ReadOnlyFilesystem = ReadOnly
-open_cause AlreadyExists = Exists
-open_cause StorageFull = NoRoom
-open_cause QuotaExceeded = Quota
-open_cause FileTooLarge = TooLarge
-open_cause InvalidFilename = LongName
-open_cause FilesystemLoop = Loop
-open_cause kind = Other
+-- no file can have so many sectors
+abbrev pub IsTooLarge : ℕ → OpenFault → Type 0
+IsTooLarge count why = (2 ^ 54 ≤ count) × (why ≡ Io TooLarge)
 
--- a file is busy where its lock isn't to be had at once
-abbrev pub lock_fault : TryLockError → OpenFault
-lock_fault WouldBlock = Busy
-lock_fault (Error error) = Io (open_cause (error_kind error))
+-- a file is no block device, or has fewer sectors
+abbrev pub IsUnfit : {F : Type 0} → KnownHandles F → ℕ → F → OpenFault → Type 0
+IsUnfit handles count file why = (IsTrue (handles.device file false) × (why ≡ Io NoDevice))
+    ⊎ ((bytes : ℕ) × (image : DiskImage) × IsTrue (handles.measured file bytes image)
+    × (bytes / SECTOR_SIZE < count) × (why ≡ Io NoRoom))
 
--- Why no file is made for so many sectors. They are too many; or the system has refused it, by an
--- error of this kind; or a file was made, and removed again.
-abbrev pub IsUnmade : (ErrorKind → Bool) → Bool → Bool → ℕ → OpenFault → Type 0
-IsUnmade refused made removed sectors why =
-    ((2 ^ 54 ≤ sectors) × (why ≡ Io TooLarge))
-    ⊎ ((kind : ErrorKind) × IsTrue (refused kind) × (why ≡ Io (open_cause kind)))
-    ⊎ (IsTrue made × IsTrue removed)
+module _ {F : Type 0} (handles : KnownHandles F) (files : KnownFiles F) (path : List ℕ) where
+  -- The disk in the file at this path, locked and not asked for anything yet. It has the image that
+  -- was in the file's whole sectors.
+  pub record IsOpenedAt (disk : FileDisk F) : Type 0 where
+    pub opened : IsTrue (files.opened path (file_of disk))
+    pub locked : IsTrue (handles.locked (file_of disk))
+    pub bytes : ℕ
+    pub measured : IsTrue (handles.measured (file_of disk) bytes (first_of disk))
+    pub sectors : (file_medium disk).sectors ≡ bytes / SECTOR_SIZE
+    pub untouched : answers_of disk ≡ []
+
+  -- Why none is opened there: the system refuses the path, or a call of the file fails.
+  abbrev pub IsUnopened : OpenFault → Type 0
+  IsUnopened why = IsTrue (files.refused path why)
+      ⊎ ((file : F) × IsTrue (files.opened path file) × IsTrue (handles.failed file why))
+
+  -- The disk in a file that was made at this path, locked and not asked for anything yet: so many
+  -- sectors of zeros.
+  pub record IsMadeAt (count : ℕ) (disk : FileDisk F) : Type 0 where
+    pub made : IsTrue (files.made path (file_of disk))
+    pub locked : IsTrue (handles.locked (file_of disk))
+    pub resized : IsTrue (handles.resized (file_of disk) (count * SECTOR_SIZE))
+    pub sectors : (file_medium disk).sectors ≡ count
+    pub first : first_of disk ≡ zeros count
+    pub untouched : answers_of disk ≡ []
+
+  -- Why none is made there. There are too many sectors; or the system refuses the path; or a file
+  -- was made, a call of it or of its folder has failed, and it was removed again.
+  abbrev pub IsUnmade : ℕ → OpenFault → Type 0
+  IsUnmade count why = IsTooLarge count why ⊎ IsTrue (files.refused path why)
+      ⊎ ((file : F) × IsTrue (files.made path file) × IsTrue (files.removed path)
+      × (IsTrue (handles.failed file why) ⊎ IsTrue (files.unsynced path why)))
+
+  -- The disk on a block device at this path, locked and not asked for anything yet: its first so
+  -- many sectors, of zeros.
+  pub record IsTakenAt (count : ℕ) (disk : FileDisk F) : Type 0 where
+    pub opened : IsTrue (files.opened path (file_of disk))
+    pub locked : IsTrue (handles.locked (file_of disk))
+    pub device : IsTrue (handles.device (file_of disk) true)
+    pub bytes : ℕ
+    pub before : DiskImage
+    pub measured : IsTrue (handles.measured (file_of disk) bytes before)
+    pub room : count ≤ bytes / SECTOR_SIZE
+    pub sectors : (file_medium disk).sectors ≡ count
+    pub first : first_of disk ≡ zeros count
+    pub untouched : answers_of disk ≡ []
+
+  -- Why none is taken there: there are too many sectors, or none is opened, or the file isn't fit.
+  abbrev pub IsUntaken : ℕ → OpenFault → Type 0
+  IsUntaken count why = IsTooLarge count why ⊎ IsUnopened why
+      ⊎ ((file : F) × IsTrue (files.opened path file) × IsUnfit handles count file why)

@@ -1,5 +1,5 @@
 use Rattle.sector_disk.specs.rules.DiskImage.{zeros}
-use Rattle.sector_disk.proofs.file.FileDisk.create.Given as goal
+use Rattle.sector_disk.proofs.file.FileDisk.zeroed.Given as goal
 
 -- the zeros that it was filled with
 abbrev pub ghost-of : goal.ghost-of

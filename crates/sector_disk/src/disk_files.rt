@@ -1,0 +1,126 @@
+//! The files that disks are in, by their paths.
+//!
+//! # Choices
+//!
+//! - **A disk is opened and made by these calls alone.** So what a clause says of a path is what
+//!   the system has answered for it. A body that was given only them can't remove a file, or get
+//!   another handle of it, in a way that its contract doesn't see.
+//! - **A new file is kept or removed, once**: `NewFile` is lent to nobody, and each of the two takes
+//!   it.
+//! - **A disk is closed by a call** (`close`), which only clauses read. It says that the disk had
+//!   these answers in the end.
+
+ghost use Rattle.std.specs.Prelude.{◌≡◌};
+
+use crate::FileDisk;
+use crate::folder::folder_of;
+use std::fs::{File, OpenFile, OpenOptions};
+use std::io;
+use std::io::Write;
+use std::rt::Files;
+
+/// Files of which one can be opened.
+pub trait DiskFiles {
+    ghost use Rattle.std.specs.Prelude.{IsTrue, IfErr, IfOk};
+    ghost use Rattle.std.specs.IoError.{error_kind};
+    ghost use Rattle.sector_disk.specs.declared.open_fault.OpenFault.TheVariants.{Io};
+    ghost use Rattle.sector_disk.specs.rules.Known.{KnownFiles};
+    ghost use Rattle.sector_disk.specs.rules.Causes.{open_cause};
+
+    type File: Write + Drop;
+
+    ghost known: { Self → KnownFiles Self.File };
+
+    /// Opens the file at a path, to read and to write it.
+    fn open_there(&self, path: &str) -> io::Result<Self::File>
+        ensures opened { IfOk result (λ file. IsTrue ((known self.now).opened path.now file)) }
+        ensures refused { IfErr result (λ error.
+            IsTrue ((known self.now).refused path.now (Io (open_cause (error_kind error))))) };
+
+    /// Closes a disk, so that another host may open it.
+    fn close(&self, disk: FileDisk<Self::File>)
+        ensures { IsTrue ((known self.now).closed disk) };
+}
+
+/// A file that was made at a path, where there was none.
+#[derive(Drop)]
+pub struct NewFile<'a> {
+    path: &'a str,
+}
+
+impl NewFile<'_> {
+    /// The path at which it was made.
+    pub fn path(&self) -> &str
+        ensures { result.now ≡ self.now.path.now }
+    {
+        self.path
+    }
+}
+
+/// Files of which a new one can be made, and none but such a one be removed.
+pub trait NewFiles: DiskFiles {
+    ghost use Rattle.std.specs.Prelude.{◌≡◌, IsTrue, IfErr, IfOk};
+    ghost use Rattle.std.specs.IoError.{error_kind};
+    ghost use Rattle.sector_disk.specs.declared.open_fault.OpenFault.TheVariants.{Io};
+    ghost use Rattle.sector_disk.specs.rules.Causes.{open_cause};
+
+    /// Makes a file where there is no such path.
+    fn make_new<'a>(&self, path: &'a str) -> io::Result<(Self::File, NewFile<'a>)>
+        ensures made { IfOk result (λ new.
+            IsTrue ((Self.known self.now).made path.entry.now new.0)
+            × (new.1.path.now ≡ path.entry.now)) }
+        ensures refused { IfErr result (λ error. IsTrue ((Self.known self.now).refused
+            path.entry.now (Io (open_cause (error_kind error))))) };
+
+    /// Makes the entry of a new file in its folder durable.
+    fn sync_entry(&self, new: &NewFile<'_>) -> io::Result<()>
+        ensures refused { IfErr result (λ error. IsTrue ((Self.known self.now).unsynced
+            new.now.path.now (Io (open_cause (error_kind error))))) };
+
+    /// Leaves it at its path.
+    fn keep_new(&self, new: NewFile<'_>)
+        ensures { IsTrue ((Self.known self.now).kept new.entry.path.now) };
+
+    /// Removes it. Where the system refuses that, the file stays.
+    fn remove_new(&self, new: NewFile<'_>)
+        ensures { IsTrue ((Self.known self.now).removed new.entry.path.now) };
+}
+
+// Of the system's files no more is known than what it answers.
+impl<R: Files> DiskFiles for R {
+    ghost use Rattle.std.specs.Prelude.{IsTrue};
+    ghost use Rattle.sector_disk.specs.rules.Known.{all_said_of_files};
+
+    type File = R::File;
+
+    ghost known = { λ _. all_said_of_files };
+
+    fn open_there(&self, path: &str) -> io::Result<R::File> {
+        OpenOptions::new().read(true).write(true).open(self, path)
+    }
+
+    fn close(&self, disk: FileDisk<R::File>)
+        ensures { IsTrue (all_said_of_files.closed disk) }
+    {
+        drop(disk);
+    }
+}
+
+impl<R: Files> NewFiles for R {
+    fn make_new<'a>(&self, path: &'a str) -> io::Result<(R::File, NewFile<'a>)> {
+        let file = File::create_new(self, path)?;
+        Ok((file, NewFile { path }))
+    }
+
+    fn sync_entry(&self, new: &NewFile<'_>) -> io::Result<()> {
+        File::open(self, folder_of(new.path))?.sync_all()
+    }
+
+    fn keep_new(&self, new: NewFile<'_>) {
+        drop(new);
+    }
+
+    fn remove_new(&self, new: NewFile<'_>) {
+        let _ = self.remove_file(new.path);
+    }
+}
