@@ -118,8 +118,9 @@ const NO_CONFIGURATION: Option<LayoutFault> = Some(LayoutFault::Damaged(Damage::
 
 const OTHER_AREA_SECTORS: Option<LayoutFault> = Some(LayoutFault::Damaged(Damage::AreaSectors));
 
-const OTHER_JOURNAL_SECTORS: Option<LayoutFault> =
-    Some(LayoutFault::Damaged(Damage::JournalSectors));
+const OTHER_JOURNAL_SECTORS: Option<LayoutFault> = Some(LayoutFault::Damaged(
+    Damage::JournalSectors,
+));
 
 /// What is another, and what is then wrong.
 static CHANGES: [(Change, Option<LayoutFault>); 35] = [
@@ -154,14 +155,8 @@ static CHANGES: [(Change, Option<LayoutFault>); 35] = [
         Change::Numbers((28, 2, 2304, 64, SECTORS)),
         OTHER_MODULE_SECTORS,
     ),
-    (
-        Change::Numbers((28, 2, 2304, 64, 3)),
-        OTHER_MODULE_SECTORS,
-    ),
-    (
-        Change::Numbers((27, 1, 2304, 64, SECTORS)),
-        OTHER_DIGEST,
-    ),
+    (Change::Numbers((28, 2, 2304, 64, 3)), OTHER_MODULE_SECTORS),
+    (Change::Numbers((27, 1, 2304, 64, SECTORS)), OTHER_DIGEST),
     (
         Change::Numbers((28, 1, 2305, 64, SECTORS)),
         OTHER_AREA_SECTORS,
@@ -179,10 +174,7 @@ static CHANGES: [(Change, Option<LayoutFault>); 35] = [
         Change::Numbers((28, 1, 2305, 65, SECTORS)),
         OTHER_AREA_SECTORS,
     ),
-    (
-        Change::Numbers((27, 1, 2305, 64, SECTORS)),
-        OTHER_DIGEST,
-    ),
+    (Change::Numbers((27, 1, 2305, 64, SECTORS)), OTHER_DIGEST),
     // Damaged disks.
     (Change::Bit(0, 7), Some(LayoutFault::NotAWorker)),
     (Change::Bit(0, 504), Some(LayoutFault::NotAWorker)),

@@ -144,9 +144,7 @@ fn judge_scan(scanned: ScannedJournal) -> Result<Vec<Record>, ReadFault>
         shows_later,
     } = scanned;
     if shows_later {
-        return Err(ReadFault::Layout(LayoutFault::Damaged(
-            Damage::LaterGeneration,
-        )));
+        return Err(ReadFault::Layout(LayoutFault::Damaged(Damage::LaterGeneration)));
     }
     Ok(records)
 }

@@ -14,7 +14,7 @@ use Rattle.disk_layout.specs.declared.damage.Damage.TheVariants as damage
 use Rattle.disk_layout.specs.declared.stored.Stored.{Stored}
 use Rattle.disk_layout.specs.rules.Places.{Geometry, geometry_of, config_bytes, total_sectors}
 use Rattle.disk_layout.specs.rules.Sectors.{Super, bytes_from, SectorsHold, super_of}
-use Rattle.disk_layout.specs.rules.Stored.{IsKnown, IsConsistent, IsStored, HasOtherDigest}
+use Rattle.disk_layout.specs.rules.Stored.{IsKnown, IsConsistent, Checks, IsStored, HasOtherDigest}
 use Rattle.disk_layout.specs.rules.Stored.{FindsStored}
 use Rattle.disk_layout.specs.declared.reading.contents.Contents.{Contents}
 use Rattle.disk_layout.specs.rules.Held.{IsHeld, ReachesContents, GivesContents, IsStoredOf, Agrees}
@@ -203,19 +203,26 @@ gives_stored sectors image stored (Ok c) is agrees =
 gives_stored sectors image stored (Err (Damaged damage.Configuration)) is agrees = (
   stored_whole sectors image stored is,
   λ s has. agrees s (record {
-        within = has.within;
-        spelled = sym (stored_config sectors image stored is) ∙ has.spelled;
-      }),
+    within = has.within;
+    spelled = sym (stored_config sectors image stored is) ∙ has.spelled;
+  }),
 )
 gives_stored sectors image stored (Err (Damaged damage.AreaSectors)) is agrees =
-    let P : Geometry → Type 0 = λ g. HasAreasOf g agrees.0 → ⊥ in
-    (agrees.0, stored_settings sectors image stored agrees.0 is agrees.1, subst P is.geometry
-    agrees.2)
+    let P : Geometry → Type 0 = λ g. HasAreasOf g agrees.0 → ⊥ in (
+      agrees.0,
+      stored_settings sectors image stored agrees.0 is agrees.1,
+      subst P is.geometry
+          agrees.2,
+    )
 gives_stored sectors image stored (Err (Damaged damage.JournalSectors)) is agrees =
     let P : Geometry → Type 0 = λ g. HasAreasOf g agrees.0 in
-    let Q : Geometry → Type 0 = λ g. HasJournalOf g agrees.0 → ⊥ in
-    (agrees.0, stored_settings sectors image stored agrees.0 is agrees.1, subst P is.geometry
-    agrees.2, subst Q is.geometry agrees.3)
+    let Q : Geometry → Type 0 = λ g. HasJournalOf g agrees.0 → ⊥ in (
+      agrees.0,
+      stored_settings sectors image stored agrees.0 is agrees.1,
+      subst P is.geometry
+          agrees.2,
+      subst Q is.geometry agrees.3,
+    )
 gives_stored sectors image stored (Err (Damaged other)) is agrees = absurd agrees
 gives_stored sectors image stored (Err TooSmall) is agrees =
     inr (
@@ -316,7 +323,7 @@ held_areas sectors image c s held has =
     let same : s ≡ c.config = one_configuration sectors image s c.config has
     (held_settings sectors image c held has.whole) in
     let P : Settings → Type 0 = λ x. HasAreasOf (super_of (sector_at image 0)).geometry x
-        × HasJournalOf (super_of (sector_at image 0)).geometry x in
+    × HasJournalOf (super_of (sector_at image 0)).geometry x in
     subst P (sym same) (
       ap (λ (x : Geometry). x.area_sectors) says.geometry,
       ap (λ (x : Geometry). x.journal_sectors) says.geometry,

@@ -42,20 +42,25 @@ const VERSION: Halt = Halt::Recovery(RecoverFault::Layout(LayoutFault::Version))
 
 const TOO_SMALL: Halt = Halt::Recovery(RecoverFault::Layout(LayoutFault::TooSmall));
 
-const OTHER_MODULE_SECTORS: Halt =
-    Halt::Recovery(RecoverFault::Layout(LayoutFault::Damaged(Damage::ModuleSectors)));
+const OTHER_MODULE_SECTORS: Halt = Halt::Recovery(RecoverFault::Layout(LayoutFault::Damaged(
+    Damage::ModuleSectors,
+)));
 
-const OTHER_DIGEST: Halt =
-    Halt::Recovery(RecoverFault::Layout(LayoutFault::Damaged(Damage::ContentsDigest)));
+const OTHER_DIGEST: Halt = Halt::Recovery(RecoverFault::Layout(LayoutFault::Damaged(
+    Damage::ContentsDigest,
+)));
 
-const OTHER_AREA_SECTORS: Halt =
-    Halt::Recovery(RecoverFault::Layout(LayoutFault::Damaged(Damage::AreaSectors)));
+const OTHER_AREA_SECTORS: Halt = Halt::Recovery(RecoverFault::Layout(LayoutFault::Damaged(
+    Damage::AreaSectors,
+)));
 
-const SHORT_JOURNAL: Halt =
-    Halt::Recovery(RecoverFault::Layout(LayoutFault::Damaged(Damage::ShortJournal)));
+const SHORT_JOURNAL: Halt = Halt::Recovery(RecoverFault::Layout(LayoutFault::Damaged(
+    Damage::ShortJournal,
+)));
 
-const LATER_GENERATION: Halt =
-    Halt::Recovery(RecoverFault::Layout(LayoutFault::Damaged(Damage::LaterGeneration)));
+const LATER_GENERATION: Halt = Halt::Recovery(RecoverFault::Layout(LayoutFault::Damaged(
+    Damage::LaterGeneration,
+)));
 
 const SNAPSHOT: Halt = Halt::Recovery(RecoverFault::Snapshot(SnapshotFault::Damaged));
 
@@ -547,7 +552,11 @@ fn disk_of(alloc: Global, damage: &DamagedDisk) -> Result<MemDisk, Halt> {
 }
 
 /// Whether a recovery says so after the damage, with so many calls.
-fn is_said_of(alloc: Global, disk: &mut FaultDisk<MemDisk>, damage: &DamagedDisk) -> Result<bool, Halt> {
+fn is_said_of(
+    alloc: Global,
+    disk: &mut FaultDisk<MemDisk>,
+    damage: &DamagedDisk,
+) -> Result<bool, Halt> {
     let opens = says(alloc, disk)?;
     let are_so_many = match damage.calls {
         Some(calls) => disk.calls() == calls,
