@@ -243,10 +243,15 @@ LINES = [
 ]
 
 
-def damaged(name, fault, *parts):
-    """A scene of a disk that is refused with some bytes written."""
-    return name, [created(), written(*parts), refuses("show disk", fault),
-                  refuses("run disk", fault, given=b"1 r a\n")]
+def damaged(name, fault, *parts, why=""):
+    """A scene of a disk that is refused with some bytes written. A second line may say more."""
+    return name, [created(), written(*parts), refuses("show disk", fault, why=why),
+                  refuses("run disk", fault, given=b"1 r a\n", why=why)]
+
+
+def disagrees(name, why, *parts):
+    """The same, where this line says what disagrees."""
+    return damaged(name, "Y4 Damaged", *parts, why=why)
 
 
 def other_image(image):
@@ -254,6 +259,20 @@ def other_image(image):
     disk = SMALL.created(image)
     return [sector(2, bytes(disk[2 * SECTOR : 3 * SECTOR])),
             sector(SMALL.areas[1], bytes(disk[SMALL.areas[1] * SECTOR : SMALL.journal * SECTOR]))]
+
+
+def second_image(image):
+    """The sectors of an image of generation 2, with its head."""
+    disk = SMALL.created(echo_image())
+    SMALL.commit(disk, 2, image)
+    return [sector(1, bytes(disk[SECTOR : 2 * SECTOR])),
+            sector(SMALL.areas[0], bytes(disk[SMALL.areas[0] * SECTOR : SMALL.areas[1] * SECTOR]))]
+
+
+def other_configuration(at, data):
+    """Another configuration, under its digest: bytes at a place of it."""
+    contents = SMALL.contents[:at] + data + SMALL.contents[at + len(data) :]
+    return [(form.DIGEST, hashlib.sha256(contents).digest()), sector(3, contents)]
 
 
 def journal_of(*records):
@@ -277,15 +296,29 @@ BROKEN = [
     damaged("a super of zeros", "Y1 NotAWorker", sector(0, bytes(SECTOR))),
     damaged("another layout", "Y2 Version", field(0, form.LAYOUT, 2)),
     damaged("no layout", "Y2 Version", field(0, form.LAYOUT, 0)),
-    damaged("fewer sectors of contents than bytes", "Y4 Damaged", field(0, form.MODULE_SECTORS, 2)),
-    damaged("a smaller area than the configuration's", "Y4 Damaged",
-            field(0, form.AREA_SECTORS, SMALL.area_sectors - 1)),
-    damaged("a shorter journal than the configuration's", "Y4 Damaged",
-            field(0, form.JOURNAL_SECTORS, 63)),
-    damaged("another digest of the contents", "Y4 Damaged", (form.DIGEST, b"\0")),
-    damaged("another byte of the module", "Y4 Damaged", (3 * SECTOR + 100, b"\xff")),
-    damaged("the last byte of the module", "Y4 Damaged", (3 * SECTOR + 220, b"\1")),
-    damaged("another byte of the configuration", "Y4 Damaged", sector(3, b"\x02")),
+    disagrees("fewer bytes of contents than sectors", form.OTHER_SECTORS,
+              field(0, form.MODULE_SECTORS, 2)),
+    disagrees("a smaller area than the configuration's", form.OTHER_AREA,
+              field(0, form.AREA_SECTORS, SMALL.area_sectors - 1)),
+    disagrees("a shorter journal than the configuration's", form.OTHER_JOURNAL,
+              field(0, form.JOURNAL_SECTORS, 63)),
+    # The first of two is told, also where the module reaches beyond the disk's end.
+    disagrees("a smaller area and a shorter journal than the configuration's", form.OTHER_AREA,
+              field(0, form.AREA_SECTORS, SMALL.area_sectors - 1),
+              field(0, form.JOURNAL_SECTORS, 63)),
+    disagrees("more sectors of contents than the disk has", form.OTHER_SECTORS,
+              field(0, form.MODULE_SECTORS, 1 << 31), (form.DIGEST, b"\0")),
+    disagrees("a smaller area, and another digest of the contents", form.OTHER_DIGEST,
+              field(0, form.AREA_SECTORS, SMALL.area_sectors - 1), (form.DIGEST, b"\0")),
+    disagrees("a configuration without pages", form.NO_CONFIGURATION,
+              *other_configuration(0, bytes(4))),
+    disagrees("an argument with a zero byte, and a smaller area", form.NO_CONFIGURATION,
+              *other_configuration(18, b"\0"),
+              field(0, form.AREA_SECTORS, SMALL.area_sectors - 1)),
+    disagrees("another digest of the contents", form.OTHER_DIGEST, (form.DIGEST, b"\0")),
+    disagrees("another byte of the module", form.OTHER_DIGEST, (3 * SECTOR + 100, b"\xff")),
+    disagrees("the last byte of the module", form.OTHER_DIGEST, (3 * SECTOR + 220, b"\1")),
+    disagrees("another byte of the configuration", form.OTHER_DIGEST, sector(3, b"\x02")),
     damaged("no complete head", "S2 Damaged", sector(2, b"e")),
     damaged("a head of another place", "S2 Damaged", (3 * SECTOR - 8, b"\2")),
     damaged("a head of a generation of the other area", "S2 Damaged", (3 * SECTOR - 16, b"\2")),
@@ -293,12 +326,15 @@ BROKEN = [
     # The version of the newest head is judged before its image, and then the journal for it.
     damaged("version 3 of the image, and another byte of it", "Y2 Version",
             field(2, form.HEAD_VERSION, 3), (IMAGE + 60_000, b"\1")),
-    damaged("version 2 over too short a journal, and another byte of the image", "Y4 Damaged",
-            field(2, form.HEAD_VERSION, 2), (IMAGE + 60_000, b"\1")),
-    damaged("the other mark in the image", "Y4 Damaged",
-            *other_image(echo_image(version=TWO)), field(2, form.HEAD_VERSION, ONE)),
-    damaged("the other mark alone", "Y4 Damaged", *other_image(b"DWIMAGE2"),
-            field(2, form.HEAD_VERSION, ONE)),
+    disagrees("version 2 over too short a journal, and another byte of the image",
+              form.SHORT_JOURNAL,
+              field(2, form.HEAD_VERSION, 2), (IMAGE + 60_000, b"\1")),
+    disagrees("the other mark in the image", form.other_mark(1),
+              *other_image(echo_image(version=TWO)), field(2, form.HEAD_VERSION, ONE)),
+    disagrees("the other mark in the image of generation 2", form.other_mark(0),
+              *second_image(b"DWIMAGE2"), field(1, form.HEAD_VERSION, ONE)),
+    disagrees("the other mark alone", form.other_mark(1), *other_image(b"DWIMAGE2"),
+              field(2, form.HEAD_VERSION, ONE)),
     damaged("no mark in the image", "I1 NotAnImage",
             *other_image(b"DWIMAGE3" + echo_image()[8:])),
     damaged("another digest of the image", "S2 Damaged", (2 * SECTOR + form.IMAGE_DIGEST, b"\0")),
@@ -310,11 +346,11 @@ BROKEN = [
     damaged("an image of one byte more", "I1 NotAnImage", *other_image(echo_image() + b"\0")),
     damaged("an image of one byte fewer", "I1 NotAnImage", *other_image(echo_image()[:-1])),
     damaged("an image of nothing", "I1 NotAnImage", *other_image(b"")),
-    damaged("a journal of a later generation", "Y4 Damaged", LATER),
-    damaged("a journal that has nothing but a later generation", "Y4 Damaged",
-            (SMALL.journal * SECTOR + form.STAMP, struct.pack("<QQ", 2, 1))),
-    damaged("a journal of the last generation", "Y4 Damaged",
-            sector(SMALL.journal, form.journal_sector((1 << 64) - 1, 1, record(6, END)))),
+    disagrees("a journal of a later generation", form.LATER, LATER),
+    disagrees("a journal that has nothing but a later generation", form.LATER,
+              (SMALL.journal * SECTOR + form.STAMP, struct.pack("<QQ", 2, 1))),
+    disagrees("a journal of the last generation", form.LATER,
+              sector(SMALL.journal, form.journal_sector((1 << 64) - 1, 1, record(6, END)))),
     # The image is judged before the journal.
     damaged("a journal of a later generation, and no mark in the image", "I1 NotAnImage", LATER,
             *other_image(b"DWIMAGE3" + echo_image()[8:])),
@@ -358,9 +394,9 @@ LOST = [sector(number, bytes(SECTOR)) for number in (1, 2)]
 ALL_COMMANDS = ["show", "run", "inspect", "inspect --json", "files", "upgrade"]
 
 
-def all_refuse(fault):
+def all_refuse(fault, why=""):
     """Each command that reads a disk refuses it by this fault, and leaves it as it is."""
-    return [refuses(f"{words} disk", fault, given=PAIR) for words in ALL_COMMANDS]
+    return [refuses(f"{words} disk", fault, given=PAIR, why=why) for words in ALL_COMMANDS]
 
 
 LOST_HEADS = [
@@ -368,7 +404,7 @@ LOST_HEADS = [
         created(), runs(b"1 r a\n", "1 o a\n"),
         runs(request_lines([b"a", *LATE_TEXTS]) + b"no", LATE_LINES, refused(8), status=6),
         Bytes(LATE), shows(counted(4, 27, 1, 1, 6)),
-        written(LOST[0]), *all_refuse("Y4 Damaged"),
+        written(LOST[0]), *all_refuse("Y4 Damaged", form.LATER),
         written(LOST[1]), *all_refuse("S2 Damaged"),
         # The older head is wanted no more.
         written(HEADS[0]), shows(counted(4, 27, 1, 1, 6)), inspected("request"), SameFacts(),
@@ -715,7 +751,8 @@ UPGRADES = [
         runs(b"1 r " + b"x" * 65_536, lines_of(65_536)), inspected("request")]),
     ("a head of version 2 and an image of version 1", [
         with_journal(), written(field(2, form.HEAD_VERSION, TWO)),
-        refuses("show disk", "Y4 Damaged"), refuses("run disk", "Y4 Damaged"),
+        refuses("show disk", "Y4 Damaged", why=form.other_mark(1)),
+        refuses("run disk", "Y4 Damaged", why=form.other_mark(1)),
         # The image's digest comes before its version.
         written(field(2, form.IMAGE_LENGTH, 65_810)), refuses("show disk", "S2 Damaged")]),
     ("a disk that can't be upgraded is refused as by `run`", [

@@ -36,6 +36,21 @@ ROW = re.compile(r"^ {6,}([0-9a-f]+) {2}(.+)$", re.MULTILINE)
 LAYOUT, MODULE_SECTORS, AREA_SECTORS, JOURNAL_SECTORS, DIGEST, LAST_MARK = 8, 20, 24, 28, 32, 504
 HEAD_VERSION, IMAGE_LENGTH, IMAGE_DIGEST = 8, 16, 24
 
+# What disagrees on a damaged disk: the second lines of Y4, in the order in which they are judged.
+_SUPER = "super, sector 0:"
+OTHER_SECTORS = f"{_SUPER} m, the sectors of configuration and module, isn't c + w rounded up\n"
+OTHER_DIGEST = f"{_SUPER} the SHA-256 isn't that of configuration and module\n"
+NO_CONFIGURATION = "configuration, from sector 3 on: the first c bytes are no configuration\n"
+OTHER_AREA = f"{_SUPER} a, the sectors of an area, isn't as the configuration says\n"
+OTHER_JOURNAL = f"{_SUPER} j, the sectors of the journal, isn't as the configuration says\n"
+SHORT_JOURNAL = f"{_SUPER} j is below 133, and the version in the newest head is 2\n"
+LATER = "journal, first sector: the generation is above that of the newest head\n"
+
+
+def other_mark(area):
+    """The same of the image in an area."""
+    return f"area {area}: the image has the mark of another version than its head\n"
+
 
 def sectors(length):
     """So many bytes in sectors, rounded up."""

@@ -8,8 +8,9 @@ import struct
 from dataclasses import dataclass, field
 
 from model.disk_form import (
-    AREA, AREA_PER_UNIT, END, LEAST_JOURNAL_OF_TWO, MONOTONIC, ONE, PAYLOAD, RANDOM, REALTIME,
-    SECTOR, STAMP, TWO, dumped_disks, sectors)
+    AREA, AREA_PER_UNIT, END, LATER, LEAST_JOURNAL_OF_TWO, MONOTONIC, NO_CONFIGURATION, ONE,
+    OTHER_AREA, OTHER_DIGEST, OTHER_JOURNAL, OTHER_SECTORS, PAYLOAD, RANDOM, REALTIME, SECTOR,
+    SHORT_JOURNAL, STAMP, TWO, dumped_disks, other_mark, sectors)
 
 # The ranges of a configuration's numbers, and the most texts of a list and bytes of a text.
 RANGES = [range(1, 257), range(1, 65), range(64, 65_537)]
@@ -28,13 +29,18 @@ SHOWN = b"generation %d steps %d answers %d lines %d records %d version %d\n"
 
 
 class Refused(Exception):
-    """What a disk is refused for."""
+    """What a disk is refused for, with the line that says more, if there is one."""
 
 
 def demand(holds, fault):
     """Refuses the disk where something doesn't hold."""
     if not holds:
         raise Refused(fault)
+
+
+def agree(holds, line):
+    """Refuses the disk as damaged where something disagrees. This line says what."""
+    demand(holds, b"Y4 Damaged\n" + line.encode().rstrip())
 
 
 @dataclass
@@ -86,7 +92,7 @@ def texts(reader, is_right):
 
 def configured(data):
     """The pages, the file units and the journal's sectors of a configuration."""
-    reader = Reader(data, b"Y4 Damaged")
+    reader = Reader(data, b"Y4 Damaged\n" + NO_CONFIGURATION.encode().rstrip())
     numbers = [reader.number(4) for _ in RANGES]
     demand(all(it in among for it, among in zip(numbers, RANGES)), reader.fault)
     texts(reader, lambda text: True)
@@ -137,12 +143,13 @@ def judge(disk, found):
     demand(is_worker, b"Y1 NotAWorker")
     layout, before, module, content, area, journal = struct.unpack_from("<6I", first, 8)
     demand(layout == 1, b"Y2 Version")
-    demand(content == sectors(before + module), b"Y4 Damaged")
+    agree(content == sectors(before + module), OTHER_SECTORS)
     demand(total >= 3 + content, b"Y3 TooSmall")
     contents = bytes(disk[3 * SECTOR : 3 * SECTOR + before + module])
-    demand(hashlib.sha256(contents).digest() == first[32:64], b"Y4 Damaged")
+    agree(hashlib.sha256(contents).digest() == first[32:64], OTHER_DIGEST)
     pages, files, wanted = configured(contents[:before])
-    demand((area, journal) == (AREA + AREA_PER_UNIT * (pages + files), wanted), b"Y4 Damaged")
+    agree(area == AREA + AREA_PER_UNIT * (pages + files), OTHER_AREA)
+    agree(journal == wanted, OTHER_JOURNAL)
     end = 3 + content + 2 * area
     demand(total >= end + journal, b"Y3 TooSmall")
     found.contents = contents
@@ -152,16 +159,16 @@ def judge(disk, found):
     number = found.generation % 2
     version, length, digest = struct.unpack_from("<IxxxxQ32s", disk, (1 + number) * SECTOR + 8)
     demand(version in MARKS, b"Y2 Version")
-    demand(journal >= JOURNALS[version], b"Y4 Damaged")
+    agree(journal >= JOURNALS[version], SHORT_JOURNAL)
     demand(length <= area * SECTOR, b"S2 Damaged")
     at = (3 + content + number * area) * SECTOR
     image = bytes(disk[at : at + length])
     demand(hashlib.sha256(image).digest() == digest, b"S2 Damaged")
     others = [mark for it, mark in MARKS.items() if it != version]
-    demand(not image.startswith(tuple(others)), b"Y4 Damaged")
+    agree(not image.startswith(tuple(others)), other_mark(number))
     found.version, found.image = version, image
     later, place = struct.unpack_from("<QQ", disk, end * SECTOR + STAMP)
-    demand(place != 1 or later <= found.generation, b"Y4 Damaged")
+    agree(place != 1 or later <= found.generation, LATER)
     kept = scanned(disk[end * SECTOR : (end + journal) * SECTOR], found.generation)
     found.records = records(version, kept)
 

@@ -1,7 +1,7 @@
 -- Reads one after another, and what they give.
 use Rattle.std.proofs.Common.{◌≡◌, ◌⊎◌, ℕ, zero, suc, ◌+◌, ◌-◌, ◌<◌, ◌≤◌, List, [], ◌∷◌, ◌++◌}
 use Rattle.std.proofs.Common.{length, take, drop, Result, Ok, Err, IsErr, refl, sym, ap, ◌∙◌, subst}
-use Rattle.std.proofs.Common.{inr, ⊎_elim, arith, append_assoc, length-append}
+use Rattle.std.proofs.Common.{⊎_elim, arith, append_assoc, length-append}
 use Rattle.std.proofs.lemmas.List.{append-nil}
 use Rattle.sector_disk.specs.rules.DiskImage.{DiskImage, sector_at}
 use Rattle.sector_disk.specs.rules.Medium.{Medium, Reads}
@@ -12,11 +12,13 @@ use Rattle.sha2.specs.Sha256.{sha256}
 use Rattle.disk_layout.specs.declared.fault.LayoutFault.{LayoutFault}
 use Rattle.disk_layout.specs.declared.fault.LayoutFault.TheVariants.{NotAWorker, Version, TooSmall}
 use Rattle.disk_layout.specs.declared.fault.LayoutFault.TheVariants.{Damaged, Memory, Disk}
+use Rattle.disk_layout.specs.declared.damage.Damage.{Damage}
+use Rattle.disk_layout.specs.declared.damage.Damage.TheVariants as damage
 use Rattle.disk_layout.specs.declared.stored.Stored.{Stored}
 use Rattle.disk_layout.specs.rules.Places.{Geometry}
 use Rattle.disk_layout.specs.rules.Sectors.{Super, bytes_from}
 use Rattle.disk_layout.specs.rules.Stored.{OnlyReads, IsConsistent, Checks, SplitsContents}
-use Rattle.disk_layout.specs.rules.Stored.{FindsStored, HasOtherDigest}
+use Rattle.disk_layout.specs.rules.Stored.{FindsStored, HasOtherDigest, HasItsLengths}
 use Rattle.disk_layout.specs.declared.geometry.TheConstants.{MODULE_PLACE}
 
 pub no_reads : (m : Medium) → OnlyReads m m
@@ -138,15 +140,27 @@ finds_split sectors image c bytes (Ok s) check is splits =
           ∙ sym splits.3;
       digest = ap (λ (x : Super). x.digest) (sym check.1) ∙ splits.4;
     }
-finds_split sectors image c bytes (Err Damaged) check is splits =
+finds_split sectors image c bytes (Err (Damaged damage.ContentsDigest)) check is splits =
     let P : Super → Type 0 = λ x. HasOtherDigest sectors image x in
-    inr (subst P check.1 (record {
+    subst P check.1 (record {
       says = check;
       digest = λ e. splits (e
           ∙ ap (λ (l : List ℕ). sha256 (take (c.geometry.config + c.geometry.wasm) l)) (sym is));
-    }))
+    })
+finds_split sectors image c bytes (Err (Damaged other)) check is splits = absurd splits
 finds_split sectors image c bytes (Err Memory) check is splits = tt
 finds_split sectors image c bytes (Err NotAWorker) check is splits = absurd splits
 finds_split sectors image c bytes (Err Version) check is splits = absurd splits
 finds_split sectors image c bytes (Err TooSmall) check is splits = absurd splits
 finds_split sectors image c bytes (Err (Disk fault)) check is splits = absurd splits
+
+-- what is split off has the lengths that the super says
+pub split_lengths : (sectors : ℕ) (sector bytes : List ℕ) (c : Super) (s : Stored)
+    → Checks sectors sector (Ok c) → SplitsContents c bytes (Ok s) → HasItsLengths s
+split_lengths sectors sector bytes c s check splits =
+    let same : s.geometry ≡ c.geometry = splits.0 in
+    record {
+      config = splits.1 ∙ ap (λ (x : Geometry). x.config) (sym same);
+      wasm = splits.2 ∙ ap (λ (x : Geometry). x.wasm) (sym same);
+      consistent = subst (λ (x : Geometry). IsConsistent x) (sym same) check.2;
+    }

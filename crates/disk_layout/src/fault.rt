@@ -1,4 +1,5 @@
 //! Why a disk shows no worker.
+use crate::damage::Damage;
 use sector_disk::DiskFault;
 use std::alloc::AllocError;
 use thiserror::Error;
@@ -14,9 +15,9 @@ pub enum LayoutFault {
     /// The disk has too few sectors.
     #[error("Y3 TooSmall")]
     TooSmall,
-    /// Fields disagree with one another, or contents with their digest.
-    #[error("Y4 Damaged")]
-    Damaged,
+    /// Fields disagree with one another, or contents with their digest. The second line says which.
+    #[error("Y4 Damaged\n{0}")]
+    Damaged(Damage),
     /// Memory ran out.
     #[error("Y5 Memory")]
     Memory,

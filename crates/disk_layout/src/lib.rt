@@ -25,7 +25,8 @@
 //!   the writes (`cause`). After Ok of `write_super` each cut leaves it whole (`stored`).
 //!   `write_contents` makes no sync: after its Ok reads give all of it, and a cut may leave less.
 //! - `read_super`, `read_contents` only read (`reads`). The answer is true of what the disk shows:
-//!   the bytes under their digest, or what is wrong with them (`finds`, `gives`).
+//!   the bytes under their digest, or what is wrong with them (`finds`, `gives`). Of a damaged disk
+//!   it is the first field that disagrees, or that the digest does (`HasDamage`).
 //! - `config_bytes_of` gives a configuration's bytes. `config_from` finds the configuration that
 //!   any bytes spell, or that there is none.
 //! - `laws`: a torn stamp never shows a newer generation (`torn_stamps`). Fields are read back, a
@@ -36,7 +37,7 @@
 //! In `specs/rules/`: `geometry_of` (`Places.antt`); `super_bytes`, `head_bytes`, `IsNewest`,
 //! `HoldsProcessImage` (`Sectors.antt`); `record_bytes`, `scan` (`Journal.antt`);
 //! `contents_sectors` (`Contents.antt`); `FindsStored` (`Stored.antt`); `GivesContents`
-//! (`Held.antt`).
+//! and `HasDamage` (`Held.antt`).
 //!
 //! # Who may touch what
 //!
@@ -54,6 +55,7 @@
 
 mod configuration;
 mod contents;
+mod damage;
 mod fault;
 mod fields;
 mod geometry;
@@ -69,6 +71,7 @@ mod superblock;
 
 pub use configuration::config_bytes_of;
 pub use contents::write_contents;
+pub use damage::Damage;
 pub use fault::LayoutFault;
 pub use fields::{DIGEST_BYTES, u16_from, u32_from};
 pub use geometry::{Geometry, MODULE_PLACE};

@@ -22,8 +22,9 @@ ghost use Rattle.sector_disk.specs.rules.Calls.{synced_writes};
 ghost use Rattle.sector_disk.specs.rules.Run.{IsTornRun, IsWrittenRun};
 ghost use Rattle.disk_layout.specs.rules.Sectors.{bytes_from, super_bytes};
 ghost use Rattle.disk_layout.specs.rules.Stored.{OnlyReads, IsConsistent, Checks, SplitsContents};
-ghost use Rattle.disk_layout.specs.rules.Stored.{FindsStored};
+ghost use Rattle.disk_layout.specs.rules.Stored.{FindsStored, HasItsLengths};
 
+use crate::damage::Damage;
 use crate::fault::LayoutFault;
 use crate::fields::DIGEST_BYTES;
 use crate::geometry::{Geometry, MODULE_PLACE, sectors_of};
@@ -83,12 +84,14 @@ pub fn write_super<D: Disk>(disk: &mut D, contents: &Super) -> Result<(), DiskFa
 
 /// Reads the super, and the configuration and the module after it. It fails where a mark of the
 /// super is missing (`NotAWorker`), and where the layout is none that is known (`Version`). It
-/// fails where the super's numbers disagree or the digest differs (`Damaged`), and where the disk
-/// ends before the module does (`TooSmall`). It also fails when out of memory.
+/// fails where the super's lengths and sectors disagree (`Damaged` with `ModuleSectors`), and where
+/// the disk ends before the module does (`TooSmall`). It fails where the digest differs (`Damaged`
+/// with `ContentsDigest`). It also fails when out of memory.
 pub fn read_super<D: Disk>(alloc: Global, disk: &mut D) -> Result<Stored, LayoutFault>
     ensures reads { OnlyReads (D.medium disk.old) (D.medium disk.new) }
     ensures finds { (image : DiskImage) → (D.medium disk.new).shows image
         → FindsStored (D.medium disk.old).sectors image result }
+    ensures lengths { IfOk result HasItsLengths }
     ensures cause { (fault : DiskFault) → result ≡ Err (LayoutFault.Disk fault)
         → (D.medium disk.old).faults < (D.medium disk.new).faults }
 
@@ -114,7 +117,7 @@ fn check(sector: &[u8; SECTOR_SIZE], sectors: u64) -> Result<Super, LayoutFault>
 {
     let contents = Super::read(sector)?;
     if !is_consistent(&contents.geometry) {
-        return Err(LayoutFault::Damaged);
+        return Err(LayoutFault::Damaged(Damage::ModuleSectors));
     }
     if MODULE_PLACE + u64::from(contents.geometry.module_sectors) > sectors {
         return Err(LayoutFault::TooSmall);
@@ -170,7 +173,7 @@ fn split(alloc: Global, contents: &Super, bytes: &[u8]) -> Result<Stored, Layout
     let config = &bytes[..config_len];
     let wasm = &bytes[config_len..end];
     if !is_digest_of(&contents.digest, config, wasm) {
-        return Err(LayoutFault::Damaged);
+        return Err(LayoutFault::Damaged(Damage::ContentsDigest));
     }
     let Ok(config) = Vec::from_slice(alloc, config) else {
         return Err(LayoutFault::Memory);

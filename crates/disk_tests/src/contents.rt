@@ -5,7 +5,7 @@ use crate::layouts::{
     Numbers, PLACES, SECTORS, SPELLED, WASM, has_super, layout_fault, written_disk,
 };
 use crate::rows::assert_row;
-use disk_layout::{Contents, LayoutFault, config_bytes_of, config_from, read_contents};
+use disk_layout::{Contents, Damage, LayoutFault, config_bytes_of, config_from, read_contents};
 use sector_disk::{Disk, DiskFault, FaultDisk, Place};
 use std::alloc::{AllocError, Global};
 use wasi_abi::Config;
@@ -110,20 +110,32 @@ enum Change {
     Call(u64),
 }
 
+const OTHER_MODULE_SECTORS: Option<LayoutFault> = Some(LayoutFault::Damaged(Damage::ModuleSectors));
+
+const OTHER_DIGEST: Option<LayoutFault> = Some(LayoutFault::Damaged(Damage::ContentsDigest));
+
+const NO_CONFIGURATION: Option<LayoutFault> = Some(LayoutFault::Damaged(Damage::Configuration));
+
+const OTHER_AREA_SECTORS: Option<LayoutFault> = Some(LayoutFault::Damaged(Damage::AreaSectors));
+
+const OTHER_JOURNAL_SECTORS: Option<LayoutFault> = Some(LayoutFault::Damaged(
+    Damage::JournalSectors,
+));
+
 /// What is another, and what is then wrong.
-static CHANGES: [(Change, Option<LayoutFault>); 33] = [
+static CHANGES: [(Change, Option<LayoutFault>); 35] = [
     // Bytes of no configuration.
-    (Change::Spelling(0, 0), Some(LayoutFault::Damaged)),
-    (Change::Spelling(2, 1), Some(LayoutFault::Damaged)),
-    (Change::Spelling(4, 65), Some(LayoutFault::Damaged)),
-    (Change::Spelling(8, 63), Some(LayoutFault::Damaged)),
-    (Change::Spelling(12, 0), Some(LayoutFault::Damaged)),
-    (Change::Spelling(12, 2), Some(LayoutFault::Damaged)),
-    (Change::Spelling(12, 65), Some(LayoutFault::Damaged)),
-    (Change::Spelling(16, 5), Some(LayoutFault::Damaged)),
-    (Change::Spelling(16, 7), Some(LayoutFault::Damaged)),
-    (Change::Spelling(18, 0), Some(LayoutFault::Damaged)),
-    (Change::Spelling(24, 1), Some(LayoutFault::Damaged)),
+    (Change::Spelling(0, 0), NO_CONFIGURATION),
+    (Change::Spelling(2, 1), NO_CONFIGURATION),
+    (Change::Spelling(4, 65), NO_CONFIGURATION),
+    (Change::Spelling(8, 63), NO_CONFIGURATION),
+    (Change::Spelling(12, 0), NO_CONFIGURATION),
+    (Change::Spelling(12, 2), NO_CONFIGURATION),
+    (Change::Spelling(12, 65), NO_CONFIGURATION),
+    (Change::Spelling(16, 5), NO_CONFIGURATION),
+    (Change::Spelling(16, 7), NO_CONFIGURATION),
+    (Change::Spelling(18, 0), NO_CONFIGURATION),
+    (Change::Spelling(24, 1), NO_CONFIGURATION),
     // Supers whose numbers aren't those of their configuration, and disks that are too small.
     (Change::Numbers((28, 1, 2304, 64, SECTORS + 1)), None),
     (Change::Numbers((28, 1, 2304, 64, SECTORS)), None),
@@ -141,36 +153,36 @@ static CHANGES: [(Change, Option<LayoutFault>); 33] = [
     ),
     (
         Change::Numbers((28, 2, 2304, 64, SECTORS)),
-        Some(LayoutFault::Damaged),
+        OTHER_MODULE_SECTORS,
     ),
-    (
-        Change::Numbers((28, 2, 2304, 64, 3)),
-        Some(LayoutFault::Damaged),
-    ),
-    (
-        Change::Numbers((27, 1, 2304, 64, SECTORS)),
-        Some(LayoutFault::Damaged),
-    ),
+    (Change::Numbers((28, 2, 2304, 64, 3)), OTHER_MODULE_SECTORS),
+    (Change::Numbers((27, 1, 2304, 64, SECTORS)), OTHER_DIGEST),
     (
         Change::Numbers((28, 1, 2305, 64, SECTORS)),
-        Some(LayoutFault::Damaged),
+        OTHER_AREA_SECTORS,
     ),
     (
         Change::Numbers((28, 1, 2303, 64, SECTORS - 2)),
-        Some(LayoutFault::Damaged),
+        OTHER_AREA_SECTORS,
     ),
     (
         Change::Numbers((28, 1, 2304, 65, SECTORS)),
-        Some(LayoutFault::Damaged),
+        OTHER_JOURNAL_SECTORS,
     ),
+    // The first of two is told.
+    (
+        Change::Numbers((28, 1, 2305, 65, SECTORS)),
+        OTHER_AREA_SECTORS,
+    ),
+    (Change::Numbers((27, 1, 2305, 64, SECTORS)), OTHER_DIGEST),
     // Damaged disks.
     (Change::Bit(0, 7), Some(LayoutFault::NotAWorker)),
     (Change::Bit(0, 504), Some(LayoutFault::NotAWorker)),
     (Change::Bit(0, 8), Some(LayoutFault::Version)),
-    (Change::Bit(0, 63), Some(LayoutFault::Damaged)),
+    (Change::Bit(0, 63), OTHER_DIGEST),
     (Change::Bit(0, 64), None),
-    (Change::Bit(3, 0), Some(LayoutFault::Damaged)),
-    (Change::Bit(3, 220), Some(LayoutFault::Damaged)),
+    (Change::Bit(3, 0), OTHER_DIGEST),
+    (Change::Bit(3, 220), OTHER_DIGEST),
     (Change::Bit(3, 221), None),
     // A read that fails, of the super and of the sector after the heads. There is no third one.
     (Change::Call(1), Some(LayoutFault::Disk(DiskFault::Io))),

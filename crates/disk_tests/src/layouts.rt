@@ -3,7 +3,7 @@
 use crate::disks::is_all;
 use crate::rows::assert_row;
 use disk_layout::{
-    Geometry, LayoutFault, Stamp, Stored, Super, digest_of, journal_sector, read_super,
+    Damage, Geometry, LayoutFault, Stamp, Stored, Super, digest_of, journal_sector, read_super,
     write_contents, write_super,
 };
 use sector_disk::{Disk, DiskFault, MemDisk};
@@ -178,6 +178,8 @@ fn write_full<D: Disk>(disk: &mut D) -> Result<(), DiskFault> {
     )
 }
 
+const OTHER_DIGEST: LayoutFault = LayoutFault::Damaged(Damage::ContentsDigest);
+
 fn is_full(stored: &Stored) -> bool {
     stored.geometry == FULL_PLACES
         && stored.config.as_slice() == b"conf".as_slice()
@@ -206,7 +208,7 @@ fn is_super_told<D: Disk>(alloc: Global, disk: &mut D) -> Result<bool, LayoutFau
     write_full(disk).map_err(layout_fault)?;
     let is_full = is_full_read(alloc, disk)?;
     disk.write(3, &[b'm'; 512]).map_err(layout_fault)?;
-    Ok(is_none && is_full && is_unread(alloc, disk, LayoutFault::Damaged)?)
+    Ok(is_none && is_full && is_unread(alloc, disk, OTHER_DIGEST)?)
 }
 
 /// The same on a disk of five sectors.

@@ -171,7 +171,7 @@ module _ {D : Type 0} (medium : D → Medium) (bytes : List ℕ) (config : Setti
   creation_faults old new (store.Layout layout.TooSmall) small = small
   creation_faults old new (store.Layout layout.NotAWorker) h = absurd h
   creation_faults old new (store.Layout layout.Version) h = absurd h
-  creation_faults old new (store.Layout layout.Damaged) h = absurd h
+  creation_faults old new (store.Layout (layout.Damaged why)) h = absurd h
   creation_faults old new (store.Layout layout.Memory) h = absurd h
   creation_faults old new (store.Layout (layout.Disk why)) h = absurd h
   creation_faults old new (store.Disk why) h = h
@@ -194,7 +194,7 @@ module _ {D : Type 0} (medium : D → Medium) (bytes : List ℕ) (config : Setti
   faults_at_first old new (store.Layout layout.TooSmall) small same stays refused = same small
   faults_at_first old new (store.Layout layout.NotAWorker) h same stays refused = absurd h
   faults_at_first old new (store.Layout layout.Version) h same stays refused = absurd h
-  faults_at_first old new (store.Layout layout.Damaged) h same stays refused = absurd h
+  faults_at_first old new (store.Layout (layout.Damaged why)) h same stays refused = absurd h
   faults_at_first old new (store.Layout layout.Memory) h same stays refused = absurd h
   faults_at_first old new (store.Layout (layout.Disk why)) h same stays refused = absurd h
   faults_at_first old new store.TooBig long same stays refused =

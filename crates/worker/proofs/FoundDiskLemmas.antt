@@ -18,10 +18,12 @@ use Rattle.state_image.specs.rules.Restored.{IsRestored}
 use Rattle.state_image.specs.rules.Saving.{saved_of}
 use Rattle.state_image.specs.rules.WellTyped.{IsWellTyped}
 use Rattle.sector_disk.specs.rules.DiskImage.{DiskImage}
+use Rattle.disk_layout.specs.declared.damage.Damage.{Damage}
+use Rattle.disk_layout.specs.declared.damage.Damage.TheVariants as damage
 use Rattle.disk_layout.specs.declared.fault.LayoutFault.TheVariants as layout
 use Rattle.disk_layout.specs.declared.reading.contents.Contents.{Contents}
 use Rattle.wasi_abi.specs.declared.version.Version.{Version}
-use Rattle.disk_layout.specs.rules.Held.{GivesContents}
+use Rattle.disk_layout.specs.rules.Held.{GivesContents, HasDamage}
 use Rattle.disk_layout.specs.rules.Journal.{Record, scan}
 use Rattle.journal.specs.declared.fault.JournalFault.TheVariants as journal
 use Rattle.snapshot.specs.declared.fault.SnapshotFault.TheVariants as snapshot
@@ -33,11 +35,19 @@ use Rattle.worker_store.specs.rules.AnyDisk.{NamesProcessImage}
 use Rattle.worker.specs.declared.recover_fault.RecoverFault.TheVariants as recover
 use Rattle.worker.specs.rules.RecoverFaults.{fault_of_read}
 use Rattle.worker.specs.rules.ShownDisks.{HoldsModule, HoldsNamedProcessImage, HoldsProcess}
-use Rattle.worker.specs.rules.ShownDisks.{ShowsFault}
+use Rattle.worker.specs.rules.ShownDisks.{ShowsDamage, ShowsFault}
 use Rattle.worker.specs.FoundDisks.{IsRestoredIn, IsFoundIn}
 use Rattle.worker.proofs.RestoringLemmas.{unrestored}
 
 -- ---- configuration and module
+
+-- what disagrees there is the first thing that does
+damaged_contents : (sectors : ℕ) (disk : DiskImage) (why : Damage) → HasDamage sectors disk why
+    → ShowsDamage sectors disk why
+damaged_contents sectors disk damage.ShortJournal has = absurd has
+damaged_contents sectors disk (damage.OtherMark area) has = absurd has
+damaged_contents sectors disk damage.LaterGeneration has = absurd has
+damaged_contents sectors disk other has = has
 
 -- they weren't read
 module _ (sectors : ℕ) (disk : DiskImage) where
@@ -46,7 +56,8 @@ module _ (sectors : ℕ) (disk : DiskImage) where
   contents_unread (read.Layout layout.NotAWorker) tells = tells
   contents_unread (read.Layout layout.Version) tells = inl tells
   contents_unread (read.Layout layout.TooSmall) tells = tells
-  contents_unread (read.Layout layout.Damaged) tells = inl tells
+  contents_unread (read.Layout (layout.Damaged why)) tells =
+      damaged_contents sectors disk why tells
   contents_unread (read.Layout layout.Memory) tells = tells
   contents_unread (read.Layout (layout.Disk fault)) tells = absurd tells
   contents_unread (read.Disk fault) tells = tt
@@ -90,8 +101,10 @@ module _ (sectors : ℕ) (disk : DiskImage) (contents : Contents)
     pub newest_unread : (fault : ReadFault) → TellsNewest contents.geometry disk (Err fault)
         → ShowsFault sectors disk (fault_of_read fault)
     newest_unread (read.Layout layout.Version) tells = inr (holds, tells)
-    newest_unread (read.Layout layout.Damaged) tells =
-        inr (inl (record { holds = holds; odds = tells }))
+    newest_unread (read.Layout (layout.Damaged damage.ShortJournal)) tells =
+        record { holds = holds; short = tells }
+    newest_unread (read.Layout (layout.Damaged (damage.OtherMark area))) tells =
+        record { holds = holds; other = tells }
     newest_unread (read.Snapshot snapshot.Damaged) tells = record { holds = holds; none = tells }
     newest_unread (read.Snapshot snapshot.Memory) tells = (holds, tells)
     newest_unread (read.Disk fault) tells = tt
@@ -164,8 +177,8 @@ module _ (sectors : ℕ) (disk : DiskImage) (contents : Contents)
         no_records : (fault : ReadFault)
             → TellsRecords contents.geometry (saved_of v).version newest.generation disk (Err fault)
             → ShowsFault sectors disk (fault_of_read fault)
-        no_records (read.Layout layout.Damaged) tells =
-            inr (inr (record { older = process_in; later = tells }))
+        no_records (read.Layout (layout.Damaged damage.LaterGeneration)) tells =
+            record { older = process_in; later = tells }
         no_records (read.Journal journal.Memory) tells = (process_in, tells)
         no_records (read.Disk fault) tells = tt
         no_records other tells = absurd tells

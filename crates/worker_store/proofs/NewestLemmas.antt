@@ -3,6 +3,7 @@ use Rattle.std.proofs.Common.{◌≡◌, ◌⊎◌, inl, inr, ℕ, List, refl, s
 use Rattle.std.proofs.Common.{subst}
 use Rattle.std.specs.Prelude.{Result, Ok, Err, Option, Some}
 use Rattle.sector_disk.specs.rules.DiskImage.{DiskImage}
+use Rattle.disk_layout.specs.declared.damage.Damage.TheVariants as damage
 use Rattle.disk_layout.specs.declared.fault.LayoutFault.TheVariants as layout
 use Rattle.disk_layout.specs.declared.geometry.Geometry.{Geometry}
 use Rattle.disk_layout.specs.declared.head.Head.{Head}
@@ -53,13 +54,13 @@ module _ (geometry : Geometry) (disk : DiskImage) (found : Option Head) (head : 
     its_version = record { newest = newest; known = known }
 
     pub short_journal : (TakesRecords version geometry.journal_sectors → ⊥)
-        → TellsNewest geometry disk (Err (read.Layout layout.Damaged))
-    short_journal short = inl (record {
+        → TellsNewest geometry disk (Err (read.Layout (layout.Damaged damage.ShortJournal)))
+    short_journal short = record {
       version = version;
       head = head;
       is = its_version;
       short = short;
-    })
+    }
 
     -- of which the journal takes the longest record
     module _ (room : TakesRecords version geometry.journal_sectors) where
@@ -79,13 +80,14 @@ module _ (geometry : Geometry) (disk : DiskImage) (found : Option Head) (head : 
           (names_it bytes names, judges.1)
       judged bytes names (Err why) judges =
           subst (λ (f : ReadFault). TellsNewest geometry disk (Err f)) (sym judges.0)
-          (inr (record {
+          (record {
             generation = head.generation;
+            here = refl;
             version = version;
             bytes = bytes;
             named = names_it bytes names;
             other = judges.1;
-          }))
+          })
 
       unread_process_image : (fault : SnapshotFault) → (fault ≡ snapshot.Failed → ⊥)
           → ReadsProcessImage geometry disk head (Err fault)
@@ -173,15 +175,11 @@ module _ (geometry : Geometry) (disk : DiskImage) (m : Module) (config : Setting
       (subst (λ (p : Geometry). TakesRecords point.saved.version p.journal_sectors) (sym placed)
       point.room))
 
-  not_marked : HasOtherMark geometry disk → ⊥
-  not_marked tells =
+  not_marked : (area : ℕ) → HasOtherMark geometry disk area → ⊥
+  not_marked area tells =
       let found = its_process_image tells.generation tells.version tells.bytes tells.named in
       own_mark point.saved (subst (λ v. IsMarkedOtherwise v (process_image point.saved)) found.1
       (subst (λ b. IsMarkedOtherwise tells.version b) found.2 tells.other))
-
-  not_at_odds : HasShortJournal geometry disk ⊎ HasOtherMark geometry disk → ⊥
-  not_at_odds (inl short) = not_short short
-  not_at_odds (inr marked) = not_marked marked
 
 -- what is told there is what was saved
 pub reads_newest : (geometry : Geometry) (disk : DiskImage)
@@ -193,9 +191,12 @@ reads_newest geometry disk (Ok s) tells =
 reads_newest geometry disk (Err (read.Layout layout.Version)) tells =
     λ m config point records last at placed.
     not_another geometry disk m config point records last at placed tells
-reads_newest geometry disk (Err (read.Layout layout.Damaged)) tells =
+reads_newest geometry disk (Err (read.Layout (layout.Damaged damage.ShortJournal))) tells =
     λ m config point records last at placed.
-    not_at_odds geometry disk m config point records last at placed tells
+    not_short geometry disk m config point records last at placed tells
+reads_newest geometry disk (Err (read.Layout (layout.Damaged (damage.OtherMark area)))) tells =
+    λ m config point records last at placed.
+    not_marked geometry disk m config point records last at placed area tells
 reads_newest geometry disk (Err (read.Snapshot snapshot.Damaged)) tells =
     λ m config point records last at placed.
     not_damaged geometry disk m config point records last at placed tells

@@ -56,10 +56,11 @@ contents_failed sectors disk layout.TooSmall e same gives =
     λ m config point records last at room.
     absurd (ok_no_err _ layout.TooSmall (sym (reads_the_module m config point records last disk
     sectors (Err layout.TooSmall) at room tt gives)))
-contents_failed sectors disk layout.Damaged e same gives =
+contents_failed sectors disk (layout.Damaged why) e same gives =
     λ m config point records last at room.
-    absurd (ok_no_err _ layout.Damaged (sym (reads_the_module m config point records last disk
-    sectors (Err layout.Damaged) at room tt gives)))
+    absurd (ok_no_err _ (layout.Damaged why)
+    (sym (reads_the_module m config point records last disk
+    sectors (Err (layout.Damaged why)) at room tt gives)))
 contents_failed sectors disk layout.Memory e same gives =
     subst (λ (f : ReadFault). ReadsContents sectors disk (Err f)) (sym same)
     (λ m config point records last at room. tt)

@@ -7,6 +7,8 @@ use Rattle.wasi_abi.specs.declared.version.Version.{Version}
 use Rattle.sector_disk.specs.declared.fault.DiskFault.{DiskFault}
 use Rattle.sector_disk.specs.rules.DiskImage.{DiskImage, sector_at}
 use Rattle.disk_layout.specs.declared.fault.LayoutFault.{LayoutFault}
+use Rattle.disk_layout.specs.declared.damage.Damage.{Damage}
+use Rattle.disk_layout.specs.declared.damage.Damage.TheVariants as damage
 use Rattle.disk_layout.specs.declared.fault.LayoutFault.TheVariants as layout
 use Rattle.disk_layout.specs.declared.geometry.Geometry.{Geometry}
 use Rattle.disk_layout.specs.rules.Journal.{Record, scan}
@@ -74,11 +76,13 @@ not_of_layout journal.TooLong e why is same = cc
 not_of_layout journal.Memory e why is same = cc
 not_of_layout journal.Failed e why is same = cc
 
--- it is told only where the scan says so
+-- it is told only where the scan says so, and as that
 pub refused_later : (scanned : ScannedJournal) (result : Result (Vec Record Global) ReadFault)
-    (e : ReadFault) → JudgesScan scanned result → result ≡ Err e → IsTrue scanned.shows_later
-refused_later scanned (Ok found) e judges same = absurd (cc)
-refused_later scanned (Err why) e judges same = judges.1
+    (why : Damage) → JudgesScan scanned result
+    → result ≡ Err (read.Layout (layout.Damaged why))
+    → (why ≡ damage.LaterGeneration) × IsTrue scanned.shows_later
+refused_later scanned (Ok found) why judges same = absurd (cc)
+refused_later scanned (Err e) why judges same = (cc, judges.1)
 
 -- ---- where a savepoint is
 
@@ -100,7 +104,8 @@ reads_records geometry version g disk (Ok found) tells =
     tells.0 ∙ ap (λ (p : Geometry). scan p version disk g) placed
     ∙ ap (λ v. scan (places point) v disk g) same_version
     ∙ ap (λ n. scan (places point) point.saved.version disk n) same_generation ∙ at.scanned
-reads_records geometry version g disk (Err (read.Layout layout.Damaged)) tells =
+reads_records geometry version g disk
+    (Err (read.Layout (layout.Damaged damage.LaterGeneration))) tells =
     λ m config point records last at placed same_version same_generation.
     none_shown_later (places point) disk point.generation at.none_later
     (subst (λ n. ShowsLater (places point) n disk) same_generation

@@ -13,7 +13,7 @@ ghost use Rattle.worker_store.specs.Judging.{JudgesMark, JudgesScan};
 
 use crate::newest::NewestProcessImage;
 use crate::read_fault::ReadFault;
-use disk_layout::{Contents, Geometry, LayoutFault, Record, read_contents, takes_records};
+use disk_layout::{Contents, Damage, Geometry, LayoutFault, Record, read_contents, takes_records};
 use journal::{Journal, ScannedJournal};
 use sector_disk::Disk;
 use snapshot::{HashedImage, SnapshotFault, Snapshots};
@@ -46,9 +46,9 @@ pub fn read_worker<D: Disk>(alloc: Global, disk: &mut D) -> Result<Contents, Rea
 ///
 /// - `Snapshot` with `Damaged` where no head is complete
 /// - `Layout` with `Version` where the version of the newest one isn't known
-/// - `Layout` with `Damaged` where the journal doesn't take the longest record of that version
+/// - `Layout` with `ShortJournal` where the journal doesn't take the longest record of that version
 /// - `Snapshot` with `Damaged` where the area doesn't hold the image that the head names
-/// - `Layout` with `Damaged` where the image has the mark of another version than the head
+/// - `Layout` with `OtherMark` where the image has the mark of another version than the head
 ///
 /// It never says that there is no worker.
 pub fn read_newest<D: Disk>(
@@ -79,7 +79,7 @@ pub fn read_newest<D: Disk>(
         return Err(ReadFault::Layout(LayoutFault::Version));
     };
     if !takes_records(version, geometry.journal_sectors) {
-        return Err(ReadFault::Layout(LayoutFault::Damaged));
+        return Err(ReadFault::Layout(LayoutFault::Damaged(Damage::ShortJournal)));
     }
     match snapshots.process_image_of(alloc, disk, geometry, &head) {
         Ok(process_image) => judge_mark(version, head.generation, process_image),
@@ -96,7 +96,8 @@ fn judge_mark(
     ensures { JudgesMark version generation process_image result }
 {
     if is_marked_otherwise(version, process_image.as_slice()) {
-        return Err(ReadFault::Layout(LayoutFault::Damaged));
+        let damage = Damage::OtherMark(generation % 2);
+        return Err(ReadFault::Layout(LayoutFault::Damaged(damage)));
     }
     Ok(NewestProcessImage {
         version,
@@ -107,8 +108,8 @@ fn judge_mark(
 
 /// The records of a generation, in the order of their steps. They are read as those of this
 /// version. Where the first sector of the journal shows a later generation, the head of that one is
-/// lost: then it is `Layout` with `Damaged`, no other sector is read, and no memory is wanted. It
-/// never says that there is no worker.
+/// lost: then it is `Layout` with `LaterGeneration`, no other sector is read, and no memory is
+/// wanted. It never says that there is no worker.
 pub fn read_records<D: Disk>(
     alloc: Global,
     disk: &mut D,
@@ -122,8 +123,8 @@ pub fn read_records<D: Disk>(
         → ReadsRecords geometry.now version generation image result }
     ensures tells { (image : DiskImage) → (D.medium disk.new).shows image
         → TellsRecords geometry.now version generation image result }
-    ensures once { result ≡ Err (ReadFault.Layout LayoutFault.Damaged)
-        → CallsUpTo 1 (D.medium disk.old) (D.medium disk.new) }
+    ensures once { (why : Damage) → result ≡ Err (ReadFault.Layout (LayoutFault.Damaged why))
+        → (why ≡ Damage.LaterGeneration) × CallsUpTo 1 (D.medium disk.old) (D.medium disk.new) }
     ensures own { DeniesWorker result → ⊥ }
     ensures cause { IfErr result (HasReadCause (D.medium disk.old) (D.medium disk.new)) }
     ensures asks { CallsUpTo geometry.now.journal_sectors (D.medium disk.old) (D.medium disk.new) }
@@ -143,7 +144,7 @@ fn judge_scan(scanned: ScannedJournal) -> Result<Vec<Record>, ReadFault>
         shows_later,
     } = scanned;
     if shows_later {
-        return Err(ReadFault::Layout(LayoutFault::Damaged));
+        return Err(ReadFault::Layout(LayoutFault::Damaged(Damage::LaterGeneration)));
     }
     Ok(records)
 }

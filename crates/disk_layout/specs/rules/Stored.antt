@@ -1,5 +1,5 @@
 -- What a super leads to: the configuration and the module after it (this project's own).
-use Rattle.std.specs.Prelude.{◌≡◌, ◌≢◌, ◌⊎◌, ℕ, ◌+◌, ◌<◌, ◌≤◌, List, ◌++◌, length, take, Result, Ok}
+use Rattle.std.specs.Prelude.{◌≡◌, ◌≢◌, ℕ, ◌+◌, ◌<◌, ◌≤◌, List, ◌++◌, length, take, Result, Ok}
 use Rattle.std.specs.Prelude.{Err}
 use Rattle.sha2.specs.Sha256.{sha256}
 use Rattle.sector_disk.specs.rules.DiskImage.{DiskImage, sector_at}
@@ -7,6 +7,7 @@ use Rattle.sector_disk.specs.rules.Medium.{Medium, Stays, LeavesOnly, CountsUpTo
 use Rattle.disk_layout.specs.declared.fault.LayoutFault.{LayoutFault}
 use Rattle.disk_layout.specs.declared.fault.LayoutFault.TheVariants.{NotAWorker, Version, TooSmall}
 use Rattle.disk_layout.specs.declared.fault.LayoutFault.TheVariants.{Damaged, Memory, Disk}
+use Rattle.disk_layout.specs.declared.damage.Damage.TheVariants.{ModuleSectors, ContentsDigest}
 use Rattle.disk_layout.specs.declared.stored.Stored.{Stored}
 use Rattle.disk_layout.specs.rules.Places.{Geometry, rounded_up}
 use Rattle.disk_layout.specs.rules.Sectors.{bytes_from, SectorsHold, Super, IsMarked, HasMarks}
@@ -45,10 +46,17 @@ Checks sectors sector (Ok s) = IsKnown sector × (s ≡ super_of sector) × IsCo
     × (MODULE_PLACE + s.geometry.module_sectors ≤ sectors)
 Checks sectors sector (Err NotAWorker) = IsMarked sector → ⊥
 Checks sectors sector (Err Version) = IsMarked sector × (super_layout sector ≢ LAYOUT)
-Checks sectors sector (Err Damaged) = IsKnown sector × (IsConsistent (super_of sector).geometry → ⊥)
+Checks sectors sector (Err (Damaged ModuleSectors)) =
+    IsKnown sector × (IsConsistent (super_of sector).geometry → ⊥)
 Checks sectors sector (Err TooSmall) = IsKnown sector × IsConsistent (super_of sector).geometry
     × (sectors < MODULE_PLACE + (super_of sector).geometry.module_sectors)
 Checks sectors sector (Err other) = ⊥
+
+-- configuration and module have the lengths and take the sectors that their super says
+pub record HasItsLengths (s : Stored) : Type 0 where
+  pub config : length s.config ≡ s.geometry.config
+  pub wasm : length s.wasm ≡ s.geometry.wasm
+  pub consistent : IsConsistent s.geometry
 
 -- these are the configuration and the module in the bytes after a super, if their digest is the
 -- super's
@@ -57,7 +65,7 @@ SplitsContents c bytes (Ok s) = (s.geometry ≡ c.geometry) × (length s.config 
     × (length s.wasm ≡ c.geometry.wasm)
     × (s.config ++ s.wasm ≡ take (c.geometry.config + c.geometry.wasm) bytes)
     × (c.digest ≡ sha256 (s.config ++ s.wasm))
-SplitsContents c bytes (Err Damaged) =
+SplitsContents c bytes (Err (Damaged ContentsDigest)) =
     c.digest ≢ sha256 (take (c.geometry.config + c.geometry.wasm) bytes)
 SplitsContents c bytes (Err Memory) = Unit {0}
 SplitsContents c bytes (Err other) = ⊥
@@ -89,7 +97,10 @@ FindsStored sectors image (Err NotAWorker) = HasMarks image → ⊥
 FindsStored sectors image (Err Version) =
     HasMarks image × (super_layout (sector_at image 0) ≢ LAYOUT)
 FindsStored sectors image (Err TooSmall) = Checks sectors (sector_at image 0) (Err TooSmall)
-FindsStored sectors image (Err Damaged) = Checks sectors (sector_at image 0) (Err Damaged)
-    ⊎ HasOtherDigest sectors image (super_of (sector_at image 0))
+FindsStored sectors image (Err (Damaged ModuleSectors)) =
+    Checks sectors (sector_at image 0) (Err (Damaged ModuleSectors))
+FindsStored sectors image (Err (Damaged ContentsDigest)) =
+    HasOtherDigest sectors image (super_of (sector_at image 0))
+FindsStored sectors image (Err (Damaged other)) = ⊥
 FindsStored sectors image (Err Memory) = Unit {0}
 FindsStored sectors image (Err (Disk fault)) = Unit {0}

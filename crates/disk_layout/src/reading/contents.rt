@@ -4,11 +4,11 @@ ghost use Rattle.std.specs.Prelude.{◌≡◌, ◌<◌, ◌≤◌, Err, IfOk};
 ghost use Rattle.sector_disk.specs.rules.DiskImage.{DiskImage};
 ghost use Rattle.sector_disk.specs.rules.Medium.{CallsUpTo};
 ghost use Rattle.disk_layout.specs.rules.Places.{total_sectors};
-ghost use Rattle.disk_layout.specs.rules.Stored.{OnlyReads};
+ghost use Rattle.disk_layout.specs.rules.Stored.{OnlyReads, HasItsLengths};
 ghost use Rattle.disk_layout.specs.rules.Held.{Agrees, GivesContents};
 
 use crate::reading::configuration::config_from;
-use crate::{Geometry, LayoutFault, Stored, read_super};
+use crate::{Damage, Geometry, LayoutFault, Stored, read_super};
 use sector_disk::{Disk, DiskFault};
 use std::alloc::Global;
 use wasi_abi::Config;
@@ -27,10 +27,12 @@ pub struct Contents {
 ///
 /// - a mark of the super is missing (`NotAWorker`)
 /// - the layout is none that is known (`Version`)
-/// - the super's lengths and sectors disagree (`Damaged`)
+/// - the super's lengths and sectors disagree (`Damaged` with `ModuleSectors`)
 /// - the disk ends before the module does (`TooSmall`)
-/// - the digest differs, the bytes are no configuration's, or the super's sectors aren't those of
-///   the configuration (`Damaged`)
+/// - the digest differs (`Damaged` with `ContentsDigest`)
+/// - the bytes are no configuration's (`Damaged` with `Configuration`)
+/// - the sectors of an area, and then those of the journal, aren't those of the configuration
+///   (`Damaged` with `AreaSectors` or `JournalSectors`)
 /// - the disk ends before the journal does (`TooSmall`)
 ///
 /// Want of memory and a fault of the disk may come before any of these.
@@ -50,6 +52,7 @@ pub fn read_contents<D: Disk>(alloc: Global, disk: &mut D) -> Result<Contents, L
 
 /// The configuration that the stored bytes spell, if the super's numbers are those of it.
 fn agree(alloc: Global, stored: Stored, sectors: u64) -> Result<Contents, LayoutFault>
+    requires { HasItsLengths stored }
     ensures { Agrees sectors stored result }
 {
     let Stored {
@@ -61,10 +64,14 @@ fn agree(alloc: Global, stored: Stored, sectors: u64) -> Result<Contents, Layout
         return Err(LayoutFault::Memory);
     };
     let Some(config) = parsed else {
-        return Err(LayoutFault::Damaged);
+        return Err(LayoutFault::Damaged(Damage::Configuration));
     };
-    if Geometry::of(&config, geometry.wasm) != geometry {
-        return Err(LayoutFault::Damaged);
+    let wanted = Geometry::of(&config, geometry.wasm);
+    if geometry.area_sectors != wanted.area_sectors {
+        return Err(LayoutFault::Damaged(Damage::AreaSectors));
+    }
+    if geometry.journal_sectors != wanted.journal_sectors {
+        return Err(LayoutFault::Damaged(Damage::JournalSectors));
     }
     if sectors < geometry.total_sectors() {
         return Err(LayoutFault::TooSmall);

@@ -16,11 +16,13 @@ use Rattle.state_image.specs.rules.WellTyped.{IsWellTyped}
 use Rattle.sector_disk.specs.declared.sector.TheConstants.{SECTOR_SIZE}
 use Rattle.sector_disk.specs.rules.DiskImage.{DiskImage}
 use Rattle.sector_disk.specs.rules.Medium.{Medium}
+use Rattle.disk_layout.specs.declared.damage.Damage.{Damage}
+use Rattle.disk_layout.specs.declared.damage.Damage.TheVariants as damage
 use Rattle.disk_layout.specs.declared.fault.LayoutFault.{LayoutFault}
 use Rattle.disk_layout.specs.declared.fault.LayoutFault.TheVariants as layout
 use Rattle.disk_layout.specs.declared.reading.contents.Contents.{Contents}
 use Rattle.wasi_abi.specs.declared.version.Version.{Version}
-use Rattle.disk_layout.specs.rules.Held.{GivesContents}
+use Rattle.disk_layout.specs.rules.Held.{GivesContents, HasDamage}
 use Rattle.disk_layout.specs.rules.Journal.{Record, scan}
 use Rattle.disk_layout.specs.rules.Stored.{OnlyReads}
 use Rattle.record_replay.specs.declared.fault.ReplayFault.{ReplayFault}
@@ -82,12 +84,16 @@ pub record HoldsNoProcessImage (sectors : ℕ) (disk : DiskImage) : Type 0 where
   pub holds : HoldsModule sectors disk
   pub none : HasNone disk ⊎ LacksItsProcessImage holds.contents.geometry disk
 
--- The newest head is of a version whose longest record the journal doesn't take. Or the image that
--- it names is there, whole, and begins with the mark of another version.
-pub record HoldsAtOdds (sectors : ℕ) (disk : DiskImage) : Type 0 where
+-- the newest head is of a version whose longest record the journal doesn't take
+pub record HoldsShortJournal (sectors : ℕ) (disk : DiskImage) : Type 0 where
   pub holds : HoldsModule sectors disk
-  pub odds : HasShortJournal holds.contents.geometry disk
-      ⊎ HasOtherMark holds.contents.geometry disk
+  pub short : HasShortJournal holds.contents.geometry disk
+
+-- The journal takes it. The image that the head names is in this area, whole, and begins with the
+-- mark of another version.
+pub record HoldsOtherMark (sectors : ℕ) (disk : DiskImage) (area : ℕ) : Type 0 where
+  pub holds : HoldsModule sectors disk
+  pub other : HasOtherMark holds.contents.geometry disk area
 
 -- The image that the newest head names is there, whole. The journal takes the longest record of
 -- the head's version, and the image has the mark of no other one.
@@ -121,15 +127,22 @@ pub record HoldsLaterSector (sectors : ℕ) (disk : DiskImage) : Type 0 where
 
 -- ---- what a fault shows
 
--- A mark, the layout, a length or a digest is wrong, or the disk is too small. Or the newest head
--- is of no known version, or is at odds with the journal or with its image. Or the journal shows a
--- later generation than that head. Want of memory shows nothing here. A fault of the disk is told
--- as that.
+-- The first thing that disagrees. Configuration and module are damaged, or they are whole, and the
+-- module is accepted: then it is the journal's length, the image's mark, or the journal's first
+-- sector. What is judged before it is right.
+abbrev pub ShowsDamage : ℕ → DiskImage → Damage → Type 0
+ShowsDamage sectors disk damage.ShortJournal = HoldsShortJournal sectors disk
+ShowsDamage sectors disk (damage.OtherMark area) = HoldsOtherMark sectors disk area
+ShowsDamage sectors disk damage.LaterGeneration = HoldsLaterSector sectors disk
+ShowsDamage sectors disk why = HasDamage sectors disk why
+
+-- A mark or the layout is wrong, or the disk is too small. Or the newest head is of no known
+-- version. Or this is what disagrees first. Want of memory shows nothing here. A fault of the disk
+-- is told as that.
 abbrev pub ShowsLayoutFault : ℕ → DiskImage → LayoutFault → Type 0
 ShowsLayoutFault sectors disk layout.Version = GivesContents sectors disk (Err layout.Version)
     ⊎ (HoldsModule sectors disk × HasOtherVersion disk)
-ShowsLayoutFault sectors disk layout.Damaged = GivesContents sectors disk (Err layout.Damaged)
-    ⊎ HoldsAtOdds sectors disk ⊎ HoldsLaterSector sectors disk
+ShowsLayoutFault sectors disk (layout.Damaged why) = ShowsDamage sectors disk why
 ShowsLayoutFault sectors disk (layout.Disk fault) = ⊥
 ShowsLayoutFault sectors disk fault = GivesContents sectors disk (Err fault)
 

@@ -1,8 +1,9 @@
 -- What is read of any disk, whatever is there (this project's own). Want of memory and a fault of
 -- the disk may come in its place.
-use Rattle.std.specs.Prelude.{◌≡◌, ◌≢◌, ◌⊎◌, ℕ, List, Vec, Result, Ok, Err}
+use Rattle.std.specs.Prelude.{◌≡◌, ◌≢◌, ◌⊎◌, ℕ, ◌%◌, List, Vec, Result, Ok, Err}
 use Rattle.std.specs.declared.alloc.Global.{Global}
 use Rattle.sector_disk.specs.rules.DiskImage.{DiskImage}
+use Rattle.disk_layout.specs.declared.damage.Damage.TheVariants as damage
 use Rattle.disk_layout.specs.declared.fault.LayoutFault.TheVariants as layout
 use Rattle.disk_layout.specs.declared.geometry.Geometry.{Geometry}
 use Rattle.disk_layout.specs.declared.head.Head.{Head}
@@ -69,9 +70,10 @@ pub record NamesProcessImage (geometry : Geometry) (disk : DiskImage) (generatio
   pub holds : HoldsProcessImage geometry disk generation (version_number version) bytes
   pub room : TakesRecords version geometry.journal_sectors
 
--- they begin with the mark of another version
-pub record HasOtherMark (geometry : Geometry) (disk : DiskImage) : Type 0 where
+-- they are in this area, and begin with the mark of another version
+pub record HasOtherMark (geometry : Geometry) (disk : DiskImage) (area : ℕ) : Type 0 where
   pub generation : ℕ
+  pub here : area ≡ generation % 2
   pub version : Version
   pub bytes : List ℕ
   pub named : NamesProcessImage geometry disk generation version bytes
@@ -85,8 +87,10 @@ TellsNewest geometry disk (Ok found) =
     NamesProcessImage geometry disk found.generation found.version found.process_image
     × (IsMarkedOtherwise found.version found.process_image → ⊥)
 TellsNewest geometry disk (Err (read.Layout layout.Version)) = HasOtherVersion disk
-TellsNewest geometry disk (Err (read.Layout layout.Damaged)) =
-    HasShortJournal geometry disk ⊎ HasOtherMark geometry disk
+TellsNewest geometry disk (Err (read.Layout (layout.Damaged damage.ShortJournal))) =
+    HasShortJournal geometry disk
+TellsNewest geometry disk (Err (read.Layout (layout.Damaged (damage.OtherMark area)))) =
+    HasOtherMark geometry disk area
 TellsNewest geometry disk (Err (read.Snapshot snapshot.Damaged)) =
     HasNone disk ⊎ LacksItsProcessImage geometry disk
 TellsNewest geometry disk (Err (read.Snapshot snapshot.Memory)) = HasKnownVersion geometry disk
@@ -100,7 +104,8 @@ abbrev pub TellsRecords : Geometry → Version → ℕ → DiskImage → Result 
 TellsRecords geometry version generation disk (Ok found) =
     (found.items ≡ scan geometry version disk generation)
     × (ShowsLater geometry generation disk → ⊥)
-TellsRecords geometry version generation disk (Err (read.Layout layout.Damaged)) =
+TellsRecords geometry version generation disk
+    (Err (read.Layout (layout.Damaged damage.LaterGeneration))) =
     ShowsLater geometry generation disk
 TellsRecords geometry version generation disk (Err (read.Journal journal.Memory)) =
     ShowsLater geometry generation disk → ⊥

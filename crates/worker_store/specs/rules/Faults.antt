@@ -30,6 +30,6 @@ abbrev pub fault_of_layout : LayoutFault → StoreFault
 fault_of_layout layout.NotAWorker = Layout layout.NotAWorker
 fault_of_layout layout.Version = Layout layout.Version
 fault_of_layout layout.TooSmall = Layout layout.TooSmall
-fault_of_layout layout.Damaged = Layout layout.Damaged
+fault_of_layout (layout.Damaged why) = Layout (layout.Damaged why)
 fault_of_layout layout.Memory = Memory
 fault_of_layout (layout.Disk fault) = Disk fault

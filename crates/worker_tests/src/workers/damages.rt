@@ -4,7 +4,7 @@ use crate::guests::{ECHO, SECTORS, blank};
 use crate::halt::{Halt, NO_WORKER};
 use crate::rows::assert_row;
 use crate::workers::working::{WorkerProgress, create, open};
-use disk_layout::LayoutFault;
+use disk_layout::{Damage, LayoutFault};
 use record_replay::ReplayFault;
 use sector_disk::{Disk, DiskFault, FaultDisk, MemDisk};
 use snapshot::SnapshotFault;
@@ -21,7 +21,7 @@ struct Piece {
 
 /// What is changed on a fresh disk of `ECHO`, or on one of zeros. What a recovery then says, and
 /// its reads, writes and syncs where they are told.
-struct Damage {
+struct DamagedDisk {
     name: &'static str,
     is_created: bool,
     pieces: &'static [Piece],
@@ -42,7 +42,25 @@ const VERSION: Halt = Halt::Recovery(RecoverFault::Layout(LayoutFault::Version))
 
 const TOO_SMALL: Halt = Halt::Recovery(RecoverFault::Layout(LayoutFault::TooSmall));
 
-const FIELDS: Halt = Halt::Recovery(RecoverFault::Layout(LayoutFault::Damaged));
+const OTHER_MODULE_SECTORS: Halt = Halt::Recovery(RecoverFault::Layout(LayoutFault::Damaged(
+    Damage::ModuleSectors,
+)));
+
+const OTHER_DIGEST: Halt = Halt::Recovery(RecoverFault::Layout(LayoutFault::Damaged(
+    Damage::ContentsDigest,
+)));
+
+const OTHER_AREA_SECTORS: Halt = Halt::Recovery(RecoverFault::Layout(LayoutFault::Damaged(
+    Damage::AreaSectors,
+)));
+
+const SHORT_JOURNAL: Halt = Halt::Recovery(RecoverFault::Layout(LayoutFault::Damaged(
+    Damage::ShortJournal,
+)));
+
+const LATER_GENERATION: Halt = Halt::Recovery(RecoverFault::Layout(LayoutFault::Damaged(
+    Damage::LaterGeneration,
+)));
 
 const SNAPSHOT: Halt = Halt::Recovery(RecoverFault::Snapshot(SnapshotFault::Damaged));
 
@@ -118,15 +136,15 @@ const AREA_1: u64 = 2_308;
 
 const JOURNAL: u64 = 4_612;
 
-static DAMAGES: [Damage; 33] = [
-    Damage {
+static DAMAGED_DISKS: [DamagedDisk; 33] = [
+    DamagedDisk {
         name: "nothing",
         is_created: true,
         pieces: &[],
         opens: Ok(FRESH),
         calls: None,
     },
-    Damage {
+    DamagedDisk {
         name: "the first mark",
         is_created: true,
         pieces: &[Piece {
@@ -137,7 +155,7 @@ static DAMAGES: [Damage; 33] = [
         opens: Err(NO_WORKER),
         calls: None,
     },
-    Damage {
+    DamagedDisk {
         name: "the last mark",
         is_created: true,
         pieces: &[Piece {
@@ -148,7 +166,7 @@ static DAMAGES: [Damage; 33] = [
         opens: Err(NO_WORKER),
         calls: None,
     },
-    Damage {
+    DamagedDisk {
         name: "another layout",
         is_created: true,
         pieces: &[Piece {
@@ -159,7 +177,7 @@ static DAMAGES: [Damage; 33] = [
         opens: Err(VERSION),
         calls: None,
     },
-    Damage {
+    DamagedDisk {
         name: "a length that fits no configuration",
         is_created: true,
         pieces: &[Piece {
@@ -167,10 +185,10 @@ static DAMAGES: [Damage; 33] = [
             place: 12,
             bytes: &[27],
         }],
-        opens: Err(FIELDS),
+        opens: Err(OTHER_DIGEST),
         calls: None,
     },
-    Damage {
+    DamagedDisk {
         name: "another number of module sectors",
         is_created: true,
         pieces: &[Piece {
@@ -178,10 +196,10 @@ static DAMAGES: [Damage; 33] = [
             place: 20,
             bytes: &[2],
         }],
-        opens: Err(FIELDS),
+        opens: Err(OTHER_MODULE_SECTORS),
         calls: None,
     },
-    Damage {
+    DamagedDisk {
         name: "another length of the areas",
         is_created: true,
         pieces: &[Piece {
@@ -189,10 +207,10 @@ static DAMAGES: [Damage; 33] = [
             place: 25,
             bytes: &[10],
         }],
-        opens: Err(FIELDS),
+        opens: Err(OTHER_AREA_SECTORS),
         calls: None,
     },
-    Damage {
+    DamagedDisk {
         name: "another digest of the module",
         is_created: true,
         pieces: &[Piece {
@@ -200,10 +218,10 @@ static DAMAGES: [Damage; 33] = [
             place: 32,
             bytes: &[0, 0],
         }],
-        opens: Err(FIELDS),
+        opens: Err(OTHER_DIGEST),
         calls: None,
     },
-    Damage {
+    DamagedDisk {
         name: "another page limit",
         is_created: true,
         pieces: &[Piece {
@@ -211,10 +229,10 @@ static DAMAGES: [Damage; 33] = [
             place: 0,
             bytes: &[2],
         }],
-        opens: Err(FIELDS),
+        opens: Err(OTHER_DIGEST),
         calls: None,
     },
-    Damage {
+    DamagedDisk {
         name: "the last byte of the module",
         is_created: true,
         pieces: &[Piece {
@@ -222,10 +240,10 @@ static DAMAGES: [Damage; 33] = [
             place: 220,
             bytes: &[1],
         }],
-        opens: Err(FIELDS),
+        opens: Err(OTHER_DIGEST),
         calls: None,
     },
-    Damage {
+    DamagedDisk {
         name: "a version of the image that there isn't",
         is_created: true,
         pieces: &[Piece {
@@ -236,7 +254,7 @@ static DAMAGES: [Damage; 33] = [
         opens: Err(VERSION),
         calls: None,
     },
-    Damage {
+    DamagedDisk {
         name: "such a version, and another byte of the image",
         is_created: true,
         pieces: &[
@@ -254,7 +272,7 @@ static DAMAGES: [Damage; 33] = [
         opens: Err(VERSION),
         calls: None,
     },
-    Damage {
+    DamagedDisk {
         name: "version 2 of the image, whose journal is too small for it",
         is_created: true,
         pieces: &[Piece {
@@ -262,10 +280,10 @@ static DAMAGES: [Damage; 33] = [
             place: 8,
             bytes: &[2],
         }],
-        opens: Err(FIELDS),
+        opens: Err(SHORT_JOURNAL),
         calls: None,
     },
-    Damage {
+    DamagedDisk {
         name: "version 2 with such a journal, and another byte of the image",
         is_created: true,
         pieces: &[
@@ -280,10 +298,10 @@ static DAMAGES: [Damage; 33] = [
                 bytes: &[1],
             },
         ],
-        opens: Err(FIELDS),
+        opens: Err(SHORT_JOURNAL),
         calls: None,
     },
-    Damage {
+    DamagedDisk {
         name: "no mark of a head",
         is_created: true,
         pieces: &[Piece {
@@ -294,7 +312,7 @@ static DAMAGES: [Damage; 33] = [
         opens: Err(SNAPSHOT),
         calls: None,
     },
-    Damage {
+    DamagedDisk {
         name: "another place of a head",
         is_created: true,
         pieces: &[Piece {
@@ -305,7 +323,7 @@ static DAMAGES: [Damage; 33] = [
         opens: Err(SNAPSHOT),
         calls: None,
     },
-    Damage {
+    DamagedDisk {
         name: "a generation of the other area",
         is_created: true,
         pieces: &[Piece {
@@ -316,14 +334,14 @@ static DAMAGES: [Damage; 33] = [
         opens: Err(SNAPSHOT),
         calls: None,
     },
-    Damage {
+    DamagedDisk {
         name: "a length beyond the area",
         is_created: true,
         pieces: &[TOO_LONG],
         opens: Err(SNAPSHOT),
         calls: None,
     },
-    Damage {
+    DamagedDisk {
         name: "the last generation",
         is_created: true,
         pieces: &[Piece {
@@ -334,7 +352,7 @@ static DAMAGES: [Damage; 33] = [
         opens: Err(TOO_BIG),
         calls: None,
     },
-    Damage {
+    DamagedDisk {
         name: "another digest of the image",
         is_created: true,
         pieces: &[Piece {
@@ -345,7 +363,7 @@ static DAMAGES: [Damage; 33] = [
         opens: Err(SNAPSHOT),
         calls: None,
     },
-    Damage {
+    DamagedDisk {
         name: "a byte of memory in the image",
         is_created: true,
         pieces: &[Piece {
@@ -356,7 +374,7 @@ static DAMAGES: [Damage; 33] = [
         opens: Err(SNAPSHOT),
         calls: None,
     },
-    Damage {
+    DamagedDisk {
         name: "the length and digest of the image",
         is_created: true,
         pieces: &[Piece {
@@ -367,7 +385,7 @@ static DAMAGES: [Damage; 33] = [
         opens: Ok(FRESH),
         calls: None,
     },
-    Damage {
+    DamagedDisk {
         name: "one byte of the image fewer",
         is_created: true,
         pieces: &[Piece {
@@ -378,7 +396,7 @@ static DAMAGES: [Damage; 33] = [
         opens: Err(NO_IMAGE),
         calls: None,
     },
-    Damage {
+    DamagedDisk {
         name: "one byte of the image more",
         is_created: true,
         pieces: &[Piece {
@@ -389,7 +407,7 @@ static DAMAGES: [Damage; 33] = [
         opens: Err(NO_IMAGE),
         calls: None,
     },
-    Damage {
+    DamagedDisk {
         name: "a record that fits no question",
         is_created: true,
         pieces: &[
@@ -407,7 +425,7 @@ static DAMAGES: [Damage; 33] = [
         opens: Err(DIVERGED),
         calls: None,
     },
-    Damage {
+    DamagedDisk {
         name: "a record of no kind",
         is_created: true,
         pieces: &[
@@ -425,7 +443,7 @@ static DAMAGES: [Damage; 33] = [
         opens: Ok(FRESH),
         calls: None,
     },
-    Damage {
+    DamagedDisk {
         name: "the same without its stamp",
         is_created: true,
         pieces: &[Piece {
@@ -436,14 +454,14 @@ static DAMAGES: [Damage; 33] = [
         opens: Ok(FRESH),
         calls: None,
     },
-    Damage {
+    DamagedDisk {
         name: "a later generation",
         is_created: true,
         pieces: &[LATER_JOURNAL],
-        opens: Err(FIELDS),
+        opens: Err(LATER_GENERATION),
         calls: None,
     },
-    Damage {
+    DamagedDisk {
         name: "a later generation of another place",
         is_created: true,
         pieces: &[Piece {
@@ -454,7 +472,7 @@ static DAMAGES: [Damage; 33] = [
         opens: Ok(FRESH),
         calls: None,
     },
-    Damage {
+    DamagedDisk {
         name: "a later generation in the second sector",
         is_created: true,
         pieces: &[Piece {
@@ -466,7 +484,7 @@ static DAMAGES: [Damage; 33] = [
         calls: None,
     },
     // The super, the contents and both heads are read, and nothing else.
-    Damage {
+    DamagedDisk {
         name: "an image that isn't read",
         is_created: true,
         pieces: &[TOO_LONG],
@@ -474,14 +492,14 @@ static DAMAGES: [Damage; 33] = [
         calls: Some((4, 0, 1)),
     },
     // All of the image is read, and one sector of the journal, which shows a later generation.
-    Damage {
+    DamagedDisk {
         name: "the first sector of a journal",
         is_created: true,
         pieces: &[LATER_JOURNAL],
-        opens: Err(FIELDS),
+        opens: Err(LATER_GENERATION),
         calls: Some((4 + 129 + 1, 0, 1)),
     },
-    Damage {
+    DamagedDisk {
         name: "a blank disk",
         is_created: false,
         pieces: &[],
@@ -525,7 +543,7 @@ fn says<D: Disk>(alloc: Global, disk: &mut D) -> Result<Result<WorkerProgress, H
 }
 
 /// The disk that a damage is done to.
-fn disk_of(alloc: Global, damage: &Damage) -> Result<MemDisk, Halt> {
+fn disk_of(alloc: Global, damage: &DamagedDisk) -> Result<MemDisk, Halt> {
     if damage.is_created {
         created_disk(alloc)
     } else {
@@ -534,7 +552,11 @@ fn disk_of(alloc: Global, damage: &Damage) -> Result<MemDisk, Halt> {
 }
 
 /// Whether a recovery says so after the damage, with so many calls.
-fn is_said_of(alloc: Global, disk: &mut FaultDisk<MemDisk>, damage: &Damage) -> Result<bool, Halt> {
+fn is_said_of(
+    alloc: Global,
+    disk: &mut FaultDisk<MemDisk>,
+    damage: &DamagedDisk,
+) -> Result<bool, Halt> {
     let opens = says(alloc, disk)?;
     let are_so_many = match damage.calls {
         Some(calls) => disk.calls() == calls,
@@ -543,7 +565,7 @@ fn is_said_of(alloc: Global, disk: &mut FaultDisk<MemDisk>, damage: &Damage) -> 
     Ok(opens == damage.opens && are_so_many)
 }
 
-fn is_told_so(alloc: Global, damage: &Damage) -> Result<bool, Halt> {
+fn is_told_so(alloc: Global, damage: &DamagedDisk) -> Result<bool, Halt> {
     let mut disk = disk_of(alloc, damage)?;
     put_each(&mut disk, damage.pieces)?;
     let mut counting = FaultDisk::new(disk, None, None);
@@ -596,7 +618,7 @@ fn is_too_small(alloc: Global) -> Result<bool, Halt> {
 
 #[test]
 fn other_disks_are_refused(rt: HostRuntime) -> Result<(), Halt> {
-    for damage in &DAMAGES {
+    for damage in &DAMAGED_DISKS {
         assert_row(&rt, is_told_so(rt.alloc(), damage)?, &damage.name);
     }
     assert_row(&rt, is_too_small(rt.alloc())?, &"a small disk");

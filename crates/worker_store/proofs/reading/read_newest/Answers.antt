@@ -10,6 +10,7 @@ use Rattle.snapshot.specs.rules.Snapshots.{is_failed}
 use Rattle.worker_store.proofs.NewestLemmas.{judged, process_image_wrong, other_version}
 use Rattle.worker_store.proofs.NewestLemmas.{short_journal}
 use Rattle.worker_store.proofs.NewestLemmas.{reads_newest}
+use Rattle.disk_layout.specs.declared.damage.Damage.TheVariants as damage
 use Rattle.disk_layout.specs.declared.fault.LayoutFault.TheVariants as layout
 use Rattle.snapshot.specs.declared.fault.SnapshotFault.TheVariants.{Damaged}
 use Rattle.worker_store.specs.declared.read_fault.ReadFault.TheVariants as read
@@ -86,7 +87,8 @@ returns-in_default-known_version-clause-finds g c image shown =
 
 pub returns-then-not-takes_records-clause-finds : goal.returns-then-not-takes_records-clause-finds
 returns-then-not-takes_records-clause-finds g c image shown =
-    reads_newest c.args.geometry.now image (Err (read.Layout layout.Damaged))
+    reads_newest c.args.geometry.now image
+    (Err (read.Layout (layout.Damaged damage.ShortJournal)))
     (returns-then-not-takes_records-clause-tells g c image shown)
 
 pub returns-in-Ok-process_image_of-clause-finds : goal.returns-in-Ok-process_image_of-clause-finds

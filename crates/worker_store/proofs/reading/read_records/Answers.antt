@@ -3,7 +3,6 @@ use Rattle.std.specs.Prelude.{Result, Err}
 use Rattle.disk_layout.specs.declared.fault.LayoutFault.TheVariants as layout
 use Rattle.journal.specs.declared.fault.JournalFault.{JournalFault}
 use Rattle.journal.specs.declared.scanned.ScannedJournal.{ScannedJournal}
-use Rattle.worker_store.specs.declared.read_fault.ReadFault.TheVariants as read
 use Rattle.worker_store.proofs.ReadCauseLemmas.{journal_cause}
 use Rattle.worker_store.proofs.ScanLemmas.{judged_scan, unscanned, not_of_layout, refused_later}
 use Rattle.worker_store.proofs.ScanLemmas.{reads_records}
@@ -39,14 +38,13 @@ returns-in-Err-clause-scans g c image shown =
 -- ---- no other sector is read
 
 pub returns-in-Ok-clause-once : goal.returns-in-Ok-clause-once
-returns-in-Ok-clause-once g c same =
-    c.in-Ok.ensures.once
-    (refused_later c.in-Ok.scanned c.judge_scan.result (read.Layout layout.Damaged)
-    c.judge_scan.ensures same)
+returns-in-Ok-clause-once g c why same =
+    let later = refused_later c.in-Ok.scanned c.judge_scan.result why c.judge_scan.ensures same in
+    (later.0, c.in-Ok.ensures.once later.1)
 
 pub returns-in-Err-clause-once : goal.returns-in-Err-clause-once
-returns-in-Err-clause-once g c same =
-    absurd (not_of_layout c.in-Err.fault c.from.result layout.Damaged c.from.ensures same)
+returns-in-Err-clause-once g c why same =
+    absurd (not_of_layout c.in-Err.fault c.from.result (layout.Damaged why) c.from.ensures same)
 
 -- ---- when an error comes
 
