@@ -1,6 +1,7 @@
 pub mod Fronts
 pub mod WrittenFiles
 pub mod InputCallRules
+pub mod Through
 pub mod MovedCallRules
 pub mod FileCallRules
 pub mod Pieces
@@ -21,6 +22,7 @@ pub mod Walks
 pub mod GivenPaths
 pub mod Parts
 pub mod Entries
+pub mod EntriesInPieces
 pub mod SmallInFront
 pub mod Told
 pub mod CallRulesInFront

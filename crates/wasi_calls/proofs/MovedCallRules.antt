@@ -33,15 +33,11 @@ use Rattle.wasi_calls.specs.declared.stop.CallStop.{CallStop}
 use Rattle.wasi_calls.specs.declared.stop.CallStop.TheVariants as stop
 use Rattle.wasi_calls.specs.Moves.{total_len, fronts, AreInside, moved_buffers, Wanted, wanted}
 use Rattle.wasi_calls.specs.Moves.{wanted_at}
+use Rattle.wasi_calls.proofs.Through.{through}
 use Rattle.wasi_calls.proofs.Fronts.{total_sum, total_fronts, length_gathered, inside_fronts}
 use Rattle.wasi_calls.proofs.Fronts.{gathered_fronts, scattered_fronts}
 
 -- ---- steps
-
-through : {A B C : Type 0} (r : Result A Halt) (f : A → Result B Halt) (g : A → Result C Halt)
-    (k : B → Result C Halt) → ((x : A) → g x ≡ (f x >>= k)) → (r >>= g) ≡ ((r >>= f) >>= k)
-through (Ok x) f g k e = e x
-through (Err halt) f g k e = refl
 
 same_next : {A B : Type 0} (r : Result A Halt) (f g : A → Result B Halt)
     → ((x : A) → r ≡ Ok x → f x ≡ g x) → (r >>= f) ≡ (r >>= g)

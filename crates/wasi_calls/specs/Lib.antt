@@ -6,6 +6,7 @@ pub mod Times
 pub mod Writes
 pub mod Listings
 pub mod Openings
+pub mod Entries
 pub mod Renamings
 pub mod Moves
 pub mod Restoring

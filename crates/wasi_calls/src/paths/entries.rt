@@ -2,16 +2,18 @@
 //! `path_remove_directory` and `path_unlink_file`.
 
 ghost use Rattle.std.specs.Prelude.{◌≡◌, OnOk, IfErr, Ok, Err};
-ghost use Rattle.wasi_calls_rules.specs.Checks.{Refuses};
+ghost use Rattle.wasi_calls_rules.specs.Checks.{Bytes, Refuses};
 ghost use Rattle.wasi_calls_rules.specs.Entries.{path_create_directory, path_filestat_get};
 ghost use Rattle.wasi_calls_rules.specs.Entries.{path_remove_directory, path_unlink_file};
+ghost use Rattle.wasi_calls.specs.Entries.{directory_made, directory_removed, file_unlinked};
+ghost use Rattle.wasi_calls.specs.Places.{IsWellPlaced, walk_end_of};
 ghost use Rattle.wasi_calls.specs.Steps.{StopsStep};
 ghost use Rattle.wasi_calls.specs.rules.Calls.{IsAsLarge};
 
 use crate::descriptor::Names;
 use crate::host::WasiState;
 use crate::memory::in_range;
-use crate::paths::{PathNames, Place, find_place, path_bytes};
+use crate::paths::{PathNames, Place, find_place, path_bytes, place_at};
 use crate::status::put_filestat;
 use crate::stop::CallStop;
 use file_tree::NodeType;
@@ -76,12 +78,25 @@ pub fn create_directory(
     ensures kept { IfErr result (λ _. host.new ≡ host.old) }
     ensures released { host.new.released ≡ host.old.released }
 {
-    let descriptor = host.descriptor(fd)?;
-    host.a_directory(descriptor)?;
-    descriptor.check_right(Rights::PATH_CREATE_DIRECTORY)?;
-    let bytes = path_bytes(memory, path, len)?;
-    let names = PathNames::of(bytes)?;
-    let Place::Leaf(directory, name) = find_place(host, descriptor, names)? else {
+    let place = place_at(host, memory, fd, Rights::PATH_CREATE_DIRECTORY, path, len)?;
+    make_directory(alloc, host, place)
+}
+
+/// Makes a directory at a place.
+fn make_directory(
+    alloc: Global,
+    host: &mut WasiState,
+    place: Place<'_>,
+) -> Result<(), CallStop>
+    requires well { IsWellPlaced host.old.host.files (walk_end_of place) }
+    ensures done { (m : Bytes) → OnOk result (directory_made (walk_end_of place.entry) m
+        host.old.host ≡ Ok (record { memory = m; host = host.new.host })) }
+    ensures stopped { (m : Bytes) → IfErr result (λ why.
+        StopsStep why (directory_made (walk_end_of place.entry) m host.old.host)) }
+    ensures kept { IfErr result (λ _. host.new ≡ host.old) }
+    ensures released { host.new.released ≡ host.old.released }
+{
+    let Place::Leaf(directory, name) = place else {
         return Err(CallStop::Refused(Errno::Inval));
     };
     if host.child(directory, name).is_some() {
@@ -108,12 +123,20 @@ pub fn remove_directory(
     ensures kept { IfErr result (λ _. host.new ≡ host.old) }
     ensures released { host.new.released ≡ host.old.released }
 {
-    let descriptor = host.descriptor(fd)?;
-    host.a_directory(descriptor)?;
-    descriptor.check_right(Rights::PATH_REMOVE_DIRECTORY)?;
-    let bytes = path_bytes(memory, path, len)?;
-    let names = PathNames::of(bytes)?;
-    let Place::Leaf(directory, name) = find_place(host, descriptor, names)? else {
+    let place = place_at(host, memory, fd, Rights::PATH_REMOVE_DIRECTORY, path, len)?;
+    remove_directory_at(host, place)
+}
+
+/// Removes the directory at a place.
+fn remove_directory_at(host: &mut WasiState, place: Place<'_>) -> Result<(), Errno>
+    ensures done { (m : Bytes) → OnOk result (directory_removed (walk_end_of place.entry) m
+        host.old.host ≡ Ok (record { memory = m; host = host.new.host })) }
+    ensures refused { (m : Bytes) → IfErr result (λ e.
+        directory_removed (walk_end_of place.entry) m host.old.host ≡ Err (Refuses e)) }
+    ensures kept { IfErr result (λ _. host.new ≡ host.old) }
+    ensures released { host.new.released ≡ host.old.released }
+{
+    let Place::Leaf(directory, name) = place else {
         return Err(Errno::Inval);
     };
     let node = host.child(directory, name).ok_or(Errno::Noent)?;
@@ -142,12 +165,20 @@ pub fn unlink_file(
     ensures kept { IfErr result (λ _. host.new ≡ host.old) }
     ensures released { host.new.released ≡ host.old.released }
 {
-    let descriptor = host.descriptor(fd)?;
-    host.a_directory(descriptor)?;
-    descriptor.check_right(Rights::PATH_UNLINK_FILE)?;
-    let bytes = path_bytes(memory, path, len)?;
-    let names = PathNames::of(bytes)?;
-    let Place::Leaf(directory, name) = find_place(host, descriptor, names)? else {
+    let place = place_at(host, memory, fd, Rights::PATH_UNLINK_FILE, path, len)?;
+    unlink_file_at(host, place)
+}
+
+/// Unlinks the file at a place.
+fn unlink_file_at(host: &mut WasiState, place: Place<'_>) -> Result<(), Errno>
+    ensures done { (m : Bytes) → OnOk result (file_unlinked (walk_end_of place.entry) m
+        host.old.host ≡ Ok (record { memory = m; host = host.new.host })) }
+    ensures refused { (m : Bytes) → IfErr result (λ e.
+        file_unlinked (walk_end_of place.entry) m host.old.host ≡ Err (Refuses e)) }
+    ensures kept { IfErr result (λ _. host.new ≡ host.old) }
+    ensures released { host.new.released ≡ host.old.released }
+{
+    let Place::Leaf(directory, name) = place else {
         return Err(Errno::Inval);
     };
     let node = host.child(directory, name).ok_or(Errno::Noent)?;

@@ -1,23 +1,51 @@
 //! Where a path leads.
 
-ghost use Rattle.std.specs.Prelude.{◌≡◌, [], true, IfOk};
+ghost use Rattle.std.specs.Prelude.{◌≡◌, ◌^◌, [], true, IfOk};
+ghost use Rattle.wasi_abi.specs.Bits.{bit_of};
+ghost use Rattle.wasi_abi.specs.rules.Numbers.{rights_number};
 ghost use Rattle.file_tree.specs.rules.Files.{is_directory};
 ghost use Rattle.wasi_calls_rules.specs.Checks.{names_directory};
 ghost use Rattle.wasi_calls_rules.specs.Entries.{placed};
 ghost use Rattle.wasi_calls_rules.specs.Paths.{is_back, walk};
+ghost use Rattle.wasi_calls.specs.Entries.{place_at};
 ghost use Rattle.wasi_calls.specs.Places.{AreWalked, IsWellPlaced, walk_end_of};
 ghost use Rattle.wasi_calls.specs.Steps.{GivesValue};
 
 use crate::descriptor::{Descriptor, Names};
 use crate::host::WasiState;
 use crate::paths::form::PathNames;
-use wasi_abi::Errno;
+use crate::paths::path_bytes;
+use guest_memory::Memory;
+use wasi_abi::{Errno, Rights};
 
 /// Where a walk ends: at a directory, or at a name in one.
 #[derive(Clone, Copy)]
 pub enum Place<'a> {
     Directory(u64),
     Leaf(u64, &'a [u8]),
+}
+
+/// Where a path leads from an open directory whose descriptor needs this right, or why it leads
+/// nowhere.
+pub fn place_at<'a>(
+    host: &WasiState,
+    memory: &'a Memory,
+    fd: u32,
+    right: Rights,
+    path: u32,
+    len: u32,
+) -> Result<Place<'a>, Errno>
+    requires one { rights_number right ≡ 2 ^ bit_of (rights_number right) }
+    ensures gives { GivesValue walk_end_of result (place_at (bit_of (rights_number right)) fd path
+        len memory.now.bytes host.now.host) }
+    ensures well { IfOk result (λ place. IsWellPlaced host.now.host.files (walk_end_of place)) }
+{
+    let descriptor = host.descriptor(fd)?;
+    host.a_directory(descriptor)?;
+    descriptor.check_right(right)?;
+    let bytes = path_bytes(memory, path, len)?;
+    let names = PathNames::of(bytes)?;
+    find_place(host, descriptor, names)
 }
 
 /// Where the names lead from an open directory. `Notcapable` where they leave it, `Noent` where one

@@ -1,0 +1,73 @@
+-- The rules of the calls on names in directories, in the pieces that the code is made of (this
+-- project's own).
+use Rattle.std.specs.Prelude.{ℕ, not, is_some, Result, Ok, Err}
+use Rattle.wasi_abi.specs.declared.errno.Errno.TheVariants.{Exist, Isdir, Noent, Notdir, Notempty}
+use Rattle.wasi_abi.specs.rules.Numbers.{path_rename_source_right, path_rename_target_right}
+use Rattle.file_tree.specs.rules.Files.{Directory, is_directory, created}
+use Rattle.wasi_calls_rules.specs.WasiStates.{Descriptor, WasiState}
+use Rattle.wasi_calls_rules.specs.Checks.{Bytes, Halt, Ruling, ◌>>=◌, check_or, some_or}
+use Rattle.wasi_calls_rules.specs.Checks.{open_descriptor, a_directory, with_right, lent}
+use Rattle.wasi_calls_rules.specs.Paths.{WalkEnd, formed, node_at}
+use Rattle.wasi_calls_rules.specs.Small.{call_done}
+use Rattle.wasi_calls_rules.specs.Entries.{placed, a_leaf, whole_path, a_free_node}
+use Rattle.wasi_calls_rules.specs.Entries.{is_directory_empty, without}
+
+-- where a path leads from an open directory whose descriptor needs this right
+abbrev pub place_at : ℕ → ℕ → ℕ → ℕ → Bytes → WasiState → Result WalkEnd Halt
+place_at right fd path len m h =
+    open_descriptor h fd >>= λ d.
+    a_directory h d >>= λ _.
+    with_right right d >>= λ _.
+    lent m path len >>= λ bytes.
+    formed bytes >>= λ names.
+    placed h d names
+
+-- a directory is made at a place
+abbrev pub directory_made : WalkEnd → Bytes → WasiState → Ruling
+directory_made place m h =
+    a_leaf place (λ parent name.
+    check_or (not (is_some (node_at h.files place))) Exist >>= λ _.
+    whole_path h.files parent name >>= λ p.
+    a_free_node h.files >>= λ _.
+    call_done m (record h { files = created p Directory h.files }))
+
+-- the directory at a place is removed
+abbrev pub directory_removed : WalkEnd → Bytes → WasiState → Ruling
+directory_removed place m h =
+    a_leaf place (λ parent name.
+    some_or Noent (node_at h.files place) >>= λ k.
+    check_or (is_directory h.files k) Notdir >>= λ _.
+    check_or (is_directory_empty h.files k) Notempty >>= λ _.
+    call_done m (without k h))
+
+-- the file at a place is unlinked
+abbrev pub file_unlinked : WalkEnd → Bytes → WasiState → Ruling
+file_unlinked place m h =
+    a_leaf place (λ parent name.
+    some_or Noent (node_at h.files place) >>= λ k.
+    check_or (not (is_directory h.files k)) Isdir >>= λ _.
+    call_done m (without k h))
+
+-- where the two paths of a rename lead from the directories of these descriptors
+abbrev pub both_placed : Descriptor → Descriptor → ℕ → ℕ → ℕ → ℕ → Bytes → WasiState
+    → Result (WalkEnd × WalkEnd) Halt
+both_placed d e old_path old_len new_path new_len m h =
+    lent m old_path old_len >>= λ old_bytes.
+    lent m new_path new_len >>= λ new_bytes.
+    formed old_bytes >>= λ old_names.
+    formed new_bytes >>= λ new_names.
+    placed h d old_names >>= λ source.
+    placed h e new_names >>= λ target.
+    Ok (source, target)
+
+-- the same from the directories that are open under these numbers, each with its right
+abbrev pub both_places : ℕ → ℕ → ℕ → ℕ → ℕ → ℕ → Bytes → WasiState
+    → Result (WalkEnd × WalkEnd) Halt
+both_places old_fd old_path old_len new_fd new_path new_len m h =
+    open_descriptor h old_fd >>= λ d.
+    open_descriptor h new_fd >>= λ e.
+    a_directory h d >>= λ _.
+    a_directory h e >>= λ _.
+    with_right path_rename_source_right d >>= λ _.
+    with_right path_rename_target_right e >>= λ _.
+    both_placed d e old_path old_len new_path new_len m h
