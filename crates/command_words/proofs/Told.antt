@@ -1,9 +1,9 @@
 -- What the status of a refused module says of its bytes.
 use Rattle.std.proofs.Common.{◌≡◌, ℕ, List, Bool, true, false, refl, arith}
 use Rattle.std.specs.Prelude.{Result, Ok, Err, ⊤, if◌then◌else◌}
-use Rattle.machine_loader.specs.declared.fault.ModuleFault.{ModuleFault}
-use Rattle.machine_loader.specs.rules.Acceptance.{HasNoAcceptedModule, is_want}
-use Rattle.machine_loader.proofs.Wants.{no_want}
+use Rattle.machine.specs.declared.from_bytes.fault.ModuleFault.{ModuleFault}
+use Rattle.machine.specs.rules.Acceptance.{HasNoAcceptedModule, is_want}
+use Rattle.machine.proofs.Wants.{no_want}
 use Rattle.command_words.specs.rules.Statuses.{IsRight, status_by}
 
 pub refused_by : (pages : ℕ) (bytes : List ℕ) (verdict : Result ⊤ ModuleFault)

@@ -14,9 +14,9 @@ use Rattle.command_words.specs.rules.Printers.{PrinterState, IsPrinted}
 use Rattle.wasm_syntax.specs.declared.module.Module.{Module}
 use Rattle.machine.specs.declared.instance.fault.LinkFault.{LinkFault}
 use Rattle.machine.specs.declared.instance.fault.LinkFault.TheVariants.{TooManyPages}
-use Rattle.machine_loader.specs.declared.fault.ModuleFault.{ModuleFault}
-use Rattle.machine_loader.specs.declared.fault.ModuleFault.TheVariants.{Decode, Valid, Link}
-use Rattle.machine_loader.specs.rules.Acceptance.{IsReported, passed_in}
+use Rattle.machine.specs.declared.from_bytes.fault.ModuleFault.{ModuleFault}
+use Rattle.machine.specs.declared.from_bytes.fault.ModuleFault.TheVariants.{Decode, Valid, Link}
+use Rattle.machine.specs.rules.Acceptance.{IsReported, passed_in}
 use Rattle.wasm_decode.specs.declared.items.limit.PassedLimit.{PassedLimit}
 use Rattle.wasm_decode.specs.declared.fault.DecodeFault.TheVariants as decode
 use Rattle.command_words.specs.rules.Statuses.{status_by}

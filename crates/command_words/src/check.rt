@@ -21,9 +21,9 @@
 ghost use Rattle.std.specs.Prelude.{◌≡◌, ◌≤◌, ◌⊎◌, ◌^◌, true, IsOk, Err, IfErr, OnErr, OnOk};
 ghost use Rattle.std.specs.Prelude.{MatchOption, Some, codes};
 ghost use Rattle.std.specs.Io.KnownBytes.{Appends};
-ghost use Rattle.machine_loader.specs.declared.fault.ModuleFault.{ModuleFault};
-ghost use Rattle.machine_loader.specs.rules.Acceptance.{HasAcceptedModule, HasNoAcceptedModule};
-ghost use Rattle.machine_loader.specs.rules.Acceptance.{IsReported, passed_in};
+ghost use Rattle.machine.specs.declared.from_bytes.fault.ModuleFault.{ModuleFault};
+ghost use Rattle.machine.specs.rules.Acceptance.{HasAcceptedModule, HasNoAcceptedModule};
+ghost use Rattle.machine.specs.rules.Acceptance.{IsReported, passed_in};
 ghost use Rattle.wasm_decode.specs.declared.items.limit.PassedLimit.{PassedLimit};
 ghost use Rattle.command_words.specs.rules.Bounds.{IsOutside};
 ghost use Rattle.command_words.specs.rules.ModuleLimits.{TellsLimit};
@@ -37,7 +37,7 @@ use crate::printer::Printer;
 use crate::status::{NO_MEMORY, REFUSED, UNWRITTEN};
 use crate::telling::say_line;
 use crate::verdicts::print_more;
-use machine_loader::{ModuleFault, accept};
+use machine::{ModuleFault, accept};
 use std::alloc::Global;
 use std::io::{self, Write};
 

@@ -44,8 +44,8 @@
 //! # Who may touch what
 //!
 //! Only this crate knows how lines, requests and words are spelled, and the exit statuses
-//! (`status`). `disk_commands`, `story_commands` and `wasmhost` use it. It uses `machine_loader`
-//! and `record_replay`. Want of memory is status 5. It touches no disk, and opens no file.
+//! (`status`). `disk_commands`, `story_commands` and `wasmhost` use it. It uses `machine` and
+//! `record_replay`. Want of memory is status 5. It touches no disk, and opens no file.
 #![tactic(auto)]
 
 mod bounds;

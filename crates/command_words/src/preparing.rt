@@ -13,7 +13,7 @@
 ghost use Rattle.std.specs.Prelude.{◌≡◌, ◌<◌, ◌≤◌, ◌^◌, IfErr, IfOk, OnErr, OnOk, Some, codes};
 ghost use Rattle.std.specs.Prelude.{length, true, ℕ};
 ghost use Rattle.wasi_abi.specs.rules.Configs.{AreSettingsWithinLimits};
-ghost use Rattle.machine_loader.specs.rules.Acceptance.{HasAcceptedModule, passed_in};
+ghost use Rattle.machine.specs.rules.Acceptance.{HasAcceptedModule, passed_in};
 ghost use Rattle.wasm_decode.specs.declared.items.limit.PassedLimit.{PassedLimit};
 ghost use Rattle.command_words.specs.rules.Texts.{texts_in};
 ghost use Rattle.command_words.specs.rules.Preparations.{IsMeasured, IsPreparedAs, IsUnaccepted};
@@ -27,7 +27,7 @@ ghost use Rattle.command_words.specs.rules.Printers.{IsSaid, SaysText};
 ghost use Rattle.command_words.specs.rules.Reports.{SaysLine};
 ghost use Rattle.command_words.specs.rules.Verdicts.{EndsWithMore, SaysMore};
 ghost use Rattle.command_words.specs.declared.bounds.Bound.{Bound};
-ghost use Rattle.machine_loader.specs.declared.fault.ModuleFault.{ModuleFault};
+ghost use Rattle.machine.specs.declared.from_bytes.fault.ModuleFault.{ModuleFault};
 
 use crate::bounds::{Bound, words_of_range};
 use crate::configuring::{Sizes, Unconfigured, configure};
@@ -37,7 +37,7 @@ use crate::status::{NO_MEMORY, REFUSED, UNWRITTEN};
 use crate::telling::say_line;
 use crate::verdicts::print_more;
 use disk_layout::Geometry;
-use machine_loader::{ModuleFault, accept};
+use machine::{ModuleFault, accept};
 use std::alloc::Global;
 use std::io::{self, Write};
 use thiserror::Error;

@@ -9,7 +9,7 @@ use Rattle.wasi_abi.specs.declared.answer.Question.TheVariants as questions
 use Rattle.process_rules.specs.Runs.{Kept, Given}
 use Rattle.record_replay.specs.declared.fault.SourceFault.{SourceFault}
 use Rattle.record_replay.specs.rules.Calls.{Ask, AnswersInOrder}
-use Rattle.ephemeral_worker.specs.rules.Slices.{handed_by, handed}
+use Rattle.record_replay.specs.rules.Slices.{handed_by, handed}
 use Rattle.command_words.specs.declared.lines.fault.LineFault.{LineFault}
 use Rattle.command_words.specs.rules.Outside.{ComeFrom, request_in, requests_in}
 use Rattle.command_words.specs.rules.Outside.{words_in}

@@ -10,13 +10,13 @@ use Rattle.process_rules.specs.Runs.{none}
 use Rattle.process.specs.rules.Values.{ProcessValue, ShowsProcess}
 use Rattle.record_replay.specs.rules.Calls.{Giving, Taking, Exchanges}
 use Rattle.record_replay.proofs.Following.{exchanges_join}
-use Rattle.ephemeral_worker.specs.declared.fault.SliceFault.TheVariants as slice
-use Rattle.ephemeral_worker.specs.declared.now.Now.{Now}
-use Rattle.ephemeral_worker.specs.declared.now.Now.TheVariants as now
-use Rattle.ephemeral_worker.specs.rules.Slices.{SliceLeadsTo, AreWanted, Slices}
-use Rattle.ephemeral_worker.specs.rules.Faults.{LeadsUpTo}
-use Rattle.ephemeral_worker.proofs.Joining.{answered_join, leads_join, none_answered, none_wanted}
-use Rattle.ephemeral_worker.proofs.Joining.{wanted_join}
+use Rattle.record_replay.specs.declared.slices.fault.SliceFault.TheVariants as slice
+use Rattle.record_replay.specs.declared.slices.now.Now.{Now}
+use Rattle.record_replay.specs.declared.slices.now.Now.TheVariants as now
+use Rattle.record_replay.specs.rules.Slices.{SliceLeadsTo, AreWanted, Slices}
+use Rattle.record_replay.specs.rules.Faults.{LeadsUpTo}
+use Rattle.record_replay.proofs.Joining.{answered_join, leads_join, none_answered, none_wanted}
+use Rattle.record_replay.proofs.Joining.{wanted_join}
 use Rattle.worker.specs.declared.fault.WorkFault.{WorkFault}
 use Rattle.worker.specs.declared.fault.WorkFault.TheVariants as work
 use Rattle.worker.specs.rules.DurableValues.{DurableValue, without_disk}

@@ -11,13 +11,13 @@ use Rattle.record_replay.specs.rules.Calls.{Giving, Taking, Ask, Asked, Begun, E
 use Rattle.record_replay.specs.rules.Calls.{Tells, asks_of, last_refused}
 use Rattle.record_replay.proofs.Following.{asks_of-append, leads_join}
 use Rattle.process.specs.rules.Values.{ProcessValue, IsProcess}
-use Rattle.ephemeral_worker.specs.declared.fault.SliceFault.TheVariants as slice
-use Rattle.ephemeral_worker.specs.declared.fault.Refusal.TheVariants as refusal
-use Rattle.ephemeral_worker.specs.declared.now.Now.{Now}
-use Rattle.ephemeral_worker.specs.declared.now.Now.TheVariants as now
-use Rattle.ephemeral_worker.specs.rules.Values.{WorkerValue}
-use Rattle.ephemeral_worker.specs.rules.Slices.{HasAnswer, AreWanted, IsNow, Slices}
-use Rattle.ephemeral_worker.specs.rules.Faults.{LeadsUpTo, EmitsLast, StopsAtLine, last_answer}
+use Rattle.record_replay.specs.declared.slices.fault.SliceFault.TheVariants as slice
+use Rattle.record_replay.specs.declared.slices.fault.Refusal.TheVariants as refusal
+use Rattle.record_replay.specs.declared.slices.now.Now.{Now}
+use Rattle.record_replay.specs.declared.slices.now.Now.TheVariants as now
+use Rattle.record_replay.specs.rules.Workers.{WorkerValue}
+use Rattle.record_replay.specs.rules.Slices.{HasAnswer, AreWanted, IsNow, Slices}
+use Rattle.record_replay.specs.rules.Faults.{LeadsUpTo, EmitsLast, StopsAtLine, last_answer}
 use Rattle.worker.specs.declared.fault.WorkFault.{WorkFault}
 use Rattle.worker.specs.declared.fault.WorkFault.TheVariants as work
 use Rattle.worker.specs.declared.recover_fault.RecoverFault.TheVariants as recover

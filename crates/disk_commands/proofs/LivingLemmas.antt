@@ -11,10 +11,10 @@ use Rattle.disk_layout.specs.rules.Places.{total_sectors}
 use Rattle.record_replay.specs.rules.Calls.{Giving, Taking, asks_of}
 use Rattle.process_rules.proofs.Growing.{runs_count}
 use Rattle.process.specs.rules.Values.{IsProcess}
-use Rattle.ephemeral_worker.specs.declared.now.Now.{Now}
-use Rattle.ephemeral_worker.specs.declared.now.Now.TheVariants as now
-use Rattle.ephemeral_worker.specs.rules.Values.{WorkerValue}
-use Rattle.ephemeral_worker.specs.rules.Slices.{handed, Slices}
+use Rattle.record_replay.specs.declared.slices.now.Now.{Now}
+use Rattle.record_replay.specs.declared.slices.now.Now.TheVariants as now
+use Rattle.record_replay.specs.rules.Workers.{WorkerValue}
+use Rattle.record_replay.specs.rules.Slices.{handed, Slices}
 use Rattle.worker.specs.declared.fault.WorkFault.{WorkFault}
 use Rattle.worker.specs.declared.recover_fault.RecoverFault.{RecoverFault}
 use Rattle.worker.specs.declared.recover_fault.RecoverFault.TheVariants as recover

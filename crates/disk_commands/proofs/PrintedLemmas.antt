@@ -8,11 +8,11 @@ use Rattle.process_rules.specs.Processes.{ProcessState, Guest}
 use Rattle.record_replay.specs.rules.Calls.{Taking, Exchange, Asks, Releases, releases_of}
 use Rattle.record_replay.specs.rules.Calls.{all_taken}
 use Rattle.record_replay.proofs.Following.{releases_of-append}
-use Rattle.ephemeral_worker.specs.declared.fault.SliceFault.TheVariants as slice
-use Rattle.ephemeral_worker.specs.declared.fault.Refusal.TheVariants as refusal
-use Rattle.ephemeral_worker.specs.rules.Slices.{SliceLeadsTo}
-use Rattle.ephemeral_worker.specs.rules.Faults.{LeadsUpTo, last_answer}
-use Rattle.ephemeral_worker.proofs.Joining.{leads_join}
+use Rattle.record_replay.specs.declared.slices.fault.SliceFault.TheVariants as slice
+use Rattle.record_replay.specs.declared.slices.fault.Refusal.TheVariants as refusal
+use Rattle.record_replay.specs.rules.Slices.{SliceLeadsTo}
+use Rattle.record_replay.specs.rules.Faults.{LeadsUpTo, last_answer}
+use Rattle.record_replay.proofs.Joining.{leads_join}
 use Rattle.worker.specs.declared.fault.WorkFault.{WorkFault}
 use Rattle.worker.specs.declared.fault.WorkFault.TheVariants as work
 use Rattle.command_words.specs.Lines.Answers.{SourceState}

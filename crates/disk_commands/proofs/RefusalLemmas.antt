@@ -9,7 +9,7 @@ use Rattle.process_rules.specs.Runs.{Kept}
 use Rattle.record_replay.specs.declared.fault.SourceFault.{SourceFault}
 use Rattle.record_replay.specs.rules.Calls.{Ask, Asked, AnswersInOrder}
 use Rattle.record_replay.proofs.Following.{leads_split}
-use Rattle.ephemeral_worker.specs.rules.Slices.{handed_by, handed}
+use Rattle.record_replay.specs.rules.Slices.{handed_by, handed}
 use Rattle.command_words.specs.declared.lines.fault.LineFault.{LineFault}
 use Rattle.command_words.specs.rules.Outside.{ComeFrom, requests_in, words_of}
 use Rattle.command_words.specs.rules.Requests.{GiveUpTo}

@@ -4,7 +4,7 @@ use Rattle.std.specs.Prelude.{Result}
 use Rattle.sector_disk.specs.rules.Medium.{Medium}
 use Rattle.record_replay.specs.rules.Calls.{Giving, Taking, Ask, Exchange, Exchanges}
 use Rattle.record_replay.specs.rules.Calls.{AnswersInOrder, asks_of}
-use Rattle.ephemeral_worker.specs.declared.now.Now.{Now}
+use Rattle.record_replay.specs.declared.slices.now.Now.{Now}
 use Rattle.worker.specs.declared.recover_fault.RecoverFault.{RecoverFault}
 use Rattle.worker.specs.rules.DurableValues.{DurableValue}
 use Rattle.worker.specs.rules.LifeWords.{Act}

@@ -8,8 +8,8 @@ use Rattle.std.proofs.lemmas.List.{length-append}
 use Rattle.wasm_syntax.specs.declared.value.Trap.{Trap}
 use Rattle.wasm_syntax.specs.declared.value.Trap.TheVariants as trap
 use Rattle.process.specs.declared.stop.ProcessEnd.TheVariants as end
-use Rattle.ephemeral_worker.specs.declared.now.Now.{Now}
-use Rattle.ephemeral_worker.specs.declared.now.Now.TheVariants as now
+use Rattle.record_replay.specs.declared.slices.now.Now.{Now}
+use Rattle.record_replay.specs.declared.slices.now.Now.TheVariants as now
 use Rattle.command_words.specs.rules.Texts.{named_number}
 use Rattle.command_words.specs.rules.Texts.{trap_text}
 use Rattle.disk_commands.specs.StatusLines.{IsBehindNumber, IsBehindNumbers, IsExitWords}

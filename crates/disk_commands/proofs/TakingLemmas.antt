@@ -10,12 +10,12 @@ use Rattle.sector_disk.specs.rules.Medium.{Medium}
 use Rattle.record_replay.specs.rules.Calls.{Giving, Taking, Begun, Exchange, Asks, Tells, Released}
 use Rattle.record_replay.specs.rules.Calls.{Releases, releases_of, all_taken, last_refused}
 use Rattle.record_replay.proofs.Following.{leads_split, releases_of-append}
-use Rattle.ephemeral_worker.specs.declared.fault.SliceFault.TheVariants as slice
-use Rattle.ephemeral_worker.specs.declared.fault.Refusal.TheVariants as refusal
-use Rattle.ephemeral_worker.specs.declared.now.Now.{Now}
-use Rattle.ephemeral_worker.specs.rules.Values.{WorkerValue}
-use Rattle.ephemeral_worker.specs.rules.Slices.{SliceLeadsTo, Slices}
-use Rattle.ephemeral_worker.specs.rules.Faults.{LeadsUpTo, EmitsLast, StopsAtLine, last_answer}
+use Rattle.record_replay.specs.declared.slices.fault.SliceFault.TheVariants as slice
+use Rattle.record_replay.specs.declared.slices.fault.Refusal.TheVariants as refusal
+use Rattle.record_replay.specs.declared.slices.now.Now.{Now}
+use Rattle.record_replay.specs.rules.Workers.{WorkerValue}
+use Rattle.record_replay.specs.rules.Slices.{SliceLeadsTo, Slices}
+use Rattle.record_replay.specs.rules.Faults.{LeadsUpTo, EmitsLast, StopsAtLine, last_answer}
 use Rattle.worker.specs.declared.fault.WorkFault.{WorkFault}
 use Rattle.worker.specs.declared.fault.WorkFault.TheVariants as work
 use Rattle.worker.specs.declared.recover_fault.RecoverFault.TheVariants as recover

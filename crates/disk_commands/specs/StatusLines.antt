@@ -1,7 +1,7 @@
 -- The parts of a status line, in the order in which they are read.
 use Rattle.std.specs.Prelude.{◌≡◌, ◌<◌, ◌^◌, ℕ, List, ◌∷◌, ◌++◌, Option, IfSome, codes}
 use Rattle.std.specs.Fmt.{decimal}
-use Rattle.ephemeral_worker.specs.declared.now.Now.{Now}
+use Rattle.record_replay.specs.declared.slices.now.Now.{Now}
 use Rattle.wasm_syntax.specs.declared.value.Trap.{Trap}
 use Rattle.command_words.specs.rules.Texts.{trap_text}
 use Rattle.disk_commands.specs.rules.Watchings.{HasCodeInRange, state_words, watch_words}

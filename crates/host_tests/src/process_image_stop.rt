@@ -1,7 +1,7 @@
 //! Why a test of images has nothing to compare: one name for each case of out of memory.
 
 use hex::FromHexError;
-use machine_loader::ModuleFault;
+use machine::ModuleFault;
 use process::ProcessFault;
 use state_image::restoring::RestoreFault;
 use std::alloc::{AllocError, AllocFailed};

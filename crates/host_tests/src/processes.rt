@@ -2,7 +2,7 @@
 
 use crate::process_image_stop::ProcessImageStop;
 use hex::decode;
-use machine_loader::{ModuleFault, read};
+use machine::{ModuleFault, read};
 use process::{Process, ProcessEnd, ProcessFault, Stop};
 use state_image::restoring::{RestoreFault, restore};
 use std::alloc::Global;

@@ -18,3 +18,5 @@ pub mod CycleLemmas
 pub mod InstanceLemmas
 pub mod HostingLemmas
 pub mod LoadingLemmas
+pub mod Refused
+pub mod Wants

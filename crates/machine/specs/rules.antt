@@ -8,3 +8,4 @@ pub mod Offers
 pub mod Refusals
 pub mod Runs
 pub mod Values
+pub mod Acceptance

@@ -21,6 +21,10 @@
 //!
 //! # Promises
 //!
+//! - `read`: the module is spelled by the bytes, within the limits, and valid (`read`). `accept`: the
+//!   machine is of the accepted module that they spell, and has begun (`accepted`). A refusal is
+//!   that of the first of decoding, validation and linking that refuses (`reported`). Unless memory
+//!   runs out no such module is spelled by the bytes (`only`).
 //! - `link`: the machine shows where the module begins (`begun`). A fault names the first thing
 //!   that isn't there (`refused`).
 //! - `Machine::run`: on so much fuel a machine comes to where that many counted steps lead. The
@@ -44,12 +48,12 @@
 //!
 //! In `specs/rules/`: `MachineValue`, `ShowsIn` (`Values.antt`); `HasBegun`, `RunsOnFuel`,
 //! `WaitsFor`, `Answers` (`Runs.antt`); `LinkDenies` (`Refusals.antt`); `ShowsSome`, `LoadDenies`
-//! (`Loading.antt`). `Shows` is of `machine_slots`.
+//! (`Loading.antt`); `Accepts`, `IsRead`, `IsReported` (`Acceptance.antt`). `Shows` is of `machine_slots`.
 //!
 //! # Who may touch what
 //!
 //! No code but this crate's and that of `machine_frame`, `machine_slots` and `machine_jumps`
-//! changes frames, slots or positions. `machine_loader`, `process` and `state_image` use it. `link`
+//! changes frames, slots or positions. `process`, `state_image` and `command_words` use it. `link`
 //! takes all memory that running needs, and translates bodies into register code; where it fails
 //! the module is gone. The other calls take none and have no errors, but those of `Loading`.
 //!
@@ -58,10 +62,13 @@
 //! - **A contract is stated for every configuration that is shown**, and asks that there is one.
 //!   Nothing has to be known of which it is. No clause of `run` or `finish` names a slot, a frame
 //!   or a routine.
+//! - **Front end and start are apart** (`read`, then `Process::start`): a recovery makes its process
+//!   of an image, and starts none.
 #![tactic(auto)]
 
 mod execution;
 mod frames;
+mod from_bytes;
 mod hosting;
 mod instance;
 pub mod laws;
@@ -72,6 +79,7 @@ mod routines;
 mod running_machine;
 
 pub use execution::{Arguments, HostCall, Pause, Paused};
+pub use from_bytes::{ModuleFault, accept, read};
 pub use instance::{LinkFault, entry_of};
 pub use linking::link;
 pub use loading::{LoadFault, Loading};

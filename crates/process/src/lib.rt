@@ -46,7 +46,7 @@
 //! # Who may touch what
 //!
 //! Only this crate puts the machine and its host together, and lends the guest's memory to a call.
-//! `record_replay`, `ephemeral_worker` and `worker` run a process. `state_image` reads what it
+//! `record_replay` and `worker` run a process. `state_image` reads what it
 //! holds, and makes it again of its parts. `start` takes all memory that the machine needs. Later
 //! only a step of the host's calls takes any. After an error the process is as it was after its
 //! last whole step.

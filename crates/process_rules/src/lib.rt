@@ -39,8 +39,8 @@
 //! # Who may touch what
 //!
 //! There is no code here but the empty functions of `laws`. Nothing here knows positions, slots,
-//! fuel, generations or sectors. `process`, `ephemeral_worker`, `disk_commands`, `state_image`
-//! and `restart_theorem` cite the definitions. The crate takes no memory, and has no errors.
+//! fuel, generations or sectors. `process`, `record_replay`, `disk_commands`, `state_image`
+//! and `worker_store` cite the definitions. The crate takes no memory, and has no errors.
 //!
 //! # Choices
 //!

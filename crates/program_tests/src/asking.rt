@@ -1,6 +1,6 @@
 //! `echo`, which asks for requests, and a worker without a disk.
 
-use ephemeral_worker::EphemeralWorker;
+use record_replay::EphemeralWorker;
 use std::alloc::Global;
 use std::test::Fail;
 use wasi_abi::{Answer, Config};

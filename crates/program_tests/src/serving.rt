@@ -7,7 +7,7 @@ use crate::run::status_of;
 use crate::show::{Shown, after_one_slice, fresh_disk, shows};
 use command_words::{BufferedLines, LineOutlet, Printer, RequestSource};
 use disk_commands::{Drive, Pace, Watcher, Worker, serve};
-use ephemeral_worker::Now;
+use record_replay::Now;
 use sector_disk::MemDisk;
 use std::alloc::Global;
 use std::io::Write;

@@ -1,3 +1,4 @@
 pub mod Plays
 pub mod laws
 pub mod rules
+pub mod Turns

@@ -3,3 +3,7 @@ pub mod Lists
 pub mod Records
 pub mod Replays
 pub mod Waiting
+pub mod Faults
+pub mod Refusals
+pub mod Slices
+pub mod Workers

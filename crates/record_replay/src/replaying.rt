@@ -2,7 +2,7 @@
 //!
 //! # Choices
 //!
-//! - **A replay is above `process` and below `ephemeral_worker`.** Without a source it can't ask
+//! - **A replay is above `process`, and knows no source.** Without a source it can't ask
 //!   for anything that isn't on record.
 //! - Where a process has come by its records is a relation of two processes (`Recorded`), which a
 //!   disk stands by and a replay meets. A replay says nothing of how it goes. The process that is

@@ -42,7 +42,7 @@
 //!
 //! There is no code here but limits, the type of a line's stream (`OutputStream`), and the empty
 //! functions of `laws`. `wasi_calls` has the code of all 31 calls; `process_rules`,
-//! `record_replay`, `state_image` and `restart_theorem` cite the definitions. The crate takes no
+//! `record_replay`, `state_image` and `worker_store` cite the definitions. The crate takes no
 //! memory, and has no errors.
 //!
 //! # Choices

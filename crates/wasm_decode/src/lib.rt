@@ -32,7 +32,7 @@
 //! # Who may touch what
 //!
 //! Only this crate judges the binary format. Its readers, their places in the bytes, and the order
-//! in which they judge are hidden behind `decode`. `machine_loader` uses it. `wasm_places` reads the
+//! in which they judge are hidden behind `decode`. `machine` uses it. `wasm_places` reads the
 //! format, too, to say where a fault lies, and judges nothing. Memory is taken in proportion to the
 //! bytes, whatever counts they declare. Out of memory is `B4 Memory`; the others
 //! are `B1 Malformed`, `B2 Float` and `B3 Limit`. After a fault nothing is kept.

@@ -1,8 +1,7 @@
 //! What comes of running a module under two pages of memory.
 
 use crate::spelled::{Refused, with_code};
-use machine::{HostCall, Machine, Pause};
-use machine_loader::{ModuleFault, accept};
+use machine::{HostCall, Machine, ModuleFault, Pause, accept};
 use std::alloc::Global;
 use wasi_abi::Call;
 use wasm_syntax::Trap;

@@ -1,6 +1,6 @@
 //! Modules that rows of text spell.
 
-use machine_loader::ModuleFault;
+use machine::ModuleFault;
 use std::alloc::{AllocError, AllocFailed, Global};
 use wasm_decode::DecodeFault;
 use wasm_validate::ValidFault;

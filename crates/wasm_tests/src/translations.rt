@@ -9,7 +9,7 @@ use crate::branches::{context_of, first_table};
 use crate::rows::assert_row;
 use crate::spelled::{Refused, with_code};
 use machine_frame::{RegisterCode, translate};
-use machine_loader::read;
+use machine::read;
 use std::alloc::Global;
 use wasm_validate::ValidModule;
 

@@ -36,8 +36,8 @@
 //!
 //! # Who may touch what
 //!
-//! Only this crate makes a `ValidModule`. `machine_loader` calls `validate`. `machine`, `process`
-//! and `state_image` use the type. `machine`, `machine_jumps` and `machine_frame` use the context,
+//! Only this crate makes a `ValidModule`. `machine` calls `validate`. It, `process` and
+//! `state_image` use the type. `machine`, `machine_jumps` and `machine_frame` use the context,
 //! and `machine_jumps` the `Stack` of `body`. Memory is taken in proportion to functions, globals,
 //! exports and the longest body. Out of memory is `V5 Memory`. After any fault the module is gone.
 #![tactic(auto)]

@@ -16,11 +16,11 @@ use Rattle.process_rules.specs.Runs.{none, step, take as takes, widen}
 use Rattle.process_rules.proofs.Growing.{runs_emit}
 use Rattle.sector_disk.specs.rules.Medium.{Medium}
 use Rattle.record_replay.specs.rules.Calls.{Begun, Exchange, Tells}
-use Rattle.restart_theorem.specs.Lives.{Event}
-use Rattle.restart_theorem.specs.Courses.{Stage, stage_after}
-use Rattle.restart_theorem.specs.Promises.{Promise}
-use Rattle.restart_theorem.specs.Exchanges.{AreEvents, none as no_exchange, told, asked}
-use Rattle.restart_theorem.proofs.Fronts.{LeadsOn, fronts_lead_on}
+use Rattle.worker_store.specs.restart_theorem.Lives.{Event}
+use Rattle.worker_store.specs.restart_theorem.Courses.{Stage, stage_after}
+use Rattle.worker_store.specs.restart_theorem.Promises.{Promise}
+use Rattle.worker_store.specs.restart_theorem.Exchanges.{AreEvents, none as no_exchange, told, asked}
+use Rattle.worker_store.proofs.RestartLemmas.Fronts.{LeadsOn, fronts_lead_on}
 use Rattle.worker_store.specs.declared.store.WorkerStore.{WorkerStore}
 use Rattle.worker_store.proofs.LawLemmas.Carrying.{more_lines}
 use Rattle.worker_store.proofs.LawLemmas.Telling.{max_within}

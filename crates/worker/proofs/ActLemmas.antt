@@ -6,9 +6,9 @@ use Rattle.std.proofs.lemmas.List.{drop_all}
 use Rattle.std.specs.Prelude.{Result, Ok, Err, map}
 use Rattle.sector_disk.specs.rules.Medium.{Medium}
 use Rattle.record_replay.specs.rules.Calls.{Giving, Taking}
-use Rattle.restart_theorem.specs.Lives.{Act, Checkpoint, Upgrade}
-use Rattle.restart_theorem.specs.Lives.{Slice}
-use Rattle.ephemeral_worker.specs.declared.now.Now.{Now}
+use Rattle.worker_store.specs.restart_theorem.Lives.{Act, Checkpoint, Upgrade}
+use Rattle.worker_store.specs.restart_theorem.Lives.{Slice}
+use Rattle.record_replay.specs.declared.slices.now.Now.{Now}
 use Rattle.worker.specs.declared.fault.WorkFault.{WorkFault}
 use Rattle.worker.specs.declared.recover_fault.RecoverFault.{RecoverFault}
 use Rattle.worker.specs.declared.recover_fault.RecoverFault.TheVariants as recover

@@ -3,9 +3,9 @@ use Rattle.std.proofs.Common.{◌≡◌, refl, ◌∙◌, subst}
 use Rattle.std.specs.Prelude.{Bool}
 use Rattle.process.specs.rules.Values.{ProcessValue}
 use Rattle.record_replay.specs.rules.Calls.{Giving, Taking}
-use Rattle.ephemeral_worker.specs.rules.Slices.{Slices}
-use Rattle.ephemeral_worker.specs.rules.Values.{WorkerValue}
-use Rattle.ephemeral_worker.proofs.Adding.{slices_add}
+use Rattle.record_replay.specs.rules.Slices.{Slices}
+use Rattle.record_replay.specs.rules.Workers.{WorkerValue}
+use Rattle.record_replay.proofs.Adding.{slices_add}
 use Rattle.worker.specs.laws.Adding.{AreSavedIn, none, one_more, SlicesOnDiskAdd}
 use Rattle.worker.specs.rules.DurableValues.{DurableValue, without_disk}
 

@@ -14,7 +14,7 @@ use Rattle.disk_layout.specs.rules.Places.{area_place, rounded_up, total_sectors
 use Rattle.journal.specs.rules.Steps.{barrier_calls}
 use Rattle.snapshot.specs.rules.Calls.{with_head}
 use Rattle.snapshot.proofs.StoreCalls.{some_none}
-use Rattle.restart_theorem.specs.Lives.{Checkpoint}
+use Rattle.worker_store.specs.restart_theorem.Lives.{Checkpoint}
 use Rattle.worker_store.proofs.LawLemmas.Acts.{checkpoints_save}
 use Rattle.worker_store.specs.declared.fault.StoreFault.{StoreFault}
 use Rattle.worker_store.specs.declared.fault.StoreFault.TheVariants as store

@@ -30,13 +30,13 @@ use Rattle.disk_layout.specs.declared.fault.LayoutFault.TheVariants as layout
 use Rattle.disk_layout.specs.declared.geometry.Geometry.{Geometry}
 use Rattle.disk_layout.specs.rules.Places.{geometry_of, total_sectors}
 use Rattle.disk_layout.specs.rules.Sectors.{HasWorker}
-use Rattle.restart_theorem.specs.Stands.{IsBlank}
-use Rattle.restart_theorem.specs.Between.{FindsNoWorker}
-use Rattle.restart_theorem.specs.Lives.{Inputs, Opened, Creates}
-use Rattle.restart_theorem.specs.Courses.{at_beginning}
-use Rattle.restart_theorem.specs.Promises.{Promise, after}
-use Rattle.restart_theorem.specs.Holds.{IsNothingYet, DiskImageHolds, IsBounded, StaysWithin}
-use Rattle.restart_theorem.proofs.Disks.{blank_is_within, stands_within}
+use Rattle.worker_store.specs.restart_theorem.Stands.{IsBlank}
+use Rattle.worker_store.specs.restart_theorem.Between.{FindsNoWorker}
+use Rattle.worker_store.specs.restart_theorem.Lives.{Inputs, Opened, Creates}
+use Rattle.worker_store.specs.restart_theorem.Courses.{at_beginning}
+use Rattle.worker_store.specs.restart_theorem.Promises.{Promise, after}
+use Rattle.worker_store.specs.restart_theorem.Holds.{IsNothingYet, DiskImageHolds, IsBounded, StaysWithin}
+use Rattle.worker_store.proofs.RestartLemmas.Disks.{blank_is_within, stands_within}
 use Rattle.worker_store.specs.rules.Savepoints.{Savepoint, places, BeginsAtPoint}
 use Rattle.worker_store.specs.rules.Carried.{IsHeldAt}
 use Rattle.worker_store.specs.laws.CallEnds.{IsSavedAs}
@@ -58,8 +58,8 @@ use Rattle.worker_store.specs.rules.Creations.{IsFirstPoint, LeavesBlankOrFirst,
 use Rattle.worker_store.specs.rules.Creations.{CreationFails, creation_calls}
 use Rattle.worker_store.specs.rules.Stores.{IsStoreOf}
 use Rattle.worker_store.proofs.LawLemmas.Telling.{max_within}
-use Rattle.ephemeral_worker.specs.Turns.{working}
-use Rattle.ephemeral_worker.specs.rules.Values.{IsCreated}
+use Rattle.record_replay.specs.Turns.{working}
+use Rattle.record_replay.specs.rules.Workers.{IsCreated}
 use Rattle.worker.specs.declared.fault.WorkFault.{WorkFault}
 use Rattle.worker.specs.Laying.{fresh_of, worker_laid}
 use Rattle.worker.specs.rules.CallCounts.{most_creating}

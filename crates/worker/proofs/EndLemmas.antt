@@ -15,11 +15,11 @@ use Rattle.sector_disk.specs.laws.Memory.{memory_stays}
 use Rattle.sector_disk.specs.rules.Memory.{memory_medium, MemoryState}
 use Rattle.sector_disk.specs.rules.Memory.{memory_state_of, after_cut}
 use Rattle.sector_disk.specs.rules.Trouble.{place_numbers, has_begun, call_number}
-use Rattle.restart_theorem.specs.Lives.{Act, Cause, OfDisk, End, Inputs}
-use Rattle.restart_theorem.specs.Lives.End.{Finished as finished, Stopped as stopped}
-use Rattle.restart_theorem.specs.Lives.End.{Failed as failed}
-use Rattle.restart_theorem.specs.Courses.{HasDiskFault, HasStopped, HasNotStopped}
-use Rattle.restart_theorem.specs.Between.{NextFinds, IsFoundAfterCut}
+use Rattle.worker_store.specs.restart_theorem.Lives.{Act, Cause, OfDisk, End, Inputs}
+use Rattle.worker_store.specs.restart_theorem.Lives.End.{Finished as finished, Stopped as stopped}
+use Rattle.worker_store.specs.restart_theorem.Lives.End.{Failed as failed}
+use Rattle.worker_store.specs.restart_theorem.Courses.{HasDiskFault, HasStopped, HasNotStopped}
+use Rattle.worker_store.specs.restart_theorem.Between.{NextFinds, IsFoundAfterCut}
 use Rattle.worker.specs.declared.recover_fault.RecoverFault.{RecoverFault}
 use Rattle.worker.specs.rules.OneLife.{IsCauseOf, undone_acts}
 use Rattle.worker.specs.laws.OneLife.{EndsBy, IsLater}

@@ -23,14 +23,14 @@ use Rattle.disk_layout.specs.rules.Places.{geometry_of, total_sectors}
 use Rattle.disk_layout.specs.rules.Unsynced.{most_unsynced}
 use Rattle.record_replay.specs.declared.line_list.NumberedLine.{NumberedLine}
 use Rattle.record_replay.specs.rules.Calls.{Exchange, Exchanges}
-use Rattle.restart_theorem.specs.Stands.{IsBlank}
-use Rattle.restart_theorem.specs.Lives.{Inputs, Life, Beginning, Release}
-use Rattle.restart_theorem.specs.Promises.{Promise, nothing_yet, promised_by, IsLived, GoOn}
-use Rattle.restart_theorem.specs.Holds.{KeepsPromise, KeepsBounds}
-use Rattle.restart_theorem.specs.Between.{IsLivedOn}
-use Rattle.restart_theorem.proofs.Disks.{blank_is_within}
-use Rattle.restart_theorem.proofs.NextLives.{found_is_as_long, next_life_finds_it}
-use Rattle.restart_theorem.proofs.NextLives.{next_life_is_within}
+use Rattle.worker_store.specs.restart_theorem.Stands.{IsBlank}
+use Rattle.worker_store.specs.restart_theorem.Lives.{Inputs, Life, Beginning, Release}
+use Rattle.worker_store.specs.restart_theorem.Promises.{Promise, nothing_yet, promised_by, IsLived, GoOn}
+use Rattle.worker_store.specs.restart_theorem.Holds.{KeepsPromise, KeepsBounds}
+use Rattle.worker_store.specs.restart_theorem.Between.{IsLivedOn}
+use Rattle.worker_store.proofs.RestartLemmas.Disks.{blank_is_within}
+use Rattle.worker_store.proofs.RestartLemmas.NextLives.{found_is_as_long, next_life_finds_it}
+use Rattle.worker_store.proofs.RestartLemmas.NextLives.{next_life_is_within}
 use Rattle.worker.specs.declared.recover_fault.RecoverFault.{RecoverFault}
 use Rattle.worker.specs.rules.OneLife.{opened_in, shown_first, undone_acts}
 use Rattle.worker.specs.laws.OneLife.{CameTrue, IsLifeOver, IsLifeOf, IsLater, CallsMakeLives}
@@ -63,7 +63,7 @@ use Rattle.worker.specs.Going.{HasAllRoom, IsKeptOn, IsReportedOn, LivesOn}
 use Rattle.worker.specs.Going.{promised_by_all}
 use Rattle.worker.specs.Going.{GoneOn}
 use Rattle.worker.specs.Hearing.{hands_out, hears}
-use Rattle.restart_theorem.proofs.FileLives.{zeros_are_blank}
+use Rattle.worker_store.proofs.RestartLemmas.FileLives.{zeros_are_blank}
 use Rattle.worker.proofs.HeardLemmas.{said_so, heard_all}
 use Rattle.worker.proofs.EndLemmas.{tells_end, next_finds, faults_as_planned}
 use Rattle.worker.proofs.EndLemmas.{stopping_leaves_some}

@@ -12,8 +12,8 @@ use Rattle.record_replay.specs.rules.Calls.{Begun, Exchange, Asks, Tells, Releas
 use Rattle.record_replay.specs.rules.Calls.{AnswersInOrder, asks_of, releases_of}
 use Rattle.record_replay.specs.declared.refusing.RefusingOutlet.{RefusingOutlet}
 use Rattle.record_replay.specs.rules.Lists.{KeepsLine, inner_outlet, until_fault}
-use Rattle.restart_theorem.specs.Courses.{first_taken, without_first}
-use Rattle.restart_theorem.specs.Exchanges.{was_taken, release_of}
+use Rattle.worker_store.specs.restart_theorem.Courses.{first_taken, without_first}
+use Rattle.worker_store.specs.restart_theorem.Exchanges.{was_taken, release_of}
 use Rattle.worker_store.specs.rules.BetweenCalls.{Foretell}
 use Rattle.worker.specs.laws.OneLife.{released_in}
 use Rattle.worker.specs.declared.story.hearing.HeardLines.{HeardLines}

@@ -18,10 +18,10 @@ use Rattle.sector_disk.proofs.Moments.{leaves_weaker, leaves_only, started}
 use Rattle.disk_layout.specs.rules.Journal.{Record, TakesRecords}
 use Rattle.journal.specs.rules.Steps.{barrier_calls}
 use Rattle.record_replay.specs.rules.Records.{given_in}
-use Rattle.restart_theorem.specs.Stands.{StandsFor}
-use Rattle.restart_theorem.specs.Courses.{Stage}
-use Rattle.restart_theorem.specs.Promises.{Promise}
-use Rattle.restart_theorem.specs.Holds.{HoldsPromise, DiskImageHolds, IsUnopened}
+use Rattle.worker_store.specs.restart_theorem.Stands.{StandsFor}
+use Rattle.worker_store.specs.restart_theorem.Courses.{Stage}
+use Rattle.worker_store.specs.restart_theorem.Promises.{Promise}
+use Rattle.worker_store.specs.restart_theorem.Holds.{HoldsPromise, DiskImageHolds, IsUnopened}
 use Rattle.worker_store.specs.rules.Savepoints.{Savepoint, IsAtSavepoint, BeginsAtPoint}
 use Rattle.worker_store.specs.laws.Laws.{ProcessImagesFitAreas}
 use Rattle.worker_store.proofs.LawLemmas.Carrying.{barrier_carries}

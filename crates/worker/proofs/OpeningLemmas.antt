@@ -6,9 +6,9 @@ use Rattle.wasi_abi.specs.rules.Configs.{Settings}
 use Rattle.sector_disk.specs.rules.Medium.{Medium}
 use Rattle.state_image.specs.rules.Saving.{saved_of}
 use Rattle.record_replay.specs.rules.Calls.{Giving, Taking}
-use Rattle.restart_theorem.specs.Lives.{Act}
-use Rattle.restart_theorem.specs.Lives.{Creates}
-use Rattle.restart_theorem.specs.Lives.Beginning.{Recovers as recovers}
+use Rattle.worker_store.specs.restart_theorem.Lives.{Act}
+use Rattle.worker_store.specs.restart_theorem.Lives.{Creates}
+use Rattle.worker_store.specs.restart_theorem.Lives.Beginning.{Recovers as recovers}
 use Rattle.worker.specs.declared.fault.WorkFault.{WorkFault}
 use Rattle.worker.specs.declared.recover_fault.RecoverFault.{RecoverFault}
 use Rattle.worker.specs.declared.recover_fault.RecoverFault.TheVariants as recover

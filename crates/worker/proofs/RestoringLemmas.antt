@@ -17,10 +17,10 @@ use Rattle.process_rules.specs.Processes.{ProcessState, host_of}
 use Rattle.process_rules.proofs.Growing.{runs_count}
 use Rattle.machine.specs.rules.Values.{MachineValue}
 use Rattle.machine.specs.rules.Runs.{HasBegun}
-use Rattle.machine_loader.specs.declared.fault.ModuleFault.{ModuleFault}
-use Rattle.machine_loader.specs.rules.Acceptance.{Accepts, ModuleFaultDenies, HasNoAcceptedModule}
-use Rattle.machine_loader.specs.rules.Acceptance.{is_want}
-use Rattle.machine_loader.proofs.Wants.{no_want}
+use Rattle.machine.specs.declared.from_bytes.fault.ModuleFault.{ModuleFault}
+use Rattle.machine.specs.rules.Acceptance.{Accepts, ModuleFaultDenies, HasNoAcceptedModule}
+use Rattle.machine.specs.rules.Acceptance.{is_want}
+use Rattle.machine.proofs.Wants.{no_want}
 use Rattle.sector_disk.specs.rules.DiskImage.{DiskImage}
 use Rattle.disk_layout.specs.declared.reading.contents.Contents.{Contents}
 use Rattle.disk_layout.specs.rules.Journal.{Record}
@@ -33,8 +33,8 @@ use Rattle.state_image.specs.rules.Restored.{IsRestored}
 use Rattle.state_image.specs.rules.Saving.{saved_of}
 use Rattle.state_image.specs.rules.WellTyped.{IsWellTyped}
 use Rattle.state_image.proofs.ReachedWellTyped.{reached_is_well_typed}
-use Rattle.restart_theorem.specs.Stands.{IsNumbered}
-use Rattle.restart_theorem.proofs.NumbersKept.{records_keep_numbers}
+use Rattle.worker_store.specs.restart_theorem.Stands.{IsNumbered}
+use Rattle.worker_store.proofs.RestartLemmas.NumbersKept.{records_keep_numbers}
 use Rattle.worker_store.specs.rules.Savepoints.{Savepoint, IsAtSavepoint}
 use Rattle.worker.specs.declared.recover_fault.RecoverFault.TheVariants as recover
 use Rattle.worker.specs.rules.Recoveries.{SaysNothing}

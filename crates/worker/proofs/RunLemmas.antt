@@ -13,7 +13,7 @@ use Rattle.sector_disk.specs.rules.Medium.{Stays}
 use Rattle.sector_disk.specs.laws.Memory.{memory_stays}
 use Rattle.sector_disk.specs.rules.Memory.{memory_medium}
 use Rattle.disk_layout.specs.rules.Places.{geometry_of, total_sectors}
-use Rattle.restart_theorem.specs.Stands.{StandsFor}
+use Rattle.worker_store.specs.restart_theorem.Stands.{StandsFor}
 use Rattle.record_replay.specs.declared.refusing.RefusingOutlet.{RefusingOutlet}
 use Rattle.record_replay.specs.rules.Lists.{inner_outlet, until_fault}
 use Rattle.worker.specs.declared.story.LivedOn.{LivedOn}

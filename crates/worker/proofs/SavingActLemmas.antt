@@ -24,12 +24,12 @@ use Rattle.sector_disk.specs.declared.sector.TheConstants.{SECTOR_SIZE}
 use Rattle.sector_disk.specs.rules.Medium.{Medium, CallsUpTo}
 use Rattle.disk_layout.specs.declared.geometry.Geometry.{Geometry}
 use Rattle.disk_layout.specs.rules.Journal.{Record, TakesRecords}
-use Rattle.restart_theorem.specs.Lives.{Act, Checkpoint, Reply, Done, Fails, Cause, OfDisk}
-use Rattle.restart_theorem.specs.Lives.{OfBounds, Ended, kept_by_end}
-use Rattle.restart_theorem.specs.Courses.{Stage, Open, MayFail, next_stage}
-use Rattle.restart_theorem.specs.Promises.{Promise, after, MayPlead}
-use Rattle.restart_theorem.specs.Holds.{StaysWithin}
-use Rattle.restart_theorem.specs.Exchanges.{none as no_exchange}
+use Rattle.worker_store.specs.restart_theorem.Lives.{Act, Checkpoint, Reply, Done, Fails, Cause, OfDisk}
+use Rattle.worker_store.specs.restart_theorem.Lives.{OfBounds, Ended, kept_by_end}
+use Rattle.worker_store.specs.restart_theorem.Courses.{Stage, Open, MayFail, next_stage}
+use Rattle.worker_store.specs.restart_theorem.Promises.{Promise, after, MayPlead}
+use Rattle.worker_store.specs.restart_theorem.Holds.{StaysWithin}
+use Rattle.worker_store.specs.restart_theorem.Exchanges.{none as no_exchange}
 use Rattle.worker_store.specs.rules.Savepoints.{Savepoint}
 use Rattle.worker_store.specs.laws.Acts.{SavesWith, ShowsItsVersion, MayBeKept, keeping_more}
 use Rattle.worker_store.specs.laws.CallEnds.{IsSavedAs, HasBound, ComesAtOnce, IsSavingNext}

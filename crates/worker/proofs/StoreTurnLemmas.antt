@@ -27,9 +27,9 @@ use Rattle.worker_store.specs.rules.Calls.{AppendFails, BarrierFails, CommitFail
 use Rattle.worker_store.specs.rules.Effects.{StoresPending, CommitsProcess}
 use Rattle.worker_store.specs.rules.Stores.{IsOfStore, begun_store, with_record}
 use Rattle.worker_store.specs.rules.Stores.{with_stored, failed_store}
-use Rattle.ephemeral_worker.specs.declared.now.Now.{Now}
-use Rattle.ephemeral_worker.specs.declared.fault.SliceFault.TheVariants as slice
-use Rattle.ephemeral_worker.specs.rules.Refusals.{slice_fault}
+use Rattle.record_replay.specs.declared.slices.now.Now.{Now}
+use Rattle.record_replay.specs.declared.slices.fault.SliceFault.TheVariants as slice
+use Rattle.record_replay.specs.rules.Refusals.{slice_fault}
 use Rattle.worker.specs.declared.fault.WorkFault.{WorkFault}
 use Rattle.worker.specs.declared.fault.WorkFault.TheVariants.{Work, Disk, Store, Upgrade}
 use Rattle.worker.specs.declared.running_worker.RunningWorker.{RunningWorker}

@@ -14,7 +14,7 @@ use Rattle.sector_disk.specs.rules.Medium.{Medium, SyncsMedium}
 use Rattle.sector_disk.specs.rules.Medium.{CallsUpTo}
 use Rattle.disk_layout.specs.rules.Journal.{Record}
 use Rattle.disk_layout.specs.rules.Stored.{OnlyReads}
-use Rattle.restart_theorem.specs.Stands.{StandsFor}
+use Rattle.worker_store.specs.restart_theorem.Stands.{StandsFor}
 use Rattle.worker_store.specs.laws.Savepoints.{point_of}
 use Rattle.worker_store.proofs.LawLemmas.Points.{is_at_its_savepoint}
 use Rattle.worker.specs.declared.fault.WorkFault.TheVariants.{Disk}

@@ -25,10 +25,10 @@ use Rattle.disk_layout.specs.rules.Places.{area_place, rounded_up}
 use Rattle.journal.specs.rules.Steps.{barrier_calls}
 use Rattle.snapshot.specs.rules.Calls.{with_head}
 use Rattle.snapshot.proofs.StoreCalls.{some_none}
-use Rattle.restart_theorem.specs.Lives.{Upgrade, Cause, OfJournal, OfLines, Fails}
-use Rattle.restart_theorem.specs.Lives.{kept_by_widening, kept_by_end}
-use Rattle.restart_theorem.specs.Courses.{Stage}
-use Rattle.restart_theorem.specs.Promises.{Promise, MayPlead}
+use Rattle.worker_store.specs.restart_theorem.Lives.{Upgrade, Cause, OfJournal, OfLines, Fails}
+use Rattle.worker_store.specs.restart_theorem.Lives.{kept_by_widening, kept_by_end}
+use Rattle.worker_store.specs.restart_theorem.Courses.{Stage}
+use Rattle.worker_store.specs.restart_theorem.Promises.{Promise, MayPlead}
 use Rattle.worker_store.specs.laws.CallEnds.{HasBound}
 use Rattle.worker_store.specs.laws.Laws.{ProcessImagesFitAreas}
 use Rattle.worker_store.specs.rules.Savepoints.{IsAtFrontOrNext}

@@ -25,21 +25,21 @@ use Rattle.state_image.specs.rules.Saving.{saved_of}
 use Rattle.journal.specs.rules.State.{room_of}
 use Rattle.record_replay.specs.rules.Calls.{Giving, Taking, Begun, Exchange, Asks, Tells}
 use Rattle.record_replay.specs.rules.Calls.{Releases, Exchanges}
-use Rattle.restart_theorem.specs.Lives.{Act, Slice, Reply, Fails, Waits, Cause, SourceSaid, Ended}
-use Rattle.restart_theorem.specs.Courses.{Stage, Open, phase_ended, next_stage}
-use Rattle.restart_theorem.specs.Promises.{Promise, after, fuel_of, IsEnding}
-use Rattle.restart_theorem.specs.Holds.{KeepsPromise, StaysWithin}
+use Rattle.worker_store.specs.restart_theorem.Lives.{Act, Slice, Reply, Fails, Waits, Cause, SourceSaid, Ended}
+use Rattle.worker_store.specs.restart_theorem.Courses.{Stage, Open, phase_ended, next_stage}
+use Rattle.worker_store.specs.restart_theorem.Promises.{Promise, after, fuel_of, IsEnding}
+use Rattle.worker_store.specs.restart_theorem.Holds.{KeepsPromise, StaysWithin}
 use Rattle.worker_store.specs.laws.Underway.{IsUnderWay}
 use Rattle.worker_store.specs.rules.BetweenCalls.{IsForetold}
 use Rattle.worker_store.specs.laws.Pieces.{AreDone}
 use Rattle.worker_store.specs.laws.Turns.{GoesOnFrom}
-use Rattle.ephemeral_worker.specs.declared.now.Now.{Now}
-use Rattle.ephemeral_worker.specs.declared.fault.SliceFault.TheVariants as slice
+use Rattle.record_replay.specs.declared.slices.now.Now.{Now}
+use Rattle.record_replay.specs.declared.slices.fault.SliceFault.TheVariants as slice
 use Rattle.worker.specs.declared.fault.WorkFault.{WorkFault}
 use Rattle.worker.specs.declared.fault.WorkFault.TheVariants.{Work}
 use Rattle.worker.specs.rules.CallCounts.{CallsForEvents}
 use Rattle.worker.specs.rules.WorkFaults.{fault_of_store}
-use Rattle.ephemeral_worker.specs.rules.Refusals.{slice_fault}
+use Rattle.record_replay.specs.rules.Refusals.{slice_fault}
 use Rattle.worker.specs.declared.running_worker.RunningWorker.{RunningWorker}
 use Rattle.worker.specs.rules.DurableValues.{durable_of}
 use Rattle.worker.specs.rules.OpenWorkers.{IsOnDisk, IsAbreast, IsOpenOn}

@@ -5,7 +5,7 @@ use Rattle.sector_disk.specs.declared.memory.MemDisk.{MemDisk}
 use Rattle.sector_disk.specs.rules.FaultDisk.{call_counts_of, disk_below, torn_front_of}
 use Rattle.sector_disk.specs.rules.Memory.{memory_medium}
 use Rattle.sector_disk.specs.rules.Trouble.{call_number}
-use Rattle.restart_theorem.specs.Between.{IsFoundAfterCut}
+use Rattle.worker_store.specs.restart_theorem.Between.{IsFoundAfterCut}
 use Rattle.worker.specs.declared.story.hearing.HeardLines.{HeardLines}
 use Rattle.worker.specs.declared.story.life.PlannedLife.{PlannedLife}
 use Rattle.worker.specs.declared.story.living.LivedOnce.{LivedOnce}

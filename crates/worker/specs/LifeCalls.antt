@@ -5,7 +5,7 @@ use Rattle.wasi_abi.specs.rules.Configs.{Settings}
 use Rattle.sector_disk.specs.rules.DiskImage.{DiskImage}
 use Rattle.sector_disk.specs.rules.Medium.{Medium}
 use Rattle.record_replay.specs.rules.Calls.{Giving, Taking}
-use Rattle.restart_theorem.specs.Lives.{Act, Beginning, Recovers, Creates}
+use Rattle.worker_store.specs.restart_theorem.Lives.{Act, Beginning, Recovers, Creates}
 use Rattle.worker.specs.declared.fault.WorkFault.{WorkFault}
 use Rattle.worker.specs.declared.recover_fault.RecoverFault.{RecoverFault}
 use Rattle.worker.specs.declared.recover_fault.RecoverFault.TheVariants as recover

@@ -6,8 +6,7 @@
 use crate::durable::Worker;
 use crate::fault::WorkFault;
 use crate::saving::save;
-use ephemeral_worker::SliceFault;
-use record_replay::Outlet;
+use record_replay::{Outlet, SliceFault};
 use sector_disk::Disk;
 use worker_store::laws::process_images_fit_areas;
 

@@ -2,14 +2,13 @@
 
 ghost use Rattle.std.specs.Prelude.{◌≡◌};
 ghost use Rattle.worker.specs.declared.fault.WorkFault.TheVariants.{Work};
-ghost use Rattle.ephemeral_worker.specs.declared.fault.SliceFault.TheVariants as slice;
-ghost use Rattle.ephemeral_worker.specs.rules.Refusals.{slice_fault};
+ghost use Rattle.record_replay.specs.declared.slices.fault.SliceFault.TheVariants as slice;
+ghost use Rattle.record_replay.specs.rules.Refusals.{slice_fault};
 ghost use Rattle.worker.specs.rules.WorkFaults.{fault_of_store};
 
 use crate::upgrade_fault::UpgradeFault;
-use ephemeral_worker::SliceFault;
+use record_replay::{OutletFault, SliceFault};
 use process::ProcessFault;
-use record_replay::OutletFault;
 use sector_disk::DiskFault;
 use thiserror::Error;
 use worker_store::StoreFault;

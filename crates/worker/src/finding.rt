@@ -12,7 +12,7 @@ ghost use Rattle.worker.specs.FoundDisks.{FindsIn, FindsBehindIn};
 use crate::found::Found;
 use crate::recover_fault::RecoverFault;
 use disk_layout::Contents;
-use machine_loader::accept;
+use machine::accept;
 use sector_disk::Disk;
 use state_image::laws::restored_processes_are_the_saved;
 use state_image::restoring::restore_into;

@@ -31,7 +31,7 @@
 //!   decides the result (`recovers`, `shown`). Want of memory may end a recovery anywhere, and then
 //!   says only what the layers before have found. One that opens a worker reads heads, image and
 //!   journal once, and commits once.
-//! - `Worker::slice` runs as `ephemeral_worker: EphemeralWorker::slice` does (`done`, `failed`).
+//! - `Worker::slice` runs as `EphemeralWorker::slice` of `record_replay` does (`done`, `failed`).
 //!   Where it says that the worker waits or has ended, no line is beyond its process (`abreast`).
 //!   None is beyond that of a worker that is created, or recovered at its end.
 //! - `Worker::checkpoint` is a barrier and a commit: no later life opens before it (`saved`).
@@ -44,13 +44,13 @@
 //!
 //! In `specs/rules/`: `OpenWorkers.antt`, `DurableCalls.antt` and `Effects.antt` first, then the
 //! file of a call, as `Recoveries.antt`, and for any disk at all `ShownDisks.antt`. The words are
-//! those of `restart_theorem` and `worker_store`.
+//! those of `worker_store`, of its `restart_theorem` above all.
 //!
 //! # Who may touch what
 //!
 //! Only this crate decides when records are kept, when they are put on the disk, and when a process
 //! is saved. A worker is handed its disk at each call, and keeps none. `disk_commands` and
-//! `story_commands` call it. Its slices are those of `ephemeral_worker`, which keeps no disk, and its store is that of
+//! `story_commands` call it. Its slices are those of `record_replay`, and its store is that of
 //! `worker_store`. A creation takes memory for the module, for a copy of the configuration and for
 //! its bytes. A recovery takes some for all that it reads. The other calls take none but what the
 //! process and the journal take.
@@ -81,7 +81,7 @@ mod upgrades;
 mod widening;
 
 pub use durable::Worker;
-pub use ephemeral_worker::SliceFault;
+pub use record_replay::SliceFault;
 pub use fault::WorkFault;
 pub use inspecting::inspect;
 pub use inspection::Inspection;

@@ -8,10 +8,9 @@ ghost use Rattle.worker.specs.rules.RecoverFaults.{fault_of_read, wants_memory};
 
 use crate::fault::WorkFault;
 use disk_layout::LayoutFault;
-use ephemeral_worker::SliceFault;
+use record_replay::{ReplayFault, SliceFault};
 use journal::JournalFault;
-use machine_loader::ModuleFault;
-use record_replay::ReplayFault;
+use machine::ModuleFault;
 use sector_disk::DiskFault;
 use snapshot::SnapshotFault;
 use state_image::restoring::RestoreFault;

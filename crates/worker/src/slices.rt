@@ -6,8 +6,8 @@
 ghost use Rattle.std.specs.Prelude.{◌≡◌, ◌≢◌, ◌≤◌, [], true, IfErr, IfOk, OnOk};
 ghost use Rattle.process.specs.rules.Values.{IsProcess, waiting_in};
 ghost use Rattle.disk_layout.specs.rules.Places.{total_sectors};
-ghost use Rattle.ephemeral_worker.specs.rules.Slices.{Slices};
-ghost use Rattle.ephemeral_worker.specs.Turns.{working};
+ghost use Rattle.record_replay.specs.rules.Slices.{Slices};
+ghost use Rattle.record_replay.specs.Turns.{working};
 ghost use Rattle.worker.specs.DurableTurns.{WorksOn};
 ghost use Rattle.worker.specs.StoreTurns.{StoreRuns};
 ghost use Rattle.worker.specs.rules.DurableFailures.{SlicesOnDiskInVain};
@@ -15,9 +15,8 @@ ghost use Rattle.worker.specs.rules.DurableFailures.{SlicesOnDiskInVain};
 use crate::durable::Worker;
 use crate::fault::WorkFault;
 use crate::running_worker::RunningWorker;
-use ephemeral_worker::{Now, SliceFault};
+use record_replay::{Now, Outlet, SliceFault, Source};
 use process::Stop;
-use record_replay::{Outlet, Source};
 use sector_disk::Disk;
 
 impl RunningWorker {

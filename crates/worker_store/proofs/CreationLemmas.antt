@@ -20,7 +20,7 @@ use Rattle.disk_layout.specs.rules.Places.{config_bytes, geometry_of, journal_pl
 use Rattle.disk_layout.specs.rules.Sectors.{SectorsHold}
 use Rattle.disk_layout.specs.rules.Contents.{contents_sectors}
 use Rattle.disk_layout.proofs.ContentsLemmas.{holds_what_is_written}
-use Rattle.restart_theorem.specs.Stands.{IsBlank}
+use Rattle.worker_store.specs.restart_theorem.Stands.{IsBlank}
 use Rattle.worker_store.specs.laws.Creations.{AwaitsHead, HasNoSuper, zero_sector}
 use Rattle.worker_store.specs.rules.Savepoints.{LeavesAll}
 use Rattle.worker_store.proofs.LawLemmas.Creating.{zeros_keep_blank, zeros_take_super}

@@ -25,7 +25,7 @@ use Rattle.snapshot.specs.rules.Calls.{PerformsStoresAndHead, with_head}
 use Rattle.snapshot.specs.rules.Steps.{Commits, Replaces}
 use Rattle.state_image.specs.rules.ProcessImage.{Saved, process_image}
 use Rattle.state_image.specs.rules.Saving.{saved_of}
-use Rattle.restart_theorem.specs.Stands.{IsBlank}
+use Rattle.worker_store.specs.restart_theorem.Stands.{IsBlank}
 use Rattle.worker_store.specs.rules.Savepoints.{Savepoint, places, BeginsAtPoint, LeavesAll}
 use Rattle.worker_store.specs.laws.Creations.{AwaitsHead, AwaitsSuper, HasNoSuper, super_of_point}
 use Rattle.worker_store.proofs.LawLemmas.Creating.{first_commit_keeps_no_super}

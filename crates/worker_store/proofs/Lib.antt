@@ -1,3 +1,4 @@
+pub mod RestartLemmas
 pub mod LawLemmas
 mod UnsyncedLemmas
 mod LayingCounts

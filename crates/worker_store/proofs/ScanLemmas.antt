@@ -18,7 +18,7 @@ use Rattle.journal.specs.declared.fault.JournalFault.{JournalFault}
 use Rattle.journal.specs.declared.fault.JournalFault.TheVariants as journal
 use Rattle.journal.specs.declared.scanned.ScannedJournal.{ScannedJournal}
 use Rattle.journal.specs.rules.Steps.{ShowsLater}
-use Rattle.restart_theorem.specs.Stands.{ShowsNoneLater}
+use Rattle.worker_store.specs.restart_theorem.Stands.{ShowsNoneLater}
 use Rattle.worker_store.specs.declared.read_fault.ReadFault.{ReadFault}
 use Rattle.worker_store.specs.declared.read_fault.ReadFault.TheVariants as read
 use Rattle.worker_store.specs.Judging.{JudgesScan}

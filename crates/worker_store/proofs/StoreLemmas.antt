@@ -21,7 +21,7 @@ use Rattle.state_image.specs.rules.Saving.{saved_of}
 use Rattle.disk_layout.specs.rules.Places.{geometry_of}
 use Rattle.wasm_syntax.specs.declared.module.Module.{Module}
 use Rattle.wasi_abi.specs.rules.Configs.{Settings}
-use Rattle.restart_theorem.specs.Stands.{IsNumbered}
+use Rattle.worker_store.specs.restart_theorem.Stands.{IsNumbered}
 use Rattle.worker_store.specs.rules.Savepoints.{BeginsAtPoint, LeavesAll, Savepoint, places}
 use Rattle.worker_store.specs.rules.Savepoints.{IsJournaled}
 use Rattle.worker_store.proofs.LawLemmas.Keeping.{barrier_at_any_moment, barrier_in_the_end}

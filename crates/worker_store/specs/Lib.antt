@@ -1,3 +1,4 @@
+pub mod restart_theorem
 pub mod rules
 pub mod laws
 pub mod Filling

@@ -7,7 +7,7 @@ ghost use Rattle.sector_disk.specs.rules.Medium.{IsAllSynced, LeavesOnly, Perfor
 ghost use Rattle.sector_disk.specs.rules.Medium.{CallsUpTo, spare, CountsUpTo};
 ghost use Rattle.disk_layout.specs.rules.Places.{config_bytes, geometry_of, rounded_up};
 ghost use Rattle.disk_layout.specs.rules.Places.{total_sectors};
-ghost use Rattle.restart_theorem.specs.Stands.{IsBlank};
+ghost use Rattle.worker_store.specs.restart_theorem.Stands.{IsBlank};
 ghost use Rattle.worker_store.specs.laws.Creations.{AwaitsHead, HasNoSuper};
 ghost use Rattle.worker_store.specs.rules.Savepoints.{LeavesAll};
 ghost use Rattle.worker_store.specs.rules.Creations.{behind_calls, contents_calls, behind_sectors};

@@ -39,9 +39,12 @@
 //!   before and one, or than `most_unsynced` (`counts`).
 //!
 //! `laws`, `events` and `turns` have what is proved of a worker's disk, of the events of a life,
-//! and of parts of a call.
+//! and of parts of a call. `restart_theorem` has what is promised of a worker over all its lives.
 //!
 //! # Definitions to read
+//!
+//! In `specs/restart_theorem/`: what is promised of lives, and which images of the disk stand for a
+//! worker (`StandsFor`). The head of `restart_theorem` lists the files.
 //!
 //! In `specs/rules/`: `Savepoint`, `IsAtSavepoint` (`Savepoints.antt`); `IsStoreOf`
 //! (`Stores.antt`); what each call does (`Effects.antt`, `Creations.antt`), leaves (`Calls.antt`)
@@ -70,6 +73,7 @@ pub mod laws;
 mod newest;
 mod read_fault;
 mod reading;
+pub mod restart_theorem;
 mod saving;
 mod store;
 pub mod turns;

@@ -5,8 +5,8 @@ use Rattle.wasi_abi.specs.rules.Configs.{Settings, settings, AreSettingsWithinLi
 use Rattle.wasi_abi.specs.rules.Configs.{IsInRange}
 use Rattle.wasm_decode.specs.declared.items.limit.PassedLimit.{PassedLimit}
 use Rattle.disk_layout.specs.rules.Places.{geometry_of, total_sectors}
-use Rattle.machine_loader.specs.rules.Acceptance.{HasAcceptedModule, HasNoAcceptedModule}
-use Rattle.machine_loader.specs.rules.Acceptance.{IsReported, is_want, passed_in}
+use Rattle.machine.specs.rules.Acceptance.{HasAcceptedModule, HasNoAcceptedModule}
+use Rattle.machine.specs.rules.Acceptance.{IsReported, is_want, passed_in}
 use Rattle.command_words.specs.declared.configuring.Sizes.{Sizes}
 use Rattle.command_words.specs.declared.configuring.Unconfigured.{Unconfigured}
 use Rattle.command_words.specs.declared.configuring.Unconfigured.TheVariants as unconfigured

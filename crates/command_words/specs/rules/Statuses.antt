@@ -1,8 +1,8 @@
 -- What the commands find, and the exit status that says it.
 use Rattle.std.specs.Prelude.{ℕ, List, Result, Ok, Err, ⊤, if◌then◌else◌}
-use Rattle.machine_loader.specs.declared.fault.ModuleFault.{ModuleFault}
-use Rattle.machine_loader.specs.rules.Acceptance.{HasAcceptedModule, HasNoAcceptedModule}
-use Rattle.machine_loader.specs.rules.Acceptance.{ModuleFaultDenies, is_want}
+use Rattle.machine.specs.declared.from_bytes.fault.ModuleFault.{ModuleFault}
+use Rattle.machine.specs.rules.Acceptance.{HasAcceptedModule, HasNoAcceptedModule}
+use Rattle.machine.specs.rules.Acceptance.{ModuleFaultDenies, is_want}
 use Rattle.command_words.specs.declared.lines.fault.LineFault.{LineFault}
 use Rattle.command_words.specs.declared.lines.fault.LineFault.TheVariants as line
 

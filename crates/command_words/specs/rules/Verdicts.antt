@@ -16,10 +16,10 @@ use Rattle.wasi_abi.specs.rules.Calls.{call_type_of}
 use Rattle.machine.specs.declared.instance.fault.LinkFault.{LinkFault}
 use Rattle.machine.specs.declared.instance.fault.LinkFault.TheVariants as link
 use Rattle.machine.specs.rules.Offers.{imported_call}
-use Rattle.machine_loader.specs.declared.fault.ModuleFault.{ModuleFault}
-use Rattle.machine_loader.specs.declared.fault.ModuleFault.TheVariants.{Decode, Valid, Link}
-use Rattle.machine_loader.specs.rules.Acceptance.{HasAcceptedModule, HasNoAcceptedModule}
-use Rattle.machine_loader.specs.rules.Acceptance.{IsReported}
+use Rattle.machine.specs.declared.from_bytes.fault.ModuleFault.{ModuleFault}
+use Rattle.machine.specs.declared.from_bytes.fault.ModuleFault.TheVariants.{Decode, Valid, Link}
+use Rattle.machine.specs.rules.Acceptance.{HasAcceptedModule, HasNoAcceptedModule}
+use Rattle.machine.specs.rules.Acceptance.{IsReported}
 use Rattle.command_words.specs.declared.bounds.Bound.TheVariants.{Pages}
 use Rattle.command_words.specs.rules.Bounds.{IsOutside, range_words}
 use Rattle.command_words.specs.rules.Floats.{TellsOfFloat}

@@ -1,7 +1,7 @@
 //! What is told of a module that isn't accepted, on a second line.
 
 ghost use Rattle.std.specs.Prelude.{◌≡◌, true, OnErr, OnOk};
-ghost use Rattle.machine_loader.specs.declared.fault.ModuleFault.TheVariants.{Link};
+ghost use Rattle.machine.specs.declared.from_bytes.fault.ModuleFault.TheVariants.{Link};
 ghost use Rattle.command_words.specs.rules.Printers.{IsPrinted};
 ghost use Rattle.command_words.specs.rules.Verdicts.{TellsMore, TellsOfImport, TellsOfLink};
 ghost use Rattle.command_words.specs.rules.Verdicts.{first_pages, import_text, pages_text};
@@ -9,8 +9,7 @@ ghost use Rattle.command_words.specs.rules.Verdicts.{first_pages, import_text, p
 use crate::printer::Printer;
 use crate::verdicts::floats::print_float;
 use crate::verdicts::imports::first_refused;
-use machine::LinkFault;
-use machine_loader::ModuleFault;
+use machine::{LinkFault, ModuleFault};
 use std::alloc::Global;
 use std::io::{self, Write};
 use wasm_decode::{DecodeFault, decode};

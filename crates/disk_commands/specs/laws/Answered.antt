@@ -5,7 +5,7 @@ use Rattle.wasi_abi.specs.declared.answer.Question.{Question}
 use Rattle.wasi_abi.specs.declared.answer.Question.TheVariants as questions
 use Rattle.process_rules.specs.Runs.{Kept}
 use Rattle.record_replay.specs.rules.Calls.{Ask, AnswersInOrder}
-use Rattle.ephemeral_worker.specs.rules.Slices.{handed}
+use Rattle.record_replay.specs.rules.Slices.{handed}
 use Rattle.command_words.specs.Lines.Answers.{SourceState}
 use Rattle.command_words.specs.rules.Outside.{ComeFrom, requests_in, words_of}
 use Rattle.command_words.specs.rules.Requests.{GiveUpTo}

@@ -5,9 +5,9 @@ use Rattle.process_rules.specs.Processes.{ProcessState, Guest}
 use Rattle.process.specs.rules.Values.{ProcessValue, ShowsProcess}
 use Rattle.record_replay.specs.rules.Calls.{Giving, Taking, Exchange, Exchanges, Releases}
 use Rattle.record_replay.specs.rules.Calls.{all_taken}
-use Rattle.ephemeral_worker.specs.declared.now.Now.{Now}
-use Rattle.ephemeral_worker.specs.declared.fault.SliceFault.TheVariants as slice
-use Rattle.ephemeral_worker.specs.rules.Slices.{SliceLeadsTo, AreAnswered, AreWanted, IsNow}
+use Rattle.record_replay.specs.declared.slices.now.Now.{Now}
+use Rattle.record_replay.specs.declared.slices.fault.SliceFault.TheVariants as slice
+use Rattle.record_replay.specs.rules.Slices.{SliceLeadsTo, AreAnswered, AreWanted, IsNow}
 use Rattle.worker.specs.declared.fault.WorkFault.{WorkFault}
 use Rattle.worker.specs.declared.fault.WorkFault.TheVariants as work
 use Rattle.worker.specs.rules.DurableFailures.{IsDiskCause, StopsAtQuestion}

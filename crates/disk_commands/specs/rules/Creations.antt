@@ -4,7 +4,7 @@ use Rattle.std.specs.Prelude.{Result, Ok}
 use Rattle.std.specs.Fmt.{decimal}
 use Rattle.std.specs.Io.KnownBytes.{Appends}
 use Rattle.wasi_abi.specs.rules.Configs.{Settings}
-use Rattle.machine_loader.specs.rules.Acceptance.{HasNoAcceptedModule}
+use Rattle.machine.specs.rules.Acceptance.{HasNoAcceptedModule}
 use Rattle.sector_disk.specs.rules.Medium.{Medium, spare}
 use Rattle.disk_layout.specs.rules.Unsynced.{most_unsynced}
 use Rattle.worker.specs.declared.fault.WorkFault.{WorkFault}

@@ -4,7 +4,7 @@ use Rattle.std.specs.Prelude.{◌≡◌, ◌⊎◌, ℕ, Option, Some, None, if�
 use Rattle.sector_disk.specs.declared.fault.DiskFault.{DiskFault}
 use Rattle.sector_disk.specs.declared.fault.DiskFault.TheVariants as disk
 use Rattle.record_replay.specs.declared.fault.ReplayFault.TheVariants as replay
-use Rattle.ephemeral_worker.specs.declared.fault.SliceFault.TheVariants as slice
+use Rattle.record_replay.specs.declared.slices.fault.SliceFault.TheVariants as slice
 use Rattle.worker.specs.declared.fault.WorkFault.{WorkFault}
 use Rattle.worker.specs.declared.fault.WorkFault.TheVariants as work
 use Rattle.worker.specs.declared.recover_fault.RecoverFault.{RecoverFault}
@@ -14,7 +14,7 @@ use Rattle.command_words.specs.declared.lines.fault.LineFault.{LineFault}
 use Rattle.command_words.specs.rules.Statuses.{status_of_line}
 use Rattle.disk_commands.specs.declared.on_disk.fault.OnDiskFault.{OnDiskFault}
 use Rattle.disk_commands.specs.declared.on_disk.fault.OnDiskFault.TheVariants as told
-use Rattle.ephemeral_worker.specs.declared.fault.SliceFault.{SliceFault}
+use Rattle.record_replay.specs.declared.slices.fault.SliceFault.{SliceFault}
 
 -- While it is opened, a fault of the disk is told as that, and any other one under the name of the
 -- layer that has found it.

@@ -3,8 +3,8 @@ use Rattle.std.specs.Prelude.{ℕ, ◌+◌, Bool, true, false, List, [], ◌++�
 use Rattle.std.specs.Fmt.{decimal}
 use Rattle.process_rules.specs.Processes.{Ending, Exited, Trapped}
 use Rattle.process.specs.rules.Values.{ending_of}
-use Rattle.ephemeral_worker.specs.declared.now.Now.{Now}
-use Rattle.ephemeral_worker.specs.declared.now.Now.TheVariants as now
+use Rattle.record_replay.specs.declared.slices.now.Now.{Now}
+use Rattle.record_replay.specs.declared.slices.now.Now.TheVariants as now
 use Rattle.command_words.specs.rules.Texts.{named_number}
 use Rattle.command_words.specs.rules.Texts.{trap_text}
 

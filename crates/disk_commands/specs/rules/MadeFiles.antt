@@ -7,7 +7,7 @@ use Rattle.sector_disk.specs.rules.Known.{KnownFiles, KnownHandles}
 use Rattle.sector_disk.specs.rules.Open.{IsMadeAt, IsTakenAt, IsUnmade, IsUntaken}
 use Rattle.wasi_abi.specs.rules.Configs.{Settings}
 use Rattle.wasm_decode.specs.declared.items.limit.PassedLimit.{PassedLimit}
-use Rattle.machine_loader.specs.declared.fault.ModuleFault.{ModuleFault}
+use Rattle.machine.specs.declared.from_bytes.fault.ModuleFault.{ModuleFault}
 use Rattle.command_words.specs.declared.bounds.Bound.{Bound}
 use Rattle.command_words.specs.declared.preparing.Prepared.{Prepared}
 use Rattle.command_words.specs.declared.preparing.Unprepared.{Unprepared}

@@ -7,8 +7,8 @@ use Rattle.sector_disk.specs.rules.DiskImage.{DiskImage}
 use Rattle.sector_disk.specs.rules.Medium.{Medium}
 use Rattle.disk_layout.specs.rules.Stored.{OnlyReads}
 use Rattle.record_replay.specs.rules.Calls.{Giving, Taking}
-use Rattle.ephemeral_worker.specs.declared.now.Now.{Now}
-use Rattle.ephemeral_worker.specs.declared.now.Now.TheVariants.{Spent}
+use Rattle.record_replay.specs.declared.slices.now.Now.{Now}
+use Rattle.record_replay.specs.declared.slices.now.Now.TheVariants.{Spent}
 use Rattle.worker.specs.declared.fault.WorkFault.{WorkFault}
 use Rattle.worker.specs.declared.recover_fault.RecoverFault.{RecoverFault}
 use Rattle.worker.specs.declared.recover_fault.RecoverFault.TheVariants as recover

@@ -8,7 +8,7 @@ use Rattle.sector_disk.specs.rules.DiskImage.{DiskImage}
 use Rattle.sector_disk.specs.rules.Medium.{Medium}
 use Rattle.record_replay.specs.rules.Calls.{Giving, Taking}
 use Rattle.record_replay.specs.rules.Lists.{HandsOut}
-use Rattle.ephemeral_worker.specs.declared.now.Now.TheVariants.{Spent}
+use Rattle.record_replay.specs.declared.slices.now.Now.TheVariants.{Spent}
 use Rattle.worker.specs.declared.fault.WorkFault.{WorkFault}
 use Rattle.worker.specs.declared.fault.WorkFault.TheVariants as work
 use Rattle.worker.specs.declared.upgrade_fault.UpgradeFault.TheVariants.{NotCaughtUp}

@@ -3,8 +3,8 @@ use Rattle.std.specs.Prelude.{◌≡◌, ◌≢◌, ◌⊎◌, ⊤, ◌+◌, ◌
 use Rattle.std.specs.Prelude.{Option, None, Some, IfSome, codes}
 use Rattle.process.specs.declared.stop.ProcessEnd.TheVariants as end
 use Rattle.process.specs.rules.Values.{ending_of, lines_in}
-use Rattle.ephemeral_worker.specs.declared.now.Now.{Now}
-use Rattle.ephemeral_worker.specs.declared.now.Now.TheVariants as now
+use Rattle.record_replay.specs.declared.slices.now.Now.{Now}
+use Rattle.record_replay.specs.declared.slices.now.Now.TheVariants as now
 use Rattle.worker.specs.rules.DurableValues.{DurableValue}
 use Rattle.command_words.specs.rules.Printers.{PrinterState, SaysText}
 use Rattle.command_words.specs.rules.Texts.{named_number}

@@ -16,7 +16,7 @@ ghost use Rattle.disk_commands.specs.rules.LastWords.{over_words, request_words}
 
 use command_words::status::UNWRITTEN;
 use command_words::{Printer, trap_name};
-use ephemeral_worker::Now;
+use record_replay::Now;
 use process::ProcessEnd;
 use std::io::{self, Write};
 

@@ -17,8 +17,7 @@ ghost use Rattle.disk_commands.specs.rules.DiskStatuses.{status_of_work};
 
 use command_words::status::{NO_MEMORY, REFUSED, UNREAD, UNWRITTEN, status_of_line};
 use command_words::{LineFault, Printer};
-use ephemeral_worker::SliceFault;
-use record_replay::ReplayFault;
+use record_replay::{ReplayFault, SliceFault};
 use sector_disk::DiskFault;
 use std::io::Write;
 use thiserror::Error;

@@ -8,13 +8,12 @@
 ghost use Rattle.std.specs.Prelude.{◌≡◌, ◌≢◌, ◌≤◌, ◌<◌, ◌↔◌, IsTrue, IfOk, IfErr, Ok, OnOk};
 ghost use Rattle.std.specs.Int.NonZero.{non_zero_u64_get};
 ghost use Rattle.disk_layout.specs.rules.Places.{total_sectors};
-ghost use Rattle.ephemeral_worker.specs.declared.now.Now.TheVariants.{Spent};
+ghost use Rattle.record_replay.specs.declared.slices.now.Now.TheVariants.{Spent};
 ghost use Rattle.disk_commands.specs.Livings.{scene, steps_left, IsRested};
 ghost use Rattle.disk_commands.specs.Livings.{IsRound, IsBrokenRound, LivesAtPace};
 
 use crate::on_disk::watching::Watcher;
-use ephemeral_worker::Now;
-use record_replay::{Outlet, Source};
+use record_replay::{Now, Outlet, Source};
 use sector_disk::Disk;
 use std::num::NonZeroU64;
 use worker::{WorkFault, Worker};

@@ -44,7 +44,7 @@
 ghost use Rattle.std.specs.Prelude.{◌≡◌, ◌≢◌, ◌≤◌, true, IfOk, IsTrue, OnErr, OnOk};
 ghost use Rattle.std.specs.Int.NonZero.{non_zero_u64_get};
 ghost use Rattle.disk_layout.specs.rules.Places.{total_sectors};
-ghost use Rattle.ephemeral_worker.specs.declared.now.Now.TheVariants.{Spent};
+ghost use Rattle.record_replay.specs.declared.slices.now.Now.TheVariants.{Spent};
 ghost use Rattle.command_words.specs.rules.Printers.{IsPrinted, TellsPerson};
 ghost use Rattle.disk_commands.specs.rules.DiskStatuses.{IsReportedOnDisk};
 ghost use Rattle.disk_commands.specs.rules.Refusals.{HeedsRefusal};
@@ -59,8 +59,7 @@ use crate::on_disk::living::{Pace, live};
 use crate::on_disk::showing::print_number;
 use crate::on_disk::watching::Watcher;
 use command_words::{LineFault, LineReader, Printer, RealTime, RequestSource};
-use ephemeral_worker::{Now, SliceFault};
-use record_replay::Outlet;
+use record_replay::{Now, Outlet, SliceFault};
 use sector_disk::Disk;
 use std::alloc::Global;
 use std::io::{self, Write};

@@ -13,7 +13,7 @@
 
 ghost use Rattle.std.specs.Prelude.{◌≡◌, ◌≢◌, ◌≤◌, [], IfErr, IfOk, OnOk};
 ghost use Rattle.disk_layout.specs.rules.Places.{total_sectors};
-ghost use Rattle.ephemeral_worker.specs.declared.now.Now.TheVariants.{Spent};
+ghost use Rattle.record_replay.specs.declared.slices.now.Now.TheVariants.{Spent};
 ghost use Rattle.disk_commands.specs.Livings.{scene};
 ghost use Rattle.disk_commands.specs.ComingUp.{ComesUp, IsUpgradedFrom, UpgradesOpen};
 ghost use Rattle.disk_commands.specs.rules.Refusals.{HeedsRefusal};
@@ -24,8 +24,7 @@ ghost use Rattle.disk_commands.specs.rules.Upgradings.{status_so_far, upgraded_w
 use crate::on_disk::fault::{OnDiskFault, say_disk_fault};
 use crate::on_disk::serving::tell_recovered;
 use command_words::{LineOutlet, Obstacle, Printer, report};
-use ephemeral_worker::Now;
-use record_replay::{AnswerList, Outlet, Source};
+use record_replay::{AnswerList, Now, Outlet, Source};
 use sector_disk::Disk;
 use std::alloc::Global;
 use std::io::Write;

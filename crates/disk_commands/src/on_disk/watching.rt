@@ -27,14 +27,14 @@ ghost use Rattle.disk_commands.specs.rules.Watchings.{state_words, watch_line, w
 use crate::on_disk::ending::print_last_words;
 use crate::on_disk::showing::print_number;
 use command_words::Printer;
-use ephemeral_worker::Now;
+use record_replay::Now;
 use std::io::{self, Write};
 use worker::Worker;
 
 /// Whoever is told where a worker on a disk is.
 pub trait Watcher {
     ghost use Rattle.std.specs.Prelude.{Bool, IsTrue};
-    ghost use Rattle.ephemeral_worker.specs.declared.now.Now.{Now};
+    ghost use Rattle.record_replay.specs.declared.slices.now.Now.{Now};
     ghost use Rattle.worker.specs.rules.DurableValues.{DurableValue};
 
     // Whether it was told of this worker, whose last slice has answered this.

@@ -15,8 +15,8 @@ use Rattle.worker.specs.declared.recover_fault.RecoverFault.TheVariants.{Worker}
 use Rattle.worker.specs.declared.story.report.LifeEnd.{LifeEnd}
 use Rattle.worker.specs.declared.story.report.LifeEnd.TheVariants.{Failed}
 use Rattle.worker.specs.declared.story.report.LifeReport.{LifeReport}
-use Rattle.ephemeral_worker.specs.declared.fault.Refusal.TheVariants as refusal
-use Rattle.ephemeral_worker.specs.declared.fault.SliceFault.TheVariants as slice
+use Rattle.record_replay.specs.declared.slices.fault.Refusal.TheVariants as refusal
+use Rattle.record_replay.specs.declared.slices.fault.SliceFault.TheVariants as slice
 use Rattle.worker.specs.rules.StoryDisks.{TellsLives}
 use Rattle.command_words.specs.declared.configuring.Sizes.{Sizes}
 use Rattle.command_words.specs.declared.preparing.Prepared.{Prepared}

@@ -9,8 +9,7 @@ ghost use Rattle.story_commands.specs.rules.Stories.{releases_text, story_text, 
 ghost use Rattle.story_commands.specs.rules.Stories.{end_line};
 
 use command_words::{digest_digits, spell_line};
-use ephemeral_worker::{Refusal, SliceFault};
-use record_replay::NumberedLine;
+use record_replay::{NumberedLine, Refusal, SliceFault};
 use std::io::{self, Write};
 use worker::story::{LifeEnd, LifeReport, Opening};
 use worker::{RecoverFault, UpgradeFault, WorkFault};

@@ -18,11 +18,11 @@ use Rattle.record_replay.proofs.Emitted.{released_whole}
 use Rattle.record_replay.proofs.OnTheWay.{quiet_runs, owing_runs}
 use Rattle.sector_disk.specs.rules.Medium.{Medium}
 use Rattle.state_image.specs.rules.Saving.{saved_of}
-use Rattle.restart_theorem.specs.Lives.{Reply, Spent, Over, Fails, Cause, OfMemory, OfBounds}
-use Rattle.restart_theorem.specs.Lives.{Ended}
-use Rattle.restart_theorem.specs.Courses.{Stage, Open, MayFail, phase_ended, next_stage}
-use Rattle.restart_theorem.specs.Promises.{Promise, fuel_of, IsEnding, synced_by}
-use Rattle.restart_theorem.specs.Holds.{StaysWithin}
+use Rattle.worker_store.specs.restart_theorem.Lives.{Reply, Spent, Over, Fails, Cause, OfMemory, OfBounds}
+use Rattle.worker_store.specs.restart_theorem.Lives.{Ended}
+use Rattle.worker_store.specs.restart_theorem.Courses.{Stage, Open, MayFail, phase_ended, next_stage}
+use Rattle.worker_store.specs.restart_theorem.Promises.{Promise, fuel_of, IsEnding, synced_by}
+use Rattle.worker_store.specs.restart_theorem.Holds.{StaysWithin}
 use Rattle.worker_store.specs.laws.Underway.{IsUnderWay}
 use Rattle.worker_store.specs.laws.CallEnds.{IsSliceOver, HasBound}
 use Rattle.worker_store.proofs.LawLemmas.AtHand.{shown_is_saved}
@@ -30,7 +30,7 @@ use Rattle.worker_store.proofs.LawLemmas.CallEnds.{spent_slices_end, ended_slice
 use Rattle.worker_store.proofs.LawLemmas.Underway.{steps_go_on}
 use Rattle.worker.specs.declared.fault.WorkFault.TheVariants.{Work}
 use Rattle.worker.specs.declared.running_worker.RunningWorker.{RunningWorker}
-use Rattle.ephemeral_worker.specs.rules.Refusals.{slice_fault}
+use Rattle.record_replay.specs.rules.Refusals.{slice_fault}
 use Rattle.worker.specs.rules.OpenWorkers.{IsAbreast}
 use Rattle.worker.specs.DurableTurns.{Course, IsBetweenTurns, IsOwingTurn}
 use Rattle.worker.specs.DurableTurns.{IsAskingOn}

@@ -7,19 +7,19 @@ use Rattle.wasi_abi.specs.declared.answer.Answer.{Answer}
 use Rattle.sector_disk.specs.rules.Medium.{Medium}
 use Rattle.record_replay.specs.declared.fault.SourceFault.{SourceFault}
 use Rattle.record_replay.specs.rules.Calls.{Giving, Exchange}
-use Rattle.restart_theorem.specs.Lives.{Reply, Fails, Waits, SourceSaid, OfSource}
-use Rattle.restart_theorem.specs.Courses.{Stage}
-use Rattle.restart_theorem.specs.Promises.{Promise}
-use Rattle.restart_theorem.specs.Holds.{StaysWithin}
+use Rattle.worker_store.specs.restart_theorem.Lives.{Reply, Fails, Waits, SourceSaid, OfSource}
+use Rattle.worker_store.specs.restart_theorem.Courses.{Stage}
+use Rattle.worker_store.specs.restart_theorem.Promises.{Promise}
+use Rattle.worker_store.specs.restart_theorem.Holds.{StaysWithin}
 use Rattle.process_rules.specs.Processes.{ProcessState}
 use Rattle.worker_store.specs.laws.Turns.{GoesOnFrom, LeavesBegun}
 use Rattle.worker_store.proofs.LawLemmas.TurnLemmas.{turns_join, parts_leave_begun}
-use Rattle.ephemeral_worker.specs.declared.fault.SliceFault.{SliceFault}
-use Rattle.ephemeral_worker.specs.declared.fault.SliceFault.TheVariants as slice
+use Rattle.record_replay.specs.declared.slices.fault.SliceFault.{SliceFault}
+use Rattle.record_replay.specs.declared.slices.fault.SliceFault.TheVariants as slice
 use Rattle.worker.specs.declared.fault.WorkFault.{WorkFault}
 use Rattle.worker.specs.declared.fault.WorkFault.TheVariants.{Work}
 use Rattle.worker.specs.declared.running_worker.RunningWorker.{RunningWorker}
-use Rattle.ephemeral_worker.specs.Turns.{AsksOnce, AnswersBy}
+use Rattle.record_replay.specs.Turns.{AsksOnce, AnswersBy}
 use Rattle.worker.specs.DurableTurns.{Course, TurnGoes, TurnEnds, TurnFails}
 use Rattle.worker.specs.DurableTurns.{slice_end}
 use Rattle.worker.specs.DurableTurns.{MakesRoom, MakesNoRoom, asks_once, TakesOnRecord}

@@ -12,12 +12,12 @@ use Rattle.disk_layout.specs.rules.Places.{geometry_of, total_sectors}
 use Rattle.disk_layout.specs.rules.Journal.{Record}
 use Rattle.record_replay.specs.rules.Calls.{Ask, Asks}
 use Rattle.record_replay.specs.rules.Records.{given_in}
-use Rattle.restart_theorem.specs.Lives.{Event}
-use Rattle.restart_theorem.specs.Courses.{Stage}
-use Rattle.restart_theorem.specs.Promises.{Promise, promised}
-use Rattle.restart_theorem.specs.Exchanges.{AreEvents, none, asked}
-use Rattle.restart_theorem.specs.Holds.{IsBounded, KeepsBounds, StaysWithin}
-use Rattle.restart_theorem.proofs.Disks.{stands_within}
+use Rattle.worker_store.specs.restart_theorem.Lives.{Event}
+use Rattle.worker_store.specs.restart_theorem.Courses.{Stage}
+use Rattle.worker_store.specs.restart_theorem.Promises.{Promise, promised}
+use Rattle.worker_store.specs.restart_theorem.Exchanges.{AreEvents, none, asked}
+use Rattle.worker_store.specs.restart_theorem.Holds.{IsBounded, KeepsBounds, StaysWithin}
+use Rattle.worker_store.proofs.RestartLemmas.Disks.{stands_within}
 use Rattle.worker_store.specs.rules.Savepoints.{Savepoint, places, IsAtSavepoint, IsAtFront}
 use Rattle.worker_store.specs.rules.Savepoints.{IsNextPoint, BeginsAtPoint, IsAtFrontOrNext}
 use Rattle.worker_store.specs.laws.Pieces.{AreDone}

@@ -16,11 +16,11 @@ use Rattle.journal.specs.rules.Packed.{sectors_for}
 use Rattle.journal.specs.rules.State.{JournalState}
 use Rattle.state_image.specs.rules.Saving.{saved_of}
 use Rattle.record_replay.specs.rules.Calls.{Exchange}
-use Rattle.restart_theorem.specs.Lives.{Slice, Reply, Cause, Fails, Ended}
-use Rattle.restart_theorem.specs.Courses.{Stage, Phase, Open, MayFail, phase_ended, next_stage}
-use Rattle.restart_theorem.specs.Promises.{Promise, synced_by, IsEnding}
-use Rattle.restart_theorem.specs.Holds.{KeepsPromise, CarriesPromise, StaysWithin}
-use Rattle.restart_theorem.specs.Exchanges.{none}
+use Rattle.worker_store.specs.restart_theorem.Lives.{Slice, Reply, Cause, Fails, Ended}
+use Rattle.worker_store.specs.restart_theorem.Courses.{Stage, Phase, Open, MayFail, phase_ended, next_stage}
+use Rattle.worker_store.specs.restart_theorem.Promises.{Promise, synced_by, IsEnding}
+use Rattle.worker_store.specs.restart_theorem.Holds.{KeepsPromise, CarriesPromise, StaysWithin}
+use Rattle.worker_store.specs.restart_theorem.Exchanges.{none}
 use Rattle.worker_store.specs.rules.Savepoints.{Savepoint, places}
 use Rattle.worker_store.specs.laws.Underway.{IsInItsSlice, IsBroken}
 use Rattle.worker_store.specs.laws.CallEnds.{HasBound}
@@ -37,7 +37,7 @@ use Rattle.worker_store.proofs.LawLemmas.TurnLemmas.{same_no_more}
 use Rattle.worker_store.proofs.LawLemmas.Underway.{among_first}
 use Rattle.worker_store.specs.declared.fault.StoreFault.TheVariants as store
 use Rattle.worker_store.specs.declared.store.WorkerStore.{WorkerStore}
-use Rattle.ephemeral_worker.specs.declared.fault.SliceFault.TheVariants as sliced
+use Rattle.record_replay.specs.declared.slices.fault.SliceFault.TheVariants as sliced
 use Rattle.worker.specs.declared.fault.WorkFault.{WorkFault}
 use Rattle.worker.specs.declared.fault.WorkFault.TheVariants.{Work, Disk, Store, Upgrade}
 use Rattle.worker.specs.declared.running_worker.RunningWorker.{RunningWorker}

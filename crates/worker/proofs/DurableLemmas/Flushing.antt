@@ -11,10 +11,10 @@ use Rattle.record_replay.specs.rules.Calls.{Taking, Exchange, all_taken}
 use Rattle.record_replay.specs.rules.Calls.{last_refused}
 use Rattle.record_replay.specs.rules.Waiting.{ReleasesAll, ReleasesSome}
 use Rattle.record_replay.proofs.Emitted.{waiting_behind, released_whole, released_none}
-use Rattle.restart_theorem.specs.Lives.{Slice, Fails, OfDisk, OfOutlet}
-use Rattle.restart_theorem.specs.Courses.{Stage, Broken}
-use Rattle.restart_theorem.specs.Promises.{Promise}
-use Rattle.restart_theorem.specs.Holds.{StaysWithin}
+use Rattle.worker_store.specs.restart_theorem.Lives.{Slice, Fails, OfDisk, OfOutlet}
+use Rattle.worker_store.specs.restart_theorem.Courses.{Stage, Broken}
+use Rattle.worker_store.specs.restart_theorem.Promises.{Promise}
+use Rattle.worker_store.specs.restart_theorem.Holds.{StaysWithin}
 use Rattle.worker_store.specs.laws.Underway.{IsUnderWay}
 use Rattle.worker_store.specs.rules.BetweenCalls.{IsForetold}
 use Rattle.worker_store.specs.laws.Pieces.{AreDone}
@@ -34,7 +34,7 @@ use Rattle.worker_store.specs.declared.fault.StoreFault.TheVariants as store
 use Rattle.worker_store.specs.declared.store.WorkerStore.{WorkerStore}
 use Rattle.worker_store.specs.rules.Calls.{LeavesFronts, StoresAll, BarrierFails}
 use Rattle.worker_store.specs.rules.Stores.{IsStoreOf}
-use Rattle.ephemeral_worker.specs.declared.fault.SliceFault.TheVariants as slice
+use Rattle.record_replay.specs.declared.slices.fault.SliceFault.TheVariants as slice
 use Rattle.worker.specs.declared.fault.WorkFault.TheVariants.{Work}
 use Rattle.worker.specs.declared.running_worker.RunningWorker.{RunningWorker}
 use Rattle.worker.specs.rules.WorkFaults.{fault_of_store}

@@ -24,21 +24,21 @@ use Rattle.journal.specs.rules.State.{room_of}
 use Rattle.journal.proofs.RecordLemmas.{record_of, length-record}
 use Rattle.record_replay.specs.declared.fault.SourceFault.{SourceFault}
 use Rattle.record_replay.proofs.Emitted.{released_whole}
-use Rattle.restart_theorem.specs.Lives.{Fails, Waits, Cause, SourceSaid, Asked, kept_of_said}
-use Rattle.restart_theorem.specs.Lives.{OfSource, OfAnswer, OfMemory, OfBounds}
-use Rattle.restart_theorem.specs.Courses.{Stage, Phase, Open, Broken, NoneThere, MayFail}
-use Rattle.restart_theorem.specs.Courses.{next_stage}
-use Rattle.restart_theorem.specs.Courses.{first_said}
-use Rattle.restart_theorem.specs.Promises.{Promise, after, IsFitting, IsInquiring}
-use Rattle.restart_theorem.specs.Holds.{StaysWithin}
-use Rattle.restart_theorem.specs.Exchanges.{none as no_exchange, asked}
+use Rattle.worker_store.specs.restart_theorem.Lives.{Fails, Waits, Cause, SourceSaid, Asked, kept_of_said}
+use Rattle.worker_store.specs.restart_theorem.Lives.{OfSource, OfAnswer, OfMemory, OfBounds}
+use Rattle.worker_store.specs.restart_theorem.Courses.{Stage, Phase, Open, Broken, NoneThere, MayFail}
+use Rattle.worker_store.specs.restart_theorem.Courses.{next_stage}
+use Rattle.worker_store.specs.restart_theorem.Courses.{first_said}
+use Rattle.worker_store.specs.restart_theorem.Promises.{Promise, after, IsFitting, IsInquiring}
+use Rattle.worker_store.specs.restart_theorem.Holds.{StaysWithin}
+use Rattle.worker_store.specs.restart_theorem.Exchanges.{none as no_exchange, asked}
 use Rattle.worker_store.specs.laws.Underway.{IsUnderWay, IsBroken, IsAtQuestion}
 use Rattle.worker_store.specs.laws.CallEnds.{HasBound}
 use Rattle.worker_store.specs.rules.BetweenCalls.{IsForetold}
 use Rattle.worker_store.specs.laws.Pieces.{AreDone}
 use Rattle.worker_store.specs.rules.Carried.{count_at, IsCarried, SyncsAreHeld, AreOnRecord}
 use Rattle.worker_store.specs.laws.Turns.{GoesOnFrom}
-use Rattle.restart_theorem.proofs.Fronts.{said_widens_none}
+use Rattle.worker_store.proofs.RestartLemmas.Fronts.{said_widens_none}
 use Rattle.worker_store.proofs.LawLemmas.AtHand.{shown_is_saved, shown_is_numbered}
 use Rattle.worker_store.proofs.LawLemmas.CallEnds.{waiting_slices_end}
 use Rattle.worker_store.proofs.LawLemmas.Carrying.{carried_keeps}
@@ -60,7 +60,7 @@ use Rattle.worker.specs.declared.fault.WorkFault.{WorkFault}
 use Rattle.worker.specs.declared.fault.WorkFault.TheVariants.{Work}
 use Rattle.worker.specs.declared.running_worker.RunningWorker.{RunningWorker}
 use Rattle.worker.specs.rules.WorkFaults.{fault_of_store}
-use Rattle.ephemeral_worker.specs.rules.Refusals.{slice_fault}
+use Rattle.record_replay.specs.rules.Refusals.{slice_fault}
 use Rattle.worker.specs.rules.DurableCalls.{ComesOf, NeedsMemory, HasCauseAt}
 use Rattle.worker.specs.rules.OpenWorkers.{IsOnDisk}
 use Rattle.worker.specs.DurableTurns.{Course, IsAskingOn, HasRoom, TurnGoes}

@@ -18,18 +18,18 @@ use Rattle.sector_disk.specs.declared.fault.DiskFault.{DiskFault}
 use Rattle.sector_disk.specs.rules.Medium.{Medium}
 use Rattle.disk_layout.specs.rules.Journal.{Record}
 use Rattle.record_replay.specs.rules.Calls.{Giving, Taking, Ask, Exchange, Asks}
-use Rattle.restart_theorem.specs.Lives.{SourceSaid}
+use Rattle.worker_store.specs.restart_theorem.Lives.{SourceSaid}
 use Rattle.worker_store.specs.declared.fault.StoreFault.{StoreFault}
 use Rattle.worker_store.specs.declared.fault.StoreFault.TheVariants as store
 use Rattle.worker_store.specs.declared.store.WorkerStore.{WorkerStore}
 use Rattle.worker_store.specs.rules.Calls.{BarrierFails, AppendFails}
-use Rattle.ephemeral_worker.specs.Turns.{working, failing}
-use Rattle.ephemeral_worker.specs.declared.fault.SliceFault.TheVariants as slice
-use Rattle.ephemeral_worker.specs.rules.Faults.{IsBadAnswer, LeadsUpTo, Fails, SlicesInVain}
-use Rattle.ephemeral_worker.specs.rules.Refusals.{slice_fault}
-use Rattle.ephemeral_worker.proofs.Ending.{Turning, Questioning, released_some, vainly}
-use Rattle.ephemeral_worker.proofs.Going.{Goes, leads, leads_to_question, asked_more}
-use Rattle.ephemeral_worker.proofs.Joining.{wanted_ask}
+use Rattle.record_replay.specs.Turns.{working, failing}
+use Rattle.record_replay.specs.declared.slices.fault.SliceFault.TheVariants as slice
+use Rattle.record_replay.specs.rules.Faults.{IsBadAnswer, LeadsUpTo, Fails, SlicesInVain}
+use Rattle.record_replay.specs.rules.Refusals.{slice_fault}
+use Rattle.record_replay.proofs.Ending.{Turning, Questioning, released_some, vainly}
+use Rattle.record_replay.proofs.Going.{Goes, leads, leads_to_question, asked_more}
+use Rattle.record_replay.proofs.Joining.{wanted_ask}
 use Rattle.worker.specs.declared.fault.WorkFault.{WorkFault}
 use Rattle.worker.specs.declared.fault.WorkFault.TheVariants.{Work}
 use Rattle.worker.specs.declared.running_worker.RunningWorker.{RunningWorker}

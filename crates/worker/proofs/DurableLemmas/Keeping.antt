@@ -16,11 +16,11 @@ use Rattle.worker_store.specs.declared.fault.StoreFault.{StoreFault}
 use Rattle.worker_store.specs.declared.store.WorkerStore.{WorkerStore}
 use Rattle.worker_store.specs.rules.Calls.{AppendFails}
 use Rattle.worker_store.specs.rules.Stores.{with_record}
-use Rattle.ephemeral_worker.specs.declared.fault.SliceFault.TheVariants as slice
+use Rattle.record_replay.specs.declared.slices.fault.SliceFault.TheVariants as slice
 use Rattle.worker.specs.declared.fault.WorkFault.TheVariants.{Work}
 use Rattle.worker.specs.declared.running_worker.RunningWorker.{RunningWorker}
 use Rattle.worker.specs.rules.WorkFaults.{fault_of_store}
-use Rattle.ephemeral_worker.specs.rules.Refusals.{slice_fault}
+use Rattle.record_replay.specs.rules.Refusals.{slice_fault}
 use Rattle.worker.specs.DurableTurns.{TakesOnRecord, TakesNone}
 
 module _ (old : RunningWorker) (question : Question) (r : Record) (limit : ℕ)

@@ -13,9 +13,9 @@ use Rattle.process.specs.rules.Values.{ProcessValue, ShowsProcess}
 use Rattle.state_image.specs.rules.ProcessImage.{Saved}
 use Rattle.state_image.specs.rules.Saving.{saved_of}
 use Rattle.disk_layout.specs.rules.Journal.{TakesRecords}
-use Rattle.restart_theorem.specs.Lives.{Act, Reply, Ended, kept_by_end}
-use Rattle.restart_theorem.specs.Promises.{Promise, after, saved_by, synced_by}
-use Rattle.restart_theorem.specs.Holds.{KeepsPromise}
+use Rattle.worker_store.specs.restart_theorem.Lives.{Act, Reply, Ended, kept_by_end}
+use Rattle.worker_store.specs.restart_theorem.Promises.{Promise, after, saved_by, synced_by}
+use Rattle.worker_store.specs.restart_theorem.Holds.{KeepsPromise}
 use Rattle.worker_store.specs.rules.Carried.{count_at, SyncsAreHeld}
 use Rattle.worker_store.proofs.LawLemmas.AtHand.{version_stays, version_shown}
 use Rattle.worker_store.proofs.LawLemmas.Carrying.{carried_keeps, all_is_held}

@@ -16,10 +16,10 @@ use Rattle.disk_layout.specs.rules.Journal.{longest_record, TakesRecords}
 use Rattle.disk_layout.proofs.LongRecordLemmas.{journals_have_room}
 use Rattle.journal.specs.rules.State.{JournalState, state}
 use Rattle.record_replay.proofs.Emitted.{released_whole}
-use Rattle.restart_theorem.specs.Lives.{Slice, Fails, Cause, OfDisk, OfBounds}
-use Rattle.restart_theorem.specs.Courses.{Stage, Open, MayFail}
-use Rattle.restart_theorem.specs.Promises.{Promise}
-use Rattle.restart_theorem.specs.Holds.{StaysWithin}
+use Rattle.worker_store.specs.restart_theorem.Lives.{Slice, Fails, Cause, OfDisk, OfBounds}
+use Rattle.worker_store.specs.restart_theorem.Courses.{Stage, Open, MayFail}
+use Rattle.worker_store.specs.restart_theorem.Promises.{Promise}
+use Rattle.worker_store.specs.restart_theorem.Holds.{StaysWithin}
 use Rattle.worker_store.specs.rules.Savepoints.{Savepoint}
 use Rattle.worker_store.specs.laws.CallEnds.{HasBound}
 use Rattle.worker_store.specs.rules.Carried.{count_at, AreOnRecord}

@@ -13,22 +13,22 @@ use Rattle.sector_disk.specs.rules.Medium.{Medium, CallsUpTo}
 use Rattle.record_replay.specs.rules.Calls.{Giving, Taking}
 use Rattle.record_replay.specs.rules.Waiting.{ReleasesAll}
 use Rattle.record_replay.proofs.Emitted.{released_none, released_steps}
-use Rattle.ephemeral_worker.specs.declared.now.Now.TheVariants as now
+use Rattle.record_replay.specs.declared.slices.now.Now.TheVariants as now
 use Rattle.worker.specs.declared.fault.WorkFault.{WorkFault}
 use Rattle.worker.specs.declared.fault.WorkFault.TheVariants.{Work}
 use Rattle.worker.specs.declared.running_worker.RunningWorker.{RunningWorker}
-use Rattle.ephemeral_worker.specs.rules.Refusals.{slice_fault}
-use Rattle.ephemeral_worker.specs.rules.Slices.{Slices}
-use Rattle.ephemeral_worker.specs.Turns.{working, AsksOnce}
+use Rattle.record_replay.specs.rules.Refusals.{slice_fault}
+use Rattle.record_replay.specs.rules.Slices.{Slices}
+use Rattle.record_replay.specs.Turns.{working, AsksOnce}
 use Rattle.worker.specs.DurableTurns.{Hears, Flushes, FlushesInVain, AsksTurn, WorksOn}
 use Rattle.worker.specs.DurableTurns.{FlushesVainly, AsksVainly}
 use Rattle.worker.specs.StoreTurns.{StoreGoes, StoreStops, StoreRuns, PaysCalls}
 use Rattle.worker.specs.rules.CallCounts.{most_saving}
 use Rattle.worker.specs.rules.DurableFailures.{SlicesOnDiskInVain}
-use Rattle.ephemeral_worker.proofs.Ending.{measure, Turning, turning_none, owes}
-use Rattle.ephemeral_worker.proofs.Ending.{owes_less, asks, asks_counts, released_all, waiting}
-use Rattle.ephemeral_worker.proofs.Ending.{given, stays_waiting}
-use Rattle.ephemeral_worker.proofs.Ending.{given_less, Questioning, cannot_advance}
+use Rattle.record_replay.proofs.Ending.{measure, Turning, turning_none, owes}
+use Rattle.record_replay.proofs.Ending.{owes_less, asks, asks_counts, released_all, waiting}
+use Rattle.record_replay.proofs.Ending.{given, stays_waiting}
+use Rattle.record_replay.proofs.Ending.{given_less, Questioning, cannot_advance}
 use Rattle.worker.proofs.DurableLemmas.InVain.{as_on_disk, flushed_vainly, asked_vainly}
 use Rattle.worker.proofs.DurableLemmas.Asking.{asks_once_of}
 use Rattle.worker.proofs.DurableLemmas.Advancing.{with_process, says_abreast}

@@ -18,10 +18,10 @@ use Rattle.state_image.specs.rules.Saving.{saved_of}
 use Rattle.record_replay.specs.rules.Calls.{Giving, Taking, Begun, Exchange, Asks, Tells, Exchanges}
 use Rattle.record_replay.specs.rules.Calls.{Releases, AnswersInOrder}
 use Rattle.record_replay.proofs.Following.{exchanges_join}
-use Rattle.restart_theorem.specs.Lives.{Act, Slice, Reply, Spent, Over, Waits, Fails, Ended}
-use Rattle.restart_theorem.specs.Courses.{Stage, Open, phase_ended, next_stage, stage_after}
-use Rattle.restart_theorem.specs.Promises.{Promise, fuel_of}
-use Rattle.restart_theorem.specs.Holds.{CarriesPromise, StaysWithin}
+use Rattle.worker_store.specs.restart_theorem.Lives.{Act, Slice, Reply, Spent, Over, Waits, Fails, Ended}
+use Rattle.worker_store.specs.restart_theorem.Courses.{Stage, Open, phase_ended, next_stage, stage_after}
+use Rattle.worker_store.specs.restart_theorem.Promises.{Promise, fuel_of}
+use Rattle.worker_store.specs.restart_theorem.Holds.{CarriesPromise, StaysWithin}
 use Rattle.worker_store.specs.laws.Acts.{TakesSteps}
 use Rattle.worker_store.specs.laws.Underway.{IsUnderWay}
 use Rattle.worker_store.specs.rules.BetweenCalls.{IsForetold}
@@ -31,13 +31,13 @@ use Rattle.worker_store.proofs.LawLemmas.CallEnds.{slices_begin}
 use Rattle.worker_store.proofs.LawLemmas.Pieces.{parts_join, parts_are_foretold, ends_join}
 use Rattle.worker_store.proofs.LawLemmas.TurnLemmas.{turns_join, turns_carry, parts_leave_begun}
 use Rattle.record_replay.proofs.Emitted.{released_whole}
-use Rattle.ephemeral_worker.specs.declared.now.Now.{Now}
-use Rattle.ephemeral_worker.specs.declared.now.Now.TheVariants as now
+use Rattle.record_replay.specs.declared.slices.now.Now.{Now}
+use Rattle.record_replay.specs.declared.slices.now.Now.TheVariants as now
 use Rattle.worker_store.specs.declared.store.WorkerStore.{WorkerStore}
 use Rattle.worker.specs.declared.fault.WorkFault.{WorkFault}
 use Rattle.worker.specs.declared.fault.WorkFault.TheVariants.{Work}
 use Rattle.worker.specs.declared.running_worker.RunningWorker.{RunningWorker}
-use Rattle.ephemeral_worker.specs.rules.Refusals.{slice_fault}
+use Rattle.record_replay.specs.rules.Refusals.{slice_fault}
 use Rattle.worker.specs.rules.CallCounts.{most_calls, most_saving, CallsForEvents}
 use Rattle.worker.specs.StoreTurns.{owed, PaysCalls}
 use Rattle.worker.proofs.CallCountLemmas.{turns_then, turns_end, turn_once, turn_free}
@@ -49,7 +49,7 @@ use Rattle.worker.specs.rules.DurableCalls.{SliceCarries}
 use Rattle.worker.specs.DurableTurns.{Course, IsBetweenTurns, TurnGoes, TurnEnds}
 use Rattle.worker.specs.DurableTurns.{slice_end, told_lines_of, Flushes, FlushesInVain}
 use Rattle.worker.specs.DurableTurns.{AsksOutside, AsksTurn, WorksOn}
-use Rattle.ephemeral_worker.proofs.Joining.{tells_ask_nothing, releases_of_tells}
+use Rattle.record_replay.proofs.Joining.{tells_ask_nothing, releases_of_tells}
 use Rattle.worker.proofs.DurableLemmas.OnDisk.{keeps_now}
 use Rattle.worker.proofs.DurableLemmas.Bounds.{bounds_join, on_disk_still}
 use Rattle.worker.proofs.DurableLemmas.Ends.{cause_before, done_nothing, stays_on, not_open}

@@ -12,19 +12,19 @@ use Rattle.process.specs.rules.Values.{ProcessValue}
 use Rattle.sector_disk.specs.rules.DiskImage.{DiskImage}
 use Rattle.sector_disk.specs.rules.Medium.{Medium, Passes}
 use Rattle.record_replay.specs.rules.Calls.{Exchange}
-use Rattle.restart_theorem.specs.Lives.{Act, Cause, OfDisk, Reply}
-use Rattle.restart_theorem.specs.Lives.{Fails, Event, Ended, told_in, kept_by_end}
-use Rattle.restart_theorem.specs.Courses.{Stage, Open, phase_ended, stage_after}
-use Rattle.restart_theorem.specs.Courses.{without_first}
-use Rattle.restart_theorem.specs.Promises.{Promise, after, promised, IsKept, AreKept}
-use Rattle.restart_theorem.specs.Holds.{IsBounded, KeepsPromise, KeepsBounds}
-use Rattle.restart_theorem.specs.Holds.{StaysWithin}
-use Rattle.restart_theorem.specs.Exchanges.{AreEvents}
+use Rattle.worker_store.specs.restart_theorem.Lives.{Act, Cause, OfDisk, Reply}
+use Rattle.worker_store.specs.restart_theorem.Lives.{Fails, Event, Ended, told_in, kept_by_end}
+use Rattle.worker_store.specs.restart_theorem.Courses.{Stage, Open, phase_ended, stage_after}
+use Rattle.worker_store.specs.restart_theorem.Courses.{without_first}
+use Rattle.worker_store.specs.restart_theorem.Promises.{Promise, after, promised, IsKept, AreKept}
+use Rattle.worker_store.specs.restart_theorem.Holds.{IsBounded, KeepsPromise, KeepsBounds}
+use Rattle.worker_store.specs.restart_theorem.Holds.{StaysWithin}
+use Rattle.worker_store.specs.restart_theorem.Exchanges.{AreEvents}
 use Rattle.worker_store.specs.rules.BetweenCalls.{IsForetold}
 use Rattle.worker_store.proofs.LawLemmas.Pieces.{parts_are_foretold}
 use Rattle.worker_store.proofs.LawLemmas.Passing.{crashed_in_the_end}
-use Rattle.ephemeral_worker.specs.declared.now.Now.{Now}
-use Rattle.ephemeral_worker.specs.declared.now.Now.TheVariants as now
+use Rattle.record_replay.specs.declared.slices.now.Now.{Now}
+use Rattle.record_replay.specs.declared.slices.now.Now.TheVariants as now
 use Rattle.worker.specs.declared.fault.WorkFault.{WorkFault}
 use Rattle.worker.specs.declared.fault.WorkFault.TheVariants.{Disk, Work, Store, Upgrade}
 use Rattle.worker.specs.declared.recover_fault.RecoverFault.{RecoverFault}

@@ -5,11 +5,11 @@ use Rattle.wasm_syntax.specs.declared.module.Module.{Module}
 use Rattle.wasi_abi.specs.rules.Configs.{Settings}
 use Rattle.state_image.specs.rules.ProcessImage.{Saved}
 use Rattle.record_replay.specs.rules.Calls.{Exchange, Asks, Tells}
-use Rattle.restart_theorem.specs.Lives.{Act, Reply, Event, Told, Asked, Opened, Ended}
-use Rattle.restart_theorem.specs.Lives.{told_in}
-use Rattle.restart_theorem.specs.Courses.{Stage, next_stage, stage_after}
-use Rattle.restart_theorem.specs.Promises.{Promise, after, promised, AreKept}
-use Rattle.restart_theorem.specs.Exchanges.{release_of, was_taken, AreEvents, none, told, asked}
+use Rattle.worker_store.specs.restart_theorem.Lives.{Act, Reply, Event, Told, Asked, Opened, Ended}
+use Rattle.worker_store.specs.restart_theorem.Lives.{told_in}
+use Rattle.worker_store.specs.restart_theorem.Courses.{Stage, next_stage, stage_after}
+use Rattle.worker_store.specs.restart_theorem.Promises.{Promise, after, promised, AreKept}
+use Rattle.worker_store.specs.restart_theorem.Exchanges.{release_of, was_taken, AreEvents, none, told, asked}
 use Rattle.worker.specs.rules.OneLife.{opened_in}
 use Rattle.worker.specs.laws.OneLife.{released_in}
 

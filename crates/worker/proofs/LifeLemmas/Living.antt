@@ -17,30 +17,30 @@ use Rattle.disk_layout.specs.rules.Unsynced.{most_unsynced}
 use Rattle.record_replay.specs.rules.Calls.{Giving, Taking, Begun, Exchange, Asks, Tells}
 use Rattle.record_replay.specs.rules.Calls.{Releases, AnswersInOrder, Exchanges}
 use Rattle.record_replay.proofs.Following.{exchanges_join}
-use Rattle.ephemeral_worker.proofs.Joining.{tells_ask_nothing, releases_of_tells}
-use Rattle.restart_theorem.specs.Lives.{Act, Inputs, Cause, OfDisk, OfSource, OfAnswer, OfOutlet}
-use Rattle.restart_theorem.specs.Lives.{OfMemory, OfBounds, OfJournal, OfLines, Fails, Event, Ended}
-use Rattle.restart_theorem.specs.Lives.{told_in, kept_by_end, Beginning}
-use Rattle.restart_theorem.specs.Lives.{Creates, End, Finished, Stopped, Failed, Life}
-use Rattle.restart_theorem.specs.Lives.{Slice, Batch, Checkpoint, Upgrade}
-use Rattle.restart_theorem.specs.Courses.{Stage, Phase, Shut, Unheard, NoneThere, Broken, MayFail}
-use Rattle.restart_theorem.specs.Courses.{Open, Closed, at_beginning, next_stage, stage_after}
-use Rattle.restart_theorem.specs.Courses.{HasFailed, HasDiskFault, HasStopped, HasNotStopped}
-use Rattle.restart_theorem.specs.Courses.{HasLastAsked, IsCutIn, MayEnd}
-use Rattle.restart_theorem.specs.Promises.{Promise, as_begun, after, promised, IsKept}
-use Rattle.restart_theorem.specs.Promises.{AreKept, OpensAnew}
-use Rattle.restart_theorem.specs.Holds.{HoldsPromise, KeepsPromise}
-use Rattle.restart_theorem.specs.Holds.{KeepsBounds}
-use Rattle.restart_theorem.specs.Between.{IsLivedOn}
-use Rattle.restart_theorem.proofs.Promised.{calls_join}
-use Rattle.restart_theorem.proofs.Pleas.{fails_or_open, fails_or_last}
+use Rattle.record_replay.proofs.Joining.{tells_ask_nothing, releases_of_tells}
+use Rattle.worker_store.specs.restart_theorem.Lives.{Act, Inputs, Cause, OfDisk, OfSource, OfAnswer, OfOutlet}
+use Rattle.worker_store.specs.restart_theorem.Lives.{OfMemory, OfBounds, OfJournal, OfLines, Fails, Event, Ended}
+use Rattle.worker_store.specs.restart_theorem.Lives.{told_in, kept_by_end, Beginning}
+use Rattle.worker_store.specs.restart_theorem.Lives.{Creates, End, Finished, Stopped, Failed, Life}
+use Rattle.worker_store.specs.restart_theorem.Lives.{Slice, Batch, Checkpoint, Upgrade}
+use Rattle.worker_store.specs.restart_theorem.Courses.{Stage, Phase, Shut, Unheard, NoneThere, Broken, MayFail}
+use Rattle.worker_store.specs.restart_theorem.Courses.{Open, Closed, at_beginning, next_stage, stage_after}
+use Rattle.worker_store.specs.restart_theorem.Courses.{HasFailed, HasDiskFault, HasStopped, HasNotStopped}
+use Rattle.worker_store.specs.restart_theorem.Courses.{HasLastAsked, IsCutIn, MayEnd}
+use Rattle.worker_store.specs.restart_theorem.Promises.{Promise, as_begun, after, promised, IsKept}
+use Rattle.worker_store.specs.restart_theorem.Promises.{AreKept, OpensAnew}
+use Rattle.worker_store.specs.restart_theorem.Holds.{HoldsPromise, KeepsPromise}
+use Rattle.worker_store.specs.restart_theorem.Holds.{KeepsBounds}
+use Rattle.worker_store.specs.restart_theorem.Between.{IsLivedOn}
+use Rattle.worker_store.proofs.RestartLemmas.Promised.{calls_join}
+use Rattle.worker_store.proofs.RestartLemmas.Pleas.{fails_or_open, fails_or_last}
 use Rattle.worker_store.specs.laws.Carried.{PromisesNoMore}
 use Rattle.worker_store.proofs.LawLemmas.Carrying.{less_is_held}
 use Rattle.worker_store.proofs.LawLemmas.Pieces.{parts_are_foretold}
 use Rattle.worker_store.specs.declared.fault.StoreFault.TheVariants as store
 use Rattle.record_replay.specs.declared.fault.ReplayFault.TheVariants as replay
-use Rattle.ephemeral_worker.specs.declared.fault.SliceFault.TheVariants as slice
-use Rattle.ephemeral_worker.specs.declared.fault.Refusal.TheVariants as refusal
+use Rattle.record_replay.specs.declared.slices.fault.SliceFault.TheVariants as slice
+use Rattle.record_replay.specs.declared.slices.fault.Refusal.TheVariants as refusal
 use Rattle.worker.specs.declared.fault.WorkFault.TheVariants.{Work, Disk, Store, Upgrade}
 use Rattle.worker.specs.declared.upgrade_fault.UpgradeFault.TheVariants as upgrade
 use Rattle.worker.specs.declared.recover_fault.RecoverFault.{RecoverFault}

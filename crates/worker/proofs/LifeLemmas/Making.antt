@@ -9,12 +9,12 @@ use Rattle.state_image.specs.rules.ProcessImage.{Saved}
 use Rattle.sector_disk.specs.rules.Medium.{Medium}
 use Rattle.record_replay.specs.rules.Calls.{Giving, Taking, Exchange, Exchanges}
 use Rattle.record_replay.proofs.Following.{exchanges_join}
-use Rattle.restart_theorem.specs.Lives.{Act, Slice, Checkpoint, Upgrade, Cause, OfDisk, Reply}
-use Rattle.restart_theorem.specs.Lives.{Fails, Event, Ended, told_in, kept_by_end}
-use Rattle.restart_theorem.specs.Courses.{Stage, Open, phase_ended, stage_after, without_first}
-use Rattle.restart_theorem.specs.Promises.{Promise, after, promised, IsKept, AreKept}
-use Rattle.restart_theorem.specs.Holds.{KeepsPromise, KeepsBounds}
-use Rattle.restart_theorem.proofs.Promised.{calls_join}
+use Rattle.worker_store.specs.restart_theorem.Lives.{Act, Slice, Checkpoint, Upgrade, Cause, OfDisk, Reply}
+use Rattle.worker_store.specs.restart_theorem.Lives.{Fails, Event, Ended, told_in, kept_by_end}
+use Rattle.worker_store.specs.restart_theorem.Courses.{Stage, Open, phase_ended, stage_after, without_first}
+use Rattle.worker_store.specs.restart_theorem.Promises.{Promise, after, promised, IsKept, AreKept}
+use Rattle.worker_store.specs.restart_theorem.Holds.{KeepsPromise, KeepsBounds}
+use Rattle.worker_store.proofs.RestartLemmas.Promised.{calls_join}
 use Rattle.worker_store.specs.rules.BetweenCalls.{IsForetold}
 use Rattle.worker_store.proofs.LawLemmas.Pieces.{parts_are_foretold}
 use Rattle.worker.specs.declared.fault.WorkFault.{WorkFault}

@@ -18,19 +18,19 @@ use Rattle.disk_layout.specs.declared.fault.LayoutFault.TheVariants as layout
 use Rattle.disk_layout.specs.rules.Places.{Geometry, geometry_of, total_sectors}
 use Rattle.disk_layout.specs.rules.Unsynced.{most_unsynced}
 use Rattle.record_replay.specs.rules.Calls.{Taking, Begun, Exchange, Tells, Releases}
-use Rattle.restart_theorem.specs.Lives.{Inputs, Cause, OfDisk, OfMemory, OfOutlet, OfBounds, Event}
-use Rattle.restart_theorem.specs.Lives.{Beginning, Creates, Opened, told_in}
-use Rattle.restart_theorem.specs.Lives.Beginning.{Recovers as recovers}
-use Rattle.restart_theorem.specs.Courses.{Stage, Phase, Shut, at_first, at_beginning}
-use Rattle.restart_theorem.specs.Courses.{stage_after, HasFailed, IsCutIn}
-use Rattle.restart_theorem.specs.Promises.{Promise, as_begun, after, promised, AreKept, OpensAnew}
-use Rattle.restart_theorem.specs.Holds.{IsNothingYet, KeepsPromise, KeepsBounds}
+use Rattle.worker_store.specs.restart_theorem.Lives.{Inputs, Cause, OfDisk, OfMemory, OfOutlet, OfBounds, Event}
+use Rattle.worker_store.specs.restart_theorem.Lives.{Beginning, Creates, Opened, told_in}
+use Rattle.worker_store.specs.restart_theorem.Lives.Beginning.{Recovers as recovers}
+use Rattle.worker_store.specs.restart_theorem.Courses.{Stage, Phase, Shut, at_first, at_beginning}
+use Rattle.worker_store.specs.restart_theorem.Courses.{stage_after, HasFailed, IsCutIn}
+use Rattle.worker_store.specs.restart_theorem.Promises.{Promise, as_begun, after, promised, AreKept, OpensAnew}
+use Rattle.worker_store.specs.restart_theorem.Holds.{IsNothingYet, KeepsPromise, KeepsBounds}
 use Rattle.worker_store.specs.rules.BetweenCalls.{IsForetold}
 use Rattle.worker_store.proofs.LawLemmas.Pieces.{parts_are_foretold}
 use Rattle.worker_store.specs.declared.fault.StoreFault.TheVariants as store
 use Rattle.record_replay.specs.declared.fault.ReplayFault.TheVariants as replay
-use Rattle.ephemeral_worker.specs.declared.fault.SliceFault.TheVariants as slice
-use Rattle.ephemeral_worker.specs.declared.fault.Refusal.TheVariants as refusal
+use Rattle.record_replay.specs.declared.slices.fault.SliceFault.TheVariants as slice
+use Rattle.record_replay.specs.declared.slices.fault.Refusal.TheVariants as refusal
 use Rattle.worker.specs.declared.fault.WorkFault.{WorkFault}
 use Rattle.worker.specs.declared.fault.WorkFault.TheVariants.{Work, Disk, Store, Upgrade}
 use Rattle.worker.specs.declared.recover_fault.RecoverFault.{RecoverFault}

@@ -10,16 +10,16 @@ use Rattle.state_image.specs.rules.Saving.{saved_of}
 use Rattle.sector_disk.specs.rules.Medium.{Medium}
 use Rattle.record_replay.specs.rules.Calls.{Giving, Taking, Exchange, Tells, Exchanges}
 use Rattle.record_replay.proofs.Following.{exchanges_join}
-use Rattle.ephemeral_worker.specs.declared.now.Now.{Now}
-use Rattle.ephemeral_worker.specs.declared.now.Now.TheVariants as now
-use Rattle.restart_theorem.specs.Lives.{Act, Slice, Batch, Checkpoint, Upgrade, Reply, Spent, Event}
-use Rattle.restart_theorem.specs.Lives.{Told, Asked, Opened, Ended, told_in, Inputs, Beginning}
-use Rattle.restart_theorem.specs.Courses.{Stage, at_beginning, phase_ended, stage_after}
-use Rattle.restart_theorem.specs.Courses.{without_first}
-use Rattle.restart_theorem.specs.Promises.{Promise, as_begun, after, promised, IsKept, AreKept}
-use Rattle.restart_theorem.specs.Exchanges as exchanged
-use Rattle.restart_theorem.specs.Exchanges.{AreEvents}
-use Rattle.restart_theorem.proofs.Promised.{calls_join}
+use Rattle.record_replay.specs.declared.slices.now.Now.{Now}
+use Rattle.record_replay.specs.declared.slices.now.Now.TheVariants as now
+use Rattle.worker_store.specs.restart_theorem.Lives.{Act, Slice, Batch, Checkpoint, Upgrade, Reply, Spent, Event}
+use Rattle.worker_store.specs.restart_theorem.Lives.{Told, Asked, Opened, Ended, told_in, Inputs, Beginning}
+use Rattle.worker_store.specs.restart_theorem.Courses.{Stage, at_beginning, phase_ended, stage_after}
+use Rattle.worker_store.specs.restart_theorem.Courses.{without_first}
+use Rattle.worker_store.specs.restart_theorem.Promises.{Promise, as_begun, after, promised, IsKept, AreKept}
+use Rattle.worker_store.specs.restart_theorem.Exchanges as exchanged
+use Rattle.worker_store.specs.restart_theorem.Exchanges.{AreEvents}
+use Rattle.worker_store.proofs.RestartLemmas.Promised.{calls_join}
 use Rattle.worker_store.specs.laws.Acts.{TakesSteps}
 use Rattle.worker_store.specs.rules.BetweenCalls.{IsForetold}
 use Rattle.worker_store.proofs.LawLemmas.Pieces.{parts_are_foretold}

@@ -6,11 +6,11 @@ use Rattle.process_rules.specs.Processes.{ProcessState, Guest}
 use Rattle.sector_disk.specs.rules.Medium.{Medium}
 use Rattle.process.specs.rules.Values.{ProcessValue}
 use Rattle.state_image.specs.rules.Saving.{saved_of}
-use Rattle.restart_theorem.specs.Lives.{Slice, Cause, OfDisk, Event, kept_by_end}
-use Rattle.restart_theorem.specs.Lives.Act.{Upgrade as upgrading}
-use Rattle.restart_theorem.specs.Exchanges.{AreEvents, none}
-use Rattle.restart_theorem.specs.Courses.{Stage}
-use Rattle.restart_theorem.specs.Promises.{Promise, promised}
+use Rattle.worker_store.specs.restart_theorem.Lives.{Slice, Cause, OfDisk, Event, kept_by_end}
+use Rattle.worker_store.specs.restart_theorem.Lives.Act.{Upgrade as upgrading}
+use Rattle.worker_store.specs.restart_theorem.Exchanges.{AreEvents, none}
+use Rattle.worker_store.specs.restart_theorem.Courses.{Stage}
+use Rattle.worker_store.specs.restart_theorem.Promises.{Promise, promised}
 use Rattle.worker.specs.declared.fault.WorkFault.{WorkFault}
 use Rattle.worker.specs.declared.fault.WorkFault.TheVariants.{Work, Disk, Store, Upgrade}
 use Rattle.worker.specs.declared.recover_fault.RecoverFault.TheVariants.{Worker}

@@ -5,7 +5,7 @@ use Rattle.std.proofs.Common.{refl, sym, ap, subst, arith, lit≤}
 use Rattle.std.specs.Prelude.{Result}
 use Rattle.sector_disk.specs.rules.Medium.{Medium}
 use Rattle.record_replay.specs.rules.Calls.{Giving, Taking, Exchange}
-use Rattle.restart_theorem.specs.Lives.{Act, told_in}
+use Rattle.worker_store.specs.restart_theorem.Lives.{Act, told_in}
 use Rattle.worker.specs.declared.recover_fault.RecoverFault.{RecoverFault}
 use Rattle.worker.specs.laws.OneLife.{IsLifeOver, EndsBy, released_in}
 use Rattle.worker.specs.laws.Uncut.{uncut, LivesGoOnUncut}

@@ -21,12 +21,12 @@ use Rattle.record_replay.specs.declared.fault.ReplayFault.TheVariants as replay
 use Rattle.record_replay.specs.rules.Calls.{Taking, Begun, Tells, Releases, all_taken}
 use Rattle.record_replay.specs.rules.Calls.{last_refused}
 use Rattle.record_replay.specs.rules.Replays.{ReplaysUpTo, RefusesFrom, StopsReplay}
-use Rattle.restart_theorem.specs.Lives.{Inputs}
-use Rattle.restart_theorem.specs.Courses.{Stage, Phase, Shut, at_first}
-use Rattle.restart_theorem.specs.Promises.{Promise}
-use Rattle.restart_theorem.specs.Holds.{DiskImageHolds, KeepsPromise, CarriesPromise, IsBounded}
-use Rattle.restart_theorem.specs.Holds.{KeepsBounds, StaysWithin}
-use Rattle.restart_theorem.specs.Exchanges.{none as no_event}
+use Rattle.worker_store.specs.restart_theorem.Lives.{Inputs}
+use Rattle.worker_store.specs.restart_theorem.Courses.{Stage, Phase, Shut, at_first}
+use Rattle.worker_store.specs.restart_theorem.Promises.{Promise}
+use Rattle.worker_store.specs.restart_theorem.Holds.{DiskImageHolds, KeepsPromise, CarriesPromise, IsBounded}
+use Rattle.worker_store.specs.restart_theorem.Holds.{KeepsBounds, StaysWithin}
+use Rattle.worker_store.specs.restart_theorem.Exchanges.{none as no_event}
 use Rattle.worker_store.specs.rules.BetweenCalls.{IsForetold}
 use Rattle.worker_store.specs.laws.Telling.{ArePerformed, AddsLines}
 use Rattle.worker_store.specs.laws.Reopening.{IsReviving}

@@ -24,9 +24,9 @@ use Rattle.record_replay.specs.rules.Records.{Recorded, given_in}
 use Rattle.record_replay.specs.rules.Replays.{ReplaysUpTo, steps_before, TellsFrom}
 use Rattle.record_replay.proofs.OneRecording.{one_recorded}
 use Rattle.record_replay.proofs.Recordings.{recorded_runs}
-use Rattle.restart_theorem.specs.Lives.{Inputs}
-use Rattle.restart_theorem.specs.Courses.{at_first}
-use Rattle.restart_theorem.specs.Promises.{Promise}
+use Rattle.worker_store.specs.restart_theorem.Lives.{Inputs}
+use Rattle.worker_store.specs.restart_theorem.Courses.{at_first}
+use Rattle.worker_store.specs.restart_theorem.Promises.{Promise}
 use Rattle.worker_store.specs.rules.Savepoints.{Savepoint, places}
 use Rattle.worker_store.specs.rules.Carried.{answers_at, count_at, IsHeldAt}
 use Rattle.worker_store.specs.laws.Reopening.{IsReviving}

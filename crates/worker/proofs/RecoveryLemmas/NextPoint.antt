@@ -19,8 +19,8 @@ use Rattle.state_image.specs.rules.Saving.{saved_of}
 use Rattle.record_replay.specs.declared.fault.ReplayFault.{ReplayFault}
 use Rattle.record_replay.specs.rules.Calls.{Taking}
 use Rattle.record_replay.specs.rules.Replays.{Replays, ReplaysInVain}
-use Rattle.restart_theorem.specs.Promises.{Promise}
-use Rattle.restart_theorem.specs.Holds.{IsBounded}
+use Rattle.worker_store.specs.restart_theorem.Promises.{Promise}
+use Rattle.worker_store.specs.restart_theorem.Holds.{IsBounded}
 use Rattle.worker_store.specs.rules.Savepoints.{Savepoint, IsAtSavepoint, BeginsAtPoint}
 use Rattle.worker_store.specs.rules.Savepoints.{StandsBefore}
 use Rattle.worker_store.specs.laws.Savepoints.{StandsBySaved}

@@ -10,11 +10,11 @@ use Rattle.process_rules.specs.Runs.{Kept, Runs, none as no_step}
 use Rattle.state_image.specs.rules.Saving.{saved_of}
 use Rattle.sector_disk.specs.rules.Medium.{Medium, LeavesOnly}
 use Rattle.record_replay.specs.rules.Calls.{Taking, all_taken}
-use Rattle.restart_theorem.specs.Lives.{Inputs, Event, Opened}
-use Rattle.restart_theorem.specs.Courses.{Stage, at_first, next_stage, stage_after}
-use Rattle.restart_theorem.specs.Promises.{Promise, after, IsOpening}
-use Rattle.restart_theorem.specs.Holds.{DiskImageHolds, KeepsPromise, CarriesPromise, KeepsBounds}
-use Rattle.restart_theorem.specs.Holds.{StaysWithin}
+use Rattle.worker_store.specs.restart_theorem.Lives.{Inputs, Event, Opened}
+use Rattle.worker_store.specs.restart_theorem.Courses.{Stage, at_first, next_stage, stage_after}
+use Rattle.worker_store.specs.restart_theorem.Promises.{Promise, after, IsOpening}
+use Rattle.worker_store.specs.restart_theorem.Holds.{DiskImageHolds, KeepsPromise, CarriesPromise, KeepsBounds}
+use Rattle.worker_store.specs.restart_theorem.Holds.{StaysWithin}
 use Rattle.worker_store.specs.rules.Savepoints.{Savepoint}
 use Rattle.worker_store.specs.rules.BetweenCalls.{IsBetween}
 use Rattle.worker_store.specs.laws.CallEnds.{IsSavedAs}

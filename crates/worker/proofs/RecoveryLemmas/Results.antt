@@ -31,12 +31,12 @@ use Rattle.record_replay.specs.declared.fault.ReplayFault.TheVariants as replay
 use Rattle.record_replay.specs.rules.Calls.{Taking, all_taken}
 use Rattle.record_replay.specs.rules.Records.{Recorded}
 use Rattle.record_replay.specs.rules.Replays.{ReplaysUpTo, StopsReplay}
-use Rattle.restart_theorem.specs.Stands.{StandsFor, IsBlank}
-use Rattle.restart_theorem.specs.Lives.{Inputs}
-use Rattle.restart_theorem.specs.Courses.{Shut}
-use Rattle.restart_theorem.specs.Promises.{Promise}
-use Rattle.restart_theorem.specs.Holds.{HoldsPromise, IsUnopened, KeepsPromise}
-use Rattle.restart_theorem.specs.Holds.{IsBounded, KeepsBounds}
+use Rattle.worker_store.specs.restart_theorem.Stands.{StandsFor, IsBlank}
+use Rattle.worker_store.specs.restart_theorem.Lives.{Inputs}
+use Rattle.worker_store.specs.restart_theorem.Courses.{Shut}
+use Rattle.worker_store.specs.restart_theorem.Promises.{Promise}
+use Rattle.worker_store.specs.restart_theorem.Holds.{HoldsPromise, IsUnopened, KeepsPromise}
+use Rattle.worker_store.specs.restart_theorem.Holds.{IsBounded, KeepsBounds}
 use Rattle.worker_store.specs.laws.Savepoints.{point_of}
 use Rattle.worker_store.proofs.LawLemmas.Carrying.{blank_is_unopened}
 use Rattle.worker_store.proofs.LawLemmas.Points.{is_at_its_savepoint}

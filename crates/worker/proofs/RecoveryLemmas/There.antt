@@ -13,10 +13,10 @@ use Rattle.sector_disk.specs.rules.Medium.{Medium, LeavesOnly}
 use Rattle.sector_disk.proofs.Moments.{goes_on, synced_only, stays_crashed}
 use Rattle.disk_layout.specs.rules.Places.{geometry_of, total_sectors}
 use Rattle.disk_layout.specs.rules.Journal.{Record}
-use Rattle.restart_theorem.specs.Promises.{Promise}
-use Rattle.restart_theorem.specs.Holds.{HoldsPromise, IsUnopened, KeepsPromise}
-use Rattle.restart_theorem.specs.Holds.{IsBounded, KeepsBounds}
-use Rattle.restart_theorem.proofs.Disks.{stands_within}
+use Rattle.worker_store.specs.restart_theorem.Promises.{Promise}
+use Rattle.worker_store.specs.restart_theorem.Holds.{HoldsPromise, IsUnopened, KeepsPromise}
+use Rattle.worker_store.specs.restart_theorem.Holds.{IsBounded, KeepsBounds}
+use Rattle.worker_store.proofs.RestartLemmas.Disks.{stands_within}
 use Rattle.worker_store.specs.rules.Savepoints.{Savepoint, places, IsAtSavepoint, LeavesAll}
 use Rattle.worker_store.specs.laws.Savepoints.{point_of, StandsBySaved}
 use Rattle.worker_store.specs.rules.Carried.{answers_at, IsHeldAt}

@@ -23,9 +23,9 @@ use Rattle.record_replay.proofs.OnTheWay.{goes_on}
 use Rattle.record_replay.proofs.OneRecording.{first_of, split, one_recorded, refused_on_the_way}
 use Rattle.record_replay.proofs.Playing.{due_at, due_before}
 use Rattle.record_replay.proofs.Recordings.{recorded_emit}
-use Rattle.restart_theorem.specs.Stands.{IsNumbered}
-use Rattle.restart_theorem.proofs.NumbersKept.{move_keeps_numbers, runs_keep_numbers}
-use Rattle.restart_theorem.proofs.NumbersKept.{records_keep_numbers}
+use Rattle.worker_store.specs.restart_theorem.Stands.{IsNumbered}
+use Rattle.worker_store.proofs.RestartLemmas.NumbersKept.{move_keeps_numbers, runs_keep_numbers}
+use Rattle.worker_store.proofs.RestartLemmas.NumbersKept.{records_keep_numbers}
 use Rattle.worker.specs.rules.Recoveries.{TellsSome}
 use Rattle.worker_store.proofs.LawLemmas.Carrying.{more_lines}
 

@@ -10,11 +10,11 @@ use Rattle.sector_disk.specs.rules.Medium.{Medium, LeavesOnly}
 use Rattle.sector_disk.proofs.Moments.{leaves_weaker}
 use Rattle.disk_layout.specs.rules.Journal.{Record}
 use Rattle.record_replay.specs.rules.Calls.{Taking, Exchange, Tells, all_taken}
-use Rattle.restart_theorem.specs.Lives.{Inputs}
-use Rattle.restart_theorem.specs.Courses.{at_first}
-use Rattle.restart_theorem.specs.Promises.{Promise}
-use Rattle.restart_theorem.specs.Holds.{DiskImageHolds, KeepsPromise, CarriesPromise, IsBounded}
-use Rattle.restart_theorem.specs.Holds.{KeepsBounds}
+use Rattle.worker_store.specs.restart_theorem.Lives.{Inputs}
+use Rattle.worker_store.specs.restart_theorem.Courses.{at_first}
+use Rattle.worker_store.specs.restart_theorem.Promises.{Promise}
+use Rattle.worker_store.specs.restart_theorem.Holds.{DiskImageHolds, KeepsPromise, CarriesPromise, IsBounded}
+use Rattle.worker_store.specs.restart_theorem.Holds.{KeepsBounds}
 use Rattle.worker_store.specs.rules.Savepoints.{Savepoint, IsAtSavepoint, BeginsAtPoint}
 use Rattle.worker_store.specs.rules.BetweenCalls.{IsForetold}
 use Rattle.worker_store.specs.laws.Telling.{ArePerformed, AddsLines}

@@ -1,9 +1,9 @@
 -- Slices of a worker with a disk, one after another, with checkpoints between them or none.
 use Rattle.std.specs.Prelude.{ℕ, ◌+◌}
 use Rattle.record_replay.specs.rules.Calls.{Giving, Taking}
-use Rattle.ephemeral_worker.specs.declared.now.Now.{Now}
-use Rattle.ephemeral_worker.specs.declared.now.Now.TheVariants as now
-use Rattle.ephemeral_worker.specs.rules.Slices.{Slices}
+use Rattle.record_replay.specs.declared.slices.now.Now.{Now}
+use Rattle.record_replay.specs.declared.slices.now.Now.TheVariants as now
+use Rattle.record_replay.specs.rules.Slices.{Slices}
 use Rattle.worker.specs.rules.Checkpoints.{IsSavedIn}
 use Rattle.worker.specs.rules.DurableValues.{DurableValue, without_disk}
 

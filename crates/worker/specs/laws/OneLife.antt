@@ -9,13 +9,13 @@ use Rattle.sector_disk.specs.rules.Medium.{Medium}
 use Rattle.disk_layout.specs.rules.Places.{geometry_of, total_sectors}
 use Rattle.disk_layout.specs.rules.Unsynced.{most_unsynced}
 use Rattle.record_replay.specs.rules.Calls.{Giving, Taking, Exchange, Asks, Tells, Exchanges}
-use Rattle.restart_theorem.specs.Lives.{Act, SourceSaid, Inputs, Release, OfDisk, told_in}
-use Rattle.restart_theorem.specs.Lives.{Beginning, End, Finished, Stopped, Failed, Life}
-use Rattle.restart_theorem.specs.Courses.{HasDiskFault, HasStopped, HasNotStopped}
-use Rattle.restart_theorem.specs.Promises.{Promise}
-use Rattle.restart_theorem.specs.Holds.{KeepsPromise, KeepsBounds}
-use Rattle.restart_theorem.specs.Between.{IsLivedOn}
-use Rattle.restart_theorem.specs.Exchanges.{was_taken, release_of}
+use Rattle.worker_store.specs.restart_theorem.Lives.{Act, SourceSaid, Inputs, Release, OfDisk, told_in}
+use Rattle.worker_store.specs.restart_theorem.Lives.{Beginning, End, Finished, Stopped, Failed, Life}
+use Rattle.worker_store.specs.restart_theorem.Courses.{HasDiskFault, HasStopped, HasNotStopped}
+use Rattle.worker_store.specs.restart_theorem.Promises.{Promise}
+use Rattle.worker_store.specs.restart_theorem.Holds.{KeepsPromise, KeepsBounds}
+use Rattle.worker_store.specs.restart_theorem.Between.{IsLivedOn}
+use Rattle.worker_store.specs.restart_theorem.Exchanges.{was_taken, release_of}
 use Rattle.worker_store.specs.rules.BetweenCalls.{Foretell}
 use Rattle.worker.specs.declared.recover_fault.RecoverFault.{RecoverFault}
 use Rattle.worker.specs.rules.CallCounts.{CallsForEvents}

@@ -11,16 +11,16 @@ use Rattle.sector_disk.specs.rules.Medium.{Medium}
 use Rattle.disk_layout.specs.rules.Places.{geometry_of, total_sectors}
 use Rattle.disk_layout.specs.rules.Unsynced.{most_unsynced}
 use Rattle.record_replay.specs.rules.Calls.{Giving, Taking, Exchange, Exchanges}
-use Rattle.restart_theorem.specs.Lives.{Act, Slice, Batch, Checkpoint, Upgrade, Reply, Spent}
-use Rattle.restart_theorem.specs.Lives.{Waits, Over}
-use Rattle.restart_theorem.specs.Lives.{Event, Told, Asked, Opened, Ended, told_in, Beginning}
-use Rattle.restart_theorem.specs.Lives.{Inputs}
-use Rattle.restart_theorem.specs.Courses.{at_beginning, stage_after}
-use Rattle.restart_theorem.specs.Promises.{Promise, as_begun, promised, AreKept, IsEnding}
-use Rattle.restart_theorem.specs.Holds.{KeepsPromise, KeepsBounds}
+use Rattle.worker_store.specs.restart_theorem.Lives.{Act, Slice, Batch, Checkpoint, Upgrade, Reply, Spent}
+use Rattle.worker_store.specs.restart_theorem.Lives.{Waits, Over}
+use Rattle.worker_store.specs.restart_theorem.Lives.{Event, Told, Asked, Opened, Ended, told_in, Beginning}
+use Rattle.worker_store.specs.restart_theorem.Lives.{Inputs}
+use Rattle.worker_store.specs.restart_theorem.Courses.{at_beginning, stage_after}
+use Rattle.worker_store.specs.restart_theorem.Promises.{Promise, as_begun, promised, AreKept, IsEnding}
+use Rattle.worker_store.specs.restart_theorem.Holds.{KeepsPromise, KeepsBounds}
 use Rattle.worker_store.specs.laws.Acts.{TakesSteps}
-use Rattle.ephemeral_worker.specs.declared.now.Now.{Now}
-use Rattle.ephemeral_worker.specs.declared.now.Now.TheVariants as now
+use Rattle.record_replay.specs.declared.slices.now.Now.{Now}
+use Rattle.record_replay.specs.declared.slices.now.Now.TheVariants as now
 use Rattle.worker.specs.declared.recover_fault.RecoverFault.{RecoverFault}
 use Rattle.worker.specs.rules.DurableValues.{DurableValue}
 use Rattle.worker.specs.rules.OneLife.{IsOneLife}

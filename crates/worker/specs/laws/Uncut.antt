@@ -9,9 +9,9 @@ use Rattle.sector_disk.specs.rules.Medium.{Medium}
 use Rattle.disk_layout.specs.rules.Places.{geometry_of, total_sectors}
 use Rattle.disk_layout.specs.rules.Unsynced.{most_unsynced}
 use Rattle.record_replay.specs.rules.Calls.{Giving, Taking, Exchange, Exchanges}
-use Rattle.restart_theorem.specs.Lives.{Act, Inputs, OfOutlet, told_in, Beginning, Failed, Life}
-use Rattle.restart_theorem.specs.Promises.{Promise, promised_by, IsLived}
-use Rattle.restart_theorem.specs.Holds.{KeepsPromise, KeepsBounds}
+use Rattle.worker_store.specs.restart_theorem.Lives.{Act, Inputs, OfOutlet, told_in, Beginning, Failed, Life}
+use Rattle.worker_store.specs.restart_theorem.Promises.{Promise, promised_by, IsLived}
+use Rattle.worker_store.specs.restart_theorem.Holds.{KeepsPromise, KeepsBounds}
 use Rattle.worker.specs.declared.recover_fault.RecoverFault.{RecoverFault}
 use Rattle.worker.specs.rules.DurableValues.{DurableValue}
 use Rattle.worker.specs.rules.OneLife.{IsOneLife}

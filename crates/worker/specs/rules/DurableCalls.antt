@@ -12,20 +12,20 @@ use Rattle.record_replay.specs.rules.Calls.{Giving, Taking, Exchange, Exchanges}
 use Rattle.sector_disk.specs.rules.Medium.{Medium}
 use Rattle.state_image.specs.rules.Saving.{saved_of}
 use Rattle.disk_layout.specs.rules.Places.{geometry_of}
-use Rattle.restart_theorem.specs.Lives.{Act, Slice, Checkpoint, Cause, OfDisk, OfSource, OfAnswer}
-use Rattle.restart_theorem.specs.Lives.Act.{Upgrade as upgrading}
-use Rattle.restart_theorem.specs.Lives.{OfOutlet, OfMemory, OfBounds, OfJournal, OfLines}
-use Rattle.restart_theorem.specs.Lives.{Reply, Spent, Waits, Over, Done, Fails, Event, Ended}
-use Rattle.restart_theorem.specs.Courses.{Stage, Open, phase_ended, stage_after}
-use Rattle.restart_theorem.specs.Promises.{Promise, promised, AreKept}
-use Rattle.restart_theorem.specs.Holds.{CarriesPromise, StaysWithin}
-use Rattle.restart_theorem.specs.Exchanges.{AreEvents}
+use Rattle.worker_store.specs.restart_theorem.Lives.{Act, Slice, Checkpoint, Cause, OfDisk, OfSource, OfAnswer}
+use Rattle.worker_store.specs.restart_theorem.Lives.Act.{Upgrade as upgrading}
+use Rattle.worker_store.specs.restart_theorem.Lives.{OfOutlet, OfMemory, OfBounds, OfJournal, OfLines}
+use Rattle.worker_store.specs.restart_theorem.Lives.{Reply, Spent, Waits, Over, Done, Fails, Event, Ended}
+use Rattle.worker_store.specs.restart_theorem.Courses.{Stage, Open, phase_ended, stage_after}
+use Rattle.worker_store.specs.restart_theorem.Promises.{Promise, promised, AreKept}
+use Rattle.worker_store.specs.restart_theorem.Holds.{CarriesPromise, StaysWithin}
+use Rattle.worker_store.specs.restart_theorem.Exchanges.{AreEvents}
 use Rattle.worker_store.specs.rules.BetweenCalls.{IsForetold}
 use Rattle.worker_store.specs.declared.fault.StoreFault.TheVariants as store
-use Rattle.ephemeral_worker.specs.declared.now.Now.{Now}
-use Rattle.ephemeral_worker.specs.declared.now.Now.TheVariants as now
-use Rattle.ephemeral_worker.specs.declared.fault.SliceFault.TheVariants as slice
-use Rattle.ephemeral_worker.specs.declared.fault.Refusal.TheVariants as refusal
+use Rattle.record_replay.specs.declared.slices.now.Now.{Now}
+use Rattle.record_replay.specs.declared.slices.now.Now.TheVariants as now
+use Rattle.record_replay.specs.declared.slices.fault.SliceFault.TheVariants as slice
+use Rattle.record_replay.specs.declared.slices.fault.Refusal.TheVariants as refusal
 use Rattle.worker.specs.declared.fault.WorkFault.{WorkFault}
 use Rattle.worker.specs.declared.fault.WorkFault.TheVariants.{Work, Disk, Store, Upgrade}
 use Rattle.worker.specs.declared.upgrade_fault.UpgradeFault.TheVariants as upgrade

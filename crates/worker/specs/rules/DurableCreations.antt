@@ -17,14 +17,14 @@ use Rattle.disk_layout.specs.declared.geometry.Geometry.{Geometry}
 use Rattle.disk_layout.specs.rules.Places.{geometry_of, total_sectors}
 use Rattle.disk_layout.specs.rules.Unsynced.{most_unsynced}
 use Rattle.disk_layout.specs.rules.Sectors.{HasWorker}
-use Rattle.restart_theorem.specs.Between.{FindsNoWorker}
-use Rattle.restart_theorem.specs.Lives.{Inputs, Opened, Creates}
-use Rattle.restart_theorem.specs.Courses.{at_beginning, next_stage}
-use Rattle.restart_theorem.specs.Promises.{Promise, after, AreKept, OpensAnew}
-use Rattle.restart_theorem.specs.Holds.{IsNothingYet, CarriesPromise, StaysWithin}
+use Rattle.worker_store.specs.restart_theorem.Between.{FindsNoWorker}
+use Rattle.worker_store.specs.restart_theorem.Lives.{Inputs, Opened, Creates}
+use Rattle.worker_store.specs.restart_theorem.Courses.{at_beginning, next_stage}
+use Rattle.worker_store.specs.restart_theorem.Promises.{Promise, after, AreKept, OpensAnew}
+use Rattle.worker_store.specs.restart_theorem.Holds.{IsNothingYet, CarriesPromise, StaysWithin}
 use Rattle.worker_store.specs.declared.fault.StoreFault.TheVariants as store
 use Rattle.worker_store.specs.rules.Creations.{creation_calls}
-use Rattle.ephemeral_worker.specs.rules.Faults.{IsRefusedByWorker}
+use Rattle.record_replay.specs.rules.Faults.{IsRefusedByWorker}
 use Rattle.worker.specs.declared.fault.WorkFault.{WorkFault}
 use Rattle.worker.specs.declared.fault.WorkFault.TheVariants.{Work, Disk, Store}
 use Rattle.worker.specs.rules.CallCounts.{most_creating}

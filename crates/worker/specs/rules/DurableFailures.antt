@@ -12,9 +12,9 @@ use Rattle.sector_disk.specs.rules.Medium.{Medium, spare}
 use Rattle.disk_layout.specs.declared.geometry.Geometry.{Geometry}
 use Rattle.record_replay.specs.rules.Calls.{Giving, Taking, Exchange}
 use Rattle.worker_store.specs.declared.fault.StoreFault.TheVariants as store
-use Rattle.ephemeral_worker.specs.Turns.{working, failing}
-use Rattle.ephemeral_worker.specs.declared.fault.SliceFault.TheVariants as slice
-use Rattle.ephemeral_worker.specs.rules.Faults.{LeadsUpTo, EmitsLast, Fails, IsCause}
+use Rattle.record_replay.specs.Turns.{working, failing}
+use Rattle.record_replay.specs.declared.slices.fault.SliceFault.TheVariants as slice
+use Rattle.record_replay.specs.rules.Faults.{LeadsUpTo, EmitsLast, Fails, IsCause}
 use Rattle.worker.specs.declared.fault.WorkFault.{WorkFault}
 use Rattle.worker.specs.declared.fault.WorkFault.TheVariants.{Work, Disk, Store, Upgrade}
 use Rattle.worker.specs.rules.DurableValues.{DurableValue}

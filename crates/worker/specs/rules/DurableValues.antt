@@ -3,7 +3,7 @@ use Rattle.std.specs.Prelude.{◌≡◌, ℕ, Bool, false, []}
 use Rattle.process.specs.rules.Values.{ProcessValue, IsProcess, waiting_in}
 use Rattle.worker_store.specs.declared.store.WorkerStore.{WorkerStore}
 use Rattle.worker.specs.declared.running_worker.RunningWorker.{RunningWorker}
-use Rattle.ephemeral_worker.specs.rules.Values.{WorkerValue}
+use Rattle.record_replay.specs.rules.Workers.{WorkerValue}
 
 -- Its process, its store, whether the process has come to the last line that was ever told, how
 -- many steps were replayed when it was recovered, and whether a call of it has failed: that is the

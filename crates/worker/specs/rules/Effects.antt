@@ -5,9 +5,9 @@ use Rattle.process.specs.rules.Values.{IsProcess}
 use Rattle.sector_disk.specs.rules.Medium.{Medium, CallsUpTo}
 use Rattle.disk_layout.specs.rules.Places.{total_sectors}
 use Rattle.record_replay.specs.rules.Calls.{Giving, Taking}
-use Rattle.ephemeral_worker.specs.declared.now.Now.{Now}
-use Rattle.ephemeral_worker.specs.declared.now.Now.TheVariants.{Spent}
-use Rattle.ephemeral_worker.specs.rules.Slices.{Slices}
+use Rattle.record_replay.specs.declared.slices.now.Now.{Now}
+use Rattle.record_replay.specs.declared.slices.now.Now.TheVariants.{Spent}
+use Rattle.record_replay.specs.rules.Slices.{Slices}
 use Rattle.worker.specs.declared.fault.WorkFault.{WorkFault}
 use Rattle.worker.specs.declared.recover_fault.RecoverFault.{RecoverFault}
 use Rattle.worker.specs.rules.CallCounts.{most_recovering, most_saving}

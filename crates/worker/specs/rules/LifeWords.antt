@@ -1,8 +1,8 @@
 -- The words of lives that a caller of a worker on its disk names (this project's own). They are
--- defined in `restart_theorem`.
-use Rattle.restart_theorem.specs.Lives.Beginning.{Recovers}
-pub use Rattle.restart_theorem.specs.Lives.{Act, Slice, Batch, Checkpoint, Upgrade, Beginning}
-pub use Rattle.restart_theorem.specs.Lives.{Release}
+-- defined in `worker_store`.
+use Rattle.worker_store.specs.restart_theorem.Lives.Beginning.{Recovers}
+pub use Rattle.worker_store.specs.restart_theorem.Lives.{Act, Slice, Batch, Checkpoint, Upgrade, Beginning}
+pub use Rattle.worker_store.specs.restart_theorem.Lives.{Release}
 
 -- a life that begins by a recovery
 abbrev pub by_recovery : Beginning

@@ -7,10 +7,10 @@ use Rattle.sector_disk.specs.rules.DiskImage.{DiskImage}
 use Rattle.sector_disk.specs.rules.Medium.{Medium}
 use Rattle.record_replay.specs.declared.fault.ReplayFault.TheVariants as replay
 use Rattle.record_replay.specs.rules.Calls.{Giving, Taking}
-use Rattle.restart_theorem.specs.Lives.{Act, Slice, Checkpoint, Upgrade, Cause, OfMemory, OfOutlet}
-use Rattle.restart_theorem.specs.Lives.{Event, Told, Asked, Opened, Ended, Beginning, Creates}
-use Rattle.restart_theorem.specs.Lives.Beginning.{Recovers as recovers}
-use Rattle.ephemeral_worker.specs.declared.now.Now.{Now}
+use Rattle.worker_store.specs.restart_theorem.Lives.{Act, Slice, Checkpoint, Upgrade, Cause, OfMemory, OfOutlet}
+use Rattle.worker_store.specs.restart_theorem.Lives.{Event, Told, Asked, Opened, Ended, Beginning, Creates}
+use Rattle.worker_store.specs.restart_theorem.Lives.Beginning.{Recovers as recovers}
+use Rattle.record_replay.specs.declared.slices.now.Now.{Now}
 use Rattle.worker.specs.declared.fault.WorkFault.{WorkFault}
 use Rattle.worker.specs.declared.recover_fault.RecoverFault.{RecoverFault}
 use Rattle.worker.specs.declared.recover_fault.RecoverFault.TheVariants as recover

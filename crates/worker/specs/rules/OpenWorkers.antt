@@ -8,8 +8,8 @@ use Rattle.process_rules.specs.Runs.{Runs}
 use Rattle.process.specs.rules.Values.{ShowsProcess, waiting_in}
 use Rattle.sector_disk.specs.rules.Medium.{Medium}
 use Rattle.disk_layout.specs.rules.Journal.{Record}
-use Rattle.restart_theorem.specs.Courses.{Stage}
-use Rattle.restart_theorem.specs.Promises.{Promise}
+use Rattle.worker_store.specs.restart_theorem.Courses.{Stage}
+use Rattle.worker_store.specs.restart_theorem.Promises.{Promise}
 use Rattle.worker_store.specs.rules.Savepoints.{Savepoint}
 use Rattle.worker_store.specs.rules.BetweenCalls.{IsBetween}
 use Rattle.worker_store.specs.rules.Carried.{count_at, IsCarried, SyncsAreHeld, AreOnRecord}

@@ -4,7 +4,7 @@ use Rattle.std.specs.List.{AllByRecursion}
 use Rattle.record_replay.specs.declared.fault.OutletFault.{OutletFault}
 use Rattle.record_replay.specs.declared.fault.ReplayFault.TheVariants as replay
 use Rattle.record_replay.specs.rules.Calls.{Taking, Begun, Released, Releases}
-use Rattle.ephemeral_worker.specs.declared.fault.SliceFault.TheVariants as slice
+use Rattle.record_replay.specs.declared.slices.fault.SliceFault.TheVariants as slice
 use Rattle.worker.specs.declared.fault.WorkFault.TheVariants.{Work}
 use Rattle.worker.specs.declared.recover_fault.RecoverFault.{RecoverFault}
 use Rattle.worker.specs.declared.recover_fault.RecoverFault.TheVariants.{Worker, Replay}

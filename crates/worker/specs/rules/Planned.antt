@@ -3,8 +3,8 @@ use Rattle.std.specs.Prelude.{ℕ, zero, suc, Bool, true, false, List, [], ◌�
 use Rattle.std.specs.Prelude.{None, Ok}
 use Rattle.wasi_abi.specs.declared.answer.Answer.{Answer}
 use Rattle.sector_disk.specs.declared.place.Place.{Place}
-use Rattle.restart_theorem.specs.Lives.{Act, Checkpoint, Upgrade, SourceSaid, Inputs}
-use Rattle.restart_theorem.specs.Lives.Act.{Slice as slice}
+use Rattle.worker_store.specs.restart_theorem.Lives.{Act, Checkpoint, Upgrade, SourceSaid, Inputs}
+use Rattle.worker_store.specs.restart_theorem.Lives.Act.{Slice as slice}
 use Rattle.worker.specs.declared.story.life.PlannedAct.{PlannedAct}
 use Rattle.worker.specs.declared.story.life.PlannedAct.TheVariants as planned
 use Rattle.worker.specs.declared.story.life.PlannedLife.{PlannedLife}

@@ -5,9 +5,9 @@ use Rattle.disk_layout.specs.declared.fault.LayoutFault.TheVariants as layout
 use Rattle.journal.specs.declared.fault.JournalFault.TheVariants as journal
 use Rattle.snapshot.specs.declared.fault.SnapshotFault.TheVariants as snapshot
 use Rattle.state_image.specs.declared.restoring.fault.RestoreFault.TheVariants as restore
-use Rattle.machine_loader.specs.rules.Acceptance.{is_want}
+use Rattle.machine.specs.rules.Acceptance.{is_want}
 use Rattle.record_replay.specs.declared.fault.ReplayFault.TheVariants as replay
-use Rattle.ephemeral_worker.specs.declared.fault.SliceFault.TheVariants as slice
+use Rattle.record_replay.specs.declared.slices.fault.SliceFault.TheVariants as slice
 use Rattle.worker_store.specs.declared.read_fault.ReadFault.{ReadFault}
 use Rattle.worker_store.specs.declared.read_fault.ReadFault.TheVariants as read
 use Rattle.worker_store.specs.rules.ReadFaults.{IsOwnOfLayout, IsOwnOfSnapshot, IsOwnOfJournal}

@@ -25,13 +25,13 @@ use Rattle.snapshot.specs.rules.Calls.{AreStores, with_head}
 use Rattle.record_replay.specs.declared.fault.ReplayFault.TheVariants as replay
 use Rattle.record_replay.specs.rules.Calls.{Taking, Begun, Tells, Releases, all_taken}
 use Rattle.record_replay.specs.rules.Replays.{TellsFrom, RefusesFrom}
-use Rattle.restart_theorem.specs.Stands.{StandsFor, IsBlank}
-use Rattle.restart_theorem.specs.Lives.{Inputs, Event, Opened}
-use Rattle.restart_theorem.specs.Courses.{Phase, Shut, Unheard, at_first, stage_after}
-use Rattle.restart_theorem.specs.Promises.{Promise, promised, AreKept}
-use Rattle.restart_theorem.specs.Holds.{IsUnopened, DiskImageHolds, KeepsPromise, CarriesPromise}
-use Rattle.restart_theorem.specs.Holds.{KeepsBounds, StaysWithin}
-use Rattle.restart_theorem.specs.Exchanges.{AreEvents}
+use Rattle.worker_store.specs.restart_theorem.Stands.{StandsFor, IsBlank}
+use Rattle.worker_store.specs.restart_theorem.Lives.{Inputs, Event, Opened}
+use Rattle.worker_store.specs.restart_theorem.Courses.{Phase, Shut, Unheard, at_first, stage_after}
+use Rattle.worker_store.specs.restart_theorem.Promises.{Promise, promised, AreKept}
+use Rattle.worker_store.specs.restart_theorem.Holds.{IsUnopened, DiskImageHolds, KeepsPromise, CarriesPromise}
+use Rattle.worker_store.specs.restart_theorem.Holds.{KeepsBounds, StaysWithin}
+use Rattle.worker_store.specs.restart_theorem.Exchanges.{AreEvents}
 use Rattle.worker_store.specs.rules.BetweenCalls.{IsForetold}
 use Rattle.worker_store.specs.declared.fault.StoreFault.TheVariants as store
 use Rattle.worker.specs.declared.fault.WorkFault.TheVariants.{Disk, Store}

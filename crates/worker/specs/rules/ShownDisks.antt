@@ -6,9 +6,9 @@ use Rattle.wasm_semantics.specs.Acceptance.{IsAccepted}
 use Rattle.wasi_abi.specs.declared.numbers.TheConstants.{NUMBERS_END}
 use Rattle.process_rules.specs.Processes.{ProcessState}
 use Rattle.machine.specs.rules.Offers.{offer}
-use Rattle.machine_loader.specs.declared.fault.ModuleFault.{ModuleFault}
-use Rattle.machine_loader.specs.rules.Acceptance.{IsReported, ModuleFaultDenies}
-use Rattle.machine_loader.specs.rules.Acceptance.{HasNoAcceptedModule}
+use Rattle.machine.specs.declared.from_bytes.fault.ModuleFault.{ModuleFault}
+use Rattle.machine.specs.rules.Acceptance.{IsReported, ModuleFaultDenies}
+use Rattle.machine.specs.rules.Acceptance.{HasNoAcceptedModule}
 use Rattle.process.specs.rules.Values.{ProcessValue, ShowsProcess}
 use Rattle.state_image.specs.rules.ProcessImage.{Saved, IsMarkedOtherwise, process_image}
 use Rattle.state_image.specs.rules.Saving.{saved_of}

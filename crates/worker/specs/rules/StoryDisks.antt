@@ -19,10 +19,10 @@ use Rattle.sector_disk.specs.rules.Memory.{memory_medium, memory_state_of, after
 use Rattle.sector_disk.specs.rules.Trouble.{call_number, troubled}
 use Rattle.disk_layout.specs.rules.Places.{geometry_of, total_sectors}
 use Rattle.disk_layout.specs.rules.Unsynced.{most_unsynced}
-use Rattle.restart_theorem.specs.Courses.{HasStopped}
-use Rattle.restart_theorem.specs.Lives.{Life, Beginning}
-use Rattle.restart_theorem.specs.Promises.{GoesOn}
-use Rattle.restart_theorem.specs.Stands.{StandsFor}
+use Rattle.worker_store.specs.restart_theorem.Courses.{HasStopped}
+use Rattle.worker_store.specs.restart_theorem.Lives.{Life, Beginning}
+use Rattle.worker_store.specs.restart_theorem.Promises.{GoesOn}
+use Rattle.worker_store.specs.restart_theorem.Stands.{StandsFor}
 use Rattle.worker.specs.declared.recover_fault.RecoverFault.{RecoverFault}
 use Rattle.record_replay.specs.declared.refusing.RefusingOutlet.{RefusingOutlet}
 use Rattle.record_replay.specs.rules.Lists.{inner_outlet, until_fault}

@@ -7,7 +7,7 @@ use Rattle.sector_disk.specs.declared.fault.DiskFault.{DiskFault}
 use Rattle.sector_disk.specs.rules.DiskImage.{DiskImage}
 use Rattle.sector_disk.specs.rules.Medium.{Medium}
 use Rattle.disk_layout.specs.rules.Places.{geometry_of, total_sectors}
-use Rattle.restart_theorem.specs.Stands.{StandsFor}
+use Rattle.worker_store.specs.restart_theorem.Stands.{StandsFor}
 use Rattle.worker.specs.declared.fault.WorkFault.TheVariants.{Disk}
 use Rattle.worker.specs.declared.recover_fault.RecoverFault.{RecoverFault}
 use Rattle.worker.specs.declared.recover_fault.RecoverFault.TheVariants.{Worker}

@@ -4,10 +4,10 @@ use Rattle.std.specs.Prelude.{None}
 use Rattle.state_image.specs.rules.ProcessImage.{Saved, process_image}
 use Rattle.record_replay.specs.declared.line_list.NumberedLine.{NumberedLine}
 use Rattle.record_replay.specs.rules.Lists.{numbered}
-use Rattle.restart_theorem.specs.Lives.{Release, told_in}
-use Rattle.restart_theorem.specs.Lives.{Beginning, Recovers, Creates, End, Life}
-use Rattle.restart_theorem.specs.Lives.End.{Finished as finished, Stopped as stopped}
-use Rattle.restart_theorem.specs.Lives.End.{Failed as failed}
+use Rattle.worker_store.specs.restart_theorem.Lives.{Release, told_in}
+use Rattle.worker_store.specs.restart_theorem.Lives.{Beginning, Recovers, Creates, End, Life}
+use Rattle.worker_store.specs.restart_theorem.Lives.End.{Finished as finished, Stopped as stopped}
+use Rattle.worker_store.specs.restart_theorem.Lives.End.{Failed as failed}
 use Rattle.worker.specs.rules.OneLife.{opened_in, IsCauseOf}
 use Rattle.worker.specs.declared.story.report.Opening.{Opening}
 use Rattle.worker.specs.declared.story.report.Opening.TheVariants.{Created, Recovered}

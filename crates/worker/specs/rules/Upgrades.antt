@@ -23,11 +23,11 @@ use Rattle.journal.specs.rules.Packed.{sectors_for}
 use Rattle.journal.specs.rules.Steps.{barrier_calls}
 use Rattle.snapshot.specs.declared.writing.Writing.TheVariants.{Changes}
 use Rattle.snapshot.specs.rules.Calls.{AreStores, with_head}
-use Rattle.restart_theorem.specs.Stands.{StandsFor}
-use Rattle.restart_theorem.specs.Courses.{Stage}
-use Rattle.restart_theorem.specs.Promises.{Promise, HoldsAll}
+use Rattle.worker_store.specs.restart_theorem.Stands.{StandsFor}
+use Rattle.worker_store.specs.restart_theorem.Courses.{Stage}
+use Rattle.worker_store.specs.restart_theorem.Promises.{Promise, HoldsAll}
 use Rattle.worker_store.specs.declared.fault.StoreFault.TheVariants as store
-use Rattle.ephemeral_worker.specs.declared.fault.SliceFault.TheVariants as slice
+use Rattle.record_replay.specs.declared.slices.fault.SliceFault.TheVariants as slice
 use Rattle.worker.specs.declared.fault.WorkFault.{WorkFault}
 use Rattle.worker.specs.declared.fault.WorkFault.TheVariants.{Work, Disk, Store, Upgrade}
 use Rattle.worker.specs.declared.upgrade_fault.UpgradeFault.{UpgradeFault}

@@ -9,8 +9,8 @@ ghost use Rattle.std.specs.Prelude.{◌≡◌, ◌↔◌, ◌-◌, IsTrue, lengt
 ghost use Rattle.sector_disk.specs.rules.FaultDisk.{call_counts_of, disk_below, torn_front_of};
 ghost use Rattle.sector_disk.specs.rules.Memory.{memory_medium, memory_state_of, after_cut};
 ghost use Rattle.sector_disk.specs.rules.Trouble.{call_number};
-ghost use Rattle.restart_theorem.specs.Between.{IsFoundAfterCut};
-ghost use Rattle.restart_theorem.specs.Courses.{HasStopped};
+ghost use Rattle.worker_store.specs.restart_theorem.Between.{IsFoundAfterCut};
+ghost use Rattle.worker_store.specs.restart_theorem.Courses.{HasStopped};
 ghost use Rattle.worker.specs.rules.Planned.{call_at};
 ghost use Rattle.worker.specs.rules.StoryDisks.{IsNextDisk, front_count, reported_end};
 ghost use Rattle.worker.specs.Endings.{IsFoundBehind};

@@ -13,7 +13,7 @@
 //!   last one (`BeginFewCalls`). So it isn't told as stopped at a call that it can't have come to.
 //! - So a life isn't opened, or leaves an act undone, only where its stop came first, or an error
 //!   with its cause. That is the call of the disk that fails, the line that is refused, out of
-//!   memory, an answer that doesn't fit, or a number at its end (`MayEnd` of `restart_theorem`).
+//!   memory, an answer that doesn't fit, or a number at its end (`MayEnd` of `worker_store`).
 //! - Want of memory inside of a life ends that life. `StoryFault` is told only where memory was
 //!   refused to `story` itself.
 //! - How a life ended is what ended its calls (`reported_end`). It is told as finished only where
@@ -36,8 +36,8 @@
 //! In `specs/rules/`: `inputs_of` (`Planned.antt`), what is put into each life; `TellsLife`,
 //! (`Told.antt`), what a report tells of one; `TellsLives` (`StoryDisks.antt`), what it tells of
 //! all, and on which disk they were run; `most_calls` (`CallCounts.antt`). They speak in the words
-//! of `restart_theorem`. What is read off a life is `opened_in` (`specs/laws/OneLife.antt`) and
-//! `told_in` of `restart_theorem`, and `IsCauseOf` says which error is which cause.
+//! of `worker_store`. What is read off a life is `opened_in` (`specs/laws/OneLife.antt`) and
+//! `told_in` of `worker_store`, and `IsCauseOf` says which error is which cause.
 //!
 //! # Who may touch what
 //!

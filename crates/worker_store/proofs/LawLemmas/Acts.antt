@@ -8,15 +8,15 @@ use Rattle.wasi_abi.specs.rules.Configs.{Settings}
 use Rattle.process_rules.specs.Runs.{Kept, Wider, version_after}
 use Rattle.process_rules.specs.Behind.{IsNarrowTo}
 use Rattle.state_image.specs.rules.ProcessImage.{Saved}
-use Rattle.restart_theorem.specs.Lives.{Act, Slice, Batch, Checkpoint, Upgrade, Reply, Spent}
-use Rattle.restart_theorem.specs.Lives.{Waits, Over}
-use Rattle.restart_theorem.specs.Lives.{Done, Fails, Cause, OfDisk, OfSource, OfAnswer, OfOutlet}
-use Rattle.restart_theorem.specs.Lives.{OfMemory, OfBounds, OfJournal, OfLines, Ended}
-use Rattle.restart_theorem.specs.Lives.{kept_by_widening, kept_by_end}
-use Rattle.restart_theorem.specs.Courses.{Phase, Stage, Open, MayFail}
-use Rattle.restart_theorem.specs.Promises.{Promise, after, MayPlead, IsReply, IsCaughtUp, IsOneOf}
-use Rattle.restart_theorem.proofs.Pleas.{batch_fails}
-use Rattle.restart_theorem.proofs.Widenings.{AddsWidening, end_keeps, wider_by}
+use Rattle.worker_store.specs.restart_theorem.Lives.{Act, Slice, Batch, Checkpoint, Upgrade, Reply, Spent}
+use Rattle.worker_store.specs.restart_theorem.Lives.{Waits, Over}
+use Rattle.worker_store.specs.restart_theorem.Lives.{Done, Fails, Cause, OfDisk, OfSource, OfAnswer, OfOutlet}
+use Rattle.worker_store.specs.restart_theorem.Lives.{OfMemory, OfBounds, OfJournal, OfLines, Ended}
+use Rattle.worker_store.specs.restart_theorem.Lives.{kept_by_widening, kept_by_end}
+use Rattle.worker_store.specs.restart_theorem.Courses.{Phase, Stage, Open, MayFail}
+use Rattle.worker_store.specs.restart_theorem.Promises.{Promise, after, MayPlead, IsReply, IsCaughtUp, IsOneOf}
+use Rattle.worker_store.proofs.RestartLemmas.Pleas.{batch_fails}
+use Rattle.worker_store.proofs.RestartLemmas.Widenings.{AddsWidening, end_keeps, wider_by}
 use Rattle.worker_store.specs.laws.Acts.{TakesSteps}
 use Rattle.worker_store.specs.laws.Acts.{IsSaving, ShowsItsVersion, SavesWith, keeping_more}
 use Rattle.worker_store.specs.laws.Acts.{CheckpointsSave, SavingEndsAlike, UpgradesWiden}

@@ -7,10 +7,10 @@ use Rattle.state_image.specs.rules.ProcessImage.{Saved}
 use Rattle.sector_disk.specs.rules.DiskImage.{DiskImage}
 use Rattle.sector_disk.specs.rules.Medium.{Medium}
 use Rattle.sector_disk.proofs.Moments.{leaves_weaker}
-use Rattle.restart_theorem.specs.Stands.{IsBlank}
-use Rattle.restart_theorem.specs.Lives.{Opened}
-use Rattle.restart_theorem.specs.Promises.{Promise, after}
-use Rattle.restart_theorem.specs.Holds.{IsNothingYet, DiskImageHolds}
+use Rattle.worker_store.specs.restart_theorem.Stands.{IsBlank}
+use Rattle.worker_store.specs.restart_theorem.Lives.{Opened}
+use Rattle.worker_store.specs.restart_theorem.Promises.{Promise, after}
+use Rattle.worker_store.specs.restart_theorem.Holds.{IsNothingYet, DiskImageHolds}
 use Rattle.worker_store.specs.rules.Savepoints.{BeginsAtPoint}
 use Rattle.worker_store.specs.rules.Carried.{IsHeldAt}
 use Rattle.worker_store.specs.laws.Carried.{PromisesNoMore}

@@ -14,17 +14,17 @@ use Rattle.process_rules.proofs.Growing.{runs_count}
 use Rattle.process_rules.proofs.Quiet.{runs_join}
 use Rattle.process.specs.rules.Stops.{LacksNumbers}
 use Rattle.state_image.specs.rules.ProcessImage.{Saved}
-use Rattle.restart_theorem.specs.Lives.{Act, Slice, Batch, Checkpoint, Upgrade, Spent, Waits, Over}
-use Rattle.restart_theorem.specs.Lives.{Done, Ended, Reply}
-use Rattle.restart_theorem.specs.Lives.{Fails, Cause, OfDisk, OfSource, OfAnswer, OfOutlet}
-use Rattle.restart_theorem.specs.Lives.{OfMemory, OfBounds, OfJournal, OfLines, kept_by_end}
-use Rattle.restart_theorem.specs.Courses.{Stage, Open, NoneThere, MayFail}
-use Rattle.restart_theorem.specs.Courses.{IsNextAct, IsInBatch, HasLastAsked}
-use Rattle.restart_theorem.specs.Promises.{Promise, after, IsAt, IsAtBound, HasLastLines}
-use Rattle.restart_theorem.specs.Promises.{IsCaughtUp, IsOneOf, IsReply, MayPlead, MayWiden}
-use Rattle.restart_theorem.specs.Promises.{fuel_of, IsEnding}
+use Rattle.worker_store.specs.restart_theorem.Lives.{Act, Slice, Batch, Checkpoint, Upgrade, Spent, Waits, Over}
+use Rattle.worker_store.specs.restart_theorem.Lives.{Done, Ended, Reply}
+use Rattle.worker_store.specs.restart_theorem.Lives.{Fails, Cause, OfDisk, OfSource, OfAnswer, OfOutlet}
+use Rattle.worker_store.specs.restart_theorem.Lives.{OfMemory, OfBounds, OfJournal, OfLines, kept_by_end}
+use Rattle.worker_store.specs.restart_theorem.Courses.{Stage, Open, NoneThere, MayFail}
+use Rattle.worker_store.specs.restart_theorem.Courses.{IsNextAct, IsInBatch, HasLastAsked}
+use Rattle.worker_store.specs.restart_theorem.Promises.{Promise, after, IsAt, IsAtBound, HasLastLines}
+use Rattle.worker_store.specs.restart_theorem.Promises.{IsCaughtUp, IsOneOf, IsReply, MayPlead, MayWiden}
+use Rattle.worker_store.specs.restart_theorem.Promises.{fuel_of, IsEnding}
 use Rattle.worker_store.specs.laws.Acts.{TakesSteps}
-use Rattle.restart_theorem.proofs.Pleas.{batch_fails}
+use Rattle.worker_store.proofs.RestartLemmas.Pleas.{batch_fails}
 use Rattle.worker_store.proofs.LawLemmas.Underway.{among_first}
 use Rattle.worker_store.specs.laws.Underway.{IsInItsSlice}
 use Rattle.worker_store.specs.laws.CallEnds.{IsSavedAs, SpentSlicesEnd, EndedSlicesEnd}

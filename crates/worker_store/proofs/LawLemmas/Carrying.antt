@@ -20,14 +20,14 @@ use Rattle.disk_layout.specs.rules.Journal.{Record}
 use Rattle.journal.specs.rules.State.{JournalState}
 use Rattle.record_replay.specs.rules.Records.{Recorded, none, given_in}
 use Rattle.record_replay.proofs.Recordings.{recorded_count, recorded_emit, recorded_join}
-use Rattle.restart_theorem.specs.Stands.{IsBlank}
+use Rattle.worker_store.specs.restart_theorem.Stands.{IsBlank}
 use Rattle.process_rules.specs.Behind.{IsNarrowTo}
 use Rattle.record_replay.proofs.OneRecording.{one_recorded}
-use Rattle.restart_theorem.proofs.Fronts.{none_widens, up_to_front}
-use Rattle.restart_theorem.specs.Lives.{Checkpoint, Done, Ended}
-use Rattle.restart_theorem.specs.Promises.{Promise, after, HoldsAll}
-use Rattle.restart_theorem.specs.Holds.{HoldsPromise, IsUnopened, DiskImageHolds, CarriesPromise}
-use Rattle.restart_theorem.proofs.Disks.{blank_stands_for_none}
+use Rattle.worker_store.proofs.RestartLemmas.Fronts.{none_widens, up_to_front}
+use Rattle.worker_store.specs.restart_theorem.Lives.{Checkpoint, Done, Ended}
+use Rattle.worker_store.specs.restart_theorem.Promises.{Promise, after, HoldsAll}
+use Rattle.worker_store.specs.restart_theorem.Holds.{HoldsPromise, IsUnopened, DiskImageHolds, CarriesPromise}
+use Rattle.worker_store.proofs.RestartLemmas.Disks.{blank_stands_for_none}
 use Rattle.worker_store.specs.rules.Savepoints.{Savepoint, IsAtSavepoint, IsAtFront, BeginsAtPoint}
 use Rattle.worker_store.specs.laws.Savepoints.{point_of, StandsBySaved}
 use Rattle.worker_store.specs.rules.Carried.{answers_at, count_at, IsHeldAt, IsCarried}

@@ -19,8 +19,8 @@ use Rattle.journal.proofs.RunLemmas.{all_bytes}
 use Rattle.journal.proofs.RecordLemmas.{scan_of}
 use Rattle.record_replay.specs.rules.Records.{Recorded, none, more, given_in}
 use Rattle.record_replay.proofs.Recordings.{recorded_join}
-use Rattle.restart_theorem.specs.Stands.{IsNumbered}
-use Rattle.restart_theorem.proofs.NumbersKept.{records_keep_numbers}
+use Rattle.worker_store.specs.restart_theorem.Stands.{IsNumbered}
+use Rattle.worker_store.proofs.RestartLemmas.NumbersKept.{records_keep_numbers}
 use Rattle.worker_store.specs.rules.Savepoints.{Savepoint, places, IsAtSavepoint}
 use Rattle.worker_store.specs.laws.Savepoints.{point_of}
 use Rattle.worker_store.specs.laws.Barriers.{RecordedOnce, BarrierLeavesFront, BarrierLeavesAll}

@@ -15,11 +15,11 @@ use Rattle.process_rules.proofs.Quiet.{runs_join}
 use Rattle.disk_layout.specs.rules.Journal.{Record}
 use Rattle.record_replay.specs.rules.Records.{Recorded, none, more, given_in}
 use Rattle.record_replay.specs.rules.Calls.{Exchange, Tells, all_taken}
-use Rattle.restart_theorem.specs.Lives.{Event}
-use Rattle.restart_theorem.specs.Courses.{Stage, stage_after}
-use Rattle.restart_theorem.specs.Exchanges.{AreEvents, none as no_exchange, told, asked}
-use Rattle.restart_theorem.specs.Promises.{Promise, TakesLast}
-use Rattle.restart_theorem.proofs.Fronts.{reached_counts}
+use Rattle.worker_store.specs.restart_theorem.Lives.{Event}
+use Rattle.worker_store.specs.restart_theorem.Courses.{Stage, stage_after}
+use Rattle.worker_store.specs.restart_theorem.Exchanges.{AreEvents, none as no_exchange, told, asked}
+use Rattle.worker_store.specs.restart_theorem.Promises.{Promise, TakesLast}
+use Rattle.worker_store.proofs.RestartLemmas.Fronts.{reached_counts}
 use Rattle.worker_store.specs.rules.Savepoints.{Savepoint}
 use Rattle.worker_store.specs.rules.Carried.{answers_at, count_at, IsHeldAt}
 use Rattle.worker_store.specs.laws.Pieces.{AreDone}

@@ -1,12 +1,12 @@
 -- Parts of a call, one after another.
 use Rattle.std.proofs.Common.{Bool, List, [], ◌∷◌, ◌++◌, sym, ap, ◌∙◌, subst}
 use Rattle.record_replay.specs.rules.Calls.{Exchange, Asks, Tells}
-use Rattle.restart_theorem.specs.Lives.{SourceSaid, Event}
-use Rattle.restart_theorem.specs.Courses.{Stage, without_first}
-use Rattle.restart_theorem.specs.Courses.{next_stage, stage_after}
-use Rattle.restart_theorem.specs.Promises.{after, promised, AreKept, IsKept}
-use Rattle.restart_theorem.specs.Exchanges.{AreEvents, none, told, asked}
-use Rattle.restart_theorem.proofs.Promised.{calls_join}
+use Rattle.worker_store.specs.restart_theorem.Lives.{SourceSaid, Event}
+use Rattle.worker_store.specs.restart_theorem.Courses.{Stage, without_first}
+use Rattle.worker_store.specs.restart_theorem.Courses.{next_stage, stage_after}
+use Rattle.worker_store.specs.restart_theorem.Promises.{after, promised, AreKept, IsKept}
+use Rattle.worker_store.specs.restart_theorem.Exchanges.{AreEvents, none, told, asked}
+use Rattle.worker_store.proofs.RestartLemmas.Promised.{calls_join}
 use Rattle.worker_store.specs.rules.BetweenCalls.{Foretell, IsForetold}
 use Rattle.worker_store.specs.laws.Pieces.{PartsJoin, PartsAreForetold, EndsJoin}
 

@@ -17,7 +17,7 @@ use Rattle.disk_layout.specs.rules.Sectors.{HasWorker, HoldsProcessImage}
 use Rattle.disk_layout.specs.rules.Journal.{Record, scan}
 use Rattle.wasi_abi.specs.rules.Versions.{version_number}
 use Rattle.record_replay.specs.rules.Records.{Recorded, none, more, given_in}
-use Rattle.restart_theorem.specs.Stands.{ShowsNoneLater}
+use Rattle.worker_store.specs.restart_theorem.Stands.{ShowsNoneLater}
 use Rattle.worker_store.specs.rules.Savepoints.{Savepoint, IsAtSavepoint}
 use Rattle.worker_store.specs.laws.Savepoints.{StandsBySaved, IsAtItsSavepoint, PointStands}
 use Rattle.worker_store.specs.laws.Savepoints.{ReadAlikeIsAtSavepoint, PointStandsAlone}

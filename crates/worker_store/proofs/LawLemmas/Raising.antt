@@ -30,10 +30,10 @@ use Rattle.journal.specs.rules.State.{JournalState}
 use Rattle.state_image.specs.rules.ProcessImage.{Saved}
 use Rattle.record_replay.specs.rules.Records.{given_in}
 use Rattle.record_replay.proofs.Recordings.{recorded_runs, recorded_join}
-use Rattle.restart_theorem.specs.Lives.{Act, Reply, Ended, kept_of_said}
-use Rattle.restart_theorem.specs.Promises.{Promise, after, saved_by, synced_by}
-use Rattle.restart_theorem.proofs.Fronts.{LeadsOn, fronts_lead_on, reached_counts, none_widens}
-use Rattle.restart_theorem.proofs.Fronts.{up_to_behind, said_widens_none}
+use Rattle.worker_store.specs.restart_theorem.Lives.{Act, Reply, Ended, kept_of_said}
+use Rattle.worker_store.specs.restart_theorem.Promises.{Promise, after, saved_by, synced_by}
+use Rattle.worker_store.proofs.RestartLemmas.Fronts.{LeadsOn, fronts_lead_on, reached_counts, none_widens}
+use Rattle.worker_store.proofs.RestartLemmas.Fronts.{up_to_behind, said_widens_none}
 use Rattle.worker_store.specs.rules.Carried.{answers_at, count_at, IsCarried, SyncsAreHeld}
 use Rattle.worker_store.specs.rules.Savepoints.{Savepoint}
 use Rattle.worker_store.specs.laws.Raised.{AllSyncsAreHeld, QuietSyncsAreHeld, AnsweredSyncsAreHeld}

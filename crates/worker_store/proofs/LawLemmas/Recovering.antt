@@ -19,10 +19,10 @@ use Rattle.disk_layout.specs.rules.Journal.{Record}
 use Rattle.record_replay.specs.rules.Records.{Recorded, given_in}
 use Rattle.record_replay.proofs.Recordings.{recorded_runs}
 use Rattle.process_rules.specs.Behind.{IsNarrowTo}
-use Rattle.restart_theorem.proofs.Fronts.{reached_counts, up_to_front}
-use Rattle.restart_theorem.specs.Lives.{Opened}
-use Rattle.restart_theorem.specs.Promises.{Promise, after, HoldsAll}
-use Rattle.restart_theorem.specs.Holds.{HoldsPromise, DiskImageHolds}
+use Rattle.worker_store.proofs.RestartLemmas.Fronts.{reached_counts, up_to_front}
+use Rattle.worker_store.specs.restart_theorem.Lives.{Opened}
+use Rattle.worker_store.specs.restart_theorem.Promises.{Promise, after, HoldsAll}
+use Rattle.worker_store.specs.restart_theorem.Holds.{HoldsPromise, DiskImageHolds}
 use Rattle.worker_store.specs.rules.Savepoints.{Savepoint, IsAtSavepoint, BeginsAtPoint}
 use Rattle.worker_store.specs.laws.Savepoints.{StandsBySaved}
 use Rattle.worker_store.specs.rules.Carried.{answers_at, count_at, IsHeldAt}

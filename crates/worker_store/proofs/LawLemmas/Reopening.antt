@@ -16,10 +16,10 @@ use Rattle.process_rules.specs.Behind.{IsNarrowTo}
 use Rattle.process_rules.specs.Runs.{Runs, none}
 use Rattle.process_rules.proofs.Growing.{start_counts}
 use Rattle.record_replay.specs.rules.Calls.{Tells, all_taken}
-use Rattle.restart_theorem.specs.Lives.{Release, Told}
-use Rattle.restart_theorem.specs.Courses.{Stage, Unheard, first_taken, next_stage}
-use Rattle.restart_theorem.specs.Courses.{IsLast, IsToldIn, ComesAfter, phase_refused}
-use Rattle.restart_theorem.specs.Promises.{Promise, after, HoldsAll, IsTelling, TakesLast}
+use Rattle.worker_store.specs.restart_theorem.Lives.{Release, Told}
+use Rattle.worker_store.specs.restart_theorem.Courses.{Stage, Unheard, first_taken, next_stage}
+use Rattle.worker_store.specs.restart_theorem.Courses.{IsLast, IsToldIn, ComesAfter, phase_refused}
+use Rattle.worker_store.specs.restart_theorem.Promises.{Promise, after, HoldsAll, IsTelling, TakesLast}
 use Rattle.worker_store.specs.rules.BetweenCalls.{IsForetold}
 use Rattle.worker_store.specs.laws.Telling.{ArePerformed}
 use Rattle.worker_store.specs.laws.Reopening.{IsReviving, LinesAreRetold, LinesAreRetoldInVain}

@@ -15,9 +15,9 @@ use Rattle.sector_disk.proofs.Moments.{goes_on, weaker, leaves_only, leaves_weak
 use Rattle.disk_layout.specs.rules.Journal.{Record}
 use Rattle.journal.specs.rules.State.{JournalState}
 use Rattle.record_replay.specs.rules.Records.{Recorded, none}
-use Rattle.restart_theorem.specs.Lives.{Act, Checkpoint, Done, Fails, Cause, Ended}
-use Rattle.restart_theorem.specs.Promises.{Promise, after, synced_by}
-use Rattle.restart_theorem.specs.Holds.{HoldsPromise, DiskImageHolds, CarriesPromise}
+use Rattle.worker_store.specs.restart_theorem.Lives.{Act, Checkpoint, Done, Fails, Cause, Ended}
+use Rattle.worker_store.specs.restart_theorem.Promises.{Promise, after, synced_by}
+use Rattle.worker_store.specs.restart_theorem.Holds.{HoldsPromise, DiskImageHolds, CarriesPromise}
 use Rattle.worker_store.specs.rules.Savepoints.{Savepoint, IsAtSavepoint, IsAtFront, BeginsAtPoint}
 use Rattle.worker_store.specs.rules.Savepoints.{IsAtFrontOrNext}
 use Rattle.worker_store.specs.laws.Acts.{SavesWith, keeping_more}

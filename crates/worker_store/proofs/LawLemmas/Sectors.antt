@@ -12,7 +12,7 @@ use Rattle.disk_layout.specs.rules.Journal.{scan, records_at}
 use Rattle.snapshot.proofs.AreaLemmas.{bytes_same, newest_moves, area_in}
 use Rattle.journal.proofs.PackedLemmas.{payloads_same}
 use Rattle.journal.specs.rules.Steps.{ShowsNoneAfter}
-use Rattle.restart_theorem.specs.Stands.{ShowsNoneLater}
+use Rattle.worker_store.specs.restart_theorem.Stands.{ShowsNoneLater}
 
 abbrev pub SameSector : DiskImage → DiskImage → ℕ → Type 0
 SameSector old new k = sector_at new k ≡ sector_at old k

@@ -17,15 +17,15 @@ use Rattle.sector_disk.specs.rules.DiskImage.{DiskImage}
 use Rattle.sector_disk.specs.rules.Medium.{Medium, LeavesOnly}
 use Rattle.sector_disk.proofs.Moments.{started, leaves_only}
 use Rattle.record_replay.specs.rules.Calls.{Exchange}
-use Rattle.restart_theorem.specs.Stands.{StandsFor}
-use Rattle.restart_theorem.specs.Lives.{SourceSaid, Release, Event, Told, Asked, Ended}
-use Rattle.restart_theorem.specs.Lives.{kept_of_said}
-use Rattle.restart_theorem.specs.Courses.{Stage, next_stage, stage_after}
-use Rattle.restart_theorem.specs.Promises.{Promise, after, promised, HoldsAll}
-use Rattle.restart_theorem.specs.Holds.{HoldsPromise, IsUnopened, DiskImageHolds}
+use Rattle.worker_store.specs.restart_theorem.Stands.{StandsFor}
+use Rattle.worker_store.specs.restart_theorem.Lives.{SourceSaid, Release, Event, Told, Asked, Ended}
+use Rattle.worker_store.specs.restart_theorem.Lives.{kept_of_said}
+use Rattle.worker_store.specs.restart_theorem.Courses.{Stage, next_stage, stage_after}
+use Rattle.worker_store.specs.restart_theorem.Promises.{Promise, after, promised, HoldsAll}
+use Rattle.worker_store.specs.restart_theorem.Holds.{HoldsPromise, IsUnopened, DiskImageHolds}
 use Rattle.record_replay.proofs.Recordings.{recorded_count}
-use Rattle.restart_theorem.proofs.Fronts.{reached_counts, up_to_behind, said_widens_none}
-use Rattle.restart_theorem.specs.Exchanges.{was_taken, release_of, AreEvents, none, told, asked}
+use Rattle.worker_store.proofs.RestartLemmas.Fronts.{reached_counts, up_to_behind, said_widens_none}
+use Rattle.worker_store.specs.restart_theorem.Exchanges.{was_taken, release_of, AreEvents, none, told, asked}
 use Rattle.worker_store.specs.rules.Carried.{answers_at, count_at, SyncsAreHeld}
 use Rattle.worker_store.specs.laws.Carried.{PromisesNoMore}
 use Rattle.worker_store.specs.laws.Raised.{MoreCarries}

@@ -16,16 +16,16 @@ use Rattle.process_rules.specs.Processes.{ProcessState, Guest}
 use Rattle.process_rules.specs.Runs.{Kept, Given, Runs, none, take as takes, Reaches}
 use Rattle.process_rules.proofs.Quiet.{runs_join}
 use Rattle.process_rules.proofs.Growing.{runs_count, runs_emit, move_counts, move_emits}
-use Rattle.restart_theorem.specs.Lives.{Act, Slice, Batch, Checkpoint, Upgrade, SourceSaid}
-use Rattle.restart_theorem.specs.Lives.{Release, Told, Asked}
-use Rattle.restart_theorem.specs.Lives.{OfOutlet, kept_of_said}
-use Rattle.restart_theorem.specs.Courses.{Phase, Shut, Unheard, Open, NoneThere, Broken, Closed}
-use Rattle.restart_theorem.specs.Courses.{Stage, next_stage, first_taken, phase_asked, HasLastAsked}
-use Rattle.restart_theorem.specs.Courses.{phase_refused, IsToldIn, IsAskedIn}
-use Rattle.restart_theorem.specs.Courses.{ComesAfter, AreToldBy}
-use Rattle.restart_theorem.specs.Courses.{IsWithinSlice}
-use Rattle.restart_theorem.specs.Promises.{Promise, after, fuel_of, IsOneOf, IsTelling}
-use Rattle.restart_theorem.proofs.LastQuestions.{told_late}
+use Rattle.worker_store.specs.restart_theorem.Lives.{Act, Slice, Batch, Checkpoint, Upgrade, SourceSaid}
+use Rattle.worker_store.specs.restart_theorem.Lives.{Release, Told, Asked}
+use Rattle.worker_store.specs.restart_theorem.Lives.{OfOutlet, kept_of_said}
+use Rattle.worker_store.specs.restart_theorem.Courses.{Phase, Shut, Unheard, Open, NoneThere, Broken, Closed}
+use Rattle.worker_store.specs.restart_theorem.Courses.{Stage, next_stage, first_taken, phase_asked, HasLastAsked}
+use Rattle.worker_store.specs.restart_theorem.Courses.{phase_refused, IsToldIn, IsAskedIn}
+use Rattle.worker_store.specs.restart_theorem.Courses.{ComesAfter, AreToldBy}
+use Rattle.worker_store.specs.restart_theorem.Courses.{IsWithinSlice}
+use Rattle.worker_store.specs.restart_theorem.Promises.{Promise, after, fuel_of, IsOneOf, IsTelling}
+use Rattle.worker_store.proofs.RestartLemmas.LastQuestions.{told_late}
 use Rattle.worker_store.specs.laws.Acts.{TakesSteps, most_held}
 use Rattle.worker_store.specs.laws.Underway.{IsInItsSlice, IsAtQuestion, HasLinesLeft}
 use Rattle.worker_store.specs.laws.Underway.{IsBroken, LinesAreLeft, LeftIsBroken}

@@ -5,10 +5,10 @@ use Rattle.wasi_abi.specs.rules.Configs.{Settings}
 use Rattle.process_rules.specs.Runs.{Kept, Wider, version_after}
 use Rattle.process_rules.specs.Behind.{IsNarrowTo}
 use Rattle.state_image.specs.rules.ProcessImage.{Saved}
-use Rattle.restart_theorem.specs.Lives.{Act, Slice, Batch, Checkpoint, Upgrade, Reply, Cause}
-use Rattle.restart_theorem.specs.Lives.{Ended}
-use Rattle.restart_theorem.specs.Courses.{Stage, Open, MayFail}
-use Rattle.restart_theorem.specs.Promises.{Promise, after, MayPlead}
+use Rattle.worker_store.specs.restart_theorem.Lives.{Act, Slice, Batch, Checkpoint, Upgrade, Reply, Cause}
+use Rattle.worker_store.specs.restart_theorem.Lives.{Ended}
+use Rattle.worker_store.specs.restart_theorem.Courses.{Stage, Open, MayFail}
+use Rattle.worker_store.specs.restart_theorem.Promises.{Promise, after, MayPlead}
 
 -- An act that takes steps, in which lines are told and questions asked.
 abbrev pub TakesSteps : Act → Type 0

@@ -4,10 +4,10 @@ use Rattle.wasm_syntax.specs.declared.module.Module.{Module}
 use Rattle.wasi_abi.specs.rules.Configs.{Settings}
 use Rattle.state_image.specs.rules.ProcessImage.{Saved}
 use Rattle.sector_disk.specs.rules.Medium.{Medium, LeavesOnly}
-use Rattle.restart_theorem.specs.Stands.{IsBlank}
-use Rattle.restart_theorem.specs.Lives.{Opened}
-use Rattle.restart_theorem.specs.Promises.{Promise, after}
-use Rattle.restart_theorem.specs.Holds.{IsNothingYet, CarriesPromise}
+use Rattle.worker_store.specs.restart_theorem.Stands.{IsBlank}
+use Rattle.worker_store.specs.restart_theorem.Lives.{Opened}
+use Rattle.worker_store.specs.restart_theorem.Promises.{Promise, after}
+use Rattle.worker_store.specs.restart_theorem.Holds.{IsNothingYet, CarriesPromise}
 use Rattle.worker_store.specs.rules.Savepoints.{Savepoint, IsAtSavepoint, BeginsAtPoint, LeavesAll}
 use Rattle.worker_store.specs.rules.Carried.{IsHeldAt}
 

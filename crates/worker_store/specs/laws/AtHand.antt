@@ -11,8 +11,8 @@ use Rattle.process.specs.rules.Values.{ProcessValue, ShowsProcess, IsProcess}
 use Rattle.state_image.specs.rules.Saving.{saved_of}
 use Rattle.disk_layout.specs.rules.Journal.{Record, TakesRecords}
 use Rattle.record_replay.specs.rules.Records.{Recorded}
-use Rattle.restart_theorem.specs.Stands.{IsNumbered}
-use Rattle.restart_theorem.specs.Promises.{Promise}
+use Rattle.worker_store.specs.restart_theorem.Stands.{IsNumbered}
+use Rattle.worker_store.specs.restart_theorem.Promises.{Promise}
 use Rattle.worker_store.specs.rules.Savepoints.{Savepoint, IsNextPoint}
 use Rattle.worker_store.specs.laws.CallEnds.{IsSavedAs}
 use Rattle.worker_store.specs.rules.Carried.{answers_at}

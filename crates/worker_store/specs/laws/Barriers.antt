@@ -10,7 +10,7 @@ use Rattle.disk_layout.specs.rules.Places.{geometry_of}
 use Rattle.disk_layout.specs.rules.Journal.{Record}
 use Rattle.journal.specs.rules.Steps.{AppendsFront, HoldsRecords, AllRecordsFit}
 use Rattle.record_replay.specs.rules.Records.{Recorded, given_in}
-use Rattle.restart_theorem.specs.Stands.{IsNumbered, StandsFor}
+use Rattle.worker_store.specs.restart_theorem.Stands.{IsNumbered, StandsFor}
 use Rattle.worker_store.specs.rules.Savepoints.{Savepoint, places, IsAtSavepoint, IsAtFront}
 use Rattle.worker_store.specs.laws.Savepoints.{point_of, StandsBySaved}
 

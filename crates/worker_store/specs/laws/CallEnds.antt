@@ -13,11 +13,11 @@ use Rattle.process_rules.specs.Runs.{Kept, Runs}
 use Rattle.process.specs.rules.Stops.{IsBeyond}
 use Rattle.disk_layout.specs.rules.Journal.{TakesRecords}
 use Rattle.state_image.specs.rules.ProcessImage.{Saved, SavedShowsProcess}
-use Rattle.restart_theorem.specs.Lives.{Act, Reply, Spent, Waits, Over, Done}
-use Rattle.restart_theorem.specs.Lives.{Fails, Cause, OfDisk, OfBounds, Ended, kept_by_end}
-use Rattle.restart_theorem.specs.Courses.{Stage, Phase, Open, NoneThere, MayFail, next_stage}
-use Rattle.restart_theorem.specs.Courses.{IsInBatch, HasLastAsked, phase_ended}
-use Rattle.restart_theorem.specs.Promises.{Promise, after, fuel_of, MayPlead, IsEnding}
+use Rattle.worker_store.specs.restart_theorem.Lives.{Act, Reply, Spent, Waits, Over, Done}
+use Rattle.worker_store.specs.restart_theorem.Lives.{Fails, Cause, OfDisk, OfBounds, Ended, kept_by_end}
+use Rattle.worker_store.specs.restart_theorem.Courses.{Stage, Phase, Open, NoneThere, MayFail, next_stage}
+use Rattle.worker_store.specs.restart_theorem.Courses.{IsInBatch, HasLastAsked, phase_ended}
+use Rattle.worker_store.specs.restart_theorem.Promises.{Promise, after, fuel_of, MayPlead, IsEnding}
 use Rattle.worker_store.specs.laws.Acts.{TakesSteps, SavesWith, ShowsItsVersion}
 use Rattle.worker_store.specs.laws.Underway.{IsUnderWay, IsBroken}
 use Rattle.worker_store.specs.rules.BetweenCalls.{IsBetween}

@@ -10,12 +10,12 @@ use Rattle.sector_disk.specs.rules.Medium.{Medium, LeavesOnly}
 use Rattle.disk_layout.specs.rules.Sectors.{HasMarks}
 use Rattle.disk_layout.specs.rules.Journal.{Record}
 use Rattle.journal.specs.rules.State.{JournalState}
-use Rattle.restart_theorem.specs.Stands.{IsBlank}
-use Rattle.restart_theorem.specs.Lives.{Act, Done, Opened, Ended}
-use Rattle.restart_theorem.specs.Courses.{Stage, Shut, IsLast}
-use Rattle.restart_theorem.specs.Promises.{Promise, after, IsAt, TakesLast, IsOpening}
-use Rattle.restart_theorem.specs.Holds.{HoldsPromise, IsNothingYet, DiskImageHolds, KeepsPromise}
-use Rattle.restart_theorem.specs.Holds.{CarriesPromise}
+use Rattle.worker_store.specs.restart_theorem.Stands.{IsBlank}
+use Rattle.worker_store.specs.restart_theorem.Lives.{Act, Done, Opened, Ended}
+use Rattle.worker_store.specs.restart_theorem.Courses.{Stage, Shut, IsLast}
+use Rattle.worker_store.specs.restart_theorem.Promises.{Promise, after, IsAt, TakesLast, IsOpening}
+use Rattle.worker_store.specs.restart_theorem.Holds.{HoldsPromise, IsNothingYet, DiskImageHolds, KeepsPromise}
+use Rattle.worker_store.specs.restart_theorem.Holds.{CarriesPromise}
 use Rattle.worker_store.specs.rules.Savepoints.{Savepoint, IsAtSavepoint, IsAtFront, BeginsAtPoint}
 use Rattle.worker_store.specs.rules.Savepoints.{IsJournaled}
 use Rattle.worker_store.specs.laws.Savepoints.{point_of}

@@ -12,7 +12,7 @@ use Rattle.wasi_abi.specs.rules.Versions.{version_number}
 use Rattle.journal.specs.rules.Steps.{ShowsEarlierThan}
 use Rattle.snapshot.specs.rules.Heads.{IsReadyForHead}
 use Rattle.snapshot.specs.rules.Steps.{HasNew, Fills, Commits, Replaces}
-use Rattle.restart_theorem.specs.Stands.{IsNumbered}
+use Rattle.worker_store.specs.restart_theorem.Stands.{IsNumbered}
 use Rattle.worker_store.specs.rules.Savepoints.{Savepoint, places, IsAtSavepoint, IsNextPoint}
 use Rattle.worker_store.specs.rules.Savepoints.{BeginsAtPoint, StandsBefore}
 

@@ -15,7 +15,7 @@ use Rattle.wasi_abi.specs.rules.Versions.{version_number}
 use Rattle.journal.specs.rules.Steps.{ShowsEarlierThan}
 use Rattle.snapshot.specs.rules.Heads.{HasNone, heads_to}
 use Rattle.snapshot.specs.rules.Steps.{HasNew, Fills, Commits, Replaces}
-use Rattle.restart_theorem.specs.Stands.{IsNumbered, IsBlank}
+use Rattle.worker_store.specs.restart_theorem.Stands.{IsNumbered, IsBlank}
 use Rattle.worker_store.specs.rules.Savepoints.{Savepoint, places, BeginsAtPoint}
 use Rattle.worker_store.specs.laws.Savepoints.{StandsBySaved}
 

@@ -10,7 +10,7 @@ use Rattle.sector_disk.specs.rules.Medium.{Medium, After, LeavesOnly}
 use Rattle.disk_layout.specs.rules.Journal.{Record, record_bytes}
 use Rattle.journal.specs.rules.State.{JournalState, state}
 use Rattle.journal.specs.rules.Steps.{AppendsFront, HoldsRecords, RecordFits}
-use Rattle.restart_theorem.specs.Stands.{IsNumbered}
+use Rattle.worker_store.specs.restart_theorem.Stands.{IsNumbered}
 use Rattle.worker_store.specs.rules.Savepoints.{Savepoint, places, IsAtFront, BeginsAtPoint}
 use Rattle.worker_store.specs.rules.Savepoints.{IsJournaled}
 

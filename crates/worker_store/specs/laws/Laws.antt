@@ -14,7 +14,7 @@ use Rattle.disk_layout.specs.rules.Journal.{Record, record_bytes}
 use Rattle.journal.specs.rules.State.{room_of}
 use Rattle.journal.specs.rules.Steps.{RecordFits}
 use Rattle.worker_store.specs.rules.Savepoints.{Savepoint}
-use Rattle.restart_theorem.specs.Stands.{IsNumbered}
+use Rattle.worker_store.specs.restart_theorem.Stands.{IsNumbered}
 use Rattle.worker_store.specs.declared.store.WorkerStore.{WorkerStore}
 use Rattle.worker_store.specs.rules.Stores.{IsStoreOf, with_record}
 

@@ -16,7 +16,7 @@ use Rattle.disk_layout.specs.declared.geometry.Geometry.{Geometry}
 use Rattle.disk_layout.specs.declared.geometry.TheConstants.{MODULE_PLACE}
 use Rattle.wasi_abi.specs.rules.Versions.{version_number}
 use Rattle.snapshot.specs.rules.Steps.{Fills, Commits, Replaces}
-use Rattle.restart_theorem.specs.Stands.{IsNumbered, IsBlank}
+use Rattle.worker_store.specs.restart_theorem.Stands.{IsNumbered, IsBlank}
 use Rattle.worker_store.specs.rules.Savepoints.{Savepoint, places, IsAtSavepoint, BeginsAtPoint}
 use Rattle.worker_store.specs.rules.Savepoints.{IsNextPoint, StandsBefore, LeavesAll}
 use Rattle.worker_store.specs.laws.Creations.{zero_sector, HasNoSuper, AwaitsHead, AwaitsSuper}

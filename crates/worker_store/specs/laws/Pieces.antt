@@ -3,10 +3,10 @@ use Rattle.std.specs.Prelude.{◌≡◌, List, [], ◌∷◌, ◌++◌}
 use Rattle.wasm_syntax.specs.declared.module.Module.{Module}
 use Rattle.wasi_abi.specs.rules.Configs.{Settings}
 use Rattle.record_replay.specs.rules.Calls.{Exchange}
-use Rattle.restart_theorem.specs.Lives.{Event}
-use Rattle.restart_theorem.specs.Courses.{Stage, next_stage, stage_after}
-use Rattle.restart_theorem.specs.Promises.{Promise, after, promised, AreKept, IsKept}
-use Rattle.restart_theorem.specs.Exchanges.{AreEvents}
+use Rattle.worker_store.specs.restart_theorem.Lives.{Event}
+use Rattle.worker_store.specs.restart_theorem.Courses.{Stage, next_stage, stage_after}
+use Rattle.worker_store.specs.restart_theorem.Promises.{Promise, after, promised, AreKept, IsKept}
+use Rattle.worker_store.specs.restart_theorem.Exchanges.{AreEvents}
 use Rattle.worker_store.specs.rules.BetweenCalls.{IsForetold}
 
 -- The exchanges are events that keep what was promised, and lead to this promise and this stage.

@@ -6,9 +6,9 @@ use Rattle.process_rules.specs.Processes.{ProcessState}
 use Rattle.state_image.specs.rules.ProcessImage.{Saved}
 use Rattle.sector_disk.specs.rules.Medium.{Medium, LeavesOnly}
 use Rattle.disk_layout.specs.rules.Journal.{Record}
-use Rattle.restart_theorem.specs.Lives.{Opened}
-use Rattle.restart_theorem.specs.Promises.{Promise, after}
-use Rattle.restart_theorem.specs.Holds.{CarriesPromise}
+use Rattle.worker_store.specs.restart_theorem.Lives.{Opened}
+use Rattle.worker_store.specs.restart_theorem.Promises.{Promise, after}
+use Rattle.worker_store.specs.restart_theorem.Holds.{CarriesPromise}
 use Rattle.worker_store.specs.rules.Savepoints.{Savepoint, IsAtSavepoint, BeginsAtPoint, LeavesAll}
 use Rattle.worker_store.specs.rules.Carried.{IsHeldAt}
 use Rattle.worker_store.specs.laws.Carried.{PromisesNoMore, SavesFront}

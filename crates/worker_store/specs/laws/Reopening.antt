@@ -10,11 +10,11 @@ use Rattle.process_rules.specs.Behind.{IsNarrowTo}
 use Rattle.process_rules.specs.Runs.{Runs}
 use Rattle.record_replay.specs.rules.Calls.{Tells, all_taken, last_refused}
 use Rattle.state_image.specs.rules.ProcessImage.{Saved}
-use Rattle.restart_theorem.specs.Lives.{Inputs, Opened, Creates}
-use Rattle.restart_theorem.specs.Courses.{Stage, Shut, Unheard, at_beginning, next_stage}
-use Rattle.restart_theorem.specs.Courses.{IsLast}
-use Rattle.restart_theorem.specs.Promises.{Promise, after, HoldsAll, TakesLast, IsOpening}
-use Rattle.restart_theorem.specs.Holds.{IsNothingYet}
+use Rattle.worker_store.specs.restart_theorem.Lives.{Inputs, Opened, Creates}
+use Rattle.worker_store.specs.restart_theorem.Courses.{Stage, Shut, Unheard, at_beginning, next_stage}
+use Rattle.worker_store.specs.restart_theorem.Courses.{IsLast}
+use Rattle.worker_store.specs.restart_theorem.Promises.{Promise, after, HoldsAll, TakesLast, IsOpening}
+use Rattle.worker_store.specs.restart_theorem.Holds.{IsNothingYet}
 use Rattle.worker_store.specs.rules.BetweenCalls.{IsForetold, IsBetween}
 use Rattle.worker_store.specs.laws.Telling.{ArePerformed}
 use Rattle.worker_store.specs.laws.CallEnds.{IsSavedAs}

@@ -8,7 +8,7 @@ use Rattle.state_image.specs.rules.ProcessImage.{process_image}
 use Rattle.sector_disk.specs.rules.DiskImage.{DiskImage}
 use Rattle.disk_layout.specs.rules.Journal.{Record}
 use Rattle.record_replay.specs.rules.Records.{given_in}
-use Rattle.restart_theorem.specs.Stands.{StandsFor}
+use Rattle.worker_store.specs.restart_theorem.Stands.{StandsFor}
 use Rattle.worker_store.specs.rules.Savepoints.{Savepoint, IsAtSavepoint}
 
 -- what an image stands by

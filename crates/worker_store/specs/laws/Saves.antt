@@ -8,9 +8,9 @@ use Rattle.state_image.specs.rules.ProcessImage.{Saved}
 use Rattle.sector_disk.specs.rules.Medium.{Medium, LeavesOnly}
 use Rattle.disk_layout.specs.rules.Journal.{Record}
 use Rattle.journal.specs.rules.State.{JournalState}
-use Rattle.restart_theorem.specs.Lives.{Act, Reply, Done, Fails, Cause, Ended}
-use Rattle.restart_theorem.specs.Promises.{Promise, after, synced_by}
-use Rattle.restart_theorem.specs.Holds.{CarriesPromise}
+use Rattle.worker_store.specs.restart_theorem.Lives.{Act, Reply, Done, Fails, Cause, Ended}
+use Rattle.worker_store.specs.restart_theorem.Promises.{Promise, after, synced_by}
+use Rattle.worker_store.specs.restart_theorem.Holds.{CarriesPromise}
 use Rattle.worker_store.specs.rules.Savepoints.{Savepoint, IsAtSavepoint, IsAtFront, BeginsAtPoint}
 use Rattle.worker_store.specs.rules.Savepoints.{IsJournaled, LeavesAll, IsAtFrontOrNext}
 use Rattle.worker_store.specs.laws.Acts.{SavesWith, keeping_more}

@@ -5,9 +5,9 @@ use Rattle.wasi_abi.specs.rules.Configs.{Settings}
 use Rattle.wasi_calls_rules.specs.WasiStates.{Line}
 use Rattle.process_rules.specs.Processes.{ProcessState, Guest}
 use Rattle.record_replay.specs.rules.Calls.{Exchange, Tells, all_taken, last_refused}
-use Rattle.restart_theorem.specs.Lives.{Act, OfOutlet}
-use Rattle.restart_theorem.specs.Courses.{Stage, Broken}
-use Rattle.restart_theorem.specs.Promises.{Promise}
+use Rattle.worker_store.specs.restart_theorem.Lives.{Act, OfOutlet}
+use Rattle.worker_store.specs.restart_theorem.Courses.{Stage, Broken}
+use Rattle.worker_store.specs.restart_theorem.Promises.{Promise}
 use Rattle.worker_store.specs.laws.Underway.{IsUnderWay, IsBroken, HasLinesLeft}
 use Rattle.worker_store.specs.rules.BetweenCalls.{IsForetold}
 use Rattle.worker_store.specs.laws.Pieces.{AreDone}

@@ -12,10 +12,10 @@ use Rattle.disk_layout.specs.rules.Journal.{Record}
 use Rattle.journal.specs.rules.State.{JournalState}
 use Rattle.state_image.specs.rules.ProcessImage.{Saved}
 use Rattle.record_replay.specs.rules.Calls.{Exchange}
-use Rattle.restart_theorem.specs.Lives.{Act, Reply, SourceSaid, Asked, Ended, kept_by_end}
-use Rattle.restart_theorem.specs.Courses.{Stage}
-use Rattle.restart_theorem.specs.Promises.{Promise, after}
-use Rattle.restart_theorem.specs.Holds.{DiskImageHolds, KeepsPromise, CarriesPromise}
+use Rattle.worker_store.specs.restart_theorem.Lives.{Act, Reply, SourceSaid, Asked, Ended, kept_by_end}
+use Rattle.worker_store.specs.restart_theorem.Courses.{Stage}
+use Rattle.worker_store.specs.restart_theorem.Promises.{Promise, after}
+use Rattle.worker_store.specs.restart_theorem.Holds.{DiskImageHolds, KeepsPromise, CarriesPromise}
 use Rattle.worker_store.specs.rules.Savepoints.{Savepoint}
 use Rattle.worker_store.specs.rules.Carried.{IsCarried, AreOnRecord}
 use Rattle.worker_store.specs.laws.Carried.{PromisesNoMore}

@@ -11,13 +11,13 @@ use Rattle.wasi_calls_rules.specs.WasiStates.{Line}
 use Rattle.process_rules.specs.Processes.{ProcessState, Guest, IsStart}
 use Rattle.process_rules.specs.Runs.{Runs, Moves, Wants, next_of}
 use Rattle.record_replay.specs.declared.fault.SourceFault.{SourceFault}
-use Rattle.restart_theorem.specs.Lives.{Act, SourceSaid, Release, Told, Asked}
-use Rattle.restart_theorem.specs.Lives.{OfSource, OfAnswer, OfOutlet}
-use Rattle.restart_theorem.specs.Courses.{Stage, Phase, Open, NoneThere, Broken, next_stage}
-use Rattle.restart_theorem.specs.Courses.{first_said, first_taken, phase_asked, HasLastAsked}
-use Rattle.restart_theorem.specs.Courses.{IsInBatch}
-use Rattle.restart_theorem.specs.Promises.{Promise, after, IsTelling, IsInquiring, IsFitting}
-use Rattle.restart_theorem.specs.Promises.{IsOneOf, fuel_of}
+use Rattle.worker_store.specs.restart_theorem.Lives.{Act, SourceSaid, Release, Told, Asked}
+use Rattle.worker_store.specs.restart_theorem.Lives.{OfSource, OfAnswer, OfOutlet}
+use Rattle.worker_store.specs.restart_theorem.Courses.{Stage, Phase, Open, NoneThere, Broken, next_stage}
+use Rattle.worker_store.specs.restart_theorem.Courses.{first_said, first_taken, phase_asked, HasLastAsked}
+use Rattle.worker_store.specs.restart_theorem.Courses.{IsInBatch}
+use Rattle.worker_store.specs.restart_theorem.Promises.{Promise, after, IsTelling, IsInquiring, IsFitting}
+use Rattle.worker_store.specs.restart_theorem.Promises.{IsOneOf, fuel_of}
 use Rattle.worker_store.specs.laws.Acts.{TakesSteps, most_held}
 
 module _ (m : Module) (config : Settings) (guest : Guest) where

@@ -6,10 +6,10 @@ use Rattle.wasi_abi.specs.rules.Configs.{Settings}
 use Rattle.process_rules.specs.Processes.{ProcessState, Guest, IsStart}
 use Rattle.process_rules.specs.Runs.{Runs}
 use Rattle.record_replay.specs.rules.Calls.{Exchange, Asks, Tells}
-use Rattle.restart_theorem.specs.Lives.{SourceSaid}
-use Rattle.restart_theorem.specs.Courses.{Stage, first_said, first_taken, without_first, Open}
-use Rattle.restart_theorem.specs.Promises.{Promise}
-use Rattle.restart_theorem.specs.Exchanges.{was_taken}
+use Rattle.worker_store.specs.restart_theorem.Lives.{SourceSaid}
+use Rattle.worker_store.specs.restart_theorem.Courses.{Stage, first_said, first_taken, without_first, Open}
+use Rattle.worker_store.specs.restart_theorem.Promises.{Promise}
+use Rattle.worker_store.specs.restart_theorem.Exchanges.{was_taken}
 
 -- The process between two calls: it has taken all kept answers, and all its lines were told.
 pub record IsBetween (m : Module) (config : Settings) (guest : Guest) (promise : Promise)

@@ -18,7 +18,7 @@ use Rattle.disk_layout.specs.declared.geometry.Geometry.{Geometry}
 use Rattle.disk_layout.specs.rules.Places.{area_place, rounded_up}
 use Rattle.snapshot.specs.declared.writing.Writing.TheVariants.{Changes}
 use Rattle.snapshot.specs.rules.Calls.{PerformsStoresAndHead}
-use Rattle.restart_theorem.specs.Stands.{IsNumbered}
+use Rattle.worker_store.specs.restart_theorem.Stands.{IsNumbered}
 use Rattle.worker_store.specs.rules.Savepoints.{Savepoint, IsAtSavepoint, places, LeavesAll}
 use Rattle.worker_store.specs.rules.Savepoints.{IsAtFront, BeginsAtPoint, IsNextPoint, StandsBefore}
 use Rattle.worker_store.specs.declared.fault.StoreFault.{StoreFault}

@@ -9,7 +9,7 @@ use Rattle.sector_disk.specs.rules.Medium.{Medium}
 use Rattle.disk_layout.specs.rules.Journal.{Record}
 use Rattle.record_replay.specs.rules.Records.{Recorded, given_in}
 use Rattle.journal.specs.rules.State.{JournalState}
-use Rattle.restart_theorem.specs.Promises.{Promise, HoldsAll}
+use Rattle.worker_store.specs.restart_theorem.Promises.{Promise, HoldsAll}
 use Rattle.worker_store.specs.rules.Savepoints.{Savepoint, IsJournaled}
 
 -- the answers of a savepoint and of these records

@@ -19,7 +19,7 @@ use Rattle.disk_layout.specs.rules.Places.{area_place, journal_place, rounded_up
 use Rattle.disk_layout.specs.rules.Places.{geometry_of, total_sectors}
 use Rattle.disk_layout.specs.rules.Unsynced.{most_unsynced}
 use Rattle.snapshot.specs.rules.Calls.{with_head}
-use Rattle.restart_theorem.specs.Stands.{IsBlank, IsNumbered}
+use Rattle.worker_store.specs.restart_theorem.Stands.{IsBlank, IsNumbered}
 use Rattle.worker_store.specs.rules.Savepoints.{Savepoint, BeginsAtPoint, LeavesAll}
 use Rattle.worker_store.specs.declared.fault.StoreFault.{StoreFault}
 use Rattle.worker_store.specs.declared.fault.StoreFault.TheVariants.{Layout, TooBig, Disk, Memory}

@@ -15,7 +15,7 @@ use Rattle.disk_layout.specs.declared.fault.LayoutFault.TheVariants as layout
 use Rattle.disk_layout.specs.rules.Places.{total_sectors}
 use Rattle.journal.specs.declared.fault.JournalFault.TheVariants as journal
 use Rattle.snapshot.specs.declared.fault.SnapshotFault.TheVariants as snapshot
-use Rattle.restart_theorem.specs.Stands.{IsBlank}
+use Rattle.worker_store.specs.restart_theorem.Stands.{IsBlank}
 use Rattle.worker_store.specs.rules.Savepoints.{Savepoint, places, IsAtSavepoint}
 use Rattle.worker_store.specs.declared.newest.NewestProcessImage.{NewestProcessImage}
 use Rattle.worker_store.specs.declared.read_fault.ReadFault.{ReadFault}

@@ -19,7 +19,7 @@ use Rattle.disk_layout.specs.rules.Journal.{Record, TakesRecords, scan}
 use Rattle.record_replay.specs.rules.Records.{Recorded}
 use Rattle.journal.specs.rules.State.{JournalState}
 use Rattle.journal.specs.rules.Steps.{IsOn, ShowsEarlierThan}
-use Rattle.restart_theorem.specs.Stands.{ShowsNoneLater, IsNumbered, StandsFor}
+use Rattle.worker_store.specs.restart_theorem.Stands.{ShowsNoneLater, IsNumbered, StandsFor}
 
 -- The bytes of a module, which are accepted, and a process to which it comes on these answers, as
 -- it is saved in a generation. The journal takes the longest record of its version.

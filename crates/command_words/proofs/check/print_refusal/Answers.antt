@@ -1,6 +1,6 @@
 use Rattle.std.proofs.Common.{sym}
 use Rattle.std.specs.Prelude.{OnOk, codes}
-use Rattle.machine_loader.specs.rules.Acceptance.{passed_in}
+use Rattle.machine.specs.rules.Acceptance.{passed_in}
 use Rattle.command_words.specs.rules.ModuleLimits.{TellsLimit}
 use Rattle.command_words.proofs.VerdictLemmas.{ends_plainly, ends_with, of_limit}
 use Rattle.command_words.proofs.check.print_refusal.Goals as goal

@@ -1,6 +1,6 @@
 use Rattle.std.proofs.Common.{sym}
 use Rattle.std.specs.Prelude.{codes}
-use Rattle.machine_loader.specs.rules.Acceptance.{passed_in}
+use Rattle.machine.specs.rules.Acceptance.{passed_in}
 use Rattle.command_words.specs.rules.ModuleLimits.{SaysLimit}
 use Rattle.command_words.proofs.VerdictLemmas.{of_limit, says_plainly}
 use Rattle.command_words.proofs.preparing.say_refusal.Goals as goal

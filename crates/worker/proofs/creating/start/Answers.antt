@@ -1,6 +1,6 @@
 use Rattle.std.proofs.Common.{refl}
 use Rattle.std.proofs.lemmas.Result.{err_from_is_err_and}
-use Rattle.ephemeral_worker.proofs.Worked.{unread, unlinked}
+use Rattle.record_replay.proofs.Worked.{unread, unlinked}
 use Rattle.worker.proofs.creating.start.Goals as goal
 
 pub returns-in_err-module-clause-refused : goal.returns-in_err-module-clause-refused

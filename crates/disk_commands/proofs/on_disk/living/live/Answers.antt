@@ -1,4 +1,4 @@
-use Rattle.ephemeral_worker.specs.declared.now.Now.TheVariants.{Waiting, Ended}
+use Rattle.record_replay.specs.declared.slices.now.Now.TheVariants.{Waiting, Ended}
 use Rattle.disk_commands.specs.Livings.{scene}
 use Rattle.disk_commands.proofs.LivingLemmas.{round_more, round_last, round_broken}
 use Rattle.disk_commands.proofs.on_disk.living.live.Goals as goal

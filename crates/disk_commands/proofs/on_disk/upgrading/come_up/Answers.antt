@@ -1,5 +1,5 @@
 use Rattle.std.proofs.Common.{arith, refl}
-use Rattle.ephemeral_worker.specs.declared.now.Now.TheVariants.{Waiting, Ended, Spent}
+use Rattle.record_replay.specs.declared.slices.now.Now.TheVariants.{Waiting, Ended, Spent}
 use Rattle.disk_commands.proofs.BreakLemmas.{slice_breaks_in}
 use Rattle.disk_commands.proofs.HearingLemmas.{slice_hears_up_to}
 use Rattle.disk_commands.proofs.TakingLemmas.{slice_heeds}

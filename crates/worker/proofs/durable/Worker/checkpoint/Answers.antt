@@ -1,6 +1,6 @@
 use Rattle.std.proofs.Common.{◌≡◌, sym, ◌∙◌, ap, refl, subst, true}
 use Rattle.worker.specs.declared.fault.WorkFault.TheVariants.{Work}
-use Rattle.ephemeral_worker.specs.declared.fault.SliceFault.TheVariants as slice
+use Rattle.record_replay.specs.declared.slices.fault.SliceFault.TheVariants as slice
 use Rattle.worker.specs.rules.DurableValues.{DurableValue}
 use Rattle.worker.proofs.CheckpointLemmas.{done_keeps, fault_keeps, fault_cause, room_for}
 use Rattle.worker.proofs.CheckpointLemmas.{room_after, saved_in, cause_on_any_disk}

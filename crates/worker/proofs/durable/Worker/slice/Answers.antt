@@ -1,13 +1,13 @@
 use Rattle.std.proofs.Common.{◌≡◌, true, false, ap, sym, ◌∙◌, refl, subst, Ok, Err}
 use Rattle.process.specs.rules.Values.{IsProcess}
-use Rattle.ephemeral_worker.specs.declared.now.Now.{Now}
-use Rattle.ephemeral_worker.specs.declared.fault.SliceFault.TheVariants as slice
+use Rattle.record_replay.specs.declared.slices.now.Now.{Now}
+use Rattle.record_replay.specs.declared.slices.fault.SliceFault.TheVariants as slice
 use Rattle.worker_store.specs.declared.store.WorkerStore.{WorkerStore}
 use Rattle.worker.specs.declared.fault.WorkFault.TheVariants.{Work}
-use Rattle.ephemeral_worker.specs.Turns.{working}
+use Rattle.record_replay.specs.Turns.{working}
 use Rattle.worker.specs.rules.DurableValues.{DurableValue, durable_of, without_disk}
 use Rattle.worker.specs.rules.DurableCalls.{SliceCarries}
-use Rattle.ephemeral_worker.proofs.Worked.{slices_of}
+use Rattle.record_replay.proofs.Worked.{slices_of}
 use Rattle.worker.proofs.CheckpointLemmas.{room_after}
 use Rattle.worker.proofs.DurableLemmas.Working.{slice_carries, slice_fails, failed_carries}
 use Rattle.worker.specs.rules.DurableFailures.{SlicesOnDiskInVain}

@@ -1,6 +1,6 @@
 use Rattle.std.proofs.Common.{◌-◌, ap, arith, refl, Bool, Ok, Err}
 use Rattle.std.proofs.lemmas.Result.{err_from_is_err_and}
-use Rattle.ephemeral_worker.proofs.Ending.{turning_counts, spent, over}
+use Rattle.record_replay.proofs.Ending.{turning_counts, spent, over}
 use Rattle.worker.proofs.DurableLemmas.Slicing.{in_slice_none, spent_on, over_on, vain_on}
 use Rattle.worker.proofs.DurableLemmas.Slicing.{flushed_on, flushed_less, unflushed_on}
 use Rattle.worker.proofs.DurableLemmas.Slicing.{given_on}

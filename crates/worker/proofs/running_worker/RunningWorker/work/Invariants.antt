@@ -1,4 +1,4 @@
-use Rattle.ephemeral_worker.proofs.Ending.{measure}
+use Rattle.record_replay.proofs.Ending.{measure}
 use Rattle.worker.proofs.DurableLemmas.Slicing.{InSlice}
 use Rattle.worker.proofs.running_worker.RunningWorker.work.Given as goal
 

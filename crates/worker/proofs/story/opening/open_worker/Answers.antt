@@ -1,5 +1,5 @@
-use Rattle.restart_theorem.specs.Lives.Beginning.{Recovers as recovers}
-use Rattle.restart_theorem.specs.Lives.{Creates}
+use Rattle.worker_store.specs.restart_theorem.Lives.Beginning.{Recovers as recovers}
+use Rattle.worker_store.specs.restart_theorem.Lives.{Creates}
 use Rattle.worker.proofs.OpeningLemmas.{opens_again, opens_not, opens_anew, opens_none}
 use Rattle.worker.proofs.OpeningLemmas.{is_none}
 use Rattle.worker.proofs.OpeningLemmas.{is_other}

@@ -1,4 +1,0 @@
-pub mod Faults
-pub mod Refusals
-pub mod Slices
-pub mod Values

@@ -1,8 +1,0 @@
-use Rattle.restart_theorem.proofs.RefusingBatches.{refused_batches, refused_batch_lives}
-use Rattle.restart_theorem.proofs.laws.refused_batches.Goals as goal
-
-pub returns-clause-events : goal.returns-clause-events
-returns-clause-events c = refused_batches
-
-pub returns-clause-lives : goal.returns-clause-lives
-returns-clause-lives c = refused_batch_lives

@@ -1,8 +1,0 @@
-use Rattle.restart_theorem.proofs.RefusingUpgrades.{refused_upgrades, refused_upgraders}
-use Rattle.restart_theorem.proofs.laws.refused_upgrades.Goals as goal
-
-pub returns-clause-events : goal.returns-clause-events
-returns-clause-events c = refused_upgrades
-
-pub returns-clause-lives : goal.returns-clause-lives
-returns-clause-lives c = refused_upgraders

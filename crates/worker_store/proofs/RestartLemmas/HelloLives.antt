@@ -1,0 +1,395 @@
+-- The lives of `hello` go on, and what is no life of it.
+use Rattle.std.proofs.Common.{◌≡◌, inl, inr, ℕ, ◌+◌, ◌≤◌, ◌^◌, true, List, [], ◌∷◌, length}
+use Rattle.std.proofs.Common.{Option, Some, None, refl, sym, ap, ◌∙◌, subst, arith, length-append}
+use Rattle.std.specs.Prelude.{slice_get, codes, take as firsts}
+use Rattle.std.proofs.lemmas.Option.{slice_get_within, same_Some}
+use Rattle.wasm_syntax.specs.laws.Examples.{hello}
+use Rattle.wasm_semantics.specs.Steps.{IsEnded}
+use Rattle.wasi_abi.specs.rules.Configs.{Settings}
+use Rattle.wasi_abi.specs.declared.answer.Question.{Question}
+use Rattle.wasi_calls_rules.specs.WasiStates.{Line}
+use Rattle.wasi_calls_rules.specs.declared.output_stream.OutputStream.TheVariants.{Stdout, Stderr}
+use Rattle.process_rules.specs.Processes.{ProcessState, Guest, Exited}
+use Rattle.process_rules.specs.Runs.{Kept, Wants, Runs, Reaches, next_of, LeadsTo, none, step, take}
+use Rattle.process_rules.specs.Runs.{widen}
+use Rattle.process_rules.specs.Behind.{IsNarrowTo, AnswersBehindLine, IsLine}
+use Rattle.process_rules.specs.laws.Examples.{hello_end}
+use Rattle.process_rules.proofs.ExamplesValid.{hello_is_valid}
+use Rattle.process_rules.proofs.ExamplesHold.{hello_ends}
+use Rattle.process_rules.proofs.Quiet.{none_counted}
+use Rattle.process_rules.proofs.Growing.{runs_emit}
+use Rattle.worker_store.specs.restart_theorem.Lives.{Act, Slice, Checkpoint, Inputs, Over, Event, Told, Opened}
+use Rattle.worker_store.specs.restart_theorem.Lives.{Ended, Beginning, Recovers, Creates}
+use Rattle.worker_store.specs.restart_theorem.Courses.{Stage, Open, at_first, at_beginning, next_stage}
+use Rattle.worker_store.specs.restart_theorem.Courses.{IsNextAct}
+use Rattle.worker_store.specs.restart_theorem.Promises.{Promise, nothing_yet, after, promised_by, HoldsAll}
+use Rattle.worker_store.specs.restart_theorem.Promises.{IsKept, IsLived}
+use Rattle.worker_store.specs.restart_theorem.laws.Refused.{in_peace, creation_begun}
+use Rattle.worker_store.specs.restart_theorem.laws.WholeLives.{hi_told, hello_first, hello_last, cut_inputs}
+use Rattle.worker_store.specs.restart_theorem.laws.WholeLives.{cut_life, last_inputs, last_life, ended_inputs}
+use Rattle.worker_store.specs.restart_theorem.laws.WholeLives.{ended_life, HelloLives}
+use Rattle.worker_store.proofs.RestartLemmas.Fronts.{OneLeadsOn, fronts_lead_on, one_line, front_of_none}
+use Rattle.worker_store.proofs.RestartLemmas.Fronts.{none_widens}
+use Rattle.worker_store.proofs.RestartLemmas.Honesty.{never}
+use Rattle.worker_store.proofs.RestartLemmas.HelloShown.{at_first_step, at_last_step}
+
+-- ---- the process at the end
+
+pub record HelloEnd (config : Settings) : Type 0 where
+  pub process : ProcessState
+  pub reached : Reaches hello config [] 8 process
+  pub lines : process.host.lines ≡ hi_told.line ∷ []
+  pub over : process.ended ≡ Some (Exited 7)
+  pub rests : IsEnded process.configuration
+  pub no_other : (other : ProcessState) → Reaches hello config [] 8 other → other ≡ process
+
+pub hello_at_end : (config : Settings) → HelloEnd config
+hello_at_end config =
+    let ends = hello_ends config in
+    record {
+      process = hello_end config;
+      reached = ends.comes.reached;
+      lines = refl;
+      over = refl;
+      rests = record { returned = refl; nothing_later = refl };
+      no_other = ends.comes.no_other;
+    }
+
+hi_is_line : (config : Settings) → IsLine hello config [] 1 hi_told.line
+hi_is_line config =
+    let end = hello_at_end config in
+    record {
+      answers = 0;
+      steps = 8;
+      process = end.process;
+      reached = end.reached;
+      up_to = tt;
+      place = 0;
+      counted = refl;
+      is = ap (λ (z : List Line). slice_get z 0) end.lines;
+    }
+
+hi_behind : (config : Settings) (i : ℕ) → i ≤ 1 → AnswersBehindLine hello config [] i 0
+hi_behind config i h =
+    let end = hello_at_end config in
+    let n : length end.process.host.lines ≡ 1 = ap length end.lines in
+    record {
+      within = omega arith;
+      steps = 8;
+      process = end.process;
+      reached = end.reached;
+      up_to = tt;
+      emitted = omega (arith, n, h);
+    }
+
+-- ---- what is no life
+
+-- after the end there is nothing
+end_stays : (guest : Guest) (p q : ProcessState) (kept : List Kept) (n : ℕ) → Runs guest p kept n q
+    → kept ≡ [] → p.ended ≡ Some (Exited 7) → q ≡ p
+end_stays guest p q kept n (none {p = p'}) e over = refl
+end_stays guest p q kept n (step {p = p'} m rest) e over = absurd (let running = m.running in cc)
+end_stays guest p q kept n (take {p = p'} m rest) e over = absurd (let running = m.running in cc)
+end_stays guest p q kept n (widen at rest) e over = absurd (let nothing = e in cc)
+
+wants_nothing : (guest : Guest) (p : ProcessState) (question : Question) → IsEnded p.configuration
+    → next_of guest p None ≡ Wants question → ⊥
+wants_nothing guest p question rests wants =
+    let stuck = none_counted guest.program p.configuration rests in
+    let asks = wants in
+    let nowhere = (rw stuck at asks) in
+    cc
+
+-- nor does anything want an answer that leads there without one
+wants_none : (guest : Guest) (p q : ProcessState) (question : Question) (kept : List Kept) (n : ℕ)
+    → Runs guest p kept n q → kept ≡ [] → IsEnded q.configuration
+    → next_of guest p None ≡ Wants question → ⊥
+wants_none guest p q question kept n (none {p = p'}) e rests wants =
+    wants_nothing guest p' question rests wants
+wants_none guest p q question kept n (step {p = p'} {q = q'} m rest) e rests wants =
+    let stopped : LeadsTo guest (next_of guest p' None) None p' q' = m.leads in
+    (rw wants at stopped)
+wants_none guest p q question kept n (take {p = p'} m rest) e rests wants = cc
+wants_none guest p q question kept n (widen at rest) e rests wants = cc
+
+asks_nothing : (config : Settings) (n : ℕ) (p : ProcessState) (question : Question)
+    → (reached : Reaches hello config [] n p) → next_of reached.guest p None ≡ Wants question → ⊥
+asks_nothing config n p question reached wants =
+    go (fronts_lead_on hello config [] 0 0 n 8 p end.process hello_is_valid reached end.reached tt
+    tt)
+  where
+    end : HelloEnd config
+    end = hello_at_end config
+
+    go : OneLeadsOn reached.guest p end.process [] [] → ⊥
+    go (inl on) = wants_none reached.guest p end.process question on.kept on.steps on.runs on.front
+        end.rests wants
+    go (inr on) =
+        wants_nothing reached.guest p question
+        (subst (λ z. IsEnded z.configuration)
+        (sym (end_stays reached.guest end.process p on.kept on.steps on.runs on.front end.over))
+        end.rests) wants
+
+-- no process of `hello` has a second line
+one_line_at_most : (config : Settings) (answers n : ℕ) (p : ProcessState)
+    → Reaches hello config (firsts answers []) n p → length p.host.lines ≤ 1
+one_line_at_most config answers n p reached =
+    go (fronts_lead_on hello config [] answers 0 n 8 p end.process hello_is_valid reached
+    end.reached (none_widens answers n) tt)
+  where
+    end : HelloEnd config
+    end = hello_at_end config
+
+    end_lines : length end.process.host.lines ≡ 1
+    end_lines = ap length end.lines
+
+    go : OneLeadsOn reached.guest p end.process (firsts answers []) [] → length p.host.lines ≤ 1
+    go (inl on) =
+        let emits = runs_emit reached.guest p end.process on.kept on.steps on.runs in
+        let counted : length end.process.host.lines ≡ length p.host.lines + length emits.lines =
+        ap length emits.are ∙ length-append p.host.lines emits.lines in
+        omega (arith, counted, end_lines)
+    go (inr on) =
+        let same : length p.host.lines ≡ length end.process.host.lines =
+        ap (λ (z : ProcessState). length z.host.lines)
+        (end_stays reached.guest end.process p on.kept on.steps on.runs
+        (on.front ∙ front_of_none answers) end.over) in
+        omega (arith, same, end_lines)
+
+no_second_line : (config : Settings) (line : Line) → IsLine hello config [] 2 line → ⊥
+no_second_line config line is =
+    let few = one_line_at_most config is.answers is.steps is.process is.reached in
+    let there = slice_get_within is.process.host.lines is.place line is.is in
+    let counted = is.counted in
+    omega (arith, few, there, counted)
+
+no_other_line : (config : Settings) (line : Line) → IsLine hello config [] 1 line
+    → line.stream ≡ Stderr → ⊥
+no_other_line config line is second =
+    let same : line.stream ≡ Stdout = ap (λ (l : Line). l.stream)
+    (one_line hello config [] 1 line hi_told.line hello_is_valid is (hi_is_line config)) in
+    absurd (cc)
+
+-- what is reached in eight steps is the end
+at_eight : (config : Settings) (n : ℕ) (p : ProcessState) → n ≡ 8 → Reaches hello config [] n p
+    → p ≡ (hello_at_end config).process
+at_eight config n p eight reached =
+    (hello_at_end config).no_other p (subst (λ z. Reaches hello config [] z p) eight reached)
+
+one_line_there : (config : Settings) (n : ℕ) (p : ProcessState) → n ≡ 8
+    → Reaches hello config [] n p → length p.host.lines ≡ 1
+one_line_there config n p eight reached =
+    ap (λ (z : ProcessState). length z.host.lines) (at_eight config n p eight reached)
+    ∙ ap length (hello_at_end config).lines
+
+code_of : (code : ℕ) → Some (Exited code) ≡ Some (Exited 7) → code ≡ 7
+code_of code same = cc
+
+-- ---- the lives
+
+module _ (config : Settings) (some : 1 ≤ config.pages) (few : config.pages ≤ 2 ^ 16) where
+  -- what was promised of `hello` is held by no answer, and by so many steps
+  pub holds : (so_far : Promise) (steps : ℕ) → so_far.kept ≡ [] → so_far.answers ≡ 0
+      → so_far.steps ≤ steps → so_far.begun ≤ 1
+      → HoldsAll hello config so_far.kept so_far 0 steps
+  holds so_far steps kept answers enough begun = record {
+    within = omega arith;
+    up_to = subst (λ (l : List Kept). IsNarrowTo l steps) (sym kept) tt;
+    answers = omega (arith, answers);
+    steps_held = enough;
+    lines = λ i h. (
+      0,
+      omega arith,
+      subst (λ z. AnswersBehindLine hello config z i 0) (sym kept)
+          (hi_behind config i (omega (arith, h, begun))),
+    );
+    syncs = λ k a h behind.
+        (let within : a ≤ length so_far.kept = behind.within in
+        let none_kept : length so_far.kept ≡ 0 = ap length kept in
+        omega (arith, within, none_kept));
+  }
+
+  -- it begins where nothing was promised but its line
+  pub begins : (how : Beginning) (so_far : Promise) (inputs : Inputs) → so_far.kept ≡ []
+      → so_far.answers ≡ 0 → so_far.steps ≤ 0 → so_far.begun ≤ 1 → so_far.was_created ≡ true
+      → IsKept hello config so_far (at_beginning how inputs) (Opened 0 hello_first)
+  begins how so_far inputs kept answers steps begun created = record {
+    shut = refl;
+    created = created;
+    at = at_first_step config some few;
+    holds = holds so_far 0 kept answers steps begun;
+    all_heard = omega arith;
+    none_beyond = tt;
+    no_further = inl refl;
+  }
+
+  -- a slice of a hundred steps, and more
+  abbrev pub given : Option ℕ → List Act → Inputs
+  given stop acts = record (in_peace [] (Slice 100 ∷ acts)) { stop = stop }
+
+  -- it tells its line
+  pub tells : (how : Beginning) (so_far : Promise) (stop : Option ℕ) (acts : List Act)
+      → so_far.kept ≡ [] → so_far.passed ≡ 0
+      → IsKept hello config so_far
+      (next_stage (at_beginning how (given stop acts)) (Opened 0 hello_first)) (Told hi_told true)
+  tells how so_far stop acts kept passed = record {
+    is_line = record {
+      answers = 0;
+      steps = 8;
+      process = (hello_at_end config).process;
+      reached = (hello_at_end config).reached;
+      up_to = subst (λ (l : List Kept). IsNarrowTo l 8) (sym kept) tt;
+      place = 0;
+      counted = refl;
+      is = ap (λ (z : List Line). slice_get z 0) (hello_at_end config).lines;
+    };
+    in_time = (omega arith, omega arith);
+    follows = refl;
+    none_skipped = omega arith;
+    not_passed = omega (arith, passed);
+    heard = refl;
+  }
+
+  lives_cut : IsLived hello config nothing_yet cut_inputs cut_life
+  lives_cut = record {
+    kept = (
+      begins Creates creation_begun cut_inputs refl refl (omega arith) (omega arith) refl,
+      (tells Creates (after creation_begun (Opened 0 hello_first)) (Some 30) [] refl refl, tt),
+    );
+    ends = (tt, omega arith);
+    begins = λ creates. (refl, (refl, refl));
+  }
+
+  abbrev behind_cut : Promise
+  behind_cut = promised_by nothing_yet cut_life
+
+  abbrev pub ended_event : ℕ → Event
+  ended_event fuel = Ended (Slice fuel) (Over (Exited 7)) 0 hello_last
+
+  -- it has ended, and its line was told
+  pub ends_slice : (so_far : Promise) (stage : Stage) (fuel : ℕ) (acts : List Act)
+      → so_far.kept ≡ [] → stage.acts ≡ Slice fuel ∷ acts → stage.phase ≡ Open → stage.step ≤ 8
+      → 8 ≤ stage.step + fuel → stage.line ≡ Some 1
+      → IsKept hello config so_far stage (ended_event fuel)
+  ends_slice so_far stage fuel acts kept is_acts opened onward within_fuel told = record {
+    is_next = subst (λ z. IsNextAct (Slice fuel) z) (sym is_acts) refl;
+    within = omega arith;
+    at = at_last_step config some few;
+    onward = onward;
+    reply = (
+      opened,
+      within_fuel,
+      refl,
+      record { all_taken = sym (ap length kept); all_told = told },
+    );
+    bound = tt;
+    widens = λ differs. absurd (differs refl);
+  }
+
+  lives_on : IsLived hello config behind_cut last_inputs last_life
+  lives_on =
+      let opened : Promise = after behind_cut (Opened 0 hello_first) in
+      let open_stage : Stage = next_stage (at_first last_inputs) (Opened 0 hello_first) in
+      let told : Promise = after opened (Told hi_told true) in
+      let told_stage : Stage = next_stage open_stage (Told hi_told true) in
+      record {
+        kept = (
+          begins Recovers behind_cut last_inputs refl refl (omega arith) (omega arith) refl,
+          (
+            tells Recovers opened None (Checkpoint ∷ []) refl refl,
+            (
+              ends_slice told told_stage 100 (Checkpoint ∷ []) refl refl refl (omega arith)
+                  (omega arith) refl,
+              (
+                record {
+                  is_next = refl;
+                  within = omega arith;
+                  at = at_last_step config some few;
+                  onward = omega arith;
+                  reply = (refl, refl, record { all_taken = refl; all_told = refl });
+                  bound = tt;
+                  widens = λ differs. absurd (differs refl);
+                },
+                tt,
+              ),
+            ),
+          ),
+        );
+        ends = (refl, refl, tt);
+        begins = λ creates. never creates;
+      }
+
+  abbrev behind_end : Promise
+  behind_end = promised_by behind_cut last_life
+
+  lives_ended : IsLived hello config behind_end ended_inputs ended_life
+  lives_ended =
+      let opened : Promise = after behind_end (Opened 0 hello_last) in
+      let open_stage : Stage = next_stage (at_first ended_inputs) (Opened 0 hello_last) in
+      record {
+        kept = (
+          record {
+            shut = refl;
+            created = refl;
+            at = at_last_step config some few;
+            holds = holds behind_end 8 refl refl (omega arith) (omega arith);
+            all_heard = omega arith;
+            none_beyond = tt;
+            no_further = inl refl;
+          },
+          (
+            ends_slice opened open_stage 1 [] refl refl refl (omega arith) (omega arith) refl,
+            tt,
+          ),
+        );
+        ends = (refl, refl, tt);
+        begins = λ creates. never creates;
+      }
+
+pub hello_lives_hold : (config : Settings) → HelloLives config
+hello_lives_hold config = record {
+  go_on = λ some few.
+      (lives_cut config some few, (lives_on config some few, (lives_ended config some few, tt)));
+  opens_behind_a_line_untold = λ stage shown eight kept.
+      (let one = one_line_there config shown.steps kept.at.process eight kept.at.reached in
+      let lines : shown.lines ≡ length kept.at.process.host.lines = kept.at.shown.lines in
+      let heard = kept.all_heard in
+      omega (arith, one, lines, heard));
+  ends_behind_a_line_untold = λ inputs fuel code first last eight kept.
+      (let opened = kept.0 in
+      let ended = kept.1.0 in
+      let one = one_line_there config last.steps ended.at.process eight ended.at.reached in
+      let lines : last.lines ≡ length ended.at.process.host.lines = ended.at.shown.lines in
+      let heard = opened.all_heard in
+      let told : first.lines ≡ last.lines =
+      same_Some first.lines last.lines ended.reply.3.all_told in
+      omega (arith, one, lines, heard, told));
+  exits_otherwise = λ so_far stage fuel code last empty eight kept.
+      (let reached : Reaches hello config [] last.steps kept.at.process = kept.at.reached in
+      let same = at_eight config last.steps kept.at.process eight reached in
+      let is : last.ended ≡ Some (Exited code) = kept.reply.2 in
+      let was : last.ended ≡ kept.at.process.ended = kept.at.shown.ended in
+      code_of code (sym is ∙ was ∙ ap (λ (z : ProcessState). z.ended) same
+      ∙ (hello_at_end config).over));
+  tells_another_line = λ so_far stage is_taken empty kept.
+      no_other_line config (record { stream = Stderr; text = codes "hi" })
+      (subst (λ z. IsLine hello config z 1 (record { stream = Stderr; text = codes "hi" })) empty
+      kept.is_line) refl;
+  tells_a_second_line = λ so_far stage is_taken empty kept.
+      no_second_line config hi_told.line
+      (subst (λ z. IsLine hello config z 2 hi_told.line) empty kept.is_line);
+  asks = λ so_far stage steps question said fits empty kept.
+      asks_kept config so_far steps question empty kept.process kept.reached kept.wants;
+}
+  where
+    asks_kept : (config : Settings) (so_far : Promise) (steps : ℕ) (question : Question)
+        → so_far.kept ≡ [] → (p : ProcessState)
+        → (reached : Reaches hello config so_far.kept steps p)
+        → next_of reached.guest p None ≡ Wants question → ⊥
+    asks_kept config so_far steps question empty p reached wants =
+        asks_nothing config steps p question (record {
+          guest = reached.guest;
+          start = reached.start;
+          begins = reached.begins;
+          runs = subst (λ z. Runs reached.guest reached.start z steps p) empty reached.runs;
+        }) wants
