@@ -54,7 +54,7 @@ impl<F: DiskFile> FileDisk<F> {
     ghost use Rattle.sector_disk.specs.rules.DiskImage.{zeros};
     ghost use Rattle.sector_disk.specs.rules.File.{answers_of, file_medium, file_of, first_of};
     ghost use Rattle.sector_disk.specs.rules.Open.{IsMadeAt, IsOpenedAt, IsTakenAt};
-    ghost use Rattle.sector_disk.specs.rules.Open.{IsUnmade, IsUnopened, IsUntaken};
+    ghost use Rattle.sector_disk.specs.rules.Open.{IsUnmade, IsUnopenedAt, IsUntaken};
 
     /// Makes a file of so many sectors of zeros, locks it, and makes its entry in its folder
     /// durable. It fails where there is such a path already, and from 2^54 sectors on. All zeros
@@ -112,7 +112,7 @@ impl<F: DiskFile> FileDisk<F> {
     /// are left alone.
     pub fn open<R: DiskFiles<File = F>>(files: &R, path: &str) -> Result<FileDisk<F>, OpenFault>
         ensures opened { IfOk result (IsOpenedAt F.known (R.known files.now) path.now) }
-        ensures unopened { IfErr result (IsUnopened F.known (R.known files.now) path.now) }
+        ensures unopened { IfErr result (IsUnopenedAt F.known (R.known files.now) path.now) }
     {
         let file = files.open_there(path)?;
         lock(&file)?;

@@ -31,7 +31,7 @@
 //!   that failed every call answers `Io`, and the file isn't asked (`logged`). `open`, `create` and
 //!   `create_on_device` give the disk of the file at the path, with its lock (`IsOpenedAt`,
 //!   `IsMadeAt`, `IsTakenAt`). Else a call for that path or of that file has failed, and `OpenFault`
-//!   says so (`IsUnopened`, `IsUnmade`, `IsUntaken`).
+//!   says so (`IsUnopenedAt`, `IsUnmade`, `IsUntaken`).
 //! - `rewrite` writes each sector of a disk back as it reads it, and syncs. At no moment does it
 //!   add an image to what reads give or to what a cut may leave (`same`, `any_moment`).
 //! - `store_run` writes sectors one after another, and syncs. A cut at any moment leaves of each

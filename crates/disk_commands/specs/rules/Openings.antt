@@ -13,7 +13,7 @@ use Rattle.sector_disk.specs.rules.File.{file_medium}
 use Rattle.sector_disk.specs.rules.Medium.{IsAllSynced}
 use Rattle.sector_disk.specs.rules.Causes.{open_cause}
 use Rattle.sector_disk.specs.rules.Known.{KnownFiles, KnownHandles}
-use Rattle.sector_disk.specs.rules.Open.{IsOpenedAt, IsUnopened}
+use Rattle.sector_disk.specs.rules.Open.{IsOpenedAt, IsUnopenedAt}
 use Rattle.sector_disk.specs.rules.Rewrite.{AddsNothing}
 use Rattle.command_words.specs.rules.Printers.{PrinterState}
 use Rattle.command_words.specs.rules.Reports.{SaysLine, obstacle_words}
@@ -82,7 +82,7 @@ module _ {F : Type 0} (handles : KnownHandles F) (files : KnownFiles F) where
   -- has failed. The status is 4, or 7 where a write has failed.
   abbrev pub SaysUnopened : Bool → List ℕ → PrinterState → ℕ → PrinterState → Type 0
   SaysUnopened rewrites path old status new =
-      ((why : OpenFault) × IsUnopened handles files path why
+      ((why : OpenFault) × IsUnopenedAt handles files path why
       × SaysLine (open_words path why) 4 old status new)
       ⊎ (IsTrue rewrites × SaysUnrewritten path old status new)
 

@@ -33,7 +33,7 @@ pub record KnownFiles (F : Type 0) : Type 0 where
   -- a disk was closed that had come to this
   pub closed : FileDisk F → Bool
 
--- whatever a call says
+-- whatever a call says of a handle
 abbrev pub all_said_of_handles : {F : Type 0} → KnownHandles F
 all_said_of_handles = record {
   locked = λ file. true;
@@ -43,6 +43,7 @@ all_said_of_handles = record {
   failed = λ file why. true;
 }
 
+-- whatever a call says of files, by their paths
 abbrev pub all_said_of_files : {F : Type 0} → KnownFiles F
 all_said_of_files = record {
   opened = λ path file. true;

@@ -31,8 +31,8 @@ module _ {F : Type 0} (handles : KnownHandles F) (files : KnownFiles F) (path : 
     pub untouched : answers_of disk ≡ []
 
   -- Why none is opened there: the system refuses the path, or a call of the file fails.
-  abbrev pub IsUnopened : OpenFault → Type 0
-  IsUnopened why = IsTrue (files.refused path why)
+  abbrev pub IsUnopenedAt : OpenFault → Type 0
+  IsUnopenedAt why = IsTrue (files.refused path why)
       ⊎ ((file : F) × IsTrue (files.opened path file) × IsTrue (handles.failed file why))
 
   -- The disk in a file that was made at this path, locked and not asked for anything yet: so many
@@ -68,5 +68,5 @@ module _ {F : Type 0} (handles : KnownHandles F) (files : KnownFiles F) (path : 
 
   -- Why none is taken there: there are too many sectors, or none is opened, or the file isn't fit.
   abbrev pub IsUntaken : ℕ → OpenFault → Type 0
-  IsUntaken count why = IsTooLarge count why ⊎ IsUnopened why
+  IsUntaken count why = IsTooLarge count why ⊎ IsUnopenedAt why
       ⊎ ((file : F) × IsTrue (files.opened path file) × IsUnfit handles count file why)
