@@ -9,14 +9,14 @@ use Rattle.wasi_calls_rules.specs.Checks.{with_right, lent}
 use Rattle.wasi_calls_rules.specs.Paths.{WalkEnd, formed}
 use Rattle.wasi_calls_rules.specs.Entries.{placed, path_create_directory, path_remove_directory}
 use Rattle.wasi_calls_rules.specs.Entries.{path_unlink_file, path_rename}
-use Rattle.wasi_calls.specs.Entries.{entry_place, directory_made, directory_removed, file_unlinked}
+use Rattle.wasi_calls.specs.Entries.{named_place, directory_made, directory_removed, file_unlinked}
 use Rattle.wasi_calls.specs.Entries.{both_places}
 use Rattle.wasi_calls.specs.Renamings.{place_renamed}
 use Rattle.wasi_calls.proofs.Through.{through}
 
 pub create_directory_is : (fd path len : ℕ) (m : Bytes) (h : WasiState)
     → path_create_directory fd path len m h
-    ≡ (entry_place path_create_directory_right fd path len m h >>= λ place. directory_made place m h)
+    ≡ (named_place path_create_directory_right fd path len m h >>= λ place. directory_made place m h)
 create_directory_is fd path len m h =
     let k : WalkEnd → Ruling = λ place. directory_made place m h in
     through (open_descriptor h fd) _ _ k (λ d.
@@ -27,7 +27,7 @@ create_directory_is fd path len m h =
 
 pub remove_directory_is : (fd path len : ℕ) (m : Bytes) (h : WasiState)
     → path_remove_directory fd path len m h
-    ≡ (entry_place path_remove_directory_right fd path len m h >>= λ place.
+    ≡ (named_place path_remove_directory_right fd path len m h >>= λ place.
     directory_removed place m h)
 remove_directory_is fd path len m h =
     let k : WalkEnd → Ruling = λ place. directory_removed place m h in
@@ -39,7 +39,7 @@ remove_directory_is fd path len m h =
 
 pub unlink_file_is : (fd path len : ℕ) (m : Bytes) (h : WasiState)
     → path_unlink_file fd path len m h
-    ≡ (entry_place path_unlink_file_right fd path len m h >>= λ place. file_unlinked place m h)
+    ≡ (named_place path_unlink_file_right fd path len m h >>= λ place. file_unlinked place m h)
 unlink_file_is fd path len m h =
     let k : WalkEnd → Ruling = λ place. file_unlinked place m h in
     through (open_descriptor h fd) _ _ k (λ d.

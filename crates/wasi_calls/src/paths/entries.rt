@@ -13,7 +13,7 @@ ghost use Rattle.wasi_calls.specs.rules.Calls.{IsAsLarge};
 use crate::descriptor::Names;
 use crate::host::WasiState;
 use crate::memory::in_range;
-use crate::paths::{PathNames, Place, find_place, path_bytes, entry_place};
+use crate::paths::{PathNames, Place, find_place, path_bytes, named_place};
 use crate::status::put_filestat;
 use crate::stop::CallStop;
 use file_tree::NodeType;
@@ -78,7 +78,7 @@ pub fn create_directory(
     ensures kept { IfErr result (λ _. host.new ≡ host.old) }
     ensures released { host.new.released ≡ host.old.released }
 {
-    let place = entry_place(host, memory, fd, Rights::PATH_CREATE_DIRECTORY, path, len)?;
+    let place = named_place(host, memory, fd, Rights::PATH_CREATE_DIRECTORY, path, len)?;
     make_directory(alloc, host, place)
 }
 
@@ -123,7 +123,7 @@ pub fn remove_directory(
     ensures kept { IfErr result (λ _. host.new ≡ host.old) }
     ensures released { host.new.released ≡ host.old.released }
 {
-    let place = entry_place(host, memory, fd, Rights::PATH_REMOVE_DIRECTORY, path, len)?;
+    let place = named_place(host, memory, fd, Rights::PATH_REMOVE_DIRECTORY, path, len)?;
     remove_directory_at(host, place)
 }
 
@@ -165,7 +165,7 @@ pub fn unlink_file(
     ensures kept { IfErr result (λ _. host.new ≡ host.old) }
     ensures released { host.new.released ≡ host.old.released }
 {
-    let place = entry_place(host, memory, fd, Rights::PATH_UNLINK_FILE, path, len)?;
+    let place = named_place(host, memory, fd, Rights::PATH_UNLINK_FILE, path, len)?;
     unlink_file_at(host, place)
 }
 

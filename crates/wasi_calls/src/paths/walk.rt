@@ -7,7 +7,7 @@ ghost use Rattle.file_tree.specs.rules.Files.{is_directory};
 ghost use Rattle.wasi_calls_rules.specs.Checks.{names_directory};
 ghost use Rattle.wasi_calls_rules.specs.Entries.{placed};
 ghost use Rattle.wasi_calls_rules.specs.Paths.{is_back, walk};
-ghost use Rattle.wasi_calls.specs.Entries.{entry_place};
+ghost use Rattle.wasi_calls.specs.Entries.{named_place};
 ghost use Rattle.wasi_calls.specs.Places.{AreWalked, IsWellPlaced, walk_end_of};
 ghost use Rattle.wasi_calls.specs.Steps.{GivesValue};
 
@@ -27,7 +27,7 @@ pub enum Place<'a> {
 
 /// Where a path leads from an open directory whose descriptor needs this right, or why it leads
 /// nowhere.
-pub fn entry_place<'a>(
+pub fn named_place<'a>(
     host: &WasiState,
     memory: &'a Memory,
     fd: u32,
@@ -36,7 +36,7 @@ pub fn entry_place<'a>(
     len: u32,
 ) -> Result<Place<'a>, Errno>
     requires one { rights_number right ≡ 2 ^ bit_of (rights_number right) }
-    ensures gives { GivesValue walk_end_of result (entry_place (bit_of (rights_number right)) fd path
+    ensures gives { GivesValue walk_end_of result (named_place (bit_of (rights_number right)) fd path
         len memory.now.bytes host.now.host) }
     ensures well { IfOk result (λ place. IsWellPlaced host.now.host.files (walk_end_of place)) }
 {
