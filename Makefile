@@ -37,10 +37,11 @@ $(SOURCES):
 	@echo "make: there is no $@: a release has no sources, so take a clone" >&2; false
 
 $(PROGRAM):
-	@echo "make: there is no $@: run 'make build' first" >&2; false
+	@echo "make: there is no $@: run 'make program' or 'make build' first" >&2; false
 
 # Copies the built program, its manual page, its documents, and what a systemd unit wants.
 install: $(PROGRAM)
+	@case $$($(PROGRAM) --version) in *unproved) echo "install: nothing was proved of this program" >&2;; esac
 	install -D -t $(DESTDIR)$(BINDIR) $(PROGRAM)
 	install -D -m 644 -t $(DESTDIR)$(DATADIR)/man/man1 docs/wasmhost.1
 	install -D -m 644 -t $(DESTDIR)$(DOCDIR) $(DOCS)

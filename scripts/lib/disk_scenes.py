@@ -225,7 +225,8 @@ LINES = [
         (b"0 r " + b"x" * 5_000 + b"\n", "", REFUSED),
         (b"1 r " + b"x" * 5_000 + b"\n", "", refused(1, too_long(5_000))),
         # Of a line whose end isn't among the bytes that were read no more is known.
-        (b"0 r " + b"x" * 5_000, "", refused(1, UNENDED)),
+        (b"1 r " + b"x" * 20_000, "", refused(1, UNENDED)),
+        (b"0 r " + b"x" * 20_000, "", REFUSED), (b"A" * 30_000, "", REFUSED),
         # However the pieces of it come: two of the longest don't hold its end.
         (b"1 r " + b"x" * 20_000 + b"\n", "", refused(1, UNENDED)),
         # A line that comes in several pieces is one line. Its end comes with the second one.

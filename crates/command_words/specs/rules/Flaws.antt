@@ -27,8 +27,9 @@ text_length (request.End number) = 0
 abbrev pub IsFlawOf : Bool → List ℕ → LineFlaw → Type 0
 IsFlawOf cut line (Long n) = (cut ≡ false) × (r : Request) × IsNumberedRequest r
     × (line ≡ request_line r) × (n ≡ text_length r)
-IsFlawOf cut line Cut = cut ≡ true
-IsFlawOf cut line Form = (cut ≡ false) × (IsAnyRequestLine line → ⊥)
+IsFlawOf cut line Cut = (cut ≡ true) × (r : Request) × IsNumberedRequest r
+    × (line ≡ request_line r)
+IsFlawOf cut line Form = IsAnyRequestLine line → ⊥
 
 -- That is wrong with the line that was refused, if it was for its form.
 abbrev pub IsFlawIn : Option LineFault → Bool → List ℕ → Option LineFlaw → Type 0

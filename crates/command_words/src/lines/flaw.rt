@@ -14,9 +14,9 @@ use wasi_abi::Version;
 pub enum LineFlaw {
     /// It is a request, with a text of so many bytes: too many.
     Long { bytes: usize },
-    /// It is longer than that of a request, and its end wasn't read.
+    /// It begins as a request does, is longer than one may be, and its end wasn't read.
     Cut,
-    /// It is no request, however long a text may be.
+    /// It is no request, however long a text may be, and none begins so.
     Form,
 }
 
@@ -24,10 +24,8 @@ pub enum LineFlaw {
 fn flaw_of(is_cut: bool, line: &[u8]) -> LineFlaw
     ensures { IsFlawOf is_cut line.now result }
 {
-    if is_cut {
-        return LineFlaw::Cut;
-    }
     match read_request(usize::MAX, line) {
+        Some(_) if is_cut => LineFlaw::Cut,
         Some(request) => LineFlaw::Long {
             bytes: request.text_length(),
         },
