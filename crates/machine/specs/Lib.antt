@@ -5,3 +5,4 @@ pub mod Hosting
 pub mod Loading
 pub mod laws
 pub mod rules
+pub mod Linked

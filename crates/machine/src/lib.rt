@@ -36,7 +36,7 @@
 //! - `globals`, `frame_count`, `place`, `slot_count` and `is_starting` tell what a machine shows
 //!   beside memory.
 //! - `memory_mut` lends the guest's memory, and nothing else changes (`writes_back`). `stop` drops
-//!   the thread, and `unlink` gives the module back.
+//!   the thread, `unlink` gives the module back, and `close` lets the machine go.
 //! - `into_loading` takes a machine's parts away, so that others can be put in their place.
 //!   `finish` of `Loading` gives the machine with these parts, which then shows some configuration
 //!   (`same`, `shows`). `Unfit` comes only where they show none (`refused`).

@@ -128,6 +128,9 @@ impl Machine {
         &self.code.module
     }
 
+    /// Lets the machine go. Its memory is given back.
+    pub fn close(self) {}
+
     /// Gives the module back. No memory is taken.
     pub fn unlink(self) -> ValidModule
         ensures { result ≡ self.guest }

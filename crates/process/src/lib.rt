@@ -33,6 +33,7 @@
 //!   process of version 1 into version 2: it shows what it showed, widened.
 //! - `from_parts`: there is a process with these parts exactly where a process has them (`exact`,
 //!   `made`).
+//! - `Process::close` lets a process go, and takes no memory.
 //! - `steps`, `answers`, `requests`, `lines` and the other getters say what it holds. Steps are
 //!   below 2^63, and lines below 2^63 - 2, unfinished ones counted. `P3 StepsSpent` is told where
 //!   the next step would go beyond.
@@ -55,10 +56,13 @@
 //!
 //! - What a process does is said of every process of the rules that it shows. Of the lines that
 //!   were released it keeps the number alone, so it shows one for each choice of their texts.
+//! - **A caller closes a process in place of dropping it.** A crate in which a process is dropped has
+//!   to prove again how each of its parts is: 22 functions. They are proved where it is closed.
 #![tactic(auto)]
 
 mod answering;
 mod calling;
+mod closing;
 mod fault;
 pub mod laws;
 mod process;

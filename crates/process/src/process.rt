@@ -54,7 +54,10 @@ impl Process {
         ensures only { IfErr result (LinkDenies (IsLinkable offer config.pages «module»)) }
     {
         let machine = link(alloc, module, config.pages())?;
-        let mut host = WasiState::new(alloc, config, Version::One)?;
+        let Ok(mut host) = WasiState::new(alloc, config, Version::One) else {
+            machine.close();
+            return Err(LinkFault::Memory);
+        };
         let ended = end_with_program(alloc, &machine, &mut host);
         Ok(Process {
             alloc,

@@ -94,6 +94,7 @@ impl Process {
         ensures exact { IsSome result ↔ IsProcess (process_from parts) }
     {
         if !is_process(&parts) {
+            parts.close();
             return None;
         }
         Some(Process {

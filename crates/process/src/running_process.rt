@@ -83,16 +83,25 @@ impl Process {
         ensures released { self.new.host.released ≡ self.old.host.released }
         ensures guest { self.new.machine.guest ≡ self.old.machine.guest }
     {
+        self.take_answer(&answer)
+    }
+
+    /// Takes the step that wants an answer, with this one, which only its owner drops.
+    fn take_answer(&mut self, answer: &Answer) -> Result<(), ProcessFault>
+        ensures gives { GivesAnswer self.old answer.now result self.new }
+        ensures released { self.new.host.released ≡ self.old.host.released }
+        ensures guest { self.new.machine.guest ≡ self.old.machine.guest }
+    {
         if !self.host.waiting_lines().is_empty() || self.ended.is_some() {
             return Err(ProcessFault::WrongAnswer);
         }
         if self.steps + 1 == NUMBERS_END {
             return Err(ProcessFault::StepsSpent);
         }
-        self.ended = answer_call(self.alloc, &mut self.machine, &mut self.host, &answer)?;
+        self.ended = answer_call(self.alloc, &mut self.machine, &mut self.host, answer)?;
         self.steps += 1;
         self.answers += 1;
-        self.requests += count_requests(&answer);
+        self.requests += count_requests(answer);
         Ok(())
     }
 }

@@ -27,7 +27,7 @@ use std::alloc::Global;
 
 /// Runs a process to where its records lead, and releases each line that it emits on the way, or
 /// that waited. It takes the step of the last record, and none after that. Gives the process, and
-/// how many steps were taken. After an error the process is dropped.
+/// how many steps were taken. After an error the process is closed.
 pub fn replay<O: Outlet>(
     alloc: Global,
     mut process: Process,
@@ -42,8 +42,13 @@ pub fn replay<O: Outlet>(
     ensures stopped { IfErr result
         (λ why. ReplaysInVain O.takes process records.now why outlet.old outlet.new) }
 {
-    let count = play_all(alloc, &mut process, records, outlet)?;
-    Ok((process, count))
+    match play_all(alloc, &mut process, records, outlet) {
+        Ok(count) => Ok((process, count)),
+        Err(fault) => {
+            process.close();
+            Err(fault)
+        }
+    }
 }
 
 /// Releases the lines that wait, and then takes the steps up to that of each record, and this one

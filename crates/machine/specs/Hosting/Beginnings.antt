@@ -13,6 +13,7 @@ use Rattle.machine.specs.declared.instance.instance.Instance.{Instance}
 use Rattle.machine.specs.Routines.Routines.{AreRoutines}
 use Rattle.machine.specs.Execution.Codes.{StateStandsFor}
 use Rattle.machine.specs.declared.hosting.starting.MachineStart.{MachineStart}
+use Rattle.machine.specs.declared.hosting.starting.RunningParts.{RunningParts}
 
 -- before the host's first call
 abbrev pub first : Store → List ℕ → Configuration
@@ -21,6 +22,16 @@ first store later = record { store = store; thread = []; later = later }
 -- the index of the type of each function of the module
 abbrev pub type_indices_of : Module → List ℕ
 type_indices_of m = imported_functions m.imports ++ map function_type_of m.functions
+
+-- All that running needs beside this instance.
+pub record ArePartsOf (i : Instance) (p : RunningParts) : Type 0 where
+  pub valid : IsValid i.«module»
+  pub type_indices : p.type_indices.items ≡ type_indices_of i.«module»
+  pub routines : AreRoutines i.«module» p.routines.items
+  pub frames : p.frames ≡ []
+  pub slots : p.slots ≡ []
+  pub globals : p.globals.items ≡ map number_in i.globals.items
+  pub later : p.later.items ≡ reverse (calls_of i.«module».start i.entry)
 
 -- Of this instance, with all that running needs, and before the host's first call.
 pub record IsOfInstance (i : Instance) (b : MachineStart) : Type 0 where

@@ -7,8 +7,8 @@ ghost use Rattle.machine.specs.rules.Acceptance.{HasNoValidModule, IsRead, IsRep
 ghost use Rattle.machine.specs.rules.Acceptance.{IsReportedOfReading};
 
 use crate::from_bytes::fault::ModuleFault;
-use guest_memory::MOST_PAGES;
 use crate::{Machine, link};
+use guest_memory::MOST_PAGES;
 use std::alloc::Global;
 use wasm_decode::decode;
 use wasm_validate::{ValidModule, validate};

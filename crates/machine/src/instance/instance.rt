@@ -4,7 +4,9 @@ ghost use Rattle.std.specs.Prelude.{◌≡◌, ◌≢◌, ◌≤◌, IfOk, IfErr
 ghost use Rattle.wasm_semantics.specs.Validity.{IsValid};
 ghost use Rattle.wasm_semantics.specs.Linking.{IsLinkable};
 ghost use Rattle.machine.specs.rules.Offers.{offer};
+ghost use Rattle.machine.specs.Linked.{instance_of};
 ghost use Rattle.machine.specs.rules.Initial.{IsPrepared};
+ghost use Rattle.machine.specs.rules.Instances.{IsLinked};
 ghost use Rattle.machine.specs.rules.Refusals.{IsRefused, LinkDenies};
 
 use crate::instance::calls::{check_imports, imported_calls};
@@ -34,6 +36,16 @@ pub struct Instance {
     pub table: Vec<Option<u32>>,
 }
 
+/// What an instance has beside its module.
+#[derive(Drop)]
+struct Beginning {
+    entry: u32,
+    calls: Vec<Call>,
+    memory: Memory,
+    globals: Vec<Value>,
+    table: Vec<Option<u32>>,
+}
+
 /// The entry of a module that can be linked, as far as memory goes.
 fn check(module: &Module, pages: u32) -> Result<u32, LinkFault>
     requires { IsValid module.now }
@@ -57,9 +69,32 @@ fn check(module: &Module, pages: u32) -> Result<u32, LinkFault>
     Ok(entry)
 }
 
-impl Instance {
-    ghost use Rattle.machine.specs.rules.Instances.{IsLinked};
+/// What a module begins with. The fault is the first in the order of `LinkFault`.
+fn beginning_of(alloc: Global, module: &Module, pages: u32) -> Result<Beginning, LinkFault>
+    requires pages { pages ≤ MOST_PAGES }
+    requires valid { IsValid module.now }
+    ensures linked { IfOk result (λ b. IsLinked pages module.now (instance_of module.now b)) }
+    ensures refused { IfErr result (IsRefused pages module.now) }
+{
+    let entry = check(module, pages)?;
+    let calls = imported_calls(alloc, module.imports.as_slice())?;
+    let constants = module.globals.as_slice();
+    let globals = initial_globals(alloc, constants)?;
+    let elements = module.elements.as_slice();
+    let table = initial_table(alloc, module.tables.as_slice(), constants, elements)?;
+    let memories = module.memories.as_slice();
+    let segments = module.data_segments.as_slice();
+    let memory = initial_memory(alloc, memories, pages, constants, segments)?;
+    Ok(Beginning {
+        entry,
+        calls,
+        memory,
+        globals,
+        table,
+    })
+}
 
+impl Instance {
     /// Links a module to the host, under so many pages of memory at most. The fault is the first in
     /// the order of `LinkFault`; memory is taken, and wanted, only where there is none. Time in
     /// proportion to the module and to its memory and table.
@@ -69,23 +104,16 @@ impl Instance {
         ensures refused { IfErr result (IsRefused pages «module») }
         ensures only { IfErr result (LinkDenies (IsLinkable offer pages «module»)) }
     {
-        let code = module.module();
-        let entry = check(code, pages)?;
-        let calls = imported_calls(alloc, code.imports.as_slice())?;
-        let globals = code.globals.as_slice();
-        let values = initial_globals(alloc, globals)?;
-        let elements = code.elements.as_slice();
-        let table = initial_table(alloc, code.tables.as_slice(), globals, elements)?;
-        let memories = code.memories.as_slice();
-        let segments = code.data_segments.as_slice();
-        let memory = initial_memory(alloc, memories, pages, globals, segments)?;
-        Ok(Instance {
-            module,
-            entry,
-            calls,
-            memory,
-            globals: values,
-            table,
-        })
+        match beginning_of(alloc, module.module(), pages) {
+            Ok(beginning) => Ok(Instance {
+                module,
+                entry: beginning.entry,
+                calls: beginning.calls,
+                memory: beginning.memory,
+                globals: beginning.globals,
+                table: beginning.table,
+            }),
+            Err(fault) => Err(fault),
+        }
     }
 }

@@ -153,16 +153,26 @@ impl Loading {
         ensures shows { OnOk result (ShowsSome self) }
         ensures refused { IfErr result (LoadDenies self) }
     {
-        self.check(alloc)?;
-        let Loading {
-            code,
-            state,
-            most_pages,
-        } = self;
-        Ok(Machine {
-            code,
-            state,
-            most_pages,
-        })
+        match self.check(alloc) {
+            Ok(()) => {
+                let Loading {
+                    code,
+                    state,
+                    most_pages,
+                } = self;
+                Ok(Machine {
+                    code,
+                    state,
+                    most_pages,
+                })
+            }
+            Err(fault) => {
+                self.close();
+                Err(fault)
+            }
+        }
     }
+
+    /// Lets the parts go. Their memory is given back.
+    pub fn close(self) {}
 }

@@ -5,9 +5,9 @@ ghost use Rattle.machine.specs.declared.from_bytes.fault.ModuleFault.TheVariants
 ghost use Rattle.record_replay.specs.rules.Refusals.{slice_fault, refusal_of};
 ghost use Rattle.record_replay.specs.declared.slices.fault.SliceFault.TheVariants as slice;
 
+use crate::OutletFault;
 use machine::{LinkFault, ModuleFault};
 use process::ProcessFault;
-use crate::OutletFault;
 use thiserror::Error;
 
 /// What is refused, under its own name.

@@ -10,8 +10,8 @@ ghost use Rattle.record_replay.specs.Turns.{working, failing, AsksOnce};
 
 use crate::slices::fault::SliceFault;
 use crate::slices::now::Now;
-use process::{Process, Stop};
 use crate::{Outlet, Source, release_waiting};
+use process::{Process, Stop};
 use wasi_abi::Question;
 
 /// Takes at most `fuel` steps. Each line is released, and each answer asked for, before the next

@@ -13,7 +13,7 @@ ghost use Rattle.wasi_calls.specs.rules.Calls.{IsAsLarge};
 use crate::descriptor::Names;
 use crate::host::WasiState;
 use crate::memory::in_range;
-use crate::paths::{PathNames, Place, find_place, path_bytes, named_place};
+use crate::paths::{PathNames, Place, find_place, named_place, path_bytes};
 use crate::status::put_filestat;
 use crate::stop::CallStop;
 use file_tree::NodeType;
@@ -83,11 +83,7 @@ pub fn create_directory(
 }
 
 /// Makes a directory at a place.
-fn make_directory(
-    alloc: Global,
-    host: &mut WasiState,
-    place: Place<'_>,
-) -> Result<(), CallStop>
+fn make_directory(alloc: Global, host: &mut WasiState, place: Place<'_>) -> Result<(), CallStop>
     requires well { IsWellPlaced host.old.host.files (walk_end_of place) }
     ensures done { (m : Bytes) → OnOk result (directory_made (walk_end_of place.entry) m
         host.old.host ≡ Ok (record { memory = m; host = host.new.host })) }

@@ -8,7 +8,7 @@ invariant_of-result c =
     let P : ℕ → Type 0 = λ n. HasBegun n c.args.«module» c.in_ok-machine.machine in
     is_process c.args.«module» c.args.config c.in_ok-machine.ensures.valid c.in_ok-machine.machine
     (subst P c.pages.ensures.value c.in_ok-machine.ensures.begun)
-    c.in_ok-host.host c.end_with_program-ended.new.host c.in_ok-host.ensures
+    c.in-Ok.host c.end_with_program-ended.new.host c.in-Ok.ensures
     c.end_with_program-ended.result c.end_with_program-ended.ensures.ends
     c.end_with_program-ended.ensures.few
 
@@ -17,7 +17,7 @@ returns-clause-started c =
     let P : ℕ → Type 0 = λ n. HasBegun n c.args.«module» c.in_ok-machine.machine in
     has_started c.args.«module» c.args.config c.in_ok-machine.ensures.valid c.in_ok-machine.machine
     (subst P c.pages.ensures.value c.in_ok-machine.ensures.begun)
-    c.in_ok-host.host c.end_with_program-ended.new.host c.in_ok-host.ensures
+    c.in-Ok.host c.end_with_program-ended.new.host c.in-Ok.ensures
     c.end_with_program-ended.result c.end_with_program-ended.ensures.ends
     c.end_with_program-ended.ensures.host
 
@@ -26,6 +26,6 @@ returns-clause-shows c =
     let P : ℕ → Type 0 = λ n. HasBegun n c.args.«module» c.in_ok-machine.machine in
     is_process c.args.«module» c.args.config c.in_ok-machine.ensures.valid c.in_ok-machine.machine
     (subst P c.pages.ensures.value c.in_ok-machine.ensures.begun)
-    c.in_ok-host.host c.end_with_program-ended.new.host c.in_ok-host.ensures
+    c.in-Ok.host c.end_with_program-ended.new.host c.in-Ok.ensures
     c.end_with_program-ended.result c.end_with_program-ended.ensures.ends
     c.end_with_program-ended.ensures.few

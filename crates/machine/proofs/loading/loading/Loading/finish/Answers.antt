@@ -6,4 +6,4 @@ use Rattle.machine.proofs.loading.loading.Loading.finish.Goals as goal
 pub invariant_of-result : goal.invariant_of-result
 invariant_of-result c =
     machine_made c.self.inside.code c.self.inside.state c.self.inside.most_pages c.self.invariant
-    (subst ShowsSome (sym c.self.view_is) c.in_ok-check.ensures.shows)
+    (subst ShowsSome (sym c.self.view_is) c.in-Ok.ensures.shows)

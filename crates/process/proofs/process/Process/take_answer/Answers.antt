@@ -7,7 +7,7 @@ use Rattle.process.specs.rules.Stops.{GivesFor}
 use Rattle.process.proofs.Lines.{below_when, empty_when}
 use Rattle.process.proofs.Counting.{parts_of}
 use Rattle.process.proofs.Giving.{running_when, is_kept, not_given, takes_answer, is_process_given}
-use Rattle.process.proofs.process.Process.give.Goals as goal
+use Rattle.process.proofs.process.Process.take_answer.Goals as goal
 
 pub invariant_of-self : goal.invariant_of-self
 invariant_of-self c =
@@ -19,7 +19,7 @@ invariant_of-self c =
     i.process i.shows in
     let made = c.in_err-self-inside.ensures.answers i.guest i.process parts running in
     let same = is_kept v.machine c.answer_call.new.machine v.host c.answer_call.new.host v.steps
-    v.answers v.requests v.ended c.args.answer i.guest i.process c.in_err-self-inside.field-0.0
+    v.answers v.requests v.ended c.args.answer.now i.guest i.process c.in_err-self-inside.field-0.0
     made in
     subst IsProcess (sym same) i
 
@@ -39,11 +39,11 @@ returns-in_err-self-inside-clause-gives c = λ guest p shows.
     process_of c.answer_call.new.machine c.answer_call.new.host v.steps v.answers v.requests
     v.ended in
     let P : ProcessValue → Type 0 =
-    λ z. GivesFor z now guest p c.args.answer (Err c.in_err-self-inside.field-0.0) in
+    λ z. GivesFor z now guest p c.args.answer.now (Err c.in_err-self-inside.field-0.0) in
     rw (q.1, q.2)
     (subst P c.self.view_is
     (not_given v.machine c.answer_call.new.machine v.host c.answer_call.new.host v.steps v.answers
-    v.requests v.ended c.args.answer guest p c.in_err-self-inside.field-0.0 made none_waits
+    v.requests v.ended c.args.answer.now guest p c.in_err-self-inside.field-0.0 made none_waits
     running))
 
 pub invariant_of-self-2 : goal.invariant_of-self-2
@@ -58,7 +58,7 @@ invariant_of-self-2 c =
     let few = i.few_steps in
     let few_steps = below_when (v.steps + 1) (2 ^ 63) (omega (arith, few)) c.if-self.false in
     is_process_given v.machine c.answer_call.new.machine v.host c.answer_call.new.host v.steps
-    v.answers v.requests v.ended c.args.answer i.guest i.process
+    v.answers v.requests v.ended c.args.answer.now i.guest i.process
     c.in_ok-self-inside.field-0 i.shows running c.count_requests.result c.count_requests.ensures
     made few_steps i.few_answers i.few_requests c.answer_call.ensures.few
 
@@ -75,7 +75,7 @@ returns-clause-gives c = λ guest p shows.
     let made = c.in_ok-self-inside.ensures.answers guest p (parts_of old guest p here) running in (
       sym (ap (λ (z : ProcessValue). waiting_in z) c.self.view_is) ∙ none_waits,
       takes_answer v.machine c.answer_call.new.machine v.host c.answer_call.new.host v.steps
-          v.answers v.requests v.ended c.args.answer guest p c.in_ok-self-inside.field-0 here
+          v.answers v.requests v.ended c.args.answer.now guest p c.in_ok-self-inside.field-0 here
           running
           c.count_requests.result c.count_requests.ensures made,
     )
