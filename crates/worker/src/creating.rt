@@ -71,7 +71,10 @@ fn worker_of(
             },
             replayed: 0,
         }),
-        Err(fault) => Err(WorkFault::from(fault)),
+        Err(fault) => {
+            drop(process);
+            Err(WorkFault::from(fault))
+        }
     }
 }
 

@@ -46,4 +46,9 @@ impl Worker {
     {
         self.replayed
     }
+
+    /// Lets the worker go. Its disk stays as the last call has left it.
+    pub fn close(self) {
+        drop(self);
+    }
 }

@@ -65,14 +65,28 @@ pub(crate) fn find_linked<D: Disk>(
     } = contents;
     restored_processes_are_the_saved();
     let machine = accept(alloc, wasm.as_slice(), config.pages())?;
-    let newest = read_newest(alloc, disk, &geometry)?;
+    drop(wasm);
+    let newest = match read_newest(alloc, disk, &geometry) {
+        Ok(newest) => newest,
+        Err(fault) => {
+            drop(machine);
+            drop(config);
+            return Err(RecoverFault::from(fault));
+        }
+    };
     let process = restore_into(alloc, machine, config, newest.process_image.as_slice())?;
-    let records = read_records(alloc, disk, &geometry, process.version(), newest.generation)?;
-    Ok(Found {
-        geometry,
-        generation: newest.generation,
-        process_image: newest.process_image,
-        process,
-        records,
-    })
+    match read_records(alloc, disk, &geometry, process.version(), newest.generation) {
+        Ok(records) => Ok(Found {
+            geometry,
+            generation: newest.generation,
+            process_image: newest.process_image,
+            process,
+            records,
+        }),
+        Err(fault) => {
+            drop(process);
+            drop(newest);
+            Err(RecoverFault::from(fault))
+        }
+    }
 }

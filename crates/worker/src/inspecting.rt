@@ -61,26 +61,23 @@ fn tell_found(
 ) -> Result<Inspection, RecoverFault>
     ensures { TellsFound contents found left result }
 {
-    let Found {
-        generation,
-        process_image,
-        process,
-        records,
-        ..
-    } = found;
-    let process_image_bytes = process_image.as_slice().len() as u64;
-    let question = wanted_by(&process);
+    let process_image_bytes = found.process_image.as_slice().len() as u64;
+    let question = wanted_by(&found.process);
     match left {
         Ok(journal_left) => Ok(Inspection {
             contents,
-            generation,
+            generation: found.generation,
             process_image_bytes,
-            process,
+            process: found.process,
             question,
-            records,
+            records: found.records,
             journal_left,
         }),
-        Err(fault) => Err(fault),
+        Err(fault) => {
+            drop(contents);
+            drop(found);
+            Err(fault)
+        }
     }
 }
 
@@ -106,7 +103,10 @@ fn look_behind<D: Disk>(
             let left = count_left(disk, &found.geometry, found.generation);
             tell_found(kept, found, left)
         }
-        Err(fault) => Err(fault),
+        Err(fault) => {
+            drop(kept);
+            Err(fault)
+        }
     }
 }
 

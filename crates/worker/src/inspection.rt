@@ -21,3 +21,10 @@ pub struct Inspection {
     /// still write.
     pub journal_left: u64,
 }
+
+impl Inspection {
+    /// Lets go of what was told.
+    pub fn close(self) {
+        drop(self);
+    }
+}

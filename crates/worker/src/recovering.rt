@@ -115,7 +115,10 @@ fn open_again<D: Disk>(
                 replayed,
             })
         }
-        Err(fault) => Err(fault),
+        Err(fault) => {
+            drop(process);
+            Err(fault)
+        }
     }
 }
 

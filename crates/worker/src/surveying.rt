@@ -34,7 +34,11 @@ pub fn read_survey<D: Disk>(alloc: Global, disk: &mut D) -> Result<Survey, Recov
         return Err(RecoverFault::from(fault));
     }
     match find(alloc, disk) {
-        Ok(found) => Ok(numbers_of(&found)),
+        Ok(found) => {
+            let survey = numbers_of(&found);
+            drop(found);
+            Ok(survey)
+        }
         Err(fault) => Err(fault),
     }
 }

@@ -153,7 +153,7 @@ pub fn list_files<D: Disk, W: Write + Drop, E: Write + Drop>(
     match inspect(alloc, disk) {
         Ok(told) => {
             let status = say_files(alloc, told.process.host().tree(), path, out, err);
-            drop(told);
+            told.close();
             status
         }
         Err(fault) => say_disk_fault(err, OnDiskFault::from(fault)),

@@ -46,7 +46,7 @@ pub fn inspect_disk<D: Disk, W: Write + Drop, E: Write + Drop>(
     match inspect(alloc, disk) {
         Ok(told) => {
             let status = say_inspection(alloc, &told, as_json, out, err);
-            drop(told);
+            told.close();
             status
         }
         Err(fault) => say_disk_fault(err, OnDiskFault::from(fault)),

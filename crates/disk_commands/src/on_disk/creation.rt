@@ -54,7 +54,7 @@ pub fn create_on<D: Disk, W: Write + Drop, E: Write + Drop>(
 {
     match Worker::create(alloc, disk, wasm, config) {
         Ok(worker) => {
-            drop(worker);
+            worker.close();
             say_created(out, sectors_of(config, wasm), err)
         }
         Err(fault) => say_disk_fault(err, OnDiskFault::from(fault)),

@@ -211,7 +211,7 @@ where
     match Worker::recover(alloc, disk, outlet) {
         Ok(mut worker) => {
             let status = serve_open(&mut worker, disk, drive, source, outlet, err);
-            drop(worker);
+            worker.close();
             status
         }
         Err(fault) => say_disk_fault(err, OnDiskFault::from(fault)),

@@ -134,7 +134,7 @@ pub fn upgrade_worker<D: Disk, O: Outlet, E: Write + Drop>(
     match Worker::recover(alloc, disk, outlet) {
         Ok(mut worker) => {
             let upgraded = bring_up(alloc, &mut worker, disk, outlet, err);
-            drop(worker);
+            worker.close();
             upgraded
         }
         Err(fault) => Err(say_disk_fault(err, OnDiskFault::from(fault))),

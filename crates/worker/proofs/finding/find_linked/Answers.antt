@@ -58,50 +58,39 @@ returns-in_err-machine-clause-own g c =
 
 -- ---- the newest image wasn't read
 
-pub returns-in_err-newest-clause-searches : goal.returns-in_err-newest-clause-searches
-returns-in_err-newest-clause-searches g c =
-    let p = err_from_is_err_and c.from_residual-in_err-newest.result
-    c.from_residual-in_err-newest.ensures.1 in
-    let failed = c.in_err-newest.ensures in
+pub returns-in-Err-clause-searches : goal.returns-in-Err-clause-searches
+returns-in-Err-clause-searches g c =
+    let failed = c.in-Err.ensures in
     let old = g.D.Disk.medium c.args.disk.now in
     let room = c.requires in
-    rw (p.1, p.2) (searches_in_vain (c.args.contents.geometry.area_sectors + 2) old.sectors old
-    (g.D.Disk.medium c.read_newest.new.disk) c.in_err-newest.field-0.0 (omega (arith, room))
+    rw c.from.ensures (searches_in_vain (c.args.contents.geometry.area_sectors + 2) old.sectors old
+    (g.D.Disk.medium c.read_newest.new.disk) c.in-Err.fault (omega (arith, room))
     failed.reads failed.asks failed.cause)
 
-pub returns-in_err-newest-clause-few : goal.returns-in_err-newest-clause-few
-returns-in_err-newest-clause-few g c =
-    let p = err_from_is_err_and c.from_residual-in_err-newest.result
-    c.from_residual-in_err-newest.ensures.1 in
-    rw p.1 tt
+pub returns-in-Err-clause-few : goal.returns-in-Err-clause-few
+returns-in-Err-clause-few g c = tt
 
-pub returns-in_err-newest-clause-finds : goal.returns-in_err-newest-clause-finds
-returns-in_err-newest-clause-finds g c =
-    let p = err_from_is_err_and c.from_residual-in_err-newest.result
-    c.from_residual-in_err-newest.ensures.1 in
-    rw (p.1, p.2) (λ image shown m config point records last at content.
+pub returns-in-Err-clause-finds : goal.returns-in-Err-clause-finds
+returns-in-Err-clause-finds g c =
+    rw c.from.ensures (λ image shown m config point records last at content.
     unread_says NewestProcessImage
     (λ found. (found.generation ≡ point.generation) × (found.version ≡ point.saved.version)
-    × (found.process_image ≡ process_image_of point.saved)) c.in_err-newest.field-0.0
-    (c.in_err-newest.ensures.finds image shown m config point records last at
+    × (found.process_image ≡ process_image_of point.saved)) c.in-Err.fault
+    (c.in-Err.ensures.finds image shown m config point records last at
     (ap (λ (s : Contents). s.geometry) content)))
 
-pub returns-in_err-newest-clause-shows : goal.returns-in_err-newest-clause-shows
-returns-in_err-newest-clause-shows g c =
-    let p = err_from_is_err_and c.from_residual-in_err-newest.result
-    c.from_residual-in_err-newest.ensures.1 in
-    rw (p.1, p.2) (λ image shown sectors whole.
+pub returns-in-Err-clause-shows : goal.returns-in-Err-clause-shows
+returns-in-Err-clause-shows g c =
+    rw c.from.ensures (λ image shown sectors whole.
     newest_unread sectors image c.args.contents whole c.pages.result c.as_slice.result.now
     c.pages.ensures.value c.as_slice.ensures c.in_ok-machine.machine
-    c.in_ok-machine.ensures.accepted c.in_err-newest.field-0.0
-    (c.in_err-newest.ensures.tells image shown))
+    c.in_ok-machine.ensures.accepted c.in-Err.fault
+    (c.in-Err.ensures.tells image shown))
 
-pub returns-in_err-newest-clause-own : goal.returns-in_err-newest-clause-own
-returns-in_err-newest-clause-own g c =
-    let p = err_from_is_err_and c.from_residual-in_err-newest.result
-    c.from_residual-in_err-newest.ensures.1 in
-    rw (p.1, p.2) (λ says. c.in_err-newest.ensures.own
-    (says_denied NewestProcessImage Found c.in_err-newest.field-0.0 says))
+pub returns-in-Err-clause-own : goal.returns-in-Err-clause-own
+returns-in-Err-clause-own g c =
+    rw c.from.ensures (λ says. c.in-Err.ensures.own
+    (says_denied NewestProcessImage Found c.in-Err.fault says))
 
 -- ---- its process wasn't made again
 
@@ -109,7 +98,7 @@ pub returns-in_err-process-clause-searches : goal.returns-in_err-process-clause-
 returns-in_err-process-clause-searches g c =
     let p = err_from_is_err_and c.from_residual-in_err-process.result
     c.from_residual-in_err-process.ensures.1 in
-    let read = c.in_ok-newest.ensures in
+    let read = c.in-Ok.ensures in
     let old = g.D.Disk.medium c.args.disk.now in
     let mid = g.D.Disk.medium c.read_newest.new.disk in
     let fault = recover.ProcessImage c.in_err-process.field-0.0 in
@@ -128,7 +117,7 @@ returns-in_err-process-clause-finds g c =
     let p = err_from_is_err_and c.from_residual-in_err-process.result
     c.from_residual-in_err-process.ensures.1 in
     rw (p.1, p.2) (λ image shown m config point records last at content.
-    let found = c.in_ok-newest.ensures.finds image shown m config point records last at
+    let found = c.in-Ok.ensures.finds image shown m config point records last at
     (ap (λ (s : Contents). s.geometry) content) in
     unmade at c.args.contents content c.pages.result c.as_slice.result.now
     c.pages.ensures.value c.as_slice.ensures c.in_ok-machine.machine
@@ -142,8 +131,8 @@ returns-in_err-process-clause-shows g c =
     rw (p.1, p.2) (λ image shown sectors whole.
     process_unmade sectors image c.args.contents whole c.pages.result c.as_slice.result.now
     c.pages.ensures.value c.as_slice.ensures c.in_ok-machine.machine
-    c.in_ok-machine.ensures.accepted c.in_ok-newest.newest
-    (c.in_ok-newest.ensures.tells image shown) c.as_slice-2.result.now c.as_slice-2.ensures
+    c.in_ok-machine.ensures.accepted c.in-Ok.newest
+    (c.in-Ok.ensures.tells image shown) c.as_slice-2.result.now c.as_slice-2.ensures
     c.in_err-process.field-0.0 c.in_err-process.ensures.refused)
 
 pub returns-in_err-process-clause-own : goal.returns-in_err-process-clause-own
@@ -154,40 +143,33 @@ returns-in_err-process-clause-own g c =
 
 -- ---- the records weren't read
 
-pub returns-in_err-records-clause-searches : goal.returns-in_err-records-clause-searches
-returns-in_err-records-clause-searches g c =
-    let p = err_from_is_err_and c.from_residual-in_err-records.result
-    c.from_residual-in_err-records.ensures.1 in
-    let read = c.in_ok-newest.ensures in
-    let failed = c.in_err-records.ensures in
+pub returns-in-Err-read_records-clause-searches : goal.returns-in-Err-read_records-clause-searches
+returns-in-Err-read_records-clause-searches g c =
+    let read = c.in-Ok.ensures in
+    let failed = c.in-Err-read_records.ensures in
     let old = g.D.Disk.medium c.args.disk.now in
     let mid = g.D.Disk.medium c.read_newest.new.disk in
     let new = g.D.Disk.medium c.read_records.new.disk in
     let geometry = c.args.contents.geometry in
     let room = c.requires in
-    rw (p.1, p.2) (searches_on (geometry.area_sectors + 2) geometry.journal_sectors old.sectors
-    old mid new (Err (fault_of_read c.in_err-records.field-0.0)) (omega (arith, room)) read.reads
+    rw c.from-in-Err-read_records.ensures (searches_on (geometry.area_sectors + 2)
+    geometry.journal_sectors old.sectors old mid new (Err (fault_of_read c.in-Err-read_records.fault)) (omega (arith, room)) read.reads
     read.asks (searches_in_vain geometry.journal_sectors geometry.journal_sectors mid new
-    c.in_err-records.field-0.0 (omega arith) failed.reads failed.asks failed.cause))
+    c.in-Err-read_records.fault (omega arith) failed.reads failed.asks failed.cause))
 
-pub returns-in_err-records-clause-few : goal.returns-in_err-records-clause-few
-returns-in_err-records-clause-few g c =
-    let p = err_from_is_err_and c.from_residual-in_err-records.result
-    c.from_residual-in_err-records.ensures.1 in
-    rw p.1 tt
+pub returns-in-Err-read_records-clause-few : goal.returns-in-Err-read_records-clause-few
+returns-in-Err-read_records-clause-few g c = tt
 
-pub returns-in_err-records-clause-finds : goal.returns-in_err-records-clause-finds
-returns-in_err-records-clause-finds g c =
-    let p = err_from_is_err_and c.from_residual-in_err-records.result
-    c.from_residual-in_err-records.ensures.1 in
-    rw (p.1, p.2) (λ image shown m config point records last at content.
-    let reads = c.in_err-records.ensures.reads in
+pub returns-in-Err-read_records-clause-finds : goal.returns-in-Err-read_records-clause-finds
+returns-in-Err-read_records-clause-finds g c =
+    rw c.from-in-Err-read_records.ensures (λ image shown m config point records last at content.
+    let reads = c.in-Err-read_records.ensures.reads in
     let before = stays_shows (g.D.Disk.medium c.read_newest.new.disk)
     (g.D.Disk.medium c.read_records.new.disk) reads.stays image shown in
     let placed = ap (λ (s : Contents). s.geometry) content in
-    let found = c.in_ok-newest.ensures.finds image before m config point records last at placed in
-    unread_says (Vec Record Global) (λ read. read.items ≡ records) c.in_err-records.field-0.0
-    (c.in_err-records.ensures.scans image shown m config point records last at placed
+    let found = c.in-Ok.ensures.finds image before m config point records last at placed in
+    unread_says (Vec Record Global) (λ read. read.items ≡ records) c.in-Err-read_records.fault
+    (c.in-Err-read_records.ensures.scans image shown m config point records last at placed
     (its_version at c.args.contents content c.pages.result c.as_slice.result.now
     c.pages.ensures.value c.as_slice.ensures c.in_ok-machine.machine
     c.in_ok-machine.ensures.accepted c.as_slice-2.result.now
@@ -195,44 +177,40 @@ returns-in_err-records-clause-finds g c =
     c.in_ok-process.process c.in_ok-process.ensures.restored
     c.version.result c.version.ensures) found.0))
 
-pub returns-in_err-records-clause-shows : goal.returns-in_err-records-clause-shows
-returns-in_err-records-clause-shows g c =
-    let p = err_from_is_err_and c.from_residual-in_err-records.result
-    c.from_residual-in_err-records.ensures.1 in
-    rw (p.1, p.2) (λ image shown sectors whole.
-    let reads = c.in_err-records.ensures.reads in
+pub returns-in-Err-read_records-clause-shows : goal.returns-in-Err-read_records-clause-shows
+returns-in-Err-read_records-clause-shows g c =
+    rw c.from-in-Err-read_records.ensures (λ image shown sectors whole.
+    let reads = c.in-Err-read_records.ensures.reads in
     let before = stays_shows (g.D.Disk.medium c.read_newest.new.disk)
     (g.D.Disk.medium c.read_records.new.disk) reads.stays image shown in
     records_unread sectors image c.args.contents whole c.pages.result c.as_slice.result.now
     c.pages.ensures.value c.as_slice.ensures c.in_ok-machine.machine
-    c.in_ok-machine.ensures.accepted c.in_ok-newest.newest
-    (c.in_ok-newest.ensures.tells image before) c.as_slice-2.result.now c.as_slice-2.ensures
+    c.in_ok-machine.ensures.accepted c.in-Ok.newest
+    (c.in-Ok.ensures.tells image before) c.as_slice-2.result.now c.as_slice-2.ensures
     c.in_ok-process.process c.in_ok-process.ensures.restored c.version.result c.version.ensures
-    c.in_err-records.field-0.0 (c.in_err-records.ensures.tells image shown))
+    c.in-Err-read_records.fault (c.in-Err-read_records.ensures.tells image shown))
 
-pub returns-in_err-records-clause-own : goal.returns-in_err-records-clause-own
-returns-in_err-records-clause-own g c =
-    let p = err_from_is_err_and c.from_residual-in_err-records.result
-    c.from_residual-in_err-records.ensures.1 in
-    rw (p.1, p.2) (λ says. c.in_err-records.ensures.own
-    (says_denied (Vec Record Global) Found c.in_err-records.field-0.0 says))
+pub returns-in-Err-read_records-clause-own : goal.returns-in-Err-read_records-clause-own
+returns-in-Err-read_records-clause-own g c =
+    rw c.from-in-Err-read_records.ensures (λ says. c.in-Err-read_records.ensures.own
+    (says_denied (Vec Record Global) Found c.in-Err-read_records.fault says))
 
 -- ---- all was read
 
-pub returns-clause-searches : goal.returns-clause-searches
-returns-clause-searches g c =
-    let newest = c.in_ok-newest.ensures in
-    let read = c.in_ok-records.ensures in
+pub returns-in-Ok-read_records-clause-searches : goal.returns-in-Ok-read_records-clause-searches
+returns-in-Ok-read_records-clause-searches g c =
+    let newest = c.in-Ok.ensures in
+    let read = c.in-Ok-read_records.ensures in
     let old = g.D.Disk.medium c.args.disk.now in
     let mid = g.D.Disk.medium c.read_newest.new.disk in
     let new = g.D.Disk.medium c.read_records.new.disk in
     let geometry = c.args.contents.geometry in
     let found : Found = record {
       geometry = geometry;
-      generation = c.in_ok-newest.newest.generation;
-      process_image = c.in_ok-newest.newest.process_image;
+      generation = c.in-Ok.newest.generation;
+      process_image = c.in-Ok.newest.process_image;
       process = c.in_ok-process.process;
-      records = c.in_ok-records.records;
+      records = c.in-Ok-read_records.records;
     } in
     let leaves = newest.reads.leaves in
     let same = leaves.passes.sectors in
@@ -242,19 +220,19 @@ returns-clause-searches g c =
     (searched geometry.journal_sectors mid new found (omega (arith, room, same)) read.reads
     read.asks c.in_ok-process.ensures.shows)
 
-pub returns-clause-few : goal.returns-clause-few
-returns-clause-few g c =
-    let newest = c.in_ok-newest.ensures.asks in
-    let read = c.in_ok-records.ensures.asks in
+pub returns-in-Ok-read_records-clause-few : goal.returns-in-Ok-read_records-clause-few
+returns-in-Ok-read_records-clause-few g c =
+    let newest = c.in-Ok.ensures.asks in
+    let read = c.in-Ok-read_records.ensures.asks in
     omega (arith, newest, read)
 
-pub returns-clause-finds : goal.returns-clause-finds
-returns-clause-finds g c = λ image shown m config point records last at content.
-    let reads = c.in_ok-records.ensures.reads in
+pub returns-in-Ok-read_records-clause-finds : goal.returns-in-Ok-read_records-clause-finds
+returns-in-Ok-read_records-clause-finds g c = λ image shown m config point records last at content.
+    let reads = c.in-Ok-read_records.ensures.reads in
     let before = stays_shows (g.D.Disk.medium c.read_newest.new.disk)
     (g.D.Disk.medium c.read_records.new.disk) reads.stays image shown in
     let placed = ap (λ (s : Contents). s.geometry) content in
-    let found = c.in_ok-newest.ensures.finds image before m config point records last at placed in
+    let found = c.in-Ok.ensures.finds image before m config point records last at placed in
     let version = its_version at c.args.contents content c.pages.result c.as_slice.result.now
     c.pages.ensures.value c.as_slice.ensures c.in_ok-machine.machine
     c.in_ok-machine.ensures.accepted c.as_slice-2.result.now
@@ -266,19 +244,19 @@ returns-clause-finds g c = λ image shown m config point records last at content
     c.in_ok-machine.ensures.accepted c.as_slice-2.result.now
     (c.as_slice-2.ensures ∙ found.2) c.restored_processes_are_the_saved.ensures
     c.in_ok-process.process c.in_ok-process.ensures.restored
-    c.in_ok-newest.newest.generation found.0 c.in_ok-newest.newest.process_image
-    c.in_ok-records.records
-    (c.in_ok-records.ensures.scans image shown m config point records last at placed version
+    c.in-Ok.newest.generation found.0 c.in-Ok.newest.process_image
+    c.in-Ok-read_records.records
+    (c.in-Ok-read_records.ensures.scans image shown m config point records last at placed version
     found.0) c.in_ok-process.ensures.shows
 
-pub returns-clause-shows : goal.returns-clause-shows
-returns-clause-shows g c = λ image shown sectors whole.
-    let reads = c.in_ok-records.ensures.reads in
+pub returns-in-Ok-read_records-clause-shows : goal.returns-in-Ok-read_records-clause-shows
+returns-in-Ok-read_records-clause-shows g c = λ image shown sectors whole.
+    let reads = c.in-Ok-read_records.ensures.reads in
     let before = stays_shows (g.D.Disk.medium c.read_newest.new.disk)
     (g.D.Disk.medium c.read_records.new.disk) reads.stays image shown in
     all_found sectors image c.args.contents whole c.pages.result c.as_slice.result.now
     c.pages.ensures.value c.as_slice.ensures c.in_ok-machine.machine
-    c.in_ok-machine.ensures.accepted c.in_ok-newest.newest
-    (c.in_ok-newest.ensures.tells image before) c.as_slice-2.result.now c.as_slice-2.ensures
+    c.in_ok-machine.ensures.accepted c.in-Ok.newest
+    (c.in-Ok.ensures.tells image before) c.as_slice-2.result.now c.as_slice-2.ensures
     c.in_ok-process.process c.in_ok-process.ensures.restored c.version.result c.version.ensures
-    c.in_ok-records.records (c.in_ok-records.ensures.tells image shown)
+    c.in-Ok-read_records.records (c.in-Ok-read_records.ensures.tells image shown)
