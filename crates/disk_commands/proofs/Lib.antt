@@ -20,8 +20,8 @@ pub mod OpeningLemmas
 pub mod StatusLineLemmas
 pub mod StatusLemmas
 pub mod StatusFileLemmas
-mod SpellingLemmas
+mod FactLemmas
+mod JsonLemmas
+mod OpenedLemmas
 mod InspectingLemmas
-mod ValueLemmas
-mod PlainLemmas
 pub mod FlawLemmas

@@ -1,4 +1,6 @@
+pub mod FactViews
 pub mod Livings
+pub mod Members
 pub mod ComingUp
 pub mod StatusLines
 pub mod laws

@@ -15,9 +15,7 @@ pub mod Upgradings
 pub mod Showings
 pub mod StatusFiles
 pub mod Watchings
-pub mod InspectionTexts
-pub mod InspectionValues
+pub mod Facts
+pub mod DiskFacts
 pub mod Inspectings
-pub mod ProcessTexts
-pub mod ProcessValues
 pub mod LookedFiles

@@ -33,10 +33,9 @@
 //! (`MadeFiles.antt`); `SaysOfInput` (`Leavings.antt`); `ShowsDisk`, `ShowsSurvey`, `survey_line`
 //! (`Showings.antt`); `open_words`, `IsOpenedFor`, `ShowsFile` (`Openings.antt`); `watch_line`,
 //! `IsDue`, `IsStatusLine`, `WatchesEnd` (`Watchings.antt`); `IsFreePath`, `IsStatusFile`,
-//! `SaysUnwatched` (`StatusFiles.antt`); `inspection_text`, `inspection_data`, `listing_text`,
-//! `TellsDisk`, `TellsFiles` (`Inspectings.antt`), with their lines in `InspectionTexts.antt` and
-//! `ProcessTexts.antt`, and the members of the JSON value in `InspectionValues.antt` and
-//! `ProcessValues.antt`; `TellsFile`, `TellsFilesOf` (`LookedFiles.antt`); `RunStart`, `RunEnd`,
+//! `SaysUnwatched` (`StatusFiles.antt`); `Fact`, `facts_text`, `facts_data`, `facts_words`
+//! (`Facts.antt`); `disk_facts` (`DiskFacts.antt`); `listing_text`, `TellsDisk`, `TellsFiles`
+//! (`Inspectings.antt`); `TellsFile`, `TellsFilesOf` (`LookedFiles.antt`); `RunStart`, `RunEnd`,
 //! `ServesOnDisk`, `LivesOnDisk`, `HasOutcome`, `HasBrokenOff`, `source_behind`
 //! (`ServedOnDisk.antt`); `RunsFile`, `IsJobOf`, `UpgradesFile` (`ServedFiles.antt`); `BreaksOff`,
 //! `LeavesNoLine`, `TellsItsLines` (`BrokenLives.antt`); `HeedsRefusal` (`Refusals.antt`);

@@ -1,96 +1,24 @@
 -- What `wasmhost inspect` and `wasmhost files` say of a disk (this project's own).
-use Rattle.std.specs.Prelude.{◌≡◌, ◌⊎◌, ℕ, ◌*◌, Bool, List, [], ◌∷◌, ◌++◌, length, codes}
-use Rattle.std.specs.Prelude.{Option, Some, None, Result, Ok, Err, Vec, if◌then◌else◌, ◌==◌}
+use Rattle.std.specs.Prelude.{◌≡◌, ◌⊎◌, ℕ, Bool, List, [], ◌∷◌, ◌++◌, codes, Option, Some, None}
+use Rattle.std.specs.Prelude.{Result, Ok, Err, Vec, if◌then◌else◌, ◌==◌}
 use Rattle.std.specs.declared.alloc.Global.{Global}
 use Rattle.std.specs.Fmt.{decimal}
 use Rattle.std.specs.List.{flat_map}
-use Rattle.hex.specs.Hex.{encode_lower}
-use Rattle.sha2.specs.Sha256.{sha256}
-use Rattle.serde_json.specs.Data.{Data, string, object, no_members}
-use Rattle.serde_json.specs.Written.{compact_text}
 use Rattle.sector_disk.specs.rules.Medium.{Medium}
-use Rattle.file_tree.specs.declared.limits.TheConstants.{UNIT_BYTES}
 use Rattle.file_tree.specs.rules.Files.{Files}
 use Rattle.file_listing.specs.declared.fault.PathFault.{PathFault}
 use Rattle.file_listing.specs.declared.fault.PathFault.TheVariants as fault
 use Rattle.file_listing.specs.declared.listed.ListedNode.{ListedNode}
 use Rattle.file_listing.specs.rules.Listed.{listing_in, ReadsPath}
-use Rattle.wasi_abi.specs.declared.version.Version.{Version}
-use Rattle.wasi_abi.specs.rules.Versions.{version_number}
-use Rattle.disk_layout.specs.declared.reading.contents.Contents.{Contents}
-use Rattle.disk_layout.specs.declared.superblock.TheConstants.{LAYOUT}
 use Rattle.worker.specs.declared.inspection.Inspection.{Inspection}
 use Rattle.worker.specs.declared.recover_fault.RecoverFault.{RecoverFault}
 use Rattle.worker.specs.rules.Inspections.{Inspects}
 use Rattle.command_words.specs.rules.Printers.{PrinterState, IsSaid, SaysText}
 use Rattle.disk_commands.specs.rules.DiskStatuses.{opening_fault, status_on_disk}
-use Rattle.disk_commands.specs.rules.InspectionTexts.{number_fact, text_fact, settings_facts}
-use Rattle.disk_commands.specs.rules.InspectionTexts.{snapshot_facts, host_facts}
-use Rattle.disk_commands.specs.rules.InspectionTexts.{journal_facts}
-use Rattle.disk_commands.specs.rules.InspectionValues.{Member, number_data, put_all}
-use Rattle.disk_commands.specs.rules.InspectionValues.{settings_members, snapshot_members}
-use Rattle.disk_commands.specs.rules.InspectionValues.{host_members, journal_members}
-use Rattle.disk_commands.specs.rules.ProcessTexts.{process_facts}
-use Rattle.disk_commands.specs.rules.ProcessValues.{process_members}
+use Rattle.disk_commands.specs.rules.Facts.{facts_words}
+use Rattle.disk_commands.specs.rules.DiskFacts.{disk_facts}
 
--- ---- the facts of a disk
-
--- the layout of the disk, the version of its worker, and the module's length and digest
-abbrev pub module_facts : Version → List ℕ → List ℕ
-module_facts version wasm =
-    number_fact (codes "layout") LAYOUT
-    ++ number_fact (codes "version") (version_number version)
-    ++ number_fact (codes "module") (length wasm)
-    ++ text_fact (codes "digest") (encode_lower (sha256 wasm))
-
--- these, and the configuration
-abbrev pub contents_facts : Version → Contents → List ℕ
-contents_facts version contents =
-    module_facts version contents.wasm ++ settings_facts contents.config
-
--- all that is told of a disk
-abbrev pub inspection_text : Inspection → List ℕ
-inspection_text told =
-    contents_facts told.process.host.host.version told.contents
-    ++ snapshot_facts told.generation told.process_image_bytes
-    ++ process_facts told.process told.question
-    ++ host_facts (told.contents.config.files * UNIT_BYTES) told.process.host.host
-    ++ journal_facts told.records.items told.journal_left
-
--- ---- the same as one value
-
--- the layout of the disk, the version of its worker, and the module's length and digest
-abbrev pub module_members : Version → List ℕ → List Member
-module_members version wasm =
-    (codes "layout", number_data LAYOUT)
-    ∷ (codes "version", number_data (version_number version))
-    ∷ (codes "module", number_data (length wasm))
-    ∷ (codes "digest", string (encode_lower (sha256 wasm))) ∷ []
-
--- these, and the configuration
-abbrev pub contents_members : Version → Contents → List Member
-contents_members version contents =
-    module_members version contents.wasm ++ settings_members contents.config
-
--- all that is told of a disk
-abbrev pub inspection_members : Inspection → List Member
-inspection_members told =
-    contents_members told.process.host.host.version told.contents
-    ++ snapshot_members told.generation told.process_image_bytes
-    ++ process_members told.process told.question
-    ++ host_members (told.contents.config.files * UNIT_BYTES) told.process.host.host
-    ++ journal_members told.records.items told.journal_left
-
--- one object of these members
-abbrev pub inspection_data : Inspection → Data
-inspection_data told = object (put_all (inspection_members told) no_members)
-
--- what is printed: the text of that value on a line, or one fact a line
-abbrev pub inspection_words : Bool → Inspection → List ℕ
-inspection_words as_json told =
-    if as_json then compact_text (inspection_data told) ++ codes "\n" else inspection_text told
-
--- ---- its files
+-- ---- the files of a disk
 
 -- a listed node: whether it is a directory or a file, a file's size, and its path
 abbrev pub node_line : ListedNode → List ℕ
@@ -147,7 +75,7 @@ SaysRefusal why out out' err err' status =
 abbrev pub SaysInspected : Bool → Result Inspection RecoverFault → PrinterState → PrinterState
     → PrinterState → PrinterState → ℕ → Type 0
 SaysInspected as_json (Ok told) out out' err err' status =
-    SaysOrWants (inspection_words as_json told) out out' err err' status
+    SaysOrWants (facts_words as_json (disk_facts told)) out out' err err' status
 SaysInspected as_json (Err why) out out' err err' status = SaysRefusal why out out' err err' status
 
 -- what is said of its files

@@ -1,106 +1,115 @@
 //! Facts of a host: its files, and what is open.
 
-ghost use Rattle.std.specs.Prelude.{◌≡◌, OnOk, Some};
-ghost use Rattle.std.specs.Io.KnownBytes.{Appends};
+ghost use Rattle.std.specs.Prelude.{◌≡◌, ◌++◌, [], ◌∷◌, IfOk, OnOk};
 ghost use Rattle.wasi_calls.specs.Views.{target_of};
-ghost use Rattle.disk_commands.specs.rules.InspectionTexts.{target_words, descriptor_fact};
-ghost use Rattle.disk_commands.specs.rules.InspectionTexts.{last_number};
-ghost use Rattle.disk_commands.specs.rules.InspectionTexts.{descriptor_facts, host_facts};
-ghost use Rattle.disk_commands.specs.rules.InspectionTexts.{usage_fact};
+ghost use Rattle.disk_commands.specs.FactViews.{Adds, value_of, values_of};
+ghost use Rattle.disk_commands.specs.rules.Facts.{Single};
+ghost use Rattle.disk_commands.specs.rules.DiskFacts.{descriptor_value, descriptor_values};
+ghost use Rattle.disk_commands.specs.rules.DiskFacts.{host_facts, opened_values, target_number};
+ghost use Rattle.disk_commands.specs.rules.DiskFacts.{target_word, usage_value};
 
+use crate::inspecting::fact::{Fact, FactValue, Field};
+use crate::inspecting::facts::{add, add_list};
 use file_tree::Tree;
 use file_tree::limits::NODES;
-use std::io::{self, Write};
+use std::alloc::{AllocError, Global};
 use wasi_calls::{Descriptor, Names, WasiState};
 
-/// Spells what a descriptor names.
-fn spell_target<W: Write>(out: &mut W, tree: &Tree, names: Names) -> io::Result<()>
-    ensures { OnOk result (Appends (W.contents out.old) (W.contents out.new)
-        (target_words tree.now (target_of names))) }
+/// The word for what a descriptor names, and the number of that stream or node.
+fn named_target(tree: &Tree, names: Names) -> (&'static str, u64)
+    ensures word { result.0.now ≡ target_word tree.now (target_of names) }
+    ensures number { result.1 ≡ target_number (target_of names) }
 {
     match names {
-        Names::Stream(stream) => write!(out, " stream {stream}"),
-        Names::Node(node) if tree.is_directory(node) => write!(out, " directory {node}"),
-        Names::Node(node) => write!(out, " file {node}"),
+        Names::Stream(stream) => ("stream", u64::from(stream)),
+        Names::Node(node) if tree.is_directory(node) => ("directory", node),
+        Names::Node(node) => ("file", node),
     }
 }
 
-/// Spells what an open descriptor names.
-fn spell_named<W: Write>(out: &mut W, tree: &Tree, descriptor: &Descriptor) -> io::Result<()>
-    ensures { OnOk result (Appends (W.contents out.old) (W.contents out.new)
-        (target_words tree.now descriptor.now.target)) }
-{
-    spell_target(out, tree, descriptor.names())
-}
-
-/// Spells a number at the end of a line.
-fn spell_end<W: Write>(out: &mut W, number: u64) -> io::Result<()>
-    ensures { OnOk result (Appends (W.contents out.old) (W.contents out.new)
-        (last_number number)) }
-{
-    writeln!(out, " {number}")
-}
-
-/// Spells a descriptor that is open under a number.
-fn spell_opened<W: Write>(
-    out: &mut W,
+/// A descriptor that is open under a number.
+fn descriptor_value(
+    alloc: Global,
     tree: &Tree,
     number: usize,
     descriptor: &Descriptor,
-) -> io::Result<()>
-    ensures { OnOk result (Appends (W.contents out.old) (W.contents out.new)
-        (descriptor_fact tree.now number (Some descriptor.now))) }
+) -> Result<FactValue<'static>, AllocError>
+    ensures { IfOk result (λ value. value_of value
+        ≡ descriptor_value tree.now number descriptor.now) }
 {
-    write!(out, "descriptor {number}")?;
-    spell_named(out, tree, descriptor)?;
-    spell_end(out, descriptor.offset())
+    let (kind, target) = named_target(tree, descriptor.names());
+    let fields = vec![in alloc;
+        Field::of_number("number", number as u64),
+        Field::of_word("kind", kind),
+        Field::of_number("target", target),
+        Field::of_number("offset", descriptor.offset()),
+    ]?;
+    Ok(FactValue::Fields(fields))
 }
 
-/// Spells what is open under a number, if anything is.
-fn spell_descriptor<W: Write>(
-    out: &mut W,
+/// Puts what is open under a number after others, if anything is.
+fn push_opened(
+    values: &mut Vec<FactValue>,
+    alloc: Global,
     tree: &Tree,
     number: usize,
     opened: &Option<Descriptor>,
-) -> io::Result<()>
-    ensures { OnOk result (Appends (W.contents out.old) (W.contents out.new)
-        (descriptor_fact tree.now number opened.now)) }
+) -> Result<(), AllocError>
+    ensures { OnOk result (values_of values.new.items
+        ≡ values_of values.old.items ++ opened_values tree.now number opened.now) }
 {
-    match opened {
-        Some(descriptor) => spell_opened(out, tree, number, descriptor),
-        None => Ok(()),
-    }
-}
-
-/// Spells all that is open.
-fn spell_descriptors<W: Write>(
-    out: &mut W,
-    tree: &Tree,
-    descriptors: &[Option<Descriptor>],
-) -> io::Result<()>
-    ensures { OnOk result (Appends (W.contents out.old) (W.contents out.new)
-        (descriptor_facts tree.now 0 descriptors.now)) }
-{
-    for (number, descriptor) in descriptors.iter().enumerate() {
-        spell_descriptor(out, tree, number, descriptor)?;
+    if let Some(descriptor) = opened {
+        values.push(descriptor_value(alloc, tree, number, descriptor)?)?;
     }
     Ok(())
 }
 
-/// Spells a name, how much of something is used, and how much there may be.
-fn spell_usage<W: Write>(out: &mut W, name: &str, used: u64, limit: u64) -> io::Result<()>
-    ensures { OnOk result (Appends (W.contents out.old) (W.contents out.new)
-        (usage_fact name.now used limit)) }
+/// All that is open.
+fn descriptor_values(
+    alloc: Global,
+    tree: &Tree,
+    descriptors: &[Option<Descriptor>],
+) -> Result<Vec<FactValue<'static>>, AllocError>
+    ensures { IfOk result (λ values. values_of values.items
+        ≡ descriptor_values tree.now 0 descriptors.now) }
 {
-    writeln!(out, "{name} {used} {limit}")
+    let mut values = Vec::new(alloc);
+    for (number, opened) in descriptors.iter().enumerate() {
+        push_opened(&mut values, alloc, tree, number, opened)?;
+    }
+    Ok(values)
 }
 
-/// Spells the files of a host, which may have so many bytes, and what is open.
-pub(super) fn spell_host<W: Write>(out: &mut W, host: &WasiState, room: u64) -> io::Result<()>
-    ensures { OnOk result (Appends (W.contents out.old) (W.contents out.new)
-        (host_facts room host.now.host)) }
+/// Adds how much of something is used, and how much there may be.
+fn add_usage(
+    facts: &mut Vec<Fact>,
+    alloc: Global,
+    name: &'static str,
+    used: u64,
+    limit: u64,
+) -> Result<(), AllocError>
+    ensures { OnOk result (Adds facts.old.items facts.new.items
+        (Single name.now (usage_value used limit) ∷ [])) }
 {
-    spell_usage(out, "nodes", host.tree().len() as u64, NODES as u64)?;
-    spell_usage(out, "bytes", host.tree().used_bytes(), room)?;
-    spell_descriptors(out, host.tree(), host.descriptors())
+    let fields = vec![in alloc;
+        Field::of_number("used", used),
+        Field::of_number("limit", limit),
+    ]?;
+    add(facts, name, FactValue::Fields(fields))
+}
+
+/// Adds the files of a host, which may have so many bytes, and what is open.
+pub(super) fn add_host(
+    facts: &mut Vec<Fact>,
+    alloc: Global,
+    host: &WasiState,
+    room: u64,
+) -> Result<(), AllocError>
+    ensures { OnOk result (Adds facts.old.items facts.new.items (host_facts room host.now.host)) }
+{
+    let tree = host.tree();
+    add_usage(facts, alloc, "nodes", tree.len() as u64, NODES as u64)?;
+    add_usage(facts, alloc, "bytes", tree.used_bytes(), room)?;
+    let descriptors = descriptor_values(alloc, tree, host.descriptors())?;
+    add_list(facts, "descriptor", "descriptors", descriptors)
 }

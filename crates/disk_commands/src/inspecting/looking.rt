@@ -1,15 +1,45 @@
 //! `wasmhost inspect`.
 
-ghost use Rattle.std.specs.Prelude.{◌≤◌, Ok};
+ghost use Rattle.std.specs.Prelude.{◌≡◌, ◌≤◌, IfOk, Ok, string_bytes};
+ghost use Rattle.hex.specs.Hex.{encode_lower};
+ghost use Rattle.sha2.specs.Sha256.{sha256};
+ghost use Rattle.disk_commands.specs.rules.DiskFacts.{disk_facts};
+ghost use Rattle.disk_commands.specs.rules.Facts.{facts_words};
 ghost use Rattle.disk_commands.specs.rules.Inspectings.{SaysInspected, TellsDisk};
 
-use crate::inspecting::whole::text_of;
+use crate::inspecting::fact_json::json_of_facts;
+use crate::inspecting::fact_text::text_of_facts;
+use crate::inspecting::facts::add_facts;
 use crate::on_disk::{OnDiskFault, say_disk_fault};
 use command_words::{Obstacle, Printer, report, say_text};
 use sector_disk::Disk;
-use std::alloc::Global;
-use std::io::Write;
+use sha2::{Digest, Sha256};
+use std::alloc::{AllocError, Global};
+use std::io::{self, Write};
 use worker::{Inspection, inspect};
+
+/// The digest of a module, in digits.
+fn digest_of(alloc: Global, wasm: &[u8]) -> Result<String, AllocError>
+    ensures { IfOk result (λ digits. string_bytes digits ≡ encode_lower (sha256 wasm.now)) }
+{
+    let digest: [u8; 32] = Sha256::digest(wasm);
+    hex::encode(alloc, digest)
+}
+
+/// The text of all that is told of a disk, as one JSON value or one fact a line.
+#[tactic(auto, using(crate::proofs::FactLemmas::added_after))]
+fn text_of(alloc: Global, told: &Inspection, as_json: bool) -> io::Result<Vec<u8>>
+    ensures { IfOk result (λ text. text.items ≡ facts_words as_json (disk_facts told.now)) }
+{
+    let digest = digest_of(alloc, told.contents.wasm.as_slice())?;
+    let mut facts = Vec::new(alloc);
+    add_facts(&mut facts, alloc, told, digest.as_str())?;
+    if as_json {
+        Ok(json_of_facts(alloc, facts.as_slice())?)
+    } else {
+        text_of_facts(alloc, facts.as_slice())
+    }
+}
 
 /// Prints all that is told of a disk, or that there is no memory for it. Answers the exit status.
 fn say_inspection<W: Write + Drop, E: Write + Drop>(

@@ -2,24 +2,21 @@
 //!
 //! # Promises
 //!
-//! - `inspect_disk`: all facts of the disk are printed, one a line or as one JSON value, or what
-//!   keeps it from that is told (`TellsDisk`). `list_files`: the files of the saved process are
+//! - `inspect_disk`: all facts of the disk are printed, or what keeps it from that is told
+//!   (`TellsDisk`). There is one list of facts (`disk_facts`). It is printed as one fact a line, or
+//!   as one JSON value (`facts_words`). `list_files`: the files of the saved process are
 //!   listed, or the bytes of one are written (`TellsFiles`). `inspect_file` and `files_file` say
 //!   these of a disk of which no call was made since it was opened (`TellsFile`, `TellsFilesOf`).
 
+mod fact;
+mod fact_json;
+mod fact_text;
 mod facts;
 mod files;
 mod host_facts;
-mod host_values;
 mod looking;
-mod process_values;
-mod progress;
+mod process_facts;
 mod record_facts;
-mod record_values;
-mod setting_values;
-mod values;
-mod whole;
-mod whole_value;
 
 pub use files::list_files;
 pub use looking::inspect_disk;

@@ -1,22 +1,21 @@
-//! Facts of records.
+//! Facts of a journal.
 
-ghost use Rattle.std.specs.Prelude.{◌≡◌, OnOk, length};
-ghost use Rattle.std.specs.Io.KnownBytes.{Appends};
+ghost use Rattle.std.specs.Prelude.{◌≡◌, IfOk, OnOk, length, map};
 ghost use Rattle.disk_layout.specs.rules.Journal.{payload_of};
-ghost use Rattle.std.specs.List.{flat_map};
-ghost use Rattle.disk_commands.specs.rules.InspectionTexts.{journal_facts, kind_word};
-ghost use Rattle.disk_commands.specs.rules.InspectionTexts.{record_fact};
+ghost use Rattle.disk_commands.specs.FactViews.{Adds, value_of, values_of};
+ghost use Rattle.disk_commands.specs.rules.DiskFacts.{journal_facts, kind_word, record_value};
 
-use crate::inspecting::facts::spell_number;
+use crate::inspecting::fact::{Fact, FactValue, Field};
+use crate::inspecting::facts::{add_list, add_number};
 use disk_layout::Record;
-use std::io::{self, Write};
+use std::alloc::{AllocError, Global};
 use wasi_abi::Answer;
 
 /// How many bytes a clock's time has.
 const TIME_BYTES: usize = 8;
 
 /// The word for what was answered.
-pub(super) fn kind_word(answer: &Answer) -> &'static str
+fn kind_word(answer: &Answer) -> &'static str
     ensures { result.now ≡ kind_word answer.now }
 {
     match answer {
@@ -29,7 +28,7 @@ pub(super) fn kind_word(answer: &Answer) -> &'static str
 }
 
 /// How many bytes the payload of an answer has.
-pub(super) fn payload_length(answer: &Answer) -> usize
+fn payload_length(answer: &Answer) -> usize
     ensures { result ≡ length (payload_of answer.now) }
 {
     match answer {
@@ -40,37 +39,41 @@ pub(super) fn payload_length(answer: &Answer) -> usize
     }
 }
 
-/// Spells a record.
-fn spell_record<W: Write>(out: &mut W, entry: &Record) -> io::Result<()>
-    ensures { OnOk result (Appends (W.contents out.old) (W.contents out.new)
-        (record_fact entry.now)) }
+/// A record.
+fn record_value(alloc: Global, entry: &Record) -> Result<FactValue<'static>, AllocError>
+    ensures { IfOk result (λ value. value_of value ≡ record_value entry.now) }
 {
-    let word = kind_word(&entry.answer);
     let step = entry.step;
-    let length = payload_length(&entry.answer);
-    writeln!(out, "record {word} {step} {length}")
+    let fields = vec![in alloc;
+        Field::of_word("kind", kind_word(&entry.answer)),
+        Field::of_number("step", step),
+        Field::of_number("length", payload_length(&entry.answer) as u64),
+    ]?;
+    Ok(FactValue::Fields(fields))
 }
 
-/// Spells records, each on a line.
-fn spell_records<W: Write>(out: &mut W, records: &[Record]) -> io::Result<()>
-    ensures { OnOk result (Appends (W.contents out.old) (W.contents out.new)
-        (flat_map record_fact records.now)) }
+/// All records of a journal.
+fn record_values(alloc: Global, records: &[Record]) -> Result<Vec<FactValue<'static>>, AllocError>
+    ensures { IfOk result (λ values. values_of values.items ≡ map record_value records.now) }
 {
+    let mut values = Vec::new(alloc);
     for entry in records {
-        spell_record(out, entry)?;
+        values.push(record_value(alloc, entry)?)?;
     }
-    Ok(())
+    Ok(values)
 }
 
-/// Spells the records of a journal, and how many of its sectors are left.
-pub(super) fn spell_journal<W: Write>(
-    out: &mut W,
+/// Adds the records of a journal, and how many of its sectors are left.
+pub(super) fn add_journal(
+    facts: &mut Vec<Fact>,
+    alloc: Global,
     records: &[Record],
     sectors_left: u64,
-) -> io::Result<()>
-    ensures { OnOk result (Appends (W.contents out.old) (W.contents out.new)
+) -> Result<(), AllocError>
+    ensures { OnOk result (Adds facts.old.items facts.new.items
         (journal_facts records.now sectors_left)) }
 {
-    spell_records(out, records)?;
-    spell_number(out, "left", sectors_left)
+    let values = record_values(alloc, records)?;
+    add_list(facts, "record", "records", values)?;
+    add_number(facts, "left", sectors_left)
 }
