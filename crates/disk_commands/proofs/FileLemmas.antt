@@ -1,31 +1,31 @@
 -- A disk in a file, opened for a command.
-use Rattle.std.proofs.Common.{◌≡◌, ◌∙◌, ap, subst, sym, inl, inr, ℕ, Bool, true, List, ◌++◌}
-use Rattle.std.specs.Prelude.{Result, Ok, Err, IfErr}
+use Rattle.std.proofs.Common.{◌≡◌, ◌<◌, ◌⊎◌, ◌∙◌, ap, subst, sym, inl, inr, ⊎_elim, ℕ, Bool}
+use Rattle.std.proofs.Common.{true, false, List, [], ◌++◌, arith}
+use Rattle.std.specs.Prelude.{Result, Ok, Err, IfErr, IfOk, IsTrue}
 use Rattle.std.proofs.lemmas.List.{append-nil}
 use Rattle.sector_disk.specs.declared.file.FileDisk.{FileDisk}
-use Rattle.sector_disk.specs.rules.Answered.{file_calls}
+use Rattle.sector_disk.specs.rules.Answered.{file_calls, unsynced_of}
 use Rattle.sector_disk.specs.rules.Calls.{synced_writes}
-use Rattle.sector_disk.specs.rules.File.{file_medium}
-use Rattle.sector_disk.specs.rules.Medium.{IsAllSynced}
+use Rattle.sector_disk.specs.rules.File.{answers_of, file_medium}
+use Rattle.sector_disk.specs.rules.Known.{KnownFiles, KnownHandles}
+use Rattle.sector_disk.specs.rules.Medium.{IsAllSynced, spare}
+use Rattle.sector_disk.specs.rules.Open.{IsOpenedAt}
 use Rattle.sector_disk.specs.rules.Rewrite.{AddsNothing}
 use Rattle.command_words.specs.declared.telling.Obstacle.TheVariants.{Unread}
 use Rattle.command_words.specs.rules.Printers.{PrinterState}
 use Rattle.command_words.specs.rules.Reports.{SaysLine, obstacle_words}
-use Rattle.disk_commands.specs.rules.Openings.{IsUntouched, IsWrittenBack, IsOpenedFor}
+use Rattle.disk_commands.specs.rules.Openings.{IsWrittenBack, IsOpenedFor, SaysUnopened}
 use Rattle.disk_commands.specs.rules.Openings.{ShowsFile}
-use Rattle.disk_commands.specs.rules.Openings.{SaysUnopened}
 use Rattle.disk_commands.specs.rules.Showings.{ShowsDisk}
 
--- a disk that couldn't be written back
-pub unrewritten : {D : Type 0} (path : List ℕ) (old new : PrinterState) (result : Result D ℕ)
-    → IfErr result (λ status. SaysLine (obstacle_words Unread) 4 old status new)
-    → IfErr result (λ status. SaysUnopened path old status new)
-unrewritten path old new (Ok disk) said = tt
-unrewritten path old new (Err status) said = inr said
+-- what is known of a path is known of the same path
+pub known_at : (known : List ℕ → Bool) (there path : List ℕ) → there ≡ path → IsTrue (known there)
+    → IsTrue (known path)
+known_at known there path is holds = subst (λ p. IsTrue (known p)) is holds
 
 module _ {F : Type 0} (opened disk : FileDisk F) where
   -- what was written back of an untouched disk
-  pub is_written_back : IsUntouched opened
+  pub is_written_back : answers_of opened ≡ []
       → AddsNothing (file_medium opened) (file_medium disk) → IsAllSynced (file_medium disk)
       → (file_medium disk).sectors ≡ (file_medium opened).sectors
       → (file_medium disk).calls
@@ -34,29 +34,71 @@ module _ {F : Type 0} (opened disk : FileDisk F) where
   is_written_back untouched adds_nothing all_synced sectors calls =
       let first = synced_writes 0 (file_medium opened).sectors in
       record {
-        untouched = untouched;
         adds_nothing = adds_nothing;
         all_synced = all_synced;
         calls = calls ∙ ap (λ rest. first ++ file_calls rest) untouched ∙ append-nil first
             ∙ ap (λ n. synced_writes 0 n) (sym sectors);
       }
 
-  pub opened_as_asked : (rewrites : Bool) → rewrites ≡ true → IsWrittenBack opened disk
-      → IsOpenedFor rewrites disk
-  opened_as_asked rewrites is written =
-      subst (λ b. IsOpenedFor b disk) (sym is) (opened, written)
+  -- a rewrite of an untouched disk has room for all of its sectors
+  pub has_failed : answers_of opened ≡ []
+      → (spare (file_medium opened) < (file_medium opened).sectors)
+      ⊎ ((file_medium opened).faults < (file_medium disk).faults)
+      → (file_medium opened).faults < (file_medium disk).faults
+  has_failed untouched cause =
+      let none : unsynced_of (answers_of opened) ≡ 0 = ap unsynced_of untouched in
+      let fits = (file_medium opened).fits in
+      ⊎_elim (λ (lt : spare (file_medium opened) < (file_medium opened).sectors).
+      absurd (omega (arith, lt, none, fits))) (λ failed. failed) cause
 
-  -- a survey of an untouched disk, of whose opening nothing was said
-  pub shows_file : (path : List ℕ) (out out' err between err' : PrinterState) (status : ℕ)
-      → IsUntouched opened
-      → between ≡ err
+module _ {F : Type 0} (handles : KnownHandles F) (files : KnownFiles F) (rewrites : Bool)
+    (path : List ℕ) (opened : FileDisk F) where
+  -- a disk that isn't to be written back
+  pub opened_plainly : rewrites ≡ false → IsOpenedAt handles files path opened
+      → IsOpenedFor handles files rewrites path opened
+  opened_plainly is at = subst (λ b. IsOpenedFor handles files b path opened) (sym is) at
+
+  -- one that is
+  pub opened_back : rewrites ≡ true → IsOpenedAt handles files path opened
+      → (result : Result (FileDisk F) ℕ) → IfOk result (λ disk. IsWrittenBack opened disk)
+      → IfOk result (λ disk. IsOpenedFor handles files rewrites path disk)
+  opened_back is at (Ok disk) written =
+      subst (λ b. IsOpenedFor handles files b path disk) (sym is) (opened, at, written)
+  opened_back is at (Err status) written = tt
+
+  -- one that couldn't be written back
+  pub unrewritten : rewrites ≡ true → IsOpenedAt handles files path opened
+      → (old new : PrinterState) (result : Result (FileDisk F) ℕ)
+      → IfErr result (λ status. (left : FileDisk F)
+      × ((file_medium opened).faults < (file_medium left).faults) × IsTrue (files.closed left))
+      → IfErr result (λ status. SaysLine (obstacle_words Unread) 4 old status new)
+      → IfErr result (λ status. SaysUnopened handles files rewrites path old status new)
+  unrewritten is at old new (Ok disk) failed said = tt
+  unrewritten is at old new (Err status) failed said = inr (
+    is,
+    record {
+      opened = opened;
+      disk = failed.0;
+      at = at;
+      fails = failed.1;
+      closed = failed.2;
+      says = said;
+    },
+  )
+
+module _ {F : Type 0} (handles : KnownHandles F) (files : KnownFiles F) (path : List ℕ)
+    (opened disk : FileDisk F) where
+  -- a survey of a disk that was opened there, and of whose opening nothing was said
+  pub shows_file : (out out' err between err' : PrinterState) (status : ℕ)
+      → IsOpenedAt handles files path opened → IsTrue (files.closed disk) → between ≡ err
       → ShowsDisk (file_medium opened) (file_medium disk) out out' between err' status
-      → ShowsFile F path out out' err err' status
-  shows_file path out out' err between err' status untouched quiet shows =
+      → ShowsFile handles files path out out' err err' status
+  shows_file out out' err between err' status at closed quiet shows =
       inl (
         opened,
         disk,
-        untouched,
+        at,
+        closed,
         subst (λ old. ShowsDisk (file_medium opened)
             (file_medium disk) out out' old err' status) quiet shows,
       )

@@ -1,10 +1,12 @@
 -- A disk in a file whose worker goes on.
 use Rattle.std.proofs.Common.{◌≡◌, refl, subst, inl, inr, ℕ, Bool, List, Bor}
-use Rattle.std.specs.Prelude.{Option, Some, None, Result, IfSome, IsSome, option_map}
+use Rattle.std.specs.Prelude.{Option, Some, None, Result, IfSome, IsSome, IsTrue, option_map}
 use Rattle.std.specs.Int.NonZero.{non_zero_u64_get}
 use Rattle.sector_disk.specs.declared.file.FileDisk.{FileDisk}
 use Rattle.sector_disk.specs.rules.File.{file_medium}
+use Rattle.sector_disk.specs.rules.Known.{KnownFiles, KnownHandles}
 use Rattle.sector_disk.specs.rules.Medium.{Medium}
+use Rattle.sector_disk.specs.rules.Open.{IsOpenedAt}
 use Rattle.record_replay.specs.rules.Calls.{Taking}
 use Rattle.command_words.specs.declared.lines.outside.Outside.{Outside}
 use Rattle.command_words.specs.rules.Commands.{RunMeaning}
@@ -13,7 +15,7 @@ use Rattle.command_words.specs.rules.Prints.{printing}
 use Rattle.disk_commands.specs.declared.on_disk.found_file.FoundFile.{FoundFile}
 use Rattle.disk_commands.specs.declared.on_disk.running.RunJob.{RunJob}
 use Rattle.disk_commands.specs.declared.on_disk.upgrading.Upgraded.{Upgraded}
-use Rattle.disk_commands.specs.rules.Openings.{IsOpenedFor, IsUntouched}
+use Rattle.disk_commands.specs.rules.Openings.{IsOpenedFor}
 use Rattle.disk_commands.specs.rules.Refusals.{HeedsRefusal}
 use Rattle.disk_commands.specs.rules.ServedFiles.{IsJobOf, RunsFile, RunsJob, SaysUpgraded}
 use Rattle.disk_commands.specs.rules.ServedFiles.{SaysNoStatusFile, ServesToEnd}
@@ -59,51 +61,55 @@ job_served {D} {O} medium takes path job lines found failed broken outside disk 
     (subst (λ l. does (start job.outside l broken between)) of_lines
     (subst (λ o. does (start o found broken between)) of_job serves))))
 
-module _ {F O : Type 0} (takes : Taking O) (said : RunMeaning) (lines : Option (List ℕ))
-    (failed : Bool) (outlet outlet' : O) (err between err' : PrinterState) (status : ℕ) where
+module _ {F O : Type 0} (handles : KnownHandles F) (files : KnownFiles F) (takes : Taking O)
+    (said : RunMeaning) (lines : Option (List ℕ)) (failed : Bool) where
   -- a run before which nothing was said
-  pub runs_quietly : between ≡ err
-      → RunsFile F takes said lines failed outlet outlet' between err' status
-      → RunsFile F takes said lines failed outlet outlet' err err' status
-  runs_quietly quiet runs =
-      subst (λ old. RunsFile F takes said lines failed outlet outlet' old err' status) quiet runs
+  pub runs_quietly : (outlet outlet' : O) (err between err' : PrinterState) (status : ℕ)
+      → between ≡ err
+      → RunsFile handles files takes said lines failed outlet outlet' between err' status
+      → RunsFile handles files takes said lines failed outlet outlet' err err' status
+  runs_quietly outlet outlet' err between err' status quiet runs =
+      subst (λ old. RunsFile handles files takes said lines failed outlet outlet' old err' status)
+      quiet runs
 
--- a run without a seed
-pub runs_seedless : {F O : Type 0} (takes : Taking O) (said : RunMeaning) (lines : Option (List ℕ))
-    (failed : Bool) (outlet : O) (err err' : PrinterState) (status : ℕ)
-    → SaysSeedless said.seed_file said.seed err status err'
-    → RunsFile F takes said lines failed outlet outlet err err' status
-runs_seedless takes said lines failed outlet err err' status says = seedless says refl
+  -- a run without a seed
+  pub runs_seedless : (outlet : O) (err err' : PrinterState) (status : ℕ)
+      → SaysSeedless said.seed_file said.seed err status err'
+      → RunsFile handles files takes said lines failed outlet outlet err err' status
+  runs_seedless outlet err err' status says = seedless says refl
 
-module _ {F : Type 0} (disk disk' : FileDisk F) where
   -- a run of a disk that was opened, of whose opening nothing was said
-  pub runs_opened : {O : Type 0} (takes : Taking O) (said : RunMeaning) (lines : Option (List ℕ))
-      (failed : Bool) (outlet outlet' : O) (err between err' : PrinterState) (status : ℕ)
-      (job : RunJob) → IsJobOf said job → IsOpenedFor said.rewrites disk
+  pub runs_opened : (disk disk' : FileDisk F) (outlet outlet' : O)
+      (err between err' : PrinterState) (status : ℕ) (job : RunJob) → IsJobOf said job
+      → IsOpenedFor handles files said.rewrites said.disk disk → IsTrue (files.closed disk')
       → between ≡ read_along said.is_verbose err
       → RunsJob file_medium takes (named_status job)
       (run_start (job_given job lines failed) disk outlet between) disk' outlet' err' status
-      → RunsFile F takes said lines failed outlet outlet' err err' status
-  runs_opened takes said lines failed outlet outlet' err between err' status job is for quiet runs =
+      → RunsFile handles files takes said lines failed outlet outlet' err err' status
+  runs_opened disk disk' outlet outlet' err between err' status job is for closed quiet runs =
       let of_path = subst (λ path. RunsJob file_medium takes path
       (run_start (job_given job lines failed) disk outlet between) disk' outlet' err' status)
       is.status runs in
-      opened job is disk disk' for (subst (λ old. RunsJob file_medium takes said.status
+      opened job is disk disk' for closed (subst (λ old. RunsJob file_medium takes said.status
       (run_start (job_given job lines failed) disk outlet old) disk' outlet' err' status)
       quiet of_path)
 
-  -- an upgrade of such a disk
-  pub upgrades_opened : (path : List ℕ) (out told out' err opening between err' : PrinterState)
-      (status : ℕ) (upgraded : Result Upgraded ℕ) → IsUntouched disk → opening ≡ err
+module _ {F : Type 0} (handles : KnownHandles F) (files : KnownFiles F) (path : List ℕ)
+    (disk disk' : FileDisk F) where
+  -- an upgrade of a disk that was opened there, of whose opening nothing was said
+  pub upgrades_opened : (out told out' err opening between err' : PrinterState)
+      (status : ℕ) (upgraded : Result Upgraded ℕ) → IsOpenedAt handles files path disk
+      → IsTrue (files.closed disk') → opening ≡ err
       → UpgradesOnDisk file_medium printing upgraded disk disk' out told opening between
       → HeedsRefusal printing out told between (status_so_far upgraded)
       → SaysUpgraded upgraded told out' between err' status
-      → UpgradesFile F path out out' err err' status
-  upgrades_opened path out told out' err opening between err' status upgraded untouched quiet does
+      → UpgradesFile handles files path out out' err err' status
+  upgrades_opened out told out' err opening between err' status upgraded at closed quiet does
       heeds says = inl (record {
         disk = disk;
         disk' = disk';
-        untouched = untouched;
+        at = at;
+        closed = closed;
         upgraded = upgraded;
         told = told;
         between = between;

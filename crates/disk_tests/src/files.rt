@@ -3,10 +3,9 @@
 
 use crate::disks::{Answer, Call, DONE, ZEROS, answers_so};
 use crate::rows::assert_row;
-use sector_disk::{Disk, DiskFault, FileDisk, LockFile, NewFiles, OpenCause, OpenFault, SizeFile};
+use sector_disk::{Disk, DiskFault, DiskFile, FileDisk, OpenCause, OpenFault};
 use std::fs;
 use std::fs::{OpenFile, OpenOptions};
-use std::os::unix::fs::FileExt;
 use std::rt::Files;
 use std::test::Fail;
 
@@ -74,8 +73,8 @@ static BUSY: Story = Story {
 /// Why a disk of so many sectors isn't made there, or why none is opened.
 fn fault_of<F, R>(files: &R, path: &str, sectors: Option<u64>) -> Option<OpenFault>
 where
-    F: OpenFile + FileExt + LockFile + SizeFile + Drop,
-    R: Files<File = F> + NewFiles,
+    F: DiskFile,
+    R: Files<File = F>,
 {
     match sectors {
         Some(sectors) => FileDisk::create(files, path, sectors).err(),
@@ -97,8 +96,8 @@ fn cut_short<F: OpenFile + Drop, R: Files<File = F>>(
 
 fn befalls<F, R>(files: &R, path: &str, meanwhile: &Meanwhile) -> Result<bool, Fail>
 where
-    F: OpenFile + FileExt + LockFile + SizeFile + Drop,
-    R: Files<File = F> + NewFiles,
+    F: DiskFile,
+    R: Files<File = F>,
 {
     match meanwhile {
         Meanwhile::Refused(sectors, fault) => {
@@ -110,10 +109,10 @@ where
 
 fn is_made_so<F, R>(files: &R, story: &Story) -> Result<bool, Fail>
 where
-    F: OpenFile + FileExt + LockFile + SizeFile + Drop,
-    R: Files<File = F> + NewFiles,
+    F: DiskFile,
+    R: Files<File = F>,
 {
-    let mut disk: FileDisk<F> = FileDisk::create(files, story.path, story.sectors)?;
+    let (mut disk, _) = FileDisk::create(files, story.path, story.sectors)?;
     let befalls = befalls(files, story.path, &story.meanwhile);
     let is_answered = answers_so(&mut disk, story.calls);
     drop(disk);
@@ -121,7 +120,7 @@ where
 }
 
 /// Whether the disk there has so many sectors, and answers so.
-fn is_opened_so<F: OpenFile + FileExt + LockFile + SizeFile + Drop, R: Files<File = F>>(
+fn is_opened_so<F: DiskFile, R: Files<File = F>>(
     files: &R,
     path: &str,
     sectors: u64,
@@ -135,8 +134,8 @@ fn is_opened_so<F: OpenFile + FileExt + LockFile + SizeFile + Drop, R: Files<Fil
 
 fn is_told_so<F, R>(files: &R, story: &Story) -> Result<bool, Fail>
 where
-    F: OpenFile + FileExt + LockFile + SizeFile + Drop,
-    R: Files<File = F> + NewFiles,
+    F: DiskFile,
+    R: Files<File = F>,
 {
     let _ = fs::remove_file(files, story.path);
     let is_made = is_made_so(files, story)?;
@@ -200,10 +199,10 @@ fn keeps_or_gives_up<D: Disk>(disk: &mut D) -> bool {
 
 fn is_kept_or_given_up<F, R>(files: &R, path: &str) -> Result<bool, OpenFault>
 where
-    F: OpenFile + FileExt + LockFile + SizeFile + Drop,
-    R: Files<File = F> + NewFiles,
+    F: DiskFile,
+    R: Files<File = F>,
 {
-    let mut disk: FileDisk<F> = FileDisk::create(files, path, 2)?;
+    let (mut disk, _) = FileDisk::create(files, path, 2)?;
     let is_so = keeps_or_gives_up(&mut disk);
     drop(disk);
     Ok(is_so)

@@ -84,7 +84,7 @@ module _ {F : Type 0} (handles : KnownHandles F) (files : KnownFiles F) where
   SaysUnopened rewrites path old status new =
       ((why : OpenFault) × IsUnopenedAt handles files path why
       × SaysLine (open_words path why) 4 old status new)
-      ⊎ (IsTrue rewrites × SaysUnrewritten path old status new)
+      ⊎ ((rewrites ≡ true) × SaysUnrewritten path old status new)
 
   -- A disk was opened at this path, nothing was done with it but to show it, and it was closed. Or
   -- it is said why none was opened.

@@ -70,11 +70,14 @@ where
         path.now err.old status err.new) }
     ensures known { IfErr result (λ status. status ≤ 7) }
 {
-    match FileDisk::open(files, path) {
-        Ok(disk) if rewrites => written_back(files, disk, err),
-        Ok(disk) => Ok(disk),
-        Err(fault) => Err(report_open(err, path, fault)),
+    let disk = match FileDisk::open(files, path) {
+        Ok(disk) => disk,
+        Err(fault) => return Err(report_open(err, path, fault)),
+    };
+    if !rewrites {
+        return Ok(disk);
     }
+    written_back(files, disk, err)
 }
 
 /// `wasmhost show` of the disk in a file: it is opened, only surveyed, and closed. Returns the exit

@@ -16,8 +16,8 @@ ghost use Rattle.disk_commands.specs.rules.LastWords.{over_words, request_words}
 
 use command_words::status::UNWRITTEN;
 use command_words::{Printer, trap_name};
-use record_replay::Now;
 use process::ProcessEnd;
+use record_replay::Now;
 use std::io::{self, Write};
 
 /// Writes the last words of a worker that is over.

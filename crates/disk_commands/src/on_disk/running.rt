@@ -23,7 +23,9 @@ use crate::on_disk::serving::{Drive, serve};
 use crate::on_disk::status_file::status_file_of;
 use crate::on_disk::upgrading::{say_upgraded, upgrade_worker};
 use crate::on_disk::watching::Watcher;
-use command_words::{BufferedLines, LineOutlet, Outside, Printer, RealTime, RequestSource, RunOrder};
+use command_words::{
+    BufferedLines, LineOutlet, Outside, Printer, RealTime, RequestSource, RunOrder,
+};
 use record_replay::Outlet;
 use sector_disk::{Disk, DiskFile, DiskFiles, FileDisk};
 use std::alloc::Global;

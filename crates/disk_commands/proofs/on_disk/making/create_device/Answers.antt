@@ -5,9 +5,8 @@ pub returns-clause-creates : goal.returns-clause-creates
 returns-clause-creates g c =
     inr (record {
       disk = c.in-Ok.disk;
-      disk' = c.create_on.new.disk;
-      device = c.in-Ok.ensures.device;
-      untouched = c.in-Ok.ensures.fresh;
-      sectors = c.in-Ok.ensures.sectors;
-      creates = c.create_on.ensures.creates;
+      disk' = c.create_on-status.new.disk;
+      taken = c.in-Ok.ensures.taken;
+      closed = c.close.ensures;
+      creates = c.create_on-status.ensures.creates;
     })

@@ -1,18 +1,19 @@
 use Rattle.std.proofs.Common.{inr}
-use Rattle.disk_commands.proofs.on_disk.making.create_file.Goals.{then-status-ne0}
-use Rattle.disk_commands.proofs.on_disk.making.create_file.Goals.{else-status-ne0}
+use Rattle.disk_commands.proofs.FileLemmas.{known_at}
 use Rattle.disk_commands.proofs.on_disk.making.create_file.Goals as goal
 
 pub returns-clause-creates : goal.returns-clause-creates
 returns-clause-creates g c =
+    let files = g.R.DiskFiles.known c.args.files.now in
+    let path = c.args.new.path.now in
     inr (record {
-      disk = c.in-Ok.disk;
+      disk = c.in-Ok.made.0;
       disk' = c.create_on-status.new.disk;
-      untouched = c.in-Ok.ensures.fresh;
-      sectors = c.in-Ok.ensures.sectors;
+      made = c.in-Ok.ensures.made;
+      closed = c.close.ensures;
       creates = c.create_on-status.ensures.creates;
-      removes = elim c.if-status-ne0.branch [
-        | then-status-ne0 w ↦ (λ other. w.remove_new.ensures)
-        | else-status-ne0 w ↦ (λ other. absurd (other w.if-status-ne0.false))
-      ];
+      keeps = λ is. known_at files.kept c.in-Ok.made.1.path.now path c.in-Ok.ensures.there
+          (c.keep_if_created.ensures.keeps is);
+      removes = λ other. known_at files.removed c.in-Ok.made.1.path.now path
+          c.in-Ok.ensures.there (c.keep_if_created.ensures.removes other);
     })

@@ -5,7 +5,8 @@ use Rattle.disk_commands.proofs.on_disk.running.run_seeded.Goals as goal
 
 pub returns-in-Ok-clause-runs : goal.returns-in-Ok-clause-runs
 returns-in-Ok-clause-runs g c =
-    runs_opened c.in-Ok.disk c.run_job-status.new.disk g.O.Outlet.takes _ _ _ _ _ _ _ _ _
-    c.job_of-job.result c.job_of-job.ensures c.in-Ok.ensures.opened
+    runs_opened g.F.DiskFile.known _ g.O.Outlet.takes _ _ _ c.in-Ok.disk
+    c.run_job-status.new.disk _ _ _ _ _ _
+    c.job_of-job.result c.job_of-job.ensures c.in-Ok.ensures.opened c.close.ensures
     (c.read_along.ensures ∙ ap (read_along c.args.order.now.is_verbose) c.in-Ok.ensures.quiet)
     c.run_job-status.ensures.runs
