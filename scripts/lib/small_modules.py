@@ -150,6 +150,53 @@ PAST = [
     (small(globals=[A_GLOBAL] * 1_025), "1024 globals", 23 + 1 + 2),
 ]
 
+def import_of(module, name):
+    """An import of a function of the first type, by its two names."""
+    return wasm.sized(module) + wasm.sized(name) + b"\x00\x00"
+
+
+def functions(*bodies, **parts):
+    """A module whose functions have these bodies, all of the first type."""
+    return small(functions=[wasm.unsigned(0)] * len(bodies), bodies=list(bodies), **parts)
+
+
+ADDS, CUT = wasm.function_body([], F64_ADD), wasm.sized(b"\x00")
+UNOFFERED = [wasm.imported_function(b"sock_accept", 0), import_of(b"env", b"sin"),
+             wasm.imported_function(b"fd_close", 0)]
+NOT_OFFERED = [
+    "import wasi_snapshot_preview1.sock_accept isn't one of the 31 calls\n",
+    "import env.sin isn't one of the 31 calls\n",
+    "import wasi_snapshot_preview1.fd_close has another type than this call\n"]
+
+# Modules with all lines of `check --all` behind the first one's code.
+LISTED = [
+    (b"", "B1 Malformed at 0", "no more is listed: B1 Malformed at 0\n"),
+    # The example of docs/COMMANDS.md. Two imports of 10 bytes: their section has 23, and that of
+    # functions 7. So the code is at 8 + 6 + 23 + 7 + 5 + 21. Behind three bytes its entries have 4,
+    # 6, 3 and 2.
+    (functions(ADDS, locals_of(257), wasm.function_body([], b""), CUT,
+               imports=[import_of(b"env", b"sin"), import_of(b"env", b"cos")]),
+     "B2 Float at 75", "import env.sin isn't one of the 31 calls\n",
+     "import env.cos isn't one of the 31 calls\n", "f64.add in function 2\n",
+     "more than 256 locals in one function, at byte 79, in function 3\n",
+     "malformed at byte 88, in function 5\n"),
+    # Three imports that aren't offered.
+    (small(imports=UNOFFERED, exports=[wasm.exported(b"_start", 0, 3), MEMORY]),
+     "L3 UnknownImport", *NOT_OFFERED),
+    # With a type of floats: the second line is of that, and imports are judged by their names.
+    (functions(ADDS, types=[NOTHING, wasm.function_type([], [F64])], imports=UNOFFERED,
+               exports=[wasm.exported(b"_start", 0, 3), MEMORY]),
+     "B2 Float at 17", "f64 in type 1" + HINT, *NOT_OFFERED[:2], "f64.add in function 3\n"),
+    # Faults elsewhere are told as without `--all`.
+    (small(globals=[A_GLOBAL] * 1_025), "B3 Limit", "more than 1024 globals, at byte 26\n"),
+    (small(memories=pages(257)), "L6 TooManyPages",
+     "begins with 257 pages, and a worker has at most 256\n"),
+    (small(wasm.CALL + wasm.unsigned(1)), "V2 Index"),
+    # The second entry's size is beyond its section. The first one is at 8 + 6 + 5 + 5 + 21 + 3.
+    (functions(ADDS, b"\x7f"), "B2 Float at 50", "f64.add in function 0\n",
+     "no more is listed: B1 Malformed at 52\n"),
+]
+
 # Modules at limits, which are accepted.
 ACCEPTED = [
     LEAST,

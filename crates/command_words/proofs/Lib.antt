@@ -2,6 +2,7 @@ pub mod Told
 pub mod SeedLemmas
 pub mod LimitLemmas
 pub mod LineLemmas
+pub mod ListingLemmas
 pub mod PrinterLemmas
 pub mod WordLemmas
 pub mod FrontLemmas

@@ -23,7 +23,8 @@ use Rattle.command_words.specs.rules.Statuses.{status_by}
 use Rattle.command_words.specs.declared.bounds.Bound.TheVariants as bound
 use Rattle.command_words.specs.rules.Bounds.{IsOutside, range_words}
 use Rattle.command_words.specs.rules.Reports.{SaysLine}
-use Rattle.command_words.specs.rules.Verdicts.{ChecksModule, IsChecked}
+use Rattle.command_words.specs.rules.Checks.{ChecksModule, IsChecked}
+use Rattle.command_words.specs.rules.Listings.{EndsWithList, ListsRefusal}
 use Rattle.command_words.specs.rules.Verdicts.{EndsWithMore, IsImportOffered, SaysMore}
 use Rattle.command_words.specs.rules.Verdicts.{TellsMore, TellsOfLink, TellsRefusal}
 use Rattle.command_words.specs.rules.Verdicts.{first_pages, pages_text}
@@ -168,16 +169,23 @@ module _ (bytes : List ℕ) where
   told_refusal pages new (Ok done) reported more is = absurd (omega (arith, is))
   told_refusal pages new (Err fault) reported more is = (fault, reported, more)
 
+  pub listed_refusal : (pages : ℕ) (new : PrinterState) (verdict : Result ⊤ ModuleFault)
+      → IfErr verdict (IsReported pages bytes)
+      → IfErr verdict (λ fault. EndsWithList bytes fault new) → status_by verdict ≡ 3
+      → ListsRefusal pages bytes new
+  listed_refusal pages new (Ok done) reported more is = absurd (omega (arith, is))
+  listed_refusal pages new (Err fault) reported more is = (fault, reported, more)
+
   -- ---- a check
 
-  pub checked : (pages n : ℕ) (out out' err : PrinterState) (status : ℕ) → n ≡ pages → 1 ≤ pages
-      → pages ≤ 256 → IsChecked n bytes out status out'
-      → ChecksModule pages bytes out out' err err status
-  checked pages n out out' err status is least most h =
-      inl (least, most, subst (λ k. IsChecked k bytes out status out') is h, refl)
+  pub checked : (lists_all : Bool) (pages n : ℕ) (out out' err : PrinterState) (status : ℕ)
+      → n ≡ pages → 1 ≤ pages → pages ≤ 256 → IsChecked lists_all n bytes out status out'
+      → ChecksModule lists_all pages bytes out out' err err status
+  checked lists_all pages n out out' err status is least most h =
+      inl (least, most, subst (λ k. IsChecked lists_all k bytes out status out') is h, refl)
 
-  pub unchecked : (pages : ℕ) (out err err' : PrinterState) (status : ℕ) (line : List ℕ)
+  pub unchecked : (lists_all : Bool) (pages : ℕ) (out err err' : PrinterState) (status : ℕ) (line : List ℕ)
       → IsOutside 1 256 pages → line ≡ range_words bound.Pages → SaysLine line 3 err status err'
-      → ChecksModule pages bytes out out err err' status
-  unchecked pages out err err' status line outside is said =
+      → ChecksModule lists_all pages bytes out out err err' status
+  unchecked lists_all pages out err err' status line outside is said =
       inr (outside, subst (λ l. SaysLine l 3 err status err') is said, refl)

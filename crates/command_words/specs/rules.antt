@@ -1,4 +1,5 @@
 pub mod Bounds
+pub mod Checks
 pub mod CommandLine
 pub mod Commands
 pub mod Numbers
@@ -9,6 +10,7 @@ pub mod Reports
 pub mod Requests
 pub mod Seeds
 pub mod Later
+pub mod Listings
 pub mod ModuleLimits
 pub mod Statuses
 pub mod Texts

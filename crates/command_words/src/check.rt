@@ -5,8 +5,11 @@
 //! - `check_bytes`: status 0 says that the bytes spell a module that is accepted with so many pages
 //!   (`accepted`), and that `accepted` was printed (`printed`). 3 says that they spell none
 //!   (`refused`), and what else is known of it is told last (`more`). All others are 5 and 7
-//!   (`known`), and 7 comes just where a write has failed (`heeded`). `check_module` is that of as
-//!   many pages as a worker may have, and tells their bounds of others (`ChecksModule`).
+//!   (`known`), and 7 comes just where a write has failed (`heeded`).
+//! - `list_bytes`: the same, but with all imports and functions that are in the way told last
+//!   (`more`).
+//! - `check_module` is one of both, of as many pages as a worker may have, and tells their bounds of
+//!   others (`ChecksModule`).
 //!
 //! # Choices
 //!
@@ -26,17 +29,19 @@ ghost use Rattle.machine.specs.rules.Acceptance.{HasAcceptedModule, HasNoAccepte
 ghost use Rattle.machine.specs.rules.Acceptance.{IsReported, passed_in};
 ghost use Rattle.wasm_decode.specs.declared.items.limit.PassedLimit.{PassedLimit};
 ghost use Rattle.command_words.specs.rules.Bounds.{IsOutside};
+ghost use Rattle.command_words.specs.rules.Checks.{ChecksModule, IsChecked};
+ghost use Rattle.command_words.specs.rules.Listings.{EndsWithList, ListsRefusal};
 ghost use Rattle.command_words.specs.rules.ModuleLimits.{TellsLimit};
 ghost use Rattle.command_words.specs.rules.Printers.{HeedsWrites};
 ghost use Rattle.command_words.specs.rules.Statuses.{IsRight, status_by};
-ghost use Rattle.command_words.specs.rules.Verdicts.{ChecksModule, EndsWithMore, TellsRefusal};
+ghost use Rattle.command_words.specs.rules.Verdicts.{EndsWithMore, TellsRefusal};
 
 use crate::bounds::{Bound, PAGES_BOUND, words_of_range};
 use crate::module_limits::print_limit;
 use crate::printer::Printer;
 use crate::status::{NO_MEMORY, REFUSED, UNWRITTEN};
 use crate::telling::say_line;
-use crate::verdicts::print_more;
+use crate::verdicts::{print_list, print_more, print_unlisted};
 use machine::{ModuleFault, accept};
 use std::alloc::Global;
 use std::io::{self, Write};
@@ -146,6 +151,84 @@ pub fn check_bytes<W: Write + Drop>(
     }
 }
 
+/// Prints that a module is refused, and all imports and functions that are in the way. What the
+/// list doesn't have of the first fault is on a line of its own.
+fn print_listed_refusal<W: Write + Drop>(
+    alloc: Global,
+    wasm: &[u8],
+    fault: ModuleFault,
+    out: &mut Printer<W>,
+) -> io::Result<()>
+    ensures more { OnOk result (EndsWithList wasm.now fault out.new) }
+    ensures steady { OnOk result (out.new.failed ≡ out.old.failed) }
+    ensures failed { OnErr result (out.new.failed ≡ true) }
+{
+    print_fault(fault, out)?;
+    print_unlisted(alloc, wasm, fault, out)?;
+    print_list(alloc, wasm, out)
+}
+
+/// Prints a verdict: `accepted`, or why not, with all that is in the way.
+fn print_listed_verdict<W: Write + Drop>(
+    alloc: Global,
+    wasm: &[u8],
+    verdict: Result<(), ModuleFault>,
+    out: &mut Printer<W>,
+) -> io::Result<()>
+    ensures accepted { IsOk verdict
+        → OnOk result (Appends out.old.contents out.new.contents (codes "accepted\n")) }
+    ensures more { OnOk result (IfErr verdict (λ fault. EndsWithList wasm.now fault out.new)) }
+    ensures steady { OnOk result (out.new.failed ≡ out.old.failed) }
+    ensures failed { OnErr result (out.new.failed ≡ true) }
+{
+    match verdict {
+        Ok(()) => writeln!(out, "accepted"),
+        Err(fault) => print_listed_refusal(alloc, wasm, fault, out),
+    }
+}
+
+/// The same as `check_bytes`, but where the module is refused all that is in the way is listed.
+pub fn list_bytes<W: Write + Drop>(
+    alloc: Global,
+    wasm: &[u8],
+    pages: u32,
+    out: &mut Printer<W>,
+) -> u8
+    requires { pages ≤ 2 ^ 16 }
+    ensures accepted { result ≡ 0 → HasAcceptedModule pages wasm.now }
+    ensures printed { result ≡ 0
+        → Appends out.old.contents out.new.contents (codes "accepted\n") }
+    ensures refused { result ≡ 3 → HasNoAcceptedModule pages wasm.now }
+    ensures more { result ≡ 3 → ListsRefusal pages wasm.now out.new }
+    ensures heeded { HeedsWrites out.old result out.new }
+    ensures known { (result ≡ 0) ⊎ (result ≡ 3) ⊎ (result ≡ 5) ⊎ (result ≡ 7) }
+{
+    let verdict = verdict_on(alloc, wasm, pages);
+    match print_listed_verdict(alloc, wasm, verdict, out) {
+        Ok(()) => status_of(verdict),
+        Err(_) => UNWRITTEN,
+    }
+}
+
+/// Says whether a module is accepted with so many pages, and lists all that is in the way if that is
+/// asked for.
+fn check_as_asked<W: Write + Drop>(
+    alloc: Global,
+    wasm: &[u8],
+    pages: u32,
+    lists_all: bool,
+    out: &mut Printer<W>,
+) -> u8
+    requires { pages ≤ 2 ^ 16 }
+    ensures { IsChecked lists_all pages wasm.now out.old result out.new }
+{
+    if lists_all {
+        list_bytes(alloc, wasm, pages, out)
+    } else {
+        check_bytes(alloc, wasm, pages, out)
+    }
+}
+
 /// So many pages, if a worker may have them.
 fn allowed_pages(pages: u64) -> Option<u32>
     ensures { MatchOption result (IsOutside 1 256 pages)
@@ -158,20 +241,22 @@ fn allowed_pages(pages: u64) -> Option<u32>
     }
 }
 
-/// `wasmhost check` of a module with so many pages, which are from 1 to 256. Answers the exit
-/// status.
+/// `wasmhost check` of a module with so many pages, which are from 1 to 256. It lists all that is in
+/// the way if that is asked for. Answers the exit status.
 pub fn check_module<W: Write + Drop, E: Write + Drop>(
     alloc: Global,
     wasm: &[u8],
     pages: u64,
+    lists_all: bool,
     out: &mut Printer<W>,
     err: &mut Printer<E>,
 ) -> u8
-    ensures checks { ChecksModule pages wasm.now out.old out.new err.old err.new result }
+    ensures checks { ChecksModule lists_all pages wasm.now out.old out.new err.old err.new
+        result }
     ensures known { result ≤ 7 }
 {
     match allowed_pages(pages) {
-        Some(pages) => check_bytes(alloc, wasm, pages, out),
+        Some(pages) => check_as_asked(alloc, wasm, pages, lists_all, out),
         None => say_line(err, REFUSED, words_of_range(Bound::Pages)),
     }
 }

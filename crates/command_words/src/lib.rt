@@ -4,7 +4,7 @@
 //!
 //! ```text
 //! match read_words(alloc, &["wasmhost", "check", "guest.wasm"]) {
-//!     Ok(Order::Check { path, pages }) => ..,
+//!     Ok(Order::Check(order)) => ..,
 //!     Ok(other) => ..,
 //!     Err(fault) => ..,
 //! }
@@ -16,7 +16,7 @@
 //! their clauses.
 //!
 //! - `read_words`: an order is exactly what the words mean, and a fault one that they have.
-//! - `check_bytes`, `check_module`: 0 only if the bytes spell a module that is accepted, and 3 only
+//! - `check_bytes`, `list_bytes`, `check_module`: 0 only if the bytes spell a module that is accepted, and 3 only
 //!   if they don't, or the pages are out of bounds.
 //! - `prepare`, `report_unprepared`: what a worker needs, before there is a disk, or why it can't be
 //!   had.
@@ -26,7 +26,7 @@
 //!   has failed. So status 7 comes with a failed write.
 //! - `read_seed`, `seeded`, `read_module`, `split_once`, `cut_line`, `digest_digits`, `spell_line`,
 //!   `say_text`, `say_line`, `report`, `report_words`, `report_output`: the words of all these.
-//! - `laws`: words without a fault mean an order, by rules and by ninety-seven examples.
+//! - `laws`: words without a fault mean an order, by rules and by ninety-eight examples.
 //!
 //! # Definitions to read
 //!
@@ -35,8 +35,8 @@
 //! `IsPreparedAs`, `IsUnprepared`, `config_as` (`Preparations.antt`); `wasmhost`, `version_words`
 //! (`CommandLine.antt`); `meaning_in`, `IsReading`, `IsStatusOf` (`Commands.antt`);
 //! `IsOutOfBounds`, `range_words` (`Bounds.antt`); `TellsLimit` (`ModuleLimits.antt`);
-//! `IsUnnamedEntry`, `entry_text` (`Entries.antt`); `TellsMore`, `ChecksModule` (`Verdicts.antt`);
-//! `TellsOfFloat` (`Floats.antt`); `IsFlawIn`, `flaw_words` (`Flaws.antt`); `PrinterState`,
+//! `IsUnnamedEntry`, `entry_text` (`Entries.antt`); `TellsMore` (`Verdicts.antt`); `ListsAll`
+//! (`Listings.antt`); `ChecksModule` (`Checks.antt`); `TellsOfFloat` (`Floats.antt`); `IsFlawIn`, `flaw_words` (`Flaws.antt`); `PrinterState`,
 //! `IsSaid`, `SaysText`, `HeedsBoth`, `TellsPerson` (`Printers.antt`); `SaysOfOutput`
 //! (`Reports.antt`); `lines_of` (`Pieces.antt`); `PrintsOneLine` (`Prints.antt`).
 //! In `specs/laws/`, what the laws say: `all_printed` (`Printed.antt`).
@@ -67,7 +67,7 @@ mod verdicts;
 mod words;
 
 pub use bounds::Bound;
-pub use check::{check_bytes, check_module};
+pub use check::{check_bytes, check_module, list_bytes};
 pub use configuring::Sizes;
 pub use digests::digest_digits;
 pub use lines::{
@@ -81,4 +81,6 @@ pub use preparing::{Prepared, Unprepared, prepare, report_unprepared, sectors_of
 pub use printer::{Printer, say_text};
 pub use seed::{read_seed, seeded};
 pub use telling::{Obstacle, report, report_output, report_words, say_line};
-pub use words::{CreateOrder, Order, RunOrder, StoryOrder, SweepOrder, WordsFault, read_words};
+pub use words::{
+    CheckOrder, CreateOrder, Order, RunOrder, StoryOrder, SweepOrder, WordsFault, read_words,
+};

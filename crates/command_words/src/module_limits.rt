@@ -2,7 +2,8 @@
 
 ghost use Rattle.std.specs.Prelude.{◌≡◌, true, OnErr, OnOk};
 ghost use Rattle.command_words.specs.rules.ModuleLimits.{TellsLimit, function_of, limit_words};
-ghost use Rattle.command_words.specs.rules.ModuleLimits.{most_of};
+ghost use Rattle.command_words.specs.rules.ModuleLimits.{most_of, passed_text};
+ghost use Rattle.command_words.specs.rules.Printers.{IsPrinted};
 
 use crate::printer::Printer;
 use std::io::{self, Write};
@@ -43,7 +44,7 @@ fn words_of_limit(limit: ModuleLimit) -> &'static str
 }
 
 /// The function in whose code a byte with this place lies, if it is in one.
-fn function_of(place: Option<ModulePlace>) -> Option<u64>
+pub(crate) fn function_of(place: Option<ModulePlace>) -> Option<u64>
     ensures { result ≡ function_of place }
 {
     match place {
@@ -51,6 +52,28 @@ fn function_of(place: Option<ModulePlace>) -> Option<u64>
         Some(ModulePlace::Type(_)) => None,
         Some(ModulePlace::Section(_)) => None,
         None => None,
+    }
+}
+
+/// Prints a limit that is passed, with its place: an offset, and the function in which that lies.
+pub(crate) fn print_passed<W: Write + Drop>(
+    out: &mut Printer<W>,
+    passed: PassedLimit,
+    function: Option<u64>,
+) -> io::Result<()>
+    ensures printed { OnOk result (IsPrinted out.old out.new (passed_text passed function)) }
+    ensures steady { OnOk result (out.new.failed ≡ out.old.failed) }
+    ensures failed { OnErr result (out.new.failed ≡ true) }
+{
+    let most = most_of(passed.limit);
+    let what = words_of_limit(passed.limit);
+    let at = passed.at;
+    match function {
+        Some(number) => writeln!(
+            out,
+            "more than {most} {what}, at byte {at}, in function {number}"
+        ),
+        None => writeln!(out, "more than {most} {what}, at byte {at}"),
     }
 }
 
@@ -66,18 +89,7 @@ pub(crate) fn print_limit<W: Write + Drop>(
     ensures steady { OnOk result (out.new.failed ≡ out.old.failed) }
     ensures failed { OnErr result (out.new.failed ≡ true) }
 {
-    let most = most_of(passed.limit);
-    let what = words_of_limit(passed.limit);
-    let at = passed.at;
-    let place = place_of(wasm, at);
-    match function_of(place) {
-        Some(number) => writeln!(
-            out,
-            "{verdict} B3 Limit\nmore than {most} {what}, at byte {at}, in function {number}"
-        ),
-        None => writeln!(
-            out,
-            "{verdict} B3 Limit\nmore than {most} {what}, at byte {at}"
-        ),
-    }
+    let place = place_of(wasm, passed.at);
+    writeln!(out, "{verdict} B3 Limit")?;
+    print_passed(out, passed, function_of(place))
 }

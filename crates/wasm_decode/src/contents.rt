@@ -12,7 +12,7 @@ use wasm_syntax::Module;
 use wasm_syntax::limits::GLOBALS;
 
 /// The ids of sections.
-mod id {
+pub mod id {
     pub const TYPES: usize = 1;
 
     pub const IMPORTS: usize = 2;

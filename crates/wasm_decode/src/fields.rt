@@ -18,7 +18,7 @@ use wasm_syntax::limits::FUNCTIONS;
 use wasm_syntax::{Function, ItemList};
 
 /// The bytes of the section with this id, to be read.
-fn open_section<'a>(bodies: &[Option<Span<'a>>], id: usize) -> Option<Decoder<'a>>
+pub fn open_section<'a>(bodies: &[Option<Span<'a>>], id: usize) -> Option<Decoder<'a>>
     requires { id < length bodies.now }
     ensures { result ≡ held bodies.now id }
 {

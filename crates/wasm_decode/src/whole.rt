@@ -22,7 +22,7 @@ use wasm_syntax::{LimitedModule, Module};
 
 /// The mark and the version.
 #[tactic(auto, unfolding(wasm_syntax::specs::laws::ReadingItems::fixed_at))]
-fn header(decoder: &mut Decoder) -> Result<(), ReadRefusal>
+pub fn header(decoder: &mut Decoder) -> Result<(), ReadRefusal>
     ensures { TakesItem result decoder.new (fixed_at preamble decoder.old) }
 {
     decoder.expect_byte(0x00)?;

@@ -40,9 +40,9 @@
 ghost use Rattle.std.specs.Prelude.{◌≤◌};
 
 use command_words::{
-    BufferedLines, CreateOrder, LineOutlet, Obstacle, Order, Printer, RunOrder, Sizes, StoryOrder,
-    SweepOrder, WordsFault, check_module, read_module, read_words, report, report_output,
-    report_words,
+    BufferedLines, CheckOrder, CreateOrder, LineOutlet, Obstacle, Order, Printer, RunOrder, Sizes,
+    StoryOrder, SweepOrder, WordsFault, check_module, read_module, read_words, report,
+    report_output, report_words,
 };
 use disk_commands::{
     System, create_disk, files_file, inspect_file, report_unread, run_file, show_file, upgrade_file,
@@ -97,20 +97,20 @@ fn read_whole_file<R: Files>(rt: &R, alloc: Global, path: &str) -> io::Result<Ve
 fn check<R: Files, W: Write + Drop, E: Write + Drop>(
     rt: &R,
     alloc: Global,
-    path: &str,
-    pages: u64,
+    order: &CheckOrder<'_>,
     out: &mut W,
     err: &mut Printer<E>,
 ) -> u8
     ensures { result ≤ 7 }
 {
-    match read_file(rt, alloc, path) {
+    match read_file(rt, alloc, order.path) {
         Ok(wasm) => {
+            let wasm = wasm.as_slice();
             let out = &mut Printer::new(out, false);
-            let status = check_module(alloc, wasm.as_slice(), pages, out, err);
+            let status = check_module(alloc, wasm, order.pages, order.lists_all, out, err);
             report_output(out, status, err)
         }
-        Err(error) => report_unread(err, path, error),
+        Err(error) => report_unread(err, order.path, error),
     }
 }
 
@@ -350,7 +350,7 @@ where
         Err(_) => return report(err, Obstacle::NoText),
     };
     match read_words(alloc, words.as_slice()) {
-        Ok(Order::Check { path, pages }) => check(rt, alloc, path, pages, out, err),
+        Ok(Order::Check(order)) => check(rt, alloc, &order, out, err),
         Ok(Order::Create(order)) => create(rt, alloc, &order, out, err),
         Ok(Order::Run(order)) => run(rt, alloc, &order, out, err),
         Ok(Order::Show { path }) => show(rt, alloc, path, out, err),

@@ -9,6 +9,7 @@ pub path_examples : PathExamples
 unfolding clap_on_literals
 path_examples = record {
   checks = (refl, refl, refl);
+  checks_all = (refl, refl, refl);
   checks_with_pages = (refl, refl, refl);
   path_like_an_option = (refl, refl, refl);
   shows = (refl, refl, refl);

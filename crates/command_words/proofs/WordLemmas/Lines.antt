@@ -37,7 +37,7 @@ use Rattle.command_words.proofs.WordLemmas.Rows.{path_is_there}
 use Rattle.command_words.proofs.WordLemmas.Uses.{keeps_env, keeps_help, keeps_number}
 use Rattle.command_words.proofs.WordLemmas.Uses.{keeps_path}
 use Rattle.command_words.proofs.WordLemmas.Uses.{keeps_device, keeps_fronts, keeps_json}
-use Rattle.command_words.proofs.WordLemmas.Uses.{keeps_last}
+use Rattle.command_words.proofs.WordLemmas.Uses.{keeps_all, keeps_last}
 use Rattle.command_words.proofs.WordLemmas.Uses.{keeps_rewrite, keeps_seed, keeps_status}
 use Rattle.command_words.proofs.WordLemmas.Uses.{keeps_seed_file, keeps_verbose}
 
@@ -78,6 +78,10 @@ no_device : (rows : List Row) → Each IsGood rows
     → Each IsGood (with_values (codes "device") AsWritten DefaultValue (codes "false" ∷ []) rows)
 no_device rows good =
     added_good DefaultValue (codes "device") (codes "false") rows (inr refl) good
+
+no_all : (rows : List Row) → Each IsGood rows
+    → Each IsGood (with_values (codes "all") AsWritten DefaultValue (codes "false" ∷ []) rows)
+no_all rows good = added_good DefaultValue (codes "all") (codes "false") rows (inr refl) good
 
 no_json : (rows : List Row) → Each IsGood rows
     → Each IsGood (with_values (codes "json") AsWritten DefaultValue (codes "false" ∷ []) rows)
@@ -169,9 +173,12 @@ module _ (name : Text) (words : List Text) (no_help : bytes_eq name (codes "help
   each_leads = (
     λ here e. below_taken _ words (
       keeps_path 1 (codes "MODULE") (λ v. tt),
-      (keeps_number 2 (codes "pages") 0 (λ v is. is), (keeps_help, tt)),
+      (
+        keeps_number 2 (codes "pages") 0 (λ v is. is),
+        (keeps_all 2, (keeps_help, tt)),
+      ),
     )
-        (unused, (unused, (unused, tt)))
+        (unused, (unused, (no_all, (unused, tt))))
         (λ rows good e. inl (refl, one_path (codes "MODULE") rows good e)) e,
     (
       λ here e. below_taken _ words (
@@ -411,7 +418,7 @@ run_has_numbers rows path taken =
     (fuel.0, fuel.1, every.0, every.1)
 
 check_has_numbers : (rows : List Row) (path : Text) → TakesOptions rows
-    → NumbersFit (check path (number_or (codes "pages") 256 rows))
+    → NumbersFit (check path (number_or (codes "pages") 256 rows) (flag_in (codes "all") rows))
 check_has_numbers rows path taken =
     (number_fits 0 256 (codes "pages") rows taken.pages (omega arith) (omega arith)).1
 
@@ -472,8 +479,8 @@ taken_means : (arguments : List Text) (name : Text) (rows : List Row) → IsTake
     → IsSomeAnd (meaning_below arguments (name, rows)) NumbersFit
 taken_means arguments name rows taken = elim taken.0 [
   | inl p ↦ subst (λ (t : Text). IsSomeAnd (meaning_below arguments (t, rows)) NumbersFit)
-      (sym p.0) (path_means (λ path. check path (number_or (codes "pages") 256 rows))
-      (module_in rows) p.1 (λ path. check_has_numbers rows path taken.1))
+      (sym p.0) (path_means (λ path. check path (number_or (codes "pages") 256 rows)
+      (flag_in (codes "all") rows)) (module_in rows) p.1 (λ path. check_has_numbers rows path taken.1))
   | inr others ↦ elim others [
     | inl p ↦ subst (λ (t : Text). IsSomeAnd (meaning_below arguments (t, rows)) NumbersFit)
         (sym p.0) (paths_mean (λ d path. create (create_in rows arguments d path)) (disk_in rows)

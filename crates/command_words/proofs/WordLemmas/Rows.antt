@@ -29,7 +29,8 @@ counts_from_zero id = bytes_eq id (codes "pages") || (bytes_eq id (codes "files"
 -- and the flags
 abbrev pub is_flag : Text → Bool
 is_flag id = bytes_eq id (codes "rewrite") || (bytes_eq id (codes "device")
-    || (bytes_eq id (codes "json") || bytes_eq id (codes "verbose")))
+    || (bytes_eq id (codes "json") || (bytes_eq id (codes "verbose")
+    || bytes_eq id (codes "all"))))
 
 -- what is asked of the value of an argument
 pub data Asked : Type 0 where
@@ -138,4 +139,5 @@ options_are_taken rows good = record {
   verbose = first_passes (codes "verbose") rows good;
   device = first_passes (codes "device") rows good;
   json = first_passes (codes "json") rows good;
+  all = first_passes (codes "all") rows good;
 }

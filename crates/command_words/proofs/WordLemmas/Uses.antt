@@ -13,7 +13,7 @@ use Rattle.clap.specs.declared.error.kind.ErrorKind.TheVariants as kind
 use Rattle.clap.specs.declared.parser.matches.ValueSource.TheVariants.{CommandLine}
 use Rattle.clap.proofs.ValueTestLemmas.{accepts-Accepts}
 use Rattle.command_words.specs.rules.CommandLine.{env_rule, number_rule, path_rule}
-use Rattle.command_words.specs.rules.CommandLine.{device_rule, fronts_rule, json_rule}
+use Rattle.command_words.specs.rules.CommandLine.{all_rule, device_rule, fronts_rule, json_rule}
 use Rattle.command_words.specs.rules.CommandLine.{last_rule}
 use Rattle.command_words.specs.rules.CommandLine.{rewrite_rule, seed_rule, status_rule}
 use Rattle.command_words.specs.rules.CommandLine.{seed_file_rule, verbose_rule}
@@ -129,6 +129,11 @@ keeps_verbose n (v ∷ vs) rows e good =
 pub keeps_device : (n : ℕ) → Keeps IsGood false (with_index n (filled device_rule))
 keeps_device n [] rows e good = with_good (codes "device") (codes "true") rows (inl refl) good
 keeps_device n (v ∷ vs) rows e good =
+    absurd (some_values v vs (no_first (range_kinds 0 0 (length (v ∷ vs))) _ e))
+
+pub keeps_all : (n : ℕ) → Keeps IsGood false (with_index n (filled all_rule))
+keeps_all n [] rows e good = with_good (codes "all") (codes "true") rows (inl refl) good
+keeps_all n (v ∷ vs) rows e good =
     absurd (some_values v vs (no_first (range_kinds 0 0 (length (v ∷ vs))) _ e))
 
 pub keeps_json : (n : ℕ) → Keeps IsGood false (with_index n (filled json_rule))

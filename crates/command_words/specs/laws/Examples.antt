@@ -87,11 +87,13 @@ Means words meaning = (faults_in_words words ≡ []) × (takes wasmhost (own_wor
 -- lines for a module's file, or for a disk that is only looked at
 pub record PathExamples : Type 0 where
   pub checks : Means (line (codes "check" ∷ codes "a.wasm" ∷ []))
-      (check (codes "a.wasm") 256)
+      (check (codes "a.wasm") 256 false)
+  pub checks_all : Means (line (codes "check" ∷ codes "a.wasm" ∷ codes "--all" ∷ []))
+      (check (codes "a.wasm") 256 true)
   pub checks_with_pages : Means (line (codes "check" ∷ codes "a.wasm" ∷ codes "--pages"
-      ∷ codes "17" ∷ [])) (check (codes "a.wasm") 17)
+      ∷ codes "17" ∷ [])) (check (codes "a.wasm") 17 false)
   pub path_like_an_option : Means (line (codes "check" ∷ codes "--" ∷ codes "--fuel" ∷ []))
-      (check (codes "--fuel") 256)
+      (check (codes "--fuel") 256 false)
   pub shows : Means (line (codes "show" ∷ codes "a.disk" ∷ [])) (show (codes "a.disk"))
   pub inspects : Means (line (codes "inspect" ∷ codes "a.disk" ∷ []))
       (inspect (codes "a.disk") false)

@@ -81,6 +81,10 @@ device_rule = record (new_rule (codes "device")) {
   action = Some SetTrue;
 }
 
+-- the flag `--all`
+abbrev pub all_rule : Rule
+all_rule = record (new_rule (codes "all")) { long = Some (codes "all"); action = Some SetTrue }
+
 -- the flag `--json`
 abbrev pub json_rule : Rule
 json_rule = record (new_rule (codes "json")) {
@@ -94,10 +98,10 @@ json_rule = record (new_rule (codes "json")) {
 abbrev pub disk_app : Text → App
 disk_app name = with_rule (new_app name) (path_rule (codes "DISK"))
 
--- `check MODULE`, with `--pages` where it is wanted
+-- `check MODULE`, with `--pages` and `--all` where they are wanted
 abbrev pub check_app : App
-check_app = with_rule (with_rule (new_app (codes "check")) (path_rule (codes "MODULE")))
-    (number_rule (codes "pages") 0)
+check_app = with_rule (with_rule (with_rule (new_app (codes "check")) (path_rule (codes "MODULE")))
+    (number_rule (codes "pages") 0)) all_rule
 
 -- `create DISK MODULE`
 abbrev pub bare_create_app : App

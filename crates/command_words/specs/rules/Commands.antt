@@ -102,7 +102,7 @@ pub record SweepMeaning : Type 0 where
 
 -- what an order says
 pub data Meaning : Type 0 where
-  check : Text → ℕ → Meaning
+  check : Text → ℕ → Bool → Meaning
   create : CreateMeaning → Meaning
   run : RunMeaning → Meaning
   show : Text → Meaning
@@ -163,7 +163,7 @@ sweep_said order = record {
 
 -- what an order says
 abbrev pub meaning_of : Order → Meaning
-meaning_of (Check path pages) = check path.now pages
+meaning_of (Check order) = check order.path.now order.pages order.lists_all
 meaning_of (Create order) = create (create_said order)
 meaning_of (Run order) = run (run_said order)
 meaning_of (Show path) = show path.now
@@ -261,8 +261,8 @@ sweep_in rows script wasm = record {
 
 -- A check, where its path is there. Where no number is given, there are 256 pages.
 abbrev pub check_below : List Row → Option Meaning
-check_below rows =
-    option_map (λ wasm. check wasm (number_or (codes "pages") 256 rows)) (module_in rows)
+check_below rows = option_map (λ wasm. check wasm (number_or (codes "pages") 256 rows)
+    (flag_in (codes "all") rows)) (module_in rows)
 
 -- a creation, where both paths are there
 abbrev pub creation_below : List Text → List Row → Option Meaning
@@ -361,6 +361,7 @@ pub record TakesOptions (rows : List Row) : Type 0 where
   pub verbose : TakesFlag (codes "verbose") rows
   pub device : TakesFlag (codes "device") rows
   pub json : TakesFlag (codes "json") rows
+  pub all : TakesFlag (codes "all") rows
 
 -- one of the nine commands, with the paths that it needs
 abbrev pub HasPaths : Text → List Row → Type 0

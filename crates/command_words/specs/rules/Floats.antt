@@ -43,6 +43,11 @@ float_at bytes at = named (slice_get bytes at)
     named (Some byte) = float_words byte
     named None = None
 
+-- that name
+abbrev pub float_name : Option (List ℕ × List ℕ) → List ℕ
+float_name None = codes "a float"
+float_name (Some name) = name.0 ++ name.1
+
 -- That is printed of floats at this offset: the name of the opcode or of the type, its place, and
 -- the hint. Where nothing there is of floats, nothing is printed.
 abbrev pub TellsOfFloat : List ℕ → ℕ → PrinterState → PrinterState → Type 0

@@ -44,13 +44,16 @@ abbrev pub in_function : Option ℕ → List ℕ
 in_function (Some number) = codes ", in function " ++ decimal number
 in_function None = []
 
--- The verdict, as `refused`, and on a line of its own the limit and its place: `more than 4096
--- instructions in one expression, at byte 16400, in function 12`.
+-- The limit and its place: `more than 4096 instructions in one expression, at byte 16400, in
+-- function 12`.
+abbrev pub passed_text : PassedLimit → Option ℕ → List ℕ
+passed_text passed function =
+    codes "more than " ++ decimal (most_of passed.limit) ++ codes " " ++ limit_words passed.limit
+    ++ codes ", at byte " ++ decimal passed.at ++ in_function function ++ codes "\n"
+
+-- The verdict, as `refused`, and on a line of its own the limit and its place.
 abbrev pub limit_text : List ℕ → PassedLimit → Option ℕ → List ℕ
-limit_text verdict passed function =
-    verdict ++ codes " B3 Limit\nmore than " ++ decimal (most_of passed.limit) ++ codes " "
-    ++ limit_words passed.limit ++ codes ", at byte " ++ decimal passed.at ++ in_function function
-    ++ codes "\n"
+limit_text verdict passed function = verdict ++ codes " B3 Limit\n" ++ passed_text passed function
 
 -- That is printed of a limit that these bytes pass.
 abbrev pub TellsLimit : List ℕ → List ℕ → PassedLimit → PrinterState → PrinterState → Type 0

@@ -1,7 +1,6 @@
 -- What is told of a module that isn't accepted, beside its fault (this project's own).
 use Rattle.std.specs.Prelude.{◌≡◌, ◌⊎◌, ℕ, ◌<◌, List, [], ◌∷◌, ◌++◌, codes, Some, nat_le}
-use Rattle.std.specs.Prelude.{if◌then◌else◌, slice_get, true, ◌≤◌}
-use Rattle.std.specs.Io.KnownBytes.{Appends}
+use Rattle.std.specs.Prelude.{if◌then◌else◌, slice_get, true}
 use Rattle.std.specs.Fmt.{decimal}
 use Rattle.wasm_syntax.specs.declared.types.FunctionType.{FunctionType}
 use Rattle.wasm_syntax.specs.declared.types.MemoryType.{MemoryType}
@@ -18,13 +17,9 @@ use Rattle.machine.specs.declared.instance.fault.LinkFault.TheVariants as link
 use Rattle.machine.specs.rules.Offers.{imported_call}
 use Rattle.machine.specs.declared.from_bytes.fault.ModuleFault.{ModuleFault}
 use Rattle.machine.specs.declared.from_bytes.fault.ModuleFault.TheVariants.{Decode, Valid, Link}
-use Rattle.machine.specs.rules.Acceptance.{HasAcceptedModule, HasNoAcceptedModule}
 use Rattle.machine.specs.rules.Acceptance.{IsReported}
-use Rattle.command_words.specs.declared.bounds.Bound.TheVariants.{Pages}
-use Rattle.command_words.specs.rules.Bounds.{IsOutside, range_words}
 use Rattle.command_words.specs.rules.Floats.{TellsOfFloat}
-use Rattle.command_words.specs.rules.Printers.{PrinterState, HeedsWrites, IsPrinted}
-use Rattle.command_words.specs.rules.Reports.{SaysLine}
+use Rattle.command_words.specs.rules.Printers.{PrinterState, IsPrinted}
 
 -- ---- imports
 
@@ -107,24 +102,3 @@ TellsRefusal pages bytes new =
 -- That is told last, unless a write has failed.
 abbrev pub SaysMore : List ℕ → ModuleFault → PrinterState → Type 0
 SaysMore bytes why new = EndsWithMore bytes why new ⊎ (new.failed ≡ true)
-
--- ---- a check
-
--- The status says whether the bytes spell a module that is accepted with so many pages, and that is
--- printed.
-pub record IsChecked (pages : ℕ) (bytes : List ℕ) (old : PrinterState) (status : ℕ)
-    (new : PrinterState) : Type 0 where
-  pub accepted : status ≡ 0 → HasAcceptedModule pages bytes
-  pub shown : status ≡ 0 → Appends old.contents new.contents (codes "accepted\n")
-  pub refused : status ≡ 3 → HasNoAcceptedModule pages bytes
-  pub more : status ≡ 3 → TellsRefusal pages bytes new
-  pub heeded : HeedsWrites old status new
-  pub known : (status ≡ 0) ⊎ (status ≡ 3) ⊎ (status ≡ 5) ⊎ (status ≡ 7)
-
--- A worker may have so many pages, and the module is checked with them. Or it may not, and their
--- bounds are told.
-abbrev pub ChecksModule : ℕ → List ℕ → PrinterState → PrinterState → PrinterState → PrinterState
-    → ℕ → Type 0
-ChecksModule pages bytes out out' err err' status =
-    ((1 ≤ pages) × (pages ≤ 256) × IsChecked pages bytes out status out' × (err' ≡ err))
-    ⊎ (IsOutside 1 256 pages × SaysLine (range_words Pages) 3 err status err' × (out' ≡ out))

@@ -1,7 +1,9 @@
 //! Where a module has floats.
 
-ghost use Rattle.std.specs.Prelude.{◌≡◌, ◌++◌, true, OnErr, OnOk, Some};
+ghost use Rattle.std.specs.Prelude.{◌≡◌, ◌++◌, true, OnErr, OnOk, codes};
+ghost use Rattle.std.specs.Fmt.{decimal};
 ghost use Rattle.command_words.specs.rules.Floats.{TellsOfFloat, float_at, float_hint};
+ghost use Rattle.command_words.specs.rules.Floats.{float_name};
 ghost use Rattle.command_words.specs.rules.Floats.{place_text, section_word};
 ghost use Rattle.wasm_places.specs.Named.{AreFloatWords};
 ghost use Rattle.command_words.specs.rules.Printers.{IsPrinted};
@@ -74,6 +76,29 @@ fn words_at(wasm: &[u8], at: usize) -> Option<FloatWords>
 {
     let byte = wasm.get(at)?;
     float_words(*byte)
+}
+
+/// Prints what is of floats at an offset, in the function with this number.
+pub(super) fn print_float_in<W: Write + Drop>(
+    out: &mut Printer<W>,
+    wasm: &[u8],
+    at: usize,
+    number: u64,
+) -> io::Result<()>
+    ensures printed { OnOk result (IsPrinted out.old out.new
+        (float_name (float_at wasm.now at) ++ codes " in function " ++ decimal number
+        ++ codes "\n")) }
+    ensures steady { OnOk result (out.new.failed ≡ out.old.failed) }
+    ensures failed { OnErr result (out.new.failed ≡ true) }
+{
+    match words_at(wasm, at) {
+        Some(words) => {
+            let value_type = words.value_type;
+            let operation = words.operation;
+            writeln!(out, "{value_type}{operation} in function {number}")
+        }
+        None => writeln!(out, "a float in function {number}"),
+    }
 }
 
 /// Prints what is of floats at an offset, and where that is.

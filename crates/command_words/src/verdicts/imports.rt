@@ -9,7 +9,7 @@ use wasi_abi::{Call, MODULE_NAME};
 use wasm_syntax::{FunctionType, Import, ImportItem, Module};
 
 /// The call that an import names, if there is one.
-fn call_of(import: &Import) -> Option<Call>
+pub(super) fn call_of(import: &Import) -> Option<Call>
     ensures { result ≡ imported_call import.now }
 {
     if import.module_name.as_slice() != MODULE_NAME.as_bytes() {
@@ -33,7 +33,7 @@ fn has_type(function_type: &FunctionType, call: Call) -> bool
 }
 
 /// Whether an import is a function with the type of the call that it names.
-fn is_offered(types: &[FunctionType], import: &Import) -> bool
+pub(super) fn is_offered(types: &[FunctionType], import: &Import) -> bool
     ensures { IsTrue result ↔ IsImportOffered types.now import.now }
 {
     let Some(call) = call_of(import) else {

@@ -2,6 +2,8 @@
 
 mod floats;
 mod imports;
+mod listing;
 mod telling;
 
-pub(crate) use telling::print_more;
+pub(crate) use listing::print_list;
+pub(crate) use telling::{print_more, print_unlisted};

@@ -1,7 +1,7 @@
 //! The commands of the program, as `clap` is told of them.
 
 ghost use Rattle.std.specs.Prelude.{IfOk, codes};
-ghost use Rattle.command_words.specs.rules.CommandLine.{IsArgument, IsCommand, bare_app};
+ghost use Rattle.command_words.specs.rules.CommandLine.{IsArgument, IsCommand, all_rule, bare_app};
 ghost use Rattle.command_words.specs.rules.CommandLine.{bare_create_app, bare_script_app};
 ghost use Rattle.command_words.specs.rules.CommandLine.{check_app, create_app, device_rule};
 ghost use Rattle.command_words.specs.rules.CommandLine.{disk_app};
@@ -165,6 +165,16 @@ fn env_option<'a>(alloc: Global) -> Arg<'a>
         .action(ArgAction::Append)
 }
 
+/// The flag `--all`.
+fn all_flag<'a>(alloc: Global) -> Arg<'a>
+    ensures { IsArgument all_rule result }
+{
+    Arg::new(alloc, "all")
+        .long("all")
+        .help("List each import and each function that is in the way")
+        .action(ArgAction::SetTrue)
+}
+
 fn check_command<'a>(alloc: Global) -> Result<Command<'a>, AllocError>
     ensures { IfOk result (IsCommand check_app) }
 {
@@ -172,7 +182,8 @@ fn check_command<'a>(alloc: Global) -> Result<Command<'a>, AllocError>
     Command::new(alloc, "check")
         .about("Say whether a module is accepted")
         .arg(path_argument(alloc, "MODULE", MODULE))?
-        .arg(number_option(alloc, "pages", pages))
+        .arg(number_option(alloc, "pages", pages))?
+        .arg(all_flag(alloc))
 }
 
 /// A command with the path of a disk.

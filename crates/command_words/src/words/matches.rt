@@ -18,7 +18,7 @@ ghost use Rattle.command_words.specs.rules.Commands.{check_below, creation_below
 ghost use Rattle.command_words.specs.rules.Commands.{inspect_below, run_below, story_below};
 ghost use Rattle.command_words.specs.rules.Commands.{sweep_below};
 
-use super::{CreateOrder, Order, RunOrder, StoryOrder, SweepOrder};
+use super::{CheckOrder, CreateOrder, Order, RunOrder, StoryOrder, SweepOrder};
 use crate::configuring::{FILES, JOURNAL, PAGES};
 use clap::ArgMatches;
 use std::alloc::{AllocError, Global};
@@ -230,10 +230,11 @@ fn check_order<'a>(matches: &ArgMatches<'a>) -> Order<'a>
     requires options { TakesOptions (rows_of (found_of matches.now)) }
     ensures { check_below (rows_of (found_of matches.now)) ≡ Some (meaning_of result) }
 {
-    Order::Check {
+    Order::Check(CheckOrder {
         path: path_of(matches, "MODULE"),
         pages: number_or_else(matches, "pages", CHECK_PAGES),
-    }
+        lists_all: flag_of(matches, "all"),
+    })
 }
 
 /// The order to create a worker, with the words after `--`.

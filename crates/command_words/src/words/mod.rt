@@ -32,6 +32,17 @@ use std::convert::AsStr;
 use std::num::NonZeroU64;
 use thiserror::Error as FaultText;
 
+/// What the words say of a check.
+#[derive(Clone, Copy, Debug)]
+pub struct CheckOrder<'a> {
+    /// The file of the module.
+    pub path: &'a str,
+    /// Pages of 65,536 bytes that its memory may have.
+    pub pages: u64,
+    /// Whether each import and each function that is in the way is listed.
+    pub lists_all: bool,
+}
+
 /// What the words say of a creation.
 #[derive(Debug, Drop)]
 pub struct CreateOrder<'a> {
@@ -113,11 +124,8 @@ pub struct SweepOrder<'a> {
 /// A command with its options, borrowed from the words.
 #[derive(Debug, Drop)]
 pub enum Order<'a> {
-    /// Says whether the module in this file is accepted with so many pages.
-    Check {
-        path: &'a str,
-        pages: u64,
-    },
+    /// Says whether the module in a file is accepted with so many pages.
+    Check(CheckOrder<'a>),
     /// Makes a disk with a fresh worker of a module.
     Create(CreateOrder<'a>),
     /// Runs the worker of a disk, so many steps at a time.

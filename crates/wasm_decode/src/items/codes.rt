@@ -1,9 +1,10 @@
 //! Code entries (section 5.5.13).
 
 ghost use Rattle.std.specs.Prelude.{◌≡◌, ◌≤◌, ◌++◌, [], replicate, length, OnOk, IfOk};
+ghost use Rattle.wasm_decode.specs.Answers.{GivesAll};
 ghost use Rattle.wasm_decode.specs.Items.Answers.{GivesItem};
 ghost use Rattle.wasm_decode.specs.Items.Entries.{run_onto_at, runs_onto_at, locals_within_at};
-ghost use Rattle.wasm_syntax.specs.laws.ReadingItems.{sized_at};
+ghost use Rattle.wasm_syntax.specs.laws.ReadingItems.{sized_at, whole_at};
 ghost use Rattle.wasm_syntax.specs.laws.ReadingWithin.{code_within_at};
 
 use crate::items::decoder::Decoder;
@@ -77,13 +78,21 @@ fn content(alloc: Global, decoder: &mut Decoder) -> Result<Code, ItemFault>
     Ok(Code { locals, body })
 }
 
+/// Declared locals and a body, which are all of the bytes.
+pub fn whole_code(alloc: Global, entry: Decoder) -> Result<Code, ItemFault>
+    ensures { GivesAll result (whole_at code_within_at entry.entry) }
+{
+    let mut entry = entry;
+    let code = content(alloc, &mut entry)?;
+    entry.expect_end()?;
+    Ok(code)
+}
+
 /// A size, and so many bytes that are declared locals and a body, all of them.
 #[tactic(auto, unfolding(wasm_syntax::specs::laws::ReadingItems::sized_at))]
 pub fn code(alloc: Global, decoder: &mut Decoder) -> Result<Code, ItemFault>
     ensures { GivesItem result decoder.new (sized_at code_within_at decoder.old) }
 {
-    let mut entry = take_sized(decoder)?;
-    let code = content(alloc, &mut entry)?;
-    entry.expect_end()?;
-    Ok(code)
+    let entry = take_sized(decoder)?;
+    whole_code(alloc, entry)
 }

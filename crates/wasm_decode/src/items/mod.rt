@@ -16,7 +16,7 @@ mod step;
 mod types;
 mod vectors;
 
-pub use codes::code;
+pub use codes::{code, whole_code};
 pub use decoder::Decoder;
 pub use entries::import;
 pub use expressions::expression;

@@ -1,0 +1,16 @@
+use Rattle.std.proofs.Common.{◌∙◌, sym}
+use Rattle.command_words.proofs.Told.{refused_by}
+use Rattle.command_words.proofs.VerdictLemmas.{listed_refusal}
+use Rattle.command_words.proofs.check.list_bytes.Goals as goal
+
+pub returns-in-Ok-clause-refused : goal.returns-in-Ok-clause-refused
+returns-in-Ok-clause-refused g c = λ e.
+    refused_by c.args.pages c.args.wasm.now c.verdict_on-verdict.result
+    c.verdict_on-verdict.ensures.right
+    (sym c.status_of.ensures ∙ e)
+
+pub returns-in-Ok-clause-more : goal.returns-in-Ok-clause-more
+returns-in-Ok-clause-more g c = λ e.
+    listed_refusal c.args.wasm.now c.args.pages c.print_listed_verdict.new.out
+    c.verdict_on-verdict.result c.verdict_on-verdict.ensures.reported c.in-Ok.ensures.more
+    (sym c.status_of.ensures ∙ e)

@@ -1,0 +1,35 @@
+-- What a check of a module says (this project's own).
+use Rattle.std.specs.Prelude.{◌≡◌, ◌⊎◌, ◌≤◌, ℕ, Bool, true, false, List, codes}
+use Rattle.std.specs.Io.KnownBytes.{Appends}
+use Rattle.machine.specs.rules.Acceptance.{HasAcceptedModule, HasNoAcceptedModule}
+use Rattle.command_words.specs.declared.bounds.Bound.TheVariants.{Pages}
+use Rattle.command_words.specs.rules.Bounds.{IsOutside, range_words}
+use Rattle.command_words.specs.rules.Listings.{ListsRefusal}
+use Rattle.command_words.specs.rules.Printers.{PrinterState, HeedsWrites}
+use Rattle.command_words.specs.rules.Reports.{SaysLine}
+use Rattle.command_words.specs.rules.Verdicts.{TellsRefusal}
+
+-- It is told last why the module isn't accepted with so many pages, and if that is asked for, all
+-- that is in the way.
+abbrev pub TellsWhy : Bool → ℕ → List ℕ → PrinterState → Type 0
+TellsWhy false pages bytes new = TellsRefusal pages bytes new
+TellsWhy true pages bytes new = ListsRefusal pages bytes new
+
+-- The status says whether the bytes spell a module that is accepted with so many pages, and that is
+-- printed. Where it isn't, all that is in the way is listed if that is asked for.
+pub record IsChecked (lists_all : Bool) (pages : ℕ) (bytes : List ℕ) (old : PrinterState)
+    (status : ℕ) (new : PrinterState) : Type 0 where
+  pub accepted : status ≡ 0 → HasAcceptedModule pages bytes
+  pub shown : status ≡ 0 → Appends old.contents new.contents (codes "accepted\n")
+  pub refused : status ≡ 3 → HasNoAcceptedModule pages bytes
+  pub more : status ≡ 3 → TellsWhy lists_all pages bytes new
+  pub heeded : HeedsWrites old status new
+  pub known : (status ≡ 0) ⊎ (status ≡ 3) ⊎ (status ≡ 5) ⊎ (status ≡ 7)
+
+-- A worker may have so many pages, and the module is checked with them. Or it may not, and their
+-- bounds are told.
+abbrev pub ChecksModule : Bool → ℕ → List ℕ → PrinterState → PrinterState → PrinterState
+    → PrinterState → ℕ → Type 0
+ChecksModule lists_all pages bytes out out' err err' status =
+    ((1 ≤ pages) × (pages ≤ 256) × IsChecked lists_all pages bytes out status out' × (err' ≡ err))
+    ⊎ (IsOutside 1 256 pages × SaysLine (range_words Pages) 3 err status err' × (out' ≡ out))
