@@ -17,7 +17,8 @@ use Rattle.disk_layout.specs.declared.damage.Damage.TheVariants as damage
 use Rattle.disk_layout.specs.declared.stored.Stored.{Stored}
 use Rattle.disk_layout.specs.rules.Places.{Geometry}
 use Rattle.disk_layout.specs.rules.Sectors.{Super, bytes_from}
-use Rattle.disk_layout.specs.rules.Stored.{OnlyReads, IsConsistent, Checks, SplitsContents}
+use Rattle.disk_layout.specs.rules.Stored.{OnlyReads, IsConsistent, Checks}
+use Rattle.disk_layout.specs.Stored.{SplitsContents}
 use Rattle.disk_layout.specs.rules.Stored.{FindsStored, HasOtherDigest, HasItsLengths}
 use Rattle.disk_layout.specs.declared.geometry.TheConstants.{MODULE_PLACE}
 

@@ -1,2 +1,5 @@
 pub mod laws
 pub mod rules
+pub mod Held
+pub mod Spelled
+pub mod Stored

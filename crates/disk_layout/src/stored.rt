@@ -21,7 +21,8 @@ ghost use Rattle.sector_disk.specs.rules.Medium.{spare};
 ghost use Rattle.sector_disk.specs.rules.Calls.{synced_writes};
 ghost use Rattle.sector_disk.specs.rules.Run.{IsTornRun, IsWrittenRun};
 ghost use Rattle.disk_layout.specs.rules.Sectors.{bytes_from, super_bytes};
-ghost use Rattle.disk_layout.specs.rules.Stored.{OnlyReads, IsConsistent, Checks, SplitsContents};
+ghost use Rattle.disk_layout.specs.rules.Stored.{OnlyReads, IsConsistent, Checks};
+ghost use Rattle.disk_layout.specs.Stored.{SplitsContents};
 ghost use Rattle.disk_layout.specs.rules.Stored.{FindsStored, HasItsLengths};
 
 use crate::damage::Damage;

@@ -6,3 +6,4 @@ pub mod Loading
 pub mod laws
 pub mod rules
 pub mod Linked
+pub mod Initial

@@ -3,3 +3,4 @@ pub mod Store
 pub mod Writing
 pub mod laws
 pub mod rules
+pub mod Heads

@@ -8,7 +8,8 @@ ghost use Rattle.sector_disk.specs.rules.Medium.{CallsUpTo};
 ghost use Rattle.disk_layout.specs.rules.Places.{journal_place};
 ghost use Rattle.disk_layout.specs.rules.Sectors.{bytes_from};
 ghost use Rattle.disk_layout.specs.rules.Stored.{OnlyReads};
-ghost use Rattle.snapshot.specs.rules.Heads.{HeadIn, FindsHead};
+ghost use Rattle.snapshot.specs.rules.Heads.{FindsHead};
+ghost use Rattle.snapshot.specs.Heads.{HeadIn};
 ghost use Rattle.snapshot.specs.rules.Newest.{ReadsProcessImage};
 
 use crate::fault::SnapshotFault;

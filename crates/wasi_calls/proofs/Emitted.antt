@@ -16,7 +16,7 @@ use Rattle.wasi_calls_rules.specs.Moving.{size_after, file_written, write_offset
 use Rattle.wasi_calls_rules.specs.Moving.{target_written, fd_write}
 use Rattle.wasi_calls_rules.proofs.Steps.{HoldsAfter, done_with, step, next}
 use Rattle.wasi_calls.specs.rules.Held.{HeldWasiState, ShowsWasiState, behind_lines}
-use Rattle.wasi_calls.specs.rules.Held.{behind_lines_of_call_rule}
+use Rattle.wasi_calls.specs.Held.{behind_lines_of_call_rule}
 use Rattle.wasi_calls.specs.rules.Held.{held_released}
 use Rattle.wasi_calls.specs.rules.Outputs.{count_begun}
 use Rattle.wasi_calls.specs.Writes.{unfinished_of}

@@ -27,10 +27,11 @@ use Rattle.wasi_calls_rules.specs.CallRules.{CallEnding, IsDone, IsRefused, IsAs
 use Rattle.wasi_calls_rules.specs.CallRules.{IsExit}
 use Rattle.wasi_calls_rules.specs.CallRules.{NoMemory, TellsCallRule}
 use Rattle.wasi_calls.specs.rules.Held.{HeldWasiState, ShowsWasiState, behind_lines}
-use Rattle.wasi_calls.specs.rules.Held.{behind_lines_of_call_rule}
+use Rattle.wasi_calls.specs.Held.{behind_lines_of_call_rule}
 use Rattle.wasi_calls.specs.declared.stop.CallStop.{CallStop}
 use Rattle.wasi_calls.specs.declared.stop.CallStop.TheVariants as stop
-use Rattle.wasi_calls.specs.rules.Calls.{ShowsCallRule, call_outcome, ending_of_call}
+use Rattle.wasi_calls.specs.rules.Calls.{ShowsCallRule, ending_of_call}
+use Rattle.wasi_calls.specs.Calls.{call_outcome}
 use Rattle.wasi_calls.specs.Steps.{StopsStep}
 use Rattle.wasi_calls.proofs.Cuts.{behind_cut, all_behind}
 

@@ -15,7 +15,8 @@ use Rattle.wasi_calls_rules.specs.Checks.{answered_by}
 use Rattle.wasi_calls_rules.specs.Small.{call_done}
 use Rattle.wasi_calls_rules.specs.Moving.{Got, input_taken, has_bytes, input_read, target_read}
 use Rattle.wasi_calls_rules.specs.Moving.{fd_read, fd_pread, file_written, fd_pwrite}
-use Rattle.wasi_calls.specs.rules.Held.{behind_lines, behind_lines_of_call_rule}
+use Rattle.wasi_calls.specs.rules.Held.{behind_lines}
+use Rattle.wasi_calls.specs.Held.{behind_lines_of_call_rule}
 use Rattle.wasi_calls.proofs.LinesInFront.{next, host_next, file_behind}
 use Rattle.wasi_calls.proofs.SmallInFront.{IsBehind}
 

@@ -20,7 +20,8 @@ use Rattle.wasi_calls_rules.specs.Entries.{fd_readdir, placed, a_leaf, whole_pat
 use Rattle.wasi_calls_rules.specs.Entries.{is_within_node, gives_way, renamed_over, is_same_node}
 use Rattle.wasi_calls_rules.specs.Entries.{renamed_to, path_rename, free_number, OpenMode}
 use Rattle.wasi_calls_rules.specs.Entries.{opened_there, opened_new, opened_at, path_open}
-use Rattle.wasi_calls.specs.rules.Held.{behind_lines, behind_lines_of_call_rule}
+use Rattle.wasi_calls.specs.rules.Held.{behind_lines}
+use Rattle.wasi_calls.specs.Held.{behind_lines_of_call_rule}
 use Rattle.wasi_calls.proofs.LinesInFront.{next}
 use Rattle.wasi_calls.proofs.SmallInFront.{IsBehind}
 

@@ -17,7 +17,8 @@ use Rattle.wasi_calls_rules.specs.Entries.{placed, a_leaf, whole_path, a_free_no
 use Rattle.wasi_calls_rules.specs.Entries.{is_directory_empty, path_create_directory}
 use Rattle.wasi_calls_rules.specs.Entries.{path_filestat_get, path_remove_directory}
 use Rattle.wasi_calls_rules.specs.Entries.{path_unlink_file}
-use Rattle.wasi_calls.specs.rules.Held.{behind_lines, behind_lines_of_call_rule}
+use Rattle.wasi_calls.specs.rules.Held.{behind_lines}
+use Rattle.wasi_calls.specs.Held.{behind_lines_of_call_rule}
 use Rattle.wasi_calls.proofs.LinesInFront.{next}
 use Rattle.wasi_calls.proofs.SmallInFront.{IsBehind, stat_behind}
 

@@ -9,7 +9,8 @@ use Rattle.wasi_calls_rules.specs.Checks.{Bytes, Halt, Ruling, Refuses, Asks, En
 use Rattle.wasi_calls_rules.specs.CallRules.{call_rule}
 use Rattle.wasi_calls_rules.specs.laws.Laws.{MayAsk}
 use Rattle.wasi_calls_rules.proofs.Halting.{few_call_rules_ask}
-use Rattle.wasi_calls.specs.rules.Held.{HeldWasiState, ShowsWasiState, behind_lines_of_call_rule}
+use Rattle.wasi_calls.specs.rules.Held.{HeldWasiState, ShowsWasiState}
+use Rattle.wasi_calls.specs.Held.{behind_lines_of_call_rule}
 use Rattle.wasi_calls.specs.rules.Calls.{question_of}
 use Rattle.wasi_calls.proofs.CallRulesInFront.{call_rule_behind}
 

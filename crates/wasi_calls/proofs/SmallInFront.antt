@@ -24,7 +24,8 @@ use Rattle.wasi_calls_rules.specs.Small.{filestat_bytes_of, fd_filestat_get, roo
 use Rattle.wasi_calls_rules.specs.Small.{fd_filestat_set_size, fd_prestat_get}
 use Rattle.wasi_calls_rules.specs.Small.{fd_prestat_dir_name, seek_base, file_offset, fd_seek}
 use Rattle.wasi_calls_rules.specs.Small.{fd_tell, call_done, random_put, random_get}
-use Rattle.wasi_calls.specs.rules.Held.{behind_lines, behind_lines_of_call_rule}
+use Rattle.wasi_calls.specs.rules.Held.{behind_lines}
+use Rattle.wasi_calls.specs.Held.{behind_lines_of_call_rule}
 use Rattle.wasi_calls.proofs.LinesInFront.{next}
 
 module _ (before : List Line) where

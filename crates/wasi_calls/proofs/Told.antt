@@ -7,7 +7,8 @@ use Rattle.wasi_calls_rules.specs.WasiStates.{WasiState}
 use Rattle.wasi_calls_rules.specs.Checks.{Bytes, Refuses, Ruling}
 use Rattle.wasi_calls_rules.specs.CallRules.{TellsCallRule}
 use Rattle.wasi_calls.specs.rules.Held.{HeldWasiState}
-use Rattle.wasi_calls.specs.rules.Calls.{ending_of_call, check_outcome, call_outcome}
+use Rattle.wasi_calls.specs.rules.Calls.{ending_of_call}
+use Rattle.wasi_calls.specs.Calls.{check_outcome, call_outcome}
 use Rattle.wasi_calls.specs.declared.stop.CallStop.{CallStop}
 use Rattle.wasi_calls.specs.declared.stop.CallStop.TheVariants as stop
 use Rattle.wasi_calls.specs.Steps.{StopsStep}

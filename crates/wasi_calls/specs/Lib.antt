@@ -12,3 +12,5 @@ pub mod Moves
 pub mod Restoring
 pub mod laws
 pub mod rules
+pub mod Calls
+pub mod Held

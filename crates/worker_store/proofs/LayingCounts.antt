@@ -4,7 +4,7 @@ use Rattle.sector_disk.specs.rules.Medium.{Medium, CountsUpTo, IsAllSynced, Pass
 use Rattle.sector_disk.proofs.CountLemmas.{counts_then}
 use Rattle.disk_layout.specs.declared.geometry.Geometry.{Geometry}
 use Rattle.disk_layout.specs.rules.Unsynced.{most_unsynced}
-use Rattle.worker_store.specs.rules.Creations.{behind_sectors}
+use Rattle.worker_store.specs.Filling.{behind_sectors}
 use Rattle.worker_store.proofs.UnsyncedLemmas.{synced_then}
 
 module _ (geometry : Geometry) (old mid next : Medium) (all_synced : IsAllSynced mid)

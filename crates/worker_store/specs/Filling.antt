@@ -1,11 +1,15 @@
 -- What it does to a disk to push bytes of an image (this project's own).
-use Rattle.std.specs.Prelude.{◌≡◌, ◌⊎◌, ℕ, ◌+◌, ◌-◌, ◌*◌, ◌<◌, ◌≤◌, List, ◌++◌, length, IsTrue}
-use Rattle.std.specs.Prelude.{Result, Err, IsErr, OnOk}
-use Rattle.sector_disk.specs.rules.Medium.{Medium, After, CallsUpTo, LeavesOnly, spare, CountsUpTo}
-use Rattle.sector_disk.specs.declared.fault.DiskFault.{DiskFault}
+use Rattle.std.specs.Prelude.{◌≡◌, ◌⊎◌, ℕ, ◌+◌, ◌*◌, ◌<◌, List, ◌++◌, length, Result}
 use Rattle.sector_disk.specs.declared.sector.TheConstants.{SECTOR_SIZE}
+use Rattle.sector_disk.specs.rules.Medium.{Medium, CallsUpTo, CountsUpTo, LeavesOnly}
+use Rattle.sector_disk.specs.rules.Medium.{spare}
 use Rattle.disk_layout.specs.declared.geometry.Geometry.{Geometry}
 use Rattle.disk_layout.specs.rules.Places.{area_place}
+use Rattle.worker_store.specs.declared.fault.StoreFault.TheVariants.{TooBig, Disk}
+use Rattle.std.specs.Prelude.{◌-◌, ◌≤◌, IsTrue}
+use Rattle.std.specs.Prelude.{Err, IsErr, OnOk}
+use Rattle.sector_disk.specs.rules.Medium.{After}
+use Rattle.sector_disk.specs.declared.fault.DiskFault.{DiskFault}
 use Rattle.snapshot.specs.declared.fault.SnapshotFault.{SnapshotFault}
 use Rattle.snapshot.specs.declared.fault.SnapshotFault.TheVariants.{TooBig, Disk}
 use Rattle.snapshot.specs.declared.snapshots.Snapshots.{Snapshots}
@@ -47,3 +51,7 @@ pub record TakesBytes (geometry : Geometry) (bytes : List ℕ)
     pub cause : IsErr said → IsTrue (is_failed was) ⊎ (said ≡ Err TooBig)
         ⊎ ((fault : DiskFault) × (said ≡ Err (Disk fault))
         × ((spare old + sectors_of was < geometry.area_sectors) ⊎ (old.faults < new.faults)))
+
+-- how many writes these are
+abbrev pub behind_sectors : Geometry → ℕ
+behind_sectors geometry = geometry.module_sectors + 2 + geometry.journal_sectors

@@ -10,7 +10,8 @@ ghost use Rattle.disk_layout.specs.rules.Places.{total_sectors};
 ghost use Rattle.worker_store.specs.restart_theorem.Stands.{IsBlank};
 ghost use Rattle.worker_store.specs.laws.Creations.{AwaitsHead, HasNoSuper};
 ghost use Rattle.worker_store.specs.rules.Savepoints.{LeavesAll};
-ghost use Rattle.worker_store.specs.rules.Creations.{behind_calls, contents_calls, behind_sectors};
+ghost use Rattle.worker_store.specs.rules.Creations.{behind_calls, contents_calls};
+ghost use Rattle.worker_store.specs.Filling.{behind_sectors};
 
 use crate::zeros::write_zeros;
 use disk_layout::{Geometry, write_contents};

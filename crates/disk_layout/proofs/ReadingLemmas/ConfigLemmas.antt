@@ -8,7 +8,7 @@ use Rattle.wasi_abi.specs.rules.Configs.{Settings, settings, IsShortText, AreSet
 use Rattle.wasi_abi.specs.rules.Layouts.{u32_bytes, u32_at}
 use Rattle.disk_layout.specs.rules.Places.{config_bytes, texts_bytes}
 use Rattle.disk_layout.specs.rules.Spelled.{SpellsConfig, HasShortLength, HaveRoom, TextsFirst}
-use Rattle.disk_layout.specs.rules.Spelled.{NoTextsFirst}
+use Rattle.disk_layout.specs.Spelled.{NoTextsFirst}
 use Rattle.disk_layout.proofs.ReadingLemmas.SpellingLemmas.{number_first, number_is, texts_cut}
 use Rattle.disk_layout.proofs.StampLemmas.{all_drop as bytes_behind}
 

@@ -17,7 +17,8 @@ use Rattle.disk_layout.specs.rules.Sectors.{Super, bytes_from, SectorsHold, supe
 use Rattle.disk_layout.specs.rules.Stored.{IsKnown, IsConsistent, Checks, IsStored, HasOtherDigest}
 use Rattle.disk_layout.specs.rules.Stored.{FindsStored}
 use Rattle.disk_layout.specs.declared.reading.contents.Contents.{Contents}
-use Rattle.disk_layout.specs.rules.Held.{IsHeld, ReachesContents, GivesContents, IsStoredOf, Agrees}
+use Rattle.disk_layout.specs.rules.Held.{IsHeld, ReachesContents, GivesContents, IsStoredOf}
+use Rattle.disk_layout.specs.Held.{Agrees}
 use Rattle.disk_layout.specs.rules.Held.{contents_bytes, HasContents, HasSettings, HasAreasOf}
 use Rattle.disk_layout.specs.rules.Held.{HasJournalOf, HasDamage, SpellsSettings}
 use Rattle.disk_layout.specs.laws.Reading.{OneAnswer}

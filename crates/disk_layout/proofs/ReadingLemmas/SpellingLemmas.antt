@@ -10,8 +10,9 @@ use Rattle.guest_memory.specs.rules.Bytes.{IsByte, number_of, bytes_of}
 use Rattle.guest_memory.proofs.ByteLemmas.{length-bytes_of, number_of-bytes_of, bytes_of-number_of}
 use Rattle.wasi_abi.specs.rules.Layouts.{u16_bytes, u32_bytes, u16_at, u32_at}
 use Rattle.disk_layout.specs.rules.Places.{short_text_bytes}
-use Rattle.disk_layout.specs.rules.Spelled.{HasShortLength, TextFirst, NoTextFirst, TextsFirst}
-use Rattle.disk_layout.specs.rules.Spelled.{NoTextsFirst}
+use Rattle.disk_layout.specs.rules.Spelled.{HasShortLength, TextFirst, TextsFirst}
+use Rattle.disk_layout.specs.Spelled.{NoTextFirst}
+use Rattle.disk_layout.specs.Spelled.{NoTextsFirst}
 use Rattle.disk_layout.proofs.StampLemmas.{all_take as bytes_front}
 
 -- ---- numbers

@@ -105,19 +105,3 @@ pub record IsStoredOf (stored : Stored) (s : Settings) : Type 0 where
   pub within : AreSettingsWithinLimits s
   pub spelled : stored.config ≡ config_bytes s
   pub geometry : stored.geometry ≡ geometry_of s stored.geometry.wasm
-
--- what is made of stored bytes on a disk of so many sectors
-abbrev pub Agrees : ℕ → Stored → Result Contents LayoutFault → Type 0
-Agrees sectors stored (Ok c) = IsStoredOf stored c.config × (c.geometry ≡ stored.geometry)
-    × (c.wasm ≡ stored.wasm) × (total_sectors stored.geometry ≤ sectors)
-Agrees sectors stored (Err (Damaged damage.Configuration)) =
-    (s : Settings) → SpellsSettings stored s → ⊥
-Agrees sectors stored (Err (Damaged damage.AreaSectors)) =
-    (s : Settings) × SpellsSettings stored s × (HasAreasOf stored.geometry s → ⊥)
-Agrees sectors stored (Err (Damaged damage.JournalSectors)) =
-    (s : Settings) × SpellsSettings stored s × HasAreasOf stored.geometry s
-    × (HasJournalOf stored.geometry s → ⊥)
-Agrees sectors stored (Err TooSmall) = ((s : Settings) × IsStoredOf stored s)
-    × (sectors < total_sectors stored.geometry)
-Agrees sectors stored (Err Memory) = Unit {0}
-Agrees sectors stored (Err other) = ⊥

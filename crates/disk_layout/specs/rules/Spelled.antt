@@ -18,10 +18,6 @@ pub record TextFirst (bytes text rest : List ℕ) : Type 0 where
   pub room : HasShortLength text
   pub is : bytes ≡ short_text_bytes text ++ rest
 
--- no text's bytes are at the front
-abbrev pub NoTextFirst : List ℕ → Type 0
-NoTextFirst bytes = (text rest : List ℕ) → TextFirst bytes text rest → ⊥
-
 -- few enough texts, none of them too long
 pub record HaveRoom (texts : List (List ℕ)) : Type 0 where
   pub few : length texts ≤ 64
@@ -31,7 +27,3 @@ pub record HaveRoom (texts : List (List ℕ)) : Type 0 where
 pub record TextsFirst (bytes : List ℕ) (texts : List (List ℕ)) (rest : List ℕ) : Type 0 where
   pub room : HaveRoom texts
   pub is : bytes ≡ texts_bytes texts ++ rest
-
--- the bytes of no texts are at the front
-abbrev pub NoTextsFirst : List ℕ → Type 0
-NoTextsFirst bytes = (texts : List (List ℕ)) (rest : List ℕ) → TextsFirst bytes texts rest → ⊥

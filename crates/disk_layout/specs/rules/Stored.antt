@@ -58,18 +58,6 @@ pub record HasItsLengths (s : Stored) : Type 0 where
   pub wasm : length s.wasm ≡ s.geometry.wasm
   pub consistent : IsConsistent s.geometry
 
--- these are the configuration and the module in the bytes after a super, if their digest is the
--- super's
-abbrev pub SplitsContents : Super → List ℕ → Result Stored LayoutFault → Type 0
-SplitsContents c bytes (Ok s) = (s.geometry ≡ c.geometry) × (length s.config ≡ c.geometry.config)
-    × (length s.wasm ≡ c.geometry.wasm)
-    × (s.config ++ s.wasm ≡ take (c.geometry.config + c.geometry.wasm) bytes)
-    × (c.digest ≡ sha256 (s.config ++ s.wasm))
-SplitsContents c bytes (Err (Damaged ContentsDigest)) =
-    c.digest ≢ sha256 (take (c.geometry.config + c.geometry.wasm) bytes)
-SplitsContents c bytes (Err Memory) = Unit {0}
-SplitsContents c bytes (Err other) = ⊥
-
 -- on a disk of so many sectors configuration and module are where the super says, and their
 -- digest is the super's
 pub record IsStored (sectors : ℕ) (image : DiskImage) (s : Stored) : Type 0 where

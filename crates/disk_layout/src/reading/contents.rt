@@ -5,7 +5,8 @@ ghost use Rattle.sector_disk.specs.rules.DiskImage.{DiskImage};
 ghost use Rattle.sector_disk.specs.rules.Medium.{CallsUpTo};
 ghost use Rattle.disk_layout.specs.rules.Places.{total_sectors};
 ghost use Rattle.disk_layout.specs.rules.Stored.{OnlyReads, HasItsLengths};
-ghost use Rattle.disk_layout.specs.rules.Held.{Agrees, GivesContents};
+ghost use Rattle.disk_layout.specs.rules.Held.{GivesContents};
+ghost use Rattle.disk_layout.specs.Held.{Agrees};
 
 use crate::reading::configuration::config_from;
 use crate::{Damage, Geometry, LayoutFault, Stored, read_super};

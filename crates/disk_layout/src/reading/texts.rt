@@ -1,7 +1,8 @@
 //! Texts from their bytes.
 
 ghost use Rattle.std.specs.Prelude.{IfOk, MatchOption};
-ghost use Rattle.disk_layout.specs.rules.Spelled.{TextFirst, NoTextFirst, TextsFirst, NoTextsFirst};
+ghost use Rattle.disk_layout.specs.rules.Spelled.{TextFirst, TextsFirst};
+ghost use Rattle.disk_layout.specs.Spelled.{NoTextFirst, NoTextsFirst};
 
 use crate::{u16_from, u32_from};
 use std::alloc::{AllocError, Global};

@@ -14,7 +14,7 @@ use Rattle.guest_memory.specs.rules.Bytes.{with_part}
 use Rattle.wasm_semantics.specs.Instantiation.{offset_of, with_entries, with_segment}
 use Rattle.wasm_semantics.specs.Instantiation.{filled_table, filled_memory}
 use Rattle.wasm_validate.proofs.PartLemmas.Loops.{next}
-use Rattle.machine.specs.rules.Initial.{IsInside}
+use Rattle.machine.specs.Initial.{IsInside}
 use Rattle.guest_memory.proofs.Ranges.{length-with_part}
 use Rattle.wasm_semantics.proofs.Soundness.Beginning.{and_then_some}
 

@@ -1,14 +1,13 @@
 -- What a module has to begin with.
-use Rattle.std.specs.Prelude.{◌≡◌, ◌+◌, ◌≤◌, ℕ, List, Option, Some}
+use Rattle.std.specs.Prelude.{◌≡◌, ℕ, List, Option, Some}
 use Rattle.std.specs.List.{AllByRecursion}
 use Rattle.wasm_syntax.specs.declared.value.Value.{Value}
-use Rattle.wasm_syntax.specs.declared.instruction.Instruction.{Instruction}
 use Rattle.wasm_syntax.specs.declared.module.Module.{Module}
 use Rattle.wasm_syntax.specs.declared.module.Global.{Global}
 use Rattle.wasm_syntax.specs.declared.module.Element.{Element}
 use Rattle.wasm_syntax.specs.declared.module.Data.{Data}
 use Rattle.wasm_semantics.specs.Configuration.{Store}
-use Rattle.wasm_semantics.specs.Instantiation.{AreInitial, offset_of, filled_table}
+use Rattle.wasm_semantics.specs.Instantiation.{AreInitial, filled_table}
 use Rattle.wasm_semantics.specs.Instantiation.{filled_memory, IsInitialStore}
 use Rattle.wasm_semantics.specs.Validity.{memories_of}
 use Rattle.wasm_semantics.specs.Linking.{IsOffered, HasEntry, HasExportedMemory, FitsPages}
@@ -33,11 +32,6 @@ pub record IsPrepared (pages : ℕ) (m : Module) (entry : ℕ) : Type 0 where
   pub offered : AreImportsOffered m
   pub begins : CanBegin m
   pub fits : FitsPages (memories_of m) pages
-
--- so many items from this offset on are within so many
-abbrev pub IsInside : List Value → List Instruction → ℕ → ℕ → Type 0
-IsInside globals offset count size = (from : ℕ) × (offset_of globals offset ≡ Some from)
-    × (from + count ≤ size)
 
 -- the globals have initial values, with which these elements fill this table
 abbrev pub CanFillTable : List Global → List Element → List (Option ℕ) → Type 0

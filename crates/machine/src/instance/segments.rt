@@ -4,7 +4,8 @@ ghost use Rattle.std.specs.Prelude.{◌≡◌, ◌↔◌, IsTrue, IsSome, List, 
 ghost use Rattle.wasm_syntax.specs.declared.value.Value.{Value as Number};
 ghost use Rattle.wasm_semantics.specs.Validity.{IsValid};
 ghost use Rattle.wasm_semantics.specs.Instantiation.{AreInitial, filled_table, filled_memory};
-ghost use Rattle.machine.specs.rules.Initial.{IsInside, AreImportsOffered, CanBegin};
+ghost use Rattle.machine.specs.rules.Initial.{AreImportsOffered, CanBegin};
+ghost use Rattle.machine.specs.Initial.{IsInside};
 
 use crate::instance::constants::offset;
 use crate::instance::memory::first_pages;

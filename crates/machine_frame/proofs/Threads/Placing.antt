@@ -10,7 +10,8 @@ use Rattle.std.proofs.lemmas.List.{drop-append-le, take_all}
 use Rattle.std.proofs.lemmas.Option.{same_Some, slice_get_past, slice_get_within}
 use Rattle.machine_slots.specs.rules.Places.{ShownFrame}
 use Rattle.machine_frame.specs.declared.rules.frame.StackFrame.{StackFrame}
-use Rattle.machine_frame.specs.rules.Stacked.{AreStacked, end_of, slots_end}
+use Rattle.machine_frame.specs.rules.Stacked.{AreStacked}
+use Rattle.machine_frame.specs.Stacked.{end_of, slots_end}
 use Rattle.machine_frame.specs.rules.Threads.{places_of}
 use Rattle.machine_frame.proofs.Threads.Showing.{parts_of, places_count}
 

@@ -1,8 +1,8 @@
 -- The newest of the two heads of an image (this project's own).
-use Rattle.std.specs.Prelude.{◌≡◌, ◌⊎◌, ℕ, ◌-◌, ◌<◌, List, max, Option, Some, None}
+use Rattle.std.specs.Prelude.{◌≡◌, ◌⊎◌, ℕ, ◌-◌, ◌<◌, max, Option, Some, None}
 use Rattle.sector_disk.specs.rules.DiskImage.{DiskImage, sector_at}
 use Rattle.disk_layout.specs.declared.head.Head.{Head}
-use Rattle.disk_layout.specs.rules.Sectors.{head_of, IsComplete, IsNewest, shown_generation}
+use Rattle.disk_layout.specs.rules.Sectors.{IsComplete, IsNewest, shown_generation}
 use Rattle.disk_layout.specs.declared.head.TheConstants.{HEAD_STAMP_PLACE}
 
 -- neither head is complete
@@ -23,11 +23,6 @@ pub record IsReadyForHead (g : ℕ) (image : DiskImage) : Type 0 where
   pub none_later : heads_to image < g
 
 -- ---- what is read
-
--- the head that an area's sector is, if it is a complete one
-abbrev pub HeadIn : ℕ → List ℕ → Option Head → Type 0
-HeadIn area sector None = IsComplete area sector → ⊥
-HeadIn area sector (Some h) = IsComplete area sector × (h ≡ head_of sector)
 
 -- the newest complete head of an image, or none
 abbrev pub FindsHead : DiskImage → Option Head → Type 0

@@ -5,7 +5,6 @@ use Rattle.wasm_syntax.specs.declared.types.ValueType.{ValueType}
 use Rattle.wasm_syntax.specs.declared.types.ValueType.TheVariants.{I32, I64}
 use Rattle.guest_memory.specs.rules.Memories.{LinearMemory}
 use Rattle.wasi_abi.specs.declared.answer.Answer.{Answer}
-use Rattle.wasi_abi.specs.declared.errno.Errno.{Errno}
 use Rattle.wasi_abi.specs.declared.answer.Question.{Question}
 use Rattle.wasi_abi.specs.declared.call.Call.{Call}
 use Rattle.wasi_calls_rules.specs.WasiStates.{WasiState}
@@ -15,7 +14,6 @@ use Rattle.wasi_calls_rules.specs.CallRules.{IsAsk, IsExit}
 use Rattle.wasi_calls_rules.specs.CallRules.{NoMemory}
 use Rattle.wasi_calls.specs.declared.outcome.CallOutcome.{CallOutcome}
 use Rattle.wasi_calls.specs.declared.outcome.CallOutcome.TheVariants as outcome
-use Rattle.wasi_calls.specs.declared.stop.CallStop.{CallStop}
 use Rattle.wasi_calls.specs.declared.stop.CallStop.TheVariants as stop
 use Rattle.wasi_calls.specs.rules.Held.{HeldWasiState, ShowsWasiState}
 
@@ -34,18 +32,6 @@ ending_of_call (outcome.Refused e) = IsRefused e
 ending_of_call (outcome.Ask question) = IsAsk question
 ending_of_call (outcome.Exit code) = IsExit code
 ending_of_call outcome.Memory = NoMemory
-
--- how a call ends that is done, or refused
-abbrev pub check_outcome : Result (Unit {0}) Errno → CallOutcome
-check_outcome (Ok done) = outcome.Done
-check_outcome (Err e) = outcome.Refused e
-
--- how a call ends that is done, or stopped
-abbrev pub call_outcome : Result (Unit {0}) CallStop → CallOutcome
-call_outcome (Ok done) = outcome.Done
-call_outcome (Err (stop.Refused e)) = outcome.Refused e
-call_outcome (Err (stop.Asks question)) = outcome.Ask question
-call_outcome (Err stop.Memory) = outcome.Memory
 
 -- What a caller is told is what the call's rule says of a host that was shown before. After a call
 -- that is done the host of the call's rule is shown. All other outcomes leave memory and host as

@@ -1,12 +1,11 @@
 -- The host's side of a process as the code keeps it (this project's own).
-use Rattle.std.specs.Prelude.{◌≡◌, ℕ, ◌*◌, Bool, List, ◌+◌, ◌++◌, length, drop, Option, Ok, Err}
+use Rattle.std.specs.Prelude.{◌≡◌, ℕ, ◌*◌, Bool, List, ◌+◌, ◌++◌, length, drop, Option}
 use Rattle.wasi_abi.specs.declared.version.Version.{Version}
 use Rattle.wasi_abi.specs.declared.version.Version.TheVariants.{Two}
 use Rattle.wasi_abi.specs.rules.Configs.{Settings}
 use Rattle.file_tree.specs.rules.Files.{Files}
 use Rattle.file_tree.specs.declared.limits.TheConstants.{UNIT_BYTES}
 use Rattle.wasi_calls_rules.specs.WasiStates.{Line, Descriptor, WasiState}
-use Rattle.wasi_calls_rules.specs.Checks.{Ruling}
 use Rattle.wasi_calls_rules.specs.Lines.{lines_ended}
 use Rattle.wasi_calls.specs.rules.Outputs.{Output}
 
@@ -50,12 +49,6 @@ held_host_of config version files descriptors unread input_ended last_monotonic 
 -- the process ends
 abbrev pub held_ended : HeldWasiState → HeldWasiState
 held_ended held = record held { host = lines_ended held.host }
-
--- what a rule leads to, with other lines in front of the host's own
-abbrev pub behind_lines_of_call_rule : List Line → Ruling → Ruling
-behind_lines_of_call_rule before (Ok done) =
-    Ok (record { memory = done.memory; host = behind_lines before done.host })
-behind_lines_of_call_rule before (Err halt) = Err halt
 
 -- the first so many lines that wait are released
 abbrev pub held_released : ℕ → HeldWasiState → HeldWasiState

@@ -34,10 +34,6 @@ behind_calls geometry =
     rising_writes (journal_place geometry) geometry.journal_sectors
     ++ (rising_writes 1 2 ++ rising_writes MODULE_PLACE geometry.module_sectors)
 
--- how many writes these are
-abbrev pub behind_sectors : Geometry → ℕ
-behind_sectors geometry = geometry.module_sectors + 2 + geometry.journal_sectors
-
 -- these, after the super and a sync, and a sync
 abbrev pub contents_calls : Geometry → List DiskCall
 contents_calls geometry = Sync ∷ (behind_calls geometry ++ synced_writes 0 1)

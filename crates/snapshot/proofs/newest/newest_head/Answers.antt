@@ -1,7 +1,7 @@
 use Rattle.std.proofs.Common.{List, ℕ, sym, subst}
 use Rattle.sector_disk.proofs.Moments.{stays_shows}
 use Rattle.disk_layout.proofs.ReadLemmas.{no_reads, read_more}
-use Rattle.snapshot.specs.rules.Heads.{HeadIn}
+use Rattle.snapshot.specs.Heads.{HeadIn}
 use Rattle.snapshot.proofs.newest.newest_head.Goals as goal
 
 pub returns-in_err-read-2-clause-reads : goal.returns-in_err-read-2-clause-reads

@@ -1,7 +1,8 @@
 use Rattle.std.proofs.Common.{ℕ, ◌+◌, max, refl, arith}
 use Rattle.std.proofs.lemmas.Result.{on_ok_weaker}
 use Rattle.sector_disk.proofs.CountLemmas.{counts_more, counts_then}
-use Rattle.worker_store.specs.rules.Creations.{behind_sectors, contents_calls}
+use Rattle.worker_store.specs.rules.Creations.{contents_calls}
+use Rattle.worker_store.specs.Filling.{behind_sectors}
 use Rattle.worker_store.proofs.CreationLemmas.{zeros_leave_blank, zeros_leave_none, blank_on}
 use Rattle.worker_store.proofs.CreationLemmas.{both_leave_none, none_crashed, synced_none}
 use Rattle.worker_store.proofs.CreationLemmas.{synced_awaits, err_calls, contents_first}

@@ -10,7 +10,8 @@ use Rattle.sector_disk.proofs.Moments.{shows_follow}
 use Rattle.disk_layout.specs.rules.Contents.{contents_sectors}
 use Rattle.disk_layout.specs.rules.Places.{rounded_up}
 use Rattle.worker_store.specs.laws.Creations.{zero_sector}
-use Rattle.worker_store.specs.rules.Creations.{behind_calls, behind_sectors}
+use Rattle.worker_store.specs.rules.Creations.{behind_calls}
+use Rattle.worker_store.specs.Filling.{behind_sectors}
 use Rattle.worker_store.proofs.CreationLemmas.{two_leave_none, three_leave_none, behind_awaits}
 use Rattle.worker_store.proofs.CreationLemmas.{err_calls, behind_first, behind_second, behind_all}
 use Rattle.worker_store.proofs.UnsyncedLemmas.{more_then}

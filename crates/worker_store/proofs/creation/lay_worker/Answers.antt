@@ -4,7 +4,8 @@ use Rattle.wasi_abi.specs.rules.Versions.{version_number}
 use Rattle.state_image.specs.rules.ProcessImage.{process_image}
 use Rattle.state_image.specs.rules.Saving.{saved_of}
 use Rattle.disk_layout.specs.rules.Unsynced.{most_unsynced}
-use Rattle.worker_store.specs.rules.Creations.{behind_sectors, creation_calls}
+use Rattle.worker_store.specs.rules.Creations.{creation_calls}
+use Rattle.worker_store.specs.Filling.{behind_sectors}
 use Rattle.worker_store.proofs.CreationLemmas.{blank_on, err_calls}
 use Rattle.worker_store.proofs.FirstLemmas.{commit_leaves_none, blank_or_first, super_leaves}
 use Rattle.worker_store.proofs.FirstLemmas.{super_stands, creation_first, creation_second}

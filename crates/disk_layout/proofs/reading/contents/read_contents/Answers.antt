@@ -2,7 +2,8 @@ use Rattle.std.proofs.Common.{◌≡◌, ℕ, Err, Result, sym, ap, ◌∙◌, s
 use Rattle.std.proofs.lemmas.Result.{err_from_is_err_and}
 use Rattle.disk_layout.specs.declared.fault.LayoutFault.{LayoutFault}
 use Rattle.disk_layout.specs.declared.reading.contents.Contents.{Contents}
-use Rattle.disk_layout.specs.rules.Held.{Agrees, GivesContents}
+use Rattle.disk_layout.specs.rules.Held.{GivesContents}
+use Rattle.disk_layout.specs.Held.{Agrees}
 use Rattle.disk_layout.proofs.ReadingLemmas.HeldLemmas.{gives_stored, gives_fault}
 use Rattle.disk_layout.proofs.reading.contents.read_contents.Goals as goal
 

@@ -1,6 +1,6 @@
 use Rattle.std.proofs.Common.{ℕ, refl, sym, subst, List, length}
 use Rattle.wasm_syntax.specs.declared.instruction.Instruction.{Instruction}
-use Rattle.machine.specs.rules.Initial.{IsInside}
+use Rattle.machine.specs.Initial.{IsInside}
 use Rattle.wasm_validate.proofs.PartLemmas.Lookups.{is_false}
 use Rattle.wasm_validate.proofs.PartLemmas.Loops.{passed, of_all}
 use Rattle.machine.proofs.InstanceLemmas.Filled.{IsDataInside, memory_from_inside}
