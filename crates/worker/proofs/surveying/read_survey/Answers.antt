@@ -17,7 +17,7 @@ returns-in-Err-find g c =
 pub returns-in-Ok : goal.returns-in-Ok
 returns-in-Ok g c =
     let found = c.in-Ok.ensures in
-    rw c.numbers_of.ensures
+    rw c.numbers_of-survey.ensures
     (found_surveys (g.D.Disk.medium c.args.disk.now) (g.D.Disk.medium c.sync.new.self)
     (g.D.Disk.medium c.find.new.disk) c.in_default.field-0 c.in_default.ensures found.searches.reads
     found.searches.asks
