@@ -1,8 +1,7 @@
 -- Facts as JSON: texts, and values without floats.
-use Rattle.std.proofs.Common.{◌≡◌, ℕ, Bool, ◌||◌, cond, true, false, List, [], ◌∷◌, map, refl, ap}
-use Rattle.std.proofs.Common.{◌∙◌, Ordering, Less, Equal, Greater, nat_cmp}
+use Rattle.std.proofs.Common.{◌≡◌, ℕ, Bool, ◌||◌, cond, true, false, List, [], ◌∷◌, map, refl}
+use Rattle.std.proofs.Common.{Ordering, Less, Equal, Greater, nat_cmp}
 use Rattle.std.specs.Cmp.Lexicographic.{slice_cmp}
-use Rattle.std.specs.List.{AllByRecursion}
 use Rattle.std.specs.Ordering.{match_ordering}
 use Rattle.std.specs.Str.{IsUtf8, is_utf8}
 use Rattle.std.proofs.lemmas.Bool.{cond-true}
@@ -12,7 +11,7 @@ use Rattle.serde_json.specs.Written.{has_float, items_have_float, members_have_f
 use Rattle.serde_json.specs.View.{items_of}
 use Rattle.disk_commands.specs.rules.Facts.{Scalar, Number, Word, Text, Field, FactValue, Plain}
 use Rattle.disk_commands.specs.rules.Facts.{Tagged, Fields, Fact, Single, Listed, Member, put_all}
-use Rattle.disk_commands.specs.rules.Facts.{object_of, list_data, number_data, text_data}
+use Rattle.disk_commands.specs.rules.Facts.{list_data, number_data, text_data}
 use Rattle.disk_commands.specs.rules.Facts.{scalar_data, field_member, value_data, fact_member}
 use Rattle.disk_commands.specs.rules.Facts.{facts_data}
 

@@ -21,7 +21,7 @@ use Rattle.disk_layout.specs.declared.superblock.TheConstants.{LAYOUT}
 use Rattle.disk_layout.specs.rules.Journal.{Record, payload_of}
 use Rattle.worker.specs.declared.inspection.Inspection.{Inspection}
 use Rattle.command_words.specs.rules.Texts.{trap_text}
-use Rattle.disk_commands.specs.rules.Facts.{Scalar, Number, Word, Text, Field, FactValue, Plain}
+use Rattle.disk_commands.specs.rules.Facts.{Number, Word, Text, FactValue, Plain}
 use Rattle.disk_commands.specs.rules.Facts.{Tagged, Fields, Fact, Single, Listed}
 
 -- a name and a number

@@ -4,7 +4,6 @@ use Rattle.file_tree.specs.declared.limits.TheConstants.{UNIT_BYTES}
 use Rattle.wasi_calls.specs.rules.Held.{HeldWasiState}
 use Rattle.disk_layout.specs.rules.Journal.{Record}
 use Rattle.disk_commands.specs.FactViews.{Adds}
-use Rattle.disk_commands.specs.rules.Facts.{Fact}
 use Rattle.disk_commands.specs.rules.DiskFacts.{host_facts, journal_facts, module_facts}
 use Rattle.disk_commands.specs.rules.DiskFacts.{process_facts, settings_facts, snapshot_facts}
 use Rattle.disk_commands.proofs.FactLemmas.{adds_both}
