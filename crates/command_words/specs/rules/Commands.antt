@@ -269,19 +269,6 @@ abbrev pub creation_below : List Text → List Row → Option Meaning
 creation_below arguments rows = option_and_then (λ disk. option_map (λ wasm.
     create (create_in rows arguments disk wasm)) (module_in rows)) (disk_in rows)
 
--- a run, where its path is there
-abbrev pub run_below : List Row → Option Meaning
-run_below rows = option_map (λ disk. run (run_in rows disk)) (disk_in rows)
-
--- all that is on a disk, where its path is there
-abbrev pub inspect_below : List Row → Option Meaning
-inspect_below rows =
-    option_map (λ disk. inspect disk (flag_in (codes "json") rows)) (disk_in rows)
-
--- the files of a disk, where its path is there
-abbrev pub files_below : List Row → Option Meaning
-files_below rows = option_map (λ disk. files disk (first_of (codes "PATH") rows)) (disk_in rows)
-
 -- a story, where both paths are there
 abbrev pub story_below : List Row → Option Meaning
 story_below rows = option_and_then (λ script. option_map (λ wasm.
@@ -297,10 +284,13 @@ abbrev pub meaning_below : List Text → Text × List Row → Option Meaning
 meaning_below arguments met =
     if bytes_eq met.0 (codes "check") then check_below met.1
     else if bytes_eq met.0 (codes "create") then creation_below arguments met.1
-    else if bytes_eq met.0 (codes "run") then run_below met.1
+    else if bytes_eq met.0 (codes "run")
+    then option_map (λ disk. run (run_in met.1 disk)) (disk_in met.1)
     else if bytes_eq met.0 (codes "show") then option_map show (disk_in met.1)
-    else if bytes_eq met.0 (codes "inspect") then inspect_below met.1
-    else if bytes_eq met.0 (codes "files") then files_below met.1
+    else if bytes_eq met.0 (codes "inspect")
+    then option_map (λ disk. inspect disk (flag_in (codes "json") met.1)) (disk_in met.1)
+    else if bytes_eq met.0 (codes "files")
+    then option_map (λ disk. files disk (first_of (codes "PATH") met.1)) (disk_in met.1)
     else if bytes_eq met.0 (codes "upgrade") then option_map upgrade (disk_in met.1)
     else if bytes_eq met.0 (codes "story") then story_below met.1
     else if bytes_eq met.0 (codes "sweep") then sweep_below met.1

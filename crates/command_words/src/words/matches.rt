@@ -1,10 +1,8 @@
 //! Orders, read from what `clap` has matched.
 
-ghost use Rattle.std.specs.Prelude.{◌≡◌, ◌<◌, ◌≤◌, IfOk, IsSome, List, Some, codes};
-ghost use Rattle.std.specs.Prelude.{false, option_map};
-ghost use Rattle.std.specs.Str.{bytes_eq};
+ghost use Rattle.std.specs.Prelude.{◌≡◌, ◌<◌, ◌≤◌, IfOk, IsSome, Some, codes, option_map};
 ghost use Rattle.std.specs.Int.NonZero.{non_zero_u64_get};
-ghost use Rattle.clap.specs.Words.{Text, first_of, found_of, rows_of};
+ghost use Rattle.clap.specs.Words.{first_of, found_of, rows_of};
 ghost use Rattle.command_words.specs.rules.Texts.{texts_in};
 ghost use Rattle.command_words.specs.rules.Commands.{IsTaken, TakesFlag, TakesNumber};
 ghost use Rattle.command_words.specs.rules.Commands.{TakesOptions, create_in, create_said};
@@ -13,10 +11,6 @@ ghost use Rattle.command_words.specs.rules.Commands.{meaning_of, number_given, n
 ghost use Rattle.command_words.specs.rules.Commands.{run_in};
 ghost use Rattle.command_words.specs.rules.Commands.{run_said, story_in, story_said};
 ghost use Rattle.command_words.specs.rules.Commands.{sweep_in, sweep_said};
-ghost use Rattle.command_words.specs.rules.Commands.{disk_in, module_in, script_in};
-ghost use Rattle.command_words.specs.rules.Commands.{check_below, creation_below, files_below};
-ghost use Rattle.command_words.specs.rules.Commands.{inspect_below, run_below, story_below};
-ghost use Rattle.command_words.specs.rules.Commands.{sweep_below};
 
 use super::{CheckOrder, CreateOrder, Order, RunOrder, StoryOrder, SweepOrder};
 use crate::configuring::{FILES, JOURNAL, PAGES};
@@ -224,114 +218,6 @@ fn sweep_of<'a>(matches: &ArgMatches<'a>, script: &'a str, module: &'a str) -> S
     }
 }
 
-/// The order to check a module.
-fn check_order<'a>(matches: &ArgMatches<'a>) -> Order<'a>
-    requires path { IsSome (module_in (rows_of (found_of matches.now))) }
-    requires options { TakesOptions (rows_of (found_of matches.now)) }
-    ensures { check_below (rows_of (found_of matches.now)) ≡ Some (meaning_of result) }
-{
-    Order::Check(CheckOrder {
-        path: path_of(matches, "MODULE"),
-        pages: number_or_else(matches, "pages", CHECK_PAGES),
-        lists_all: flag_of(matches, "all"),
-    })
-}
-
-/// The order to create a worker, with the words after `--`.
-fn create_order<'a>(
-    alloc: Global,
-    matches: &ArgMatches<'a>,
-    arguments: Vec<&'a str>,
-) -> Result<Order<'a>, AllocError>
-    requires disk { IsSome (disk_in (rows_of (found_of matches.now))) }
-    requires wasm { IsSome (module_in (rows_of (found_of matches.now))) }
-    requires options { TakesOptions (rows_of (found_of matches.now)) }
-    ensures { IfOk result (λ order. creation_below (texts_in arguments.entry.items)
-        (rows_of (found_of matches.now)) ≡ Some (meaning_of order)) }
-{
-    let disk = path_of(matches, "DISK");
-    let module = path_of(matches, "MODULE");
-    Ok(Order::Create(create_of(alloc, matches, disk, module, arguments)?))
-}
-
-/// The order to run a worker.
-fn run_order<'a>(matches: &ArgMatches<'a>) -> Order<'a>
-    requires path { IsSome (disk_in (rows_of (found_of matches.now))) }
-    requires options { TakesOptions (rows_of (found_of matches.now)) }
-    ensures { run_below (rows_of (found_of matches.now)) ≡ Some (meaning_of result) }
-{
-    Order::Run(run_of(matches, path_of(matches, "DISK")))
-}
-
-/// The order to say all that is on a disk.
-fn inspect_order<'a>(matches: &ArgMatches<'a>) -> Order<'a>
-    requires path { IsSome (disk_in (rows_of (found_of matches.now))) }
-    requires options { TakesOptions (rows_of (found_of matches.now)) }
-    ensures { inspect_below (rows_of (found_of matches.now)) ≡ Some (meaning_of result) }
-{
-    Order::Inspect {
-        path: path_of(matches, "DISK"),
-        as_json: flag_of(matches, "json"),
-    }
-}
-
-/// The order to list the files of a worker, or to write one.
-fn files_order<'a>(matches: &ArgMatches<'a>) -> Order<'a>
-    requires { IsSome (disk_in (rows_of (found_of matches.now))) }
-    ensures { files_below (rows_of (found_of matches.now)) ≡ Some (meaning_of result) }
-{
-    Order::Files {
-        disk: path_of(matches, "DISK"),
-        path: file_text_of(matches),
-    }
-}
-
-/// The order to tell a story.
-fn story_order<'a>(matches: &ArgMatches<'a>) -> Order<'a>
-    requires script { IsSome (script_in (rows_of (found_of matches.now))) }
-    requires wasm { IsSome (module_in (rows_of (found_of matches.now))) }
-    requires options { TakesOptions (rows_of (found_of matches.now)) }
-    ensures { story_below (rows_of (found_of matches.now)) ≡ Some (meaning_of result) }
-{
-    let script = path_of(matches, "SCRIPT");
-    Order::Story(story_of(matches, script, path_of(matches, "MODULE")))
-}
-
-/// The order to sweep the lives of a script.
-fn sweep_order<'a>(matches: &ArgMatches<'a>) -> Order<'a>
-    requires script { IsSome (script_in (rows_of (found_of matches.now))) }
-    requires wasm { IsSome (module_in (rows_of (found_of matches.now))) }
-    requires options { TakesOptions (rows_of (found_of matches.now)) }
-    ensures { sweep_below (rows_of (found_of matches.now)) ≡ Some (meaning_of result) }
-{
-    let script = path_of(matches, "SCRIPT");
-    Order::Sweep(sweep_of(matches, script, path_of(matches, "MODULE")))
-}
-
-/// The order of a command that takes no words after `--`.
-fn plain_order<'a>(name: &str, matches: &ArgMatches<'a>) -> Order<'a>
-    requires taken { IsTaken (name.now, rows_of (found_of matches.now)) }
-    requires plain { bytes_eq name.now (codes "create") ≡ false }
-    ensures { (arguments : List Text)
-        → meaning_below arguments (name.now, rows_of (found_of matches.now))
-        ≡ Some (meaning_of result) }
-{
-    match name {
-        "check" => check_order(matches),
-        "run" => run_order(matches),
-        "show" => Order::Show {
-            path: path_of(matches, "DISK"),
-        },
-        "inspect" => inspect_order(matches),
-        "files" => files_order(matches),
-        "upgrade" => Order::Upgrade {
-            path: path_of(matches, "DISK"),
-        },
-        "story" => story_order(matches),
-        _ => sweep_order(matches),
-    }
-}
-
 /// The order of a command, from what was read in front of `--`, and with the words after it.
 pub(crate) fn order_of<'a>(
     alloc: Global,
@@ -343,9 +229,41 @@ pub(crate) fn order_of<'a>(
     ensures { IfOk result (λ order. meaning_below (texts_in arguments.entry.items)
         (name.now, rows_of (found_of matches.now)) ≡ Some (meaning_of order)) }
 {
-    if name == "create" {
-        return create_order(alloc, matches, arguments);
+    match name {
+        "check" => Ok(Order::Check(CheckOrder {
+            path: path_of(matches, "MODULE"),
+            pages: number_or_else(matches, "pages", CHECK_PAGES),
+            lists_all: flag_of(matches, "all"),
+        })),
+        "create" => {
+            let disk = path_of(matches, "DISK");
+            let module = path_of(matches, "MODULE");
+            Ok(Order::Create(create_of(alloc, matches, disk, module, arguments)?))
+        }
+        "run" => Ok(Order::Run(run_of(matches, path_of(matches, "DISK")))),
+        "show" => Ok(Order::Show {
+            path: path_of(matches, "DISK"),
+        }),
+        "inspect" => Ok(Order::Inspect {
+            path: path_of(matches, "DISK"),
+            as_json: flag_of(matches, "json"),
+        }),
+        "files" => Ok(Order::Files {
+            disk: path_of(matches, "DISK"),
+            path: file_text_of(matches),
+        }),
+        "upgrade" => Ok(Order::Upgrade {
+            path: path_of(matches, "DISK"),
+        }),
+        "story" => {
+            let script = path_of(matches, "SCRIPT");
+            let wasm = path_of(matches, "MODULE");
+            Ok(Order::Story(story_of(matches, script, wasm)))
+        }
+        _ => Ok(Order::Sweep(sweep_of(
+            matches,
+            path_of(matches, "SCRIPT"),
+            path_of(matches, "MODULE"),
+        ))),
     }
-    drop(arguments);
-    Ok(plain_order(name, matches))
 }

@@ -14,7 +14,6 @@ use Rattle.story_commands.specs.declared.sweeping.cutting.Sweep.{Sweep}
 use Rattle.story_commands.specs.declared.sweeping.fault.SweepFault.{SweepFault}
 use Rattle.story_commands.specs.declared.sweeping.fault.SweepFault.TheVariants as fault
 use Rattle.story_commands.specs.declared.sweeping.running.RunLives.{RunLives}
-use Rattle.story_commands.specs.declared.sweeping.whole_sweep.PlainTold.{PlainTold}
 use Rattle.story_commands.specs.rules.Sweeps.{AreTextsOf, AreCompared, AreCutsOf, AreCutsTo}
 use Rattle.story_commands.specs.rules.Sweeps.{HadMemory}
 use Rattle.story_commands.specs.rules.Sweeps.{HasFailedPlan, HasDoneAll, IsCutRun, IsDoneAgain}
@@ -100,11 +99,6 @@ pub record IsToldPlain (wasm : List ℕ) (config : Settings) (lives : List Plann
   pub is_plain : IsPlainRun wasm config lives plain
   pub texts_are : AreTextsOf texts (flat_map lines_told plain.reports)
   pub begun : CallsBegun plain.reports place calls
-
--- the texts of lives that were run, and the calls of the one at this place
-pub record HasToldPlainly (plain : RunLives) (place : ℕ) (told : PlainTold) : Type 0 where
-  pub texts_are : AreTextsOf told.texts (flat_map lines_told plain.reports)
-  pub begun : CallsBegun plain.reports place told.calls
 
 -- ---- faults
 

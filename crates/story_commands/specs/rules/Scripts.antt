@@ -104,14 +104,6 @@ said_with_number word n =
     else if bytes_eq word (codes "slice") then Some (said.Act (planned.Slice n))
     else None
 
--- what a word, a space, and a place, a count or a number say
-abbrev pub said_counted : List ℕ → List ℕ → Option ScriptLine
-said_counted word rest =
-    if bytes_eq word (codes "stop") then option_map said.Stop (place_spelled rest)
-    else if bytes_eq word (codes "fail") then option_map said.Fail (place_spelled rest)
-    else if bytes_eq word (codes "refuse") then option_map said.Refuse (count_spelled rest)
-    else option_and_then (said_with_number word) (number_spelled rest)
-
 -- what a word, a space and the rest say
 abbrev pub said_with : List ℕ → List ℕ → Option ScriptLine
 said_with word rest =
@@ -119,7 +111,10 @@ said_with word rest =
     else if bytes_eq word (codes "random")
     then option_map (λ bytes. said.Answer (answer.Random bytes)) (hex_bytes rest)
     else if bytes_eq word (codes "tears") then option_map said.Tears (fronts_in rest)
-    else said_counted word rest
+    else if bytes_eq word (codes "stop") then option_map said.Stop (place_spelled rest)
+    else if bytes_eq word (codes "fail") then option_map said.Fail (place_spelled rest)
+    else if bytes_eq word (codes "refuse") then option_map said.Refuse (count_spelled rest)
+    else option_and_then (said_with_number word) (number_spelled rest)
 
 -- what a line says, cut at its first space
 abbrev pub said_cut : List ℕ × Option (List ℕ) → Option ScriptLine

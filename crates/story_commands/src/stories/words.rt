@@ -1,11 +1,9 @@
 //! Lines of a script, by their first words.
 
-ghost use Rattle.std.specs.Prelude.{◌≡◌, IfOk, Some, option_and_then, option_map};
-ghost use Rattle.wasi_abi.specs.declared.answer.Answer.TheVariants as answer;
-ghost use Rattle.story_commands.specs.declared.stories.line.ScriptLine.TheVariants as said;
-ghost use Rattle.story_commands.specs.rules.Scripts.{said_by, said_alone, said_counted, said_with};
+ghost use Rattle.std.specs.Prelude.{◌≡◌, IfOk, option_and_then};
+ghost use Rattle.story_commands.specs.rules.Scripts.{said_by, said_alone, said_with};
 ghost use Rattle.story_commands.specs.rules.Scripts.{said_with_number, hex_bytes};
-ghost use Rattle.story_commands.specs.rules.Scripts.{fronts_between, fronts_in};
+ghost use Rattle.story_commands.specs.rules.Scripts.{fronts_between};
 ghost use Rattle.story_commands.specs.rules.Scripts.{number_spelled};
 
 use crate::stories::line::ScriptLine;
@@ -106,6 +104,38 @@ fn say_number(word: &[u8], number: u64) -> Option<ScriptLine>
     None
 }
 
+/// What a word and what is after its space say.
+fn read_with(alloc: Global, word: &[u8], rest: &[u8]) -> Result<Option<ScriptLine>, AllocError>
+    ensures { IfOk result (λ said. said ≡ said_with word.now rest.now) }
+{
+    if word == b"request".as_slice() {
+        let text = ItemList::from_vec(rest.to_vec(alloc)?);
+        return Ok(Some(ScriptLine::Answer {
+            answer: Answer::Request { text },
+        }));
+    }
+    if word == b"random".as_slice() {
+        let read = read_bytes(alloc, rest)?;
+        return Ok(read.map(|bytes| ScriptLine::Answer {
+            answer: Answer::Random { bytes },
+        }));
+    }
+    if word == b"tears".as_slice() {
+        let read = read_fronts(alloc, rest, b' ')?;
+        return Ok(read.map(|fronts| ScriptLine::Tears { fronts }));
+    }
+    if word == b"stop".as_slice() {
+        return Ok(read_place(rest).map(|place| ScriptLine::Stop { place }));
+    }
+    if word == b"fail".as_slice() {
+        return Ok(read_place(rest).map(|place| ScriptLine::Fail { place }));
+    }
+    if word == b"refuse".as_slice() {
+        return Ok(read_count(rest).map(|number| ScriptLine::Refuse { number }));
+    }
+    Ok(read_numbered(word, rest))
+}
+
 fn read_numbered(word: &[u8], rest: &[u8]) -> Option<ScriptLine>
     ensures { result ≡ option_and_then (said_with_number word.now) (number_spelled rest.now) }
 {
@@ -113,70 +143,9 @@ fn read_numbered(word: &[u8], rest: &[u8]) -> Option<ScriptLine>
     say_number(word, number)
 }
 
-/// What a word and a place, a count or a number say.
-fn read_counted(word: &[u8], rest: &[u8]) -> Option<ScriptLine>
-    ensures { result ≡ said_counted word.now rest.now }
-{
-    if word == b"stop".as_slice() {
-        return read_place(rest).map(|place| ScriptLine::Stop { place });
-    }
-    if word == b"fail".as_slice() {
-        return read_place(rest).map(|place| ScriptLine::Fail { place });
-    }
-    if word == b"refuse".as_slice() {
-        return read_count(rest).map(|number| ScriptLine::Refuse { number });
-    }
-    read_numbered(word, rest)
-}
-
-/// The answer of a request with this text.
-fn read_request(alloc: Global, text: &[u8]) -> Result<Option<ScriptLine>, AllocError>
-    ensures { IfOk result (λ line. line ≡ Some (said.Answer (answer.Request text.now))) }
-{
-    let text = ItemList::from_vec(text.to_vec(alloc)?);
-    Ok(Some(ScriptLine::Answer {
-        answer: Answer::Request { text },
-    }))
-}
-
-/// The answer of the random bytes that these digits spell.
-fn read_random(alloc: Global, digits: &[u8]) -> Result<Option<ScriptLine>, AllocError>
-    ensures { IfOk result (λ line. line
-        ≡ option_map (λ bytes. said.Answer (answer.Random bytes)) (hex_bytes digits.now)) }
-{
-    let read = read_bytes(alloc, digits)?;
-    Ok(read.map(|bytes| ScriptLine::Answer {
-        answer: Answer::Random { bytes },
-    }))
-}
-
-/// What a cut leaves of writes, by fronts with a space between each two.
-fn read_tears(alloc: Global, text: &[u8]) -> Result<Option<ScriptLine>, AllocError>
-    ensures { IfOk result (λ line. line ≡ option_map said.Tears (fronts_in text.now)) }
-{
-    let read = read_fronts(alloc, text, b' ')?;
-    Ok(read.map(|fronts| ScriptLine::Tears { fronts }))
-}
-
-/// What a word and what is after its space say.
-fn read_with(alloc: Global, word: &[u8], rest: &[u8]) -> Result<Option<ScriptLine>, AllocError>
-    ensures { IfOk result (λ line. line ≡ said_with word.now rest.now) }
-{
-    if word == b"request".as_slice() {
-        return read_request(alloc, rest);
-    }
-    if word == b"random".as_slice() {
-        return read_random(alloc, rest);
-    }
-    if word == b"tears".as_slice() {
-        return read_tears(alloc, rest);
-    }
-    Ok(read_counted(word, rest))
-}
-
 /// What a line without its newline says.
 pub(super) fn read_line(alloc: Global, text: &[u8]) -> Result<Option<ScriptLine>, AllocError>
-    ensures { IfOk result (λ line. line ≡ said_by text.now) }
+    ensures { IfOk result (λ said. said ≡ said_by text.now) }
 {
     let (word, behind) = split_once(text, b' ');
     match behind {

@@ -5,8 +5,7 @@ ghost use Rattle.worker.specs.declared.story.report.LifeEnd.TheVariants.{Failed}
 ghost use Rattle.story_commands.specs.rules.Sweeps.{IsSwept, end_at};
 ghost use Rattle.story_commands.specs.laws.CutRuns.{HeedsProgress, IsFoundFirst, IsPlainRun};
 ghost use Rattle.story_commands.specs.laws.CutRuns.{IsPlainUpTo, IsPlanFault, IsSweepFault};
-ghost use Rattle.story_commands.specs.laws.CutRuns.{CallsBegun, HasToldPlainly, IsSweepOf};
-ghost use Rattle.story_commands.specs.laws.CutRuns.{IsToldPlain};
+ghost use Rattle.story_commands.specs.laws.CutRuns.{CallsBegun, IsSweepOf, IsToldPlain};
 
 use crate::sweeping::calling::sweep_calls;
 use crate::sweeping::cutting::Sweep;
@@ -17,7 +16,7 @@ use crate::sweeping::running::{RunLives, Runner};
 use crate::sweeping::texts::texts_of;
 use crate::sweeping::upgrading::find_before;
 use command_words::Printer;
-use record_replay::{LineList, NumberedLine, OutletFault};
+use record_replay::NumberedLine;
 use std::alloc::Global;
 use std::io::Write;
 use wasi_abi::Config;
@@ -166,63 +165,6 @@ fn sweep_plain<E: Write + Drop>(
     }
 }
 
-/// What the lives without a cut have told, and how many calls the swept one has begun.
-#[derive(Drop)]
-pub(crate) struct PlainTold {
-    texts: LineList,
-    calls: u64,
-}
-
-/// The texts of all lines, and the calls of the life at this place, where each number has one text
-/// and there is such a life.
-fn told_plainly(
-    alloc: Global,
-    plain: &RunLives,
-    place: usize,
-) -> Result<Option<PlainTold>, OutletFault>
-    ensures { IfOk result (λ o. IfSome o (HasToldPlainly plain.now place)) }
-{
-    let Some(texts) = texts_of(alloc, plain.reports.as_slice())? else {
-        return Ok(None);
-    };
-    match calls_at(plain.reports.as_slice(), place) {
-        Some(calls) => Ok(Some(PlainTold { texts, calls })),
-        None => Ok(None),
-    }
-}
-
-/// Runs the lives with each cut of one of them. They were run without one.
-fn sweep_behind<E: Write + Drop>(
-    runner: &mut Runner,
-    job: &SweepJob<'_>,
-    plain: RunLives,
-    err: &mut Printer<E>,
-) -> Result<Option<Swept>, SweepFault>
-    requires place { job.now.place < length job.now.lives.now }
-    requires run { IsPlainRun job.now.wasm.now job.now.config.now job.now.lives.now plain }
-    ensures swept { IfOk result (λ o. IfSome o (λ swept. IsSwept job.now.wasm.now
-        job.now.config.now job.now.lives.now job.now.place job.now.fronts.now swept.cuts
-        swept.lines)) }
-    ensures failed { IfErr result (IsSweepFault job.now.wasm.now job.now.config.now
-        job.now.lives.now job.now.place) }
-    ensures heeded { HeedsProgress result err.old err.new }
-    ensures quiet { IfErr result (λ fault. IsFoundFirst fault → err.new ≡ err.old) }
-{
-    match told_plainly(runner.alloc, &plain, job.place) {
-        Ok(Some(told)) => {
-            let swept = sweep_plain(runner, job, &plain, told.texts.lines(), told.calls, err);
-            drop(told);
-            drop(plain);
-            swept
-        }
-        Ok(None) => Err(SweepFault::Differs { run: plain }),
-        Err(fault) => {
-            drop(plain);
-            Err(SweepFault::from(fault))
-        }
-    }
-}
-
 /// Runs the lives without a cut, and then with each cut of one of them. A person is shown on `err`
 /// how far it has come. Answers none where that can't be written.
 pub(crate) fn sweep_lives<E: Write + Drop>(
@@ -240,15 +182,12 @@ pub(crate) fn sweep_lives<E: Write + Drop>(
     ensures quiet { IfErr result (λ fault. IsFoundFirst fault → err.new ≡ err.old) }
 {
     let mut runner = Runner::new(alloc);
-    match run_plain(&mut runner, job) {
-        Ok(plain) => {
-            let swept = sweep_behind(&mut runner, job, plain, err);
-            drop(runner);
-            swept
-        }
-        Err(fault) => {
-            drop(runner);
-            Err(fault)
-        }
-    }
+    let plain = run_plain(&mut runner, job)?;
+    let Some(texts) = texts_of(alloc, plain.reports.as_slice())? else {
+        return Err(SweepFault::Differs { run: plain });
+    };
+    let Some(calls) = calls_at(plain.reports.as_slice(), job.place) else {
+        return Err(SweepFault::Differs { run: plain });
+    };
+    sweep_plain(&mut runner, job, &plain, texts.lines(), calls, err)
 }
