@@ -21,19 +21,19 @@ abbrev pub field_of : LentField → Field
 field_of f = (f.name.now, scalar_of f.scalar)
 
 -- a value
-abbrev pub value_of : LentValue → FactValue
-value_of (value.Plain s) = Plain (scalar_of s)
-value_of (value.Tagged field) = Tagged (field_of field)
-value_of (value.Fields fields) = Fields (map field_of fields.items)
+abbrev pub fact_value_of : LentValue → FactValue
+fact_value_of (value.Plain s) = Plain (scalar_of s)
+fact_value_of (value.Tagged field) = Tagged (field_of field)
+fact_value_of (value.Fields fields) = Fields (map field_of fields.items)
 
 -- a fact
 abbrev pub fact_of : LentFact → Fact
-fact_of (fact.Single name value) = Single name.now (value_of value)
-fact_of (fact.Listed each all values) = Listed each.now all.now (map value_of values.items)
+fact_of (fact.Single name value) = Single name.now (fact_value_of value)
+fact_of (fact.Listed each all values) = Listed each.now all.now (map fact_value_of values.items)
 
 -- values, in their order
 abbrev pub values_of : List LentValue → List FactValue
-values_of values = map value_of values
+values_of values = map fact_value_of values
 
 -- facts, in their order
 abbrev pub facts_of : List LentFact → List Fact

@@ -4,7 +4,7 @@ ghost use Rattle.std.specs.Prelude.{◌≡◌, ◌++◌, [], ◌∷◌, IfOk, On
 ghost use Rattle.serde_json.specs.View.{view};
 ghost use Rattle.serde_json.specs.Written.{compact_text};
 ghost use Rattle.disk_commands.specs.FactViews.{fact_of, facts_of, field_of, scalar_of};
-ghost use Rattle.disk_commands.specs.FactViews.{value_of, values_of};
+ghost use Rattle.disk_commands.specs.FactViews.{fact_value_of, values_of};
 ghost use Rattle.disk_commands.specs.Members.{Puts};
 ghost use Rattle.disk_commands.specs.rules.Facts.{fact_member, facts_data, field_member};
 ghost use Rattle.disk_commands.specs.rules.Facts.{list_data, number_data, object_of};
@@ -65,7 +65,7 @@ fn fields_value(alloc: Global, fields: &[Field]) -> Result<Value, AllocError>
 
 /// The value of a fact.
 fn json_value(alloc: Global, value: &FactValue) -> Result<Value, AllocError>
-    ensures { IfOk result (λ json. view json ≡ value_data (value_of value.now)) }
+    ensures { IfOk result (λ json. view json ≡ value_data (fact_value_of value.now)) }
 {
     match value {
         FactValue::Plain(scalar) => scalar_value(alloc, scalar),

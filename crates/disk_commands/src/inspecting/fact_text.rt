@@ -4,7 +4,7 @@ ghost use Rattle.std.specs.Prelude.{◌≡◌, IfOk, OnOk, map};
 ghost use Rattle.std.specs.Io.KnownBytes.{Appends};
 ghost use Rattle.std.specs.List.{flat_map};
 ghost use Rattle.disk_commands.specs.FactViews.{fact_of, facts_of, field_of, scalar_of};
-ghost use Rattle.disk_commands.specs.FactViews.{value_of, values_of};
+ghost use Rattle.disk_commands.specs.FactViews.{fact_value_of, values_of};
 ghost use Rattle.disk_commands.specs.rules.Facts.{Fields, fact_line, fact_text, facts_text};
 ghost use Rattle.disk_commands.specs.rules.Facts.{spaced, value_text};
 
@@ -41,7 +41,7 @@ fn spell_fields<W: Write>(out: &mut W, fields: &[Field]) -> io::Result<()>
 /// Spells a value.
 fn spell_value<W: Write>(out: &mut W, value: &FactValue) -> io::Result<()>
     ensures { OnOk result (Appends (W.contents out.old) (W.contents out.new)
-        (value_text (value_of value.now))) }
+        (value_text (fact_value_of value.now))) }
 {
     match value {
         FactValue::Plain(scalar) => spell_scalar(out, scalar),
@@ -56,7 +56,7 @@ fn spell_value<W: Write>(out: &mut W, value: &FactValue) -> io::Result<()>
 /// Spells a name and a value, on a line.
 fn spell_line<W: Write>(out: &mut W, name: &str, value: &FactValue) -> io::Result<()>
     ensures { OnOk result (Appends (W.contents out.old) (W.contents out.new)
-        (fact_line name.now (value_of value.now))) }
+        (fact_line name.now (fact_value_of value.now))) }
 {
     out.write_all(name.as_bytes())?;
     spell_value(out, value)?;

@@ -3,7 +3,7 @@
 ghost use Rattle.std.specs.Prelude.{◌≡◌, [], ◌∷◌, IfOk, OnOk, map};
 ghost use Rattle.hex.specs.Hex.{encode_lower};
 ghost use Rattle.sha2.specs.Sha256.{sha256};
-ghost use Rattle.disk_commands.specs.FactViews.{Adds, value_of, values_of};
+ghost use Rattle.disk_commands.specs.FactViews.{Adds, fact_value_of, values_of};
 ghost use Rattle.disk_commands.specs.rules.Facts.{Listed, Single};
 ghost use Rattle.disk_commands.specs.rules.DiskFacts.{disk_facts, module_facts, number_fact};
 ghost use Rattle.disk_commands.specs.rules.DiskFacts.{settings_facts, snapshot_facts, text_value};
@@ -28,7 +28,7 @@ pub(super) fn add<'a>(
     value: FactValue<'a>,
 ) -> Result<(), AllocError>
     ensures { OnOk result (Adds facts.old.items facts.new.items
-        (Single name.now (value_of value.entry) ∷ [])) }
+        (Single name.now (fact_value_of value.entry) ∷ [])) }
 {
     facts.push(Fact::Single { name, value })?;
     Ok(())

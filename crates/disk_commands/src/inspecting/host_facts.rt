@@ -2,7 +2,7 @@
 
 ghost use Rattle.std.specs.Prelude.{◌≡◌, ◌++◌, [], ◌∷◌, IfOk, OnOk};
 ghost use Rattle.wasi_calls.specs.Views.{target_of};
-ghost use Rattle.disk_commands.specs.FactViews.{Adds, value_of, values_of};
+ghost use Rattle.disk_commands.specs.FactViews.{Adds, fact_value_of, values_of};
 ghost use Rattle.disk_commands.specs.rules.Facts.{Single};
 ghost use Rattle.disk_commands.specs.rules.DiskFacts.{descriptor_value, descriptor_values};
 ghost use Rattle.disk_commands.specs.rules.DiskFacts.{host_facts, opened_values, target_number};
@@ -34,7 +34,7 @@ fn descriptor_value(
     number: usize,
     descriptor: &Descriptor,
 ) -> Result<FactValue<'static>, AllocError>
-    ensures { IfOk result (λ value. value_of value
+    ensures { IfOk result (λ value. fact_value_of value
         ≡ descriptor_value tree.now number descriptor.now) }
 {
     let (kind, target) = named_target(tree, descriptor.names());

@@ -2,7 +2,7 @@
 
 ghost use Rattle.std.specs.Prelude.{◌≡◌, IfOk, OnOk, map, option_map, reverse};
 ghost use Rattle.process.specs.rules.Values.{ending_of};
-ghost use Rattle.disk_commands.specs.FactViews.{Adds, value_of, values_of};
+ghost use Rattle.disk_commands.specs.FactViews.{Adds, fact_value_of, values_of};
 ghost use Rattle.disk_commands.specs.rules.DiskFacts.{frame_value, process_facts};
 ghost use Rattle.disk_commands.specs.rules.DiskFacts.{progress_facts, question_value, state_value};
 
@@ -27,7 +27,7 @@ fn add_progress(facts: &mut Vec<Fact>, process: &Process) -> Result<(), AllocErr
 
 /// What a process waits for.
 fn question_value(question: Option<Question>) -> FactValue<'static>
-    ensures { value_of result ≡ question_value question }
+    ensures { fact_value_of result ≡ question_value question }
 {
     match question {
         None => FactValue::Plain(Scalar::Word("nothing")),
@@ -42,7 +42,7 @@ fn question_value(question: Option<Question>) -> FactValue<'static>
 
 /// Whether a process runs, or how it has ended.
 fn state_value(end: Option<ProcessEnd>) -> FactValue<'static>
-    ensures { value_of result ≡ state_value (option_map ending_of end) }
+    ensures { fact_value_of result ≡ state_value (option_map ending_of end) }
 {
     match end {
         None => FactValue::Plain(Scalar::Word("running")),
@@ -62,7 +62,7 @@ fn frame_value(
     position: usize,
     slots: &[u64],
 ) -> Result<FactValue<'static>, AllocError>
-    ensures { IfOk result (λ value. value_of value
+    ensures { IfOk result (λ value. fact_value_of value
         ≡ frame_value (record { function = function; position = position; slots = slots.now })) }
 {
     let fields = vec![in alloc;

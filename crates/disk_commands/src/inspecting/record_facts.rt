@@ -2,7 +2,7 @@
 
 ghost use Rattle.std.specs.Prelude.{◌≡◌, IfOk, OnOk, length, map};
 ghost use Rattle.disk_layout.specs.rules.Journal.{payload_of};
-ghost use Rattle.disk_commands.specs.FactViews.{Adds, value_of, values_of};
+ghost use Rattle.disk_commands.specs.FactViews.{Adds, fact_value_of, values_of};
 ghost use Rattle.disk_commands.specs.rules.DiskFacts.{journal_facts, kind_word, record_value};
 
 use crate::inspecting::fact::{Fact, FactValue, Field};
@@ -41,7 +41,7 @@ fn payload_length(answer: &Answer) -> usize
 
 /// A record.
 fn record_value(alloc: Global, entry: &Record) -> Result<FactValue<'static>, AllocError>
-    ensures { IfOk result (λ value. value_of value ≡ record_value entry.now) }
+    ensures { IfOk result (λ value. fact_value_of value ≡ record_value entry.now) }
 {
     let step = entry.step;
     let fields = vec![in alloc;

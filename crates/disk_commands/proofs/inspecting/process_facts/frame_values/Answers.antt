@@ -1,14 +1,14 @@
 use Rattle.std.proofs.Common.{◌≤◌, length, map, reverse, ap, ◌∙◌, arith}
 use Rattle.std.proofs.lemmas.List.{length-reverse, take_all}
 use Rattle.machine.specs.rules.LentFrames.{lent_frame}
-use Rattle.disk_commands.specs.FactViews.{value_of}
+use Rattle.disk_commands.specs.FactViews.{fact_value_of}
 use Rattle.disk_commands.specs.rules.DiskFacts.{frame_value}
 use Rattle.disk_commands.proofs.FactLemmas.{one_got_pushed}
 use Rattle.disk_commands.proofs.inspecting.process_facts.frame_values.Goals as goal
 
 pub loop-index-preserved : goal.loop-index-preserved
 loop-index-preserved c =
-    one_got_pushed frame_value value_of (reverse c.args.machine.now.state.frames)
+    one_got_pushed frame_value fact_value_of (reverse c.args.machine.now.state.frames)
     c.loop-index.index (lent_frame c.place-place.result) c.loop-index.values.items
     c.push.new.self.items c.in_ok-frame.frame c.place-place.ensures c.loop-index.invariant
     c.in_ok-push.ensures.items c.in_ok-frame.ensures
