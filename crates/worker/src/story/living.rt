@@ -83,9 +83,13 @@ fn go_on<D: Disk, S: Source, O: Outlet>(
     match tell_opening(alloc, &worker, is_created) {
         Ok(opened) => {
             let ended = do_all(&mut worker, disk, acts, source, outlet);
+            worker.close();
             Ok(LivedOnce { opened, ended })
         }
-        Err(fault) => Err(fault),
+        Err(fault) => {
+            worker.close();
+            Err(fault)
+        }
     }
 }
 
