@@ -6,7 +6,6 @@ use Rattle.std.specs.Fmt.{decimal}
 use Rattle.wasm_syntax.specs.declared.types.FunctionType.{FunctionType}
 use Rattle.wasm_syntax.specs.declared.module.Import.{Import}
 use Rattle.wasm_syntax.specs.rules.Limits.{is_function}
-use Rattle.wasm_decode.specs.declared.items.limit.PassedLimit.{PassedLimit}
 use Rattle.wasm_decode.specs.declared.fault.DecodeFault.{DecodeFault}
 use Rattle.wasm_decode.specs.declared.fault.DecodeFault.TheVariants as decode
 use Rattle.wasm_decode.specs.declared.code_faults.CodeFault.{CodeFault}
