@@ -7,8 +7,8 @@ ghost use Rattle.record_replay.specs.rules.Refusals.{slice_fault};
 ghost use Rattle.worker.specs.rules.WorkFaults.{fault_of_store};
 
 use crate::upgrade_fault::UpgradeFault;
-use record_replay::{OutletFault, SliceFault};
 use process::ProcessFault;
+use record_replay::{OutletFault, SliceFault};
 use sector_disk::DiskFault;
 use thiserror::Error;
 use worker_store::StoreFault;

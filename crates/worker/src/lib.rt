@@ -81,10 +81,10 @@ mod upgrades;
 mod widening;
 
 pub use durable::Worker;
-pub use record_replay::SliceFault;
 pub use fault::WorkFault;
 pub use inspecting::inspect;
 pub use inspection::Inspection;
+pub use record_replay::SliceFault;
 pub use recover_fault::RecoverFault;
 pub use running_worker::RunningWorker;
 pub use surveyed::Survey;

@@ -8,9 +8,9 @@ ghost use Rattle.worker.specs.rules.RecoverFaults.{fault_of_read, wants_memory};
 
 use crate::fault::WorkFault;
 use disk_layout::LayoutFault;
-use record_replay::{ReplayFault, SliceFault};
 use journal::JournalFault;
 use machine::ModuleFault;
+use record_replay::{ReplayFault, SliceFault};
 use sector_disk::DiskFault;
 use snapshot::SnapshotFault;
 use state_image::restoring::RestoreFault;

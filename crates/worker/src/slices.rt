@@ -15,8 +15,8 @@ ghost use Rattle.worker.specs.rules.DurableFailures.{SlicesOnDiskInVain};
 use crate::durable::Worker;
 use crate::fault::WorkFault;
 use crate::running_worker::RunningWorker;
-use record_replay::{Now, Outlet, SliceFault, Source};
 use process::Stop;
+use record_replay::{Now, Outlet, SliceFault, Source};
 use sector_disk::Disk;
 
 impl RunningWorker {

@@ -7,7 +7,7 @@ pub returns : goal.returns
 returns c =
     let used : Field = (codes "used", Number c.args.used) in
     let told : map field_of c.in_ok-fields.fields.items
-        ≡ used ∷ (codes "limit", Number c.args.limit) ∷ [] =
+    ≡ used ∷ (codes "limit", Number c.args.limit) ∷ [] =
     ap (map field_of) c.in_ok-fields.ensures.items
     ∙ ap (λ (f : Field). f ∷ field_of c.of_number-2.result ∷ []) c.of_number.ensures
     ∙ ap (λ (f : Field). used ∷ f ∷ []) c.of_number-2.ensures in
