@@ -8,8 +8,8 @@
 //!   (`known`), and 7 comes just where a write has failed (`heeded`).
 //! - `list_bytes`: the same, but with all imports and functions that are in the way told last
 //!   (`more`).
-//! - `check_module` is one of both, of as many pages as a worker may have, and tells their bounds of
-//!   others (`ChecksModule`).
+//! - `check_module` is one of both, of as many pages as a worker may have, and tells their bounds
+//!   of others (`ChecksModule`).
 //!
 //! # Choices
 //!
@@ -210,8 +210,8 @@ pub fn list_bytes<W: Write + Drop>(
     }
 }
 
-/// Says whether a module is accepted with so many pages, and lists all that is in the way if that is
-/// asked for.
+/// Says whether a module is accepted with so many pages, and lists all that is in the way if that
+/// is asked for.
 fn check_as_asked<W: Write + Drop>(
     alloc: Global,
     wasm: &[u8],
@@ -241,8 +241,8 @@ fn allowed_pages(pages: u64) -> Option<u32>
     }
 }
 
-/// `wasmhost check` of a module with so many pages, which are from 1 to 256. It lists all that is in
-/// the way if that is asked for. Answers the exit status.
+/// `wasmhost check` of a module with so many pages, which are from 1 to 256. It lists all that is
+/// in the way if that is asked for. Answers the exit status.
 pub fn check_module<W: Write + Drop, E: Write + Drop>(
     alloc: Global,
     wasm: &[u8],

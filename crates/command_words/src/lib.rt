@@ -12,18 +12,18 @@
 //!
 //! # Promises
 //!
-//! Each is in full at the head of the module that has the function. `docs/PROMISES.md` has them with
-//! their clauses.
+//! Each is in full at the head of the module that has the function. `docs/PROMISES.md` has them
+//! with their clauses.
 //!
 //! - `read_words`: an order is exactly what the words mean, and a fault one that they have.
-//! - `check_bytes`, `list_bytes`, `check_module`: 0 only if the bytes spell a module that is accepted, and 3 only
-//!   if they don't, or the pages are out of bounds.
-//! - `prepare`, `report_unprepared`: what a worker needs, before there is a disk, or why it can't be
-//!   had.
+//! - `check_bytes`, `list_bytes`, `check_module`: 0 only if the bytes spell a module that is
+//!   accepted, and 3 only if they don't, or the pages are out of bounds.
+//! - `prepare`, `report_unprepared`: what a worker needs, before there is a disk, or why it can't
+//!   be had.
 //! - `RequestSource`, `LineReader`, `BufferedLines`, `read_request`: request lines, in their order,
 //!   and why one is refused. Clocks and random words come from the outside (`Outside`, `RealTime`).
-//! - `LineOutlet`, `Printer`: all that the program says is printed by one that knows whether a write
-//!   has failed. So status 7 comes with a failed write.
+//! - `LineOutlet`, `Printer`: all that the program says is printed by one that knows whether a
+//!   write has failed. So status 7 comes with a failed write.
 //! - `read_seed`, `seeded`, `read_module`, `split_once`, `cut_line`, `digest_digits`, `spell_line`,
 //!   `say_text`, `say_line`, `report`, `report_words`, `report_output`: the words of all these.
 //! - `laws`: words without a fault mean an order, by rules and by ninety-eight examples.
@@ -36,10 +36,10 @@
 //! (`CommandLine.antt`); `meaning_in`, `IsReading`, `IsStatusOf` (`Commands.antt`);
 //! `IsOutOfBounds`, `range_words` (`Bounds.antt`); `TellsLimit` (`ModuleLimits.antt`);
 //! `IsUnnamedEntry`, `entry_text` (`Entries.antt`); `TellsMore` (`Verdicts.antt`); `ListsAll`
-//! (`Listings.antt`); `ChecksModule` (`Checks.antt`); `TellsOfFloat` (`Floats.antt`); `IsFlawIn`, `flaw_words` (`Flaws.antt`); `PrinterState`,
-//! `IsSaid`, `SaysText`, `HeedsBoth`, `TellsPerson` (`Printers.antt`); `SaysOfOutput`
-//! (`Reports.antt`); `lines_of` (`Pieces.antt`); `PrintsOneLine` (`Prints.antt`).
-//! In `specs/laws/`, what the laws say: `all_printed` (`Printed.antt`).
+//! (`Listings.antt`); `ChecksModule` (`Checks.antt`); `TellsOfFloat` (`Floats.antt`); `IsFlawIn`,
+//! `flaw_words` (`Flaws.antt`); `PrinterState`, `IsSaid`, `SaysText`, `HeedsBoth`, `TellsPerson`
+//! (`Printers.antt`); `SaysOfOutput` (`Reports.antt`); `lines_of` (`Pieces.antt`); `PrintsOneLine`
+//! (`Prints.antt`). In `specs/laws/`, what the laws say: `all_printed` (`Printed.antt`).
 //!
 //! # Who may touch what
 //!

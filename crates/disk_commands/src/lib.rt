@@ -8,18 +8,18 @@
 //!
 //! # Promises
 //!
-//! Each is in full at the head of the module that has the function. `docs/PROMISES.md` has them with
-//! their clauses.
+//! Each is in full at the head of the module that has the function. `docs/PROMISES.md` has them
+//! with their clauses.
 //!
-//! - `create_disk`, `create_file`, `create_device`, `create_on`: 0 only if the worker is created and
-//!   `created N sectors` printed. A file that was made is left at its path where the status is 0, and
-//!   else removed again.
+//! - `create_disk`, `create_file`, `create_device`, `create_on`: 0 only if the worker is created
+//!   and `created N sectors` printed. A file that was made is left at its path where the status is
+//!   0, and else removed again.
 //! - `run_file`, `serve`: all that is done of a worker is one life that goes on, in slices of the
 //!   fuel and checkpoints of the pace. Each status has its cause, and the last words are true.
 //! - `upgrade_file`, `upgrade_worker`: one life without an answer, and an upgrade in it; 0 only if
 //!   the worker is in version 2.
-//! - `show_file`, `inspect_file`, `files_file`: what the disk at the path shows is printed whole, or
-//!   what keeps it from that is told. The disk is only synced.
+//! - `show_file`, `inspect_file`, `files_file`: what the disk at the path shows is printed whole,
+//!   or what keeps it from that is told. The disk is only synced.
 //! - `Watcher`, `StatusFile`, `status_file_of`: who is told where the worker is. No file is touched
 //!   but one that was found free.
 //! - `report_input`, `report_open`, `report_unread`: what is wrong with an input, and why a file

@@ -31,9 +31,9 @@
 //!
 //! # Who may touch what
 //!
-//! Of the crates here only this one has the runtime's handle: the words of the command line,
-//! files, standard streams, the clock and the allocator. All else is lent to the commands. A disk in
-//! a file is `sector_disk`'s. It takes memory for the words, the file, the reader's buffer and a
+//! Of the crates here only this one has the runtime's handle: the words of the command line, files,
+//! standard streams, the clock and the allocator. All else is lent to the commands. A disk in a
+//! file is `sector_disk`'s. It takes memory for the words, the file, the reader's buffer and a
 //! line.
 #![tactic(auto)]
 

@@ -146,8 +146,8 @@ where
 }
 
 /// Does what the words say of a run, with this seed. The disk is opened, and written back where
-/// they ask for it. A status file that they name is made. Then the worker goes on, as `serve` says, and
-/// it is said what is left of the input. Returns the exit status.
+/// they ask for it. A status file that they name is made. Then the worker goes on, as `serve` says,
+/// and it is said what is left of the input. Returns the exit status.
 fn run_seeded<F, R, I, C, O, E>(
     alloc: Global,
     system: System<'_, R, I, C>,

@@ -91,8 +91,8 @@ fn try_new<R: WatchedPaths>(files: &R, path: &str, here: &FoundFile) -> io::Resu
     Ok(())
 }
 
-/// Makes sure that a new file can be made at a path, where a status file is removed. Else it is said
-/// why not, and the error is the exit status.
+/// Makes sure that a new file can be made at a path, where a status file is removed. Else it is
+/// said why not, and the error is the exit status.
 fn clear_beside<R: WatchedPaths, E: Write + Drop>(
     alloc: Global,
     files: &R,

@@ -63,8 +63,8 @@ fn sweep_fronts(
     Ok(now)
 }
 
-/// The cuts of one call, with each of these fronts if it is a write. Any other call leaves no front,
-/// so it is cut once.
+/// The cuts of one call, with each of these fronts if it is a write. Any other call leaves no
+/// front, so it is cut once.
 fn sweep_call(
     runner: &mut Runner,
     sweep: &Sweep<'_>,
@@ -104,8 +104,8 @@ fn show_progress<E: Write + Drop>(err: &mut Printer<E>, call: u64, calls: u64) -
     err.flush()
 }
 
-/// The cuts of each call up to this one. Answers how many were made, or none where a person can't be
-/// shown how far it has come.
+/// The cuts of each call up to this one. Answers how many were made, or none where a person can't
+/// be shown how far it has come.
 pub(super) fn sweep_calls<E: Write + Drop>(
     runner: &mut Runner,
     sweep: &Sweep<'_>,

@@ -81,8 +81,8 @@ fn judge(
     }
 }
 
-/// Runs a cut, and compares it. The worker was given so many answers before the power was cut as are
-/// guessed, or the cut is run a second time.
+/// Runs a cut, and compares it. The worker was given so many answers before the power was cut as
+/// are guessed, or the cut is run a second time.
 pub(super) fn try_cut(
     runner: &mut Runner,
     sweep: &Sweep<'_>,

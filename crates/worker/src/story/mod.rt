@@ -42,8 +42,8 @@
 //! # Who may touch what
 //!
 //! It makes its disk, its sources and its outlets itself, and hands out none. It makes the four
-//! calls of a `Worker`, over the disks of `sector_disk`. It takes memory for the disk, for copies of
-//! the answers, and for the lines and images that it tells. A cut takes none.
+//! calls of a `Worker`, over the disks of `sector_disk`. It takes memory for the disk, for copies
+//! of the answers, and for the lines and images that it tells. A cut takes none.
 //!
 //! A story is handed the module's bytes, which a creation writes to the disk, and not a module. One
 //! that isn't accepted opens no life, and each life says why.
