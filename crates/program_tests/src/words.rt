@@ -225,7 +225,7 @@ fn is_story(order: &StoryOrder<'_>, meant: &Meant) -> bool {
 
 fn is_meant(order: &Order<'_>, meant: &Meant) -> bool {
     match order {
-        Order::Check(order) => matches!(meant, Meant::Check(wanted) if order.path == wanted),
+        Order::Check(order) => matches!(meant, Meant::Check(wanted) if order.path == *wanted),
         Order::Show { path } => matches!(meant, Meant::Show(wanted) if path == wanted),
         Order::Create(order) => is_creation(order, meant),
         Order::Run(order) => is_run(order, meant),
