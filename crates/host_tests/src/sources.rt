@@ -7,7 +7,10 @@ ghost use Rattle.record_replay.specs.rules.Calls.{Releases, all_taken};
 ghost use Rattle.record_replay.specs.rules.Lists.{HandsOut};
 
 use crate::rows::assert_row;
-use record_replay::{AnswerList, AnyOutlet, AnySource, LineList, NumberedLine, Outlet, OutletFault, RefusingOutlet, Source, SourceFault};
+use record_replay::{
+    AnswerList, AnyOutlet, AnySource, LineList, NumberedLine, Outlet, OutletFault, RefusingOutlet,
+    Source, SourceFault,
+};
 use std::alloc::{AllocError, Global};
 use std::cell::Cell;
 use std::rc::Rc;

@@ -1,7 +1,9 @@
 //! Lines in and out.
 
 use crate::rows::assert_row;
-use command_words::{BufferedLines, LineFault, LineOutlet, Outside, Request, RequestSource, read_request, seeded};
+use command_words::{
+    BufferedLines, LineFault, LineOutlet, Outside, Request, RequestSource, read_request, seeded,
+};
 use record_replay::{Outlet, OutletFault, Source, SourceFault};
 use std::alloc::{AllocError, Global};
 use std::io::{self, BufRead, ErrorKind, Read, Write};

@@ -7,7 +7,9 @@ use crate::lines::{NoClock, OUTSIDE};
 use crate::rows::assert_row;
 use crate::serving::{Unwatched, pace_of};
 use crate::show::{SECTORS, WRITES, fresh_disk};
-use command_words::{BufferedLines, LineOutlet, Prepared, Printer, RequestSource, Sizes, Unprepared, prepare};
+use command_words::{
+    BufferedLines, LineOutlet, Prepared, Printer, RequestSource, Sizes, Unprepared, prepare,
+};
 use disk_commands::{Drive, Pace, create_on, serve};
 use record_replay::{AnswerList, EphemeralWorker, LineList, Now, SliceFault};
 use sector_disk::MemDisk;

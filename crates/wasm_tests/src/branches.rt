@@ -8,8 +8,8 @@ ghost use Rattle.machine_jumps.specs.Contexts.{GivesOnes};
 
 use crate::rows::assert_row;
 use crate::spelled::{Refused, with_code};
-use machine_jumps::{BranchTable, Jump, branch_table};
 use machine::read;
+use machine_jumps::{BranchTable, Jump, branch_table};
 use std::alloc::Global;
 use wasm_validate::{ModuleContext, ValidFault, ValidModule};
 

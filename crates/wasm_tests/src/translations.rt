@@ -8,8 +8,8 @@
 use crate::branches::{context_of, first_table};
 use crate::rows::assert_row;
 use crate::spelled::{Refused, with_code};
-use machine_frame::{RegisterCode, translate};
 use machine::read;
+use machine_frame::{RegisterCode, translate};
 use std::alloc::Global;
 use wasm_validate::ValidModule;
 

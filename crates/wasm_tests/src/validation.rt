@@ -5,7 +5,9 @@ use crate::spelled::{Refused, spell, with_code};
 use machine::{ModuleFault, read};
 use std::alloc::Global;
 use wasm_decode::decode;
-use wasm_syntax::{Code, Function, Instruction, ItemList, LimitedModule, Limits, Module, TableType, Value};
+use wasm_syntax::{
+    Code, Function, Instruction, ItemList, LimitedModule, Limits, Module, TableType, Value,
+};
 use wasm_validate::{ValidFault, validate};
 
 /// Some text, and the fault of the module that it belongs to.
