@@ -5,7 +5,8 @@ use Rattle.wasi_abi.specs.rules.Configs.{Settings, AreSettingsWithinLimits}
 use Rattle.command_words.specs.declared.preparing.Prepared.{Prepared}
 use Rattle.command_words.specs.declared.preparing.Unprepared.{Unprepared}
 use Rattle.command_words.specs.declared.preparing.Unprepared.TheVariants as unprepared
-use Rattle.command_words.specs.rules.Preparations.{IsUnaccepted, IsUnprepared, prepared_with}
+use Rattle.command_words.specs.rules.Preparations.{IsUnaccepted, IsUnprepared}
+use Rattle.command_words.specs.Preparations.{prepared_with}
 
 -- a module that isn't accepted, with a configuration within its limits
 measured_in_vain : (config : Settings) (bytes : List ℕ) (measured : Result ℕ Unprepared)

@@ -4,7 +4,7 @@ use Rattle.std.specs.Prelude.{Result, Ok, Err, ⊤, if◌then◌else◌}
 use Rattle.machine.specs.declared.from_bytes.fault.ModuleFault.{ModuleFault}
 use Rattle.machine.specs.rules.Acceptance.{HasNoAcceptedModule, is_want}
 use Rattle.machine.proofs.Wants.{no_want}
-use Rattle.command_words.specs.rules.Statuses.{IsRight, status_by}
+use Rattle.command_words.specs.Statuses.{IsRight, status_by}
 
 pub refused_by : (pages : ℕ) (bytes : List ℕ) (verdict : Result ⊤ ModuleFault)
     → IsRight pages bytes verdict → status_by verdict ≡ 3 → HasNoAcceptedModule pages bytes

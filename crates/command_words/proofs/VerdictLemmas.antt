@@ -19,7 +19,7 @@ use Rattle.machine.specs.declared.from_bytes.fault.ModuleFault.TheVariants.{Deco
 use Rattle.machine.specs.rules.Acceptance.{IsReported, passed_in}
 use Rattle.wasm_decode.specs.declared.items.limit.PassedLimit.{PassedLimit}
 use Rattle.wasm_decode.specs.declared.fault.DecodeFault.TheVariants as decode
-use Rattle.command_words.specs.rules.Statuses.{status_by}
+use Rattle.command_words.specs.Statuses.{status_by}
 use Rattle.command_words.specs.declared.bounds.Bound.TheVariants as bound
 use Rattle.command_words.specs.rules.Bounds.{IsOutside, range_words}
 use Rattle.command_words.specs.rules.Reports.{SaysLine}

@@ -2,3 +2,9 @@ pub mod Lines
 pub mod Listed
 pub mod laws
 pub mod rules
+pub mod CommandLine
+pub mod Commands
+pub mod Outside
+pub mod Preparations
+pub mod Reports
+pub mod Statuses

@@ -33,7 +33,7 @@ ghost use Rattle.command_words.specs.rules.Checks.{ChecksModule, IsChecked};
 ghost use Rattle.command_words.specs.rules.Listings.{EndsWithList, ListsRefusal};
 ghost use Rattle.command_words.specs.rules.ModuleLimits.{TellsLimit};
 ghost use Rattle.command_words.specs.rules.Printers.{HeedsWrites};
-ghost use Rattle.command_words.specs.rules.Statuses.{IsRight, status_by};
+ghost use Rattle.command_words.specs.Statuses.{IsRight, status_by};
 ghost use Rattle.command_words.specs.rules.Verdicts.{EndsWithMore, TellsRefusal};
 
 use crate::bounds::{Bound, PAGES_BOUND, words_of_range};

@@ -9,7 +9,8 @@
 ghost use Rattle.std.specs.Prelude.{◌≡◌, ◌≤◌, ◌⊎◌, IfSome};
 ghost use Rattle.command_words.specs.rules.Commands.{IsStatusOf};
 ghost use Rattle.command_words.specs.rules.Printers.{IsSaid, HeedsBoth};
-ghost use Rattle.command_words.specs.rules.Reports.{SaysLine, IsAroundTip, obstacle_status};
+ghost use Rattle.command_words.specs.rules.Reports.{SaysLine, obstacle_status};
+ghost use Rattle.command_words.specs.Reports.{IsAroundTip};
 ghost use Rattle.command_words.specs.rules.Reports.{SaysOfOutput, obstacle_words};
 
 use crate::printer::Printer;

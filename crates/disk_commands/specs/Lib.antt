@@ -5,3 +5,4 @@ pub mod ComingUp
 pub mod StatusLines
 pub mod laws
 pub mod rules
+pub mod Watchings

@@ -15,7 +15,8 @@ use Rattle.command_words.specs.rules.Pieces.{lines_of}
 use Rattle.command_words.specs.rules.Printers.{PrinterState, IsPrinted, IsSaid, SaysText}
 use Rattle.command_words.specs.rules.Printers.{HasOneFailed}
 use Rattle.story_commands.specs.rules.Scripts.{IsScript, IsFaultAt}
-use Rattle.story_commands.specs.rules.Stories.{TellsStory, SaysLives, script_line, story_config}
+use Rattle.story_commands.specs.rules.Stories.{TellsStory, script_line, story_config}
+use Rattle.story_commands.specs.Said.{SaysLives}
 
 module _ (script wasm : List ℕ) (sizes : Sizes) (out out' err err' : PrinterState) where
   abbrev pub Says : ℕ → Type 0

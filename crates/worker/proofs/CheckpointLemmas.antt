@@ -26,7 +26,7 @@ use Rattle.worker.specs.declared.fault.WorkFault.{WorkFault}
 use Rattle.worker.specs.rules.WorkFaults.{fault_of_store}
 use Rattle.worker.specs.rules.DurableValues.{DurableValue, durable_of}
 use Rattle.worker.specs.rules.DurableCalls.{CheckpointCarries}
-use Rattle.worker.specs.rules.Savings.{HasSaveCause, LeavesFrontOrNext, SaveFails, SaveCalls}
+use Rattle.worker.specs.Savings.{HasSaveCause, LeavesFrontOrNext, SaveFails, SaveCalls}
 use Rattle.worker.specs.rules.CallCounts.{most_saving}
 use Rattle.worker.specs.rules.Checkpoints.{CheckpointFails, CheckpointCalls, IsSavedIn}
 use Rattle.worker.specs.rules.Checkpoints.{HasCheckpointCause}

@@ -57,7 +57,7 @@ use Rattle.worker.specs.rules.WorkFaults.{fault_of_store}
 use Rattle.worker.specs.rules.DurableValues.{DurableValue}
 use Rattle.worker.specs.rules.DurableCalls.{CallCarries, IsFailureOf, IsReplyOfSaving}
 use Rattle.worker.specs.rules.OpenWorkers.{IsOpenOn, IsOnDisk}
-use Rattle.worker.specs.rules.Savings.{LeavesFrontOrNext, IsSaveFault, SaveFails}
+use Rattle.worker.specs.Savings.{LeavesFrontOrNext, IsSaveFault, SaveFails}
 use Rattle.worker.specs.rules.CallCounts.{most_saving}
 use Rattle.worker.specs.rules.Checkpoints.{IsCheckpointFault, CheckpointFails}
 use Rattle.worker.proofs.CallCountLemmas.{calls_once}

@@ -16,7 +16,7 @@ use Rattle.worker_store.specs.declared.store.WorkerStore.{WorkerStore}
 use Rattle.worker_store.specs.rules.Calls.{LeavesFronts, StoresAll, LeavesOneOfTwo, CommitFails}
 use Rattle.worker_store.specs.rules.Stores.{IsOfStore}
 use Rattle.worker.specs.rules.WorkFaults.{fault_of_store}
-use Rattle.worker.specs.rules.Savings.{SaveFails, HasSaveCause}
+use Rattle.worker.specs.Savings.{SaveFails, HasSaveCause}
 use Rattle.worker.specs.rules.Upgrades.{upgraded}
 use Rattle.worker.specs.StoreTurns.{StoreGoes, StoreStops}
 use Rattle.worker.specs.Upgrading.{AfterFault, BarsAndCommits}

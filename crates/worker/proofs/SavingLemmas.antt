@@ -28,7 +28,7 @@ use Rattle.worker_store.specs.declared.store.WorkerStore.{WorkerStore}
 use Rattle.worker_store.specs.rules.Calls.{LeavesFronts, StoresAll, BarrierFails, LeavesOneOfTwo}
 use Rattle.worker_store.specs.rules.Calls.{StoresNext, CommitCalls, CommitFails}
 use Rattle.worker_store.specs.rules.Stores.{IsStoreOf, IsOfStore}
-use Rattle.worker.specs.rules.Savings.{LeavesFrontOrNext, SaveCalls, IsSaveFault, SaveFails}
+use Rattle.worker.specs.Savings.{LeavesFrontOrNext, SaveCalls, IsSaveFault, SaveFails}
 
 -- ---- moments
 

@@ -36,7 +36,7 @@ use Rattle.worker.specs.declared.running_worker.RunningWorker.{RunningWorker}
 use Rattle.worker.specs.rules.DurableFailures.{HasSliceCause, LacksRoom}
 use Rattle.worker.specs.rules.DurableValues.{DurableValue, durable_of}
 use Rattle.worker.specs.rules.WorkFaults.{fault_of_store}
-use Rattle.worker.specs.rules.Savings.{HasSaveCause}
+use Rattle.worker.specs.Savings.{HasSaveCause}
 use Rattle.worker.specs.rules.SliceCalls.{AreSliceCalls, AreLastCalls, AreBarrierCalls}
 use Rattle.worker.specs.rules.SliceCalls.{SliceCalls, none, barrier, save}
 use Rattle.worker.specs.StoreTurns.{StoreGoes, StoreStops, StoreRuns, StoreSaves}

@@ -47,7 +47,7 @@ use Rattle.worker.specs.declared.running_worker.RunningWorker.{RunningWorker}
 use Rattle.worker.specs.rules.DurableValues.{DurableValue, durable_of}
 use Rattle.worker.specs.rules.DurableCalls.{ComesOf, UpgradeCarries}
 use Rattle.worker.specs.rules.OpenWorkers.{IsOpenOn}
-use Rattle.worker.specs.rules.Savings.{LeavesFrontOrNext, SaveCalls, SaveFails, HasSaveCause}
+use Rattle.worker.specs.Savings.{LeavesFrontOrNext, SaveCalls, SaveFails, HasSaveCause}
 use Rattle.worker.specs.rules.CallCounts.{most_saving}
 use Rattle.worker.specs.rules.Checkpoints.{IsCheckpointFault}
 use Rattle.worker.specs.rules.Upgrades.{upgraded, UpgradeCalls, IsUpgradeFault, LeavesProcess}

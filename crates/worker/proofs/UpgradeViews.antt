@@ -16,7 +16,7 @@ use Rattle.worker.specs.rules.WorkFaults.{fault_of_store}
 use Rattle.worker.specs.rules.CallCounts.{most_saving}
 use Rattle.worker.specs.rules.DurableCalls.{UpgradeCarries}
 use Rattle.worker.specs.rules.DurableValues.{DurableValue, durable_of}
-use Rattle.worker.specs.rules.Savings.{LeavesFrontOrNext, SaveCalls, SaveFails, HasSaveCause}
+use Rattle.worker.specs.Savings.{LeavesFrontOrNext, SaveCalls, SaveFails, HasSaveCause}
 use Rattle.worker.specs.rules.Upgrades.{upgraded, IsUpgradedIn, UpgradeCalls, UpgradeFails}
 use Rattle.worker.specs.rules.Upgrades.{HasUpgradeCause, Migrates, EndsInTwo}
 use Rattle.worker.specs.Upgrading.{MayUpgrade, IsUpgradeRefused, AfterFault, BarsAndCommits}

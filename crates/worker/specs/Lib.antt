@@ -12,3 +12,4 @@ pub mod Endings
 pub mod Going
 pub mod Inspecting
 pub mod Upgrading
+pub mod Savings

@@ -15,7 +15,6 @@ pub mod Outlets
 pub mod Planned
 pub mod RecoverFaults
 pub mod Recoveries
-pub mod Savings
 pub mod ShownDisks
 pub mod SliceCalls
 pub mod StoryDisks

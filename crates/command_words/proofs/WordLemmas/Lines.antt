@@ -22,7 +22,8 @@ use Rattle.clap.specs.declared.builder.value_parser.Reading.TheVariants.{AsWritt
 use Rattle.clap.specs.declared.parser.matches.ValueSource.TheVariants.{DefaultValue}
 use Rattle.clap.specs.declared.error.kind.ErrorKind.TheVariants as kind
 use Rattle.command_words.specs.rules.CommandLine.{wasmhost}
-use Rattle.command_words.specs.rules.Commands.{HasPaths, IsNumberFrom, IsTaken, Meaning, check}
+use Rattle.command_words.specs.rules.Commands.{IsNumberFrom, Meaning, check}
+use Rattle.command_words.specs.Commands.{HasPaths, IsTaken}
 use Rattle.command_words.specs.rules.Commands.{create, create_in, disk_in, flag_in}
 use Rattle.command_words.specs.rules.Commands.{guest_words, meaning_below, module_in, number_or}
 use Rattle.command_words.specs.rules.Commands.{own_words, run, run_in, script_in, show}

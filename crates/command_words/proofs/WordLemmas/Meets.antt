@@ -22,7 +22,8 @@ use Rattle.clap.proofs.WalkLemmas.{first_value-rows, one_text-rows, raw_values-r
 use Rattle.command_words.specs.rules.CommandLine.{wasmhost}
 use Rattle.command_words.specs.rules.Commands.{IsFaultOf, IsNumberFrom}
 use Rattle.command_words.specs.rules.Commands.{IsFlagText, TakesFlag, flag_in}
-use Rattle.command_words.specs.rules.Commands.{IsTaken, IsWordsFault, Meaning}
+use Rattle.command_words.specs.rules.Commands.{IsWordsFault, Meaning}
+use Rattle.command_words.specs.Commands.{IsTaken}
 use Rattle.command_words.specs.rules.Commands.{TakesNumber}
 use Rattle.command_words.specs.rules.Commands.{environment_in, faults_in_words, guest_words}
 use Rattle.command_words.specs.rules.Commands.{meaning_below, meaning_in, number_given}

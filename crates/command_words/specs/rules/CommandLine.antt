@@ -1,12 +1,9 @@
 -- The commands of the program, their arguments and their options.
-use Rattle.std.specs.Prelude.{◌≡◌, ℕ, ◌-◌, ◌^◌, true, false, Some, codes, IsSomeAnd}
-use Rattle.clap.specs.Words.{App, Rule, Text, app_of, is_broken, new_app, new_rule, rule_of}
+use Rattle.std.specs.Prelude.{ℕ, ◌-◌, ◌^◌, true, Some, codes}
+use Rattle.clap.specs.Words.{App, Rule, Text, new_app, new_rule}
 use Rattle.clap.specs.Words.{with_rule, with_subcommand}
 use Rattle.clap.specs.Simple.{on_top}
 use Rattle.clap.specs.declared.builder.action.ArgAction.TheVariants.{Append, Set, SetTrue}
-use Rattle.clap.specs.declared.builder.arg.Arg.{Arg}
-use Rattle.clap.specs.declared.builder.command.Command.TheViews.{out-Command}
-use Rattle.clap.specs.declared.builder.command.Command.{Command}
 use Rattle.clap.specs.declared.builder.value_parser.ValueParser.TheVariants.{Unsigned}
 
 -- ---- arguments and options
@@ -166,11 +163,6 @@ abbrev pub sweep_app : App
 sweep_app = with_rule (with_rule (script_app (codes "sweep")) fronts_rule)
     (number_rule (codes "life") 1)
 
--- What `--version` says of the program: its version, the layout of its disks, and the logic that
--- its proofs are of.
-abbrev pub version_words : Text
-version_words = codes "0.1.0, disk layout 1, logic dac8208d650f15bf"
-
 -- the program, which requires a command, and has a version
 abbrev pub bare_app : App
 bare_app = on_top (λ top. record top { subcommand_required = true; has_version = true })
@@ -194,17 +186,3 @@ wasmhost = with_subcommand (with_subcommand (with_subcommand looks_app upgrade_a
     story_app.top) sweep_app.top
 
 -- ---- what the code makes of them
-
--- the argument has this rule, and belongs to its command alone
-abbrev pub IsArgument : Rule → Arg → Type 0
-IsArgument rule argument = (rule_of argument ≡ rule) × (argument.global ≡ false)
-
--- the command says this of its version
-abbrev pub HasVersion : Text → Command → Type 0
-HasVersion words command =
-    IsSomeAnd (out-Command command).version (λ text. text.now ≡ words)
-
--- the command is this one, whole, and none of its arguments is global
-abbrev pub IsCommand : App → Command → Type 0
-IsCommand app command = (app_of command ≡ app) × (is_broken command ≡ false)
-    × ((out-Command command).has_globals ≡ false)

@@ -1,7 +1,7 @@
 -- The order that the words of a command line give.
 use Rattle.std.specs.Prelude.{◌≡◌, ◌⊎◌, ⊤, ℕ, Bool, List, [], ◌∷◌, true, false, Option}
 use Rattle.std.specs.Prelude.{Some, None, Result, option_map, option_and_then, unwrap_or, slice_get}
-use Rattle.std.specs.Prelude.{if◌then◌else◌, codes, ◌≢◌, ◌-◌, ◌^◌, IfSome, IsSome, MatchResult}
+use Rattle.std.specs.Prelude.{if◌then◌else◌, codes, ◌≢◌, ◌-◌, ◌^◌, IfSome, MatchResult}
 use Rattle.std.specs.Option.{option_map_or}
 use Rattle.std.specs.Int.NonZero.{non_zero_u64_get}
 use Rattle.std.specs.Str.{bytes_eq}
@@ -352,22 +352,6 @@ pub record TakesOptions (rows : List Row) : Type 0 where
   pub device : TakesFlag (codes "device") rows
   pub json : TakesFlag (codes "json") rows
   pub all : TakesFlag (codes "all") rows
-
--- one of the nine commands, with the paths that it needs
-abbrev pub HasPaths : Text → List Row → Type 0
-HasPaths name rows = ((name ≡ codes "check") × IsSome (module_in rows))
-    ⊎ ((name ≡ codes "create") × IsSome (disk_in rows) × IsSome (module_in rows))
-    ⊎ ((name ≡ codes "run") × IsSome (disk_in rows))
-    ⊎ ((name ≡ codes "show") × IsSome (disk_in rows))
-    ⊎ ((name ≡ codes "inspect") × IsSome (disk_in rows))
-    ⊎ ((name ≡ codes "files") × IsSome (disk_in rows))
-    ⊎ ((name ≡ codes "upgrade") × IsSome (disk_in rows))
-    ⊎ ((name ≡ codes "story") × IsSome (script_in rows) × IsSome (module_in rows))
-    ⊎ ((name ≡ codes "sweep") × IsSome (script_in rows) × IsSome (module_in rows))
-
--- such a command, with options whose texts it takes
-abbrev pub IsTaken : Text × List Row → Type 0
-IsTaken met = HasPaths met.0 met.1 × TakesOptions met.1
 
 -- ---- faults
 

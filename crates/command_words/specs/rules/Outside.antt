@@ -1,6 +1,6 @@
 -- Times and random bytes, which no request line gives (this project's own).
 use Rattle.std.specs.Prelude.{◌≡◌, ℕ, ◌+◌, ◌-◌, ◌^◌, ◌<◌, ◌≤◌, ⊤, List, [], ◌∷◌, ◌++◌, length}
-use Rattle.std.specs.Prelude.{Bool, IsTrue, Option, Some, IfSome}
+use Rattle.std.specs.Prelude.{Bool, IsTrue, IfSome}
 use Rattle.wasi_abi.specs.declared.answer.Answer.{Answer}
 use Rattle.wasi_abi.specs.declared.answer.Answer.TheVariants as answer
 use Rattle.process_rules.specs.Runs.{Kept, Given, Wider}
@@ -23,12 +23,6 @@ pub record IsNanoseconds (time n : ℕ) : Type 0 where
 -- a number for a time that the machine's clock has given
 abbrev pub IsRealTime : (ℕ → Bool) → ℕ → Type 0
 IsRealTime gives n = (time : ℕ) × IsTrue (gives time) × IsNanoseconds time n
-
--- where the answer is a time, it is such a one
-abbrev pub ShowsRealTime : (ℕ → Bool) → Option Answer → Type 0
-ShowsRealTime gives (Some (answer.Realtime n)) = IsRealTime gives n
-ShowsRealTime gives (Some (answer.Monotonic n)) = IsRealTime gives n
-ShowsRealTime gives _ = ⊤
 
 -- how many words of the seed an answer takes
 abbrev pub words_in : Answer → ℕ

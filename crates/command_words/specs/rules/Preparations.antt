@@ -1,6 +1,6 @@
 -- With what a creation is prepared, or why there is none (this project's own).
 use Rattle.std.specs.Prelude.{◌≡◌, ⊤, ℕ, false, List, ◌∷◌, Option, codes, length}
-use Rattle.std.specs.Prelude.{None, Result, Ok, Err, IfSome}
+use Rattle.std.specs.Prelude.{None, IfSome}
 use Rattle.wasi_abi.specs.rules.Configs.{Settings, settings, AreSettingsWithinLimits, HasTexts}
 use Rattle.wasi_abi.specs.rules.Configs.{IsInRange}
 use Rattle.wasm_decode.specs.declared.items.limit.PassedLimit.{PassedLimit}
@@ -52,11 +52,6 @@ IsUnaccepted pages bytes (unprepared.Text unnamed) = ⊥
 IsUnaccepted pages bytes (unprepared.Module why) =
     (is_want why ≡ false) × IsReported pages bytes why × HasNoAcceptedModule pages bytes
 IsUnaccepted pages bytes unprepared.Memory = ⊤
-
--- a configuration with the sectors of its worker, or why there is none
-abbrev pub prepared_with : Settings → Result ℕ Unprepared → Result Prepared Unprepared
-prepared_with config (Ok sectors) = Ok (record { config = config; sectors = sectors })
-prepared_with config (Err why) = Err why
 
 -- The configuration is these settings, within their limits, and the module is measured.
 pub record IsPreparedAs (config : Settings) (bytes : List ℕ) (prepared : Prepared) : Type 0 where

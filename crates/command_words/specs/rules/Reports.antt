@@ -47,8 +47,3 @@ abbrev pub SaysOfOutput : Bool → ℕ → PrinterState → ℕ → PrinterState
 SaysOfOutput true status err answered err' =
     SaysLine (obstacle_words obstacle.Unwritten) 7 err answered err'
 SaysOfOutput false status err answered err' = (answered ≡ status) × (err' ≡ err)
-
--- The text is these two with a tip between them: to write after `--` what begins with a hyphen.
-abbrev pub IsAroundTip : List ℕ → List ℕ → List ℕ → Type 0
-IsAroundTip text before behind = (tip : List ℕ) × (text
-    ≡ before ++ (codes "\n\n  tip: to pass '-" ++ (tip ++ (codes "\n\n" ++ behind))))

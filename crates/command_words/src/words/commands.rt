@@ -1,7 +1,8 @@
 //! The commands of the program, as `clap` is told of them.
 
 ghost use Rattle.std.specs.Prelude.{IfOk, codes};
-ghost use Rattle.command_words.specs.rules.CommandLine.{IsArgument, IsCommand, all_rule, bare_app};
+ghost use Rattle.command_words.specs.rules.CommandLine.{all_rule, bare_app};
+ghost use Rattle.command_words.specs.CommandLine.{IsArgument, IsCommand};
 ghost use Rattle.command_words.specs.rules.CommandLine.{bare_create_app, bare_script_app};
 ghost use Rattle.command_words.specs.rules.CommandLine.{check_app, create_app, device_rule};
 ghost use Rattle.command_words.specs.rules.CommandLine.{disk_app};
@@ -16,7 +17,7 @@ ghost use Rattle.command_words.specs.rules.CommandLine.{sized_create_app, story_
 ghost use Rattle.command_words.specs.rules.CommandLine.{files_app, inspect_app, json_rule};
 ghost use Rattle.command_words.specs.rules.CommandLine.{last_rule, looks_app, upgrade_app};
 ghost use Rattle.command_words.specs.rules.CommandLine.{verbose_rule, wasmhost};
-ghost use Rattle.command_words.specs.rules.CommandLine.{HasVersion, version_words};
+ghost use Rattle.command_words.specs.CommandLine.{HasVersion, version_words};
 
 use clap::{Arg, ArgAction, Command, value_parser};
 use std::alloc::{AllocError, Global};

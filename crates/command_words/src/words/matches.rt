@@ -4,7 +4,8 @@ ghost use Rattle.std.specs.Prelude.{◌≡◌, ◌<◌, ◌≤◌, IfOk, IsSome,
 ghost use Rattle.std.specs.Int.NonZero.{non_zero_u64_get};
 ghost use Rattle.clap.specs.Words.{first_of, found_of, rows_of};
 ghost use Rattle.command_words.specs.rules.Texts.{texts_in};
-ghost use Rattle.command_words.specs.rules.Commands.{IsTaken, TakesFlag, TakesNumber};
+ghost use Rattle.command_words.specs.rules.Commands.{TakesFlag, TakesNumber};
+ghost use Rattle.command_words.specs.Commands.{IsTaken};
 ghost use Rattle.command_words.specs.rules.Commands.{TakesOptions, create_in, create_said};
 ghost use Rattle.command_words.specs.rules.Commands.{environment_in, flag_in, meaning_below};
 ghost use Rattle.command_words.specs.rules.Commands.{meaning_of, number_given, number_or};

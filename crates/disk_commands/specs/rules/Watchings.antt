@@ -1,5 +1,5 @@
 -- Where a worker is, for whoever watches a run (this project's own).
-use Rattle.std.specs.Prelude.{◌≡◌, ◌≢◌, ◌⊎◌, ⊤, ◌+◌, ◌≤◌, ◌<◌, ◌^◌, ℕ, Bool, IsTrue, List, ◌++◌}
+use Rattle.std.specs.Prelude.{◌≡◌, ◌≢◌, ◌+◌, ◌<◌, ◌^◌, ℕ, Bool, IsTrue, List, ◌++◌}
 use Rattle.std.specs.Prelude.{Option, None, Some, IfSome, codes}
 use Rattle.process.specs.declared.stop.ProcessEnd.TheVariants as end
 use Rattle.process.specs.rules.Values.{ending_of, lines_in}
@@ -35,12 +35,6 @@ abbrev pub watch_line : DurableValue → Now → List ℕ
 watch_line w said =
     status_line w.store.journal.generation w.process.steps w.process.answers (lines_in w.process)
     (Some w.process.requests) said
-
--- A worker that runs on is told again: half a second after the last time, and where no time is
--- known, or the clock has gone back. Times are in nanoseconds.
-abbrev pub IsDue : Option ℕ → ℕ → Type 0
-IsDue (Some last) now = (now < last) ⊎ (last + 500000000 ≤ now)
-IsDue None now = ⊤
 
 -- an exit code has 32 bits
 abbrev pub HasCodeInRange : Now → Type 0

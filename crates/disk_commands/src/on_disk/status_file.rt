@@ -20,7 +20,8 @@ ghost use Rattle.command_words.specs.rules.Reports.{SaysLine};
 ghost use Rattle.disk_commands.specs.rules.StatusFiles.{HasFoundFree, IsFreePath, IsWatchable};
 ghost use Rattle.disk_commands.specs.rules.StatusFiles.{SaysTaken, SaysUnwatched, beside};
 ghost use Rattle.disk_commands.specs.rules.StatusFiles.{found_words};
-ghost use Rattle.disk_commands.specs.rules.Watchings.{IsDue, watch_line};
+ghost use Rattle.disk_commands.specs.rules.Watchings.{watch_line};
+ghost use Rattle.disk_commands.specs.Watchings.{IsDue};
 
 use crate::on_disk::found_file::FoundFile;
 use crate::on_disk::opening::report_unread;

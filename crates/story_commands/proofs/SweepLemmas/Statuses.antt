@@ -16,8 +16,10 @@ use Rattle.story_commands.specs.declared.stories.fault.ScriptFault.{ScriptFault}
 use Rattle.story_commands.specs.declared.stories.fault.ScriptFault.TheVariants as unread
 use Rattle.story_commands.specs.rules.Sweeps.{AreCompared, AreSweptLives, HasFailedPlan}
 use Rattle.story_commands.specs.rules.Sweeps.{IsDoneAgain, IsSwept}
-use Rattle.story_commands.specs.rules.SweepTexts.{IsOfScript, IsUnsweepable, SaysDifference}
-use Rattle.story_commands.specs.rules.SweepTexts.{SaysPlan, SaysScriptFault, SaysSwept}
+use Rattle.story_commands.specs.rules.SweepTexts.{IsOfScript, IsUnsweepable}
+use Rattle.story_commands.specs.Said.{SaysDifference}
+use Rattle.story_commands.specs.rules.SweepTexts.{SaysScriptFault}
+use Rattle.story_commands.specs.Said.{SaysPlan, SaysSwept}
 use Rattle.story_commands.specs.rules.SweepTexts.{TellsSweep, no_upgrade_line}
 use Rattle.story_commands.specs.declared.sweeping.fault.SweepFault.{SweepFault}
 use Rattle.story_commands.specs.declared.sweeping.fault.SweepFault.TheVariants as fault

@@ -6,7 +6,7 @@ use Rattle.command_words.specs.rules.Reports.{SaysLine, obstacle_words}
 use Rattle.story_commands.specs.declared.sweeping.fault.SweepFault.{SweepFault}
 use Rattle.story_commands.specs.declared.sweeping.fault.SweepFault.TheVariants as fault
 use Rattle.story_commands.specs.declared.sweeping.whole_sweep.Swept.{Swept}
-use Rattle.story_commands.specs.rules.SweepTexts.{SaysDifference, SaysPlan, SaysSwept}
+use Rattle.story_commands.specs.Said.{SaysDifference, SaysPlan, SaysSwept}
 use Rattle.story_commands.specs.rules.SweepTexts.{no_upgrade_line}
 
 -- What is printed on the two outputs, and the exit status. Where a person couldn't be shown how far

@@ -25,7 +25,7 @@ use Rattle.wasi_abi.specs.rules.Configs.{Settings}
 use Rattle.command_words.specs.rules.Preparations.{IsPreparedAs, IsUnprepared, config_as}
 use Rattle.command_words.specs.rules.Preparations.{status_unprepared}
 use Rattle.command_words.specs.rules.Pieces.{lines_of}
-use Rattle.command_words.specs.rules.Printers.{PrinterState, IsPrinted, HasOneFailed, HeedsBoth}
+use Rattle.command_words.specs.rules.Printers.{PrinterState, HeedsBoth}
 use Rattle.command_words.specs.rules.Texts.{named_number}
 use Rattle.command_words.specs.rules.Texts.{printed}
 use Rattle.story_commands.specs.rules.Scripts.{IsScript, IsFaultAt}
@@ -111,14 +111,6 @@ pub record IsStoryPrinted (script wasm : List ℕ) (sizes : Sizes) (out out' : O
   pub reports : List LifeReport
   pub tells : TellsLives wasm (story_config sizes) lives reports
   pub printed_whole : Appends out out' (story_text 1 reports)
-
--- the text of these lives is printed, or memory is wanted for it, or a write has failed
-abbrev pub SaysLives : List LifeReport → PrinterState → PrinterState → PrinterState → PrinterState
-    → ℕ → Type 0
-SaysLives reports out out' err err' status =
-    ((status ≡ 0) × IsPrinted out out' (story_text 1 reports) × (err' ≡ err))
-    ⊎ ((status ≡ 5) × (out' ≡ out) × (err'.failed ≡ err.failed))
-    ⊎ ((status ≡ 7) × HasOneFailed out' err')
 
 -- A line of the script is faulty, and its number is told.
 pub record IsLineReported (script : List ℕ) (err err' : Option (List ℕ)) : Type 0 where

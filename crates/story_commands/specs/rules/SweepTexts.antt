@@ -1,6 +1,6 @@
 -- What `wasmhost sweep` prints, and what its exit status says (this project's own).
 use Rattle.std.specs.Prelude.{◌≡◌, ◌⊎◌, ℕ, ◌==◌, ◌%◌, nat_lt, if◌then◌else◌, List, [], ◌∷◌, ◌++◌}
-use Rattle.std.specs.Prelude.{length, Option, codes, true}
+use Rattle.std.specs.Prelude.{length, Option, codes}
 use Rattle.std.specs.Fmt.{decimal}
 use Rattle.std.specs.Io.KnownBytes.{Appends}
 use Rattle.wasi_abi.specs.rules.Answers.{newline}
@@ -11,8 +11,8 @@ use Rattle.command_words.specs.declared.preparing.Prepared.{Prepared}
 use Rattle.command_words.specs.rules.Preparations.{IsPreparedAs}
 use Rattle.command_words.specs.rules.Pieces.{lines_of}
 use Rattle.command_words.specs.declared.telling.Obstacle.TheVariants.{NoLife}
-use Rattle.command_words.specs.rules.Printers.{PrinterState, IsPrinted, IsSaid, SaysText}
-use Rattle.command_words.specs.rules.Printers.{HasOneFailed, HeedsBoth}
+use Rattle.command_words.specs.rules.Printers.{PrinterState, IsSaid, SaysText}
+use Rattle.command_words.specs.rules.Printers.{HeedsBoth}
 use Rattle.command_words.specs.rules.Reports.{SaysLine, obstacle_words}
 use Rattle.command_words.specs.rules.Texts.{named_number}
 use Rattle.story_commands.specs.rules.Stories.{error_name, script_line, story_config}
@@ -65,30 +65,6 @@ pub record IsSweepDone (script wasm : List ℕ) (sizes : Sizes) (fronts : List �
   pub count : ℕ
   pub swept : IsSwept wasm (story_config sizes) lives place fronts cuts count
   pub printed_whole : Appends out out' (swept_line cuts count)
-
--- the line is printed, or memory is wanted for it, or a write has failed
-abbrev pub SaysSwept : ℕ → ℕ → PrinterState → PrinterState → PrinterState → PrinterState → ℕ
-    → Type 0
-SaysSwept cuts lines out out' err err' status =
-    ((status ≡ 0) × IsPrinted out out' (swept_line cuts lines) × (err' ≡ err))
-    ⊎ ((status ≡ 5) × (out' ≡ out) × (err'.failed ≡ err.failed))
-    ⊎ ((status ≡ 7) × HasOneFailed out' err')
-
--- lives that differ are told, or memory is wanted for that, or a write has failed
-abbrev pub SaysDifference : PrinterState → PrinterState → PrinterState → PrinterState → ℕ
-    → Type 0
-SaysDifference out out' err err' status =
-    ((status ≡ 1) × (out'.failed ≡ out.failed) × (err'.failed ≡ err.failed))
-    ⊎ ((status ≡ 5) × (out' ≡ out) × (err'.failed ≡ err.failed))
-    ⊎ ((status ≡ 7) × HasOneFailed out' err')
-
--- The line of a plan that can't be run to its end is printed. Or memory is wanted for it, or a
--- write has failed.
-abbrev pub SaysPlan : ℕ → RecoverFault → PrinterState → PrinterState → ℕ → Type 0
-SaysPlan number why err err' status =
-    ((status ≡ 2) × IsPrinted err err' (plan_line number why))
-    ⊎ ((status ≡ 5) × (err'.failed ≡ err.failed))
-    ⊎ ((status ≡ 7) × (err'.failed ≡ true))
 
 -- what is wrong with a script is printed, or memory is wanted for it
 abbrev pub SaysScriptFault : PrinterState → ℕ → PrinterState → Type 0

@@ -4,7 +4,8 @@ ghost use Rattle.std.specs.Prelude.{◌≡◌, ◌≤◌, ℕ, IfOk};
 ghost use Rattle.command_words.specs.rules.Printers.{IsSaid, SaysText};
 ghost use Rattle.story_commands.specs.declared.stories.fault.ScriptFault.TheVariants.{Line};
 ghost use Rattle.story_commands.specs.declared.stories.fault.ScriptFault.TheVariants.{Memory};
-ghost use Rattle.story_commands.specs.rules.Stories.{SaysLives, TellsStory, script_line};
+ghost use Rattle.story_commands.specs.rules.Stories.{TellsStory, script_line};
+ghost use Rattle.story_commands.specs.Said.{SaysLives};
 ghost use Rattle.story_commands.specs.rules.Stories.{story_text};
 
 use crate::stories::fault::ScriptFault;

@@ -1,7 +1,7 @@
 //! The command, from a script to an exit status.
 
 ghost use Rattle.std.specs.Prelude.{◌≡◌, ◌≤◌, IfOk};
-ghost use Rattle.story_commands.specs.rules.SweepTexts.{SaysDifference, SaysPlan, SaysSwept};
+ghost use Rattle.story_commands.specs.Said.{SaysDifference, SaysPlan, SaysSwept};
 ghost use Rattle.story_commands.specs.rules.SweepTexts.{TellsSweep, plan_line, swept_line};
 ghost use Rattle.story_commands.specs.laws.SweepEnds.{SaysEnd};
 

@@ -42,7 +42,7 @@ use Rattle.worker.specs.declared.fault.WorkFault.{WorkFault}
 use Rattle.worker.specs.declared.fault.WorkFault.TheVariants.{Work, Disk, Store, Upgrade}
 use Rattle.worker.specs.declared.running_worker.RunningWorker.{RunningWorker}
 use Rattle.worker.specs.rules.DurableCalls.{HasCauseAt}
-use Rattle.worker.specs.rules.Savings.{IsSaveFault}
+use Rattle.worker.specs.Savings.{IsSaveFault}
 use Rattle.worker.specs.rules.DurableValues.{durable_of}
 use Rattle.worker.specs.rules.OpenWorkers.{IsOnDisk, IsAbreast, IsOpenOn}
 use Rattle.worker.specs.DurableTurns.{Course, IsRunningOn, TurnEnds, slice_end}

@@ -39,7 +39,7 @@ use Rattle.worker.specs.declared.running_worker.RunningWorker.{RunningWorker}
 use Rattle.worker.specs.rules.WorkFaults.{fault_of_store}
 use Rattle.worker.specs.rules.DurableCalls.{ComesOf, HasCauseAt}
 use Rattle.worker.specs.rules.OpenWorkers.{IsOnDisk}
-use Rattle.worker.specs.rules.Savings.{LeavesFrontOrNext, IsSaveFault, SaveFails}
+use Rattle.worker.specs.Savings.{LeavesFrontOrNext, IsSaveFault, SaveFails}
 use Rattle.worker.specs.DurableTurns.{Course, IsAskingOn, HasRoom, MakesRoom}
 use Rattle.worker.specs.DurableTurns.{MakesNoRoom}
 use Rattle.worker.specs.DurableTurns.{TurnFails, slice_end}

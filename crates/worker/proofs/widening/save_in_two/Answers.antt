@@ -5,7 +5,7 @@ use Rattle.wasi_abi.specs.declared.numbers.TheConstants.{NUMBERS_END}
 use Rattle.sector_disk.proofs.Moments.{goes_on}
 use Rattle.worker_store.specs.declared.store.WorkerStore.{WorkerStore}
 use Rattle.process.specs.rules.Values.{ProcessValue, IsProcess}
-use Rattle.worker.specs.rules.Savings.{SaveCalls, HasSaveCause}
+use Rattle.worker.specs.Savings.{SaveCalls, HasSaveCause}
 use Rattle.worker.specs.rules.Upgrades.{upgraded}
 use Rattle.worker.specs.Upgrading.{AfterFault}
 use Rattle.worker.proofs.SavingLemmas.{barrier_saves, commit_saves, commit_saved}

@@ -2,7 +2,7 @@ use Rattle.std.proofs.Common.{List, subst}
 use Rattle.worker.specs.declared.story.life.PlannedLife.{PlannedLife}
 use Rattle.worker.specs.declared.story.report.LifeReport.{LifeReport}
 use Rattle.worker.specs.rules.StoryDisks.{TellsLives}
-use Rattle.story_commands.specs.rules.Stories.{SaysLives}
+use Rattle.story_commands.specs.Said.{SaysLives}
 use Rattle.story_commands.proofs.TellingLemmas.{lives_told}
 use Rattle.story_commands.proofs.stories.telling.tell.Goals as goal
 

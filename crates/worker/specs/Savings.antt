@@ -1,5 +1,4 @@
--- What a barrier and a commit, one after the other, do to a store and its disk (this project's
--- own).
+-- What a barrier and a commit, one after the other, do to a store and its disk.
 use Rattle.std.specs.Prelude.{◌≡◌, ◌⊎◌, ◌+◌, ◌-◌, ◌*◌, ◌<◌, ◌≤◌, true, List, ◌++◌, length, Result}
 use Rattle.wasm_syntax.specs.declared.module.Module.{Module}
 use Rattle.wasi_abi.specs.declared.numbers.TheConstants.{NUMBERS_END}

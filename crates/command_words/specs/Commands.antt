@@ -1,0 +1,23 @@
+-- Which words a command takes.
+use Rattle.std.specs.Prelude.{◌≡◌, ◌⊎◌, List}
+use Rattle.std.specs.Prelude.{codes, IsSome}
+use Rattle.clap.specs.Words.{Row, Text}
+use Rattle.clap.specs.declared.error.ErrorKind.TheVariants as kind
+use Rattle.command_words.specs.declared.words.WordsFault.TheVariants as fault
+use Rattle.command_words.specs.rules.Commands.{disk_in, module_in, script_in, TakesOptions}
+
+-- one of the nine commands, with the paths that it needs
+abbrev pub HasPaths : Text → List Row → Type 0
+HasPaths name rows = ((name ≡ codes "check") × IsSome (module_in rows))
+    ⊎ ((name ≡ codes "create") × IsSome (disk_in rows) × IsSome (module_in rows))
+    ⊎ ((name ≡ codes "run") × IsSome (disk_in rows))
+    ⊎ ((name ≡ codes "show") × IsSome (disk_in rows))
+    ⊎ ((name ≡ codes "inspect") × IsSome (disk_in rows))
+    ⊎ ((name ≡ codes "files") × IsSome (disk_in rows))
+    ⊎ ((name ≡ codes "upgrade") × IsSome (disk_in rows))
+    ⊎ ((name ≡ codes "story") × IsSome (script_in rows) × IsSome (module_in rows))
+    ⊎ ((name ≡ codes "sweep") × IsSome (script_in rows) × IsSome (module_in rows))
+
+-- such a command, with options whose texts it takes
+abbrev pub IsTaken : Text × List Row → Type 0
+IsTaken met = HasPaths met.0 met.1 × TakesOptions met.1
