@@ -13,7 +13,7 @@ use Rattle.guest_memory.proofs.ByteLemmas.{number_of-bytes_of}
 use Rattle.wasi_abi.specs.rules.Layouts.{u16_bytes, u64_bytes, padding}
 use Rattle.sector_disk.specs.rules.DiskImage.{front_over}
 use Rattle.disk_layout.specs.rules.Sectors.{stamp_of, stamp_bytes, shown_generation}
-use Rattle.disk_layout.specs.rules.Journal.{journal_sector, used_length, is_of}
+use Rattle.disk_layout.specs.rules.Journal.{journal_sector, used_length, is_of, payload_of_sector}
 use Rattle.disk_layout.specs.laws.Laws.{IsTornStamp}
 use Rattle.disk_layout.proofs.FieldLemmas.{stamp_laid, stamp_again}
 use Rattle.disk_layout.proofs.StampLemmas.{shows_earlier, all_append, shows_there}
@@ -131,10 +131,6 @@ same_payload n s t le e = sym (within n s le) ∙ ap (λ l. part l 2 n) e ∙ wi
   where
     within : (n : ℕ) (s : List ℕ) → n ≤ 494 → part (take 496 s) 2 n ≡ part s 2 n
     within n s le = ap (λ l. take n l) (drop-take 2 494 s) ∙ take-take n 494 (drop 2 s) le
-
--- a sector's payload, as far as it is used
-abbrev pub payload_of_sector : List ℕ → List ℕ
-payload_of_sector sector = part sector 2 (used_length sector)
 
 pub same_payload_of : (s t : List ℕ) → take 496 s ≡ take 496 t → used_length t ≤ 494
     → payload_of_sector s ≡ payload_of_sector t

@@ -5,7 +5,8 @@ use Rattle.std.proofs.lemmas.Bool.{cond-true, le-leb, lt-leb}
 use Rattle.std.proofs.lemmas.List.{take_all}
 use Rattle.wasi_abi.specs.declared.answer.Answer.TheVariants as answer
 use Rattle.wasi_abi.specs.declared.version.Version.TheVariants.{One, Two}
-use Rattle.disk_layout.specs.rules.Journal.{answer_if, answer_of, record_at, TakesRecords}
+use Rattle.disk_layout.specs.rules.Journal.{TakesRecords}
+use Rattle.disk_layout.specs.Scanned.{answer_if, answer_of, record_at}
 use Rattle.disk_layout.specs.laws.RecordExamples.{RecordExamples, at_258, front_of_long}
 use Rattle.disk_layout.specs.laws.RecordExamples.{wide_front_of, JournalsHaveRoom}
 

@@ -35,7 +35,7 @@
 //! # Definitions to read
 //!
 //! In `specs/rules/`: `geometry_of` (`Places.antt`); `super_bytes`, `head_bytes`, `IsNewest`,
-//! `HoldsProcessImage` (`Sectors.antt`); `record_bytes`, `scan` (`Journal.antt`);
+//! `HoldsProcessImage` (`Sectors.antt`); `record_bytes`, `is_of` (`Journal.antt`);
 //! `contents_sectors` (`Contents.antt`); `FindsStored` (`Stored.antt`); `GivesContents`
 //! and `HasDamage` (`Held.antt`).
 //!

@@ -1,5 +1,5 @@
 -- A barrier, on what a cut may leave.
-use Rattle.std.proofs.Common.{◌≡◌, ◌≤◌, ◌<◌, ◌+◌, ◌^◌, ℕ, zero, suc, ◌-◌, List, [], ◌∷◌, ◌++◌}
+use Rattle.std.proofs.Common.{◌≡◌, ◌≤◌, ◌<◌, ◌+◌, ◌^◌, ℕ, ◌-◌, List, [], ◌∷◌, ◌++◌}
 use Rattle.std.proofs.Common.{Bool, false, length, take, drop, refl, sym, ap, ◌∙◌, subst, arith}
 use Rattle.std.proofs.lemmas.List.{append-nil, take_all, drop_all}
 use Rattle.std.proofs.lemmas.Grind.{flat_map-append}
@@ -10,33 +10,34 @@ use Rattle.sector_disk.proofs.Moments.{started, weaker, leaves_only, shows_crash
 use Rattle.wasi_abi.specs.declared.version.Version.{Version}
 use Rattle.disk_layout.specs.rules.Places.{Geometry, journal_place, total_sectors}
 use Rattle.disk_layout.specs.rules.Journal.{Record, record_bytes}
+use Rattle.disk_layout.specs.rules.Stored.{OnlyReads}
 use Rattle.disk_layout.proofs.JournalLemmas.{length-journal_sector}
 use Rattle.journal.specs.rules.Packed.{packed, sectors_for}
 use Rattle.journal.specs.rules.State.{state}
 use Rattle.journal.specs.rules.Steps.{HoldsBytes, HoldsRecords, AppendsFront, IsOn, records_bytes}
-use Rattle.journal.specs.laws.Laws.{FreshHoldsNone, ScansWhatIsHeld, ScansNoneOfLater}
 use Rattle.journal.proofs.PackedLemmas.{packed_at}
-use Rattle.journal.proofs.RunLemmas.{IsRun, all_bytes, none_after, is_new, front_of_kept}
-use Rattle.journal.proofs.RunLemmas.{none_later, others_same, holds_all}
-use Rattle.journal.proofs.RecordLemmas.{scan_of}
+use Rattle.journal.proofs.RunLemmas.{IsRun, none_after, is_new, front_of_kept}
+use Rattle.journal.proofs.RunLemmas.{none_later, others_same, holds_all, still_clean}
+use Rattle.journal.proofs.HeldLemmas.{all_bytes, ends_where_clean, front_held}
 
 module _ (geometry : Geometry) (v : Version) (g used : ℕ) (bytes : List ℕ)
     (records kept : List Record) (old : Medium)
-    (on : IsOn geometry v g used bytes records kept old.crash_images)
-    (size : total_sectors geometry ≤ old.sectors) where
+    (on : IsOn geometry v g used bytes records kept old.crash_images) where
   -- where nothing is written
   stays_so : (image : DiskImage) → old.crash_images image
       → AppendsFront geometry v g used records kept image image
   stays_so image crashed =
       let holds = on.holds_records image crashed in
-      let all = all_bytes geometry g used (records_bytes v records) image holds in
-      let front = scan_of v geometry image g 0 records kept on.fit on.fit_kept (all
+      let all = all_bytes geometry g used (records_bytes v records) image holds.holds_bytes
+      (ends_where_clean geometry g used image holds.clean) in
+      let front = front_held geometry v g image 0 records kept on.fit on.fit_kept (all
       ∙ sym (append-nil (records_bytes v records))) in
       record {
         count = front.0;
         within = front.1;
-        scanned = front.2;
-        none_later = none_after geometry g used (records_bytes v records) image holds;
+        in_journal = front.2;
+        none_later = none_after geometry g used (records_bytes v records) image
+            holds.holds_bytes holds.clean;
         others = record { count = refl; below = λ k lt. refl; above = λ k le. refl };
       }
 
@@ -55,21 +56,35 @@ module _ (geometry : Geometry) (v : Version) (g used : ℕ) (bytes : List ℕ)
       ∙ ap (λ l. records_bytes v records ++ l) (sym on.spells)
       ∙ ap (λ l. records_bytes v records ++ l) (nil bytes none)
       ∙ append-nil (records_bytes v records) in
-      subst (λ (l : List ℕ). HoldsBytes geometry g used l image) (sym empty) holds
+      record {
+        holds_bytes = subst (λ (l : List ℕ). HoldsBytes geometry g used l image) (sym empty)
+            holds.holds_bytes;
+        clean = holds.clean;
+      }
     where
       nil : (l : List ℕ) → length l ≡ 0 → l ≡ []
       nil [] e = refl
       nil (x ∷ l) e = absurd (omega arith)
 
-  module _ (room : used + sectors_for (length bytes) ≤ geometry.journal_sectors)
+  -- nor where the disk is only read
+  pub only_read : (new : Medium) → OnlyReads old new
+      → LeavesOnly old new (After (AppendsFront geometry v g used records kept) old.crash_images)
+  only_read new reads =
+      leaves_weaker old new old.crash_images _ reads.leaves (λ image crashed.
+      (image, crashed, stays_so image crashed))
+
+  module _ (size : total_sectors geometry ≤ old.sectors)
+      (room : used + sectors_for (length bytes) ≤ geometry.journal_sectors)
       (bound : geometry.journal_sectors < 2 ^ 32) where
     run_of : (image : DiskImage) → old.crash_images image
         → IsRun geometry g used (sectors_for (length bytes)) (records_bytes v records) bytes image
     run_of image crashed =
         let is = old.is_disk_image image crashed in
         let full = is.full in
+        let holds = on.holds_records image crashed in
         record {
-          holds_bytes = on.holds_records image crashed;
+          holds_bytes = holds.holds_bytes;
+          clean = holds.clean;
           count = refl;
           room = room;
           full = λ k lt. full (journal_place geometry + k) (omega arith);
@@ -87,12 +102,12 @@ module _ (geometry : Geometry) (v : Version) (g used : ℕ) (bytes : List ℕ)
         let run = run_of old_image crashed in
         let front = front_of_kept geometry g used n (records_bytes v records) bytes old_image
         new_image run torn in
-        let scanned = scan_of v geometry new_image g front.0 records kept on.fit on.fit_kept
+        let held = front_held geometry v g new_image front.0 records kept on.fit on.fit_kept
         (front.1 ∙ ap (λ l. records_bytes v records ++ take front.0 l) on.spells) in
         record {
-          count = scanned.0;
-          within = scanned.1;
-          scanned = scanned.2;
+          count = held.0;
+          within = held.1;
+          in_journal = held.2;
           none_later =
               none_later geometry g used n (records_bytes v records) bytes old_image new_image run
               torn;
@@ -164,10 +179,15 @@ module _ (geometry : Geometry) (v : Version) (g used : ℕ) (bytes : List ℕ)
         let torn = torn_of_written was.0 image before written in
         let all = holds_all geometry g used n (records_bytes v records) bytes was.0 image run torn
         written.each in
+        let clean = still_clean geometry g used n (records_bytes v records) bytes was.0 image run
+        torn written.each in
         let spelled : records_bytes v records ++ bytes ≡ records_bytes v (records ++ kept) =
         ap (λ l. records_bytes v records ++ l) on.spells
         ∙ sym (flat_map-append (record_bytes v) records kept) in
-        subst (λ (l : List ℕ). HoldsBytes geometry g (used + n) l image) spelled all
+        record {
+          holds_bytes = subst (λ (l : List ℕ). HoldsBytes geometry g (used + n) l image) spelled all;
+          clean = clean;
+        }
 
 -- the same of values that are these
 pub any_moment_at : (geometry : Geometry) (v : Version) (g used : ℕ) (bytes : List ℕ)
@@ -243,29 +263,3 @@ goes old new P leaves = weaker old new P (λ _. Unit {0}) leaves.passes (λ imag
 
 pub goes_not : (m : Medium) → Passes m m (λ _. Unit {0})
 goes_not m = started m (λ _. Unit {0})
-
--- ---- laws
-
-pub fresh_holds_none : FreshHoldsNone
-fresh_holds_none geometry v g image earlier =
-    record {
-      within = omega arith;
-      written = λ k lt. absurd (omega arith);
-      holds = refl;
-      clean = λ k le lt. earlier k lt;
-    }
-
-pub scans_what_is_held : ScansWhatIsHeld
-scans_what_is_held geometry v g used records image holds fit =
-    let front = scan_of v geometry image g 0 records [] fit tt
-    (all_bytes geometry g used (records_bytes v records) image holds
-    ∙ sym (append-nil (records_bytes v records))) in
-    front.2 ∙ ap (λ l. records ++ l) (none front.0) ∙ append-nil records
-  where
-    none : (k : ℕ) → take k (let l : List Record = [] in l) ≡ []
-    none zero = refl
-    none (suc k) = refl
-
-pub scans_none_of_later : ScansNoneOfLater
-scans_none_of_later geometry v g image earlier =
-    scans_what_is_held geometry v g 0 [] image (fresh_holds_none geometry v g image earlier) tt

@@ -1,13 +1,14 @@
 -- How many sectors of a journal are filled.
-use Rattle.std.proofs.Common.{◌≡◌, ℕ, zero, suc, ◌+◌, ◌-◌, ◌<◌, ◌≤◌, true, false}
+use Rattle.std.proofs.Common.{◌≡◌, ℕ, zero, suc, ◌+◌, ◌-◌, ◌<◌, ◌≤◌, true, false, List}
 use Rattle.std.proofs.Common.{refl, ap, ◌∙◌, subst, ⊎_elim, arith}
 use Rattle.std.proofs.lemmas.Bool.{cases_lt, cond-true, cond-false}
 use Rattle.sector_disk.specs.rules.DiskImage.{DiskImage, sector_at}
-use Rattle.disk_layout.specs.rules.Places.{journal_place}
+use Rattle.disk_layout.specs.rules.Places.{Geometry, journal_place}
 use Rattle.disk_layout.specs.rules.Journal.{is_of}
-use Rattle.disk_layout.proofs.JournalLemmas.{is_of_other}
-use Rattle.journal.specs.rules.Filled.{filled_from}
-use Rattle.journal.specs.laws.Filled.{FillsWhatIsHeld}
+use Rattle.journal.specs.rules.Filled.{filled_from, sectors_filled}
+use Rattle.journal.specs.rules.Steps.{HoldsBytes, records_bytes}
+use Rattle.journal.specs.laws.Filled.{FillsWhatIsStored, FillsWhatIsHeld}
+use Rattle.journal.proofs.HeldLemmas.{EndsAt, ends_where_clean}
 
 -- the first n sectors from s on, whose places are counted from p, are of generation g
 abbrev pub AreOn : DiskImage → ℕ → ℕ → ℕ → ℕ → Type 0
@@ -88,16 +89,25 @@ one_more_on image g s k on here i lt =
     subst (λ (n : ℕ). is_of g (1 + n) (sector_at image (s + n)) ≡ true) e here)
     (cases_lt i k)
 
-pub fills_what_is_held : FillsWhatIsHeld
-fills_what_is_held geometry v g used records image holds =
+fills : (geometry : Geometry) (g used : ℕ) (bytes : List ℕ) (image : DiskImage)
+    → HoldsBytes geometry g used bytes image → EndsAt geometry g used image
+    → sectors_filled geometry image g ≡ used
+fills geometry g used bytes image holds ends =
     ⊎_elim
     (λ (more : used < geometry.journal_sectors).
-    let earlier = holds.clean used (omega arith) more in
     filled_up_to image g (journal_place geometry) 1 used geometry.journal_sectors holds.within
-    holds.written (is_of_other g (1 + used) (sector_at image (journal_place geometry + used))
-    (λ e. absurd (omega arith))))
+    holds.written (ends more))
     (λ (whole : geometry.journal_sectors ≤ used).
     let same : geometry.journal_sectors ≡ used = omega (arith, holds.within) in
     ap (λ n. filled_from image g (journal_place geometry) 1 n) same
     ∙ filled_all image g (journal_place geometry) 1 used holds.written)
     (cases_lt used geometry.journal_sectors)
+
+pub fills_what_is_stored : FillsWhatIsStored
+fills_what_is_stored geometry v g used records image holds =
+    fills geometry g used (records_bytes v records) image holds.holds_bytes
+    (ends_where_clean geometry g used image holds.clean)
+
+pub fills_what_is_held : FillsWhatIsHeld
+fills_what_is_held geometry v g records image holds =
+    fills geometry g holds.used holds.bytes image holds.holds_bytes holds.ends

@@ -6,7 +6,8 @@ use Rattle.std.proofs.lemmas.Bool.{cases_lt}
 use Rattle.sector_disk.specs.rules.DiskImage.{DiskImage, sector_at}
 use Rattle.disk_layout.specs.rules.Places.{Geometry, journal_place}
 use Rattle.disk_layout.specs.rules.Sectors.{shown_generation}
-use Rattle.disk_layout.specs.rules.Journal.{is_of, payloads_from}
+use Rattle.disk_layout.specs.rules.Journal.{is_of}
+use Rattle.disk_layout.specs.Scanned.{payloads_from}
 use Rattle.disk_layout.proofs.JournalLemmas.{is_of_means, is_of_other}
 use Rattle.journal.proofs.PackedLemmas.{pay_off}
 use Rattle.journal.specs.rules.Steps.{ShowsLater}

@@ -1,6 +1,8 @@
 pub mod PackedLemmas
 pub mod RunLemmas
 pub mod RecordLemmas
+pub mod SpelledLemmas
+pub mod HeldLemmas
 mod BarrierLemmas
 mod ExampleLemmas
 mod FilledLemmas

@@ -1,15 +1,20 @@
 -- Packed sectors, and the payloads that are read of sectors.
 use Rattle.std.proofs.Common.{◌≡◌, ◌⊎◌, ℕ, zero, suc, min, ◌+◌, ◌-◌, ◌*◌, ◌<◌, ◌≤◌, true, false}
-use Rattle.std.proofs.Common.{cond, List, [], ◌++◌, length, take, drop, refl, sym, ap, ◌∙◌, subst}
+use Rattle.std.proofs.Common.{Bool, cond, List, [], ◌∷◌, ◌++◌, length, take, drop, refl, sym, ap}
+use Rattle.std.proofs.Common.{◌∙◌, subst}
 use Rattle.std.proofs.Common.{⊎_elim, arith, length-drop, append_assoc}
 use Rattle.std.proofs.lemmas.Bool.{cases_lt, cond-true, cond-false}
 use Rattle.std.proofs.lemmas.List.{take-append-drop, drop-drop, take_all, nil_from_length}
-use Rattle.guest_memory.specs.rules.Bytes.{part}
+use Rattle.std.proofs.lemmas.List.{append-nil}
+use Rattle.std.specs.List.{AllByRecursion, flat_map}
+use Rattle.guest_memory.specs.rules.Bytes.{IsByte, part}
+use Rattle.guest_memory.proofs.Lists.{all_both, all_take, all_drop}
 use Rattle.sector_disk.specs.rules.DiskImage.{DiskImage, sector_at}
 use Rattle.disk_layout.specs.rules.Sectors.{shown_generation}
-use Rattle.disk_layout.specs.rules.Journal.{journal_sector, is_of, payloads_from}
-use Rattle.disk_layout.proofs.JournalLemmas.{IsUsedSector, is_of_true, is_of_other}
-use Rattle.disk_layout.proofs.JournalLemmas.{payload_of_sector}
+use Rattle.disk_layout.specs.rules.Journal.{journal_sector, is_of, used_length}
+use Rattle.disk_layout.specs.rules.Journal.{payload_of_sector}
+use Rattle.disk_layout.specs.Scanned.{payloads_from}
+use Rattle.disk_layout.proofs.JournalLemmas.{IsUsedSector, is_of_true, is_of_other, is_of_means}
 use Rattle.disk_layout.proofs.ReadLemmas.{parts_joined}
 use Rattle.journal.specs.rules.Packed.{packed}
 
@@ -114,6 +119,65 @@ payloads_same a b g s p (suc n) same =
     ap (λ i. sector_at a i) e ∙ same (suc k) (omega arith) ∙ ap (λ i. sector_at b i) (sym e)) in
     ap (λ t. payloads_step g p t (payloads_from a g (s + 1) (p + 1) n)) here
     ∙ ap (λ l. payloads_step g p (sector_at b s) l) rest
+
+-- ---- payloads, joined
+
+-- the sectors from one that is used on
+drop_next : (image : DiskImage) (s : ℕ) → 0 < used_length (sector_at image s)
+    → drop s image ≡ sector_at image s ∷ drop (suc s) image
+drop_next [] zero some = absurd (omega (arith, some))
+drop_next [] (suc s) some = absurd (omega (arith, some))
+drop_next (x ∷ image) zero some = refl
+drop_next (x ∷ image) (suc s) some = drop_next image s some
+
+pub payloads_joined : (image : DiskImage) (g s p n : ℕ)
+    → ((k : ℕ) → k < n → is_of g (p + k) (sector_at image (s + k)) ≡ true)
+    → flat_map payload_of_sector (take n (drop s image)) ≡ payloads_from image g s p n
+payloads_joined image g s p zero on = refl
+payloads_joined image g s p (suc n) on =
+    let here = at_first (λ q t. IsOn g q t) image s p (on 0 (omega arith)) in
+    let means = is_of_means g p (sector_at image s) here in
+    let rest = payloads_joined image g (s + 1) (p + 1) n (λ k lt.
+    at_next (λ q t. IsOn g q t) image s p k (on (suc k) (omega arith))) in
+    ap (λ l. flat_map payload_of_sector (take (suc n) l)) (drop_next image s means.some)
+    ∙ ap (λ k. payload_of_sector (sector_at image s)
+    ++ flat_map payload_of_sector (take n (drop k image))) (let e : suc s ≡ s + 1 = omega arith in e)
+    ∙ ap (λ l. payload_of_sector (sector_at image s) ++ l) rest
+    ∙ sym (pay_on image g s p n here)
+
+-- no payload is read after the first sector that isn't of the generation
+pub payloads_end : (image : DiskImage) (g s p n m : ℕ) → n ≤ m
+    → ((k : ℕ) → k < n → is_of g (p + k) (sector_at image (s + k)) ≡ true)
+    → (n < m → is_of g (p + n) (sector_at image (s + n)) ≡ false)
+    → payloads_from image g s p m ≡ payloads_from image g s p n
+payloads_end image g s p n m le on off =
+    let rest = m - n in
+    let behind : payloads_from image g (s + n) (p + n) rest ≡ [] =
+    ⊎_elim (λ (some : n < m). pay_off image g (s + n) (p + n) rest (off some))
+    (λ (none : m ≤ n). ap (λ c. payloads_from image g (s + n) (p + n) c)
+    (let e : rest ≡ 0 = omega arith in e))
+    (cases_lt n m) in
+    ap (λ c. payloads_from image g s p c) (let e : m ≡ n + rest = omega arith in e)
+    ∙ payloads_split image g s p n rest on
+    ∙ ap (λ l. payloads_from image g s p n ++ l) behind
+    ∙ append-nil (payloads_from image g s p n)
+
+-- the payloads of sectors of bytes are bytes
+pub payloads_are_bytes : (image : DiskImage) (g s p n : ℕ)
+    → ((k : ℕ) → AllByRecursion IsByte (sector_at image k))
+    → AllByRecursion IsByte (payloads_from image g s p n)
+payloads_are_bytes image g s p zero are = tt
+payloads_are_bytes image g s p (suc n) are =
+    chosen (is_of g p (sector_at image s)) (payload_of_sector (sector_at image s))
+    (payloads_from image g (s + 1) (p + 1) n)
+    (all_take IsByte (used_length (sector_at image s)) (drop 2 (sector_at image s))
+    (all_drop IsByte 2 (sector_at image s) (are s)))
+    (payloads_are_bytes image g (s + 1) (p + 1) n are)
+  where
+    chosen : (b : Bool) (l m : List ℕ) → AllByRecursion IsByte l → AllByRecursion IsByte m
+        → AllByRecursion IsByte (cond b (l ++ m) [])
+    chosen true l m first more = all_both IsByte l m first more
+    chosen false l m first more = tt
 
 -- ---- what torn sectors give
 

@@ -1,11 +1,10 @@
 -- Records as bytes, whole and cut.
 use Rattle.std.proofs.Common.{◌≡◌, ℕ, zero, suc, ◌+◌, ◌-◌, ◌<◌, ◌≤◌, true, leb, get_or, Some, None}
 use Rattle.std.proofs.Common.{option_map, List, [], ◌∷◌, ◌++◌, length, take, drop, refl, sym, ap}
-use Rattle.std.proofs.Common.{◌∙◌, ⊎_elim, arith, length-append, length-drop, append_assoc}
+use Rattle.std.proofs.Common.{◌∙◌, ⊎_elim, arith, length-append, append_assoc}
 use Rattle.std.proofs.lemmas.Bool.{cases_lt, cond-true, cond-false, le-leb, lt-leb}
 use Rattle.std.proofs.lemmas.List.{take_at, drop_at, take-take, drop-take, drop-drop}
-use Rattle.std.proofs.lemmas.List.{length-take-le, take-append-le}
-use Rattle.std.proofs.Math.Seq.{take-append-add}
+use Rattle.std.proofs.lemmas.List.{length-take-le}
 use Rattle.guest_memory.specs.rules.Bytes.{bytes_of, number_of, part}
 use Rattle.guest_memory.proofs.ByteLemmas.{length-bytes_of, number_of-bytes_of}
 use Rattle.wasi_abi.specs.declared.version.Version.{Version}
@@ -14,13 +13,10 @@ use Rattle.wasi_abi.proofs.VersionLemmas.{lengths_fit}
 use Rattle.wasi_abi.specs.rules.Layouts.{u64_bytes}
 use Rattle.wasi_abi.specs.declared.answer.Answer.{Answer}
 use Rattle.wasi_abi.specs.declared.answer.Answer.TheVariants as answer
-use Rattle.sector_disk.specs.rules.DiskImage.{DiskImage}
-use Rattle.disk_layout.specs.rules.Places.{Geometry, journal_place}
 use Rattle.disk_layout.specs.rules.Journal.{Record, record_bytes, record_head_bytes, kind_number}
-use Rattle.disk_layout.specs.rules.Journal.{payload_of}
-use Rattle.disk_layout.specs.rules.Journal.{answer_if, answer_of, payload_length, record_at}
-use Rattle.disk_layout.specs.rules.Journal.{records_at, with_first, payloads_from, scan}
-use Rattle.journal.specs.rules.Steps.{ClockFits, RecordFits, AllRecordsFit, records_bytes}
+use Rattle.disk_layout.specs.rules.Journal.{payload_of, payload_length}
+use Rattle.disk_layout.specs.Scanned.{answer_if, answer_of, record_at, records_at, with_first}
+use Rattle.journal.specs.rules.Steps.{ClockFits, RecordFits}
 
 -- the record of an answer that a step takes
 abbrev pub record_of : ℕ → Answer → Record
@@ -154,109 +150,12 @@ module _ (v : Version) where
 
   -- ---- lists of records
 
-  no_bytes : (n : ℕ) → records_at v n [] ≡ []
-  no_bytes zero = refl
-  no_bytes (suc n) = refl
-
-  none_at : (n : ℕ) (bytes : List ℕ) → record_at v bytes ≡ None
+  pub none_at : (n : ℕ) (bytes : List ℕ) → record_at v bytes ≡ None
       → records_at v n bytes ≡ []
   none_at zero bytes e = refl
   none_at (suc n) bytes e =
       ap (λ o. with_first o
       (records_at v n (drop (record_head_bytes v + payload_length v bytes) bytes))) e
-
-  one_more : (r : Record) (rest : List ℕ) (n : ℕ) → RecordFits v r
-      → records_at v (suc n) (record_bytes v r ++ rest)
-      ≡ r ∷ records_at v n rest
-  one_more r rest n fits =
-      let all = record_bytes v r ++ rest in
-      ap (λ o. with_first o
-      (records_at v n (drop (record_head_bytes v + payload_length v all) all)))
-      (record_read r rest fits)
-      ∙ ap (λ l. r ∷ records_at v n l) (rest_read r rest fits)
-
-  -- a prefix of the bytes of records holds a prefix of them
-  pub cut_front : (records : List Record) (m n : ℕ) → AllRecordsFit v records
-      → length (take m (records_bytes v records)) ≤ n
-      → (k : ℕ) × (k ≤ length records)
-      × (records_at v n (take m (records_bytes v records)) ≡ take k records)
-  cut_front [] m n fit le = (
-    0,
-    omega arith,
-    ap (λ l. records_at v n l) (nothing m)
-        ∙ no_bytes n,
-  )
-    where
-      nothing : (m : ℕ) → take m (records_bytes v []) ≡ []
-      nothing zero = refl
-      nothing (suc m) = refl
-  cut_front (r ∷ records) m n fit le =
-      ⊎_elim
-      (λ (short : m < length (record_bytes v r)).
-      let e : take m (record_bytes v r ++ records_bytes v records) ≡ take m (record_bytes v r) =
-      take-append-le m (record_bytes v r) (records_bytes v records) (omega arith) in (
-        0,
-        omega arith,
-        none_at n (take m (record_bytes v r ++ records_bytes v records))
-            (ap (λ l. record_at v l) e ∙ cut_none r m fit.0 short),
-      ))
-      (λ (long : length (record_bytes v r) ≤ m).
-      let more = m - length (record_bytes v r) in
-      let e : take m (record_bytes v r ++ records_bytes v records) ≡ record_bytes v r
-      ++ take more (records_bytes v records) =
-      ap (λ k. take k (record_bytes v r ++ records_bytes v records)) (let f : m
-      ≡ length (record_bytes v r) + more = omega arith in f)
-      ∙ take-append-add (record_bytes v r) (records_bytes v records) more in
-      let count = ap length e
-      ∙ length-append (record_bytes v r) (take more (records_bytes v records)) in
-      let head = length-record r in
-      let fewer = n - 1 in
-      let n-is : n ≡ suc fewer = omega arith in
-      let rest = cut_front records more fewer fit.1 (omega arith) in (
-        suc rest.0,
-        let l = rest.1 in omega arith,
-        ap (λ k. records_at v k (take m (record_bytes v r ++ records_bytes v records))) n-is
-            ∙ ap (λ l. records_at v (suc fewer) l) e
-            ∙ one_more r (take more (records_bytes v records)) fewer fit.0 ∙ ap (λ l. r ∷ l) rest.2,
-      ))
-      (cases_lt m (length (record_bytes v r)))
-
-  -- records, and a prefix of the bytes of further ones
-  pub scan_front : (records kept : List Record) (c n : ℕ) → AllRecordsFit v records
-      → AllRecordsFit v kept
-      → length (records_bytes v records ++ take c (records_bytes v kept)) ≤ n
-      → (k : ℕ) × (k ≤ length kept)
-      × (records_at v n (records_bytes v records ++ take c (records_bytes v kept))
-      ≡ records ++ take k kept)
-  scan_front [] kept c n fit fit-kept le = cut_front kept c n fit-kept le
-  scan_front (r ∷ records) kept c n fit fit-kept le =
-      let tail = records_bytes v records ++ take c (records_bytes v kept) in
-      let e : (record_bytes v r ++ records_bytes v records) ++ take c (records_bytes v kept)
-      ≡ record_bytes v r
-      ++ tail = append_assoc (record_bytes v r) (records_bytes v records)
-      (take c (records_bytes v kept)) in
-      let count = ap length e ∙ length-append (record_bytes v r) tail in
-      let head = length-record r in
-      let fewer = n - 1 in
-      let n-is : n ≡ suc fewer = omega arith in
-      let rest = scan_front records kept c fewer fit.1 fit-kept (omega arith) in (
-        rest.0,
-        rest.1,
-        ap (λ k. records_at v k ((record_bytes v r ++ records_bytes v records)
-            ++ take c (records_bytes v kept))) n-is
-            ∙ ap (λ l. records_at v (suc fewer) l) e ∙ one_more r tail fewer fit.0
-            ∙ ap (λ l. r ∷ l) rest.2,
-      )
-
-  pub scan_of : (geometry : Geometry) (image : DiskImage) (g c : ℕ) (records kept : List Record)
-      → AllRecordsFit v records → AllRecordsFit v kept
-      → payloads_from image g (journal_place geometry) 1 geometry.journal_sectors
-      ≡ records_bytes v records ++ take c (records_bytes v kept)
-      → (k : ℕ) × (k ≤ length kept) × (scan geometry v image g ≡ records ++ take k kept)
-  scan_of geometry image g c records kept fit fit-kept e =
-      let front = scan_front records kept c (length (records_bytes v records
-      ++ take c (records_bytes v kept))) fit fit-kept (omega arith) in
-      (front.0, front.1, ap (λ l. records_at v (length l) l) e ∙ front.2)
 
   -- ---- as they are read
 
@@ -283,36 +182,3 @@ module _ (v : Version) where
       (option_map (record_of (number_of (part bytes 0 8))) (answer_of (text_limit v) kind
       (part all (record_head_bytes v) (payload_length v all)))) None
       (le-leb (record_head_bytes v + payload_length v all) (length all) le)
-
-  -- so many records are enough as there are bytes
-  pub enough : (n m : ℕ) (bytes : List ℕ) → length bytes ≤ n → length bytes ≤ m
-      → records_at v n bytes ≡ records_at v m bytes
-  enough n m [] one two = no_bytes n ∙ sym (no_bytes m)
-  enough zero m (x ∷ bytes) one two = absurd (omega arith)
-  enough (suc n) zero (x ∷ bytes) one two = absurd (omega arith)
-  enough (suc n) (suc m) (x ∷ bytes) one two =
-      let all = x ∷ bytes in
-      let less = length-drop (record_head_bytes v + payload_length v all) all in
-      ap (λ l. with_first (record_at v all) l)
-      (enough n m (drop (record_head_bytes v + payload_length v all) all) (omega arith)
-      (omega arith))
-
-  pub read_on : (bytes : List ℕ) (start : ℕ) (r : Record) → start ≤ length bytes
-      → record_at v (drop start bytes) ≡ Some r
-      → record_head_bytes v + payload_length v (drop start bytes) ≤ length (drop start bytes)
-      → records_at v (length bytes - start) (drop start bytes)
-      ≡ r ∷ records_at v (length bytes
-      - (start + (record_head_bytes v + payload_length v (drop start bytes))))
-      (drop (start + (record_head_bytes v + payload_length v (drop start bytes))) bytes)
-  read_on bytes start r le is whole =
-      let rest = drop start bytes in
-      let k = record_head_bytes v + payload_length v rest in
-      let count = length-drop start bytes in
-      let n = length bytes - start - 1 in
-      let n-is : length bytes - start ≡ suc n = omega arith in
-      let less = length-drop (start + k) bytes in
-      ap (λ m. records_at v m rest) n-is
-      ∙ ap (λ o. with_first o (records_at v n (drop k rest))) is
-      ∙ ap (λ l. r ∷ records_at v n l) (drop-drop k start bytes)
-      ∙ ap (λ l. r ∷ l) (enough n (length bytes - (start + k)) (drop (start + k) bytes)
-      (omega arith) (omega arith))

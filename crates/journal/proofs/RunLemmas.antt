@@ -1,57 +1,41 @@
 -- What a journal's sectors hold after a run of packed sectors, torn or whole.
-use Rattle.std.proofs.Common.{◌≡◌, ◌⊎◌, ℕ, ◌+◌, ◌-◌, ◌*◌, ◌^◌, ◌<◌, ◌≤◌, true, List, [], ◌++◌}
+use Rattle.std.proofs.Common.{◌≡◌, ◌⊎◌, ℕ, ◌+◌, ◌-◌, ◌*◌, ◌^◌, ◌<◌, ◌≤◌, true, List, ◌++◌}
 use Rattle.std.proofs.Common.{length, take, drop, sym, ap, ◌∙◌, subst, inl, ⊎_elim, arith}
 use Rattle.std.proofs.Common.{length-drop}
 use Rattle.std.proofs.lemmas.Bool.{cases_lt}
-use Rattle.std.proofs.lemmas.List.{append-nil, length-take-le, take_all}
+use Rattle.std.proofs.lemmas.List.{length-take-le, take_all}
 use Rattle.guest_memory.specs.rules.Bytes.{part}
 use Rattle.sector_disk.specs.rules.DiskImage.{DiskImage, sector_at, front_over}
 use Rattle.sector_disk.specs.rules.Run.{IsTornRun}
 use Rattle.disk_layout.specs.rules.Places.{Geometry, journal_place}
 use Rattle.disk_layout.specs.rules.Sectors.{shown_generation}
-use Rattle.disk_layout.specs.rules.Journal.{journal_sector, is_of, payloads_from}
-use Rattle.disk_layout.proofs.JournalLemmas.{IsUsedSector, is_of_true, is_of_other, is_of_means}
-use Rattle.disk_layout.proofs.JournalLemmas.{payload_of_sector, IsNewSector, torn_sector, new_is_of}
+use Rattle.disk_layout.specs.rules.Journal.{journal_sector, is_of, payload_of_sector}
+use Rattle.disk_layout.specs.Scanned.{payloads_from}
+use Rattle.disk_layout.proofs.JournalLemmas.{IsUsedSector, is_of_true, is_of_means}
+use Rattle.disk_layout.proofs.JournalLemmas.{IsNewSector, torn_sector, new_is_of}
 use Rattle.disk_layout.proofs.JournalLemmas.{payload-journal_sector}
 use Rattle.journal.specs.rules.Packed.{packed, sectors_for}
 use Rattle.journal.specs.rules.Steps.{HoldsBytes, ShowsNoneAfter, SameOthers}
-use Rattle.journal.proofs.PackedLemmas.{packed_at, pay_off, payloads_split, payloads_same}
+use Rattle.journal.proofs.HeldLemmas.{IsClean, held_payloads}
+use Rattle.journal.proofs.PackedLemmas.{packed_at, payloads_joined, payloads_split, payloads_same}
 use Rattle.journal.proofs.PackedLemmas.{torn_front, whole_run}
-
--- all that the journal holds is in the sectors that are written
-pub all_bytes : (geometry : Geometry) (g used : ℕ) (bytes : List ℕ) (image : DiskImage)
-    → HoldsBytes geometry g used bytes image
-    → payloads_from image g (journal_place geometry) 1 geometry.journal_sectors ≡ bytes
-all_bytes geometry g used bytes image holds =
-    let j = journal_place geometry in
-    let rest = geometry.journal_sectors - used in
-    let count : geometry.journal_sectors ≡ used + rest = let w = holds.within in omega arith in
-    let behind : payloads_from image g (j + used) (1 + used) rest ≡ [] = ⊎_elim
-    (λ (some : used < geometry.journal_sectors). pay_off image g (j + used) (1 + used) rest
-    (is_of_other g (1 + used) (sector_at image (j + used)) (λ e.
-    let c = holds.clean used (omega arith) some in absurd (omega arith))))
-    (λ (none : geometry.journal_sectors ≤ used).
-    ap (λ n. payloads_from image g (j + used) (1 + used) n) (let e : rest ≡ 0 = omega arith in
-    e))
-    (cases_lt used geometry.journal_sectors) in
-    ap (λ n. payloads_from image g j 1 n) count ∙ payloads_split image g j 1 used rest holds.written
-    ∙ ap (λ l. payloads_from image g j 1 used ++ l) behind
-    ∙ append-nil (payloads_from image g j 1 used) ∙ holds.holds
 
 -- sectors that are written, or to come
 pub none_after : (geometry : Geometry) (g used : ℕ) (bytes : List ℕ) (image : DiskImage)
-    → HoldsBytes geometry g used bytes image → ShowsNoneAfter geometry g image
-none_after geometry g used bytes image holds k lt =
+    → HoldsBytes geometry g used bytes image → IsClean geometry g used image
+    → ShowsNoneAfter geometry g image
+none_after geometry g used bytes image holds clean k lt =
     ⊎_elim
     (λ (written : k < used). let is = is_of_means g (1 + k) (sector_at image (journal_place geometry
     + k)) (holds.written k written) in let s = is.shows in omega arith)
-    (λ (later : used ≤ k). let c = holds.clean k later lt in omega arith)
+    (λ (later : used ≤ k). let c = clean k later lt in omega arith)
     (cases_lt k used)
 
 -- a run of packed sectors after those that are written
 pub record IsRun (geometry : Geometry) (g used n : ℕ) (bytes kept : List ℕ)
     (old : DiskImage) : Type 0 where
   pub holds_bytes : HoldsBytes geometry g used bytes old
+  pub clean : IsClean geometry g used old
   pub count : n ≡ sectors_for (length kept)
   pub room : used + n ≤ geometry.journal_sectors
   pub full : (k : ℕ) → k < geometry.journal_sectors
@@ -96,11 +80,10 @@ module _ (geometry : Geometry) (g used n : ℕ) (bytes kept : List ℕ) (old new
           × (payload_of_sector (sector_at new (journal_place geometry + used + i))
           ≡ part kept (494 * i) 494))
       behind_at i lt =
-          let holds = run.holds_bytes in
           let at : journal_place geometry + used + i ≡ journal_place geometry + (used + i) =
           omega arith in
           let p : 1 + used + i ≡ 1 + (used + i) = omega arith in
-          let clean = holds.clean (used + i) (omega arith) (omega arith) in
+          let clean = run.clean (used + i) (omega arith) (omega arith) in
           let was : shown_generation (1 + used + i) (sector_at old (journal_place geometry + used
           + i)) < g =
           subst (λ (k : ℕ). shown_generation k (sector_at old (journal_place geometry + used + i))
@@ -136,8 +119,8 @@ module _ (geometry : Geometry) (g used n : ℕ) (bytes kept : List ℕ) (old new
           (written_same k lt) ∙ holds.written k lt
 
       pub still_holds : payloads_from new g (journal_place geometry) 1 used ≡ bytes
-      still_holds = let holds = run.holds_bytes in
-          payloads_same new old g (journal_place geometry) 1 used written_same ∙ holds.holds
+      still_holds = payloads_same new old g (journal_place geometry) 1 used written_same
+          ∙ held_payloads geometry g used bytes old run.holds_bytes
 
       -- a prefix of what was kept
       pub front_of_kept : (c : ℕ)
@@ -206,35 +189,38 @@ module _ (geometry : Geometry) (g used n : ℕ) (bytes kept : List ℕ) (old new
               payload-journal_sector g (1 + used + i) (part kept (494 * i) 494) is.most,
             )
 
+        all_written : (k : ℕ) → k < used + n
+            → is_of g (1 + k) (sector_at new (journal_place geometry + k)) ≡ true
+        all_written k lt =
+            ⊎_elim (λ (before : k < used). still_written k before)
+            (λ (later : used ≤ k).
+            let i = k - used in
+            let at : journal_place geometry + used + i ≡ journal_place geometry + k =
+            omega arith in
+            let p : 1 + used + i ≡ 1 + k = omega arith in
+            let here = whole_at i (omega arith) in
+            ap (λ t. is_of g (1 + k) (sector_at new t)) (sym at)
+            ∙ ap (λ q. is_of g q (sector_at new (journal_place geometry + used + i))) (sym p)
+            ∙ is_of_true g (1 + used + i) (sector_at new (journal_place geometry + used + i)) here.0)
+            (cases_lt k used)
+
         pub holds_all : HoldsBytes geometry g (used + n) (bytes ++ kept) new
         holds_all =
-            let room = run.room in
             let count = run.count in
             record {
-              within = room;
-              written = λ k lt.
-                  ⊎_elim (λ (before : k < used). still_written k before)
-                  (λ (later : used ≤ k).
-                  let i = k - used in
-                  let at : journal_place geometry + used + i ≡ journal_place geometry + k =
-                  omega arith in
-                  let p : 1 + used + i ≡ 1 + k = omega arith in
-                  let here = whole_at i (omega arith) in
-                  ap (λ t. is_of g (1 + k) (sector_at new t)) (sym at)
-                  ∙ ap (λ q. is_of g q (sector_at new (journal_place geometry + used + i)))
-                  (sym p)
-                  ∙ is_of_true g (1 + used + i) (sector_at new (journal_place geometry + used
-                  + i)) here.0)
-                  (cases_lt k used);
-              holds = payloads_split new g (journal_place geometry) 1 used n still_written
+              within = run.room;
+              written = all_written;
+              joined = payloads_joined new g (journal_place geometry) 1 (used + n) all_written
+                  ∙ payloads_split new g (journal_place geometry) 1 used n still_written
                   ∙ ap (λ l. l
                   ++ payloads_from new g (journal_place geometry + used) (1 + used) n) still_holds
                   ∙ ap (λ l. bytes
                   ++ l) (whole_run new g (journal_place geometry + used) (1 + used) n kept
                   (omega arith) whole_at);
-              clean = λ k le lt.
-                  let holds = run.holds_bytes in
-                  let same = torn.above (journal_place geometry + k) (omega arith) in
-                  subst (λ (s : List ℕ). shown_generation (1 + k) s
-                  < g) (sym same) (holds.clean k (omega arith) lt);
             }
+
+        pub still_clean : IsClean geometry g (used + n) new
+        still_clean k le lt =
+            let same = torn.above (journal_place geometry + k) (omega arith) in
+            subst (λ (s : List ℕ). shown_generation (1 + k) s < g) (sym same)
+            (run.clean k (omega arith) lt)

@@ -1,7 +1,8 @@
 //! Records from bytes.
 ghost use Rattle.std.specs.Prelude.{◌≡◌, ◌+◌, ◌<◌, ◌≤◌, length, IfOk, IsSome, OnErr};
-ghost use Rattle.disk_layout.specs.rules.Journal.{answer_of, payload_length, record_at, records_at};
-ghost use Rattle.disk_layout.specs.rules.Journal.{record_head_bytes};
+ghost use Rattle.disk_layout.specs.rules.Journal.{payload_length, record_head_bytes};
+ghost use Rattle.disk_layout.specs.Scanned.{answer_of, record_at};
+ghost use Rattle.journal.specs.rules.Steps.{SpellsRecords};
 
 use disk_layout::{
     END_KIND, MONOTONIC_KIND, RANDOM_KIND, REALTIME_KIND, REQUEST_KIND, Record, clock_from,
@@ -18,7 +19,7 @@ pub(crate) fn records_from(
     version: Version,
     bytes: &[u8],
 ) -> Result<Vec<Record>, AllocError>
-    ensures value { IfOk result (λ v. v.items ≡ records_at version (length bytes.now) bytes.now) }
+    ensures value { IfOk result (λ v. SpellsRecords version v.items bytes.now) }
     ensures memory { OnErr result (0 < length bytes.now) }
 {
     let mut records = Vec::new(alloc);

@@ -1,14 +1,14 @@
 //! The journal of a generation.
 ghost use Rattle.std.specs.Prelude.{◌≡◌, ◌↔◌, ◌⊎◌, ◌+◌, ◌<◌, ◌≤◌, ◌++◌, [], true, false};
-ghost use Rattle.std.specs.Prelude.{length, OnOk, OnErr, IfOk, IfErr, IsTrue};
+ghost use Rattle.std.specs.Prelude.{length, OnOk, OnErr, IsErr, IfOk, IfErr, IsTrue};
 ghost use Rattle.sector_disk.specs.rules.DiskImage.{DiskImage};
 ghost use Rattle.sector_disk.specs.rules.Medium.{CallsUpTo};
 ghost use Rattle.disk_layout.specs.rules.Places.{total_sectors};
-ghost use Rattle.disk_layout.specs.rules.Journal.{record_bytes, payload_of, scan};
+ghost use Rattle.disk_layout.specs.rules.Journal.{record_bytes, payload_of};
 ghost use Rattle.disk_layout.specs.rules.Stored.{OnlyReads};
 ghost use Rattle.journal.specs.rules.Barriers.{StoresKept};
 ghost use Rattle.journal.specs.rules.State.{state, failed_journal, room_of};
-ghost use Rattle.journal.specs.rules.Steps.{RecordFits, ShowsLater};
+ghost use Rattle.journal.specs.rules.Steps.{RecordFits, JournalHolds, ShowsLater};
 ghost use Rattle.wasi_abi.specs.rules.Versions.{text_limit};
 
 use crate::decode::records_from;
@@ -16,6 +16,7 @@ use crate::fault::JournalFault;
 use crate::records::{payload_len, put_record};
 use crate::scan::read_payloads;
 use crate::scanned::ScannedJournal;
+use crate::size::fault_beyond;
 use crate::store::{sectors_for, store_packed};
 use disk_layout::{Geometry, PAYLOAD_SIZE, Record, record_head_bytes};
 use sector_disk::{Disk, DiskFault};
@@ -59,7 +60,7 @@ impl Journal {
     /// The records of a generation: those whose bytes are whole and well formed, from place 1 on.
     /// It reads each sector once, up to the first that isn't one of the generation. It also tells
     /// whether the first sector shows a later generation. Then no other is read, there are no
-    /// records, and no memory is wanted.
+    /// records, and no memory is wanted. A disk with too few sectors answers with its own fault.
     pub fn scan<D: Disk>(
         alloc: Global,
         disk: &mut D,
@@ -67,10 +68,9 @@ impl Journal {
         version: Version,
         generation: u64,
     ) -> Result<ScannedJournal, JournalFault>
-        requires { total_sectors geometry.now ≤ (D.medium disk.old).sectors }
         ensures reads { OnlyReads (D.medium disk.old) (D.medium disk.new) }
         ensures scans { IfOk result (λ s. (image : DiskImage) → (D.medium disk.new).shows image
-            → s.records.items ≡ scan geometry.now version image generation) }
+            → JournalHolds geometry.now version generation s.records.items image) }
         ensures later { IfOk result (λ s. (image : DiskImage) → (D.medium disk.new).shows image
             → (IsTrue s.shows_later ↔ ShowsLater geometry.now generation image)) }
         ensures once { IfOk result (λ s. IsTrue s.shows_later
@@ -78,12 +78,19 @@ impl Journal {
         ensures memory { result ≡ Err JournalFault.Memory → (image : DiskImage)
             → (D.medium disk.new).shows image → ShowsLater geometry.now generation image → ⊥ }
         ensures cause { (fault : DiskFault) → result ≡ Err (JournalFault.Disk fault)
-            → (D.medium disk.old).faults < (D.medium disk.new).faults }
+            → ((D.medium disk.old).sectors < total_sectors geometry.now)
+            ⊎ ((D.medium disk.old).faults < (D.medium disk.new).faults) }
+        ensures too_few { (D.medium disk.old).sectors < total_sectors geometry.now
+            → (fault : DiskFault) × (result ≡ Err (JournalFault.Disk fault)) }
         ensures which_fault { IfErr result (λ e. e ≡ JournalFault.Memory
             ⊎ ((fault : DiskFault) × (e ≡ JournalFault.Disk fault))) }
-        ensures asks { CallsUpTo geometry.now.journal_sectors (D.medium disk.old)
-            (D.medium disk.new) }
+        ensures asks { total_sectors geometry.now ≤ (D.medium disk.old).sectors
+            → CallsUpTo geometry.now.journal_sectors (D.medium disk.old) (D.medium disk.new) }
     {
+        let needed = geometry.total_sectors();
+        if disk.sectors() < needed {
+            return Err(fault_beyond(disk, needed - 1));
+        }
         let payloads = read_payloads(alloc, disk, geometry, generation)?;
         match records_from(alloc, version, payloads.bytes.as_slice()) {
             Ok(records) => Ok(ScannedJournal {
@@ -174,15 +181,18 @@ impl Journal {
     }
 
     /// Puts the records that only memory holds on the disk: into the next sectors, without gaps,
-    /// one after another, and then one sync. Without such records it leaves the disk alone.
+    /// one after another, and then one sync. Without such records it leaves the disk alone. A disk
+    /// with too few sectors answers with its own fault, and nothing is written.
     pub fn barrier<D: Disk>(
         &mut self,
         disk: &mut D,
         geometry: &Geometry,
     ) -> Result<(), JournalFault>
-        requires { total_sectors geometry.now ≤ (D.medium disk.old).sectors }
         ensures stores { StoresKept geometry.now self.old self.new result (D.medium disk.old)
             (D.medium disk.new) }
+        ensures too_few { (D.medium disk.old).sectors < total_sectors geometry.now
+            → OnlyReads (D.medium disk.old) (D.medium disk.new)
+            × (0 < length self.old.kept → IsErr result) }
         ensures quiet { length self.old.kept ≡ 0 → disk.new ≡ disk.old }
         ensures untouched { (result ≡ Err JournalFault.Full) ⊎ (result ≡ Err JournalFault.Failed)
             → disk.new ≡ disk.old }
@@ -200,6 +210,11 @@ impl Journal {
         if count > unwritten {
             self.has_failed = true;
             return Err(JournalFault::Full);
+        }
+        let needed = geometry.total_sectors();
+        if disk.sectors() < needed {
+            self.has_failed = true;
+            return Err(fault_beyond(disk, needed - 1));
         }
         let at = geometry.journal_place() + self.used;
         let stored = store_packed(

@@ -19,24 +19,27 @@
 //!   stood, and a prefix of those kept, and no other sector is changed (`any_moment`). After Ok all
 //!   are held (`durable`). Sectors are written in rising order, each once, and then one sync is
 //!   made (`calls`).
-//! - `barrier` fails for a cause: an earlier error, too little journal, no room for its writes, or
-//!   the disk (`failed`, `full`, `cause`).
-//! - `Journal::scan` gives the records that the definitions read of what the disk shows (`scans`).
-//!   `later` tells whether the first sector shows a later generation than theirs. Then no other
-//!   sector is read, and no memory wanted (`once`, `memory`). A scan only reads.
+//! - `barrier` fails for a cause: an earlier error, too little journal, a disk with too few sectors
+//!   or no room for its writes, or the disk itself (`failed`, `full`, `cause`).
+//! - On a disk with fewer sectors than the layout takes, a scan and a barrier answer a fault of the
+//!   disk, and write nothing (`too_few`).
+//! - `Journal::scan` gives the records that the journal of the disk holds (`scans`), which are one
+//!   list (`what_is_held_is_scanned`). `later` tells whether the first sector shows a later
+//!   generation than theirs. Then no other sector is read, and no memory wanted (`once`, `memory`).
+//!   A scan only reads.
 //! - `count_filled` gives how many sectors the records of a generation fill (`counts`). The others
 //!   are what a next barrier can write.
 //! - After an error of `append` or `barrier`, and after `fail`, each call of these answers `Failed`
 //!   and changes nothing (`err`, `failed`, `refused`). `has_failed` says so.
-//! - `laws`: a scan gives what is held, and nothing of a generation that no sector shows
+//! - `laws`: a journal holds what is stored in it, and nothing of a generation that no sector shows
 //!   (`what_is_held_is_scanned`).
 //!
 //! # Definitions to read
 //!
-//! In `specs/rules/`: `JournalState`, `room_of` (`State.antt`); `HoldsRecords`, `AppendsFront`,
-//! `RecordFits`, `ShowsLater` (`Steps.antt`); `StoresKept`, which is what `barrier` does
-//! (`Barriers.antt`); `sectors_filled` (`Filled.antt`). Of `disk_layout`: `record_bytes` and `scan`
-//! (`specs/rules/Journal.antt`).
+//! In `specs/rules/`: `JournalState`, `room_of` (`State.antt`); `JournalHolds`, which a scan finds;
+//! `HoldsRecords`, `AppendsFront`, `RecordFits`, `ShowsLater` (`Steps.antt`); `StoresKept`,
+//! which is what `barrier` does (`Barriers.antt`); `sectors_filled` (`Filled.antt`). Of
+//! `disk_layout`: `record_bytes` and `is_of` (`specs/rules/Journal.antt`).
 //!
 //! # Who may touch what
 //!
@@ -60,6 +63,7 @@ pub mod laws;
 mod records;
 mod scan;
 mod scanned;
+mod size;
 mod store;
 
 pub use fault::JournalFault;

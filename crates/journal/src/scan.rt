@@ -5,7 +5,7 @@ ghost use Rattle.sector_disk.specs.rules.DiskImage.{DiskImage};
 ghost use Rattle.sector_disk.specs.rules.Medium.{CallsUpTo};
 ghost use Rattle.disk_layout.specs.rules.Places.{journal_place, total_sectors};
 ghost use Rattle.disk_layout.specs.rules.Sectors.{shown_generation};
-ghost use Rattle.disk_layout.specs.rules.Journal.{payloads_from};
+ghost use Rattle.disk_layout.specs.Scanned.{payloads_from};
 ghost use Rattle.disk_layout.specs.rules.Stored.{OnlyReads};
 ghost use Rattle.journal.specs.rules.Steps.{ShowsLater};
 

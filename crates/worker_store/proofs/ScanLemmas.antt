@@ -1,5 +1,5 @@
 -- What is read of a journal, by what a scan of it has found.
-use Rattle.std.proofs.Common.{◌≡◌, ◌⊎◌, inl, inr, ℕ, ◌+◌, ◌<◌, refl, sym, ap, ◌∙◌, subst, arith}
+use Rattle.std.proofs.Common.{◌≡◌, ◌⊎◌, inl, inr, ℕ, ◌+◌, ◌<◌, refl, sym, subst, arith}
 use Rattle.std.proofs.Common.{add-zero}
 use Rattle.std.specs.Prelude.{Result, Ok, Err, Vec, IsTrue, ◌↔◌}
 use Rattle.std.specs.declared.alloc.Global.{Global}
@@ -11,13 +11,14 @@ use Rattle.disk_layout.specs.declared.damage.Damage.{Damage}
 use Rattle.disk_layout.specs.declared.damage.Damage.TheVariants as damage
 use Rattle.disk_layout.specs.declared.fault.LayoutFault.TheVariants as layout
 use Rattle.disk_layout.specs.declared.geometry.Geometry.{Geometry}
-use Rattle.disk_layout.specs.rules.Journal.{Record, scan}
+use Rattle.disk_layout.specs.rules.Journal.{Record}
 use Rattle.disk_layout.specs.rules.Places.{journal_place}
 use Rattle.disk_layout.specs.rules.Sectors.{shown_generation}
 use Rattle.journal.specs.declared.fault.JournalFault.{JournalFault}
 use Rattle.journal.specs.declared.fault.JournalFault.TheVariants as journal
 use Rattle.journal.specs.declared.scanned.ScannedJournal.{ScannedJournal}
-use Rattle.journal.specs.rules.Steps.{ShowsLater}
+use Rattle.journal.specs.rules.Steps.{JournalHolds, ShowsLater}
+use Rattle.journal.proofs.HeldLemmas.{holds_one_list}
 use Rattle.worker_store.specs.restart_theorem.Stands.{ShowsNoneLater}
 use Rattle.worker_store.specs.declared.read_fault.ReadFault.{ReadFault}
 use Rattle.worker_store.specs.declared.read_fault.ReadFault.TheVariants as read
@@ -32,12 +33,13 @@ use Rattle.worker_store.specs.rules.Savepoints.{places}
 module _ (geometry : Geometry) (version : Version) (g : ℕ) (disk : DiskImage) where
   -- of what was scanned
   pub judged_scan : (scanned : ScannedJournal)
-      → scanned.records.items ≡ scan geometry version disk g
+      → JournalHolds geometry version g scanned.records.items disk
       → (IsTrue scanned.shows_later ↔ ShowsLater geometry g disk)
       → (result : Result (Vec Record Global) ReadFault) → JudgesScan scanned result
       → TellsRecords geometry version g disk result
   judged_scan scanned are later (Ok found) judges = (
-    ap (λ (v : Vec Record Global). v.items) judges.0 ∙ are,
+    subst (λ (v : Vec Record Global). JournalHolds geometry version g v.items disk)
+        (sym judges.0) are,
     λ shows. judges.1 (later.1 shows),
   )
   judged_scan scanned are later (Err why) judges =
@@ -101,9 +103,11 @@ pub reads_records : (geometry : Geometry) (version : Version) (g : ℕ) (disk : 
     → ReadsRecords geometry version g disk result
 reads_records geometry version g disk (Ok found) tells =
     λ m config point records last at placed same_version same_generation.
-    tells.0 ∙ ap (λ (p : Geometry). scan p version disk g) placed
-    ∙ ap (λ v. scan (places point) v disk g) same_version
-    ∙ ap (λ n. scan (places point) point.saved.version disk n) same_generation ∙ at.scanned
+    holds_one_list (places point) point.saved.version point.generation found.items records disk
+    (subst (λ n. JournalHolds (places point) point.saved.version n found.items disk)
+    same_generation (subst (λ v. JournalHolds (places point) v g found.items disk) same_version
+    (subst (λ (p : Geometry). JournalHolds p version g found.items disk) placed tells.0)))
+    at.in_journal
 reads_records geometry version g disk
     (Err (read.Layout (layout.Damaged damage.LaterGeneration))) tells =
     λ m config point records last at placed same_version same_generation.

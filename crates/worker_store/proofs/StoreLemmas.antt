@@ -281,22 +281,27 @@ module _ {D : Type 0} (medium : D → Medium) where
 -- ---- why a barrier fails
 
 barrier_fault : (store : WorkerStore) (after : JournalState) (old new : Medium)
-    (fault : JournalFault) → StoresKept store.geometry store.journal after (Err fault) old new
+    (fault : JournalFault) → total_sectors store.geometry ≤ old.sectors
+    → StoresKept store.geometry store.journal after (Err fault) old new
     → BarrierFails store old new (fault_of_journal fault)
-barrier_fault store after old new of_journal.Full stores = let full = stores.full.0 refl in
+barrier_fault store after old new of_journal.Full enough stores = let full = stores.full.0 refl in
     (full.1, full.2)
-barrier_fault store after old new of_journal.TooLong stores = absurd (stores.not_too_long refl)
-barrier_fault store after old new (of_journal.Disk fault) stores = stores.cause fault refl
-barrier_fault store after old new of_journal.Memory stores = absurd (stores.no_memory refl)
-barrier_fault store after old new of_journal.Failed stores = stores.failed.0 refl
+barrier_fault store after old new of_journal.TooLong enough stores =
+    absurd (stores.not_too_long refl)
+barrier_fault store after old new (of_journal.Disk fault) enough stores =
+    ⊎_elim (λ (few : old.sectors < total_sectors store.geometry).
+    absurd (omega (arith, few, enough))) (λ cause. cause) (stores.cause fault refl)
+barrier_fault store after old new of_journal.Memory enough stores = absurd (stores.no_memory refl)
+barrier_fault store after old new of_journal.Failed enough stores = stores.failed.0 refl
 
 pub barrier_fails_so : (store : WorkerStore) (after : JournalState) (old new : Medium)
     (fault : JournalFault) (e : StoreFault) → e ≡ fault_of_journal fault
+    → total_sectors store.geometry ≤ old.sectors
     → StoresKept store.geometry store.journal after (Err fault) old new
     → BarrierFails store old new e
-barrier_fails_so store after old new fault e is stores =
+barrier_fails_so store after old new fault e is enough stores =
     subst (λ (f : StoreFault). BarrierFails store old new f) (sym is)
-    (barrier_fault store after old new fault stores)
+    (barrier_fault store after old new fault enough stores)
 
 -- ---- what a failure changes
 

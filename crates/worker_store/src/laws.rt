@@ -28,7 +28,7 @@ ghost use Rattle.worker_store.specs.laws.Commits.{FillingKeepsWorker, CommitKeep
 ghost use Rattle.worker_store.specs.laws.Commits.{ReplacingBegins};
 ghost use Rattle.worker_store.specs.laws.Readings.{ReadsTheModule, FindsThePoint, ReadsThePoint};
 ghost use Rattle.worker_store.specs.laws.Readings.{ReadsUndamaged, FindsNewestPoint};
-ghost use Rattle.worker_store.specs.laws.Readings.{ScansTheRecords};
+ghost use Rattle.worker_store.specs.laws.Readings.{HoldsTheRecords};
 ghost use Rattle.worker_store.specs.laws.Carried.{HeldAtHoldsPromise, PromiseIsHeldAt, LessIsHeld};
 ghost use Rattle.worker_store.specs.laws.Carried.{MarkedIsHeld, BlankIsUnopened, StaysCarried};
 ghost use Rattle.worker_store.specs.laws.Carried.{NextIsHeld, FreshIsHeld, SavedIsHeld};
@@ -152,7 +152,7 @@ pub fn disks_give_what_they_stand_by()
     ensures bytes { ReadsThePoint }
     ensures undamaged { ReadsUndamaged }
     ensures newest { FindsNewestPoint }
-    ensures records { ScansTheRecords }
+    ensures records { HoldsTheRecords }
 {}
 
 /// What is at a savepoint holds of a promise what the savepoint and its records hold. A next

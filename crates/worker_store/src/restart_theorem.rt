@@ -81,7 +81,8 @@ ghost use Rattle.worker_store.specs.restart_theorem.laws.Disks.{StandsByItsParts
 ghost use Rattle.worker_store.specs.restart_theorem.laws.Disks.{HeadsTellWidenings};
 ghost use Rattle.worker_store.specs.restart_theorem.laws.Disks.{RunsKeepNumbers, RecordsKeepNumbers};
 ghost use Rattle.worker_store.specs.restart_theorem.laws.Disks.{SavedAreNumbered};
-ghost use Rattle.worker_store.specs.restart_theorem.laws.Disks.{NoLaterProcessImage, NoLaterPayload};
+ghost use Rattle.worker_store.specs.restart_theorem.laws.Disks.{NoLaterProcessImage, NoLaterSector};
+ghost use Rattle.worker_store.specs.restart_theorem.laws.Disks.{NoLaterRecord};
 ghost use Rattle.worker_store.specs.restart_theorem.laws.Disks.{OneGeneration};
 ghost use Rattle.worker_store.specs.restart_theorem.laws.Disks.{OneSpelledWorker, StandsWithin, BlankIsWithin};
 ghost use Rattle.worker_store.specs.restart_theorem.laws.Disks.{DiskExamples};
@@ -194,7 +195,8 @@ pub fn numbers_only_grow()
 pub fn disks_stand_by_one_generation()
     ensures blank { BlankStandsForNone }
     ensures process_image { NoLaterProcessImage }
-    ensures payload { NoLaterPayload }
+    ensures sector { NoLaterSector }
+    ensures record { NoLaterRecord }
     ensures one { OneGeneration }
     ensures spelled { OneSpelledWorker }
     ensures within { StandsWithin }

@@ -71,6 +71,13 @@ impl WorkerStore {
         self.journal.fail();
     }
 
+    /// How many sectors the disk of the store has at least.
+    pub fn total_sectors(&self) -> u64
+        ensures { result ≡ total_sectors self.now.geometry }
+    {
+        self.geometry.total_sectors()
+    }
+
     /// The version of the records.
     pub fn version(&self) -> Version
         ensures { result ≡ self.now.journal.version }

@@ -7,7 +7,8 @@ use Rattle.sector_disk.specs.rules.DiskImage.{front_over}
 use Rattle.disk_layout.specs.rules.Places.{geometry_of, config_bytes, rounded_up}
 use Rattle.disk_layout.specs.rules.Places.{head_place, area_place, journal_place, total_sectors}
 use Rattle.disk_layout.specs.rules.Sectors.{shown_generation}
-use Rattle.disk_layout.specs.rules.Journal.{Record, record_bytes, record_at, journal_sector}
+use Rattle.disk_layout.specs.rules.Journal.{Record, record_bytes, journal_sector}
+use Rattle.disk_layout.specs.Scanned.{record_at}
 
 -- one page, one unit of files, a journal of 64 sectors, and the argument `worker`
 abbrev pub small : Settings

@@ -7,9 +7,9 @@ use Rattle.wasi_abi.specs.declared.version.Version.{Version}
 use Rattle.wasi_abi.specs.declared.version.Version.TheVariants.{One, Two}
 use Rattle.sector_disk.specs.rules.DiskImage.{DiskImage}
 use Rattle.disk_layout.specs.rules.Places.{Geometry}
-use Rattle.disk_layout.specs.rules.Journal.{Record, record_bytes, record_at, answer_of}
-use Rattle.disk_layout.specs.rules.Journal.{journal_sector, payloads_from, scan}
-use Rattle.disk_layout.specs.rules.Journal.{longest_record, TakesRecords}
+use Rattle.disk_layout.specs.rules.Journal.{Record, record_bytes, journal_sector, longest_record}
+use Rattle.disk_layout.specs.rules.Journal.{TakesRecords}
+use Rattle.disk_layout.specs.Scanned.{record_at, answer_of, payloads_from, scan}
 use Rattle.disk_layout.specs.declared.journal_sectors.TheConstants.{PAYLOAD_SIZE}
 use Rattle.disk_layout.specs.laws.Examples.{hello_record}
 

@@ -1,5 +1,6 @@
 -- Worked examples of journals: what is in their sectors, and what a barrier may leave.
-use Rattle.std.specs.Prelude.{◌≡◌, ◌-◌, ◌^◌, ℕ, false, List, [], ◌∷◌, ◌++◌, length, take, replicate}
+use Rattle.std.specs.Prelude.{◌≡◌, ◌-◌, ◌^◌, ℕ, false, List, [], ◌∷◌, ◌++◌, length, take, drop}
+use Rattle.std.specs.Prelude.{replicate}
 use Rattle.wasi_abi.specs.declared.answer.Answer.TheVariants as answer
 use Rattle.wasi_abi.specs.declared.version.Version.TheVariants.{One, Two}
 use Rattle.sector_disk.specs.rules.DiskImage.{DiskImage}
@@ -8,11 +9,11 @@ use Rattle.disk_layout.specs.rules.Places.{Geometry}
 use Rattle.disk_layout.specs.rules.Journal.{record_bytes, journal_sector}
 use Rattle.disk_layout.specs.laws.Examples.{hello_record}
 use Rattle.disk_layout.specs.laws.RecordExamples.{bare, bare_disk, end_record, spread, two_records}
-use Rattle.disk_layout.specs.laws.RecordExamples.{two_wide_records}
+use Rattle.disk_layout.specs.laws.RecordExamples.{two_wide_records, misread_hello}
 use Rattle.journal.specs.rules.Packed.{sectors_for, packed}
 use Rattle.journal.specs.rules.State.{state, room_of}
 use Rattle.journal.specs.rules.Steps.{RecordFits, records_bytes, HoldsRecords, SameOthers}
-use Rattle.journal.specs.rules.Steps.{AppendsFront, ShowsLater, barrier_calls}
+use Rattle.journal.specs.rules.Steps.{JournalHolds, AppendsFront, ShowsLater, barrier_calls}
 
 pub record PackingExamples : Type 0 where
   pub no_sector : sectors_for 0 ≡ 0
@@ -53,7 +54,7 @@ pub record FittingExamples : Type 0 where
   pub too_long_in_two : (text : List ℕ) → length text ≡ 65537
       → RecordFits Two (record { step = 0; answer = answer.Request text }) → ⊥
 
--- ---- what is held
+-- ---- what is stored
 
 -- two records in two sectors of generation 5, and after them one of this generation
 abbrev pub before_one_of : ℕ → DiskImage
@@ -84,6 +85,31 @@ pub record HoldingExamples : Type 0 where
   -- lengths of two bytes in a journal of version 2
   pub of_the_other_version : HoldsRecords bare Two 5 2 (hello_record ∷ end_record ∷ [])
       (spread 12 two_records) → ⊥
+
+-- ---- what a journal holds
+
+-- a record, and in a sector of generation g another one
+abbrev pub hello_and_end : ℕ → DiskImage
+hello_and_end g = bare_disk (journal_sector 5 1 (record_bytes One hello_record))
+    (journal_sector g 2 (record_bytes One end_record)) []
+
+pub record JournalHoldsExamples : Type 0 where
+  pub in_two_sectors : JournalHolds bare One 5 (hello_record ∷ end_record ∷ [])
+      (spread 12 two_records)
+  -- a record is left out
+  pub one_short : JournalHolds bare One 5 (hello_record ∷ []) (spread 12 two_records) → ⊥
+  pub up_to_a_cut : JournalHolds bare One 5 (hello_record ∷ []) (spread 12 (take 26 two_records))
+  pub up_to_a_sixth_kind : JournalHolds bare One 5 [] (spread 12 (6 ∷ drop 1 two_records))
+  pub of_another_generation : JournalHolds bare One 4 [] (spread 12 two_records)
+  pub up_to_an_earlier_one : JournalHolds bare One 5 (hello_record ∷ []) (hello_and_end 4)
+  pub up_to_a_later_one : JournalHolds bare One 5 (hello_record ∷ []) (hello_and_end 6)
+  -- the second record is of an earlier generation
+  pub over_an_earlier_one : JournalHolds bare One 5 (hello_record ∷ end_record ∷ [])
+      (hello_and_end 4) → ⊥
+  pub in_two : JournalHolds bare Two 5 (hello_record ∷ end_record ∷ [])
+      (spread 12 two_wide_records)
+  pub in_the_wrong_version : JournalHolds bare One 5 (misread_hello ∷ [])
+      (spread 12 two_wide_records)
 
 -- ---- what a barrier may leave
 

@@ -5,7 +5,7 @@ use Rattle.sector_disk.specs.rules.DiskImage.{DiskImage}
 use Rattle.sector_disk.specs.rules.Medium.{Medium, After, LeavesOnly, Passes, IsAllSynced, spare}
 use Rattle.sector_disk.specs.rules.Medium.{CallsUpTo, CountsUpTo, PerformsCalls}
 use Rattle.sector_disk.specs.declared.fault.DiskFault.{DiskFault}
-use Rattle.disk_layout.specs.rules.Places.{Geometry}
+use Rattle.disk_layout.specs.rules.Places.{Geometry, total_sectors}
 use Rattle.disk_layout.specs.rules.Journal.{Record}
 use Rattle.journal.specs.declared.fault.JournalFault.{JournalFault}
 use Rattle.journal.specs.declared.fault.JournalFault.TheVariants.{Full, TooLong, Memory, Failed}
@@ -27,9 +27,10 @@ pub record StoresKept (geometry : Geometry) (before after : JournalState)
   -- they take more sectors than the journal has left
   pub full : (result ≡ Err Full) ↔ ((before.has_failed ≡ false) × (0 < length before.kept)
       × (geometry.journal_sectors < before.used + sectors_for (length before.kept)))
-  -- the disk has no room for so many writes, or it failed
+  -- the disk has too few sectors, or no room for so many writes, or it failed
   pub cause : (fault : DiskFault) → result ≡ Err (Disk fault)
-      → (spare old < sectors_for (length before.kept)) ⊎ (old.faults < new.faults)
+      → (old.sectors < total_sectors geometry)
+      ⊎ ((spare old < sectors_for (length before.kept)) ⊎ (old.faults < new.faults))
   -- it takes no memory, and looks at no payload
   pub no_memory : IsErrOf result Memory → ⊥
   pub not_too_long : IsErrOf result TooLong → ⊥

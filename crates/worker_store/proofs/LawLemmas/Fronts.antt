@@ -3,20 +3,18 @@ use Rattle.std.proofs.Common.{◌≡◌, ℕ, zero, suc, ◌+◌, ◌<◌, List,
 use Rattle.std.proofs.Common.{◌∙◌, arith}
 use Rattle.std.specs.Prelude.{map, length, take}
 use Rattle.std.proofs.Common.{append_assoc}
-use Rattle.std.proofs.lemmas.List.{append-nil, map-append}
+use Rattle.std.proofs.lemmas.List.{map-append}
 use Rattle.std.proofs.Math.Seq.{take-append-add}
 use Rattle.wasm_syntax.specs.declared.module.Module.{Module}
-use Rattle.wasi_abi.specs.declared.version.Version.{Version}
 use Rattle.wasi_abi.specs.rules.Configs.{Settings}
 use Rattle.process_rules.specs.Processes.{ProcessState, Guest}
 use Rattle.process_rules.specs.Runs.{Kept}
 use Rattle.sector_disk.specs.rules.DiskImage.{DiskImage}
 use Rattle.disk_layout.specs.rules.Places.{Geometry, journal_place}
-use Rattle.disk_layout.specs.rules.Journal.{Record, scan}
-use Rattle.journal.specs.rules.Steps.{HoldsRecords, AllRecordsFit, records_bytes}
-use Rattle.journal.specs.rules.Steps.{SameOthers, ShowsNoneAfter}
-use Rattle.journal.proofs.RunLemmas.{all_bytes}
-use Rattle.journal.proofs.RecordLemmas.{scan_of}
+use Rattle.disk_layout.specs.rules.Journal.{Record}
+use Rattle.journal.specs.rules.Steps.{JournalHolds, SameOthers, ShowsNoneAfter}
+use Rattle.journal.proofs.HeldLemmas.{holds_what_is_stored}
+use Rattle.journal.proofs.SpelledLemmas.{both_fit}
 use Rattle.record_replay.specs.rules.Records.{Recorded, none, more, given_in}
 use Rattle.record_replay.proofs.Recordings.{recorded_join}
 use Rattle.worker_store.specs.restart_theorem.Stands.{IsNumbered}
@@ -38,26 +36,6 @@ recorded_once guest p q r s records a n recorded runs moves =
     recorded_join guest p q s records (record { step = s.steps; answer = a } ∷ []) recorded
     (more runs moves none)
 
-pub both_fit : (v : Version) (records others : List Record) → AllRecordsFit v records
-    → AllRecordsFit v others → AllRecordsFit v (records ++ others)
-both_fit v [] others fit fit_others = fit_others
-both_fit v (r ∷ records) others fit fit_others =
-    (fit.0, both_fit v records others fit.1 fit_others)
-
--- the records that are held are scanned
-pub scanned_all : (v : Version) (geometry : Geometry) (g used : ℕ) (records : List Record)
-    (disk : DiskImage) → HoldsRecords geometry v g used records disk → AllRecordsFit v records
-    → scan geometry v disk g ≡ records
-scanned_all v geometry g used records disk stands fit =
-    let read = all_bytes geometry g used (records_bytes v records) disk stands in
-    let front = scan_of v geometry disk g 0 records [] fit tt
-    (read ∙ sym (append-nil (records_bytes v records))) in
-    front.2 ∙ ap (λ l. records ++ l) (no_front front.0) ∙ append-nil records
-  where
-    no_front : (count : ℕ) → take count (let l : List Record = [] in l) ≡ []
-    no_front zero = refl
-    no_front (suc count) = refl
-
 -- ---- an image
 
 -- all below the journal stays
@@ -74,10 +52,10 @@ with_journal : (m : Module) (config : Settings) (point : Savepoint m config)
     (records later : List Record) (last q : ProcessState) (used : ℕ) (old new : DiskImage)
     → IsAtSavepoint point records last old → SameOthers (places point) used old new
     → ShowsNoneAfter (places point) point.generation new
-    → scan (places point) point.saved.version new point.generation ≡ later
+    → JournalHolds (places point) point.saved.version point.generation later new
     → Recorded point.reached.guest point.process later q → IsNumbered q
     → IsAtSavepoint point later q new
-with_journal m config point records later last q used old new at others none_later scanned
+with_journal m config point records later last q used old new at others none_later in_journal
     recorded numbers =
     let same = below_same (places point) used old new others in
     let now = at.none_later in
@@ -86,7 +64,7 @@ with_journal m config point records later last q used old new at others none_lat
           (same 0 (some_below (places point) 0 (omega arith)))
           (λ k from below. same k (contents_below (places point) k below)) at.worker;
       holds = process_image_below (places point) old new point.generation _ _ same at.holds;
-      scanned = scanned;
+      in_journal = in_journal;
       recorded = recorded;
       numbers = numbers;
       none_later = none_later_of (places point) new point.generation
@@ -110,20 +88,20 @@ barrier_leaves_front m config point records pending last q used old new at recor
       process = front.process;
       recorded = front.recorded;
       at = with_journal m config point records (records ++ take appends.count pending) last
-          front.process used old new at appends.others appends.none_later appends.scanned all
+          front.process used old new at appends.others appends.none_later appends.in_journal all
           (records_keep_numbers guest front.process q front.others front.on numbers);
     }
 
 pub barrier_leaves_all : BarrierLeavesAll
 barrier_leaves_all m config point records pending last q used count old new at recorded numbers
     appends fit fit_pending stands =
-    let scanned = scanned_all point.saved.version (places point) point.generation count
-    (records ++ pending) new stands (both_fit point.saved.version records pending fit
+    let in_journal = holds_what_is_stored (places point) point.saved.version point.generation
+    count (records ++ pending) new stands (both_fit point.saved.version records pending fit
     fit_pending) in
     let all = recorded_join point.reached.guest point.process last q records pending at.recorded
     recorded in
     with_journal m config point records (records ++ pending) last q used old new at
-    appends.others appends.none_later scanned all numbers
+    appends.others appends.none_later in_journal all numbers
 
 -- ---- what it stands for
 
@@ -184,7 +162,7 @@ barrier_stands m config kept n old new stands pending q used recorded numbers ap
     let all = recorded_join stands.reached.guest stands.process stands.last front.process
     stands.records more stands.recorded front.recorded in
     let now = with_journal m config point stands.records (stands.records ++ more) stands.last
-    front.process used old new at appends.others appends.none_later appends.scanned all
+    front.process used old new at appends.others appends.none_later appends.in_journal all
     (records_keep_numbers stands.reached.guest front.process q front.others front.on numbers) in (
       front.process,
       front.recorded,

@@ -14,9 +14,10 @@ use Rattle.record_replay.specs.rules.Records.{none}
 use Rattle.worker_store.specs.rules.Savepoints.{places}
 use Rattle.worker_store.specs.laws.Journaled.{BarrierAtAnyMoment, BarrierInTheEnd}
 use Rattle.worker_store.specs.laws.Journaled.{AppendGoesOn, StaysJournaled, BeginsJournaled}
-use Rattle.worker_store.proofs.LawLemmas.Fronts.{recorded_once, both_fit, barrier_leaves_front}
+use Rattle.worker_store.proofs.LawLemmas.Fronts.{recorded_once, barrier_leaves_front}
 use Rattle.worker_store.proofs.LawLemmas.Fronts.{barrier_leaves_all}
-use Rattle.worker_store.proofs.LawLemmas.Replacing.{no_records}
+use Rattle.journal.proofs.HeldLemmas.{fresh_holds_none}
+use Rattle.journal.proofs.SpelledLemmas.{both_fit}
 use Rattle.worker_store.proofs.LawLemmas.Passing.{step_at_any_moment, crashed_in_the_end}
 
 -- ---- the bytes in memory
@@ -137,7 +138,7 @@ module _ {D : Type 0} (medium : D → Medium) where
     on = record {
       holds_records = λ image crashed.
           let begun = begins image crashed in
-          no_records point.saved.version (places point) point.generation image begun.earlier;
+          fresh_holds_none (places point) point.saved.version point.generation image begun.earlier;
       spells = refl;
       fit = tt;
       fit_kept = tt;

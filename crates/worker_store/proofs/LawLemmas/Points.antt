@@ -14,7 +14,8 @@ use Rattle.state_image.proofs.Marks.{version_of_process_image}
 use Rattle.sector_disk.specs.rules.DiskImage.{DiskImage}
 use Rattle.disk_layout.specs.rules.Places.{Geometry, geometry_of}
 use Rattle.disk_layout.specs.rules.Sectors.{HasWorker, HoldsProcessImage}
-use Rattle.disk_layout.specs.rules.Journal.{Record, scan}
+use Rattle.disk_layout.specs.rules.Journal.{Record}
+use Rattle.journal.specs.rules.Steps.{JournalHolds}
 use Rattle.wasi_abi.specs.rules.Versions.{version_number}
 use Rattle.record_replay.specs.rules.Records.{Recorded, none, more, given_in}
 use Rattle.worker_store.specs.restart_theorem.Stands.{ShowsNoneLater}
@@ -78,7 +79,7 @@ pub is_at_its_savepoint : IsAtItsSavepoint
 is_at_its_savepoint disk m config kept n stands = record {
   worker = stands.worker;
   holds = stands.holds;
-  scanned = stands.scanned;
+  in_journal = stands.in_journal;
   recorded = stands.recorded;
   numbers = stands.numbers;
   none_later = stands.none_later;
@@ -106,7 +107,7 @@ by_point m config point records last disk kept n at rest step = record {
     table = point.table;
     shown = point.shown;
     records = records;
-    scanned = at.scanned;
+    in_journal = at.in_journal;
     rest = rest;
     last = last;
     recorded = at.recorded;
@@ -148,10 +149,10 @@ read_alike_is_at_savepoint m config point other records last q disk found at the
     record {
       worker = subst (λ w. HasWorker config w found) wasm there.worker;
       holds = holds;
-      scanned = subst (λ w. scan (place point.wasm) w found point.generation ≡ records) version
-          (subst (λ g. scan (place point.wasm) v found g ≡ records) generation
-          (subst (λ w. scan (place w) v found other.generation ≡ records) wasm
-          there.scanned));
+      in_journal = subst (λ w. JournalHolds (place point.wasm) w point.generation records found)
+          version (subst (λ g. JournalHolds (place point.wasm) v g records found) generation
+          (subst (λ w. JournalHolds (place w) v other.generation records found) wasm
+          there.in_journal));
       recorded = at.recorded;
       numbers = at.numbers;
       none_later = subst (λ g. ShowsNoneLater (place point.wasm) found g) generation

@@ -15,12 +15,13 @@ use Rattle.disk_layout.specs.declared.head.Head.{Head}
 use Rattle.wasi_abi.specs.rules.Versions.{version_number}
 use Rattle.disk_layout.proofs.ReadingLemmas.HeldLemmas.{one_answer}
 use Rattle.disk_layout.proofs.ReadingLemmas.WrittenLemmas.{reads_what_is_written}
+use Rattle.journal.proofs.HeldLemmas.{holds_one_list}
 use Rattle.snapshot.specs.rules.Heads.{FindsHead}
 use Rattle.snapshot.proofs.AreaLemmas.{one_newest}
 use Rattle.snapshot.proofs.LawLemmas.{shows_one}
 use Rattle.worker_store.specs.rules.Savepoints.{Savepoint, places, IsAtSavepoint}
 use Rattle.worker_store.specs.laws.Readings.{ReadsTheModule, FindsThePoint, ReadsThePoint}
-use Rattle.worker_store.specs.laws.Readings.{ReadsUndamaged, FindsNewestPoint, ScansTheRecords}
+use Rattle.worker_store.specs.laws.Readings.{ReadsUndamaged, FindsNewestPoint, HoldsTheRecords}
 
 pub reads_the_module : ReadsTheModule
 reads_the_module m config point records last disk sectors answer at room of_disk gives =
@@ -112,5 +113,7 @@ finds_newest_point m config point records last disk at = record {
       at.holds damaged;
 }
 
-pub scans_the_records : ScansTheRecords
-scans_the_records m config point records last disk at = at.scanned
+pub holds_the_records : HoldsTheRecords
+holds_the_records m config point records others last disk at holds =
+    holds_one_list (places point) point.saved.version point.generation others records disk holds
+    at.in_journal

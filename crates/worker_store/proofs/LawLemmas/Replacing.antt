@@ -1,9 +1,8 @@
 -- What a commit leaves.
-use Rattle.std.proofs.Common.{◌≡◌, ◌≢◌, ℕ, ◌+◌, ◌-◌, ◌*◌, ◌%◌, ◌<◌, ◌≤◌, List, [], length, refl}
-use Rattle.std.proofs.Common.{sym, ap, ◌∙◌, subst, inl, inr, ⊎_elim, arith}
+use Rattle.std.proofs.Common.{◌≡◌, ◌≢◌, ℕ, ◌+◌, ◌-◌, ◌*◌, ◌%◌, ◌<◌, ◌≤◌, List, length}
+use Rattle.std.proofs.Common.{sym, ap, subst, inl, inr, ⊎_elim, arith}
 use Rattle.sha2.specs.Sha256.{sha256}
 use Rattle.wasm_syntax.specs.declared.module.Module.{Module}
-use Rattle.wasi_abi.specs.declared.version.Version.{Version}
 use Rattle.wasi_abi.specs.rules.Configs.{Settings}
 use Rattle.process_rules.specs.Processes.{ProcessState}
 use Rattle.state_image.specs.rules.ProcessImage.{process_image}
@@ -13,7 +12,7 @@ use Rattle.disk_layout.specs.rules.Places.{journal_place}
 use Rattle.disk_layout.specs.rules.Sectors.{Head, HasWorker, IsNewest, shown_generation}
 use Rattle.disk_layout.specs.rules.Journal.{Record}
 use Rattle.wasi_abi.specs.rules.Versions.{version_number}
-use Rattle.journal.specs.rules.Steps.{HoldsRecords, ShowsEarlierThan}
+use Rattle.journal.specs.rules.Steps.{ShowsEarlierThan}
 use Rattle.snapshot.specs.rules.Heads.{heads_to, IsReadyForHead}
 use Rattle.snapshot.specs.rules.Steps.{KeepsNewest, HasNew, IsOutsideArea}
 use Rattle.snapshot.proofs.AreaLemmas.{parity}
@@ -23,10 +22,10 @@ use Rattle.worker_store.specs.rules.Savepoints.{Savepoint, places, IsAtSavepoint
 use Rattle.worker_store.specs.rules.Savepoints.{IsNextPoint}
 use Rattle.worker_store.specs.laws.Commits.{NewPointBegins, PointIsReady, FillingKeepsPoint}
 use Rattle.worker_store.specs.laws.Commits.{CommitLeavesOneOfTwo, CommitBeginsNext}
-use Rattle.worker_store.proofs.LawLemmas.Sectors.{SameSector, worker_stays, scan_stays}
+use Rattle.worker_store.proofs.LawLemmas.Sectors.{SameSector, worker_stays}
 use Rattle.worker_store.proofs.LawLemmas.Sectors.{none_later_of}
 use Rattle.worker_store.proofs.LawLemmas.Sectors.{none_after_of}
-use Rattle.worker_store.proofs.LawLemmas.Fronts.{scanned_all}
+use Rattle.journal.proofs.HeldLemmas.{holds_still, holds_none_of_later}
 
 -- ---- places outside an area
 
@@ -104,8 +103,8 @@ kept_point m config point records last old new at super contents journal keeps =
       worker = worker_stays config point.wasm old new super contents at.worker;
       holds = keeps.process_image point.generation (version_number point.saved.version)
           (process_image point.saved) at.holds;
-      scanned = scan_stays (places point) old new point.generation point.saved.version
-          (λ k below. journal k) ∙ at.scanned;
+      in_journal = holds_still (places point) point.saved.version point.generation records old new
+          (λ k below. journal k) at.in_journal;
       recorded = at.recorded;
       numbers = at.numbers;
       none_later = record {
@@ -128,15 +127,6 @@ filling_keeps_point m config point records last old new at fills =
 
 -- ---- where the new one is there
 
-pub no_records : (v : Version) (geometry : Geometry) (g : ℕ) (disk : DiskImage)
-    → ShowsEarlierThan geometry g disk → HoldsRecords geometry v g 0 [] disk
-no_records v geometry g disk earlier = record {
-  within = omega arith;
-  written = λ k below. absurd (omega (arith, below));
-  holds = refl;
-  clean = λ k from below. earlier k below;
-}
-
 pub new_point_begins : NewPointBegins
 new_point_begins m config point disk numbers worker new earlier =
     let within : heads_to disk ≤ point.generation = same_within _ _ new.heads in
@@ -144,8 +134,8 @@ new_point_begins m config point disk numbers worker new earlier =
       at = record {
         worker = worker;
         holds = new.holds;
-        scanned = scanned_all point.saved.version (places point) point.generation 0 [] disk
-            (no_records point.saved.version (places point) point.generation disk earlier) tt;
+        in_journal = holds_none_of_later (places point) point.saved.version point.generation disk
+            earlier;
         recorded = none;
         numbers = numbers;
         none_later = none_later_of (places point) disk point.generation

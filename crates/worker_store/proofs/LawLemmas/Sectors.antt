@@ -1,16 +1,13 @@
 -- What is read of an image, where the sectors that it is read of stay.
 use Rattle.std.proofs.Common.{◌≡◌, ℕ, ◌+◌, ◌-◌, ◌<◌, ◌≤◌, List, ◌++◌, length, take, sym, ap, ◌∙◌}
 use Rattle.std.proofs.Common.{subst, arith}
-use Rattle.wasi_abi.specs.declared.version.Version.{Version}
 use Rattle.wasi_abi.specs.rules.Configs.{Settings}
 use Rattle.sector_disk.specs.rules.DiskImage.{DiskImage, sector_at}
 use Rattle.disk_layout.specs.rules.Places.{Geometry, geometry_of, config_bytes, head_place}
 use Rattle.disk_layout.specs.rules.Places.{area_place, journal_place}
 use Rattle.disk_layout.specs.rules.Sectors.{HasWorker, HoldsProcessImage, SectorsHold}
 use Rattle.disk_layout.specs.rules.Sectors.{shown_generation}
-use Rattle.disk_layout.specs.rules.Journal.{scan, records_at}
 use Rattle.snapshot.proofs.AreaLemmas.{bytes_same, newest_moves, area_in}
-use Rattle.journal.proofs.PackedLemmas.{payloads_same}
 use Rattle.journal.specs.rules.Steps.{ShowsNoneAfter}
 use Rattle.worker_store.specs.restart_theorem.Stands.{ShowsNoneLater}
 
@@ -75,16 +72,6 @@ process_image_below geometry old new g version bytes same holds =
     process_image_stays geometry old new g version bytes
     (λ n. same (head_place n) (heads_below geometry n))
     (λ k from below. same k (in_area geometry g k from below)) holds
-
--- ---- the journal
-
-pub scan_stays : (geometry : Geometry) (old new : DiskImage) (g : ℕ)
-    (v : Version)
-    → ((k : ℕ) → k < geometry.journal_sectors → SameSector old new (journal_place geometry + k))
-    → scan geometry v new g ≡ scan geometry v old g
-scan_stays geometry old new g v same =
-    ap (λ l. records_at v (length l) l)
-    (payloads_same new old g (journal_place geometry) 1 geometry.journal_sectors same)
 
 -- ---- generations
 

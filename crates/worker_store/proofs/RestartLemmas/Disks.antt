@@ -1,5 +1,5 @@
 -- What disk images stand for.
-use Rattle.std.proofs.Common.{◌≡◌, ℕ, zero, suc, ◌+◌, ◌-◌, ◌%◌, ◌^◌, ◌<◌, ◌≤◌, Bool, false, List}
+use Rattle.std.proofs.Common.{◌≡◌, ℕ, zero, suc, ◌+◌, ◌%◌, ◌^◌, ◌<◌, ◌≤◌, Bool, false, List}
 use Rattle.std.proofs.Common.{[], ◌++◌, Some, Result, Ok, if◌then◌else◌, refl, sym, ap, ◌∙◌}
 use Rattle.std.proofs.Common.{subst, arith, lit≤, get_or}
 use Rattle.std.specs.Prelude.{map, length, take}
@@ -21,7 +21,10 @@ use Rattle.disk_layout.specs.rules.Places.{journal_place, total_sectors}
 use Rattle.disk_layout.specs.declared.superblock.TheConstants.{SUPER_END_MARK}
 use Rattle.disk_layout.specs.rules.Sectors.{IsMarked, super_bytes, stamp_of, shown_generation}
 use Rattle.disk_layout.specs.rules.Sectors.{HoldsProcessImage}
-use Rattle.disk_layout.specs.rules.Journal.{is_of, payloads_from, scan}
+use Rattle.disk_layout.specs.rules.Journal.{is_of}
+use Rattle.journal.specs.rules.Steps.{JournalHolds}
+use Rattle.journal.proofs.HeldLemmas.{holds_one_list, holds_none_of_later}
+use Rattle.worker_store.proofs.LawLemmas.Sectors.{none_after_of}
 use Rattle.disk_layout.specs.declared.fault.LayoutFault.{LayoutFault}
 use Rattle.disk_layout.specs.declared.reading.contents.Contents.{Contents}
 use Rattle.disk_layout.specs.rules.Held.{GivesContents}
@@ -35,7 +38,7 @@ use Rattle.worker_store.specs.restart_theorem.Stands.{ShowsNoneLater, StandsFor}
 use Rattle.worker_store.specs.restart_theorem.laws.Disks.{StandsForWhatIsReached, RecordsAscend}
 use Rattle.worker_store.specs.restart_theorem.laws.Disks.{StandsByItsParts}
 use Rattle.worker_store.specs.restart_theorem.laws.Disks.{BlankStandsForNone, NoLaterProcessImage}
-use Rattle.worker_store.specs.restart_theorem.laws.Disks.{NoLaterPayload}
+use Rattle.worker_store.specs.restart_theorem.laws.Disks.{NoLaterSector, NoLaterRecord}
 use Rattle.worker_store.specs.restart_theorem.laws.Disks.{OneGeneration, tiny, tiny_disk, DiskExamples}
 use Rattle.worker_store.specs.restart_theorem.laws.Disks.{OneSpelledWorker, StandsWithin, BlankIsWithin}
 use Rattle.worker_store.specs.restart_theorem.laws.Disks.{HeadsTellWidenings}
@@ -94,8 +97,8 @@ stands_by_its_parts disk m config kept n stands =
       worker = stands.worker;
       held_image = subst (λ v. HoldsProcessImage (geometry_of config (length stands.wasm)) disk
           stands.generation (version_number v) (process_image stands.saved)) version stands.holds;
-      records = sym (subst (λ v. scan (geometry_of config (length stands.wasm)) v disk
-          stands.generation ≡ stands.records) version stands.scanned);
+      records = subst (λ v. JournalHolds (geometry_of config (length stands.wasm)) v
+          stands.generation stands.records disk) version stands.in_journal;
       kept_answers = stands.rest;
       steps = subst (λ k. k < 2 ^ 63) (sym stands.at_step) numbers.steps;
     }
@@ -192,11 +195,6 @@ pub blank_is_within : BlankIsWithin
 blank_is_within disk latest sectors blank m config kept n stands =
     absurd (blank_stands_for_none disk m config kept n blank stands)
 
-no_payloads : (disk : DiskImage) (h sector place count : ℕ)
-    → is_of h place (sector_at disk sector) ≡ false → payloads_from disk h sector place count ≡ []
-no_payloads disk h sector place zero e = refl
-no_payloads disk h sector place (suc count) e = rw e refl
-
 not_of : (h place : ℕ) (sector : List ℕ) → shown_generation place sector < h
     → is_of h place sector ≡ false
 not_of h place sector below = is_of_other h place sector
@@ -205,19 +203,16 @@ not_of h place sector below = is_of_other h place sector
     earlier : (n h : ℕ) → n < h → n ≡ h → ⊥
     earlier n h below e = omega (arith, below, e)
 
-pub no_later_payload : NoLaterPayload
-no_later_payload geometry disk g h k shows later = go (geometry.journal_sectors - k) refl
-  where
-    go : (count : ℕ) → geometry.journal_sectors - k ≡ count
-        → payloads_from disk h (journal_place geometry + k) (k + 1) count ≡ []
-    go zero e = refl
-    go (suc count) e =
-        let within : k < geometry.journal_sectors = omega (arith, e) in
-        let below : shown_generation (k + 1) (sector_at disk (journal_place geometry + k)) ≤ g =
-        shows.journal k within in
-        no_payloads disk h (journal_place geometry + k) (k + 1) (suc count)
-        (not_of h (k + 1) (sector_at disk (journal_place geometry + k))
-        (omega (arith, below, later)))
+pub no_later_sector : NoLaterSector
+no_later_sector geometry disk g h k shows later within =
+    let below = shows.journal k within in
+    not_of h (k + 1) (sector_at disk (journal_place geometry + k)) (omega (arith, below, later))
+
+pub no_later_record : NoLaterRecord
+no_later_record geometry v disk g h records shows later holds =
+    holds_one_list geometry v h records [] disk holds
+    (holds_none_of_later geometry v h disk (λ k within.
+    let below = none_after_of geometry disk g shows k within in omega (arith, below, later)))
 
 -- ---- examples
 

@@ -7,7 +7,8 @@ use Rattle.process_rules.specs.Processes.{ProcessState}
 use Rattle.state_image.specs.rules.ProcessImage.{process_image}
 use Rattle.sector_disk.specs.rules.DiskImage.{DiskImage}
 use Rattle.disk_layout.specs.rules.Places.{total_sectors}
-use Rattle.disk_layout.specs.rules.Journal.{Record, scan}
+use Rattle.disk_layout.specs.rules.Journal.{Record}
+use Rattle.journal.specs.rules.Steps.{JournalHolds}
 use Rattle.disk_layout.specs.rules.Held.{GivesContents}
 use Rattle.disk_layout.specs.laws.Reading.{IsOfTheDisk}
 use Rattle.disk_layout.specs.declared.fault.LayoutFault.{LayoutFault}
@@ -69,9 +70,10 @@ FindsNewestPoint =
     (last : ProcessState) (disk : DiskImage) → IsAtSavepoint point records last disk
     → FindsSaved point disk
 
--- the records of its journal are scanned
-abbrev pub ScansTheRecords : Type 0
-ScansTheRecords =
-    (m : Module) (config : Settings) (point : Savepoint m config) (records : List Record)
+-- the records of its journal, and no others, are those that it stands by
+abbrev pub HoldsTheRecords : Type 0
+HoldsTheRecords =
+    (m : Module) (config : Settings) (point : Savepoint m config) (records others : List Record)
     (last : ProcessState) (disk : DiskImage) → IsAtSavepoint point records last disk
-    → scan (places point) point.saved.version disk point.generation ≡ records
+    → JournalHolds (places point) point.saved.version point.generation others disk
+    → others ≡ records

@@ -14,7 +14,8 @@ use Rattle.sector_disk.specs.rules.DiskImage.{DiskImage, sector_at}
 use Rattle.disk_layout.specs.rules.Places.{Geometry, geometry_of, journal_place}
 use Rattle.disk_layout.specs.rules.Sectors.{HasMarks, HasWorker, HoldsProcessImage}
 use Rattle.disk_layout.specs.rules.Sectors.{shown_generation}
-use Rattle.disk_layout.specs.rules.Journal.{Record, TakesRecords, scan}
+use Rattle.disk_layout.specs.rules.Journal.{Record, TakesRecords}
+use Rattle.journal.specs.rules.Steps.{JournalHolds}
 use Rattle.record_replay.specs.rules.Records.{Recorded, given_in}
 use Rattle.disk_layout.specs.declared.head.TheConstants.{HEAD_STAMP_PLACE}
 
@@ -56,7 +57,8 @@ pub record StandsFor (disk : DiskImage) (m : Module) (config : Settings) (kept :
   pub shown : SavedShowsProcess (module_context m functions) reached.guest.program table saved
       process
   pub records : List Record
-  pub scanned : scan (geometry_of config (length wasm)) saved.version disk generation ≡ records
+  pub in_journal : JournalHolds (geometry_of config (length wasm)) saved.version generation records
+      disk
   pub rest : kept ≡ front ++ map given_in records
   pub last : ProcessState
   pub recorded : Recorded reached.guest process records last

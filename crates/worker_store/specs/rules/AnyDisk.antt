@@ -11,10 +11,10 @@ use Rattle.wasi_abi.specs.rules.Versions.{version_number}
 use Rattle.disk_layout.specs.declared.reading.contents.Contents.{Contents}
 use Rattle.disk_layout.specs.rules.Held.{GivesContents}
 use Rattle.wasi_abi.specs.declared.version.Version.{Version}
-use Rattle.disk_layout.specs.rules.Journal.{Record, TakesRecords, scan}
+use Rattle.disk_layout.specs.rules.Journal.{Record, TakesRecords}
 use Rattle.disk_layout.specs.rules.Sectors.{IsNewest, HoldsProcessImage}
 use Rattle.journal.specs.declared.fault.JournalFault.TheVariants as journal
-use Rattle.journal.specs.rules.Steps.{ShowsLater}
+use Rattle.journal.specs.rules.Steps.{JournalHolds, ShowsLater}
 use Rattle.snapshot.specs.declared.fault.SnapshotFault.TheVariants as snapshot
 use Rattle.state_image.specs.rules.ProcessImage.{IsMarkedOtherwise}
 use Rattle.snapshot.specs.rules.Heads.{HasNone}
@@ -102,7 +102,7 @@ TellsNewest geometry disk (Err other) = ⊥
 abbrev pub TellsRecords : Geometry → Version → ℕ → DiskImage → Result (Vec Record Global) ReadFault
     → Type 0
 TellsRecords geometry version generation disk (Ok found) =
-    (found.items ≡ scan geometry version disk generation)
+    JournalHolds geometry version generation found.items disk
     × (ShowsLater geometry generation disk → ⊥)
 TellsRecords geometry version generation disk
     (Err (read.Layout (layout.Damaged damage.LaterGeneration))) =

@@ -15,10 +15,10 @@ use Rattle.sector_disk.specs.rules.DiskImage.{DiskImage}
 use Rattle.sector_disk.specs.rules.Medium.{Medium}
 use Rattle.disk_layout.specs.rules.Places.{Geometry, geometry_of}
 use Rattle.disk_layout.specs.rules.Sectors.{HasWorker, HoldsProcessImage}
-use Rattle.disk_layout.specs.rules.Journal.{Record, TakesRecords, scan}
+use Rattle.disk_layout.specs.rules.Journal.{Record, TakesRecords}
 use Rattle.record_replay.specs.rules.Records.{Recorded}
 use Rattle.journal.specs.rules.State.{JournalState}
-use Rattle.journal.specs.rules.Steps.{IsOn, ShowsEarlierThan}
+use Rattle.journal.specs.rules.Steps.{JournalHolds, IsOn, ShowsEarlierThan}
 use Rattle.worker_store.specs.restart_theorem.Stands.{ShowsNoneLater, IsNumbered, StandsFor}
 
 -- The bytes of a module, which are accepted, and a process to which it comes on these answers, as
@@ -62,7 +62,7 @@ pub record IsAtSavepoint {m : Module} {config : Settings} (point : Savepoint m c
   pub worker : HasWorker config point.wasm disk
   pub holds : HoldsProcessImage (places point) disk point.generation
       (version_number point.saved.version) (process_image point.saved)
-  pub scanned : scan (places point) point.saved.version disk point.generation ≡ records
+  pub in_journal : JournalHolds (places point) point.saved.version point.generation records disk
   pub recorded : Recorded point.reached.guest point.process records last
   pub numbers : IsNumbered last
   pub none_later : ShowsNoneLater (places point) disk point.generation

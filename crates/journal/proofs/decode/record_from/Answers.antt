@@ -1,7 +1,8 @@
 use Rattle.std.proofs.Common.{◌≡◌, ◌≤◌, ◌+◌, ◌-◌, ℕ, Some, option_map, length, take, drop, get_or}
 use Rattle.std.proofs.Common.{sym, ap, ◌∙◌, arith}
 use Rattle.wasi_abi.specs.rules.Layouts.{u64_at}
-use Rattle.disk_layout.specs.rules.Journal.{answer_of, payload_length, record_head_bytes}
+use Rattle.disk_layout.specs.rules.Journal.{payload_length, record_head_bytes}
+use Rattle.disk_layout.specs.Scanned.{answer_of}
 use Rattle.wasi_abi.specs.rules.Versions.{text_limit}
 use Rattle.journal.proofs.RecordLemmas.{record_of, record_at_parts}
 use Rattle.journal.proofs.decode.record_from.Goals as goal

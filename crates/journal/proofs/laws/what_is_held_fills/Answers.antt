@@ -1,5 +1,5 @@
-use Rattle.journal.proofs.FilledLemmas.{fills_what_is_held}
+use Rattle.journal.proofs.FilledLemmas.{fills_what_is_stored, fills_what_is_held}
 use Rattle.journal.proofs.laws.what_is_held_fills.Goals as goal
 
 pub returns : goal.returns
-returns c = fills_what_is_held
+returns c = record { stored = fills_what_is_stored; held = fills_what_is_held }

@@ -4,10 +4,10 @@ use Rattle.std.proofs.lemmas.Bool.{cases_lt, false≢true}
 use Rattle.std.proofs.lemmas.List.{append-nil}
 use Rattle.sector_disk.specs.rules.DiskImage.{DiskImage, sector_at}
 use Rattle.sector_disk.proofs.Moments.{stays_shows}
-use Rattle.disk_layout.specs.rules.Journal.{payloads_from, is_of}
+use Rattle.disk_layout.specs.rules.Journal.{is_of, payload_of_sector}
+use Rattle.disk_layout.specs.Scanned.{payloads_from}
 use Rattle.disk_layout.proofs.ReadLemmas.{read_more}
-use Rattle.disk_layout.proofs.JournalLemmas.{payload_of_sector}
-use Rattle.journal.proofs.PackedLemmas.{payloads_split, pay_on, pay_off}
+use Rattle.journal.proofs.PackedLemmas.{payloads_split, payloads_end, pay_on}
 use Rattle.journal.proofs.LaterLemmas.{ends_at_later, first_is_of_it}
 use Rattle.journal.proofs.scan.read_payloads.Goals as goal
 
@@ -21,17 +21,6 @@ payloads_more image g at k on here =
     payloads_split image g at 1 k 1 on
     ∙ ap (λ l. payloads_from image g at 1 k ++ l) (pay_on image g (at + k) (1 + k) 0 here
     ∙ append-nil (payload_of_sector (sector_at image (at + k))))
-
--- a sector of another kind ends it
-payloads_end : (image : DiskImage) (g at k count : ℕ) → k ≤ count
-    → ((i : ℕ) → i < k → is_of g (1 + i) (sector_at image (at + i)) ≡ true)
-    → is_of g (1 + k) (sector_at image (at + k)) ≡ false
-    → payloads_from image g at 1 count ≡ payloads_from image g at 1 k
-payloads_end image g at k count le on off =
-    ap (λ n. payloads_from image g at 1 n) (let e : count ≡ k + (count - k) = omega arith in e)
-    ∙ payloads_split image g at 1 k (count - k) on
-    ∙ ap (λ l. payloads_from image g at 1 k ++ l) (pay_off image g (at + k) (1 + k) (count - k) off)
-    ∙ append-nil (payloads_from image g at 1 k)
 
 on_more : (image : DiskImage) (g at k : ℕ)
     → ((i : ℕ) → i < k → is_of g (1 + i) (sector_at image (at + i)) ≡ true)
@@ -75,8 +64,8 @@ returns-then-not-is_of-clause-payloads g c = λ image shows.
     let e = c.from-k-end.ensures in omega arith in
     ap (λ (n : ℕ). payloads_from image c.args.generation n 1 c.args.geometry.now.journal_sectors)
     (sym c.journal_place-at.ensures)
-    ∙ payloads_end image c.args.generation c.journal_place-at.result c.loop-k.k
-    c.args.geometry.now.journal_sectors le (at.on image before) off ∙ at.payloads image before
+    ∙ payloads_end image c.args.generation c.journal_place-at.result 1 c.loop-k.k
+    c.args.geometry.now.journal_sectors le (at.on image before) (λ _. off) ∙ at.payloads image before
 
 pub loop-k-preserved : goal.loop-k-preserved
 loop-k-preserved g c =

@@ -1,6 +1,7 @@
 use Rattle.std.proofs.Common.{◌≡◌, ◌+◌, ◌<◌, ◌≤◌, ℕ, true}
 use Rattle.sector_disk.specs.rules.DiskImage.{DiskImage, sector_at}
-use Rattle.disk_layout.specs.rules.Journal.{payloads_from, is_of}
+use Rattle.disk_layout.specs.rules.Journal.{is_of}
+use Rattle.disk_layout.specs.Scanned.{payloads_from}
 use Rattle.disk_layout.specs.rules.Stored.{OnlyReads}
 use Rattle.journal.proofs.scan.read_payloads.Given as goal
 

@@ -1,7 +1,7 @@
 use Rattle.worker_store.proofs.LawLemmas.Reading.{reads_the_module, finds_the_point}
 use Rattle.worker_store.proofs.LawLemmas.Reading.{reads_the_point}
 use Rattle.worker_store.proofs.LawLemmas.Reading.{reads_undamaged, finds_newest_point}
-use Rattle.worker_store.proofs.LawLemmas.Reading.{scans_the_records}
+use Rattle.worker_store.proofs.LawLemmas.Reading.{holds_the_records}
 use Rattle.worker_store.proofs.laws.disks_give_what_they_stand_by.Goals as goal
 
 pub returns-clause-module_read : goal.returns-clause-module_read
@@ -20,4 +20,4 @@ pub returns-clause-newest : goal.returns-clause-newest
 returns-clause-newest c = finds_newest_point
 
 pub returns-clause-records : goal.returns-clause-records
-returns-clause-records c = scans_the_records
+returns-clause-records c = holds_the_records

@@ -1,4 +1,4 @@
-use Rattle.std.proofs.Common.{ap}
+use Rattle.std.proofs.Common.{ap, ⊎_elim, arith}
 use Rattle.std.specs.Prelude.{Result, Err}
 use Rattle.disk_layout.specs.declared.fault.LayoutFault.TheVariants as layout
 use Rattle.journal.specs.declared.fault.JournalFault.{JournalFault}
@@ -53,4 +53,13 @@ returns-in-Err-clause-cause g c =
     let failed = c.in-Err.ensures in
     journal_cause ScannedJournal (g.D.Disk.medium c.args.disk.now)
     (g.D.Disk.medium c.scan.new.disk) c.in-Err.fault c.from.result c.from.ensures failed.which_fault
-    failed.cause
+    (λ fault is. ⊎_elim (λ few. absurd (omega (arith, few, c.requires))) (λ failure. failure)
+    (failed.cause fault is))
+
+-- ---- how many calls
+
+pub returns-in-Ok-clause-asks : goal.returns-in-Ok-clause-asks
+returns-in-Ok-clause-asks g c = c.in-Ok.ensures.asks c.requires
+
+pub returns-in-Err-clause-asks : goal.returns-in-Err-clause-asks
+returns-in-Err-clause-asks g c = c.in-Err.ensures.asks c.requires

@@ -1,5 +1,5 @@
 use Rattle.worker_store.proofs.RestartLemmas.Disks.{blank_stands_for_none, no_later_process_image}
-use Rattle.worker_store.proofs.RestartLemmas.Disks.{no_later_payload}
+use Rattle.worker_store.proofs.RestartLemmas.Disks.{no_later_sector, no_later_record}
 use Rattle.worker_store.proofs.RestartLemmas.Disks.{one_generation, disk_examples}
 use Rattle.worker_store.proofs.RestartLemmas.Disks.{one_spelled_worker, stands_within, blank_is_within}
 use Rattle.worker_store.proofs.restart_theorem.disks_stand_by_one_generation.Goals as goal
@@ -10,8 +10,11 @@ returns-clause-blank c = blank_stands_for_none
 pub returns-clause-process_image : goal.returns-clause-process_image
 returns-clause-process_image c = no_later_process_image
 
-pub returns-clause-payload : goal.returns-clause-payload
-returns-clause-payload c = no_later_payload
+pub returns-clause-sector : goal.returns-clause-sector
+returns-clause-sector c = no_later_sector
+
+pub returns-clause-record : goal.returns-clause-record
+returns-clause-record c = no_later_record
 
 pub returns-clause-one : goal.returns-clause-one
 returns-clause-one c = one_generation

@@ -1,8 +1,9 @@
 -- Laws of the disk images that stand for a worker.
-use Rattle.std.specs.Prelude.{◌≡◌, ℕ, ◌+◌, ◌-◌, ◌^◌, ◌<◌, ◌≤◌, List, [], ◌∷◌, ◌++◌, length, map}
-use Rattle.std.specs.Prelude.{replicate, take}
+use Rattle.std.specs.Prelude.{◌≡◌, ℕ, ◌+◌, ◌^◌, ◌<◌, ◌≤◌, List, [], ◌∷◌, ◌++◌, length, map}
+use Rattle.std.specs.Prelude.{replicate, take, false}
 use Rattle.wasm_syntax.specs.declared.module.Module.{Module}
 use Rattle.wasm_syntax.specs.rules.Modules.{IsModule}
+use Rattle.wasi_abi.specs.declared.version.Version.{Version}
 use Rattle.wasi_abi.specs.declared.version.Version.TheVariants.{One}
 use Rattle.wasi_abi.specs.rules.Versions.{version_number, text_limit}
 use Rattle.wasi_calls_rules.specs.declared.limits.TheConstants.{TEXT_BYTES}
@@ -10,10 +11,11 @@ use Rattle.state_image.specs.rules.ProcessImage.{process_image}
 use Rattle.wasi_abi.specs.rules.Configs.{Settings}
 use Rattle.process_rules.specs.Processes.{ProcessState, Guest}
 use Rattle.process_rules.specs.Runs.{Kept, Runs, version_after, Reaches}
-use Rattle.sector_disk.specs.rules.DiskImage.{DiskImage}
+use Rattle.sector_disk.specs.rules.DiskImage.{DiskImage, sector_at}
 use Rattle.disk_layout.specs.rules.Places.{Geometry, geometry_of, journal_place, total_sectors}
 use Rattle.disk_layout.specs.rules.Sectors.{super_bytes, head_bytes, HasWorker, HoldsProcessImage}
-use Rattle.disk_layout.specs.rules.Journal.{Record, journal_sector, payloads_from, scan}
+use Rattle.disk_layout.specs.rules.Journal.{Record, journal_sector, is_of}
+use Rattle.journal.specs.rules.Steps.{JournalHolds}
 use Rattle.record_replay.specs.rules.Records.{Recorded, given_in}
 use Rattle.worker_store.specs.restart_theorem.Stands.{ShowsNoneLater, IsNumbered, StandsFor, IsBlank}
 use Rattle.worker_store.specs.restart_theorem.Holds.{IsBounded}
@@ -66,11 +68,19 @@ NoLaterProcessImage =
     (geometry shape : Geometry) (disk : DiskImage) (g h version : ℕ) (bytes : List ℕ)
     → ShowsNoneLater geometry disk g → HoldsProcessImage shape disk h version bytes → h ≤ g
 
--- nor are there payloads of a later generation, from any sector of the journal on
-abbrev pub NoLaterPayload : Type 0
-NoLaterPayload =
+-- nor is a sector of the journal of a later generation
+abbrev pub NoLaterSector : Type 0
+NoLaterSector =
     (geometry : Geometry) (disk : DiskImage) (g h k : ℕ) → ShowsNoneLater geometry disk g → g < h
-    → payloads_from disk h (journal_place geometry + k) (k + 1) (geometry.journal_sectors - k) ≡ []
+    → k < geometry.journal_sectors
+    → is_of h (k + 1) (sector_at disk (journal_place geometry + k)) ≡ false
+
+-- and the journal holds no record of one
+abbrev pub NoLaterRecord : Type 0
+NoLaterRecord =
+    (geometry : Geometry) (v : Version) (disk : DiskImage) (g h : ℕ) (records : List Record)
+    → ShowsNoneLater geometry disk g → g < h → JournalHolds geometry v h records disk
+    → records ≡ []
 
 -- So a disk stands for a worker by one generation alone.
 abbrev pub OneGeneration : Type 0
@@ -120,8 +130,8 @@ pub record StandsBy (disk : DiskImage) (m : Module) (config : Settings) (kept : 
   pub worker : HasWorker config stands.wasm disk
   pub held_image : HoldsProcessImage (geometry_of config (length stands.wasm)) disk
       stands.generation (version_number (version_after stands.front)) (process_image stands.saved)
-  pub records : stands.records ≡ scan (geometry_of config (length stands.wasm))
-      (version_after stands.front) disk stands.generation
+  pub records : JournalHolds (geometry_of config (length stands.wasm)) (version_after stands.front)
+      stands.generation stands.records disk
   pub kept_answers : kept ≡ stands.front ++ map given_in stands.records
   pub steps : n < 2 ^ 63
 

@@ -1,9 +1,12 @@
 use Rattle.std.proofs.Common.{◌≡◌, ◌<◌, ◌≤◌, ◌+◌, ◌^◌, false, length, arith, rules, sym, ap, ◌∙◌}
+use Rattle.std.proofs.Common.{inl}
 use Rattle.std.proofs.lemmas.Bool.{eqb-false}
 use Rattle.journal.specs.rules.Packed.{sectors_for}
 use Rattle.journal.proofs.BarrierLemmas.{nothing_written, any_moment_at, durable_at, room_for, goes}
-use Rattle.journal.proofs.BarrierLemmas.{goes_not, none_kept, still_held}
-use Rattle.sector_disk.proofs.CallLemmas.{no_calls}
+use Rattle.journal.proofs.BarrierLemmas.{goes_not, none_kept, still_held, only_read}
+use Rattle.sector_disk.proofs.CallLemmas.{no_calls, none_begun}
+use Rattle.sector_disk.proofs.CountLemmas.{counts_more}
+use Rattle.disk_layout.specs.rules.Places.{total_sectors}
 use Rattle.journal.specs.rules.Steps.{barrier_calls}
 use Rattle.journal.proofs.journal.Journal.barrier.Goals as goal
 
@@ -21,7 +24,7 @@ returns-then-self-clause-stores g c =
       not_too_long = search rules;
       any_moment = λ records kept on.
           nothing_written c.args.geometry.now s.version s.generation s.used s.kept records kept m
-          on c.requires;
+          on;
       durable = search rules;
       passes = goes_not m;
       all_synced = search rules;
@@ -48,10 +51,10 @@ returns-then-is_empty-clause-stores g c =
       not_too_long = search rules;
       any_moment = λ records kept on.
           nothing_written c.args.geometry.now s.version s.generation s.used s.kept records kept m
-          on c.requires;
+          on;
       durable = λ records kept on image crashed.
           still_held c.args.geometry.now s.version s.generation s.used s.kept records kept m on
-          c.requires none image crashed;
+          none image crashed;
       passes = goes_not m;
       all_synced = search rules;
       unsynced = search rules;
@@ -75,7 +78,7 @@ returns-then-count-unwritten-clause-stores g c =
       not_too_long = search rules;
       any_moment = λ records kept on.
           nothing_written c.args.geometry.now s.version s.generation s.used s.kept records kept m
-          on c.requires;
+          on;
       durable = search rules;
       passes = goes_not m;
       all_synced = search rules;
@@ -84,6 +87,42 @@ returns-then-count-unwritten-clause-stores g c =
       together = search rules;
       counts = search rules;
       asks = search rules;
+    }
+
+pub returns-then-sectors-needed-clause-stores : goal.returns-then-sectors-needed-clause-stores
+returns-then-sectors-needed-clause-stores g c =
+    let old = g.D.Disk.medium c.args.disk.now in
+    let new = g.D.Disk.medium c.fault_beyond.new.disk in
+    let s = c.args.self.now in
+    let geometry = c.args.geometry.now in
+    let reads = c.fault_beyond.ensures.reads in
+    let told = c.fault_beyond.ensures.fault in
+    let asked = c.fault_beyond.ensures.asks in
+    let few : old.sectors < total_sectors geometry =
+    let f = c.if-sectors-needed.true in let e = c.sectors.ensures in
+    let n = c.total_sectors-needed.ensures in omega (arith, f, e, n) in
+    record {
+      ok = search rules;
+      err = search rules;
+      failed = search rules;
+      full = search rules;
+      cause = λ fault same. inl few;
+      no_memory = search rules;
+      not_too_long = search rules;
+      any_moment = λ records kept on.
+          only_read geometry s.version s.generation s.used s.kept records kept old on new reads;
+      durable = search rules;
+      passes = goes old new _ reads.leaves;
+      all_synced = search rules;
+      unsynced = let same = reads.unsynced in omega (arith, same);
+      calls = record {
+        all = search rules;
+        begun = none_begun (barrier_calls geometry s) old new reads.calls;
+      };
+      together = search rules;
+      counts = counts_more old.unsynced (old.unsynced + sectors_for (length s.kept)) old new
+          (omega arith) reads.counts;
+      asks = omega (arith, asked);
     }
 
 pub returns-in-Err-clause-stores : goal.returns-in-Err-clause-stores
@@ -107,6 +146,9 @@ returns-in-Err-clause-stores g c =
     (let f = c.if-count-unwritten.false in let u = c.saturating_sub-unwritten.ensures in
     let j = c.from.ensures in omega arith) in
     let bound : geometry.journal_sectors < 2 ^ 32 = search rules in
+    let size : total_sectors geometry ≤ old.sectors =
+    let f = c.if-sectors-needed.false in let e = c.sectors.ensures in
+    let n = c.total_sectors-needed.ensures in omega (arith, f, e, n) in
     record {
       ok = search rules;
       err = search rules;
@@ -118,7 +160,7 @@ returns-in-Err-clause-stores g c =
       any_moment = λ records kept on.
           any_moment_at geometry s.version s.generation s.used s.kept records kept old new
           c.journal_place.result c.self.inside.generation c.self.inside.used c.as_slice.result.now
-          c.journal_place.ensures (ap (λ x. x.generation) view) used bytes on c.requires room bound
+          c.journal_place.ensures (ap (λ x. x.generation) view) used bytes on size room bound
           c.store_packed-stored.ensures.any_moment;
       durable = search rules;
       passes = goes old new _ c.store_packed-stored.ensures.any_moment;
@@ -151,6 +193,9 @@ returns-clause-stores g c =
     (let f = c.if-count-unwritten.false in let u = c.saturating_sub-unwritten.ensures in
     let j = c.from.ensures in omega arith) in
     let bound : geometry.journal_sectors < 2 ^ 32 = search rules in
+    let size : total_sectors geometry ≤ old.sectors =
+    let f = c.if-sectors-needed.false in let e = c.sectors.ensures in
+    let n = c.total_sectors-needed.ensures in omega (arith, f, e, n) in
     record {
       ok = search rules;
       err = search rules;
@@ -162,13 +207,13 @@ returns-clause-stores g c =
       any_moment = λ records kept on.
           any_moment_at geometry s.version s.generation s.used s.kept records kept old new
           c.journal_place.result c.self.inside.generation c.self.inside.used c.as_slice.result.now
-          c.journal_place.ensures (ap (λ x. x.generation) view) used bytes on c.requires room bound
+          c.journal_place.ensures (ap (λ x. x.generation) view) used bytes on size room bound
           c.store_packed-stored.ensures.any_moment;
       durable = λ records kept on.
           durable_at geometry s.version s.generation s.used s.kept records kept old new
           c.self.inside.version c.journal_place.result c.self.inside.generation c.self.inside.used
           c.sectors_for-count.result c.as_slice.result.now (ap (λ x. x.version) view)
-          c.journal_place.ensures (ap (λ x. x.generation) view) used bytes counted on c.requires
+          c.journal_place.ensures (ap (λ x. x.generation) view) used bytes counted on size
           room bound c.in_default.ensures.stored;
       passes = goes old new _ c.store_packed-stored.ensures.any_moment;
       all_synced = search rules;

@@ -18,7 +18,7 @@ returns-in-Err-clause-stores g c =
       calls = search rules;
       cause = barrier_fails_so c.args.self.now c.barrier.new.self (g.D.Disk.medium c.args.disk.now)
           (g.D.Disk.medium c.barrier.new.disk) c.in-Err.fault c.from.result c.from.ensures
-          c.in-Err.ensures.stores;
+          c.requires c.in-Err.ensures.stores;
       fails = ap (λ (j : JournalState). j.has_failed) c.in-Err.ensures.stores.err;
       stays = record {
         geometry = refl;
