@@ -7,6 +7,8 @@ use Rattle.wasi_calls.specs.rules.Held.{HeldWasiState}
 use Rattle.wasi_calls.specs.declared.host.restoring.WasiStateParts.{WasiStateParts}
 use Rattle.wasi_calls.specs.declared.host.restoring.PartsFault.{PartsFault}
 use Rattle.wasi_calls.specs.declared.host.restoring.PartsFault.TheVariants as parts
+use Rattle.state_image.specs.declared.reading.progress.ReadStreams.{ReadStreams}
+use Rattle.state_image.specs.declared.restoring.host.HostTexts.{HostTexts}
 use Rattle.state_image.specs.declared.restoring.progress.Progress.{Progress}
 use Rattle.state_image.specs.declared.restoring.fault.RestoreFault.{RestoreFault}
 use Rattle.state_image.specs.declared.restoring.fault.RestoreFault.TheVariants as fault
@@ -53,6 +55,12 @@ pub record AreReadParts (before : Progress) (p : WasiStateParts) (old new : List
   pub first : p.first.items ≡ before.streams.first.now
   pub second : p.second.items ≡ before.streams.second.now
   pub released : p.released ≡ before.counts.lines
+
+-- They are the texts of which was told.
+pub record AreTexts (told : ReadStreams) (texts : HostTexts) : Type 0 where
+  pub unread : texts.unread.items ≡ told.unread.now
+  pub first : texts.first.items ≡ told.first.now
+  pub second : texts.second.items ≡ told.second.now
 
 -- what a fault of a host's parts is of an image
 abbrev pub fault_of_parts : PartsFault → RestoreFault

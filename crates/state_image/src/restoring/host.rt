@@ -5,15 +5,15 @@ ghost use Rattle.wasi_calls_rules.specs.WasiStates.{WasiState as TheWasiState, I
 ghost use Rattle.state_image.specs.declared.restoring.fault.RestoreFault.TheVariants as fault;
 ghost use Rattle.state_image.specs.restoring.SavedHosts.{IsRestoredWasiState, IsSavedHost};
 ghost use Rattle.state_image.specs.restoring.SavedHosts.{host_bytes};
-ghost use Rattle.state_image.specs.restoring.SavedHosts.{AreReadParts};
+ghost use Rattle.state_image.specs.restoring.SavedHosts.{AreReadParts, AreTexts};
 ghost use Rattle.state_image.specs.restoring.SavedHosts.{fault_of_parts};
 
-use crate::reading::ProcessImageReader;
+use crate::reading::{ProcessImageReader, ReadStreams};
 use crate::restoring::descriptors::restore_descriptors;
 use crate::restoring::fault::RestoreFault;
 use crate::restoring::files::restore_files;
 use crate::restoring::progress::Progress;
-use std::alloc::Global;
+use std::alloc::{AllocError, Global};
 use wasi_abi::Config;
 use wasi_calls::{PartsFault, WasiState, WasiStateParts};
 
@@ -48,15 +48,38 @@ fn read_parts(
 {
     let tree = restore_files(alloc, reader)?;
     let descriptors = restore_descriptors(alloc, &tree, reader)?;
+    let texts = texts_of(alloc, progress.streams)?;
     Ok(WasiStateParts {
         tree,
         descriptors,
-        unread: Vec::from_slice(alloc, progress.streams.unread)?,
+        unread: texts.unread,
         input_ended: progress.end.input_ended,
         last_monotonic: progress.counts.last_monotonic,
-        first: Vec::from_slice(alloc, progress.streams.first)?,
-        second: Vec::from_slice(alloc, progress.streams.second)?,
+        first: texts.first,
+        second: texts.second,
         released: progress.counts.lines,
+    })
+}
+
+/// What is unread, and the unfinished lines of stdout and stderr.
+#[derive(Drop)]
+struct HostTexts {
+    unread: Vec<u8>,
+    first: Vec<u8>,
+    second: Vec<u8>,
+}
+
+/// The texts of a host of which this was told.
+fn texts_of(alloc: Global, streams: ReadStreams) -> Result<HostTexts, AllocError>
+    ensures { IfOk result (AreTexts streams.entry) }
+{
+    let unread = Vec::from_slice(alloc, streams.unread)?;
+    let first = Vec::from_slice(alloc, streams.first)?;
+    let second = Vec::from_slice(alloc, streams.second)?;
+    Ok(HostTexts {
+        unread,
+        first,
+        second,
     })
 }
 

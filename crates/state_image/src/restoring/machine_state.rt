@@ -62,10 +62,17 @@ pub fn restore_machine(
         → ShowsSome v → ⊥ }
 {
     let mut loading = machine.into_loading();
-    load_parts(alloc, &mut loading, phase, reader)?;
-    let restored = loading.finish(alloc)?;
-    let _slots = restored.slot_count();
-    Ok(restored)
+    match load_parts(alloc, &mut loading, phase, reader) {
+        Ok(()) => {
+            let restored = loading.finish(alloc)?;
+            let _slots = restored.slot_count();
+            Ok(restored)
+        }
+        Err(fault) => {
+            loading.close();
+            Err(fault)
+        }
+    }
 }
 
 /// Puts the parts that are next in an image into a machine that has none.

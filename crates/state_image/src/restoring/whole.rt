@@ -70,6 +70,7 @@ pub fn restore_into(
     if is_accepted(&process, &reader) {
         Ok(process)
     } else {
+        process.close();
         Err(RestoreFault::NotAnImage)
     }
 }
@@ -101,11 +102,17 @@ fn read_process(
         → IsWellTyped machine.guest config s → reader.old ≢ process_image s }
 {
     let Some(progress) = read_progress(reader) else {
+        machine.close();
         return Err(RestoreFault::NotAnImage);
     };
     let machine = restore_machine(alloc, machine, progress.end.phase, reader)?;
-    let host = restore_host(alloc, config, progress, reader)?;
-    put_together(alloc, machine, host, &progress)
+    match restore_host(alloc, config, progress, reader) {
+        Ok(host) => put_together(alloc, machine, host, &progress),
+        Err(fault) => {
+            machine.close();
+            Err(fault)
+        }
+    }
 }
 
 /// The process with this machine, this host and these counts, if there is one.
