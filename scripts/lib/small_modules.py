@@ -59,6 +59,13 @@ def called(place, kind):
 HINT = "; printf has floats, but not with -lc-printscan-no-floating-point\n"
 
 F32, F64, F64_ADD = 0x7D, 0x7C, b"\xa0"
+GIVES_F64 = wasm.function_type([], [F64])
+
+
+def import_of(module, name, number=0):
+    """An import of a function by its two names, with the index of its type."""
+    return wasm.sized(module) + wasm.sized(name) + b"\x00" + wasm.unsigned(number)
+
 
 # Modules with what `check` says of them: the fault, its place if it has one, and the second line,
 # where there is one.
@@ -78,7 +85,22 @@ REFUSED = [
     # A section of one import has 37 bytes, and the function after it is number 1.
     (small(F64_ADD, imports=[wasm.imported_function(b"fd_close", 0)]), "B2 Float", 86,
      "f64.add in function 1" + HINT),
-    (small(types=[NOTHING, wasm.function_type([], [F64])]), "B2 Float", 17, "f64 in type 1" + HINT),
+    (small(types=[NOTHING, GIVES_F64]), "B2 Float", 17, "f64 in type 1 of no function" + HINT),
+    # Functions 1 and 2 have the type.
+    (small(types=[NOTHING, GIVES_F64], functions=[b"\x00", b"\x01", b"\x01"],
+           bodies=[wasm.function_body([], b"")] * 3),
+     "B2 Float", 17, "f64 in type 1 of function 1" + HINT),
+    # Behind two imports function 2 is the module's own.
+    (small(types=[NOTHING, GIVES_F64], imports=[import_of(b"env", b"f"), import_of(b"env", b"g")],
+           functions=[b"\x01"]),
+     "B2 Float", 17, "f64 in type 1 of function 2" + HINT),
+    # A memory is imported before two functions with the type, and the module has one more.
+    (small(types=[NOTHING, GIVES_F64], functions=[b"\x01"], memories=[],
+           imports=[import_of(b"env", b"f"), wasm.sized(b"env") + wasm.sized(b"m") + b"\x02\x00\x01",
+                    import_of(b"env", b"sin", 1), import_of(b"env", b"cos", 1)]),
+     "B2 Float", 17, "f64 in type 1 of function 1, import env.sin" + HINT),
+    # A section that ends beyond the bytes, so it isn't known which functions there are.
+    (small(types=[NOTHING, GIVES_F64])[:-1], "B2 Float", 17, "f64 in type 1" + HINT),
     (small(globals=[bytes([F32]) + b"\x00"]), "B2 Float", 26, "f32 in the global section" + HINT),
     (small(wasm.i32(1) + wasm.IF + bytes([wasm.I32]) + wasm.i32(1) + wasm.END + wasm.DROP),
      "V1 Typing", None),
@@ -150,11 +172,6 @@ PAST = [
     (small(globals=[A_GLOBAL] * 1_025), "1024 globals", 23 + 1 + 2),
 ]
 
-def import_of(module, name):
-    """An import of a function of the first type, by its two names."""
-    return wasm.sized(module) + wasm.sized(name) + b"\x00\x00"
-
-
 def functions(*bodies, **parts):
     """A module whose functions have these bodies, all of the first type."""
     return small(functions=[wasm.unsigned(0)] * len(bodies), bodies=list(bodies), **parts)
@@ -184,9 +201,10 @@ LISTED = [
     (small(imports=UNOFFERED, exports=[wasm.exported(b"_start", 0, 3), MEMORY]),
      "L3 UnknownImport", *NOT_OFFERED),
     # With a type of floats: the second line is of that, and imports are judged by their names.
-    (functions(ADDS, types=[NOTHING, wasm.function_type([], [F64])], imports=UNOFFERED,
+    (functions(ADDS, types=[NOTHING, GIVES_F64], imports=UNOFFERED,
                exports=[wasm.exported(b"_start", 0, 3), MEMORY]),
-     "B2 Float at 17", "f64 in type 1" + HINT, *NOT_OFFERED[:2], "f64.add in function 3\n"),
+     "B2 Float at 17", "f64 in type 1 of no function" + HINT, *NOT_OFFERED[:2],
+     "f64.add in function 3\n"),
     # Faults elsewhere are told as without `--all`.
     (small(globals=[A_GLOBAL] * 1_025), "B3 Limit", "more than 1024 globals, at byte 26\n"),
     (small(memories=pages(257)), "L6 TooManyPages",

@@ -7,72 +7,12 @@ use Rattle.wasm_syntax.specs.declared.module.Import.{Import}
 use Rattle.wasm_syntax.specs.declared.module.ImportItem.{ImportItem}
 use Rattle.wasm_syntax.specs.declared.module.ImportItem.TheVariants as import
 use Rattle.wasm_syntax.specs.rules.Limits.{is_function}
-use Rattle.wasm_syntax.specs.laws.ReadingItems.{◌>>=◌, leb_u32_at, items_at, name_at}
-use Rattle.wasm_syntax.specs.laws.ReadingItems.{vector_at}
-use Rattle.wasm_syntax.specs.laws.ReadingModules.{import_at, import_item_at}
-use Rattle.wasm_syntax.proofs.Grammar.Exact.{some_is}
+use Rattle.wasm_syntax.specs.laws.ReadingItems.{leb_u32_at, items_at, vector_at}
+use Rattle.wasm_syntax.specs.laws.ReadingModules.{import_at}
 use Rattle.wasm_syntax.proofs.Grammar.Loops.{with_front, with_front-nil, items_go_on, items_fail}
 use Rattle.wasm_syntax.proofs.Grammar.Loops.{items_are_done}
 use Rattle.wasm_decode.specs.Contents.{functions_of_item}
-use Rattle.wasm_places.specs.Imported.{count_functions, import_as_item_at}
-use Rattle.wasm_places.specs.Imported.{count_imported}
-
--- ---- one import
-
-abbrev item_of : Import × List ℕ → Option (ImportItem × List ℕ)
-item_of i = Some (i.0.item, i.1)
-
--- an item is read just where an import is
-item_alone : (bytes : List ℕ) → import_as_item_at bytes ≡ (import_at bytes >>= item_of)
-unfolding import_as_item_at import_at
-item_alone bytes = by_module_name (name_at bytes) where
-  by_item : (o : Option (ImportItem × List ℕ)) (module_name name : List ℕ)
-      → o ≡ ((o >>= λ item. Some (
-        record { module_name = module_name; name = name; item = item.0 },
-        item.1,
-      )) >>= item_of)
-  by_item None module_name name = refl
-  by_item (Some item) module_name name = refl
-
-  by_name : (o : Option (List ℕ × List ℕ)) (module_name : List ℕ)
-      → (o >>= λ name. import_item_at name.1) ≡ ((o >>= λ name. import_item_at name.1
-      >>= λ item. Some (
-        record { module_name = module_name; name = name.0; item = item.0 },
-        item.1,
-      )) >>= item_of)
-  by_name None module_name = refl
-  by_name (Some name) module_name = by_item (import_item_at name.1) module_name name.0
-
-  by_module_name : (o : Option (List ℕ × List ℕ))
-      → (o >>= λ module_name. name_at module_name.1 >>= λ name. import_item_at name.1)
-      ≡ ((o >>= λ module_name. name_at module_name.1 >>= λ name. import_item_at name.1
-      >>= λ item. Some (
-        record { module_name = module_name.0; name = name.0; item = item.0 },
-        item.1,
-      )) >>= item_of)
-  by_module_name None = refl
-  by_module_name (Some module_name) = by_name (name_at module_name.1) module_name.0
-
--- the import that has this item
-import_of : (bytes : List ℕ) (item : ImportItem) (after : List ℕ)
-    → import_as_item_at bytes ≡ Some (item, after)
-    → (i : Import) × (import_at bytes ≡ Some (i, after)) × (i.item ≡ item)
-import_of bytes item after e = by_import (import_at bytes) (sym (item_alone bytes) ∙ e) where
-  by_import : (o : Option (Import × List ℕ)) → (o >>= item_of) ≡ Some (item, after)
-      → (i : Import) × (o ≡ Some (i, after)) × (i.item ≡ item)
-  by_import None e = absurd cc
-  by_import (Some i) e =
-      let same = some_is (i.0.item, i.1) (item, after) e in (
-        i.0,
-        ap (λ (r : List ℕ). Some (i.0, r)) (ap (λ (p : ImportItem × List ℕ). p.1) same),
-        ap (λ (p : ImportItem × List ℕ). p.0) same,
-      )
-
-no_import : (bytes : List ℕ) → import_as_item_at bytes ≡ None → import_at bytes ≡ None
-no_import bytes e = by_import (import_at bytes) (sym (item_alone bytes) ∙ e) where
-  by_import : (o : Option (Import × List ℕ)) → (o >>= item_of) ≡ None → o ≡ None
-  by_import None e = refl
-  by_import (Some i) e = absurd cc
+use Rattle.wasm_places.specs.Imported.{count_functions, count_imported}
 
 -- ---- one more
 
@@ -127,26 +67,25 @@ module _ (section : List ℕ) where
 
   module _ (count number functions : ℕ) (now : List ℕ)
       (s : ImportsSoFar section count number functions now) where
-    pub imports_go_on : (item : ImportItem) (after : List ℕ) → number < count
-        → import_as_item_at now ≡ Some (item, after)
-        → ImportsSoFar section count (number + 1) (functions + functions_of_item item) after
-    imports_go_on item after lt read =
-        let i = import_of now item after read in record {
-          items = s.items;
-          counted = s.counted;
-          front = s.front ++ i.0 ∷ [];
-          so_far = items_go_on import_at s.front count number now
-              (items_at import_at count s.items) i.0 after lt i.1 s.so_far;
-          functions_are = rw (one_more s.front i.0, i.2, s.functions_are) refl;
-          few = omega (arith, s.few, at_most_one item);
-        }
+    pub imports_go_on : (i : Import) (after : List ℕ) → number < count
+        → import_at now ≡ Some (i, after)
+        → ImportsSoFar section count (number + 1) (functions + functions_of_item i.item) after
+    imports_go_on i after lt read = record {
+      items = s.items;
+      counted = s.counted;
+      front = s.front ++ i ∷ [];
+      so_far = items_go_on import_at s.front count number now (items_at import_at count s.items) i
+          after lt read s.so_far;
+      functions_are = rw (one_more s.front i, s.functions_are) refl;
+      few = omega (arith, s.few, at_most_one i.item);
+    }
 
-    pub import_fails : number < count → import_as_item_at now ≡ None
+    pub import_fails : number < count → import_at now ≡ None
         → None ≡ count_imported (Some section)
     unfolding vector_at
     import_fails lt none =
         let all = items_fail import_at s.front count number now (items_at import_at count s.items)
-        lt (no_import now none) s.so_far in
+        lt none s.so_far in
         rw (s.counted, all) refl
 
     all_read : count ≤ number → items_at import_at count s.items ≡ Some (s.front, now)

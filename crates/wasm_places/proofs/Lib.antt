@@ -1,6 +1,8 @@
+mod AllSectionLemmas
 mod EntryLemmas
 mod ImportLemmas
 mod PlaceLemmas
 mod SectionLemmas
 mod Texts
+mod UseLemmas
 mod Walks

@@ -10,36 +10,38 @@ use Rattle.wasm_syntax.proofs.Grammar.Exact.{parts}
 use Rattle.wasm_syntax.proofs.Grammar.Integers.{fixed_sound, fixed_complete}
 use Rattle.wasm_syntax.proofs.Grammar.Rising.{Reads-section_at, section_shorter}
 use Rattle.wasm_places.specs.declared.reader.Part.{Part}
-use Rattle.wasm_places.specs.Around.{IsAround, LiesInNone, first_imports, section_with}
+use Rattle.wasm_places.specs.Around.{IsAround, LiesInNone, first_part, section_with}
 use Rattle.wasm_places.specs.Parts.{part_bytes}
 use Rattle.wasm_places.specs.rules.Places.{IsInItem, IsInSection}
 use Rattle.wasm_places.proofs.Walks.{SoFar, begins, found_here, goes_on, none_before, none_left}
 use Rattle.wasm_places.proofs.Walks.{none_some, only_here}
 
--- ---- the first section of imports
+-- ---- the first section with an id
 
-pub imports_push : (before : List Section) (imports : Option Part) (id : ℕ) (body : Part)
-    → body_of 2 before ≡ part_bytes imports
-    → body_of 2 (before ++ section_with id body ∷ []) ≡ part_bytes (first_imports imports id body)
-imports_push [] (Some i) id body e = absurd cc
-imports_push [] None id body e = by_test (eqb id 2) where
+pub part_push : (wanted : ℕ) (before : List Section) (part : Option Part) (id : ℕ) (body : Part)
+    → body_of wanted before ≡ part_bytes part
+    → body_of wanted (before ++ section_with id body ∷ [])
+    ≡ part_bytes (first_part wanted part id body)
+part_push wanted [] (Some p) id body e = absurd cc
+part_push wanted [] None id body e = by_test (eqb id wanted) where
   by_test : (b : Bool)
       → cond b (Some body.bytes.now) None ≡ part_bytes (cond b (Some body) None)
   by_test true = refl
   by_test false = refl
-imports_push (s ∷ before) imports id body e =
-    by_test (eqb s.id 2) refl (imports_push before imports id body)
+part_push wanted (s ∷ before) part id body e =
+    by_test (eqb s.id wanted) refl (part_push wanted before part id body)
   where
-    by_test : (b : Bool) → eqb s.id 2 ≡ b
-        → (body_of 2 before ≡ part_bytes imports → body_of 2 (before ++ section_with id body ∷ [])
-        ≡ part_bytes (first_imports imports id body))
-        → body_of 2 ((s ∷ before) ++ section_with id body ∷ [])
-        ≡ part_bytes (first_imports imports id body)
-    by_test true is later = known imports (rw is at e) where
-      known : (i : Option Part) → Some s.body ≡ part_bytes i
-          → body_of 2 ((s ∷ before) ++ section_with id body ∷ [])
-          ≡ part_bytes (first_imports i id body)
-      known (Some p) same = rw is same
+    by_test : (b : Bool) → eqb s.id wanted ≡ b
+        → (body_of wanted before ≡ part_bytes part
+        → body_of wanted (before ++ section_with id body ∷ [])
+        ≡ part_bytes (first_part wanted part id body))
+        → body_of wanted ((s ∷ before) ++ section_with id body ∷ [])
+        ≡ part_bytes (first_part wanted part id body)
+    by_test true is later = known part (rw is at e) where
+      known : (p : Option Part) → Some s.body ≡ part_bytes p
+          → body_of wanted ((s ∷ before) ++ section_with id body ∷ [])
+          ≡ part_bytes (first_part wanted p id body)
+      known (Some q) same = rw is same
       known None same = absurd cc
     by_test false is later = rw is (later (rw is at e))
 
@@ -106,14 +108,14 @@ module _ (bytes : List ℕ) (at : ℕ) where
       imports now) where
     pub sections_go_on : (id : ℕ) (body : Part) (next : List ℕ)
         → section_at now ≡ Some (section_with id body, next) → left ≤ length next
-        → SectionsSoFar bytes at left (first_imports imports id body) next
+        → SectionsSoFar bytes at left (first_part 2 imports id body) next
     sections_go_on id body next read ahead = record {
       after = h.after;
       header = h.header;
       offset = h.offset;
       so_far = goes_on IsSection section_at Reads-section_at h.after left now (section_with id body)
           next read ahead h.so_far;
-      imports_are = imports_push h.so_far.before imports id body h.imports_are;
+      imports_are = part_push 2 h.so_far.before imports id body h.imports_are;
     }
 
     pub no_section_left : section_at now ≡ None → LiesInNone bytes at

@@ -13,10 +13,10 @@ use Rattle.wasm_places.specs.rules.Places.{IsInEntry, IsInSection}
 abbrev pub section_with : ℕ → Part → Section
 section_with id body = record { id = id; body = body.bytes.now }
 
--- the first section of imports, of those before and this one
-abbrev pub first_imports : Option Part → ℕ → Part → Option Part
-first_imports (Some imports) id body = Some imports
-first_imports None id body = if id == 2 then Some body else None
+-- the first section with the wanted id, of those before and this one
+abbrev pub first_part : ℕ → Option Part → ℕ → Part → Option Part
+first_part wanted (Some part) id body = Some part
+first_part wanted None id body = if id == wanted then Some body else None
 
 -- the byte at this offset lies in this section
 pub record IsAround (bytes : List ℕ) (at : ℕ) (around : Around) : Type 0 where

@@ -1,15 +1,18 @@
 -- Imported functions, counted while the imports are read.
 use Rattle.std.specs.Prelude.{ℕ, List, [], count_by, Option, option_map}
 use Rattle.wasm_syntax.specs.declared.module.Import.{Import}
-use Rattle.wasm_syntax.specs.declared.module.ImportItem.{ImportItem}
-use Rattle.wasm_syntax.specs.laws.ReadingItems.{◌>>=◌, name_at, vector_at}
-use Rattle.wasm_syntax.specs.laws.ReadingModules.{field_at, import_at, import_item_at}
+use Rattle.wasm_syntax.specs.laws.ReadingItems.{vector_at}
+use Rattle.wasm_syntax.specs.laws.ReadingModules.{field_at, import_at}
 use Rattle.wasm_syntax.specs.rules.Limits.{is_function}
+use Rattle.wasm_places.specs.declared.imports.NamedImport.{NamedImport}
 
--- what an import is of, behind its two names
-unfoldable pub import_as_item_at : List ℕ → Option (ImportItem × List ℕ)
-import_as_item_at bytes =
-    name_at bytes >>= λ module_name. name_at module_name.1 >>= λ name. import_item_at name.1
+-- the import that this one is
+abbrev pub import_with : NamedImport → Import
+import_with i = record {
+  module_name = i.names.module_name.now;
+  name = i.names.name.now;
+  item = i.item;
+}
 
 -- how many functions these are
 abbrev pub count_functions : List Import → ℕ

@@ -4,4 +4,5 @@ pub mod Entries
 pub mod Imported
 pub mod Named
 pub mod Parts
+pub mod Uses
 pub mod rules

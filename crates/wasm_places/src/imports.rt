@@ -2,13 +2,14 @@
 
 ghost use Rattle.std.specs.Prelude.{◌≡◌, ◌<◌, ◌^◌, ◌+◌, ◌-◌, Some};
 ghost use Rattle.wasm_decode.specs.Items.Answers.{FindsItem};
-ghost use Rattle.wasm_places.specs.Imported.{import_as_item_at, count_imported};
+ghost use Rattle.wasm_places.specs.Answers.{FindsAs};
+ghost use Rattle.wasm_places.specs.Imported.{count_imported, import_with};
 ghost use Rattle.wasm_decode.specs.Contents.{functions_of_item};
 ghost use Rattle.wasm_places.specs.Parts.{part_bytes};
 ghost use Rattle.wasm_syntax.specs.laws.ReadingItems.{value_type_at, mutability_at, limits_at};
 ghost use Rattle.wasm_syntax.specs.laws.ReadingItems.{table_type_at, memory_type_at};
 ghost use Rattle.wasm_syntax.specs.laws.ReadingItems.{global_type_at};
-ghost use Rattle.wasm_syntax.specs.laws.ReadingModules.{import_item_at};
+ghost use Rattle.wasm_syntax.specs.laws.ReadingModules.{import_at, import_item_at};
 
 use crate::reader::{Part, Reader};
 use wasm_syntax::{GlobalType, ImportItem, Limits, MemoryType, Mutability, TableType, ValueType};
@@ -93,14 +94,30 @@ fn import_item(reader: &mut Reader) -> Option<ImportItem>
     }
 }
 
-/// What an import is of, behind its two names.
-#[tactic(auto, unfolding(crate::specs::Imported::import_as_item_at))]
-fn import(reader: &mut Reader) -> Option<ImportItem>
-    ensures { FindsItem result reader.new (import_as_item_at reader.old) }
+/// The two names of an import: its module, and the item there.
+#[derive(Clone, Copy, Debug, PartialEq, Eq)]
+pub struct ImportNames<'a> {
+    pub module_name: &'a [u8],
+    pub name: &'a [u8],
+}
+
+/// An import, as it lies in the bytes.
+#[derive(Clone, Copy)]
+pub struct NamedImport<'a> {
+    pub names: ImportNames<'a>,
+    pub item: ImportItem,
+}
+
+/// An import.
+#[tactic(auto, unfolding(wasm_syntax::specs::laws::ReadingModules::import_at))]
+pub fn import<'a>(reader: &mut Reader<'a>) -> Option<NamedImport<'a>>
+    ensures { FindsAs import_with result reader.new (import_at reader.old) }
 {
-    reader.name()?;
-    reader.name()?;
-    import_item(reader)
+    let module_name = reader.name()?.into_part().bytes;
+    let name = reader.name()?.into_part().bytes;
+    let item = import_item(reader)?;
+    let names = ImportNames { module_name, name };
+    Some(NamedImport { names, item })
 }
 
 /// How many functions these and one more import are.
@@ -122,8 +139,8 @@ fn functions_in(section: Part) -> Option<u32>
     let count = rest.u32()?;
     let mut functions = 0;
     for _ in 0..count {
-        let item = import(&mut rest)?;
-        functions = with_import(functions, item);
+        let import = import(&mut rest)?;
+        functions = with_import(functions, import.item);
     }
     if rest.is_empty() {
         Some(functions)

@@ -5,13 +5,15 @@
 //!
 //! - `place_of`: the place of the byte at an offset, or that it has none (`LiesAt`). It takes no
 //!   memory.
+//! - `use_of_type`: the first function that has the type with a number, or that none has it
+//!   (`IsTypeUse`). It takes no memory.
 //! - `float_words`: the name of an opcode of floats, or of one of their types (`float_words`).
 //!
 //! # Definitions to read
 //!
 //! In `specs/rules/`: `LiesAt`, `IsModulePlace`, `IsInSection`, `IsInFunction`, `IsInType`
-//! (`Places.antt`); `float_words` (`Floats.antt`). They speak in the words of the binary grammar, which is in
-//! `wasm_syntax`.
+//! (`Places.antt`); `IsTypeUse`, `DeclaresFunctions`, `IsFirstOfType` (`Uses.antt`); `float_words`
+//! (`Floats.antt`). They speak in the words of the binary grammar, which is in `wasm_syntax`.
 //!
 //! # Who may touch what
 //!
@@ -20,8 +22,10 @@
 //!
 //! # Choices
 //!
-//! - **Only what lies before the byte is read**, and of the sections only their sizes: the rest may
-//!   spell nothing.
+//! - **For a place only what lies before the byte is read**, and of the sections only their sizes:
+//!   the rest may spell nothing.
+//! - **A type's use is read from all sections**, since functions come behind their types. Where the
+//!   bytes aren't sections, or those of functions hold other things, it isn't known.
 //! - **A function's number counts imported functions first**, as an index of the module does.
 #![tactic(auto)]
 
@@ -31,6 +35,9 @@ mod imports;
 mod place;
 mod reader;
 mod sections;
+mod uses;
 
 pub use floats::{FloatWords, float_words};
+pub use imports::ImportNames;
 pub use place::{ModulePlace, place_of};
+pub use uses::{TypeUse, TypedFunction, use_of_type};

@@ -3,7 +3,8 @@
 ghost use Rattle.std.specs.Prelude.{◌≡◌, MatchOption};
 ghost use Rattle.wasm_decode.specs.Items.Answers.{FindsItem};
 ghost use Rattle.wasm_places.specs.Answers.{FindsAs};
-ghost use Rattle.wasm_places.specs.Around.{IsAround, LiesInNone, first_imports, section_with};
+ghost use Rattle.wasm_places.specs.Around.{IsAround, LiesInNone, first_part, section_with};
+ghost use Rattle.wasm_places.specs.Uses.{HoldsFunctionSections, LacksSections};
 ghost use Rattle.wasm_syntax.specs.laws.ReadingItems.{fixed_at};
 ghost use Rattle.wasm_syntax.specs.laws.ReadingModules.{section_at};
 ghost use Rattle.wasm_syntax.specs.rules.Modules.{preamble};
@@ -12,6 +13,9 @@ use crate::reader::{Part, Reader};
 
 /// The id of the section of imports.
 const IMPORTS: u8 = 2;
+
+/// The id of the section with the types of a module's own functions.
+const FUNCTION_TYPES: u8 = 3;
 
 /// The section in which a byte lies.
 #[derive(Clone, Copy)]
@@ -22,6 +26,15 @@ pub struct Around<'a> {
     pub left: usize,
     /// The section of imports, if there is one before.
     pub imports: Option<Part<'a>>,
+}
+
+/// The sections that say which functions a module has.
+#[derive(Clone, Copy)]
+pub struct FunctionSections<'a> {
+    /// The section of imports, if there is one.
+    pub imports: Option<Part<'a>>,
+    /// The section with the types of the module's own functions, if there is one.
+    pub function_types: Option<Part<'a>>,
 }
 
 /// The mark and the version are passed over.
@@ -49,13 +62,13 @@ fn section<'a>(reader: &mut Reader<'a>) -> Option<(u8, Part<'a>)>
     Some((id, body))
 }
 
-/// The first section of imports, of those before and this one.
-fn first_imports<'a>(before: Option<Part<'a>>, id: u8, body: Part<'a>) -> Option<Part<'a>>
-    ensures { result ≡ first_imports before.entry id body.entry }
+/// The first section with the wanted id, of those before and this one.
+fn first_part<'a>(wanted: u8, before: Option<Part<'a>>, id: u8, body: Part<'a>) -> Option<Part<'a>>
+    ensures { result ≡ first_part wanted before.entry id body.entry }
 {
     match before {
-        Some(imports) => Some(imports),
-        None if id == IMPORTS => Some(body),
+        Some(part) => Some(part),
+        None if id == wanted => Some(body),
         None => None,
     }
 }
@@ -81,7 +94,26 @@ pub fn section_around(module: &[u8], at: usize) -> Option<Around<'_>>
                 imports,
             });
         }
-        imports = first_imports(imports, id, body);
+        imports = first_part(IMPORTS, imports, id, body);
     }
     None
+}
+
+/// The sections that say which functions a module has, where all behind the header is sections.
+pub fn function_sections(module: &[u8]) -> Option<FunctionSections<'_>>
+    ensures { MatchOption result (LacksSections module.now) (HoldsFunctionSections module.now) }
+{
+    let mut rest = Reader::new(module);
+    header(&mut rest)?;
+    let mut imports = None;
+    let mut function_types = None;
+    while !rest.is_empty() {
+        let (id, body) = section(&mut rest)?;
+        imports = first_part(IMPORTS, imports, id, body);
+        function_types = first_part(FUNCTION_TYPES, function_types, id, body);
+    }
+    Some(FunctionSections {
+        imports,
+        function_types,
+    })
 }

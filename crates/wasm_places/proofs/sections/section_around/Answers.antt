@@ -44,7 +44,7 @@ loop-id-smaller c =
 
 pub loop-id-preserved : goal.loop-id-preserved
 loop-id-preserved c =
-    rw c.first_imports-imports.ensures
+    rw c.first_part-imports.ensures
     (sections_go_on c.args.module.now c.args.at c.in_ok-left.left c.loop-id.imports c.loop-id.rest
     c.loop-id.invariant c.in-Some.id c.in-Some.body c.section.new.reader c.in-Some.ensures
     (omega (arith, c.len-in-Some.ensures, c.if-len-left-2.false)))
