@@ -7,6 +7,7 @@ pub mod PrinterLemmas
 pub mod WordLemmas
 pub mod FrontLemmas
 pub mod VerdictLemmas
+pub mod FloatLemmas
 pub mod EntryLemmas
 pub mod PieceLemmas
 pub mod PreparingLemmas

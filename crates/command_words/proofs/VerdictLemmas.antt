@@ -23,10 +23,9 @@ use Rattle.command_words.specs.Statuses.{status_by}
 use Rattle.command_words.specs.declared.bounds.Bound.TheVariants as bound
 use Rattle.command_words.specs.rules.Bounds.{IsOutside, range_words}
 use Rattle.command_words.specs.rules.Reports.{SaysLine}
-use Rattle.command_words.specs.rules.Checks.{ChecksModule, IsChecked}
-use Rattle.command_words.specs.rules.Listings.{EndsWithList, ListsRefusal}
+use Rattle.command_words.specs.rules.Checks.{ChecksModule, EndsAsAsked, IsChecked, TellsWhy}
 use Rattle.command_words.specs.rules.Verdicts.{EndsWithMore, IsImportOffered, SaysMore}
-use Rattle.command_words.specs.rules.Verdicts.{TellsMore, TellsOfLink, TellsRefusal}
+use Rattle.command_words.specs.rules.Verdicts.{TellsMore, TellsOfLink}
 use Rattle.command_words.specs.rules.Verdicts.{first_pages, pages_text}
 use Rattle.command_words.proofs.LineLemmas.Printed.{prints_both}
 use Rattle.command_words.proofs.PrinterLemmas.{writes_so}
@@ -117,16 +116,6 @@ module _ {T E : Type 0} (r : Result T E) (old new : PrinterState) (n : ℕ) wher
       by_test true e = absurd (grind (arith, nat_tests))
       by_test false e = written_so false e bytes steady
 
--- ---- texts
-
--- three texts one after the other, the last of them by a write
-pub prints_three : {T E : Type 0} (r : Result T E) (a b c d : PrinterState) (p q t : List ℕ)
-    → IsPrinted a b p → IsPrinted b c q → OnOk r (Appends c.contents d.contents t)
-    → OnOk r (d.failed ≡ c.failed) → OnOk r (IsPrinted a d (p ++ q ++ t))
-prints_three (Ok done) a b c d p q t h i bytes steady =
-    prints_both a c d (p ++ q) t (prints_both a b c p q h i) (bytes, steady)
-prints_three (Err why) a b c d p q t h i bytes steady = tt
-
 -- what holds of the limit that is found holds of the limit that is passed
 pub of_limit : (P : PassedLimit → Type 0) (found passed : PassedLimit) (limit : Option PassedLimit)
     → Some found ≡ limit → limit ≡ Some passed → P found → P passed
@@ -162,19 +151,12 @@ module _ (bytes : List ℕ) where
   ends_with (Ok done) why mid new told = (mid, told)
   ends_with (Err e) why mid new told = tt
 
-  pub told_refusal : (pages : ℕ) (new : PrinterState) (verdict : Result ⊤ ModuleFault)
-      → IfErr verdict (IsReported pages bytes)
-      → IfErr verdict (λ fault. EndsWithMore bytes fault new) → status_by verdict ≡ 3
-      → TellsRefusal pages bytes new
-  told_refusal pages new (Ok done) reported more is = absurd (omega (arith, is))
-  told_refusal pages new (Err fault) reported more is = (fault, reported, more)
-
-  pub listed_refusal : (pages : ℕ) (new : PrinterState) (verdict : Result ⊤ ModuleFault)
-      → IfErr verdict (IsReported pages bytes)
-      → IfErr verdict (λ fault. EndsWithList bytes fault new) → status_by verdict ≡ 3
-      → ListsRefusal pages bytes new
-  listed_refusal pages new (Ok done) reported more is = absurd (omega (arith, is))
-  listed_refusal pages new (Err fault) reported more is = (fault, reported, more)
+  pub told_why : (lists_all : Bool) (pages : ℕ) (new : PrinterState)
+      (verdict : Result ⊤ ModuleFault) → IfErr verdict (IsReported pages bytes)
+      → IfErr verdict (λ fault. EndsAsAsked lists_all bytes fault new) → status_by verdict ≡ 3
+      → TellsWhy lists_all pages bytes new
+  told_why lists_all pages new (Ok done) reported more is = absurd (omega (arith, is))
+  told_why lists_all pages new (Err fault) reported more is = (fault, reported, more)
 
   -- ---- a check
 
@@ -184,7 +166,8 @@ module _ (bytes : List ℕ) where
   checked lists_all pages n out out' err status is least most h =
       inl (least, most, subst (λ k. IsChecked lists_all k bytes out status out') is h, refl)
 
-  pub unchecked : (lists_all : Bool) (pages : ℕ) (out err err' : PrinterState) (status : ℕ) (line : List ℕ)
+  pub unchecked : (lists_all : Bool) (pages : ℕ) (out err err' : PrinterState) (status : ℕ)
+      (line : List ℕ)
       → IsOutside 1 256 pages → line ≡ range_words bound.Pages → SaysLine line 3 err status err'
       → ChecksModule lists_all pages bytes out out err err' status
   unchecked lists_all pages out err err' status line outside is said =

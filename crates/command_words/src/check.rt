@@ -4,12 +4,11 @@
 //!
 //! - `check_bytes`: status 0 says that the bytes spell a module that is accepted with so many pages
 //!   (`accepted`), and that `accepted` was printed (`printed`). 3 says that they spell none
-//!   (`refused`), and what else is known of it is told last (`more`). All others are 5 and 7
-//!   (`known`), and 7 comes just where a write has failed (`heeded`).
-//! - `list_bytes`: the same, but with all imports and functions that are in the way told last
-//!   (`more`).
-//! - `check_module` is one of both, of as many pages as a worker may have, and tells their bounds
-//!   of others (`ChecksModule`).
+//!   (`refused`). What else is known of it is told last, or if that is asked for all imports and
+//!   functions that are in the way (`more`). All others are 5 and 7 (`known`), and 7 comes just
+//!   where a write has failed (`heeded`).
+//! - `check_module` is that, of as many pages as a worker may have, and of others it tells their
+//!   bounds (`ChecksModule`).
 //!
 //! # Choices
 //!
@@ -21,7 +20,7 @@
 //!   Tests and refused allocations show it. Tests also show the text of refusals, which derived
 //!   `Display`s print.
 
-ghost use Rattle.std.specs.Prelude.{◌≡◌, ◌≤◌, ◌⊎◌, ◌^◌, true, IsOk, Err, IfErr, OnErr, OnOk};
+ghost use Rattle.std.specs.Prelude.{◌≡◌, ◌≤◌, ◌⊎◌, ◌^◌, true, false, IsOk, Err, IfErr, OnErr, OnOk};
 ghost use Rattle.std.specs.Prelude.{MatchOption, Some, codes};
 ghost use Rattle.std.specs.Io.KnownBytes.{Appends};
 ghost use Rattle.machine.specs.declared.from_bytes.fault.ModuleFault.{ModuleFault};
@@ -29,12 +28,12 @@ ghost use Rattle.machine.specs.rules.Acceptance.{HasAcceptedModule, HasNoAccepte
 ghost use Rattle.machine.specs.rules.Acceptance.{IsReported, passed_in};
 ghost use Rattle.wasm_decode.specs.declared.items.limit.PassedLimit.{PassedLimit};
 ghost use Rattle.command_words.specs.rules.Bounds.{IsOutside};
-ghost use Rattle.command_words.specs.rules.Checks.{ChecksModule, IsChecked};
-ghost use Rattle.command_words.specs.rules.Listings.{EndsWithList, ListsRefusal};
+ghost use Rattle.command_words.specs.rules.Checks.{ChecksModule, EndsAsAsked, TellsWhy};
+ghost use Rattle.command_words.specs.rules.Listings.{EndsWithList};
 ghost use Rattle.command_words.specs.rules.ModuleLimits.{TellsLimit};
 ghost use Rattle.command_words.specs.rules.Printers.{HeedsWrites};
 ghost use Rattle.command_words.specs.Statuses.{IsRight, status_by};
-ghost use Rattle.command_words.specs.rules.Verdicts.{EndsWithMore, TellsRefusal};
+ghost use Rattle.command_words.specs.rules.Verdicts.{EndsWithMore};
 
 use crate::bounds::{Bound, PAGES_BOUND, words_of_range};
 use crate::module_limits::print_limit;
@@ -93,64 +92,6 @@ fn print_refusal<W: Write + Drop>(
     print_more(alloc, wasm, fault, out)
 }
 
-/// Prints a verdict: `accepted`, or why not.
-fn print_verdict<W: Write + Drop>(
-    alloc: Global,
-    wasm: &[u8],
-    verdict: Result<(), ModuleFault>,
-    out: &mut Printer<W>,
-) -> io::Result<()>
-    ensures accepted { IsOk verdict
-        → OnOk result (Appends out.old.contents out.new.contents (codes "accepted\n")) }
-    ensures limit { (fault : ModuleFault) (passed : PassedLimit) → verdict ≡ Err fault
-        → passed_in fault ≡ Some passed
-        → OnOk result (TellsLimit wasm.now (codes "refused") passed out.old out.new) }
-    ensures more { OnOk result (IfErr verdict (λ fault. EndsWithMore wasm.now fault out.new)) }
-    ensures steady { OnOk result (out.new.failed ≡ out.old.failed) }
-    ensures failed { OnErr result (out.new.failed ≡ true) }
-{
-    match verdict {
-        Ok(()) => writeln!(out, "accepted"),
-        Err(fault) => print_refusal(alloc, wasm, fault, out),
-    }
-}
-
-/// The exit status of a verdict that is printed.
-fn status_of(verdict: Result<(), ModuleFault>) -> u8
-    ensures { result ≡ status_by verdict }
-{
-    match verdict {
-        Ok(()) => 0,
-        Err(fault) if fault.is_want_of_memory() => NO_MEMORY,
-        Err(_) => REFUSED,
-    }
-}
-
-/// Says whether a module is accepted with so many pages: prints a line, and why not on a further
-/// one. Answers the exit status, 0, 3 where it is refused, 5 for out of memory, 7 where a write has
-/// failed.
-pub fn check_bytes<W: Write + Drop>(
-    alloc: Global,
-    wasm: &[u8],
-    pages: u32,
-    out: &mut Printer<W>,
-) -> u8
-    requires { pages ≤ 2 ^ 16 }
-    ensures accepted { result ≡ 0 → HasAcceptedModule pages wasm.now }
-    ensures printed { result ≡ 0
-        → Appends out.old.contents out.new.contents (codes "accepted\n") }
-    ensures refused { result ≡ 3 → HasNoAcceptedModule pages wasm.now }
-    ensures more { result ≡ 3 → TellsRefusal pages wasm.now out.new }
-    ensures heeded { HeedsWrites out.old result out.new }
-    ensures known { (result ≡ 0) ⊎ (result ≡ 3) ⊎ (result ≡ 5) ⊎ (result ≡ 7) }
-{
-    let verdict = verdict_on(alloc, wasm, pages);
-    match print_verdict(alloc, wasm, verdict, out) {
-        Ok(()) => status_of(verdict),
-        Err(_) => UNWRITTEN,
-    }
-}
-
 /// Prints that a module is refused, and all imports and functions that are in the way. What the
 /// list doesn't have of the first fault is on a line of its own.
 fn print_listed_refusal<W: Write + Drop>(
@@ -168,51 +109,65 @@ fn print_listed_refusal<W: Write + Drop>(
     print_list(alloc, wasm, out)
 }
 
-/// Prints a verdict: `accepted`, or why not, with all that is in the way.
-fn print_listed_verdict<W: Write + Drop>(
+/// Prints that a module is refused. All that is in the way is listed if that is asked for.
+fn print_refusal_as_asked<W: Write + Drop>(
     alloc: Global,
     wasm: &[u8],
+    lists_all: bool,
+    fault: ModuleFault,
+    out: &mut Printer<W>,
+) -> io::Result<()>
+    ensures limit { lists_all ≡ false → (passed : PassedLimit) → passed_in fault ≡ Some passed
+        → OnOk result (TellsLimit wasm.now (codes "refused") passed out.old out.new) }
+    ensures more { OnOk result (EndsAsAsked lists_all wasm.now fault out.new) }
+    ensures steady { OnOk result (out.new.failed ≡ out.old.failed) }
+    ensures failed { OnErr result (out.new.failed ≡ true) }
+{
+    if lists_all {
+        print_listed_refusal(alloc, wasm, fault, out)
+    } else {
+        print_refusal(alloc, wasm, fault, out)
+    }
+}
+
+/// Prints a verdict: `accepted`, or why not.
+fn print_verdict<W: Write + Drop>(
+    alloc: Global,
+    wasm: &[u8],
+    lists_all: bool,
     verdict: Result<(), ModuleFault>,
     out: &mut Printer<W>,
 ) -> io::Result<()>
     ensures accepted { IsOk verdict
         → OnOk result (Appends out.old.contents out.new.contents (codes "accepted\n")) }
-    ensures more { OnOk result (IfErr verdict (λ fault. EndsWithList wasm.now fault out.new)) }
+    ensures limit { lists_all ≡ false → (fault : ModuleFault) (passed : PassedLimit)
+        → verdict ≡ Err fault → passed_in fault ≡ Some passed
+        → OnOk result (TellsLimit wasm.now (codes "refused") passed out.old out.new) }
+    ensures more { OnOk result (IfErr verdict (λ e. EndsAsAsked lists_all wasm.now e out.new)) }
     ensures steady { OnOk result (out.new.failed ≡ out.old.failed) }
     ensures failed { OnErr result (out.new.failed ≡ true) }
 {
     match verdict {
         Ok(()) => writeln!(out, "accepted"),
-        Err(fault) => print_listed_refusal(alloc, wasm, fault, out),
+        Err(fault) => print_refusal_as_asked(alloc, wasm, lists_all, fault, out),
     }
 }
 
-/// The same as `check_bytes`, but where the module is refused all that is in the way is listed.
-pub fn list_bytes<W: Write + Drop>(
-    alloc: Global,
-    wasm: &[u8],
-    pages: u32,
-    out: &mut Printer<W>,
-) -> u8
-    requires { pages ≤ 2 ^ 16 }
-    ensures accepted { result ≡ 0 → HasAcceptedModule pages wasm.now }
-    ensures printed { result ≡ 0
-        → Appends out.old.contents out.new.contents (codes "accepted\n") }
-    ensures refused { result ≡ 3 → HasNoAcceptedModule pages wasm.now }
-    ensures more { result ≡ 3 → ListsRefusal pages wasm.now out.new }
-    ensures heeded { HeedsWrites out.old result out.new }
-    ensures known { (result ≡ 0) ⊎ (result ≡ 3) ⊎ (result ≡ 5) ⊎ (result ≡ 7) }
+/// The exit status of a verdict that is printed.
+fn status_of(verdict: Result<(), ModuleFault>) -> u8
+    ensures { result ≡ status_by verdict }
 {
-    let verdict = verdict_on(alloc, wasm, pages);
-    match print_listed_verdict(alloc, wasm, verdict, out) {
-        Ok(()) => status_of(verdict),
-        Err(_) => UNWRITTEN,
+    match verdict {
+        Ok(()) => 0,
+        Err(fault) if fault.is_want_of_memory() => NO_MEMORY,
+        Err(_) => REFUSED,
     }
 }
 
-/// Says whether a module is accepted with so many pages, and lists all that is in the way if that
-/// is asked for.
-fn check_as_asked<W: Write + Drop>(
+/// Says whether a module is accepted with so many pages: prints a line, and why not on a further
+/// one, or lists all that is in the way if that is asked for. Answers the exit status, 0, 3 where
+/// it is refused, 5 for out of memory, 7 where a write has failed.
+pub fn check_bytes<W: Write + Drop>(
     alloc: Global,
     wasm: &[u8],
     pages: u32,
@@ -220,12 +175,18 @@ fn check_as_asked<W: Write + Drop>(
     out: &mut Printer<W>,
 ) -> u8
     requires { pages ≤ 2 ^ 16 }
-    ensures { IsChecked lists_all pages wasm.now out.old result out.new }
+    ensures accepted { result ≡ 0 → HasAcceptedModule pages wasm.now }
+    ensures printed { result ≡ 0
+        → Appends out.old.contents out.new.contents (codes "accepted\n") }
+    ensures refused { result ≡ 3 → HasNoAcceptedModule pages wasm.now }
+    ensures more { result ≡ 3 → TellsWhy lists_all pages wasm.now out.new }
+    ensures heeded { HeedsWrites out.old result out.new }
+    ensures known { (result ≡ 0) ⊎ (result ≡ 3) ⊎ (result ≡ 5) ⊎ (result ≡ 7) }
 {
-    if lists_all {
-        list_bytes(alloc, wasm, pages, out)
-    } else {
-        check_bytes(alloc, wasm, pages, out)
+    let verdict = verdict_on(alloc, wasm, pages);
+    match print_verdict(alloc, wasm, lists_all, verdict, out) {
+        Ok(()) => status_of(verdict),
+        Err(_) => UNWRITTEN,
     }
 }
 
@@ -256,7 +217,7 @@ pub fn check_module<W: Write + Drop, E: Write + Drop>(
     ensures known { result ≤ 7 }
 {
     match allowed_pages(pages) {
-        Some(pages) => check_as_asked(alloc, wasm, pages, lists_all, out),
+        Some(pages) => check_bytes(alloc, wasm, pages, lists_all, out),
         None => say_line(err, REFUSED, words_of_range(Bound::Pages)),
     }
 }

@@ -16,7 +16,7 @@
 //! with their clauses.
 //!
 //! - `read_words`: an order is exactly what the words mean, and a fault one that they have.
-//! - `check_bytes`, `list_bytes`, `check_module`: 0 only if the bytes spell a module that is
+//! - `check_bytes`, `check_module`: 0 only if the bytes spell a module that is
 //!   accepted, and 3 only if they don't, or the pages are out of bounds.
 //! - `prepare`, `report_unprepared`: what a worker needs, before there is a disk, or why it can't
 //!   be had.
@@ -67,7 +67,7 @@ mod verdicts;
 mod words;
 
 pub use bounds::Bound;
-pub use check::{check_bytes, check_module, list_bytes};
+pub use check::{check_bytes, check_module};
 pub use configuring::Sizes;
 pub use digests::digest_digits;
 pub use lines::{

@@ -7,6 +7,7 @@
 //!   what is proved of its words.
 
 ghost use Rattle.std.specs.Prelude.{◌≡◌, ◌≤◌, ◌⊎◌, IfSome};
+ghost use Rattle.command_words.specs.declared.telling.Obstacle.TheVariants.{NoText};
 ghost use Rattle.command_words.specs.rules.Commands.{IsStatusOf};
 ghost use Rattle.command_words.specs.rules.Printers.{IsSaid, HeedsBoth};
 ghost use Rattle.command_words.specs.rules.Reports.{SaysLine, obstacle_status};
@@ -33,8 +34,8 @@ pub enum Obstacle {
     Memory,
     /// A disk can't be written back.
     Unread,
-    /// An argument is no text.
-    NoText,
+    /// The argument with this number isn't UTF-8. The program's name has the number 0.
+    NoText(usize),
     /// A text spells no seed.
     NoSeed,
     /// A seed is given, and a file with one.
@@ -57,6 +58,16 @@ pub fn say_line<W: Write + Drop>(out: &mut Printer<W>, status: u8, line: &str) -
     }
 }
 
+/// Prints which argument isn't UTF-8. Answers the status, or 7 where a write has failed.
+fn say_no_text<E: Write + Drop>(err: &mut Printer<E>, number: usize) -> u8
+    ensures { SaysLine (obstacle_words (NoText number)) 2 err.old result err.new }
+{
+    match writeln!(err, "error: argument {number} isn't UTF-8") {
+        Ok(()) => USAGE,
+        Err(_) => UNWRITTEN,
+    }
+}
+
 /// Prints why a command isn't begun, or that its output can't be written, and answers the exit
 /// status.
 pub fn report<E: Write + Drop>(err: &mut Printer<E>, obstacle: Obstacle) -> u8
@@ -67,7 +78,7 @@ pub fn report<E: Write + Drop>(err: &mut Printer<E>, obstacle: Obstacle) -> u8
     match obstacle {
         Obstacle::Memory => say_line(err, NO_MEMORY, "failed N4 Memory"),
         Obstacle::Unread => say_line(err, UNREAD, "failed K2 Io"),
-        Obstacle::NoText => say_line(err, USAGE, "error: an argument is no text"),
+        Obstacle::NoText(number) => say_no_text(err, number),
         Obstacle::NoSeed => say_line(err, USAGE, "error: a seed is 64 hexadecimal digits"),
         Obstacle::TwoSeeds => {
             say_line(

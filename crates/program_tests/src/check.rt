@@ -88,6 +88,7 @@ fn is_told_so(alloc: Global, row: &Row) -> Result<bool, Fail> {
         alloc,
         bytes.as_slice(),
         256,
+        false,
         &mut Printer::new(&mut out, false),
     );
     drop(bytes);
@@ -167,7 +168,7 @@ const FAULTS: &[Row] = &[
     (
         &[HEADER, "01050160017d00"],
         3,
-        "refused B2 Float at 13\nf32 in type 0; \
+        "refused B2 Float at 13\nf32 in type 0 of no function; \
          printf has floats, but not with -lc-printscan-no-floating-point\n",
     ),
     (
@@ -281,7 +282,8 @@ fn modules_are_told(rt: HostRuntime) -> Result<(), Fail> {
 
 /// The status of `check` on these bytes.
 fn status_of(alloc: Global, bytes: &[u8]) -> u8 {
-    check_bytes(alloc, bytes, 256, &mut Printer::new(Vec::new(alloc), false))
+    let out = &mut Printer::new(Vec::new(alloc), false);
+    check_bytes(alloc, bytes, 256, false, out)
 }
 
 /// The length of `ECHO`, and the place after its code section, where a module may end as well.
@@ -317,8 +319,9 @@ fn statuses_without_room(alloc: Global) -> [u8; 2] {
     let mut room = [0u8; 8];
     let room: &mut [u8] = &mut room;
     let mut out = Printer::new(room, false);
-    let accepted = check_bytes(alloc, &SMALL, 256, &mut out);
-    [accepted, check_bytes(alloc, &SMALL[..9], 256, &mut out)]
+    let accepted = check_bytes(alloc, &SMALL, 256, false, &mut out);
+    let refused = check_bytes(alloc, &SMALL[..9], 256, false, &mut out);
+    [accepted, refused]
 }
 
 /// A line that can't be written whole.
@@ -332,7 +335,7 @@ fn output_without_room(rt: HostRuntime) {
 fn accept_small(alloc: Global) -> Result<(), Refused> {
     let mut room = [0u8; 32];
     let room: &mut [u8] = &mut room;
-    match check_bytes(alloc, &SMALL, 256, &mut Printer::new(room, false)) {
+    match check_bytes(alloc, &SMALL, 256, false, &mut Printer::new(room, false)) {
         0 => Ok(()),
         5 => Err(Refused::Memory),
         _ => Err(Refused::Otherwise),

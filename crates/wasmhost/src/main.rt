@@ -14,9 +14,9 @@
 //! - `check` and `create` hand over a module's bytes. The rest of `create` is `create_disk`.
 //! - `story` and `sweep` hand over all bytes of a script, and a module's bytes. They read them in
 //!   this order.
-//! - `run`, `upgrade`, `show`, `inspect` and `files` are `run_file`, `upgrade_file`, `show_file`,
-//!   `inspect_file` and `files_file`, which open the disk's file. One host holds it at a time.
-//!   `run` also hands over the lines of the standard input and the machine's clock.
+//! - `run` and `upgrade` are `run_file` and `upgrade_file`, and `show`, `inspect` and `files` are
+//!   `look_at_file`, which open the disk's file. One host holds it at a time. `run` also hands over
+//!   the lines of the standard input and the machine's clock.
 //! - Before all that it takes the numbers of standard streams that are closed (`StreamNumbers`), so
 //!   that no file that it opens gets one. No clause says so: `scripts/runs/closed-streams` does.
 //! - A file that can't be read is told by `report_unread`, want of memory by `report`, and a fault
@@ -45,10 +45,10 @@ use command_words::{
     report_output, report_words,
 };
 use disk_commands::{
-    System, create_disk, files_file, inspect_file, report_unread, run_file, show_file, upgrade_file,
+    Look, System, create_disk, look_at_file, report_unread, run_file, upgrade_file,
 };
 use std::alloc::Global;
-use std::env;
+use std::env::{self, FillError};
 use std::fs::File;
 use std::io::{self, BufReader, ErrorKind, Input, IsTerminal, Read, Write};
 use std::process::ExitCode;
@@ -79,6 +79,42 @@ impl StreamNumbers {
         Ok(StreamNumbers {
             _files: [first, second, third],
         })
+    }
+}
+
+/// The arguments of the command line up to the first one that isn't UTF-8.
+#[derive(Drop)]
+struct TextArguments<'a, R> {
+    rt: &'a R,
+}
+
+impl<R: Env> Env for TextArguments<'_, R> {
+    fn arg(&self, i: usize, buf: &mut [u8]) -> Result<usize, FillError> {
+        let len = self.rt.arg(i, buf)?;
+        if str::from_utf8(&buf[..len]).is_ok() {
+            Ok(len)
+        } else {
+            Err(FillError::NotPresent)
+        }
+    }
+
+    fn var(&self, name: &str, buf: &mut [u8]) -> Result<usize, FillError> {
+        self.rt.var(name, buf)
+    }
+
+    fn var_at(&self, i: usize, buf: &mut [u8]) -> Result<usize, FillError> {
+        self.rt.var_at(i, buf)
+    }
+}
+
+/// Tells which argument is the first one that isn't UTF-8.
+fn report_argument<R: Env, E: Write + Drop>(rt: &R, alloc: Global, err: &mut Printer<E>) -> u8
+    ensures { result ≤ 7 }
+{
+    let texts = TextArguments { rt };
+    match env::args(&(&texts, alloc)) {
+        Ok(before) => report(err, Obstacle::NoText(before.len())),
+        Err(_) => report(err, Obstacle::Memory),
     }
 }
 
@@ -133,50 +169,19 @@ fn create<R: Files<File = File>, W: Write + Drop, E: Write + Drop>(
     }
 }
 
-/// Says where the worker of a disk is.
-fn show<R: Files<File = File>, W: Write + Drop, E: Write + Drop>(
+/// Says what is asked for of the disk in a file.
+fn look_at_disk<R: Files<File = File>, W: Write + Drop, E: Write + Drop>(
     rt: &R,
     alloc: Global,
     path: &str,
+    look: Look<'_>,
     out: &mut W,
     err: &mut Printer<E>,
 ) -> u8
     ensures { result ≤ 7 }
 {
     let out = &mut Printer::new(out, false);
-    let status = show_file(alloc, rt, path, out, err);
-    report_output(out, status, err)
-}
-
-/// Says all that is on a disk.
-fn inspect<R: Files<File = File>, W: Write + Drop, E: Write + Drop>(
-    rt: &R,
-    alloc: Global,
-    path: &str,
-    as_json: bool,
-    out: &mut W,
-    err: &mut Printer<E>,
-) -> u8
-    ensures { result ≤ 7 }
-{
-    let out = &mut Printer::new(out, false);
-    let status = inspect_file(alloc, rt, path, as_json, out, err);
-    report_output(out, status, err)
-}
-
-/// Lists the files of the worker of a disk, or writes one.
-fn files<R: Files<File = File>, W: Write + Drop, E: Write + Drop>(
-    rt: &R,
-    alloc: Global,
-    disk: &str,
-    path: Option<&str>,
-    out: &mut W,
-    err: &mut Printer<E>,
-) -> u8
-    ensures { result ≤ 7 }
-{
-    let out = &mut Printer::new(out, false);
-    let status = files_file(alloc, rt, disk, path, out, err);
+    let status = look_at_file(alloc, rt, path, look, out, err);
     report_output(out, status, err)
 }
 
@@ -347,15 +352,19 @@ where
         Err(error) if error.kind() == ErrorKind::OutOfMemory => {
             return report(err, Obstacle::Memory);
         }
-        Err(_) => return report(err, Obstacle::NoText),
+        Err(_) => return report_argument(rt, alloc, err),
     };
     match read_words(alloc, words.as_slice()) {
         Ok(Order::Check(order)) => check(rt, alloc, &order, out, err),
         Ok(Order::Create(order)) => create(rt, alloc, &order, out, err),
         Ok(Order::Run(order)) => run(rt, alloc, &order, out, err),
-        Ok(Order::Show { path }) => show(rt, alloc, path, out, err),
-        Ok(Order::Inspect { path, as_json }) => inspect(rt, alloc, path, as_json, out, err),
-        Ok(Order::Files { disk, path }) => files(rt, alloc, disk, path, out, err),
+        Ok(Order::Show { path }) => look_at_disk(rt, alloc, path, Look::Survey, out, err),
+        Ok(Order::Inspect { path, as_json }) => {
+            look_at_disk(rt, alloc, path, Look::Facts { as_json }, out, err)
+        }
+        Ok(Order::Files { disk, path }) => {
+            look_at_disk(rt, alloc, disk, Look::Files { path }, out, err)
+        }
         Ok(Order::Upgrade { path }) => upgrade(rt, alloc, path, out, err),
         Ok(Order::Story(order)) => story(rt, alloc, &order, out, err),
         Ok(Order::Sweep(order)) => sweep(rt, alloc, &order, out, err),

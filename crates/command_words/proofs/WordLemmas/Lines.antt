@@ -33,14 +33,10 @@ use Rattle.command_words.specs.laws.Words.{FaultlessWordsMean, NumbersFit}
 use Rattle.command_words.proofs.WordLemmas.Walks.{Keeps, found_each, no_first}
 use Rattle.command_words.proofs.WordLemmas.Walks.{no_second, settled_good, some_kind, walk_good}
 use Rattle.command_words.proofs.WordLemmas.Stops.{NoHelp, walk_on}
-use Rattle.command_words.proofs.WordLemmas.Rows.{IsGood, added_good, options_are_taken}
+use Rattle.command_words.proofs.WordLemmas.Rows.{IsGood, Passes, added_good, options_are_taken}
 use Rattle.command_words.proofs.WordLemmas.Rows.{path_is_there}
-use Rattle.command_words.proofs.WordLemmas.Uses.{keeps_env, keeps_help, keeps_number}
-use Rattle.command_words.proofs.WordLemmas.Uses.{keeps_path}
-use Rattle.command_words.proofs.WordLemmas.Uses.{keeps_device, keeps_fronts, keeps_json}
-use Rattle.command_words.proofs.WordLemmas.Uses.{keeps_all, keeps_last}
-use Rattle.command_words.proofs.WordLemmas.Uses.{keeps_rewrite, keeps_seed, keeps_status}
-use Rattle.command_words.proofs.WordLemmas.Uses.{keeps_seed_file, keeps_verbose}
+use Rattle.command_words.proofs.WordLemmas.Uses.{keeps_env, keeps_flag, keeps_help, keeps_last}
+use Rattle.command_words.proofs.WordLemmas.Uses.{keeps_number, keeps_path, keeps_text}
 
 -- ---- one level
 
@@ -64,30 +60,10 @@ defaults_good (a ∷ c) rows h good =
 unused : (rows : List Row) → Each IsGood rows → Each IsGood rows
 unused rows good = good
 
--- for the flag a no is
-no_rewrite : (rows : List Row) → Each IsGood rows
-    → Each IsGood (with_values (codes "rewrite") AsWritten DefaultValue (codes "false" ∷ []) rows)
-no_rewrite rows good =
-    added_good DefaultValue (codes "rewrite") (codes "false") rows (inr refl) good
-
-no_verbose : (rows : List Row) → Each IsGood rows
-    → Each IsGood (with_values (codes "verbose") AsWritten DefaultValue (codes "false" ∷ []) rows)
-no_verbose rows good =
-    added_good DefaultValue (codes "verbose") (codes "false") rows (inr refl) good
-
-no_device : (rows : List Row) → Each IsGood rows
-    → Each IsGood (with_values (codes "device") AsWritten DefaultValue (codes "false" ∷ []) rows)
-no_device rows good =
-    added_good DefaultValue (codes "device") (codes "false") rows (inr refl) good
-
-no_all : (rows : List Row) → Each IsGood rows
-    → Each IsGood (with_values (codes "all") AsWritten DefaultValue (codes "false" ∷ []) rows)
-no_all rows good = added_good DefaultValue (codes "all") (codes "false") rows (inr refl) good
-
-no_json : (rows : List Row) → Each IsGood rows
-    → Each IsGood (with_values (codes "json") AsWritten DefaultValue (codes "false" ∷ []) rows)
-no_json rows good =
-    added_good DefaultValue (codes "json") (codes "false") rows (inr refl) good
+-- for a flag a no is
+no_flag : (name : Text) → Passes name (codes "false") → (rows : List Row) → Each IsGood rows
+    → Each IsGood (with_values name AsWritten DefaultValue (codes "false" ∷ []) rows)
+no_flag name is rows good = added_good DefaultValue name (codes "false") rows is good
 
 -- good rows for which no fault is listed in the end have the paths of their command
 abbrev AsksForPaths : Shape → Type 0
@@ -176,10 +152,10 @@ module _ (name : Text) (words : List Text) (no_help : bytes_eq name (codes "help
       keeps_path 1 (codes "MODULE") (λ v. tt),
       (
         keeps_number 2 (codes "pages") 0 (λ v is. is),
-        (keeps_all 2, (keeps_help, tt)),
+        (keeps_flag 2 (codes "all") (inl refl), (keeps_help, tt)),
       ),
     )
-        (unused, (unused, (no_all, (unused, tt))))
+        (unused, (unused, (no_flag (codes "all") (inr refl), (unused, tt))))
         (λ rows good e. inl (refl, one_path (codes "MODULE") rows good e)) e,
     (
       λ here e. below_taken _ words (
@@ -193,13 +169,24 @@ module _ (name : Text) (words : List Text) (no_help : bytes_eq name (codes "help
               (
                 keeps_number 3 (codes "journal") 0
                     (λ v is. is),
-                (keeps_env 3, (keeps_device 3, (keeps_help, tt))),
+                (keeps_env 3, (keeps_flag 3 (codes "device") (inl refl), (keeps_help, tt))),
               ),
             ),
           ),
         ),
+      ) (
+        unused,
+        (
+          unused,
+          (
+            unused,
+            (
+              unused,
+              (unused, (unused, (no_flag (codes "device") (inr refl), (unused, tt)))),
+            ),
+          ),
+        ),
       )
-          (unused, (unused, (unused, (unused, (unused, (unused, (no_device, (unused, tt))))))))
           (λ rows good e. inr (inl (two_paths (codes "create") (codes "DISK") (codes "MODULE")
           rows good e))) e,
       (
@@ -211,16 +198,16 @@ module _ (name : Text) (words : List Text) (no_help : bytes_eq name (codes "help
               keeps_number 2 (codes "every") 1
                   (λ v is. is),
               (
-                keeps_seed 2,
+                keeps_text 2 (codes "seed") (λ v. tt),
                 (
                   keeps_number 2 (codes "clock") 0 (λ v is. is),
                   (
-                    keeps_rewrite 2,
+                    keeps_flag 2 (codes "rewrite") (inl refl),
                     (
-                      keeps_status 2,
+                      keeps_text 2 (codes "status") (λ v. tt),
                       (
-                        keeps_verbose 2,
-                        (keeps_seed_file 2, (keeps_help, tt)),
+                        keeps_flag 2 (codes "verbose") (inl refl),
+                        (keeps_text 2 (codes "seed-file") (λ v. tt), (keeps_help, tt)),
                       ),
                     ),
                   ),
@@ -239,11 +226,11 @@ module _ (name : Text) (words : List Text) (no_help : bytes_eq name (codes "help
                 (
                   unused,
                   (
-                    no_rewrite,
+                    no_flag (codes "rewrite") (inr refl),
                     (
                       unused,
                       (
-                        no_verbose,
+                        no_flag (codes "verbose") (inr refl),
                         (unused, (unused, tt)),
                       ),
                     ),
@@ -261,9 +248,9 @@ module _ (name : Text) (words : List Text) (no_help : bytes_eq name (codes "help
           (
             λ here e. below_taken _ words (
               keeps_path 1 (codes "DISK") (λ v. tt),
-              (keeps_json 2, (keeps_help, tt)),
+              (keeps_flag 2 (codes "json") (inl refl), (keeps_help, tt)),
             )
-                (unused, (no_json, (unused, tt)))
+                (unused, (no_flag (codes "json") (inr refl), (unused, tt)))
                 (λ rows good e. inr (inr (inr (inr (inl (
                   refl,
                   one_path (codes "DISK") rows good
@@ -319,7 +306,7 @@ module _ (name : Text) (words : List Text) (no_help : bytes_eq name (codes "help
                             (
                               keeps_number 3 (codes "journal") 0 (λ v is. is),
                               (
-                                keeps_fronts 3,
+                                keeps_text 3 (codes "fronts") (λ v. tt),
                                 (keeps_number 3 (codes "life") 1 (λ v is. is), (keeps_help, tt)),
                               ),
                             ),

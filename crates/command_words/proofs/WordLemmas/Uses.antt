@@ -1,6 +1,6 @@
 -- A use of an argument for which no fault is listed leaves good rows good.
 use Rattle.std.proofs.Common.{◌≡◌, ◌-◌, ◌^◌, ℕ, Bool, cond, true, false, arith, refl, List, []}
-use Rattle.std.proofs.Common.{◌∷◌, length, codes, eqb-true, inl}
+use Rattle.std.proofs.Common.{◌∷◌, length, codes, eqb-true}
 use Rattle.std.specs.Prelude.{◌==◌}
 use Rattle.clap.specs.Walk.{Text}
 use Rattle.clap.specs.Simple.{filled, help_rule, with_index}
@@ -12,11 +12,8 @@ use Rattle.clap.specs.declared.builder.value_parser.ValueParser.TheVariants.{Uns
 use Rattle.clap.specs.declared.error.kind.ErrorKind.TheVariants as kind
 use Rattle.clap.specs.declared.parser.matches.ValueSource.TheVariants.{CommandLine}
 use Rattle.clap.proofs.ValueTestLemmas.{accepts-Accepts}
-use Rattle.command_words.specs.rules.CommandLine.{env_rule, number_rule, path_rule}
-use Rattle.command_words.specs.rules.CommandLine.{all_rule, device_rule, fronts_rule, json_rule}
-use Rattle.command_words.specs.rules.CommandLine.{last_rule}
-use Rattle.command_words.specs.rules.CommandLine.{rewrite_rule, seed_rule, status_rule}
-use Rattle.command_words.specs.rules.CommandLine.{seed_file_rule, verbose_rule}
+use Rattle.command_words.specs.rules.CommandLine.{env_rule, flag_rule, last_rule, number_rule}
+use Rattle.command_words.specs.rules.CommandLine.{path_rule, text_rule}
 use Rattle.command_words.specs.rules.Commands.{IsNumberFrom}
 use Rattle.command_words.proofs.WordLemmas.Walks.{Keeps, no_first, no_second, some_kind}
 use Rattle.command_words.proofs.WordLemmas.Rows.{IsGood, Passes, added_good, with_good}
@@ -85,28 +82,11 @@ keeps_number n name least passes (v ∷ []) rows e good =
 keeps_number n name least passes (v ∷ w ∷ vs) rows e good =
     absurd (too_many v w vs (no_first (range_kinds 1 1 (length (v ∷ w ∷ vs))) _ e))
 
-pub keeps_seed : (n : ℕ) → Keeps IsGood false (with_index n (filled seed_rule))
-keeps_seed n [] rows e good = absurd (some_kind _ _ e)
-keeps_seed n (v ∷ []) rows e good = with_good (codes "seed") v rows tt good
-keeps_seed n (v ∷ w ∷ vs) rows e good =
-    absurd (too_many v w vs (no_first (range_kinds 1 1 (length (v ∷ w ∷ vs))) _ e))
-
-pub keeps_status : (n : ℕ) → Keeps IsGood false (with_index n (filled status_rule))
-keeps_status n [] rows e good = absurd (some_kind _ _ e)
-keeps_status n (v ∷ []) rows e good = with_good (codes "status") v rows tt good
-keeps_status n (v ∷ w ∷ vs) rows e good =
-    absurd (too_many v w vs (no_first (range_kinds 1 1 (length (v ∷ w ∷ vs))) _ e))
-
-pub keeps_seed_file : (n : ℕ) → Keeps IsGood false (with_index n (filled seed_file_rule))
-keeps_seed_file n [] rows e good = absurd (some_kind _ _ e)
-keeps_seed_file n (v ∷ []) rows e good = with_good (codes "seed-file") v rows tt good
-keeps_seed_file n (v ∷ w ∷ vs) rows e good =
-    absurd (too_many v w vs (no_first (range_kinds 1 1 (length (v ∷ w ∷ vs))) _ e))
-
-pub keeps_fronts : (n : ℕ) → Keeps IsGood false (with_index n (filled fronts_rule))
-keeps_fronts n [] rows e good = absurd (some_kind _ _ e)
-keeps_fronts n (v ∷ []) rows e good = with_good (codes "fronts") v rows tt good
-keeps_fronts n (v ∷ w ∷ vs) rows e good =
+pub keeps_text : (n : ℕ) (name : Text) → ((v : Text) → Passes name v)
+    → Keeps IsGood false (with_index n (filled (text_rule name)))
+keeps_text n name free [] rows e good = absurd (some_kind _ _ e)
+keeps_text n name free (v ∷ []) rows e good = with_good name v rows (free v) good
+keeps_text n name free (v ∷ w ∷ vs) rows e good =
     absurd (too_many v w vs (no_first (range_kinds 1 1 (length (v ∷ w ∷ vs))) _ e))
 
 pub keeps_env : (n : ℕ) → Keeps IsGood false (with_index n (filled env_rule))
@@ -115,30 +95,11 @@ keeps_env n (v ∷ []) rows e good = added_good CommandLine (codes "env") v rows
 keeps_env n (v ∷ w ∷ vs) rows e good =
     absurd (too_many v w vs (no_first (range_kinds 1 1 (length (v ∷ w ∷ vs))) _ e))
 
--- a use of the flag has no value, and stands for yes
-pub keeps_rewrite : (n : ℕ) → Keeps IsGood false (with_index n (filled rewrite_rule))
-keeps_rewrite n [] rows e good = with_good (codes "rewrite") (codes "true") rows (inl refl) good
-keeps_rewrite n (v ∷ vs) rows e good =
-    absurd (some_values v vs (no_first (range_kinds 0 0 (length (v ∷ vs))) _ e))
-
-pub keeps_verbose : (n : ℕ) → Keeps IsGood false (with_index n (filled verbose_rule))
-keeps_verbose n [] rows e good = with_good (codes "verbose") (codes "true") rows (inl refl) good
-keeps_verbose n (v ∷ vs) rows e good =
-    absurd (some_values v vs (no_first (range_kinds 0 0 (length (v ∷ vs))) _ e))
-
-pub keeps_device : (n : ℕ) → Keeps IsGood false (with_index n (filled device_rule))
-keeps_device n [] rows e good = with_good (codes "device") (codes "true") rows (inl refl) good
-keeps_device n (v ∷ vs) rows e good =
-    absurd (some_values v vs (no_first (range_kinds 0 0 (length (v ∷ vs))) _ e))
-
-pub keeps_all : (n : ℕ) → Keeps IsGood false (with_index n (filled all_rule))
-keeps_all n [] rows e good = with_good (codes "all") (codes "true") rows (inl refl) good
-keeps_all n (v ∷ vs) rows e good =
-    absurd (some_values v vs (no_first (range_kinds 0 0 (length (v ∷ vs))) _ e))
-
-pub keeps_json : (n : ℕ) → Keeps IsGood false (with_index n (filled json_rule))
-keeps_json n [] rows e good = with_good (codes "json") (codes "true") rows (inl refl) good
-keeps_json n (v ∷ vs) rows e good =
+-- a use of a flag has no value, and stands for yes
+pub keeps_flag : (n : ℕ) (name : Text) → Passes name (codes "true")
+    → Keeps IsGood false (with_index n (filled (flag_rule name)))
+keeps_flag n name is [] rows e good = with_good name (codes "true") rows is good
+keeps_flag n name is (v ∷ vs) rows e good =
     absurd (some_values v vs (no_first (range_kinds 0 0 (length (v ∷ vs))) _ e))
 
 pub keeps_help : Keeps IsGood false (filled help_rule)

@@ -1,19 +1,24 @@
 -- What a check of a module says (this project's own).
 use Rattle.std.specs.Prelude.{◌≡◌, ◌⊎◌, ◌≤◌, ℕ, Bool, true, false, List, codes}
 use Rattle.std.specs.Io.KnownBytes.{Appends}
-use Rattle.machine.specs.rules.Acceptance.{HasAcceptedModule, HasNoAcceptedModule}
+use Rattle.machine.specs.declared.from_bytes.fault.ModuleFault.{ModuleFault}
+use Rattle.machine.specs.rules.Acceptance.{HasAcceptedModule, HasNoAcceptedModule, IsReported}
 use Rattle.command_words.specs.declared.bounds.Bound.TheVariants.{Pages}
 use Rattle.command_words.specs.rules.Bounds.{IsOutside, range_words}
-use Rattle.command_words.specs.rules.Listings.{ListsRefusal}
+use Rattle.command_words.specs.rules.Listings.{EndsWithList}
 use Rattle.command_words.specs.rules.Printers.{PrinterState, HeedsWrites}
 use Rattle.command_words.specs.rules.Reports.{SaysLine}
-use Rattle.command_words.specs.rules.Verdicts.{TellsRefusal}
+use Rattle.command_words.specs.rules.Verdicts.{EndsWithMore}
 
--- It is told last why the module isn't accepted with so many pages, and if that is asked for, all
--- that is in the way.
+-- That is told last of a fault, and if that is asked for, all that is in the way.
+abbrev pub EndsAsAsked : Bool → List ℕ → ModuleFault → PrinterState → Type 0
+EndsAsAsked false bytes why new = EndsWithMore bytes why new
+EndsAsAsked true bytes why new = EndsWithList bytes why new
+
+-- So it is told last why the module isn't accepted with so many pages.
 abbrev pub TellsWhy : Bool → ℕ → List ℕ → PrinterState → Type 0
-TellsWhy false pages bytes new = TellsRefusal pages bytes new
-TellsWhy true pages bytes new = ListsRefusal pages bytes new
+TellsWhy lists_all pages bytes new =
+    (why : ModuleFault) × IsReported pages bytes why × EndsAsAsked lists_all bytes why new
 
 -- The status says whether the bytes spell a module that is accepted with so many pages, and that is
 -- printed. Where it isn't, all that is in the way is listed if that is asked for.

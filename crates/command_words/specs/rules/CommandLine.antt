@@ -24,30 +24,9 @@ number_rule name least = record (new_rule name) {
   parser = Some (Unsigned least (2 ^ 64 - 1));
 }
 
--- the option `--seed`, with any text
-abbrev pub seed_rule : Rule
-seed_rule = record (new_rule (codes "seed")) { long = Some (codes "seed"); value_names = 1 }
-
--- the option `--seed-file`, with any text
-abbrev pub seed_file_rule : Rule
-seed_file_rule = record (new_rule (codes "seed-file")) {
-  long = Some (codes "seed-file");
-  value_names = 1;
-}
-
--- the option `--status`, with any text
-abbrev pub status_rule : Rule
-status_rule = record (new_rule (codes "status")) {
-  long = Some (codes "status");
-  value_names = 1;
-}
-
--- the option `--fronts`, with any text
-abbrev pub fronts_rule : Rule
-fronts_rule = record (new_rule (codes "fronts")) {
-  long = Some (codes "fronts");
-  value_names = 1;
-}
+-- an option with any text
+abbrev pub text_rule : Text → Rule
+text_rule name = record (new_rule name) { long = Some name; value_names = 1 }
 
 -- the option `--env`, which may be repeated
 abbrev pub env_rule : Rule
@@ -57,37 +36,9 @@ env_rule = record (new_rule (codes "env")) {
   action = Some Append;
 }
 
--- the flag `--verbose`
-abbrev pub verbose_rule : Rule
-verbose_rule = record (new_rule (codes "verbose")) {
-  long = Some (codes "verbose");
-  action = Some SetTrue;
-}
-
--- the flag `--rewrite`
-abbrev pub rewrite_rule : Rule
-rewrite_rule = record (new_rule (codes "rewrite")) {
-  long = Some (codes "rewrite");
-  action = Some SetTrue;
-}
-
--- the flag `--device`
-abbrev pub device_rule : Rule
-device_rule = record (new_rule (codes "device")) {
-  long = Some (codes "device");
-  action = Some SetTrue;
-}
-
--- the flag `--all`
-abbrev pub all_rule : Rule
-all_rule = record (new_rule (codes "all")) { long = Some (codes "all"); action = Some SetTrue }
-
--- the flag `--json`
-abbrev pub json_rule : Rule
-json_rule = record (new_rule (codes "json")) {
-  long = Some (codes "json");
-  action = Some SetTrue;
-}
+-- a flag
+abbrev pub flag_rule : Text → Rule
+flag_rule name = record (new_rule name) { long = Some name; action = Some SetTrue }
 
 -- ---- commands
 
@@ -98,7 +49,7 @@ disk_app name = with_rule (new_app name) (path_rule (codes "DISK"))
 -- `check MODULE`, with `--pages` and `--all` where they are wanted
 abbrev pub check_app : App
 check_app = with_rule (with_rule (with_rule (new_app (codes "check")) (path_rule (codes "MODULE")))
-    (number_rule (codes "pages") 0)) all_rule
+    (number_rule (codes "pages") 0)) (flag_rule (codes "all"))
 
 -- `create DISK MODULE`
 abbrev pub bare_create_app : App
@@ -111,7 +62,7 @@ sized_create_app = with_rule (with_rule (with_rule bare_create_app (number_rule 
 
 -- the same, with `--env` as often as it is wanted, and with `--device` where it is wanted
 abbrev pub create_app : App
-create_app = with_rule (with_rule sized_create_app env_rule) device_rule
+create_app = with_rule (with_rule sized_create_app env_rule) (flag_rule (codes "device"))
 
 -- `run DISK`, with `--fuel` and `--every` where they are wanted
 abbrev pub paced_run_app : App
@@ -120,12 +71,13 @@ paced_run_app = with_rule (with_rule (disk_app (codes "run")) (number_rule (code
 
 -- the same, with `--seed` and `--clock` where they are wanted
 abbrev pub seeded_run_app : App
-seeded_run_app = with_rule (with_rule paced_run_app seed_rule) (number_rule (codes "clock") 0)
+seeded_run_app = with_rule (with_rule paced_run_app (text_rule (codes "seed")))
+    (number_rule (codes "clock") 0)
 
 -- the same, with `--rewrite`, `--status`, `--verbose` and `--seed-file` where they are wanted
 abbrev pub run_app : App
-run_app = with_rule (with_rule (with_rule (with_rule seeded_run_app rewrite_rule) status_rule)
-    verbose_rule) seed_file_rule
+run_app = with_rule (with_rule (with_rule (with_rule seeded_run_app (flag_rule (codes "rewrite")))
+    (text_rule (codes "status"))) (flag_rule (codes "verbose"))) (text_rule (codes "seed-file"))
 
 -- `show DISK`
 abbrev pub show_app : App
@@ -133,7 +85,7 @@ show_app = disk_app (codes "show")
 
 -- `inspect DISK`, with `--json` where it is wanted
 abbrev pub inspect_app : App
-inspect_app = with_rule (disk_app (codes "inspect")) json_rule
+inspect_app = with_rule (disk_app (codes "inspect")) (flag_rule (codes "json"))
 
 -- `files DISK`, with PATH where it is wanted
 abbrev pub files_app : App
@@ -160,7 +112,7 @@ story_app = script_app (codes "story")
 
 -- `sweep SCRIPT MODULE`, with `--fronts` and `--life` where they are wanted
 abbrev pub sweep_app : App
-sweep_app = with_rule (with_rule (script_app (codes "sweep")) fronts_rule)
+sweep_app = with_rule (with_rule (script_app (codes "sweep")) (text_rule (codes "fronts")))
     (number_rule (codes "life") 1)
 
 -- the program, which requires a command, and has a version

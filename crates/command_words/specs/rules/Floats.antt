@@ -1,11 +1,15 @@
 -- What is told of floats in the bytes of a module (this project's own).
 use Rattle.std.specs.Prelude.{◌≡◌, ◌==◌, ℕ, List, [], ◌++◌, codes, Option, Some, None, slice_get}
-use Rattle.std.specs.Prelude.{if◌then◌else◌, MatchOption}
+use Rattle.std.specs.Prelude.{if◌then◌else◌, MatchOption, ⊤}
 use Rattle.std.specs.Fmt.{decimal}
 use Rattle.wasm_places.specs.declared.place.ModulePlace.{ModulePlace}
 use Rattle.wasm_places.specs.declared.place.ModulePlace.TheVariants as place
+use Rattle.wasm_places.specs.declared.uses.TypedFunction.{TypedFunction}
+use Rattle.wasm_places.specs.declared.uses.TypeUse.{TypeUse}
+use Rattle.wasm_places.specs.declared.uses.TypeUse.TheVariants as used
 use Rattle.wasm_places.specs.rules.Floats.{float_words}
 use Rattle.wasm_places.specs.rules.Places.{LiesAt}
+use Rattle.wasm_places.specs.rules.Uses.{IsTypeUse, names_in}
 use Rattle.command_words.specs.rules.Printers.{PrinterState, IsPrinted}
 
 -- what the section with this id holds (Core Specification 1.0, section 5.5.2)
@@ -24,12 +28,40 @@ section_word id =
     else if id == 10 then codes "code"
     else codes "data"
 
--- a place, if there is one: `in function 12`
-abbrev pub place_text : Option ModulePlace → List ℕ
-place_text (Some (place.Function number)) = codes " in function " ++ decimal number
-place_text (Some (place.Type number)) = codes " in type " ++ decimal number
-place_text (Some (place.Section id)) = codes " in the " ++ section_word id ++ codes " section"
-place_text None = []
+-- the names of an import, if it is one
+abbrev pub names_text : Option (List ℕ × List ℕ) → List ℕ
+names_text (Some names) = codes ", import " ++ names.0 ++ codes "." ++ names.1
+names_text None = []
+
+-- a function that has a type: `of function 12`, with the names of its import, if it is imported
+abbrev pub first_text : TypedFunction → List ℕ
+first_text first =
+    codes " of function " ++ decimal first.number ++ names_text (names_in first.names)
+
+-- which function has a type first, where that is known
+abbrev pub use_text : TypeUse → List ℕ
+use_text (used.First first) = first_text first
+use_text used.Unused = codes " of no function"
+use_text used.Unread = []
+
+-- the number of a type, and which function has it first
+abbrev pub type_text : ℕ → TypeUse → List ℕ
+type_text number found = codes " in type " ++ decimal number ++ use_text found
+
+-- A place, if there is one: `in function 12`. A type comes with the function that has it first.
+abbrev pub place_text : Option ModulePlace → TypeUse → List ℕ
+place_text (Some (place.Function number)) found = codes " in function " ++ decimal number
+place_text (Some (place.Type number)) found = type_text number found
+place_text (Some (place.Section id)) found =
+    codes " in the " ++ section_word id ++ codes " section"
+place_text None found = []
+
+-- Where the place is a type, that function has it first, or none has, or it can't be read.
+abbrev pub IsUseAt : List ℕ → Option ModulePlace → TypeUse → Type 0
+IsUseAt bytes (Some (place.Type number)) found = IsTypeUse bytes number found
+IsUseAt bytes (Some (place.Function number)) found = ⊤
+IsUseAt bytes (Some (place.Section id)) found = ⊤
+IsUseAt bytes None found = ⊤
 
 -- where floats come from mostly, and how they are left out
 abbrev pub float_hint : List ℕ
@@ -53,4 +85,5 @@ float_name (Some name) = name.0 ++ name.1
 abbrev pub TellsOfFloat : List ℕ → ℕ → PrinterState → PrinterState → Type 0
 TellsOfFloat bytes at old new = MatchOption (float_at bytes at) (new ≡ old)
     (λ name. (lies : Option ModulePlace) × LiesAt bytes at lies
-    × IsPrinted old new (name.0 ++ name.1 ++ place_text lies ++ float_hint))
+    × (found : TypeUse) × IsUseAt bytes lies found
+    × IsPrinted old new (name.0 ++ name.1 ++ place_text lies found ++ float_hint))

@@ -18,7 +18,6 @@ use Rattle.machine.specs.declared.instance.fault.LinkFault.TheVariants as link
 use Rattle.machine.specs.rules.Offers.{imported_call}
 use Rattle.machine.specs.declared.from_bytes.fault.ModuleFault.{ModuleFault}
 use Rattle.machine.specs.declared.from_bytes.fault.ModuleFault.TheVariants.{Decode, Valid, Link}
-use Rattle.machine.specs.rules.Acceptance.{IsReported}
 use Rattle.command_words.specs.rules.Floats.{TellsOfFloat, float_at, float_name}
 use Rattle.command_words.specs.rules.ModuleLimits.{function_of, passed_text}
 use Rattle.command_words.specs.rules.Printers.{PrinterState, IsPrinted}
@@ -143,8 +142,3 @@ TellsUnlisted bytes (Decode _) old new = new ≡ old
 abbrev pub EndsWithList : List ℕ → ModuleFault → PrinterState → Type 0
 EndsWithList bytes why new = (first : PrinterState) × (second : PrinterState)
     × TellsUnlisted bytes why first second × ListsAll bytes second new
-
--- It is told last why the module isn't accepted with so many pages, with all that is in the way.
-abbrev pub ListsRefusal : ℕ → List ℕ → PrinterState → Type 0
-ListsRefusal pages bytes new =
-    (why : ModuleFault) × IsReported pages bytes why × EndsWithList bytes why new

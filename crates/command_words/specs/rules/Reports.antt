@@ -1,5 +1,6 @@
 -- What the program says beside the lines of a worker (this project's own).
 use Rattle.std.specs.Prelude.{◌≡◌, ◌⊎◌, ℕ, Bool, true, false, List, [], ◌∷◌, ◌++◌, codes}
+use Rattle.std.specs.Fmt.{decimal}
 use Rattle.wasi_abi.specs.rules.Answers.{newline}
 use Rattle.command_words.specs.declared.telling.Obstacle.{Obstacle}
 use Rattle.command_words.specs.declared.telling.Obstacle.TheVariants as obstacle
@@ -15,7 +16,7 @@ SaysLine line status old answered new =
 abbrev pub obstacle_status : Obstacle → ℕ
 obstacle_status obstacle.Memory = 5
 obstacle_status obstacle.Unread = 4
-obstacle_status obstacle.NoText = 2
+obstacle_status (obstacle.NoText number) = 2
 obstacle_status obstacle.NoSeed = 2
 obstacle_status obstacle.TwoSeeds = 2
 obstacle_status obstacle.NoFronts = 2
@@ -26,7 +27,8 @@ obstacle_status obstacle.Unwritten = 7
 abbrev pub obstacle_words : Obstacle → List ℕ
 obstacle_words obstacle.Memory = codes "failed N4 Memory"
 obstacle_words obstacle.Unread = codes "failed K2 Io"
-obstacle_words obstacle.NoText = codes "error: an argument is no text"
+obstacle_words (obstacle.NoText number) =
+    codes "error: argument " ++ decimal number ++ codes " isn't UTF-8"
 obstacle_words obstacle.NoSeed = codes "error: a seed is 64 hexadecimal digits"
 obstacle_words obstacle.TwoSeeds = codes "error: --seed and --seed-file can't both be given"
 obstacle_words obstacle.NoFronts = codes "error: fronts are numbers from 0 to 512"

@@ -17,7 +17,6 @@ use Rattle.machine.specs.declared.instance.fault.LinkFault.TheVariants as link
 use Rattle.machine.specs.rules.Offers.{imported_call}
 use Rattle.machine.specs.declared.from_bytes.fault.ModuleFault.{ModuleFault}
 use Rattle.machine.specs.declared.from_bytes.fault.ModuleFault.TheVariants.{Decode, Valid, Link}
-use Rattle.machine.specs.rules.Acceptance.{IsReported}
 use Rattle.command_words.specs.rules.Floats.{TellsOfFloat}
 use Rattle.command_words.specs.rules.Printers.{PrinterState, IsPrinted}
 
@@ -93,11 +92,6 @@ TellsMore bytes (Valid fault) old new = new ≡ old
 -- that is told last
 abbrev pub EndsWithMore : List ℕ → ModuleFault → PrinterState → Type 0
 EndsWithMore bytes why new = (mid : PrinterState) × TellsMore bytes why mid new
-
--- It is told last why the module isn't accepted with so many pages.
-abbrev pub TellsRefusal : ℕ → List ℕ → PrinterState → Type 0
-TellsRefusal pages bytes new =
-    (why : ModuleFault) × IsReported pages bytes why × EndsWithMore bytes why new
 
 -- That is told last, unless a write has failed.
 abbrev pub SaysMore : List ℕ → ModuleFault → PrinterState → Type 0

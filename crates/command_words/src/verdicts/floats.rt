@@ -2,15 +2,19 @@
 
 ghost use Rattle.std.specs.Prelude.{◌≡◌, ◌++◌, true, OnErr, OnOk, codes};
 ghost use Rattle.std.specs.Fmt.{decimal};
-ghost use Rattle.command_words.specs.rules.Floats.{TellsOfFloat, float_at, float_hint};
-ghost use Rattle.command_words.specs.rules.Floats.{float_name};
-ghost use Rattle.command_words.specs.rules.Floats.{place_text, section_word};
-ghost use Rattle.wasm_places.specs.Named.{AreFloatWords};
+ghost use Rattle.command_words.specs.rules.Floats.{IsUseAt, TellsOfFloat, first_text, float_at};
+ghost use Rattle.command_words.specs.rules.Floats.{float_hint, float_name, names_text, place_text};
+ghost use Rattle.command_words.specs.rules.Floats.{section_word, type_text, use_text};
 ghost use Rattle.command_words.specs.rules.Printers.{IsPrinted};
+ghost use Rattle.wasm_places.specs.Named.{AreFloatWords};
+ghost use Rattle.wasm_places.specs.rules.Uses.{names_in};
 
 use crate::printer::Printer;
 use std::io::{self, Write};
-use wasm_places::{FloatWords, ModulePlace, float_words, place_of};
+use wasm_places::{
+    FloatWords, ImportNames, ModulePlace, TypeUse, TypedFunction, float_words, place_of,
+    use_of_type,
+};
 
 /// What the section with this id holds.
 fn section_word(id: u8) -> &'static str
@@ -32,15 +36,75 @@ fn section_word(id: u8) -> &'static str
     }
 }
 
-/// Prints a place, if there is one.
-fn print_place<W: Write + Drop>(out: &mut Printer<W>, place: Option<ModulePlace>) -> io::Result<()>
-    ensures printed { OnOk result (IsPrinted out.old out.new (place_text place)) }
+/// Prints the names of an import, if it is one.
+fn print_names<W: Write + Drop>(
+    out: &mut Printer<W>,
+    names: Option<ImportNames<'_>>,
+) -> io::Result<()>
+    ensures printed { OnOk result (IsPrinted out.old out.new (names_text (names_in names.entry))) }
+    ensures steady { OnOk result (out.new.failed ≡ out.old.failed) }
+    ensures failed { OnErr result (out.new.failed ≡ true) }
+{
+    let Some(names) = names else {
+        return Ok(());
+    };
+    out.write_all(b", import ")?;
+    out.write_all(names.module_name)?;
+    out.write_all(b".")?;
+    out.write_all(names.name)
+}
+
+/// Prints the number of a function that has a type, and the names of its import.
+fn print_first<W: Write + Drop>(out: &mut Printer<W>, first: TypedFunction<'_>) -> io::Result<()>
+    ensures printed { OnOk result (IsPrinted out.old out.new (first_text first.entry)) }
+    ensures steady { OnOk result (out.new.failed ≡ out.old.failed) }
+    ensures failed { OnErr result (out.new.failed ≡ true) }
+{
+    let number = first.number;
+    write!(out, " of function {number}")?;
+    print_names(out, first.names)
+}
+
+/// Prints which function has a type first, where that is known.
+fn print_use<W: Write + Drop>(out: &mut Printer<W>, found: TypeUse<'_>) -> io::Result<()>
+    ensures printed { OnOk result (IsPrinted out.old out.new (use_text found.entry)) }
+    ensures steady { OnOk result (out.new.failed ≡ out.old.failed) }
+    ensures failed { OnErr result (out.new.failed ≡ true) }
+{
+    match found {
+        TypeUse::First(first) => print_first(out, first),
+        TypeUse::Unused => write!(out, " of no function"),
+        TypeUse::Unread => Ok(()),
+    }
+}
+
+/// Prints the number of a type, and which function has it first.
+fn print_type<W: Write + Drop>(
+    out: &mut Printer<W>,
+    number: u64,
+    found: TypeUse<'_>,
+) -> io::Result<()>
+    ensures printed { OnOk result (IsPrinted out.old out.new (type_text number found.entry)) }
+    ensures steady { OnOk result (out.new.failed ≡ out.old.failed) }
+    ensures failed { OnErr result (out.new.failed ≡ true) }
+{
+    write!(out, " in type {number}")?;
+    print_use(out, found)
+}
+
+/// Prints a place, if there is one. A type comes with the function that has it first.
+fn print_place<W: Write + Drop>(
+    out: &mut Printer<W>,
+    place: Option<ModulePlace>,
+    found: TypeUse<'_>,
+) -> io::Result<()>
+    ensures printed { OnOk result (IsPrinted out.old out.new (place_text place found.entry)) }
     ensures steady { OnOk result (out.new.failed ≡ out.old.failed) }
     ensures failed { OnErr result (out.new.failed ≡ true) }
 {
     match place {
         Some(ModulePlace::Function(number)) => write!(out, " in function {number}"),
-        Some(ModulePlace::Type(number)) => write!(out, " in type {number}"),
+        Some(ModulePlace::Type(number)) => print_type(out, number, found),
         Some(ModulePlace::Section(id)) => {
             let word = section_word(id);
             write!(out, " in the {word} section")
@@ -54,20 +118,33 @@ fn print_words<W: Write + Drop>(
     out: &mut Printer<W>,
     words: FloatWords,
     place: Option<ModulePlace>,
+    found: TypeUse<'_>,
 ) -> io::Result<()>
     ensures printed { OnOk result (IsPrinted out.old out.new (words.value_type.now
-        ++ words.operation.now ++ place_text place ++ float_hint)) }
+        ++ words.operation.now ++ place_text place found.entry ++ float_hint)) }
     ensures steady { OnOk result (out.new.failed ≡ out.old.failed) }
     ensures failed { OnErr result (out.new.failed ≡ true) }
 {
     let value_type = words.value_type;
     let operation = words.operation;
     write!(out, "{value_type}{operation}")?;
-    print_place(out, place)?;
+    print_place(out, place, found)?;
     writeln!(
         out,
         "; printf has floats, but not with -lc-printscan-no-floating-point"
     )
+}
+
+/// Which function has a type first, where the place is one.
+fn use_at(wasm: &[u8], place: Option<ModulePlace>) -> TypeUse<'_>
+    ensures { IsUseAt wasm.now place result }
+{
+    match place {
+        Some(ModulePlace::Type(number)) => use_of_type(wasm, number),
+        Some(ModulePlace::Function(_)) => TypeUse::Unread,
+        Some(ModulePlace::Section(_)) => TypeUse::Unread,
+        None => TypeUse::Unread,
+    }
 }
 
 /// The name of what is at an offset, if it is of floats.
@@ -112,7 +189,10 @@ pub(crate) fn print_float<W: Write + Drop>(
     ensures failed { OnErr result (out.new.failed ≡ true) }
 {
     match words_at(wasm, at) {
-        Some(words) => print_words(out, words, place_of(wasm, at)),
+        Some(words) => {
+            let place = place_of(wasm, at);
+            print_words(out, words, place, use_at(wasm, place))
+        }
         None => Ok(()),
     }
 }

@@ -1,23 +1,16 @@
 //! The commands of the program, as `clap` is told of them.
 
 ghost use Rattle.std.specs.Prelude.{IfOk, codes};
-ghost use Rattle.command_words.specs.rules.CommandLine.{all_rule, bare_app};
-ghost use Rattle.command_words.specs.CommandLine.{IsArgument, IsCommand};
-ghost use Rattle.command_words.specs.rules.CommandLine.{bare_create_app, bare_script_app};
-ghost use Rattle.command_words.specs.rules.CommandLine.{check_app, create_app, device_rule};
-ghost use Rattle.command_words.specs.rules.CommandLine.{disk_app};
-ghost use Rattle.command_words.specs.rules.CommandLine.{disks_app, env_rule, fronts_rule};
-ghost use Rattle.command_words.specs.rules.CommandLine.{half_app};
+ghost use Rattle.command_words.specs.CommandLine.{HasVersion, IsArgument, IsCommand, version_words};
+ghost use Rattle.command_words.specs.rules.CommandLine.{bare_app, bare_create_app, bare_script_app};
+ghost use Rattle.command_words.specs.rules.CommandLine.{check_app, create_app, disk_app, disks_app};
+ghost use Rattle.command_words.specs.rules.CommandLine.{env_rule, files_app, flag_rule, half_app};
+ghost use Rattle.command_words.specs.rules.CommandLine.{inspect_app, last_rule, looks_app};
 ghost use Rattle.command_words.specs.rules.CommandLine.{number_rule, paced_run_app, path_rule};
-ghost use Rattle.command_words.specs.rules.CommandLine.{rewrite_rule, run_app, seed_rule};
-ghost use Rattle.command_words.specs.rules.CommandLine.{script_app, seed_file_rule, show_app};
-ghost use Rattle.command_words.specs.rules.CommandLine.{seeded_run_app};
-ghost use Rattle.command_words.specs.rules.CommandLine.{status_rule};
-ghost use Rattle.command_words.specs.rules.CommandLine.{sized_create_app, story_app, sweep_app};
-ghost use Rattle.command_words.specs.rules.CommandLine.{files_app, inspect_app, json_rule};
-ghost use Rattle.command_words.specs.rules.CommandLine.{last_rule, looks_app, upgrade_app};
-ghost use Rattle.command_words.specs.rules.CommandLine.{verbose_rule, wasmhost};
-ghost use Rattle.command_words.specs.CommandLine.{HasVersion, version_words};
+ghost use Rattle.command_words.specs.rules.CommandLine.{run_app, script_app, seeded_run_app};
+ghost use Rattle.command_words.specs.rules.CommandLine.{show_app, sized_create_app, story_app};
+ghost use Rattle.command_words.specs.rules.CommandLine.{sweep_app, text_rule, upgrade_app};
+ghost use Rattle.command_words.specs.rules.CommandLine.{wasmhost};
 
 use clap::{Arg, ArgAction, Command, value_parser};
 use std::alloc::{AllocError, Global};
@@ -75,84 +68,24 @@ fn positive_option<'a>(alloc: Global, name: &'a str, help: &'a str) -> Arg<'a>
         .value_parser(value_parser!(u64).range(1..))
 }
 
-/// The flag `--verbose`.
-fn verbose_flag<'a>(alloc: Global) -> Arg<'a>
-    ensures { IsArgument verbose_rule result }
+/// An option with any text.
+fn text_option<'a>(alloc: Global, name: &'a str, value_name: &'a str, help: &'a str) -> Arg<'a>
+    ensures { IsArgument (text_rule name.entry.now) result }
 {
-    Arg::new(alloc, "verbose")
-        .long("verbose")
-        .help("Say on the error output what a terminal is told")
+    Arg::new(alloc, name)
+        .long(name)
+        .help(help)
+        .value_name(value_name)
+}
+
+/// An option without a value.
+fn flag<'a>(alloc: Global, name: &'a str, help: &'a str) -> Arg<'a>
+    ensures { IsArgument (flag_rule name.entry.now) result }
+{
+    Arg::new(alloc, name)
+        .long(name)
+        .help(help)
         .action(ArgAction::SetTrue)
-}
-
-/// The flag `--rewrite`.
-fn rewrite_flag<'a>(alloc: Global) -> Arg<'a>
-    ensures { IsArgument rewrite_rule result }
-{
-    Arg::new(alloc, "rewrite")
-        .long("rewrite")
-        .help("Write every sector back first, after a disk fault")
-        .action(ArgAction::SetTrue)
-}
-
-/// The flag `--device`.
-fn device_flag<'a>(alloc: Global) -> Arg<'a>
-    ensures { IsArgument device_rule result }
-{
-    Arg::new(alloc, "device")
-        .long("device")
-        .help("DISK is a block device, whose first sectors are overwritten")
-        .action(ArgAction::SetTrue)
-}
-
-/// The flag `--json`.
-fn json_flag<'a>(alloc: Global) -> Arg<'a>
-    ensures { IsArgument json_rule result }
-{
-    Arg::new(alloc, "json")
-        .long("json")
-        .help("Say it as one JSON value")
-        .action(ArgAction::SetTrue)
-}
-
-/// The option `--seed`.
-fn seed_option<'a>(alloc: Global) -> Arg<'a>
-    ensures { IsArgument seed_rule result }
-{
-    Arg::new(alloc, "seed")
-        .long("seed")
-        .help("Seed of random bytes, 64 hexadecimal digits; default zeros")
-        .value_name("HEX")
-}
-
-/// The option `--seed-file`.
-fn seed_file_option<'a>(alloc: Global) -> Arg<'a>
-    ensures { IsArgument seed_file_rule result }
-{
-    Arg::new(alloc, "seed-file")
-        .long("seed-file")
-        .help("File with the seed, in place of --seed")
-        .value_name("FILE")
-}
-
-/// The option `--status`.
-fn status_option<'a>(alloc: Global) -> Arg<'a>
-    ensures { IsArgument status_rule result }
-{
-    Arg::new(alloc, "status")
-        .long("status")
-        .help("File that says where the worker stands, replaced at each checkpoint")
-        .value_name("FILE")
-}
-
-/// The option `--fronts`.
-fn fronts_option<'a>(alloc: Global) -> Arg<'a>
-    ensures { IsArgument fronts_rule result }
-{
-    Arg::new(alloc, "fronts")
-        .long("fronts")
-        .help("Bytes that a cut leaves of a write, default 0,1,256,511,512")
-        .value_name("N,N,..")
 }
 
 /// The option `--env`, which may be repeated.
@@ -166,25 +99,16 @@ fn env_option<'a>(alloc: Global) -> Arg<'a>
         .action(ArgAction::Append)
 }
 
-/// The flag `--all`.
-fn all_flag<'a>(alloc: Global) -> Arg<'a>
-    ensures { IsArgument all_rule result }
-{
-    Arg::new(alloc, "all")
-        .long("all")
-        .help("List each import and each function that is in the way")
-        .action(ArgAction::SetTrue)
-}
-
 fn check_command<'a>(alloc: Global) -> Result<Command<'a>, AllocError>
     ensures { IfOk result (IsCommand check_app) }
 {
     let pages = "Pages of 65536 bytes that its memory may have, default 256";
+    let all = "List each import and each function that is in the way";
     Command::new(alloc, "check")
         .about("Say whether a module is accepted")
         .arg(path_argument(alloc, "MODULE", MODULE))?
         .arg(number_option(alloc, "pages", pages))?
-        .arg(all_flag(alloc))
+        .arg(flag(alloc, "all", all))
 }
 
 /// A command with the path of a disk.
@@ -228,9 +152,10 @@ fn sized_create_command<'a>(alloc: Global) -> Result<Command<'a>, AllocError>
 fn create_command<'a>(alloc: Global) -> Result<Command<'a>, AllocError>
     ensures { IfOk result (IsCommand create_app) }
 {
+    let device = "DISK is a block device, whose first sectors are overwritten";
     sized_create_command(alloc)?
         .arg(env_option(alloc))?
-        .arg(device_flag(alloc))
+        .arg(flag(alloc, "device", device))
 }
 
 /// The command `run`, with its path and the options `--fuel` and `--every`.
@@ -250,20 +175,25 @@ fn paced_run_command<'a>(alloc: Global) -> Result<Command<'a>, AllocError>
 fn seeded_run_command<'a>(alloc: Global) -> Result<Command<'a>, AllocError>
     ensures { IfOk result (IsCommand seeded_run_app) }
 {
+    let seed = "Seed of random bytes, 64 hexadecimal digits; default zeros";
     let clock = "Nanoseconds of both clocks, default the machine's time";
     paced_run_command(alloc)?
-        .arg(seed_option(alloc))?
+        .arg(text_option(alloc, "seed", "HEX", seed))?
         .arg(number_option(alloc, "clock", clock))
 }
 
 fn run_command<'a>(alloc: Global) -> Result<Command<'a>, AllocError>
     ensures { IfOk result (IsCommand run_app) }
 {
+    let rewrite = "Write every sector back first, after a disk fault";
+    let status = "File that says where the worker stands, replaced at each checkpoint";
+    let verbose = "Say on the error output what a terminal is told";
+    let seed_file = "File with the seed, in place of --seed";
     seeded_run_command(alloc)?
-        .arg(rewrite_flag(alloc))?
-        .arg(status_option(alloc))?
-        .arg(verbose_flag(alloc))?
-        .arg(seed_file_option(alloc))
+        .arg(flag(alloc, "rewrite", rewrite))?
+        .arg(text_option(alloc, "status", "FILE", status))?
+        .arg(flag(alloc, "verbose", verbose))?
+        .arg(text_option(alloc, "seed-file", "FILE", seed_file))
 }
 
 fn show_command<'a>(alloc: Global) -> Result<Command<'a>, AllocError>
@@ -277,7 +207,8 @@ fn inspect_command<'a>(alloc: Global) -> Result<Command<'a>, AllocError>
     ensures { IfOk result (IsCommand inspect_app) }
 {
     let about = "Say all that stands on a disk, one fact a line";
-    disk_command(alloc, "inspect", about, WORKER_DISK)?.arg(json_flag(alloc))
+    let json = "Say it as one JSON value";
+    disk_command(alloc, "inspect", about, WORKER_DISK)?.arg(flag(alloc, "json", json))
 }
 
 fn files_command<'a>(alloc: Global) -> Result<Command<'a>, AllocError>
@@ -337,9 +268,10 @@ fn sweep_command<'a>(alloc: Global) -> Result<Command<'a>, AllocError>
     ensures { IfOk result (IsCommand sweep_app) }
 {
     let about = "Cut the power at each call of the disk in a script's life, and compare the lines";
+    let fronts = "Bytes that a cut leaves of a write, default 0,1,256,511,512";
     let life = "Number of the life that is cut, default the last one";
     script_command(alloc, "sweep", about)?
-        .arg(fronts_option(alloc))?
+        .arg(text_option(alloc, "fronts", "N,N,..", fronts))?
         .arg(positive_option(alloc, "life", life))
 }
 

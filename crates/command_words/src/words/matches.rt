@@ -1,6 +1,6 @@
 //! Orders, read from what `clap` has matched.
 
-ghost use Rattle.std.specs.Prelude.{◌≡◌, ◌<◌, ◌≤◌, IfOk, IsSome, Some, codes, option_map};
+ghost use Rattle.std.specs.Prelude.{◌≡◌, ◌<◌, ◌≤◌, IfOk, IsSome, Some, option_map};
 ghost use Rattle.std.specs.Int.NonZero.{non_zero_u64_get};
 ghost use Rattle.clap.specs.Words.{first_of, found_of, rows_of};
 ghost use Rattle.command_words.specs.rules.Texts.{texts_in};
@@ -94,44 +94,12 @@ fn flag_of(matches: &ArgMatches<'_>, name: &str) -> bool
     matches.get_flag(name)
 }
 
-/// What `--seed` says, if it is there.
-fn seed_text_of<'a>(matches: &ArgMatches<'a>) -> Option<&'a str>
+/// The text that an option or an argument gives, if it is there.
+fn text_of<'a>(matches: &ArgMatches<'a>, name: &str) -> Option<&'a str>
     ensures { option_map (λ text. text.now) result
-        ≡ first_of (codes "seed") (rows_of (found_of matches.now)) }
+        ≡ first_of name.now (rows_of (found_of matches.now)) }
 {
-    matches.get_str("seed")
-}
-
-/// What `--status` says, if it is there.
-fn status_text_of<'a>(matches: &ArgMatches<'a>) -> Option<&'a str>
-    ensures { option_map (λ text. text.now) result
-        ≡ first_of (codes "status") (rows_of (found_of matches.now)) }
-{
-    matches.get_str("status")
-}
-
-/// What `--seed-file` says, if it is there.
-fn seed_path_of<'a>(matches: &ArgMatches<'a>) -> Option<&'a str>
-    ensures { option_map (λ text. text.now) result
-        ≡ first_of (codes "seed-file") (rows_of (found_of matches.now)) }
-{
-    matches.get_str("seed-file")
-}
-
-/// The path of a file of the worker, if it is there.
-fn file_text_of<'a>(matches: &ArgMatches<'a>) -> Option<&'a str>
-    ensures { option_map (λ text. text.now) result
-        ≡ first_of (codes "PATH") (rows_of (found_of matches.now)) }
-{
-    matches.get_str("PATH")
-}
-
-/// What `--fronts` says, if it is there.
-fn fronts_text_of<'a>(matches: &ArgMatches<'a>) -> Option<&'a str>
-    ensures { option_map (λ text. text.now) result
-        ≡ first_of (codes "fronts") (rows_of (found_of matches.now)) }
-{
-    matches.get_str("fronts")
+    matches.get_str(name)
 }
 
 /// What `--env` says each time, in order.
@@ -178,12 +146,12 @@ fn run_of<'a>(matches: &ArgMatches<'a>, disk: &'a str) -> RunOrder<'a>
         disk,
         fuel: positive_or_else(matches, "fuel", FUEL),
         every: positive_or_else(matches, "every", EVERY),
-        seed: seed_text_of(matches),
+        seed: text_of(matches, "seed"),
         clock: number_of(matches, "clock"),
         rewrites: flag_of(matches, "rewrite"),
-        status: status_text_of(matches),
+        status: text_of(matches, "status"),
         is_verbose: flag_of(matches, "verbose"),
-        seed_file: seed_path_of(matches),
+        seed_file: text_of(matches, "seed-file"),
     }
 }
 
@@ -214,7 +182,7 @@ fn sweep_of<'a>(matches: &ArgMatches<'a>, script: &'a str, module: &'a str) -> S
         pages: number_or_else(matches, "pages", STORY_PAGES),
         files: number_or_else(matches, "files", STORY_FILES),
         journal: number_or_else(matches, "journal", STORY_JOURNAL),
-        fronts: fronts_text_of(matches),
+        fronts: text_of(matches, "fronts"),
         life: positive_of(matches, "life"),
     }
 }
@@ -251,7 +219,7 @@ pub(crate) fn order_of<'a>(
         }),
         "files" => Ok(Order::Files {
             disk: path_of(matches, "DISK"),
-            path: file_text_of(matches),
+            path: text_of(matches, "PATH"),
         }),
         "upgrade" => Ok(Order::Upgrade {
             path: path_of(matches, "DISK"),

@@ -1,6 +1,6 @@
 use Rattle.std.proofs.Common.{◌∙◌, sym}
 use Rattle.command_words.proofs.Told.{refused_by}
-use Rattle.command_words.proofs.VerdictLemmas.{told_refusal}
+use Rattle.command_words.proofs.VerdictLemmas.{told_why}
 use Rattle.command_words.proofs.check.check_bytes.Goals as goal
 
 pub returns-in-Ok-clause-refused : goal.returns-in-Ok-clause-refused
@@ -11,5 +11,6 @@ returns-in-Ok-clause-refused g c = λ e.
 
 pub returns-in-Ok-clause-more : goal.returns-in-Ok-clause-more
 returns-in-Ok-clause-more g c = λ e.
-    told_refusal c.args.wasm.now c.args.pages c.print_verdict.new.out c.verdict_on-verdict.result
-    c.verdict_on-verdict.ensures.reported c.in-Ok.ensures.more (sym c.status_of.ensures ∙ e)
+    told_why c.args.wasm.now c.args.lists_all c.args.pages c.print_verdict.new.out
+    c.verdict_on-verdict.result c.verdict_on-verdict.ensures.reported c.in-Ok.ensures.more
+    (sym c.status_of.ensures ∙ e)

@@ -4,8 +4,15 @@ use Rattle.command_words.proofs.check.check_module.Goals as goal
 pub returns-in-Some-clause-checks : goal.returns-in-Some-clause-checks
 returns-in-Some-clause-checks g c =
     checked c.args.wasm.now c.args.lists_all c.args.pages c.in-Some.pages c.args.out.now
-    c.check_as_asked.new.out c.args.err.now c.check_as_asked.result c.in-Some.ensures.0
-    c.in-Some.ensures.1 c.in-Some.ensures.2 c.check_as_asked.ensures
+    c.check_bytes.new.out c.args.err.now c.check_bytes.result c.in-Some.ensures.0
+    c.in-Some.ensures.1 c.in-Some.ensures.2 (record {
+      accepted = c.check_bytes.ensures.accepted;
+      shown = c.check_bytes.ensures.printed;
+      refused = c.check_bytes.ensures.refused;
+      more = c.check_bytes.ensures.more;
+      heeded = c.check_bytes.ensures.heeded;
+      known = c.check_bytes.ensures.known;
+    })
 
 pub returns-in-None-clause-checks : goal.returns-in-None-clause-checks
 returns-in-None-clause-checks g c =
